@@ -1,0 +1,35 @@
+//! The words in which the crates of the executor speak of ticks, tasks, sleeps, jobs and the inbox.
+#![tactic(auto)]
+
+mod host;
+mod poll;
+
+pub use host::Host;
+pub use poll::Poll;
+
+/// What a wake did.
+#[derive(Clone, Copy, Debug, PartialEq, Eq)]
+pub enum Woke {
+    /// The task was idle, and now stands at the queue's back.
+    Queued,
+    /// The task is running, and runs again after its turn.
+    Noted,
+    /// The task was queued already, or has finished.
+    Nothing,
+}
+
+/// How a turn ended.
+#[derive(Clone, Copy, Debug, PartialEq, Eq)]
+pub enum Ended {
+    /// The task waits for a wake.
+    Idle,
+    /// The task was woken during its turn, and stands in the queue again.
+    Again,
+    /// The task has finished, and its output is kept for its handle.
+    Done,
+    /// The task has finished, and nobody can ask for its output.
+    Gone,
+}
+
+/// The greatest number of nanoseconds that a clock or a deadline may have: the tick 2^63 - 1, in nanoseconds.
+pub const MAX_NANOS: u128 = 9223372036854775807000000;
