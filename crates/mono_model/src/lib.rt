@@ -2,6 +2,7 @@
 #![tactic(auto)]
 
 mod host;
+pub mod laws;
 mod poll;
 
 pub use host::Host;
