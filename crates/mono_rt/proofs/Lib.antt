@@ -1,0 +1,15 @@
+pub mod Worked
+pub mod Computing
+pub mod ValidParts
+pub mod Popping
+pub mod Firing
+pub mod Running
+pub mod Executing
+pub mod Sleeping
+pub mod Entries
+pub mod Full
+pub mod Agenda
+pub mod OneMachine
+pub mod Phases
+pub mod ValidActs
+pub mod ValidSteps

@@ -1,0 +1,65 @@
+-- What each act and each poll answers and leaves. The refusals are tried in the order in which they stand.
+use Rattle.std.specs.Prelude.{ℕ, Bool, true, false, if◌then◌else◌, Option, Some, None, nat_lt, nat_le}
+use Rattle.mono_model.specs.Ticks.{max_nanos, up}
+use Rattle.mono_model.specs.Table.{value_at, next_number, is_issued, is_full, with_next, with_value, without}
+use Rattle.mono_model.specs.Tasks.{Task, Phase, idle, queued, running, done, taken, is_finished, with_task, without_task, spawned, woke, woken, woken_if_any}
+use Rattle.mono_model.specs.Sleeps.{Sleep, fresh, armed, elapsed, with_sleep, without_sleep, with_next_sleep, armed_anew, after_arming, woken_by_arming}
+use Rattle.mono_rt.specs.Machine.{Machine, with_tasks, with_sleeps, with_jobs}
+use Rattle.mono_rt.specs.declared.events.Act.{Act}
+use Rattle.mono_rt.specs.declared.events.Act.TheVariants as act
+use Rattle.mono_rt.specs.declared.events.Query.{Query}
+use Rattle.mono_rt.specs.declared.events.Query.TheVariants as query
+use Rattle.mono_rt.specs.declared.events.TurnStep.{TurnStep}
+use Rattle.mono_rt.specs.declared.events.TurnStep.TheVariants as step
+use Rattle.mono_rt.specs.declared.events.Reply.{Reply}
+use Rattle.mono_rt.specs.declared.events.Reply.TheVariants as reply
+use Rattle.mono_rt.specs.declared.events.Refusal.{Refusal}
+use Rattle.mono_rt.specs.declared.events.Refusal.TheVariants as refusal
+
+-- the reply, and the machine after it
+pub record Outcome : Type 0 where
+  pub reply : Reply
+  pub machine : Machine
+
+abbrev pub answered : Reply → Machine → Outcome
+answered r m = record { reply = r; machine = m }
+
+-- a refused act changes nothing
+abbrev pub refused : Refusal → Machine → Outcome
+refused r m = answered (reply.Refused r) m
+
+-- A sleep, or the refusal: it was never given out, or is gone.
+abbrev pub for_sleep : Option Sleep → Machine → (Sleep → Outcome) → Outcome
+for_sleep None m f = refused refusal.NoTimer m
+for_sleep (Some sleep) m f = f sleep
+
+abbrev pub act_outcome : Act → Machine → Outcome
+act_outcome act.Spawn m =
+    if is_full m.tasks.table m.tasks.limit then refused refusal.AtCapacity m
+    else answered (reply.Task (next_number m.tasks.table)) (with_tasks m (spawned m.tasks))
+act_outcome (act.Wake t) m =
+    if is_issued m.tasks.table t then answered (reply.Woke (woke m.tasks t)) (with_tasks m (woken m.tasks t))
+    else refused refusal.NoTask m
+act_outcome (act.NewSleep n) m =
+    if is_full m.sleeps.table m.sleeps.limit then refused refusal.AtCapacity m
+    else if nat_lt max_nanos n then refused refusal.Invalid m
+    else answered (reply.Sleep (next_number m.sleeps.table)) (with_sleeps m (with_next_sleep m.sleeps (fresh n)))
+
+-- A poll that answers Pending makes the running task the only waker or waiter.
+-- A fresh sleep is armed first.
+abbrev pub poll_sleep : ℕ → ℕ → Sleep → Machine → Outcome
+poll_sleep me s (fresh n) m =
+    if nat_le (up n) m.sleeps.greatest
+    then answered reply.Ready (with_sleeps m (with_sleep m.sleeps s elapsed))
+    else answered reply.Pending (with_sleeps m (armed_anew m.sleeps s (up n) (Some me)))
+poll_sleep me s (armed a) m =
+    answered reply.Pending (with_sleeps m (with_sleep m.sleeps s (armed (record { tick = a.tick; arm = a.arm; is_moved = a.is_moved; waker = Some me }))))
+poll_sleep me s elapsed m = answered reply.Ready m
+
+-- the poll by the running task, `me`
+abbrev pub query_outcome : ℕ → Query → Machine → Outcome
+query_outcome me (query.Sleep s) m = for_sleep (value_at m.sleeps.table s) m (λ sleep. poll_sleep me s sleep m)
+
+abbrev pub step_outcome : ℕ → TurnStep → Machine → Outcome
+step_outcome me (step.Act a) m = act_outcome a m
+step_outcome me (step.Query q) m = query_outcome me q m

@@ -1,0 +1,101 @@
+-- Worked runs: a list of events, and a list of reports that the machine may answer.
+use Rattle.std.specs.Prelude.{ℕ, List, [], ◌∷◌}
+use Rattle.mono_model.specs.declared.Woke.TheVariants as woke
+use Rattle.mono_model.specs.declared.Ended.TheVariants as ended
+use Rattle.mono_rt.specs.Machine.{Machine, start_machine}
+use Rattle.mono_rt.specs.Steps.{Run}
+use Rattle.mono_rt.specs.declared.events.Act.TheVariants as act
+use Rattle.mono_rt.specs.declared.events.Query.TheVariants as query
+use Rattle.mono_rt.specs.declared.events.TurnStep.{TurnStep}
+use Rattle.mono_rt.specs.declared.events.TurnStep.TheVariants as step
+use Rattle.mono_rt.specs.declared.events.End.TheVariants as end
+use Rattle.mono_rt.specs.declared.events.Event.{Event}
+use Rattle.mono_rt.specs.declared.events.Event.TheVariants as event
+use Rattle.mono_rt.specs.declared.events.Reply.TheVariants as reply
+use Rattle.mono_rt.specs.declared.events.Refusal.TheVariants as refusal
+use Rattle.mono_rt.specs.declared.events.Report.{Report}
+use Rattle.mono_rt.specs.declared.events.Report.TheVariants as report
+use Rattle.mono_rt.specs.declared.events.Blocking.TheVariants as blocking
+use Rattle.mono_rt.specs.declared.events.Limits.{Limits}
+
+-- the start machine with one limit for tasks, jobs and sleeps
+abbrev pub start : ℕ → Machine
+start limit = start_machine (record { tasks = limit; jobs = limit; sleeps = limit }) blocking.Attached
+
+-- some machine is left after these reports
+abbrev pub Answers : Machine → List Event → List Report → Type 0
+Answers m events reports = (new : Machine) × Run m events reports new
+
+abbrev pub spawn : Event
+spawn = event.Act act.Spawn
+
+abbrev pub new_sleep : ℕ → TurnStep
+new_sleep nanos = step.Act (act.NewSleep nanos)
+
+abbrev pub poll : ℕ → TurnStep
+poll s = step.Query (query.Sleep s)
+
+-- A deadline that is now: the sleep has elapsed at its first poll.
+abbrev pub DeadlineIsNow : Type 0
+DeadlineIsNow = Answers (start 16)
+    (spawn ∷ event.Turn (new_sleep 0 ∷ poll 0 ∷ []) (end.Ready 7) ∷ [])
+    (report.Reply (reply.Task 0) ∷ report.Turn 0 (reply.Sleep 0 ∷ reply.Ready ∷ []) ended.Done ∷ [])
+
+-- Both roundings: a deadline is rounded up to its tick, and a clock value down.
+abbrev pub rounded_events : List Event
+rounded_events = spawn ∷ event.Turn (new_sleep 1000001 ∷ poll 0 ∷ []) end.Pending ∷ event.Clock 1999999 ∷ event.Clock 2000000 ∷ []
+
+abbrev pub BothRoundings : Type 0
+BothRoundings = Answers (start 16) rounded_events
+    (report.Reply (reply.Task 0) ∷ report.Turn 0 (reply.Sleep 0 ∷ reply.Pending ∷ []) ended.Idle ∷ report.Fired [] ∷ report.Fired (0 ∷ []) ∷ [])
+
+-- The same sleep does not fire a nanosecond early, and it is not left out when it is due.
+abbrev pub NoneIsEarly : Type 0
+NoneIsEarly = Answers (start 16) rounded_events
+    (report.Reply (reply.Task 0) ∷ report.Turn 0 (reply.Sleep 0 ∷ reply.Pending ∷ []) ended.Idle ∷ report.Fired (0 ∷ []) ∷ report.Fired [] ∷ []) → ⊥
+
+abbrev pub NoneIsLeftOut : Type 0
+NoneIsLeftOut = Answers (start 16) rounded_events
+    (report.Reply (reply.Task 0) ∷ report.Turn 0 (reply.Sleep 0 ∷ reply.Pending ∷ []) ended.Idle ∷ report.Fired [] ∷ report.Fired [] ∷ []) → ⊥
+
+-- Two sleeps far apart, at the ticks 2 ^ 36 and 2 ^ 30: the nearer one fires at its tick.
+abbrev pub FarSleeps : Type 0
+FarSleeps = Answers (start 16)
+    (spawn ∷ event.Turn (new_sleep 68719476736000000 ∷ new_sleep 1073741824000000 ∷ poll 0 ∷ poll 1 ∷ []) end.Pending ∷ event.Clock 1073741824000000 ∷ [])
+    (report.Reply (reply.Task 0) ∷ report.Turn 0 (reply.Sleep 0 ∷ reply.Sleep 1 ∷ reply.Pending ∷ reply.Pending ∷ []) ended.Idle ∷ report.Fired (1 ∷ []) ∷ [])
+
+-- Ties: sleeps of one tick fire in the order in which they were armed.
+abbrev pub Ties : Type 0
+Ties = Answers (start 16)
+    (spawn ∷ event.Turn (new_sleep 100000000 ∷ new_sleep 100000000 ∷ new_sleep 100000000 ∷ poll 2 ∷ poll 0 ∷ poll 1 ∷ []) end.Pending ∷ event.Clock 100000000 ∷ [])
+    (report.Reply (reply.Task 0) ∷ report.Turn 0 (reply.Sleep 0 ∷ reply.Sleep 1 ∷ reply.Sleep 2 ∷ reply.Pending ∷ reply.Pending ∷ reply.Pending ∷ []) ended.Idle ∷ report.Fired (2 ∷ 0 ∷ 1 ∷ []) ∷ [])
+
+-- A task that is woken in its own turn runs again, and before the others.
+abbrev pub WokenInOwnTurn : Type 0
+WokenInOwnTurn = Answers (start 16)
+    (spawn ∷ spawn ∷ event.Turn (step.Act (act.Wake 0) ∷ []) end.Pending ∷ event.Turn [] end.Pending ∷ event.Turn [] end.Pending ∷ [])
+    (report.Reply (reply.Task 0) ∷ report.Reply (reply.Task 1) ∷ report.Turn 0 (reply.Woke woke.Noted ∷ []) ended.Again ∷ report.Turn 0 [] ended.Idle ∷ report.Turn 1 [] ended.Idle ∷ [])
+
+-- The latest waker alone: of two tasks that polled a sleep, the one that polled last is woken.
+abbrev pub LatestWaker : Type 0
+LatestWaker = Answers (start 16)
+    (spawn ∷ spawn ∷ event.Turn (new_sleep 10000000 ∷ poll 0 ∷ []) end.Pending ∷ event.Turn (poll 0 ∷ []) end.Pending ∷ event.Clock 10000000 ∷ event.Turn [] (end.Ready 1) ∷ event.Turn [] (end.Ready 2) ∷ [])
+    (report.Reply (reply.Task 0) ∷ report.Reply (reply.Task 1) ∷ report.Turn 0 (reply.Sleep 0 ∷ reply.Pending ∷ []) ended.Idle ∷ report.Turn 1 (reply.Pending ∷ []) ended.Idle ∷ report.Fired (0 ∷ []) ∷ report.Turn 1 [] ended.Done ∷ report.Reply (reply.Refused refusal.Idle) ∷ [])
+
+-- The greatest deadline and the greatest clock value, and the next above each.
+abbrev pub EndOfTheType : Type 0
+EndOfTheType = Answers (start 16)
+    (event.Act (act.NewSleep 9223372036854775807000000) ∷ event.Act (act.NewSleep 9223372036854775807000001) ∷ event.Clock 9223372036854775807000000 ∷ event.Clock 9223372036854775807000001 ∷ [])
+    (report.Reply (reply.Sleep 0) ∷ report.Reply (reply.Refused refusal.Invalid) ∷ report.Fired [] ∷ report.Reply (reply.Refused refusal.Invalid) ∷ [])
+
+-- A clock that goes back: the greatest tick stays, and a deadline below it has passed.
+abbrev pub ClockGoesBack : Type 0
+ClockGoesBack = Answers (start 16)
+    (spawn ∷ event.Clock 10000000 ∷ event.Clock 5000000 ∷ event.Turn (new_sleep 9000000 ∷ poll 0 ∷ []) (end.Ready 1) ∷ [])
+    (report.Reply (reply.Task 0) ∷ report.Fired [] ∷ report.Fired [] ∷ report.Turn 0 (reply.Sleep 0 ∷ reply.Ready ∷ []) ended.Done ∷ [])
+
+-- Of two causes the first is the answer: with no room, also a deadline that is too late is refused for want of room.
+abbrev pub NoRoomFirst : Type 0
+NoRoomFirst = Answers (start 0)
+    (spawn ∷ event.Act (act.NewSleep 9223372036854775807000001) ∷ event.Act (act.Wake 0) ∷ [])
+    (report.Reply (reply.Refused refusal.AtCapacity) ∷ report.Reply (reply.Refused refusal.AtCapacity) ∷ report.Reply (reply.Refused refusal.NoTask) ∷ [])

@@ -1,0 +1,57 @@
+// Worked runs of the machine.
+ghost use Rattle.mono_rt.specs.Worked.{DeadlineIsNow, BothRoundings, NoneIsEarly, NoneIsLeftOut, FarSleeps, Ties, WokenInOwnTurn, LatestWaker, EndOfTheType, ClockGoesBack, NoRoomFirst};
+
+/// A sleep whose deadline is now has elapsed at its first poll.
+pub fn deadline_is_now()
+    ensures { DeadlineIsNow }
+{}
+
+/// A deadline is rounded up to its tick, and a clock value down.
+pub fn both_roundings()
+    ensures { BothRoundings }
+{}
+
+/// A report that a sleep fired a nanosecond early is no report of the machine.
+pub fn none_is_early()
+    ensures { NoneIsEarly }
+{}
+
+/// A report that leaves out a sleep which is due is no report of the machine.
+pub fn none_is_left_out()
+    ensures { NoneIsLeftOut }
+{}
+
+/// Of two sleeps far apart the nearer one fires at its tick.
+pub fn far_sleeps()
+    ensures { FarSleeps }
+{}
+
+/// Sleeps of one tick fire in the order in which they were armed.
+pub fn ties()
+    ensures { Ties }
+{}
+
+/// A task that is woken in its own turn runs again, and before the others.
+pub fn woken_in_own_turn()
+    ensures { WokenInOwnTurn }
+{}
+
+/// Of two tasks that polled a sleep the one that polled last is woken.
+pub fn latest_waker()
+    ensures { LatestWaker }
+{}
+
+/// The greatest deadline and the greatest clock value are taken, and the next above each is refused.
+pub fn end_of_the_type()
+    ensures { EndOfTheType }
+{}
+
+/// A clock that goes back leaves the greatest tick, so that a deadline below it has passed.
+pub fn clock_goes_back()
+    ensures { ClockGoesBack }
+{}
+
+/// Of two causes the first in order is the answer.
+pub fn no_room_first()
+    ensures { NoRoomFirst }
+{}
