@@ -2,16 +2,16 @@
 use Rattle.std.proofs.Common.{◌≡◌, ◌<◌, inl, inr, ℕ, true, false, Bool, cond, length, Some, None, Option, refl, ap, sym, ◌∙◌, arith}
 use Rattle.std.specs.Prelude.{nat_lt}
 use Rattle.std.proofs.lemmas.Bool.Decides.{leb_tells}
-use Rattle.std.proofs.lemmas.List.{length-set, length-append, get_or_past}
+use Rattle.std.proofs.lemmas.List.{length-append, get_or_past}
 use Rattle.std.proofs.lemmas.Bool.{cases_lt}
 use Rattle.mono_model.specs.Ticks.{max_nanos, up}
-use Rattle.mono_model.specs.Table.{value_at, next_number, count_of, is_full, is_issued}
-use Rattle.mono_model.specs.Tasks.{Task, Phase, idle, queued, running, done, taken, with_task, without_task, spawned, woken, woken_if_any}
-use Rattle.mono_model.specs.Sleeps.{Sleep, Arming, fresh, armed, elapsed, woken_by_arming, after_arming}
-use Rattle.mono_model.specs.Valid.{AreValidTasks, is_queued, is_running, is_unfinished, of_task}
-use Rattle.mono_model.proofs.ValidTasks.{valid_woken, valid_woken_if_any, next_number-woken, next_number-woken_if_any, valid_spawned, same_phase, finished_gone}
-use Rattle.mono_model.proofs.ValidSleeps.{valid_elapsed, valid_same_arm, valid_anew, valid_armed, valid_gone, valid_next_sleep, at_armed}
-use Rattle.mono_rt.specs.Machine.{Machine, with_tasks, with_sleeps, IsValidDuring}
+use Rattle.mono_model.specs.Table.{value_at, next_number, is_full, is_issued}
+use Rattle.mono_model.specs.Tasks.{spawned, woken}
+use Rattle.mono_model.specs.Sleeps.{Sleep, Arming, fresh, armed, elapsed}
+use Rattle.mono_model.specs.Valid.{is_running, of_task}
+use Rattle.mono_model.proofs.ValidTasks.{valid_woken, next_number-woken, valid_spawned}
+use Rattle.mono_model.proofs.ValidSleeps.{valid_elapsed, valid_same_arm, valid_anew, valid_next_sleep, at_armed}
+use Rattle.mono_rt.specs.Machine.{Machine, IsValidDuring}
 use Rattle.mono_rt.specs.Acts.{Outcome, for_sleep, act_outcome, poll_sleep, query_outcome, step_outcome}
 use Rattle.mono_rt.specs.declared.events.Act.{Act}
 use Rattle.mono_rt.specs.declared.events.Act.TheVariants as act

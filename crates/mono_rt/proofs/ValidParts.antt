@@ -1,21 +1,15 @@
 -- The parts of a valid machine, one changed at a time.
-use Rattle.std.proofs.Common.{◌≡◌, ◌<◌, ◌≤◌, inl, inr, ℕ, true, false, Bool, List, [], ◌∷◌, length, Some, None, Option, refl, ap, sym, ◌∙◌, arith}
-use Rattle.std.specs.Prelude.{◌||◌, ◌==◌, IfSome}
-use Rattle.std.specs.List.{list_any}
-use Rattle.std.proofs.lemmas.Bool.{cases_eq}
-use Rattle.std.proofs.lemmas.Bool.Decides.{leb_tells, eqb_tells}
-use Rattle.std.proofs.lemmas.List.{get_or-set_other, get_or-set_same}
-use Rattle.mono_model.specs.Table.{Table, value_at, next_number, count_of, is_full, with_value, with_next, without}
+use Rattle.std.proofs.Common.{◌≡◌, ◌<◌, ◌≤◌, inl, inr, ℕ, true, false, Bool, List, [], Some, None, Option, refl, sym, ◌∙◌, arith}
+use Rattle.std.specs.Prelude.{◌||◌, IfSome}
+use Rattle.std.proofs.lemmas.Bool.Decides.{leb_tells}
+use Rattle.mono_model.specs.Table.{Table, value_at, next_number, count_of, is_full}
 use Rattle.mono_model.specs.Tasks.{Tasks}
 use Rattle.mono_model.specs.Sleeps.{Sleeps}
 use Rattle.mono_model.specs.Jobs.{Jobs, Job}
 use Rattle.mono_model.specs.Jobs as job
-use Rattle.mono_model.specs.Inbox.{is_waiting, with_waiting}
-use Rattle.mono_model.specs.Valid.{AreValidTasks, AreValidSleeps, times}
-use Rattle.mono_model.proofs.Counts.{count_of-with_value, count_of-with_next, count_of-without, times-push, one_time, no_time}
-use Rattle.mono_model.proofs.ValidTasks.{at_given, value_before, value_last}
+use Rattle.mono_model.specs.Valid.{AreValidTasks, AreValidSleeps}
 use Rattle.mono_model.proofs.ValidSleeps.{valid_later}
-use Rattle.mono_rt.specs.Machine.{Machine, with_tasks, with_sleeps, with_jobs, with_inbox, IsValidJob, AreValidJobs, IsValidInbox, IsValidDuring}
+use Rattle.mono_rt.specs.Machine.{Machine, with_tasks, with_sleeps, IsValidJob, AreValidJobs, IsValidInbox, IsValidDuring}
 
 -- a table that is not full has room for one more
 or_false_left : (a b : Bool) → (a || b) ≡ false → a ≡ false

@@ -1,18 +1,18 @@
 -- Each step leads from a valid machine to a valid one.
-use Rattle.std.proofs.Common.{◌≡◌, ◌≢◌, ◌<◌, inl, inr, ℕ, zero, suc, true, false, Bool, cond, List, [], ◌∷◌, length, get_or, max, Some, None, Option, refl, ap, sym, subst, ◌∙◌, arith}
-use Rattle.std.specs.Prelude.{IfSome, Contains, ◌||◌}
+use Rattle.std.proofs.Common.{◌≡◌, ◌≢◌, ◌<◌, inl, inr, ℕ, zero, suc, true, false, List, [], ◌∷◌, length, get_or, max, Some, None, Option, refl, ap, sym, subst, ◌∙◌, arith}
+use Rattle.std.specs.Prelude.{IfSome, Contains}
 use Rattle.std.specs.List.{AllByRecursion}
-use Rattle.std.proofs.lemmas.Bool.{cases_eq, cases_lt, ltb-true}
+use Rattle.std.proofs.lemmas.Bool.{cases_eq, cases_lt}
 use Rattle.std.proofs.lemmas.List.{get_or-set_other, get_or-set_same, get_or_past, length-set}
 use Rattle.std.proofs.lemmas.List.Elements.{recursion_from_All, Contains-get_or}
 use Rattle.mono_model.specs.Ticks.{down}
-use Rattle.mono_model.specs.Table.{Table, value_at, next_number, is_issued, with_value}
-use Rattle.mono_model.specs.Tasks.{begun, all_woken}
+use Rattle.mono_model.specs.Table.{Table, value_at, next_number, with_value}
+use Rattle.mono_model.specs.Tasks.{begun}
 use Rattle.mono_model.specs.Sleeps.{Sleeps, Sleep, Arming, fresh, armed, elapsed, with_greatest, IsDueSleep, MayFire}
 use Rattle.mono_model.specs.Valid.{AreValidTasks, AreValidSleeps, IsValidSleep}
-use Rattle.mono_model.proofs.ValidTasks.{valid_begun, valid_paused, valid_completed, valid_woken_if_any, valid_all_woken, next_number-begun, next_number-paused, next_number-completed, next_number-woken_if_any, next_number-all_woken}
+use Rattle.mono_model.proofs.ValidTasks.{valid_begun, valid_paused, valid_completed, valid_woken_if_any, next_number-begun, next_number-paused, next_number-completed, next_number-woken_if_any}
 use Rattle.mono_model.proofs.ValidSleeps.{valid_elapsed}
-use Rattle.mono_rt.specs.Machine.{Machine, with_tasks, start_machine, IsValidDuring, IsValid}
+use Rattle.mono_rt.specs.Machine.{Machine, start_machine, IsValidDuring, IsValid}
 use Rattle.mono_rt.specs.Acts.{step_outcome}
 use Rattle.mono_rt.specs.Turns.{after_steps, after_end, after_begin, after_turn_for}
 use Rattle.mono_rt.specs.Steps.{Step, ClockStep, after_fire, after_fires, at_clock, greatest_at, waker_at}

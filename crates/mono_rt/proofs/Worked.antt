@@ -1,5 +1,5 @@
 -- Worked runs, by computation.
-use Rattle.std.proofs.Common.{◌≡◌, ◌<◌, ℕ, List, [], ◌∷◌, refl, ap, subst, ◌∙◌, arith, lit<, lit≤}
+use Rattle.std.proofs.Common.{◌≡◌, ◌<◌, [], ◌∷◌, refl, ap, subst, ◌∙◌, arith, lit<, lit≤}
 use Rattle.mono_model.specs.Sleeps.{MayFire}
 use Rattle.mono_rt.specs.Machine.{Machine}
 use Rattle.mono_rt.specs.Acts.{act_outcome}

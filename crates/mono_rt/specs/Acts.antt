@@ -1,10 +1,10 @@
 -- What each act and each poll answers and leaves. The refusals are tried in the order in which they stand.
-use Rattle.std.specs.Prelude.{ℕ, Bool, true, false, if◌then◌else◌, Option, Some, None, nat_lt, nat_le}
+use Rattle.std.specs.Prelude.{ℕ, if◌then◌else◌, Option, Some, None, nat_lt, nat_le}
 use Rattle.mono_model.specs.Ticks.{max_nanos, up}
-use Rattle.mono_model.specs.Table.{value_at, next_number, is_issued, is_full, with_next, with_value, without}
-use Rattle.mono_model.specs.Tasks.{Task, Phase, idle, queued, running, done, taken, is_finished, with_task, without_task, spawned, woke, woken, woken_if_any}
-use Rattle.mono_model.specs.Sleeps.{Sleep, fresh, armed, elapsed, with_sleep, without_sleep, with_next_sleep, armed_anew, after_arming, woken_by_arming}
-use Rattle.mono_rt.specs.Machine.{Machine, with_tasks, with_sleeps, with_jobs}
+use Rattle.mono_model.specs.Table.{value_at, next_number, is_issued, is_full}
+use Rattle.mono_model.specs.Tasks.{spawned, woke, woken}
+use Rattle.mono_model.specs.Sleeps.{Sleep, fresh, armed, elapsed, with_sleep, with_next_sleep, armed_anew}
+use Rattle.mono_rt.specs.Machine.{Machine, with_tasks, with_sleeps}
 use Rattle.mono_rt.specs.declared.events.Act.{Act}
 use Rattle.mono_rt.specs.declared.events.Act.TheVariants as act
 use Rattle.mono_rt.specs.declared.events.Query.{Query}

@@ -1,10 +1,10 @@
 -- From old, the machine may answer the event with this report and go on to new.
-use Rattle.std.specs.Prelude.{◌≡◌, ◌<◌, ◌≤◌, ℕ, max, Bool, true, if◌then◌else◌, ◌||◌, List, [], ◌∷◌, Option, Some, None}
+use Rattle.std.specs.Prelude.{◌≡◌, ◌<◌, ◌≤◌, ℕ, max, List, [], ◌∷◌, Option, Some, None}
 use Rattle.mono_model.specs.Ticks.{max_nanos, down}
-use Rattle.mono_model.specs.Table.{value_at, is_issued}
-use Rattle.mono_model.specs.Tasks.{Task, is_finished, woken_if_any, all_woken}
+use Rattle.mono_model.specs.Table.{value_at}
+use Rattle.mono_model.specs.Tasks.{woken_if_any}
 use Rattle.mono_model.specs.Sleeps.{Sleep, elapsed, waker_of, with_sleep, with_greatest, MayFire}
-use Rattle.mono_rt.specs.Machine.{Machine, with_tasks, with_sleeps, with_inbox}
+use Rattle.mono_rt.specs.Machine.{Machine, with_tasks, with_sleeps}
 use Rattle.mono_rt.specs.Acts.{act_outcome}
 use Rattle.mono_rt.specs.Turns.{turn_report, after_turn}
 use Rattle.mono_rt.specs.declared.events.Event.{Event}

@@ -16,7 +16,6 @@ use Rattle.mono_rt.specs.declared.events.Refusal.TheVariants as refusal
 use Rattle.mono_rt.specs.declared.events.Report.{Report}
 use Rattle.mono_rt.specs.declared.events.Report.TheVariants as report
 use Rattle.mono_rt.specs.declared.events.Blocking.TheVariants as blocking
-use Rattle.mono_rt.specs.declared.events.Limits.{Limits}
 
 -- the start machine with one limit for tasks, jobs and sleeps
 abbrev pub start : ℕ → Machine

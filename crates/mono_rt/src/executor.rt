@@ -34,6 +34,10 @@ fn tick_of_clock(n: u128) -> u64
     (n / NANOS_PER_TICK) as u64
 }
 
+/// An executor: tasks with their queue, and sleeps.
+///
+/// It stands for the plain machine. `Stands` says for which machines one stands; each event leads from any machine for
+/// which it stood to one for which it stands, by a step of that machine.
 #[derive(Drop)]
 pub struct Exec {
     tasks: Tasks,
@@ -43,6 +47,7 @@ pub struct Exec {
 }
 
 impl Exec {
+    /// An executor with no task, no sleep and a clock at 0: it stands for the start machine with these limits.
     pub fn new(alloc: Global, limits: Limits, blocking: Blocking) -> Result<Exec, AllocError>
         ensures { IfOk result (λ exec. Stands exec (start_machine limits blocking)) }
     {
@@ -54,6 +59,7 @@ impl Exec {
         })
     }
 
+    /// An act is answered as the machine answers it, and leaves the machine's outcome.
     fn act(&mut self, act: Act) -> Result<Reply, AllocError>
         ensures reply { IfOk result (λ r. (m : Machine) → Stands self.old m → r ≡ (act_outcome act m).reply) }
         ensures stands { OnOk result ((m : Machine) → Stands self.old m → Stands self.new (act_outcome act m).machine) }
@@ -86,6 +92,7 @@ impl Exec {
         }
     }
 
+    /// A poll of a sleep by the running task.
     fn poll_sleep(&mut self, me: u64, s: u64) -> Result<Reply, AllocError>
         ensures reply { IfOk result (λ r. (m : Machine) → Stands self.old m → r ≡ (query_outcome me (Query.Sleep s) m).reply) }
         ensures stands { OnOk result ((m : Machine) → Stands self.old m → Stands self.new (query_outcome me (Query.Sleep s) m).machine) }
@@ -97,6 +104,7 @@ impl Exec {
         }
     }
 
+    /// A poll by the running task.
     fn query(&mut self, me: u64, query: Query) -> Result<Reply, AllocError>
         ensures reply { IfOk result (λ r. (m : Machine) → Stands self.old m → r ≡ (query_outcome me query m).reply) }
         ensures stands { OnOk result ((m : Machine) → Stands self.old m → Stands self.new (query_outcome me query m).machine) }
@@ -106,6 +114,7 @@ impl Exec {
         }
     }
 
+    /// One step of a turn.
     fn step(&mut self, me: u64, step: TurnStep) -> Result<Reply, AllocError>
         ensures reply { IfOk result (λ r. (m : Machine) → Stands self.old m → r ≡ (step_outcome me step m).reply) }
         ensures stands { OnOk result ((m : Machine) → Stands self.old m → Stands self.new (step_outcome me step m).machine) }
@@ -134,6 +143,7 @@ impl Exec {
         Ok(replies)
     }
 
+    /// The end of the running task's turn.
     fn end(&mut self, me: u64, end: End) -> Result<Ended, AllocError>
         ensures answer { IfOk result (λ e. (m : Machine) → Stands self.old m → e ≡ end_answer end me m) }
         ensures stands { OnOk result ((m : Machine) → Stands self.old m → Stands self.new (after_end end me m)) }
@@ -144,6 +154,7 @@ impl Exec {
         }
     }
 
+    /// A turn of the task at the queue's front. Where no task is queued it is refused, and no step is done.
     fn turn(&mut self, alloc: Global, steps: &[TurnStep], end: End) -> Result<Report, AllocError>
         ensures report { IfOk result (λ r. (m : Machine) → Stands self.old m → r ≡ turn_report steps.now end m) }
         ensures stands { OnOk result ((m : Machine) → Stands self.old m → Stands self.new (after_turn steps.now end m)) }
@@ -184,6 +195,7 @@ impl Exec {
         Ok(fired)
     }
 
+    /// The clock shows so many nanoseconds.
     fn clock(&mut self, alloc: Global, n: u128) -> Result<Report, AllocError>
         ensures { IfOk result (λ r. (m : Machine) → Stands self.old m → (new : Machine) × ClockStep m n r new × Stands self.new new) }
     {
@@ -195,7 +207,11 @@ impl Exec {
         Ok(Report::Fired(fired))
     }
 
-    /// One step of the machine. After want of memory the executor is given up.
+    /// Takes one event and answers its report.
+    ///
+    /// From each machine for which the executor stood, the machine may take this event with this report, and the executor
+    /// stands for the machine that is then left (`Step`). So an event is refused exactly where the machine refuses it,
+    /// and a refused one changes nothing. The only error is want of memory; the executor is given up after it.
     pub fn apply(&mut self, alloc: Global, event: &Event) -> Result<Report, AllocError>
         ensures { IfOk result (λ report. (m : Machine) → Stands self.old m → (new : Machine) × Step m event.now report new × Stands self.new new) }
     {
@@ -216,7 +232,9 @@ impl Exec {
     }
 }
 
-/// The reports of a whole run, from the start machine.
+/// Takes all events in order, from a new executor, and answers one report for each.
+///
+/// The reports are those of a run of the plain machine from its start (`Run`). The only error is want of memory.
 pub fn replay(
     alloc: Global,
     limits: Limits,

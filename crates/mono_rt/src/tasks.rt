@@ -8,6 +8,7 @@ use crate::{Ended, Woke};
 use std::alloc::{AllocError, AllocFailed, Global};
 use std::collections::VecDeque;
 
+/// What a task does now. One that runs is noted once it was woken in its turn.
 #[derive(Clone, Copy, Debug, PartialEq, Eq)]
 pub enum Phase {
     Idle,
@@ -17,6 +18,7 @@ pub enum Phase {
 }
 
 impl Phase {
+    /// Whether it runs and was woken in its turn.
     fn is_noted(self) -> bool
         ensures { result ≡ is_noted (phase_of self) }
     {
@@ -27,6 +29,7 @@ impl Phase {
     }
 }
 
+/// The tasks by their numbers, those that are queued in order, and how many there may be.
 #[derive(Drop)]
 pub struct Tasks {
     pub queue: VecDeque<u64>,
@@ -35,6 +38,7 @@ pub struct Tasks {
 }
 
 impl Tasks {
+    /// No task.
     pub fn new(alloc: Global, limit: u64) -> Tasks
         ensures { tasks_of result ≡ no_tasks limit }
     {
@@ -45,6 +49,7 @@ impl Tasks {
         }
     }
 
+    /// Whether no further task may be made.
     pub fn is_full(&self) -> bool
         ensures { result ≡ is_full (tasks_of self.now).table (tasks_of self.now).limit }
     {
@@ -58,7 +63,7 @@ impl Tasks {
         t < self.phases.len() as u64
     }
 
-    /// A new task, queued last.
+    /// Makes a task, queued last, and answers its number.
     pub fn spawn(&mut self) -> Result<u64, AllocError>
         ensures number { IfOk result (λ t. t ≡ length self.old.phases.items) }
         ensures tasks { OnOk result (tasks_of self.new ≡ spawned (tasks_of self.old)) }
@@ -69,6 +74,7 @@ impl Tasks {
         Ok(t)
     }
 
+    /// Wakes a task: an idle one is queued last, and a running one is noted.
     pub fn wake(&mut self, t: u64) -> Result<Woke, AllocError>
         ensures answer { IfOk result (λ w. w ≡ woke (tasks_of self.old) t) }
         ensures tasks { OnOk result (tasks_of self.new ≡ woken (tasks_of self.old) t) }
