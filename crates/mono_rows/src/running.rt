@@ -1,0 +1,62 @@
+// One call of the top call over memory.
+use mono_script::{MemSink, MemSource, program};
+use std::alloc::{AllocError, Global};
+
+/// The words of most rows.
+pub(crate) const WORDS: &str = "replay attached 16 16 16";
+
+/// The room for the output in most rows.
+pub(crate) const ROOM: usize = 1048576;
+
+/// What one call answered and wrote.
+#[derive(Debug, PartialEq, Eq, Drop)]
+pub(crate) struct Ran {
+    pub status: u8,
+    pub output: Vec<u8>,
+}
+
+fn split(alloc: Global, text: &str) -> Result<Vec<String>, AllocError> {
+    let mut words = Vec::new(alloc);
+    for word in text.split(' ') {
+        words.push(String::from_str(alloc, word)?)?;
+    }
+    Ok(words)
+}
+
+fn listed(alloc: Global, call: Option<u64>) -> Result<Vec<u64>, AllocError> {
+    let mut calls = Vec::new(alloc);
+    if let Some(call) = call {
+        calls.push(call)?;
+    }
+    Ok(calls)
+}
+
+/// Which read and which write fail, and the room for the output.
+#[derive(Clone, Copy)]
+pub(crate) struct Outside {
+    pub read: Option<u64>,
+    pub write: Option<u64>,
+    pub room: usize,
+}
+
+/// Nothing fails, and there is room.
+pub(crate) const PLAIN: Outside = Outside {
+    read: None,
+    write: None,
+    room: ROOM,
+};
+
+/// The top call with these words over this input.
+pub(crate) fn run(
+    alloc: Global,
+    words: &str,
+    input: Vec<u8>,
+    outside: Outside,
+) -> Result<Ran, AllocError> {
+    let words = split(alloc, words)?;
+    let mut source = MemSource::new(input, listed(alloc, outside.read)?);
+    let mut sink = MemSink::new(alloc, outside.room, listed(alloc, outside.write)?)?;
+    let status = program(alloc, &words, &mut source, &mut sink);
+    let output = Vec::from_slice(alloc, sink.bytes())?;
+    Ok(Ran { status, output })
+}

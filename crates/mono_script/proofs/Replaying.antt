@@ -1,0 +1,202 @@
+-- The answer so far, and what is left.
+use Rattle.std.proofs.Common.{◌≡◌, ℕ, zero, suc, ◌+◌, ◌-◌, ◌<◌, ◌≤◌, ◌^◌, List, [], ◌∷◌, ◌++◌, length, Option, Some, None, Bool, true, false, nat_eq, flat_map, refl, sym, ap, subst, ◌∙◌, arith, inl, inr, append_assoc, length-append, codes}
+use Rattle.std.proofs.lemmas.Bool.{cases_Bool, eqb-true}
+use Rattle.std.proofs.lemmas.List.{append-nil}
+use Rattle.std.proofs.lemmas.Fmt.{decimal_is_IsNumeral_wide}
+use Rattle.std.proofs.lemmas.Grind.{common_steps}
+use Rattle.std.proofs.lemmas.Str.Parse.{digit_from_value}
+use Rattle.std.specs.Fmt.{decimal}
+use Rattle.std.specs.Str.Parse.{AllDigits}
+use Rattle.std.specs.Prelude.{◌==◌}
+use Rattle.mono_rt.specs.declared.events.Act.{Act}
+use Rattle.mono_rt.specs.declared.events.Act.TheVariants as act
+use Rattle.mono_rt.specs.declared.events.Query.TheVariants as query
+use Rattle.mono_rt.specs.declared.events.TurnStep.{TurnStep}
+use Rattle.mono_rt.specs.declared.events.TurnStep.TheVariants as step
+use Rattle.mono_rt.specs.declared.events.End.{End}
+use Rattle.mono_rt.specs.declared.events.End.TheVariants as end
+use Rattle.mono_rt.specs.declared.events.Event.{Event}
+use Rattle.mono_rt.specs.declared.events.Event.TheVariants as event
+use Rattle.mono_rt.specs.declared.events.Report.{Report}
+use Rattle.mono_rt.specs.declared.events.Limits.{Limits}
+use Rattle.mono_rt.specs.declared.events.Blocking.{Blocking}
+use Rattle.mono_rt.specs.declared.executor.Exec.{Exec}
+use Rattle.mono_rt.specs.Machine.{Machine, start_machine}
+use Rattle.mono_rt.specs.Steps.{Step, Run}
+use Rattle.mono_rt.specs.Stands.{Stands}
+use Rattle.mono_script.specs.Written.{act_text, step_text, end_text, parts_text, event_text, FitsAct, FitsStep, FitsEnd, FitSteps, FitsEvent, report_line}
+use Rattle.mono_script.specs.Lines.{Line, onto_first, lines, IsEventLine, AreEventLines, IsFirstBad, BeginsWith, BeginsWithNone}
+use Rattle.mono_script.specs.Answers.{IsReplayed, Answers}
+
+-- ---- the text of an event has no line feed
+
+abbrev NoFeed : List ℕ → Type 0
+NoFeed [] = Unit {0}
+NoFeed (b ∷ bs) = (nat_eq b 10 ≡ false) × NoFeed bs
+
+no_feed_both : (xs ys : List ℕ) → NoFeed xs → NoFeed ys → NoFeed (xs ++ ys)
+no_feed_both [] ys p q = q
+no_feed_both (x ∷ xs) ys p q = (p.0, no_feed_both xs ys p.1 q)
+
+no_feed_digits : (ds : List ℕ) → AllDigits 10 ds → NoFeed ds
+no_feed_digits [] d = tt
+no_feed_digits (c ∷ cs) d =
+    let k = digit_from_value c d.0 in
+    let no : nat_eq c 10 ≡ false = grind (arith, common_steps, k.0) in
+    (no, no_feed_digits cs d.1)
+
+no_feed_number : (word : List ℕ) (n : ℕ) → NoFeed word → n < 10 ^ 64 → NoFeed (word ++ decimal n)
+no_feed_number word n p l = no_feed_both word (decimal n) p (no_feed_digits (decimal n) (decimal_is_IsNumeral_wide n l).0.1)
+
+no_feed_act : (a : Act) → FitsAct a → NoFeed (act_text a)
+no_feed_act act.Spawn f = (refl, (refl, (refl, (refl, (refl, tt)))))
+no_feed_act (act.Wake t) f = no_feed_number (codes "wake ") t (refl, (refl, (refl, (refl, (refl, tt))))) (omega arith)
+no_feed_act (act.NewSleep n) f = no_feed_number (codes "sleep ") n (refl, (refl, (refl, (refl, (refl, (refl, tt)))))) (omega arith)
+
+no_feed_step : (s : TurnStep) → FitsStep s → NoFeed (step_text s)
+no_feed_step (step.Act a) f = no_feed_act a f
+no_feed_step (step.Query (query.Sleep s)) f = no_feed_number (codes "poll ") s (refl, (refl, (refl, (refl, (refl, tt))))) (omega arith)
+
+no_feed_end : (e : End) → FitsEnd e → NoFeed (end_text e)
+no_feed_end end.Pending f = (refl, (refl, (refl, (refl, (refl, (refl, (refl, tt)))))))
+no_feed_end (end.Ready o) f = no_feed_number (codes "ready ") o (refl, (refl, (refl, (refl, (refl, (refl, tt)))))) (omega arith)
+
+no_feed_parts : (steps : List TurnStep) (e : End) → FitSteps steps → FitsEnd e → NoFeed (parts_text steps e)
+no_feed_parts [] e f g = (refl, (refl, no_feed_end e g))
+no_feed_parts (s ∷ steps) e f g = (refl, (refl, no_feed_both (step_text s) (parts_text steps e) (no_feed_step s f.0) (no_feed_parts steps e f.1 g)))
+
+no_feed_event : (e : Event) → FitsEvent e → NoFeed (event_text e)
+no_feed_event (event.Act a) f = no_feed_act a f
+no_feed_event (event.Turn steps e) f = (refl, (refl, (refl, (refl, no_feed_parts steps e f.0 f.1))))
+no_feed_event (event.Clock n) f = no_feed_number (codes "clock ") n (refl, (refl, (refl, (refl, (refl, (refl, tt)))))) (omega arith)
+
+-- ---- lines
+
+ended : List ℕ → Line
+ended text = record { bytes = text; is_ended = true }
+
+lines_front : (text rest : List ℕ) → NoFeed text → lines (text ++ 10 ∷ rest) ≡ ended text ∷ lines rest
+unfolding ended
+lines_front [] rest p = refl
+lines_front (b ∷ text) rest p = rw (p.0, lines_front text rest p.1) refl
+
+-- an input that isn't empty has a first line
+first_line : (b : ℕ) (bytes : List ℕ) → (l : Line) × (ls : List Line) × (lines (b ∷ bytes) ≡ l ∷ ls)
+first_line b bytes = elim (cases_Bool (nat_eq b 10)) [
+  | inl feed ↦ (record { bytes = []; is_ended = true }, lines bytes, rw feed refl)
+  | inr other ↦ onto b (lines bytes) (rw other refl)
+]
+  where
+    onto : (b : ℕ) (ls : List Line) → lines (b ∷ bytes) ≡ onto_first b ls → (l : Line) × (more : List Line) × (lines (b ∷ bytes) ≡ l ∷ more)
+    onto b [] e = (record { bytes = b ∷ []; is_ended = false }, [], e)
+    onto b (l ∷ ls) e = (record { bytes = b ∷ l.bytes; is_ended = l.is_ended }, ls, e)
+
+-- a line that ended is in the bytes with its line feed
+line_in : (bytes : List ℕ) (l : Line) (ls : List Line) → lines bytes ≡ l ∷ ls → l.is_ended ≡ true → (rest : List ℕ) × (bytes ≡ l.bytes ++ 10 ∷ rest)
+line_in [] l ls e t = cc e
+line_in (b ∷ bytes) l ls e t = elim (cases_Bool (nat_eq b 10)) [
+  | inl feed ↦
+      let same = rw feed at e in
+      let k : record { bytes = []; is_ended = true } ≡ l = grind (arith, same) in
+      (bytes, rw (eqb-true b 10 feed, sym (ap (λ (x : Line). x.bytes) k)) refl)
+  | inr other ↦ onto (λ first more m u. line_in bytes first more m u) (lines bytes) refl (rw other at e)
+]
+  where
+    onto : ((first : Line) (more : List Line) → lines bytes ≡ first ∷ more → first.is_ended ≡ true → (rest : List ℕ) × (bytes ≡ first.bytes ++ 10 ∷ rest)) → (more : List Line) → lines bytes ≡ more → onto_first b more ≡ l ∷ ls → (rest : List ℕ) × (b ∷ bytes ≡ l.bytes ++ 10 ∷ rest)
+    onto below [] m k =
+        let is : record { bytes = b ∷ []; is_ended = false } ≡ l = grind (arith, k) in
+        cc (ap (λ (x : Line). x.is_ended) is ∙ t)
+    onto below (first ∷ more) m k =
+        let is : record { bytes = b ∷ first.bytes; is_ended = first.is_ended } ≡ l = grind (arith, k) in
+        let in_rest = below first more m (ap (λ (x : Line). x.is_ended) is ∙ t) in
+        (in_rest.0, ap (λ x. b ∷ x) in_rest.1 ∙ ap (λ (x : Line). x.bytes ++ 10 ∷ in_rest.0) is)
+
+-- the first line says no event where the bytes begin with none
+no_event : (bytes : List ℕ) (l : Line) (ls : List Line) → lines bytes ≡ l ∷ ls → BeginsWithNone bytes → (e : Event) → IsEventLine e l → ⊥
+no_event bytes l ls is none e line =
+    let k = line_in bytes l ls is line.is_ended in
+    none e k.0 (k.1 ∙ ap (λ x. x ++ 10 ∷ k.0) line.text, line.fits)
+
+-- ---- one more line
+
+run_more : (start : Machine) (events : List Event) (reports : List Report) (mid : Machine) (e : Event) (r : Report) (new : Machine)
+    → Run start events reports mid → Step mid e r new → Run start (events ++ e ∷ []) (reports ++ r ∷ []) new
+run_more start [] [] mid e r new run step = (new, subst (λ m. Step m e r new) run step, refl)
+run_more start [] (a ∷ reports) mid e r new run step = absurd run
+run_more start (a ∷ events) [] mid e r new run step = absurd run
+run_more start (a ∷ events) (b ∷ reports) mid e r new run step = (run.0, run.1, run_more run.0 events reports mid e r new run.2 step)
+
+each_more : (events : List Event) (ls : List Line) (e : Event) (l : Line) → AreEventLines events ls → IsEventLine e l → AreEventLines (events ++ e ∷ []) (ls ++ l ∷ [])
+each_more [] [] e l p q = (q, tt)
+each_more [] (x ∷ ls) e l p q = absurd p
+each_more (x ∷ events) [] e l p q = absurd p
+each_more (x ∷ events) (y ∷ ls) e l p q = (p.0, each_more events ls e l p.1 q)
+
+text_more : (reports : List Report) (r : Report) → flat_map report_line (reports ++ r ∷ []) ≡ flat_map report_line reports ++ report_line r
+text_more [] r = append-nil (report_line r)
+text_more (a ∷ reports) r = ap (λ x. report_line a ++ x) (text_more reports r) ∙ sym (append_assoc (report_line a) (flat_map report_line reports) (report_line r))
+
+-- so many lines were read, and what is left is rest
+pub record Progress (limits : Limits) (strategy : Blocking) (input : List ℕ) (count : ℕ) (exec : Exec) (out rest : List ℕ) : Type 0 where
+  pub events : List Event
+  pub good : List Line
+  pub reports : List Report
+  pub mid : Machine
+  pub split : lines input ≡ good ++ lines rest
+  pub each : AreEventLines events good
+  pub run : Run (start_machine limits strategy) events reports mid
+  pub stands : Stands exec mid
+  pub text : out ≡ flat_map report_line reports
+  pub counted : count ≡ length good
+  pub shorter : count + length rest ≤ length input
+
+pub started : (limits : Limits) (strategy : Blocking) (input : List ℕ) (exec : Exec) (out : List ℕ) → Stands exec (start_machine limits strategy) → out ≡ []
+    → Progress limits strategy input 0 exec out input
+started limits strategy input exec out stands e =
+    record { events = []; good = []; reports = []; mid = start_machine limits strategy; split = refl; each = tt; run = refl; stands = stands; text = e; counted = refl; shorter = omega arith }
+
+pub one_more : (limits : Limits) (strategy : Blocking) (input : List ℕ) (count : ℕ) (exec after : Exec) (out new rest behind : List ℕ) (e : Event)
+    → Progress limits strategy input count exec out rest → BeginsWith rest e behind
+    → ((m : Machine) → Stands exec m → Answers m e after out new)
+    → Progress limits strategy input (count + 1) after new behind
+one_more limits strategy input count exec after out new rest behind e p b steps =
+    let k = steps p.mid p.stands in
+    let r = k.0 in
+    let l : lines rest ≡ ended (event_text e) ∷ lines behind = ap lines b.0 ∙ lines_front (event_text e) behind (no_feed_event e b.1) in
+    let says : IsEventLine e (ended (event_text e)) = unfold ended in record { fits = b.1; text = refl; is_ended = refl } in
+    record {
+      events = p.events ++ e ∷ [];
+      good = p.good ++ ended (event_text e) ∷ [];
+      reports = p.reports ++ r ∷ [];
+      mid = k.1;
+      split = p.split ∙ ap (λ x. p.good ++ x) l ∙ sym (append_assoc p.good (ended (event_text e) ∷ []) (lines behind));
+      each = each_more p.events p.good e (ended (event_text e)) p.each says;
+      run = run_more (start_machine limits strategy) p.events p.reports p.mid e r k.1 p.run k.2;
+      stands = k.3;
+      text = k.4 ∙ ap (λ x. x ++ report_line r) p.text ∙ sym (text_more p.reports r);
+      counted = omega (arith, p.counted, length-append p.good (ended (event_text e) ∷ []));
+      shorter = omega (arith, p.shorter, ap length b.0, length-append (event_text e) (10 ∷ behind));
+    }
+
+pub all_replayed : (limits : Limits) (strategy : Blocking) (input : List ℕ) (count : ℕ) (exec : Exec) (out rest : List ℕ)
+    → Progress limits strategy input count exec out rest → length rest ≡ 0 → IsReplayed limits strategy input out
+all_replayed limits strategy input count exec out [] p e =
+    record { events = p.events; reports = p.reports; last = p.mid; are_lines = subst (AreEventLines p.events) (sym (p.split ∙ append-nil p.good)) p.each; run = p.run; text = p.text }
+all_replayed limits strategy input count exec out (b ∷ rest) p e = absurd (omega arith)
+
+pub first_bad : (limits : Limits) (strategy : Blocking) (input : List ℕ) (count : ℕ) (exec : Exec) (out rest : List ℕ)
+    → Progress limits strategy input count exec out rest → 0 < length rest → BeginsWithNone rest → IsFirstBad (lines input) (count + 1)
+first_bad limits strategy input count exec out [] p some none = absurd (omega arith)
+first_bad limits strategy input count exec out (b ∷ rest) p some none =
+    let f = first_line b rest in
+    (p.events, p.good, f.0, f.1, p.split ∙ ap (λ x. p.good ++ x) f.2, p.each, omega (arith, p.counted), no_event (b ∷ rest) f.0 f.1 f.2 none)
+
+-- lines that all say events have no first bad one
+good_and_bad : (good : List Line) (bad : Line) (rest : List Line) (events : List Event) → AreEventLines events (good ++ bad ∷ rest) → ((e : Event) → IsEventLine e bad → ⊥) → ⊥
+good_and_bad [] bad rest [] p none = p
+good_and_bad [] bad rest (e ∷ events) p none = none e p.0
+good_and_bad (g ∷ good) bad rest [] p none = p
+good_and_bad (g ∷ good) bad rest (e ∷ events) p none = good_and_bad good bad rest events p.1 none
+
+pub not_both : (events : List Event) (ls : List Line) (n : ℕ) → AreEventLines events ls → IsFirstBad ls n → ⊥
+not_both events ls n p b = good_and_bad b.1 b.2 b.3 events (subst (AreEventLines events) b.4 p) b.7

@@ -1,0 +1,79 @@
+// A source and a sink in memory that never fail.
+ghost use Rattle.std.specs.Prelude.{◌≡◌, ◌≤◌, length, take, drop, min};
+
+use crate::sink::{Sink, SinkFault};
+use crate::source::{Source, SourceFault};
+use std::marker::Model;
+
+/// Bytes that are read from the front, and told. It never fails: its count of faults is always 0.
+#[derive(Drop)]
+pub struct PlainSource {
+    bytes: Vec<u8>,
+    at: usize,
+}
+
+impl Model for PlainSource {
+    ghost use Rattle.std.specs.Prelude.{List, ℕ, drop, length, ◌≤◌};
+
+    ghost Value = { List ℕ };
+
+    ghost view = { λ source. drop source.at source.bytes.items };
+
+    ghost invariant = { λ source. source.at ≤ length source.bytes.items };
+}
+
+impl PlainSource {
+    /// A source that has these bytes left.
+    pub fn new(bytes: Vec<u8>) -> PlainSource
+        ensures { result ≡ bytes.items }
+    {
+        PlainSource { bytes, at: 0 }
+    }
+}
+
+// Copies as many bytes as both have.
+pub(crate) fn copied(from: &[u8], to: &mut [u8]) -> usize
+    ensures count { result ≡ min (length from.now) (length to.old) }
+    ensures bytes { take result to.new ≡ take result from.now }
+{
+    let n = from.len().min(to.len());
+    to[..n].copy_from_slice(&from[..n]);
+    n
+}
+
+impl Source for PlainSource {
+    ghost use Rattle.std.specs.Prelude.{Some};
+
+    ghost faults = { λ source. 0 };
+
+    ghost left = { λ source. Some source };
+
+    fn read(&mut self, buffer: &mut [u8]) -> Result<usize, SourceFault> {
+        let n = copied(&self.bytes[self.at..], buffer);
+        self.at += n;
+        Ok(n)
+    }
+}
+
+/// Takes every byte, keeps none and tells none. It never fails: its count of faults is always 0.
+#[derive(Drop)]
+pub struct PlainSink;
+
+impl PlainSink {
+    /// A sink that forgets what is written.
+    pub fn new() -> PlainSink {
+        PlainSink
+    }
+}
+
+impl Sink for PlainSink {
+    ghost use Rattle.std.specs.Prelude.{None};
+
+    ghost faults = { λ sink. 0 };
+
+    ghost written = { λ sink. None };
+
+    fn write(&mut self, piece: &[u8]) -> Result<usize, SinkFault> {
+        Ok(piece.len())
+    }
+}

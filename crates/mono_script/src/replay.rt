@@ -1,0 +1,69 @@
+// Reads, replays and writes line by line.
+ghost use Rattle.std.specs.Prelude.{IfOk, OnOk};
+ghost use Rattle.mono_rt.specs.Machine.{Machine};
+ghost use Rattle.mono_rt.specs.Stands.{Stands};
+ghost use Rattle.mono_script.specs.Answers.{IsAnswer, Answers};
+
+use crate::printer::report_line;
+use crate::reader::Reader;
+use mono_rt::{Blocking, Event, Exec, Limits, List, TurnStep};
+use std::alloc::{AllocError, Global};
+
+/// What an input is answered: the number of the first line that says no event, counted from 1, or the lines of the
+/// reports.
+#[derive(Drop)]
+pub enum Replayed {
+    /// The first line that says no event, counted from 1.
+    BadLine(usize),
+    /// The report lines, one for each event.
+    Output(Vec<u8>),
+}
+
+// Keeps the list of a turn's steps for the next turn.
+#[inline(always)]
+fn keep_steps(event: Event, spare: &mut List<TurnStep>) {
+    if let Event::Turn(steps, _) = event {
+        *spare = steps;
+    }
+}
+
+// Applies the event and puts the line of its report behind the others.
+#[inline(always)]
+fn one_event(
+    alloc: Global,
+    exec: &mut Exec,
+    event: Event,
+    spare: &mut List<TurnStep>,
+    out: &mut Vec<u8>,
+) -> Result<(), AllocError>
+    ensures { OnOk result ((m : Machine) → Stands exec.old m → Answers m event exec.new out.old.items out.new.items) }
+{
+    let report = exec.apply(alloc, &event)?;
+    report_line(out, &report)?;
+    keep_steps(event, spare);
+    Ok(())
+}
+
+/// The answer to an input, one line at a time: read, applied and printed. At a bad line what was printed is thrown away.
+pub fn answer(
+    alloc: Global,
+    limits: Limits,
+    blocking: Blocking,
+    input: &[u8],
+) -> Result<Replayed, AllocError>
+    ensures { IfOk result (λ r. IsAnswer limits blocking input.now r) }
+{
+    let mut exec = Exec::new(alloc, limits, blocking)?;
+    let mut out = Vec::new(alloc);
+    let mut reader = Reader::new(input);
+    let mut spare = List::new(alloc);
+    let mut count = 0usize;
+    'lines: while !reader.is_empty() {
+        let Some(event) = reader.line(alloc, &mut spare)? else {
+            return Ok(Replayed::BadLine(count + 1));
+        };
+        one_event(alloc, &mut exec, event, &mut spare, &mut out)?;
+        count += 1;
+    }
+    Ok(Replayed::Output(out))
+}

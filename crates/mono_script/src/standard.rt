@@ -1,0 +1,73 @@
+// Standard input and output as a source and a sink: the trusted edge, a few lines each.
+ghost use Rattle.std.specs.Prelude.{◌≡◌};
+
+use crate::sink::{Sink, SinkFault};
+use crate::source::{Source, SourceFault};
+use std::io::{Read, Write};
+use std::rt::{Stdin, Stdout};
+
+/// Standard input. It tells nothing of its bytes, and its count of faults starts at 0.
+#[derive(Drop)]
+pub struct StdinSource {
+    stdin: Stdin,
+    faults: u64,
+}
+
+impl StdinSource {
+    /// The source that reads this standard input.
+    pub fn new(stdin: Stdin) -> StdinSource {
+        StdinSource { stdin, faults: 0 }
+    }
+}
+
+impl Source for StdinSource {
+    ghost use Rattle.std.specs.Prelude.{None};
+
+    ghost faults = { λ source. source.faults };
+
+    ghost left = { λ source. None };
+
+    fn read(&mut self, buffer: &mut [u8]) -> Result<usize, SourceFault> {
+        match self.stdin.read(buffer) {
+            Ok(n) => Ok(n),
+            Err(_) => {
+                self.faults = self.faults.saturating_add(1);
+                Err(SourceFault)
+            }
+        }
+    }
+}
+
+/// Standard output. It tells nothing of its bytes, and its count of faults starts at 0.
+///
+/// A write to a closed pipe fails as any other does, and so does one that takes no byte of a piece that isn't empty.
+#[derive(Drop)]
+pub struct StdoutSink {
+    stdout: Stdout,
+    faults: u64,
+}
+
+impl StdoutSink {
+    /// The sink that writes to this standard output.
+    pub fn new(stdout: Stdout) -> StdoutSink {
+        StdoutSink { stdout, faults: 0 }
+    }
+}
+
+impl Sink for StdoutSink {
+    ghost use Rattle.std.specs.Prelude.{None};
+
+    ghost faults = { λ sink. sink.faults };
+
+    ghost written = { λ sink. None };
+
+    fn write(&mut self, piece: &[u8]) -> Result<usize, SinkFault> {
+        if let Ok(n) = self.stdout.write(piece) {
+            if n > 0 || piece.is_empty() {
+                return Ok(n);
+            }
+        }
+        self.faults = self.faults.saturating_add(1);
+        Err(SinkFault)
+    }
+}
