@@ -1,9 +1,12 @@
-//! Rows of bytes to bytes: what the top call writes for an input, as tests.
+//! Bytes to bytes: what a caller of the top call may rely on, and rows of inputs with their outputs as tests.
 #![tactic(auto)]
 
+mod caller;
 #[cfg(test)]
 mod faults;
 #[cfg(test)]
 mod replays;
 #[cfg(test)]
 mod running;
+
+pub use caller::status_of;
