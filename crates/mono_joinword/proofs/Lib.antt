@@ -1,0 +1,5 @@
+mod Seats
+mod RunnerSteps
+mod RunnerTells
+mod JoinerSteps
+mod JoinerForms

@@ -1,0 +1,17 @@
+//! The join word: one atomic word and two slots between the runner of a job and its joiner. One slot keeps the output,
+//! the other the joiner's waker. No call waits, tries a step twice or, but for `pair`, takes memory.
+#![tactic(auto)]
+
+mod joiner;
+mod make;
+mod outcome;
+mod runner;
+mod views;
+mod word;
+
+pub use joiner::{Cancelled, Joiner, JoinerSeat};
+pub use make::pair;
+pub use mono_model::Poll;
+pub use outcome::{JoinError, Outcome, Wakes};
+pub use runner::{Completed, Runner, RunnerSeat};
+pub use views::{JoinerView, Kind, RunnerView, Stage, View};
