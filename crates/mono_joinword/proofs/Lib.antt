@@ -3,3 +3,4 @@ mod RunnerSteps
 mod RunnerTells
 mod JoinerSteps
 mod JoinerForms
+mod Follows

@@ -3,13 +3,20 @@
 #![tactic(auto)]
 
 mod joiner;
+mod laws;
 mod make;
 mod outcome;
 mod runner;
+#[cfg(test)]
+mod tests;
 mod views;
 mod word;
 
 pub use joiner::{Cancelled, Joiner, JoinerSeat};
+pub use laws::{
+    completing_keeps, joining_keeps, making_keeps, no_store_cancels, one_of_six_words,
+    output_comes_once, told_is_woken,
+};
 pub use make::pair;
 pub use mono_model::Poll;
 pub use outcome::{JoinError, Outcome, Wakes};

@@ -1,0 +1,5 @@
+use Rattle.mono_joinword.proofs.Follows.{completing}
+use Rattle.mono_joinword.proofs.laws.completing_keeps.Goals as goal
+
+pub returns : goal.returns
+returns g c = completing g.O.Outcome.output_number g.W.Wakes.waker_number

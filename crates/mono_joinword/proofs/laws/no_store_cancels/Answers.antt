@@ -1,0 +1,5 @@
+use Rattle.mono_joinword.proofs.Follows.{no_store}
+use Rattle.mono_joinword.proofs.laws.no_store_cancels.Goals as goal
+
+pub returns : goal.returns
+returns g c = no_store g.O.Outcome.output_number g.W.Wakes.waker_number
