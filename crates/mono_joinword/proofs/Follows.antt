@@ -1,10 +1,10 @@
 -- The laws of the rule.
-use Rattle.std.proofs.Common.{◌<◌, [], ◌∷◌, ◌≡◌, ◌≢◌, ℕ, ◌+◌, arith, List, Some, Err, Result, ◌⊎◌, Bool, true, false, eqb, true≢false, slice_index, sym, refl, ap, ◌∙◌, subst, inl, inr, ⊎_elim, Option}
+use Rattle.std.proofs.Common.{◌<◌, [], ◌∷◌, ◌≡◌, ◌≢◌, ℕ, ◌+◌, arith, List, Some, Err, Bool, true, false, eqb, true≢false, slice_index, sym, refl, ap, ◌∙◌, subst, inl, inr, ⊎_elim, Option}
 use mathlib.Core.Option.{some, none}
 use Rattle.std.specs.Prelude.{⊤}
 use lib.ListN.{get_elem?}
 use prog.Atomic.{either}
-use Rattle.atomic_table.specs.Table.{State, Me, stepped, Allows}
+use Rattle.atomic_table.specs.Table.{State, stepped}
 use Rattle.mono_joinword.specs.declared.views.Kept.{Kept}
 use Rattle.mono_joinword.specs.declared.views.Kept.TheVariants.{Output, Waker}
 use Rattle.mono_joinword.specs.declared.outcome.JoinError.TheVariants.{Canceled}
@@ -13,8 +13,8 @@ use Rattle.mono_joinword.specs.declared.views.Stage.TheVariants.{Working, Comple
 use Rattle.mono_joinword.specs.declared.views.JoinerView.{JoinerView}
 use Rattle.mono_joinword.specs.declared.views.View.{View}
 use Rattle.mono_joinword.specs.declared.views.View.TheVariants.{Joiner}
-use Rattle.mono_joinword.specs.Views.{bits, runner_at, joiner_of}
-use Rattle.mono_joinword.specs.Rule.{Home, OutputSlot, Sound, Fits, between, Whole, Split, Joined}
+use Rattle.mono_joinword.specs.Views.{bits, joiner_of}
+use Rattle.mono_joinword.specs.Rule.{Home, OutputSlot, Sound, Fits, between, Whole, Split}
 use Rattle.mono_joinword.specs.Steps.{My, peeks, looks, clears, places, cancels, tries}
 use Rattle.mono_joinword.specs.Laws.{May, MakingKeeps, CompletingKeeps, IsOpen, PeekingKeeps, LookingKeeps, ClearingKeeps, PlacingKeeps, CancellingKeeps, TryingKeeps, Stands, ToldIsWoken, ComesOnce, NeverBefore, OneOfSix, SixWords, NoStore}
 use Rattle.mono_joinword.proofs.Seats.{Owes, kind, stage_in, IsOne, IsZero}

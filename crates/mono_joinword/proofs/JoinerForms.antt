@@ -1,9 +1,9 @@
 -- The joiner's steps at the seats that the calls have, and what they tell.
-use Rattle.std.proofs.Common.{◌≡◌, ◌≢◌, true≢false, ℕ, ◌⊎◌, Bool, true, false, eqb, List, [], ◌∷◌, sym, ap, ◌∙◌, subst, ⊎_elim, inl, inr, arith, Option, Some, Result}
+use Rattle.std.proofs.Common.{◌≡◌, ◌≢◌, ℕ, ◌⊎◌, Bool, true, false, eqb, List, [], ◌∷◌, sym, ap, ◌∙◌, subst, ⊎_elim, inl, inr, Option, Some, Result}
 use prog.Atomic.{either}
 use Rattle.atomic_table.specs.Table.{Me, Allows}
 use Rattle.mono_joinword.specs.declared.views.Kind.{Kind}
-use Rattle.mono_joinword.specs.declared.views.Kind.TheVariants.{Load, Place}
+use Rattle.mono_joinword.specs.declared.views.Kind.TheVariants.{Place}
 use Rattle.mono_joinword.specs.declared.outcome.JoinError.{JoinError}
 use Rattle.mono_joinword.specs.declared.views.Kept.{Kept}
 use Rattle.mono_joinword.specs.declared.views.Kept.TheVariants.{Output, Waker}
@@ -12,7 +12,7 @@ use Rattle.mono_joinword.specs.declared.views.View.{View}
 use Rattle.mono_joinword.specs.declared.views.View.TheVariants.{Joiner}
 use Rattle.mono_joinword.specs.Rule.{Joined}
 use Rattle.mono_joinword.specs.Steps.{My, Takes, peeks, looks, clears, places, cancels, tries}
-use Rattle.mono_joinword.specs.Views.{bits, joiner_of, resting, has_waker, number_or, done, looked, opened}
+use Rattle.mono_joinword.specs.Views.{bits, joiner_of, resting, has_waker, number_or, opened}
 use Rattle.mono_joinword.proofs.JoinerSteps.{look_step, clear_step, place_step, cancel_step, peek_step, try_step}
 
 module _ {O W : Type 0} (output_number : O → ℕ) (waker_number : W → ℕ) (n : ℕ) where

@@ -1,5 +1,5 @@
 -- What follows from the rule, and that each kind of step keeps it.
-use Rattle.std.specs.Prelude.{⊤, ◌≡◌, ◌≢◌, ℕ, ◌⊎◌, Bool, true, false, eqb, bit_or, slice_index, List, [], ◌∷◌, Option, Some, None, Result}
+use Rattle.std.specs.Prelude.{⊤, ◌≡◌, ◌≢◌, ℕ, ◌⊎◌, Bool, true, false, eqb, bit_or, slice_index, List, [], ◌∷◌, Option, Some, Result}
 use mathlib.Core.Option.{none, some}
 use lib.ListN.{get_elem?}
 use prog.Atomic.{either}

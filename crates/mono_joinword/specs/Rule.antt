@@ -1,7 +1,7 @@
 -- The rule of the join word, which holds between any two steps.
 -- The word is 8 with interest, 24 with interest and waker, 0 after a cancel, and 2 more where it is complete.
 -- A slot that a seat has is away from home, and its value is known to that seat alone: the runner has the output slot from the start until its completing step.
-use Rattle.std.specs.Prelude.{◌≡◌, ℕ, ◌+◌, ◌⊎◌, Bool, true, false, List, [], ◌∷◌, Option, Some, None, Result}
+use Rattle.std.specs.Prelude.{◌≡◌, ℕ, ◌+◌, ◌⊎◌, Bool, true, false, [], ◌∷◌, Option, Some, None, Result}
 use mathlib.Core.Option.{Option as Maybe, some, none}
 use Rattle.atomic_table.specs.Table.{State}
 use Rattle.mono_joinword.specs.declared.outcome.JoinError.{JoinError}

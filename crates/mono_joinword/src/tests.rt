@@ -1,9 +1,10 @@
 use crate::{JoinError, Outcome, Poll, Wakes, pair};
 use std::alloc::{AllocError, Global};
+use std::process::Abort;
 use std::sync::Arc;
 use std::sync::atomic::{AtomicU64, Ordering};
 use std::test::Fail;
-use std::thread;
+use std::thread::{self, Threads};
 
 #[derive(Drop)]
 struct Named(u64);
@@ -96,13 +97,14 @@ impl Drop for Counted {
 }
 
 // The joiner polls with the waker 8 while another thread completes. Where it waits, the waker 7 is in place before.
-fn poll_in_time(
-    rt: &HostRuntime,
+fn poll_in_time<R: Threads + Abort>(
+    rt: &R,
+    alloc: Global,
     waits: bool,
     spins: u64,
     drops: &Arc<AtomicU64, Global>,
 ) -> Result<(), AllocError> {
-    let (runner, mut joiner) = pair::<Counted, Named>(rt.alloc(), 4)?;
+    let (runner, mut joiner) = pair::<Counted, Named>(alloc, 4)?;
     let output = Counted {
         number: 4,
         drops: Arc::try_clone(drops)?,
@@ -140,13 +142,14 @@ fn poll_in_time(
 }
 
 // The joiner cancels while another thread completes.
-fn cancel_in_time(
-    rt: &HostRuntime,
+fn cancel_in_time<R: Threads + Abort>(
+    rt: &R,
+    alloc: Global,
     waits: bool,
     spins: u64,
     drops: &Arc<AtomicU64, Global>,
 ) -> Result<(), AllocError> {
-    let (runner, mut joiner) = pair::<Counted, Named>(rt.alloc(), 4)?;
+    let (runner, mut joiner) = pair::<Counted, Named>(alloc, 4)?;
     let output = Counted {
         number: 4,
         drops: Arc::try_clone(drops)?,
@@ -173,8 +176,8 @@ fn each_output_is_handed_out_or_dropped_once(rt: HostRuntime) -> Result<(), Fail
     let drops = Arc::new(rt.alloc(), AtomicU64::new(0))?;
     for round in 0..200 {
         for waits in [false, true] {
-            poll_in_time(&rt, waits, round * 16, &drops)?;
-            cancel_in_time(&rt, waits, round * 16, &drops)?;
+            poll_in_time(&rt, rt.alloc(), waits, round * 16, &drops)?;
+            cancel_in_time(&rt, rt.alloc(), waits, round * 16, &drops)?;
         }
     }
     assert_eq!(rt; drops.load(Ordering::SeqCst), 800);

@@ -95,10 +95,10 @@ pub(super) fn replace<O: Outcome + Drop, W: Wakes + Drop>(
     if is_placed(placed, waker.number()) {
         return Poll::Pending;
     }
-    let found = word
+    let cleared = word
         .shared
         .compare_exchange::<Clear>(seat, 0, JOIN_INTEREST | JOIN_WAKER, JOIN_INTEREST);
-    if found == JOIN_INTEREST | JOIN_WAKER {
+    if cleared == JOIN_INTEREST | JOIN_WAKER {
         drop(take_waker(word, seat));
         return place(word, seat, waker);
     }
@@ -168,11 +168,11 @@ pub(super) fn cancel_seat<O: Outcome + Drop, W: Wakes + Drop>(
     ensures answer { Cancels O.output_number (joiner_of seat.old.me.0) result (joiner_of seat.new.me.0) }
 {
     let old = word_with(placed);
-    let found = word.shared.compare_exchange::<Cancel>(seat, 0, old, 0);
-    if found == JOIN_INTEREST {
+    let was = word.shared.compare_exchange::<Cancel>(seat, 0, old, 0);
+    if was == JOIN_INTEREST {
         return None;
     }
-    if found == JOIN_INTEREST | JOIN_WAKER {
+    if was == JOIN_INTEREST | JOIN_WAKER {
         drop(take_waker(word, seat));
         return None;
     }
