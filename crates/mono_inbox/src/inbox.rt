@@ -31,7 +31,12 @@ impl<U: Unpark> Inbox<U> {
     }
 
     /// A waker of the task, which is made known. Where memory is refused the inbox stays as it was.
-    pub fn waker<R: Host>(&self, rt: &R, alloc: Global, task: u64) -> Result<RemoteWaker<U>, AllocError>
+    pub fn waker<R: Host>(
+        &self,
+        rt: &R,
+        alloc: Global,
+        task: u64,
+    ) -> Result<RemoteWaker<U>, AllocError>
         ensures { IfOk result (λ waker. waker ≡ task) }
     {
         let shared = Arc::try_clone(&self.shared)?;
@@ -42,7 +47,12 @@ impl<U: Unpark> Inbox<U> {
     /// Appends the tasks that wait to `into`, each once and in the order of their wakes, and leaves none waiting.
     ///
     /// Where memory is refused `into` holds what it held, and all tasks still wait.
-    pub fn drain<R: Host>(&self, rt: &R, alloc: Global, into: &mut Vec<u64>) -> Result<(), AllocError>
+    pub fn drain<R: Host>(
+        &self,
+        rt: &R,
+        alloc: Global,
+        into: &mut Vec<u64>,
+    ) -> Result<(), AllocError>
         ensures drained { OnOk result (AppendsOnce into.old.items into.new.items) }
         ensures refused { OnErr result (into.new.items ≡ into.old.items) }
     {
@@ -57,7 +67,11 @@ impl<U: Unpark> Inbox<U> {
 }
 
 /// The drain of an inbox, on the state that the lock lends: with room made in `into`, all that waits, or nothing.
-fn drain_state(state: &mut InboxState, _alloc: Global, into: &mut Vec<u64>) -> Result<(), AllocError>
+fn drain_state(
+    state: &mut InboxState,
+    _alloc: Global,
+    into: &mut Vec<u64>,
+) -> Result<(), AllocError>
     ensures items { OnOk result (into.new.items ≡ into.old.items ++ state.old.waiting) }
     ensures distinct { HasNoDoubles state.old.waiting }
     ensures state { OnOk result (state.new ≡ with_list state.old []) }

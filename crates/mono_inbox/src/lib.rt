@@ -13,3 +13,6 @@ pub use parker::{Parker, Token, UnparkHandle};
 pub use registry::{RegisterError, Registry, RegistryState};
 pub use state::InboxState;
 pub use waker::{NoUnpark, RemoteWaker, Unpark};
+
+#[cfg(test)]
+mod tests;

@@ -8,6 +8,9 @@ use std::alloc::{AllocError, Global};
 use std::collections::VecDeque;
 use std::marker::Model;
 
+/// The room that is made for the first task.
+const LEAST_ROOM: usize = 4;
+
 /// Tasks that other threads have woken, each once and in order, and the tasks that may be woken so.
 ///
 /// The memory is a byte for each number up to the greatest that was made known, and eight bytes for each task that is
@@ -135,14 +138,18 @@ impl InboxState {
     }
 }
 
-/// Makes the list's room more than so many places, of which the waiting tasks are some.
+/// Makes the list's room more than so many places, of which the waiting tasks are some. What is too little at least
+/// doubles, so that a task costs the same however many there are.
 fn make_room(waiting: &mut VecDeque<u64>, places: usize) -> Result<(), AllocError>
     requires { deque_len waiting.old ≤ places }
     ensures items { waiting.new.items ≡ waiting.old.items }
     ensures capacity { deque_capacity waiting.old ≤ deque_capacity waiting.new }
     ensures room { OnOk result (places < deque_capacity waiting.new) }
 {
-    let Some(more) = (places - waiting.len()).checked_add(1) else {
+    if places < waiting.capacity() {
+        return Ok(());
+    }
+    let Some(more) = (places - waiting.len()).checked_add(places.max(LEAST_ROOM)) else {
         return Err(AllocError);
     };
     waiting.reserve(more)
