@@ -1,0 +1,40 @@
+// The search for the next slot: that of the key whose slot starts first.
+ghost use Rattle.std.specs.Prelude.{◌≡◌, ◌≢◌, ℕ, ◌<◌, [], length, MatchOption};
+ghost use Rattle.mono_wheel.specs.Lists.{list_at};
+ghost use Rattle.mono_wheel.specs.Held.{Held, IsNextSlot, NoSlots, ranked};
+
+use crate::Links;
+use crate::entry::Entry;
+use crate::level::{list_ranked, slot_start};
+
+#[derive(Clone, Copy)]
+pub struct NextSlot {
+    pub list: usize,
+    pub start: u64,
+}
+
+// The first slot that is not empty: of each level from the one after the current slot on, the
+// current slot last.
+fn first_occupied(elapsed: u64, links: &Links) -> Option<usize>
+    requires { length links.now.lists ≡ 386 }
+    ensures { MatchOption result ((rank : ℕ) → rank < 384 → list_at links.now (ranked elapsed rank) ≡ []) (λ list. (rank : ℕ) × (rank < 384) × (list ≡ ranked elapsed rank) × (list_at links.now list ≢ []) × ((before : ℕ) → before < rank → list_at links.now (ranked elapsed before) ≡ [])) }
+{
+    for rank in 0..384 {
+        let list = list_ranked(elapsed, rank);
+        if !links.is_empty(list) {
+            return Some(list);
+        }
+    }
+    None
+}
+
+// The slot that starts first of those that have a key.
+pub fn next_slot(elapsed: u64, entries: &Vec<Entry>, links: &Links) -> Option<NextSlot>
+    requires { Held elapsed entries.now.items links.now }
+    ensures { MatchOption result (NoSlots elapsed entries.now.items) (λ slot. IsNextSlot elapsed entries.now.items slot.list slot.start) }
+{
+    let list = first_occupied(elapsed, links)?;
+    let key = links.last(list)?;
+    let start = slot_start(elapsed, entries[key].registered);
+    Some(NextSlot { list, start })
+}
