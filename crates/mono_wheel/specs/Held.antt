@@ -1,7 +1,7 @@
 -- Where the lists of a wheel hold its keys, and what is true while the keys of one slot are registered anew.
-use Rattle.std.specs.Prelude.{◌≡◌, ◌≢◌, ℕ, ◌+◌, ◌-◌, ◌*◌, ◌/◌, ◌%◌, ◌<◌, ◌≤◌, ◌⊎◌, Bool, true, false, ◌==◌, if◌then◌else◌, List, [], ◌∷◌, length, map, Option, Some, None, slice_index_or}
+use Rattle.std.specs.Prelude.{◌≡◌, ◌≢◌, ℕ, ◌+◌, ◌-◌, ◌*◌, ◌/◌, ◌%◌, ◌<◌, ◌≤◌, ◌⊎◌, Bool, true, false, ◌==◌, if◌then◌else◌, List, [], ◌∷◌, length, map, Option, Some, None, slice_index_or, slice_set}
 use Rattle.mono_wheel.specs.Start.{far_digit, slot_of, start}
-use Rattle.mono_wheel.specs.Lists.{Lists, IsIn, list_at, is_node}
+use Rattle.mono_wheel.specs.Lists.{Lists, IsIn, list_at, is_node, with_list}
 use Rattle.mono_wheel.specs.Model.{Timed, Fits, StandsBehind, timed_after, IsPending, Precedes, Wheel, AllFit, timed_at}
 use Rattle.mono_wheel.specs.declared.entry.Entry.{Entry}
 
@@ -64,19 +64,31 @@ abbrev pub anew : Option Timed → Option Timed
 anew None = None
 anew (Some timed) = Some record { tick = timed.tick; registered = timed.tick }
 
--- `a` is to come out before `b`: it stands behind it, or `b` alone still waits
-abbrev pub Leads : Lists → ℕ → ℕ → Type 0
-Leads links a b = ((line : ℕ) × StandsBehind (list_at links line) a b) ⊎ ((IsIn a (list_at links 385) → ⊥) × IsIn b (list_at links 385))
+-- `a` is to come out before `b`: it stands behind it, or `b` waits and `a` does no more
+abbrev pub Leads : Lists → Lists → ℕ → ℕ → Type 0
+Leads links links2 a b =
+    ((line : ℕ) × StandsBehind (list_at links2 line) a b)
+    ⊎ (IsIn a (list_at links 385) × (IsIn a (list_at links2 385) → ⊥) × IsIn b (list_at links2 385))
 
--- How far the registration of the keys that wait has come since these entries and lists.
+-- how far the registration of the keys that wait has come since these entries and lists
 pub record Settled (entries entries2 : List Entry) (links links2 : Lists) : Type 0 where
   -- who waits did so before, and has its ticks still
   pub waits : (key : ℕ) → IsIn key (list_at links2 385) → IsIn key (list_at links 385) × (timed_in entries2 key ≡ timed_in entries key)
-  -- who waited and does not is registered at its true tick
+  -- who waited and does no more is registered at its true tick
   pub done : (key : ℕ) → IsIn key (list_at links 385) → (IsIn key (list_at links2 385) → ⊥) → timed_in entries2 key ≡ anew (timed_in entries key)
   pub others : (key : ℕ) → (IsIn key (list_at links 385) → ⊥) → timed_in entries2 key ≡ timed_in entries key
-  pub order : (a b : ℕ) → (line : ℕ) → StandsBehind (list_at links line) a b → timed_in entries a ≡ timed_in entries b → Leads links2 a b
+  pub order : (a b line : ℕ) → StandsBehind (list_at links line) a b → timed_in entries a ≡ timed_in entries b → Leads links links2 a b
   pub nodes : links2.nodes ≡ links.nodes
+
+abbrev pub entry_anew : Entry → Entry
+entry_anew entry = record { tick = entry.tick; registered = entry.tick; is_in = entry.is_in }
+
+-- one key is registered at its true tick, and stands first where it belongs
+pub record Registered (elapsed : ℕ) (entries entries2 : List Entry) (links links2 : Lists) (key : ℕ) : Type 0 where
+  pub entry : Entry
+  pub was : entry ≡ slice_index_or entries key entry
+  pub entries_are : entries2 ≡ slice_set entries key (entry_anew entry)
+  pub links_are : links2 ≡ with_list links (place_in elapsed entry.tick) (key ∷ list_at links (place_in elapsed entry.tick))
 
 -- the clock of a wheel went on, nothing went out, and no true tick was passed
 pub record Advanced (old new : Wheel) : Type 0 where

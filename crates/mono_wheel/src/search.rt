@@ -33,8 +33,12 @@ pub fn next_slot(elapsed: u64, entries: &Vec<Entry>, links: &Links) -> Option<Ne
     requires { Held elapsed entries.now.items links.now }
     ensures { MatchOption result (NoSlots elapsed entries.now.items) (λ slot. IsNextSlot elapsed entries.now.items slot.list slot.start) }
 {
-    let list = first_occupied(elapsed, links)?;
-    let key = links.last(list)?;
-    let start = slot_start(elapsed, entries[key].registered);
-    Some(NextSlot { list, start })
+    match first_occupied(elapsed, links) {
+        None => None,
+        Some(list) => {
+            let key = links.last(list)?;
+            let start = slot_start(elapsed, entries[key].registered);
+            Some(NextSlot { list, start })
+        }
+    }
 }

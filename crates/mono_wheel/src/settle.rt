@@ -1,7 +1,7 @@
 // The keys of a slot that was reached are registered at their true ticks.
-ghost use Rattle.std.specs.Prelude.{◌≡◌, ℕ, ◌+◌, length, []};
-ghost use Rattle.mono_wheel.specs.Lists.{list_at};
-ghost use Rattle.mono_wheel.specs.Held.{Held, Settling, Settled};
+ghost use Rattle.std.specs.Prelude.{◌≡◌, ℕ, ◌+◌, ◌<◌, length};
+ghost use Rattle.mono_wheel.specs.Lists.{IsLoose, list_at};
+ghost use Rattle.mono_wheel.specs.Held.{Held, Registered, Settling, Settled};
 
 use crate::entry::Entry;
 use crate::level::standing;
@@ -12,7 +12,12 @@ use std::sync::ledger::Ledger;
 pub const TAKEN: usize = 385;
 
 // Registers one key that stands in no list at its true tick.
-fn register(elapsed: u64, entries: &mut Vec<Entry>, links: &mut Links, key: usize) {
+fn register(elapsed: u64, entries: &mut Vec<Entry>, links: &mut Links, key: usize)
+    requires room { key < length entries.old.items }
+    requires lists { length links.old.lists ≡ 386 }
+    requires loose { IsLoose links.old key }
+    ensures { Registered elapsed entries.old.items entries.new.items links.old links.new key }
+{
     let entry = &mut entries[key];
     entry.registered = entry.tick;
     let list = standing(elapsed, entry.registered);
