@@ -50,6 +50,10 @@ pub record IsNextSlot (elapsed : ℕ) (entries : List Entry) (list begin : ℕ) 
 abbrev pub NoSlots : ℕ → List Entry → Type 0
 NoSlots elapsed entries = (key : ℕ) (timed : Timed) → timed_in entries key ≡ Some timed → elapsed < timed.registered → ⊥
 
+-- no slot that has a key starts at this tick or before
+abbrev pub NoSlotBy : ℕ → ℕ → List Entry → Type 0
+NoSlotBy elapsed now entries = (key : ℕ) (timed : Timed) → timed_in entries key ≡ Some timed → elapsed < timed.registered → now < start 5 elapsed timed.registered
+
 -- As Held, while the keys of the list 385 still wait to be registered at their true ticks, and all others stand as of this tick.
 pub record Settling (elapsed : ℕ) (entries : List Entry) (links : Lists) : Type 0 where
   pub lists : length links.lists ≡ 386

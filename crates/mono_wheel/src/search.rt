@@ -1,7 +1,7 @@
 // The search for the next slot: that of the key whose slot starts first.
-ghost use Rattle.std.specs.Prelude.{◌≡◌, ◌≢◌, ℕ, ◌<◌, [], length, MatchOption};
+ghost use Rattle.std.specs.Prelude.{◌≡◌, ◌≢◌, ℕ, ◌<◌, ◌≤◌, [], length, MatchOption};
 ghost use Rattle.mono_wheel.specs.Lists.{list_at};
-ghost use Rattle.mono_wheel.specs.Held.{Held, IsNextSlot, NoSlots, ranked};
+ghost use Rattle.mono_wheel.specs.Held.{Held, IsNextSlot, NoSlots, NoSlotBy, ranked};
 
 use crate::Links;
 use crate::entry::Entry;
@@ -39,6 +39,23 @@ pub fn next_slot(elapsed: u64, entries: &Vec<Entry>, links: &Links) -> Option<Ne
             let key = links.last(list)?;
             let start = slot_start(elapsed, entries[key].registered);
             Some(NextSlot { list, start })
+        }
+    }
+}
+
+// The same, where it starts at `now` or before.
+pub fn slot_by(elapsed: u64, now: u64, entries: &Vec<Entry>, links: &Links) -> Option<NextSlot>
+    requires { Held elapsed entries.now.items links.now }
+    ensures { MatchOption result (NoSlotBy elapsed now entries.now.items) (λ slot. IsNextSlot elapsed entries.now.items slot.list slot.start × (slot.start ≤ now)) }
+{
+    match next_slot(elapsed, entries, links) {
+        None => None,
+        Some(slot) => {
+            if slot.start <= now {
+                Some(slot)
+            } else {
+                None
+            }
         }
     }
 }
