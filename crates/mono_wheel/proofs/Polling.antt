@@ -83,13 +83,16 @@ moved-twice e f g timed fits l m = elim (cases_lt f (start 5 e timed.registered)
       | inl c ↦ moved-stays f g record { tick = timed.tick; registered = timed.tick } c
       | inr c ↦ moved-anew f g record { tick = timed.tick; registered = timed.tick } c
     ]
+
     whole : timed.registered ≡ timed.tick → (x y : ℕ) → moved x y timed ≡ timed
     whole p x y = elim (cases_lt y (start 5 x timed.registered)) [
       | inl c ↦ moved-stays x y timed c
       | inr c ↦ moved-anew x y timed c ∙ (λ i. record { tick = timed.tick; registered = sym p i })
     ]
+
     pending : timed.registered ≡ e → timed.tick ≡ e → moved f g timed ≡ moved e g timed
     pending p q = whole (p ∙ sym q) f g ∙ sym (whole (p ∙ sym q) e g)
+
     same : e < timed.registered → f < start 5 e timed.registered → moved f g timed ≡ moved e g timed
     same a b = ap (λ s. if nat_le s g then record { tick = timed.tick; registered = timed.tick } else timed) (start-same 5 e f timed.registered a l b)
 

@@ -166,10 +166,10 @@ module _ (elapsed : ℕ) (first entries entries2 : List Entry) (start links popp
       | inl e ↦ elim (behind-last front key a b (subst (λ zs. StandsBehind zs a b) (ap (list_at links) e.1 ∙ is) t.1)) [
         | inl h ↦ inl (385, subst (λ zs. StandsBehind zs a b) (sym taken) h)
         | inr h ↦ inr (
-            subst (λ z. IsIn z (list_at start 385)) (sym h.0) (d.waits key waiting).0,
-            (λ i. apart (subst (λ z. IsIn z front) h.0 (subst (λ zs. IsIn a zs) taken i))),
-            subst (λ zs. IsIn b zs) (sym taken) h.1,
-          )
+          subst (λ z. IsIn z (list_at start 385)) (sym h.0) (d.waits key waiting).0,
+          (λ i. apart (subst (λ z. IsIn z front) h.0 (subst (λ zs. IsIn a zs) taken i))),
+          subst (λ zs. IsIn b zs) (sym taken) h.1,
+        )
       ]
       | inr e ↦ inl (t.0, keeps a b t.0 e.1 t.1)
     ]

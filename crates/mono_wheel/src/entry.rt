@@ -1,4 +1,4 @@
-// What a wheel knows of each key.
+//! What a wheel knows of each key.
 ghost use Rattle.std.specs.Prelude.{◌≡◌, ℕ, ◌<◌, ◌≤◌, length, OnOk};
 ghost use Rattle.mono_wheel.specs.Held.{timed_in};
 

@@ -1,11 +1,11 @@
-// The search for the next slot: that of the key whose slot starts first.
+//! The search for the next slot: that of the key whose slot starts first.
 ghost use Rattle.std.specs.Prelude.{◌≡◌, ◌≢◌, ℕ, ◌<◌, ◌≤◌, [], length, MatchOption};
 ghost use Rattle.mono_wheel.specs.Lists.{list_at};
 ghost use Rattle.mono_wheel.specs.Held.{Held, IsNextSlot, NoSlots, NoSlotBy, ranked};
 
 use crate::Links;
 use crate::entry::Entry;
-use crate::level::{list_ranked, slot_start};
+use crate::numbers::{list_ranked, slot_start};
 
 #[derive(Clone, Copy)]
 pub struct NextSlot {
@@ -50,12 +50,6 @@ pub fn slot_by(elapsed: u64, now: u64, entries: &Vec<Entry>, links: &Links) -> O
 {
     match next_slot(elapsed, entries, links) {
         None => None,
-        Some(slot) => {
-            if slot.start <= now {
-                Some(slot)
-            } else {
-                None
-            }
-        }
+        Some(slot) => { if slot.start <= now { Some(slot) } else { None } }
     }
 }

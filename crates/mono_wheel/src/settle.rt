@@ -1,10 +1,10 @@
-// The keys of a slot that was reached are registered at their true ticks.
+//! The keys of a slot that was reached are registered at their true ticks.
 ghost use Rattle.std.specs.Prelude.{◌≡◌, ℕ, ◌+◌, ◌<◌, length};
 ghost use Rattle.mono_wheel.specs.Lists.{IsLoose, list_at};
 ghost use Rattle.mono_wheel.specs.Held.{Held, Registered, Settling, Settled};
 
 use crate::entry::Entry;
-use crate::level::standing;
+use crate::numbers::standing;
 use crate::{Links, Steps};
 use std::sync::ledger::Ledger;
 
@@ -25,7 +25,12 @@ fn register(elapsed: u64, entries: &mut Vec<Entry>, links: &mut Links, key: usiz
 }
 
 // Registers the keys of the taken list at their true ticks, the last first.
-pub fn settle<L: Ledger>(elapsed: u64, entries: &mut Vec<Entry>, links: &mut Links, steps: &mut Steps<L>)
+pub fn settle<L: Ledger>(
+    elapsed: u64,
+    entries: &mut Vec<Entry>,
+    links: &mut Links,
+    steps: &mut Steps<L>,
+)
     requires { Settling elapsed entries.old.items links.old }
     ensures held { Held elapsed entries.new.items links.new }
     ensures settled { Settled entries.old.items entries.new.items links.old links.new }
