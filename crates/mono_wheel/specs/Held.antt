@@ -17,6 +17,12 @@ place_in elapsed registered = if registered == elapsed then 384 else place_of el
 abbrev pub ranked : ℕ → ℕ → ℕ
 ranked elapsed rank = rank / 64 * 64 + (slot_of (rank / 64) elapsed + 1 + rank % 64) % 64
 
+-- the first list of a slot, in that order, that is not empty
+abbrev pub IsFirstOccupied : ℕ → Lists → Option ℕ → Type 0
+IsFirstOccupied elapsed links None = (rank : ℕ) → rank < 384 → list_at links (ranked elapsed rank) ≡ []
+IsFirstOccupied elapsed links (Some list) =
+    (rank : ℕ) × (rank < 384) × (list ≡ ranked elapsed rank) × (list_at links list ≢ []) × ((before : ℕ) → before < rank → list_at links (ranked elapsed before) ≡ [])
+
 abbrev pub timed_of : Entry → Option Timed
 timed_of entry = if entry.is_in then Some record { tick = entry.tick; registered = entry.registered } else None
 

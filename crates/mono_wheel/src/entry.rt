@@ -13,7 +13,7 @@ pub struct Entry {
     pub is_in: bool,
 }
 
-// Makes an entry for a key, which is not in where it is new.
+/// Makes an entry for a key, which is not in where it is new.
 pub fn make_room(entries: &mut Vec<Entry>, key: usize) -> Result<(), AllocError>
     ensures below { OnOk result (key < length entries.new.items) }
     ensures grown { length entries.old.items ≤ length entries.new.items }

@@ -5,10 +5,10 @@ ghost use Rattle.mono_wheel.specs.Held.{place_of, place_in, ranked};
 
 use crate::level::level_for;
 
-// The pending list, after the 384 slots.
+/// The pending list, after the 384 slots.
 pub const PENDING: usize = 384;
 
-// The list of the slot of a tick that lies ahead.
+/// The list of the slot of a tick that lies ahead.
 pub fn place(elapsed: u64, when: u64) -> usize
     ensures { result ≡ place_of elapsed when }
 {
@@ -22,7 +22,7 @@ pub fn place(elapsed: u64, when: u64) -> usize
     }
 }
 
-// The list in which a key stands that is registered at this tick.
+/// The list in which a key stands that is registered at this tick.
 pub fn standing(elapsed: u64, registered: u64) -> usize
     ensures { result ≡ place_in elapsed registered }
 {
@@ -33,7 +33,7 @@ pub fn standing(elapsed: u64, registered: u64) -> usize
     }
 }
 
-// The slot of a tick at a level.
+/// The slot of a tick at a level.
 pub fn slot_at(level: usize, tick: u64) -> usize
     requires { level < 6 }
     ensures value { result ≡ slot_of level tick }
@@ -49,7 +49,7 @@ pub fn slot_at(level: usize, tick: u64) -> usize
     }
 }
 
-// The list whose slot is this one in the order in which slots start.
+/// The list whose slot is this one in the order in which slots start.
 pub fn list_ranked(elapsed: u64, rank: usize) -> usize
     requires { rank < 384 }
     ensures value { result ≡ ranked elapsed rank }
@@ -84,7 +84,7 @@ fn slot_size(level: usize) -> u64
     }
 }
 
-// Where the slot of a tick that lies ahead starts.
+/// Where the slot of a tick that lies ahead starts.
 pub fn slot_start(elapsed: u64, when: u64) -> u64
     requires { elapsed < when }
     ensures { result ≡ start 5 elapsed when }

@@ -1,7 +1,6 @@
 //! The search for the next slot: that of the key whose slot starts first.
-ghost use Rattle.std.specs.Prelude.{◌≡◌, ◌≢◌, ℕ, ◌<◌, ◌≤◌, [], length, MatchOption};
-ghost use Rattle.mono_wheel.specs.Lists.{list_at};
-ghost use Rattle.mono_wheel.specs.Held.{Held, IsNextSlot, NoSlots, NoSlotBy, ranked};
+ghost use Rattle.std.specs.Prelude.{◌≡◌, ◌≤◌, length, MatchOption};
+ghost use Rattle.mono_wheel.specs.Held.{Held, IsFirstOccupied, IsNextSlot, NoSlots, NoSlotBy};
 
 use crate::Links;
 use crate::entry::Entry;
@@ -17,7 +16,7 @@ pub struct NextSlot {
 // current slot last.
 fn first_occupied(elapsed: u64, links: &Links) -> Option<usize>
     requires { length links.now.lists ≡ 386 }
-    ensures { MatchOption result ((rank : ℕ) → rank < 384 → list_at links.now (ranked elapsed rank) ≡ []) (λ list. (rank : ℕ) × (rank < 384) × (list ≡ ranked elapsed rank) × (list_at links.now list ≢ []) × ((before : ℕ) → before < rank → list_at links.now (ranked elapsed before) ≡ [])) }
+    ensures { IsFirstOccupied elapsed links.now result }
 {
     for rank in 0..384 {
         let list = list_ranked(elapsed, rank);
@@ -28,7 +27,7 @@ fn first_occupied(elapsed: u64, links: &Links) -> Option<usize>
     None
 }
 
-// The slot that starts first of those that have a key.
+/// The slot that starts first of those that have a key.
 pub fn next_slot(elapsed: u64, entries: &Vec<Entry>, links: &Links) -> Option<NextSlot>
     requires { Held elapsed entries.now.items links.now }
     ensures { MatchOption result (NoSlots elapsed entries.now.items) (λ slot. IsNextSlot elapsed entries.now.items slot.list slot.start) }
@@ -43,7 +42,7 @@ pub fn next_slot(elapsed: u64, entries: &Vec<Entry>, links: &Links) -> Option<Ne
     }
 }
 
-// The same, where it starts at `now` or before.
+/// The same, where it starts at `now` or before.
 pub fn slot_by(elapsed: u64, now: u64, entries: &Vec<Entry>, links: &Links) -> Option<NextSlot>
     requires { Held elapsed entries.now.items links.now }
     ensures { MatchOption result (NoSlotBy elapsed now entries.now.items) (λ slot. IsNextSlot elapsed entries.now.items slot.list slot.start × (slot.start ≤ now)) }

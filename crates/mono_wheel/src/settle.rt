@@ -8,7 +8,7 @@ use crate::numbers::standing;
 use crate::{Links, Steps};
 use std::sync::ledger::Ledger;
 
-// The list of the keys that wait to be registered anew.
+/// The list of the keys that wait to be registered anew.
 pub const TAKEN: usize = 385;
 
 // Registers one key that stands in no list at its true tick.
@@ -24,7 +24,7 @@ fn register(elapsed: u64, entries: &mut Vec<Entry>, links: &mut Links, key: usiz
     links.push_front(list, key);
 }
 
-// Registers the keys of the taken list at their true ticks, the last first.
+/// Registers the keys of the taken list at their true ticks, the last first.
 pub fn settle<L: Ledger>(
     elapsed: u64,
     entries: &mut Vec<Entry>,
