@@ -1,15 +1,16 @@
 -- Going through a list while chosen nodes leave it.
-use Rattle.std.proofs.Common.{arith, ◌≡◌, ◌≢◌, ℕ, ◌<◌, ◌≤◌, ◌⊎◌, inl, inr, length, Bool, true, false, List, [], ◌∷◌, ◌++◌, map, Option, Some, None, ap, refl, sym, ◌∙◌, subst, append_assoc, append-nil, eq-eqb, length-append, get_or-set_same, length-set}
+use Rattle.std.proofs.Common.{arith, ◌≡◌, ◌≢◌, ℕ, ◌<◌, ◌⊎◌, inl, inr, length, Bool, true, false, List, [], ◌∷◌, ◌++◌, map, Option, Some, None, ap, refl, sym, ◌∙◌, subst, append_assoc, append-nil, eq-eqb, length-append, get_or-set_same, length-set}
 use Rattle.std.proofs.lemmas.Bool.Decides.{eqb_tells}
 use Rattle.std.proofs.lemmas.Option.{none-some}
 use Rattle.std.proofs.lemmas.List.{set-get_or}
 use Rattle.std.proofs.Math.Seq.{set-set}
 use Rattle.std.specs.List.{FoldsTo}
 use Rattle.std.specs.Iterator.{Yields, YieldsThen}
+use base.Fml.{GName}
 use Rattle.std.specs.Option.{ForSome}
 use Rattle.mono_wheel.specs.Lists.{Lists, IsIn, IsFirst, list_at, with_list}
 use Rattle.mono_wheel.specs.Rings.{Slots, Chain, Distinct, ring_of, seen, at, head_at, next_in, prev_in, Stand}
-use Rattle.mono_wheel.specs.Drained.{from_node, until_node, from_place, until_place, left_of, spared_of, whole_of, lender_of, CanStep, Stays, DrainSteps, Sifts, Drained, Drains}
+use Rattle.mono_wheel.specs.Drained.{from_node, until_node, from_place, until_place, left_of, spared_of, whole_of, lender_of, links_of, CanStep, Stays, DrainSteps, Sifts, Drained, Drains}
 use Rattle.mono_wheel.specs.declared.drain_filter.DrainFilter.{DrainFilter}
 use Rattle.mono_wheel.proofs.Chains.{is_in_equal, is_in-middle, is_in-back, distinct-skipped}
 use Rattle.mono_wheel.proofs.Standing.{head_in_none}
@@ -301,3 +302,15 @@ module _ {F : Type 0} (asks : F → ℕ → Bool → F → Type 0) where
 
     pub drains : Drains asks old list choose s
     drains = record { so_far = so_far; whole = whole }
+
+  -- what a loop over the iterator leaves behind the reference that it was made from
+  pub drain-leaves : (old : Lists) (list : ℕ) (choose : F) (s s2 t u : DrainFilter F) (given : List ℕ) (name : GName) (x : Lists) →
+      Drains asks old list choose s → s2 ≡ s → Yields (DrainSteps asks) s2 given t → DrainSteps asks t None u → lender_of s ≡ name → (name ≡ lender_of u → x ≡ links_of u) →
+      (spared : List ℕ) × Sifts asks choose (list_at old list) given spared u.choose × (x ≡ with_list old list spared)
+  drain-leaves old list choose s s2 t u given name x d e y n lender back =
+      let end : Drained asks old list choose given u × (lender_of u ≡ lender_of s) × (left_of u ≡ []) = d.whole given u (t, subst (λ z. Yields (DrainSteps asks) z given t) e y, n) in
+      let all : list_at old list ≡ end.0.asked = end.0.whole ∙ ap (λ zs. end.0.asked ++ zs) end.2 ∙ append-nil end.0.asked in (
+        end.0.spared,
+        subst (λ zs. Sifts asks choose zs given end.0.spared u.choose) (sym all) end.0.sifted,
+        back (sym (end.1 ∙ lender)) ∙ end.0.links ∙ ap (with_list old list) (ap (λ zs. end.0.spared ++ zs) end.2 ∙ append-nil end.0.spared),
+      )

@@ -1,19 +1,10 @@
-//! Levels, and the calls of a wheel, call by call.
+//! The calls of a wheel, call by call.
 ghost use Rattle.std.specs.Prelude.{◌≡◌, ◌<◌, ◌^◌};
 
-use crate::{InsertError, Steps, Wheel, level_for};
+use crate::{InsertError, Steps, Wheel};
 use std::alloc::{AllocError, Global};
 use std::marker::Brand;
 use std::sync::ledger::{Blank, Ledger};
-
-#[test]
-fn levels(rt: HostRuntime) {
-    assert!(rt; level_for(0, 63) == 0);
-    assert!(rt; level_for(0, 64) == 1);
-    assert!(rt; level_for(0, 4095) == 1);
-    assert!(rt; level_for(0, 4096) == 2);
-    assert!(rt; level_for(0, 0x10_0000_0000) == 5);
-}
 
 // What is next of a wheel that was polled to a tick and then has one key at another.
 fn next_after<L: Ledger>(

@@ -1,5 +1,4 @@
-use Rattle.std.proofs.Common.{of_calls, ◌≡◌, refl, subst, true, false}
-use Rattle.std.proofs.Common.{arith}
+use Rattle.std.proofs.Common.{of_calls, refl, subst}
 use denote.Param.Members.{Called}
 use denote.Param.Always.{always_mut}
 use Rattle.mono_wheel.proofs.Draining.{gives, ready_left, falls_left, goes_on, falls_on}
