@@ -127,7 +127,7 @@ module _ (elapsed begin list : ℕ) (entries : List Entry) (links taken : Lists)
   ticks : (key : ℕ) (timed : Timed) → timed_in entries key ≡ Some timed → (elapsed < timed.registered) × (timed.registered ≤ timed.tick)
   ticks = no-slots elapsed entries none h.fits
 
-  at_taken : list_at taken 385 ≡ list_at links list
+  pub at_taken : list_at taken 385 ≡ list_at links list
   at_taken = ap (λ w. list_at w 385) take ∙ list-same (with_list links list []) 385 (list_at links list) (let n = h.lists in let e : length (set links.lists list []) ≡ length links.lists = length-set links.lists list [] in omega (arith, n, e))
 
   at_list : list_at taken list ≡ []
@@ -137,20 +137,20 @@ module _ (elapsed begin list : ℕ) (entries : List Entry) (links taken : Lists)
   at_other l ne nl = ap (λ w. list_at w l) take ∙ list-other (with_list links list []) 385 l (list_at links list) ne ∙ list-other links list l [] nl
 
   -- the slot of a key is this one, or starts later
-  in-slot : (key : ℕ) (timed : Timed) → timed_in entries key ≡ Some timed → place_of elapsed timed.registered ≡ list → start 5 elapsed timed.registered ≡ begin
+  pub in-slot : (key : ℕ) (timed : Timed) → timed_in entries key ≡ Some timed → place_of elapsed timed.registered ≡ list → start 5 elapsed timed.registered ≡ begin
   in-slot key timed is e = place-start elapsed timed.registered slot.timed.registered (e ∙ slot.place) ∙ sym slot.begins
 
-  not-slot : (key : ℕ) (timed : Timed) → timed_in entries key ≡ Some timed → place_of elapsed timed.registered ≢ list → begin < start 5 elapsed timed.registered
+  pub not-slot : (key : ℕ) (timed : Timed) → timed_in entries key ≡ Some timed → place_of elapsed timed.registered ≢ list → begin < start 5 elapsed timed.registered
   not-slot key timed is ne =
       let a = (ticks key timed is).0 in
       let l = slot.least key timed is a in
       let apart : start 5 elapsed timed.registered ≢ begin = λ e. ne (start-place elapsed timed.registered slot.timed.registered a slot.ahead (e ∙ slot.begins) ∙ sym slot.place) in
       omega (arith, l, apart)
 
-  slot-in : (key : ℕ) (timed : Timed) → timed_in entries key ≡ Some timed → place_of elapsed timed.registered ≡ list → IsIn key (list_at links list)
+  pub slot-in : (key : ℕ) (timed : Timed) → timed_in entries key ≡ Some timed → place_of elapsed timed.registered ≡ list → IsIn key (list_at links list)
   slot-in key timed is e = subst (λ l. IsIn key (list_at links l)) e (ahead-in elapsed entries links key timed h is (ticks key timed is).0)
 
-  in-place : (key l : ℕ) (timed : Timed) → timed_in entries key ≡ Some timed → IsIn key (list_at links l) → place_of elapsed timed.registered ≡ l
+  pub in-place : (key l : ℕ) (timed : Timed) → timed_in entries key ≡ Some timed → IsIn key (list_at links l) → place_of elapsed timed.registered ≡ l
   in-place key l timed is i =
       let s : l ≡ place_in elapsed timed.registered = subst (StandsIn elapsed l) is (h.within key l i) in
       sym (s ∙ place-ahead elapsed timed.registered (λ e. let a = (ticks key timed is).0 in omega (arith, a, e)))
@@ -212,7 +212,7 @@ module _ (elapsed begin list : ℕ) (entries : List Entry) (links taken : Lists)
     gone : (k : ℕ) → IsIn k (list_at links2 385) → ⊥
     gone k i = subst (λ zs. IsIn k zs) (taken-empty begin entries2 links2 h2) i
 
-    ticks-after : (key : ℕ) (o : Option Timed) → timed_in entries key ≡ o → timed_in entries2 key ≡ timed_after elapsed begin o
+    pub ticks-after : (key : ℕ) (o : Option Timed) → timed_in entries key ≡ o → timed_in entries2 key ≡ timed_after elapsed begin o
     ticks-after key None is = d.others key (λ i. subst (StandsIn elapsed list) is (h.within key list (subst (λ zs. IsIn key zs) at_taken i))) ∙ is
     ticks-after key (Some timed) is = elim (eqb_tells (place_of elapsed timed.registered) list) [
       | inl e ↦

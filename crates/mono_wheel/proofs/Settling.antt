@@ -96,7 +96,7 @@ module _ (elapsed : ℕ) (first entries entries2 : List Entry) (start links popp
         let f : waits.0 ≡ record { tick = r.entry.tick; registered = r.entry.registered } = cc in
         subst (λ t. elapsed ≤ t.tick) f waits.2
 
-    taken : list_at links2 385 ≡ front
+    pub taken : list_at links2 385 ≡ front
     taken = ap (λ w. list_at w 385) r.links_are ∙ list-other popped (place_in elapsed r.entry.tick) 385 _ (λ e. place-not (sym e)) ∙ popped-here
 
     pushed : list_at links2 (place_in elapsed r.entry.tick) ≡ key ∷ list_at links (place_in elapsed r.entry.tick)

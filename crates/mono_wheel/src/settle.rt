@@ -34,6 +34,7 @@ pub fn settle<L: Ledger>(
     requires { Settling elapsed entries.old.items links.old }
     ensures held { Held elapsed entries.new.items links.new }
     ensures settled { Settled entries.old.items entries.new.items links.old links.new }
+    ensures steps { steps.new ≡ steps.old + length (list_at links.old 385) }
 {
     while let Some(key) = links.pop_back(TAKEN, steps) {
         register(elapsed, entries, links, key);

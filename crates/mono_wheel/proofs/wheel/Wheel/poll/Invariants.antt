@@ -1,4 +1,5 @@
-use Rattle.std.proofs.Common.{◌≤◌, ◌-◌}
+use Rattle.std.proofs.Common.{◌≡◌, ◌+◌, ◌≤◌, ◌-◌}
+use Rattle.mono_wheel.specs.Credit.{credit_of}
 use Rattle.mono_wheel.proofs.Polling.{Since}
 use Rattle.mono_wheel.proofs.wheel.Wheel.poll.Given as goal
 
@@ -6,6 +7,7 @@ abbrev pub invariant-loop-key : goal.invariant-loop-key
 invariant-loop-key g l = record {
   since : Since l.fn.self l.self;
   ahead : l.self.elapsed ≤ l.now;
+  counted : l.steps + credit_of l.self.elapsed l.self.entries ≡ l.fn.steps + credit_of l.fn.self.elapsed l.fn.self.entries;
 }
 
 abbrev pub decreases-loop-key : goal.decreases-loop-key

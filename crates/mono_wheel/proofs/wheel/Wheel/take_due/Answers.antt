@@ -1,4 +1,7 @@
-use Rattle.std.proofs.Common.{arith, ◌≡◌, ◌<◌, length, refl, []}
+use Rattle.std.proofs.Common.{arith, ◌≡◌, ◌<◌, length, map, set, subst, refl, [], false}
+use Rattle.mono_wheel.specs.Credit.{credit_of}
+use Rattle.mono_wheel.specs.Held.{timed_of}
+use Rattle.mono_wheel.proofs.Crediting.{due-credit}
 use Rattle.mono_wheel.specs.Lists.{list_at}
 use Rattle.mono_wheel.proofs.Calls.{last-in}
 use Rattle.mono_wheel.proofs.Due.{due-below, due-held, due-taken}
@@ -20,3 +23,8 @@ pub returns-clause-due : goal.returns-clause-due
 returns-clause-due c =
     due-taken c.self.inside.elapsed c.self.inside.entries.items c.self.inside.links c.in_ok-key.key c.in_ok-key.ensures.0 c.self.invariant c.in_ok-key.ensures.1 c.remove.new.self c.args.self.now _ c.self.view_is c.remove.ensures.without
     (c.remove.ensures.parts c.in_ok-key.ensures.0 [] c.in_ok-key.ensures.1) c.remove.ensures.gone refl
+
+pub returns-clause-credit : goal.returns-clause-credit
+returns-clause-credit c =
+    subst (λ w. credit_of c.self.inside.elapsed (map timed_of (set c.self.inside.entries.items c.in_ok-key.key record { tick = 0; registered = 0; is_in = false })) ≡ credit_of w.elapsed w.entries) c.self.view_is
+    (due-credit c.self.inside.elapsed c.self.inside.entries.items c.self.inside.links c.in_ok-key.key c.in_ok-key.ensures.0 record { tick = 0; registered = 0; is_in = false } c.self.invariant c.in_ok-key.ensures.1 refl)
