@@ -1,0 +1,185 @@
+-- How the credit falls while keys are taken from slots.
+use Rattle.std.proofs.Common.{arith, ◌≡◌, ◌≢◌, zero, suc, ℕ, ◌+◌, ◌-◌, ◌<◌, ◌≤◌, ◌⊎◌, inl, inr, length, Bool, true, false, ◌==◌, nat_lt, if◌then◌else◌, List, [], ◌∷◌, ◌++◌, map, Option, Some, None, get_or, set, ap, refl, sym, ◌∙◌, subst, eq-eqb, get_or-set_same, get_or-set_other}
+use Rattle.std.proofs.lemmas.Bool.Decides.{leb_tells, eqb_tells}
+use Rattle.std.proofs.lemmas.Bool.{cases_lt}
+use Rattle.std.proofs.lemmas.List.{map-set, length-map, get_or_past}
+use Rattle.mono_wheel.specs.Start.{start, takes_from}
+use Rattle.mono_wheel.specs.Lists.{Lists, IsIn, with_list, list_at}
+use Rattle.mono_wheel.specs.Rings.{Distinct}
+use Rattle.mono_wheel.specs.Model.{Timed, Wheel, Fits, timed_at, moved, timed_after}
+use Rattle.mono_wheel.specs.Credit.{takes, credit_of, CreditFollows}
+use Rattle.mono_wheel.specs.Held.{place_of, timed_of, timed_in, StandsIn, Held, IsNextSlot, Settled}
+use Rattle.mono_wheel.specs.declared.entry.Entry.{Entry}
+use Rattle.mono_wheel.proofs.Keys.{timed-here}
+use Rattle.mono_wheel.proofs.Due.{due-stands, due-below, stands-pending}
+use Rattle.mono_wheel.proofs.Standing.{false-true}
+use Rattle.mono_wheel.proofs.Starts.{start-le, start-above, start-same, takes-once, eqb-no, ltb_tells}
+use Rattle.mono_wheel.proofs.Advancing.{no-slots, moved-stays, moved-anew, ticks-after, in-slot, not-slot, slot-in, in-place, begin-above}
+
+-- one key has other ticks
+pub credit-set : (elapsed key : ℕ) (os : List (Option Timed)) (o : Option Timed) → key < length os → credit_of elapsed (set os key o) + takes elapsed (get_or os key None) ≡ credit_of elapsed os + takes elapsed o
+credit-set elapsed key [] o b = absurd (omega (arith, b))
+credit-set elapsed zero (x ∷ os) o b = omega arith
+credit-set elapsed (suc key) (x ∷ os) o b = let r = credit-set elapsed key os o (omega (arith, b)) in omega (arith, r)
+
+bit : Bool → ℕ
+bit true = 1
+bit false = 0
+
+count : (Option Timed → Bool) → List (Option Timed) → ℕ
+count p [] = 0
+count p (o ∷ os) = bit (p o) + count p os
+
+bool-cases : (b : Bool) → (b ≡ true) ⊎ (b ≡ false)
+bool-cases true = inl refl
+bool-cases false = inr refl
+
+count-none : (p : Option Timed → Bool) (os : List (Option Timed)) → ((k : ℕ) → p (get_or os k None) ≡ false) → count p os ≡ 0
+unfolding count bit
+count-none p [] h = refl
+count-none p (o ∷ os) h = let r : count p os ≡ 0 = count-none p os (λ k. h (suc k)) in let f : bit (p o) ≡ 0 = ap bit (h 0) in omega (arith, r, f)
+
+count-set : (p : Option Timed → Bool) (os : List (Option Timed)) (x : ℕ) → p None ≡ false → p (get_or os x None) ≡ true → count p os ≡ suc (count p (set os x None))
+unfolding count bit
+count-set p [] x none some = absurd (false-true (sym none ∙ some))
+count-set p (o ∷ os) zero none some = let a : bit (p o) ≡ 1 = ap bit some in let b : bit (p None) ≡ 0 = ap bit none in omega (arith, a, b)
+count-set p (o ∷ os) (suc x) none some = let r = count-set p os x none some in omega (arith, r)
+
+set-none : (os : List (Option Timed)) (x : ℕ) → get_or (set os x None) x None ≡ None
+set-none [] x = refl
+set-none (o ∷ os) zero = refl
+set-none (o ∷ os) (suc x) = set-none os x
+
+-- so many keys have what exactly the keys of a list have
+count-list : (p : Option Timed → Bool) (xs : List ℕ) (os : List (Option Timed)) → p None ≡ false → Distinct xs → ((k : ℕ) → IsIn k xs → p (get_or os k None) ≡ true) → ((k : ℕ) → p (get_or os k None) ≡ true → IsIn k xs) → count p os ≡ length xs
+count-list p [] os none d into back = count-none p os (λ k. elim (bool-cases (p (get_or os k None))) [ inl t ↦ absurd (back k t) | inr f ↦ f ])
+count-list p (x ∷ xs) os none d into back =
+    count-set p os x none (into x (inl refl))
+    ∙ ap suc (count-list p xs (set os x None) none d.1
+    (λ k i. let ne : k ≢ x = λ e. d.0 (subst (λ z. IsIn z xs) e i) in ap p (get_or-set_other os x k None None ne) ∙ into k (inr i))
+    (λ k t. elim (eqb_tells k x) [
+      | inl e ↦ absurd (false-true (sym none ∙ ap p (sym (set-none os x) ∙ ap (λ z. get_or (set os x None) z None) (sym e.1)) ∙ t))
+      | inr e ↦ elim (back k (ap p (sym (get_or-set_other os x k None None e.1)) ∙ t)) [ inl f ↦ absurd (e.1 f) | inr i ↦ i ]
+    ]))
+
+credit-fall : (e s : ℕ) (p : Option Timed → Bool) (os ps : List (Option Timed)) → p None ≡ false → ((k : ℕ) → takes e (get_or os k None) ≡ takes s (get_or ps k None) + bit (p (get_or os k None))) →
+    credit_of e os ≡ credit_of s ps + count p os
+unfolding count bit
+credit-fall e s p [] [] none h = refl
+credit-fall e s p [] (y ∷ ps) none h = let a : 0 ≡ takes s y + bit (p None) = h 0 in let r = credit-fall e s p [] ps none (λ k. h (suc k)) in omega (arith, a, r)
+credit-fall e s p (x ∷ os) [] none h = let a : takes e x ≡ 0 + bit (p x) = h 0 in let r = credit-fall e s p os [] none (λ k. h (suc k)) in omega (arith, a, r)
+credit-fall e s p (x ∷ os) (y ∷ ps) none h = let a : takes e x ≡ takes s y + bit (p x) = h 0 in let r = credit-fall e s p os ps none (λ k. h (suc k)) in omega (arith, a, r)
+
+takes-ahead : (e : ℕ) (timed : Timed) → e < timed.tick → takes e (Some timed) ≡ takes_from (timed.tick - e) 5 e timed.registered timed.tick
+takes-ahead e timed b = rw (eqb-no timed.tick e (λ f. omega (arith, b, f))) refl
+
+takes-now : (e : ℕ) (timed : Timed) → timed.tick ≡ e → takes e (Some timed) ≡ 0
+takes-now e timed f = rw (eq-eqb timed.tick e f) refl
+
+-- an entry that is taken, and one that is not
+pub takes-taken : (e s : ℕ) (timed : Timed) → e < timed.registered → timed.registered ≤ timed.tick → start 5 e timed.registered ≡ s → takes e (Some timed) ≡ takes s (Some record { tick = timed.tick; registered = timed.tick }) + 1
+takes-taken e s timed a b is =
+    let le : start 5 e timed.registered ≤ timed.registered = start-le 5 e timed.registered a in
+    takes-ahead e timed (omega (arith, a, b)) ∙ takes-once 5 e timed.registered timed.tick a b
+    ∙ ap (λ z. if nat_lt z timed.tick then suc (takes_from (timed.tick - z) 5 z timed.tick timed.tick) else 1) is
+    ∙ elim (ltb_tells s timed.tick) [
+      | inl h ↦ let f = takes-ahead s record { tick = timed.tick; registered = timed.tick } h.1 in rw h.0 (omega (arith, f))
+      | inr h ↦ let f = takes-now s record { tick = timed.tick; registered = timed.tick } (let g = h.1 in omega (arith, g, le, is, b)) in rw h.0 (omega (arith, f))
+    ]
+
+pub takes-still : (e s : ℕ) (timed : Timed) → e < timed.registered → timed.registered ≤ timed.tick → e ≤ s → s < start 5 e timed.registered → takes e (Some timed) ≡ takes s (Some timed)
+takes-still e s timed a b l h =
+    let le : start 5 e timed.registered ≤ timed.registered = start-le 5 e timed.registered a in
+    let ahead : s < timed.registered = omega (arith, le, h) in
+    takes-ahead e timed (omega (arith, a, b)) ∙ takes-once 5 e timed.registered timed.tick a b
+    ∙ ap (λ z. if nat_lt z timed.tick then suc (takes_from (timed.tick - z) 5 z timed.tick timed.tick) else 1) (sym (start-same 5 e s timed.registered a l h))
+    ∙ sym (takes-ahead s timed (omega (arith, ahead, b)) ∙ takes-once 5 s timed.registered timed.tick ahead b)
+
+abbrev is_placed : ℕ → ℕ → Option Timed → Bool
+is_placed elapsed list None = false
+is_placed elapsed list (Some timed) = place_of elapsed timed.registered == list
+
+-- the clock goes on before the start of each slot that has a key
+pub credit-later : (elapsed later : ℕ) (entries : List Entry) → elapsed ≤ later → ((key : ℕ) → Fits elapsed (timed_in entries key)) →
+    ((key : ℕ) (timed : Timed) → timed_in entries key ≡ Some timed → timed.tick ≢ elapsed) →
+    ((key : ℕ) (timed : Timed) → timed_in entries key ≡ Some timed → elapsed < timed.registered → later < start 5 elapsed timed.registered) →
+    credit_of elapsed (map timed_of entries) ≡ credit_of later (map timed_of entries)
+unfolding bit
+credit-later elapsed later entries le fits none before =
+    credit-fall elapsed later (λ o. false) (map timed_of entries) (map timed_of entries) refl (λ k. still k (timed_in entries k) refl) ∙ zero-more
+  where
+    still : (k : ℕ) (o : Option Timed) → timed_in entries k ≡ o → takes elapsed o ≡ takes later o + 0
+    still k None is = refl
+    still k (Some timed) is =
+        let t = no-slots elapsed entries none fits k timed is in
+        let f = takes-still elapsed later timed t.0 t.1 le (before k timed is t.0) in
+        omega (arith, f)
+    zero-more : credit_of later (map timed_of entries) + count (λ o. false) (map timed_of entries) ≡ credit_of later (map timed_of entries)
+    zero-more = let r = count-none (λ o. false) (map timed_of entries) (λ k. refl) in omega (arith, r)
+
+-- the clock comes to the first start of a slot that has a key, whose list is taken
+module _ (elapsed begin list : ℕ) (entries : List Entry) (links taken : Lists) (h : Held elapsed entries links) (slot : IsNextSlot elapsed entries list begin)
+    (none : (key : ℕ) (timed : Timed) → timed_in entries key ≡ Some timed → timed.tick ≢ elapsed)
+    (take : taken ≡ with_list (with_list links list []) 385 (list_at links list))
+    (entries2 : List Entry) (links2 : Lists) (h2 : Held begin entries2 links2) (d : Settled entries entries2 taken links2) (distinct : Distinct (list_at links list)) where
+  placed : (k : ℕ) (o : Option Timed) → timed_in entries k ≡ o → is_placed elapsed list o ≡ true → IsIn k (list_at links list)
+  placed k None is t = absurd (false-true t)
+  placed k (Some timed) is t = slot-in elapsed begin list entries links taken h slot none take k timed is (elim (eqb_tells (place_of elapsed timed.registered) list) [
+    | inl e ↦ e.1
+    | inr e ↦ absurd (false-true (sym e.0 ∙ t))
+  ])
+
+  is-placed : (k : ℕ) (o : Option Timed) → timed_in entries k ≡ o → IsIn k (list_at links list) → is_placed elapsed list o ≡ true
+  is-placed k None is i = absurd (subst (λ o. StandsIn elapsed list o) is (h.within k list i))
+  is-placed k (Some timed) is i = eq-eqb (place_of elapsed timed.registered) list (in-place elapsed begin list entries links taken h slot none take k list timed is i)
+
+  fall : (k : ℕ) (o : Option Timed) → timed_in entries k ≡ o → takes elapsed o ≡ takes begin (timed_after elapsed begin o) + bit (is_placed elapsed list o)
+  unfolding bit
+  fall k None is = refl
+  fall k (Some timed) is =
+      let t = no-slots elapsed entries none h.fits k timed is in
+      elim (eqb_tells (place_of elapsed timed.registered) list) [
+        | inl e ↦
+            let now = in-slot elapsed begin list entries links taken h slot none take k timed is e.1 in
+            let f = takes-taken elapsed begin timed t.0 t.1 now in
+            let g : moved elapsed begin timed ≡ record { tick = timed.tick; registered = timed.tick } = moved-anew elapsed begin timed (omega (arith, now)) in
+            f ∙ ap (λ z. takes begin (Some z) + 1) (sym g) ∙ ap (λ b. takes begin (Some (moved elapsed begin timed)) + bit b) (sym e.0)
+        | inr e ↦
+            let later = not-slot elapsed begin list entries links taken h slot none take k timed is e.1 in
+            let up = begin-above elapsed begin list entries links taken h slot none take in
+            let f = takes-still elapsed begin timed t.0 t.1 (omega (arith, up)) later in
+            let g : moved elapsed begin timed ≡ timed = moved-stays elapsed begin timed later in
+            let z : takes elapsed (Some timed) ≡ takes begin (Some timed) + 0 = omega (arith, f) in
+            z ∙ ap (λ z. takes begin (Some z) + 0) (sym g) ∙ ap (λ b. takes begin (Some (moved elapsed begin timed)) + bit b) (sym e.0)
+      ]
+
+  pub credit-slot : credit_of elapsed (map timed_of entries) ≡ credit_of begin (map timed_of entries2) + length (list_at links list)
+  credit-slot =
+      credit-fall elapsed begin (is_placed elapsed list) (map timed_of entries) (map timed_of entries2) refl
+      (λ k. fall k (timed_in entries k) refl ∙ ap (λ o. takes begin o + bit (is_placed elapsed list (timed_in entries k))) (sym (ticks-after elapsed begin list entries links taken h slot none take entries2 links2 h2 d k (timed_in entries k) refl)))
+      ∙ ap (λ z. credit_of begin (map timed_of entries2) + z)
+      (count-list (is_placed elapsed list) (list_at links list) (map timed_of entries) refl distinct (λ k i. is-placed k (timed_in entries k) refl i) (λ k t. placed k (timed_in entries k) refl t))
+
+-- a pending key is no longer taken from a slot
+pub due-credit : (elapsed : ℕ) (entries : List Entry) (links : Lists) (key : ℕ) (front : List ℕ) (x : Entry) → Held elapsed entries links → list_at links 384 ≡ front ++ key ∷ [] → x.is_in ≡ false →
+    credit_of elapsed (map timed_of (set entries key x)) ≡ credit_of elapsed (map timed_of entries)
+due-credit elapsed entries links key front x h is out =
+    let stands = due-stands elapsed entries links key front h is in
+    let below : key < length (map timed_of entries) = let b = due-below elapsed entries links key front h is in let n = length-map entries timed_of in omega (arith, b, n) in
+    let pending = stands-pending elapsed (timed_in entries key) stands (h.fits key) in
+    let zero_here : takes elapsed (timed_in entries key) ≡ 0 = ap (takes elapsed) pending.1 ∙ takes-now elapsed pending.0 pending.2 in
+    let gone : timed_of x ≡ None = rw out refl in
+    let zero_then : takes elapsed (timed_of x) ≡ 0 = ap (takes elapsed) gone in
+    let r = credit-set elapsed key (map timed_of entries) (timed_of x) below in
+    ap (credit_of elapsed) (map-set timed_of entries key x) ∙ omega (arith, r, zero_here, zero_then)
+
+-- an entry was written
+pub credit-entry : (elapsed : ℕ) (entries : List Entry) (nodes nodes2 : List Bool) (lines lines2 : List (List ℕ)) (v : Wheel) (key : ℕ) (x : Entry) →
+    (let w : Wheel = record { elapsed = elapsed; entries = map timed_of entries; reserved = nodes; lines = lines } in w ≡ v) → key < length entries →
+    CreditFollows v (record { elapsed = elapsed; entries = map timed_of (set entries key x); reserved = nodes2; lines = lines2 }) key
+credit-entry elapsed entries nodes nodes2 lines lines2 v key x seen low =
+    let below : key < length (map timed_of entries) = let n = length-map entries timed_of in omega (arith, low, n) in
+    let r = credit-set elapsed key (map timed_of entries) (timed_of x) below in
+    let here = ap (takes elapsed) (timed-here entries key x low) in
+    let wrote = ap (credit_of elapsed) (map-set timed_of entries key x) in
+    subst (λ u. CreditFollows u (record { elapsed = elapsed; entries = map timed_of (set entries key x); reserved = nodes2; lines = lines2 }) key) seen (omega (arith, r, here, wrote))

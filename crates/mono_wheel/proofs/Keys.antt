@@ -1,0 +1,47 @@
+-- The ticks of keys in a table of entries.
+use Rattle.std.proofs.Common.{arith, ◌≡◌, ◌≢◌, zero, suc, ℕ, ◌<◌, ◌⊎◌, inl, inr, length, Bool, true, false, List, [], ◌∷◌, ◌++◌, map, Option, Some, None, get_or, set, ap, refl, sym, ◌∙◌, get_or-set_same, get_or-set_other}
+use Rattle.std.proofs.lemmas.Bool.{cases_lt}
+use Rattle.std.proofs.lemmas.List.{map-set, length-map, get_or_past, get_or-map}
+use Rattle.mono_wheel.specs.Held.{timed_of, timed_in}
+use Rattle.mono_wheel.specs.declared.entry.Entry.{Entry}
+
+pub timed-here : (entries : List Entry) (key : ℕ) (x : Entry) → key < length entries → timed_in (set entries key x) key ≡ timed_of x
+timed-here entries key x b = ap (λ ts. get_or ts key None) (map-set timed_of entries key x) ∙ get_or-set_same (map timed_of entries) key (timed_of x) None (let h = length-map entries timed_of in omega (arith, h, b))
+
+pub timed-other : (entries : List Entry) (key other : ℕ) (x : Entry) → other ≢ key → timed_in (set entries key x) other ≡ timed_in entries other
+timed-other entries key other x ne = ap (λ ts. get_or ts other None) (map-set timed_of entries key x) ∙ get_or-set_other (map timed_of entries) key other (timed_of x) None ne
+
+is_in_cases : (b : Bool) → (b ≡ true) ⊎ (b ≡ false)
+is_in_cases true = inl refl
+is_in_cases false = inr refl
+
+pub get_or-map-at : (entries : List Entry) (key : ℕ) (x : Entry) → key < length entries → timed_in entries key ≡ timed_of (get_or entries key x)
+get_or-map-at entries key x below = get_or-map timed_of entries key x None below
+
+pub is_in-some : (x : Entry) → (timed_of x ≡ None → ⊥) → timed_of x ≡ Some record { tick = x.tick; registered = x.registered }
+is_in-some x h = elim (is_in_cases x.is_in) [ inl t ↦ rw t refl | inr f ↦ absurd (h (rw f refl)) ]
+
+none_of : (x : Entry) → x.is_in ≡ false → timed_of x ≡ None
+none_of x f = rw f refl
+
+pub entry-inside : (entries : List Entry) (key : ℕ) (x : Entry) → key < length entries → x ≡ get_or entries key x → (timed_in entries key ≡ None → ⊥) → x.is_in ≡ true
+entry-inside entries key x below e some = elim (is_in_cases x.is_in) [ inl t ↦ t | inr f ↦ absurd (some (get_or-map-at entries key x below ∙ ap timed_of (sym e) ∙ none_of x f)) ]
+
+-- a key that is in has an entry, and stands where its ticks say
+pub entry-in : (entries : List Entry) (key : ℕ) (x : Entry) → key < length entries → x ≡ get_or entries key x → (timed_in entries key ≡ None → ⊥) →
+    timed_in entries key ≡ Some record { tick = x.tick; registered = x.registered }
+entry-in entries key x below e some =
+    let read : timed_in entries key ≡ timed_of x = get_or-map-at entries key x below ∙ ap timed_of (sym e) in
+    read ∙ is_in-some x (λ n. some (read ∙ n))
+
+pub entry-below : (entries : List Entry) (key : ℕ) → (timed_in entries key ≡ None → ⊥) → key < length entries
+entry-below entries key some = elim (cases_lt key (length entries)) [
+  | inl b ↦ b
+  | inr b ↦ absurd (some (get_or_past (map timed_of entries) key None (let h = length-map entries timed_of in omega (arith, b, h))))
+]
+
+pub timed-pushed : (entries : List Entry) (x : Entry) (k : ℕ) → timed_of x ≡ None → timed_in (entries ++ x ∷ []) k ≡ timed_in entries k
+timed-pushed [] x zero e = e
+timed-pushed [] x (suc k) e = refl
+timed-pushed (y ∷ ys) x zero e = refl
+timed-pushed (y ∷ ys) x (suc k) e = timed-pushed ys x k e

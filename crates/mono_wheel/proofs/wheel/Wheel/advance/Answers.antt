@@ -1,0 +1,66 @@
+use Rattle.std.proofs.Common.{arith, ◌≡◌, ◌+◌, ◌<◌, ◌≤◌, length, map, subst, sym, ap, refl}
+use Rattle.mono_wheel.specs.Lists.{list_at}
+use Rattle.mono_wheel.specs.Credit.{credit_of}
+use Rattle.mono_wheel.specs.Held.{timed_of}
+use Rattle.mono_wheel.proofs.Crediting.{credit-slot, credit-later}
+use Rattle.mono_wheel.proofs.Advancing.{at_taken, taken-empty, slot-settling, slot-advanced, begin-above, later-held, later-advanced, later-passed}
+use Rattle.mono_wheel.proofs.Polling.{none-pending}
+use Rattle.mono_wheel.proofs.wheel.Wheel.advance.Goals as goal
+
+pub take-requires-clause-empty : goal.take-requires-clause-empty
+take-requires-clause-empty g c = taken-empty c.self.inside.elapsed c.self.inside.entries.items c.self.inside.links c.self.invariant
+
+pub settle-requires : goal.settle-requires
+settle-requires g c =
+    slot-settling c.self.inside.elapsed c.in-Some.slot.start c.in-Some.slot.list c.self.inside.entries.items c.self.inside.links c.take.new.self c.self.invariant c.in-Some.ensures.0
+    (none-pending c.self.inside.elapsed c.self.inside.entries.items c.self.inside.links.nodes c.self.inside.links.lists c.args.self.now c.self.view_is c.requires.none) c.take.ensures
+
+pub returns-in-Some-clause-advanced : goal.returns-in-Some-clause-advanced
+returns-in-Some-clause-advanced g c =
+    slot-advanced c.self.inside.elapsed c.in-Some.slot.start c.in-Some.slot.list c.self.inside.entries.items c.self.inside.links c.take.new.self c.self.invariant c.in-Some.ensures.0
+    (none-pending c.self.inside.elapsed c.self.inside.entries.items c.self.inside.links.nodes c.self.inside.links.lists c.args.self.now c.self.view_is c.requires.none) c.take.ensures
+    c.settle.new.entries.items c.settle.new.links c.settle.ensures.held c.settle.ensures.settled c.args.self.now c.self.view_is
+
+pub returns-in-Some-clause-reached : goal.returns-in-Some-clause-reached
+returns-in-Some-clause-reached g c _ =
+    let above : c.self.inside.elapsed < c.in-Some.slot.start = begin-above c.self.inside.elapsed c.in-Some.slot.start c.in-Some.slot.list c.self.inside.entries.items c.self.inside.links c.take.new.self c.self.invariant c.in-Some.ensures.0
+    (none-pending c.self.inside.elapsed c.self.inside.entries.items c.self.inside.links.nodes c.self.inside.links.lists c.args.self.now c.self.view_is c.requires.none) c.take.ensures in
+    (subst (λ w. w.elapsed < c.in-Some.slot.start) c.self.view_is above, c.in-Some.ensures.1)
+
+pub invariant_of-self : goal.invariant_of-self
+invariant_of-self g c =
+    later-held c.self.inside.elapsed c.args.now c.self.inside.entries.items c.self.inside.links c.self.invariant
+    (subst (λ w. w.elapsed ≤ c.args.now) (sym c.self.view_is) c.requires.ahead)
+    (none-pending c.self.inside.elapsed c.self.inside.entries.items c.self.inside.links.nodes c.self.inside.links.lists c.args.self.now c.self.view_is c.requires.none) c.in-None.ensures
+
+pub returns-in-None-clause-advanced : goal.returns-in-None-clause-advanced
+returns-in-None-clause-advanced g c =
+    later-advanced c.self.inside.elapsed c.args.now c.self.inside.entries.items c.self.inside.links c.self.invariant
+    (subst (λ w. w.elapsed ≤ c.args.now) (sym c.self.view_is) c.requires.ahead)
+    (none-pending c.self.inside.elapsed c.self.inside.entries.items c.self.inside.links.nodes c.self.inside.links.lists c.args.self.now c.self.view_is c.requires.none) c.in-None.ensures
+    c.args.self.now c.self.view_is
+
+pub returns-in-None-clause-passed : goal.returns-in-None-clause-passed
+returns-in-None-clause-passed g c _ = (
+  refl,
+  later-passed c.self.inside.elapsed c.args.now c.self.inside.entries.items c.self.inside.links c.self.invariant
+      (subst (λ w. w.elapsed ≤ c.args.now) (sym c.self.view_is) c.requires.ahead)
+      (none-pending c.self.inside.elapsed c.self.inside.entries.items c.self.inside.links.nodes c.self.inside.links.lists c.args.self.now c.self.view_is c.requires.none) c.in-None.ensures
+      c.args.self.now c.self.view_is,
+)
+
+pub returns-in-Some-clause-steps : goal.returns-in-Some-clause-steps
+returns-in-Some-clause-steps g c =
+    let none = none-pending c.self.inside.elapsed c.self.inside.entries.items c.self.inside.links.nodes c.self.inside.links.lists c.args.self.now c.self.view_is c.requires.none in
+    let fall = credit-slot c.self.inside.elapsed c.in-Some.slot.start c.in-Some.slot.list c.self.inside.entries.items c.self.inside.links c.take.new.self c.self.invariant c.in-Some.ensures.0 none c.take.ensures
+    c.settle.new.entries.items c.settle.new.links c.settle.ensures.held c.settle.ensures.settled (c.lists_are_disjoint.ensures.once c.in-Some.slot.list) in
+    let taken : length (list_at c.take.new.self 385) ≡ length (list_at c.self.inside.links c.in-Some.slot.list) =
+    ap length (at_taken c.self.inside.elapsed c.in-Some.slot.start c.in-Some.slot.list c.self.inside.entries.items c.self.inside.links c.take.new.self c.self.invariant c.in-Some.ensures.0 none c.take.ensures) in
+    let steps = c.settle.ensures.steps in
+    subst (λ w. c.settle.new.steps + credit_of c.in-Some.slot.start (map timed_of c.settle.new.entries.items) ≡ c.args.steps.now + credit_of w.elapsed w.entries) c.self.view_is (omega (arith, fall, taken, steps))
+
+pub returns-in-None-clause-steps : goal.returns-in-None-clause-steps
+returns-in-None-clause-steps g c =
+    let none = none-pending c.self.inside.elapsed c.self.inside.entries.items c.self.inside.links.nodes c.self.inside.links.lists c.args.self.now c.self.view_is c.requires.none in
+    let same = credit-later c.self.inside.elapsed c.args.now c.self.inside.entries.items (subst (λ w. w.elapsed ≤ c.args.now) (sym c.self.view_is) c.requires.ahead) c.self.invariant.fits none c.in-None.ensures in
+    subst (λ w. c.args.steps.now + credit_of c.args.now (map timed_of c.self.inside.entries.items) ≡ c.args.steps.now + credit_of w.elapsed w.entries) c.self.view_is (omega (arith, same))

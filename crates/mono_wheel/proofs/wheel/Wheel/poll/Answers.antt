@@ -1,0 +1,42 @@
+use Rattle.std.proofs.Common.{arith, ◌≡◌, ◌<◌, ◌≤◌, ap, subst, sym, refl, inr}
+use Rattle.mono_wheel.specs.Model.{Wheel, AllFit, IsPending, NothingDue}
+use Rattle.mono_wheel.specs.Held.{Advanced}
+use Rattle.mono_wheel.proofs.Polling.{Since, since-advanced, since-twice, came-out, nothing-due}
+use Rattle.mono_wheel.proofs.wheel.Wheel.poll.Goals as goal
+
+pub returns-in-Some-clause-polled : goal.returns-in-Some-clause-polled
+returns-in-Some-clause-polled g c =
+    came-out c.args.self.now c.loop-key.self c.take_due.new.self c.args.now c.in-Some.key
+    (since-advanced c.args.self.now c.loop-key.self c.in-Some.ensures.fits c.loop-key.invariant.since) c.in-Some.ensures.fits c.in-Some.ensures.due c.loop-key.invariant.ahead
+
+pub advance-requires-clause-none : goal.advance-requires-clause-none
+advance-requires-clause-none g c = subst (λ w. (key : _) → IsPending w key → ⊥) (sym c.in-None.ensures.due.0) c.in-None.ensures.due.1
+
+pub returns-then-not-advance-clause-polled : goal.returns-then-not-advance-clause-polled
+returns-then-not-advance-clause-polled g c =
+    nothing-due c.args.self.now c.take_due.new.self c.advance.new.self c.args.now
+    (subst (Since c.args.self.now) (sym c.in-None.ensures.due.0) c.loop-key.invariant.since) c.if-not-advance.ensures.advanced (c.if-not-advance.ensures.passed refl).0 (c.if-not-advance.ensures.passed refl).1
+
+pub loop-key-preserved : goal.loop-key-preserved
+loop-key-preserved g c = record {
+  since = inr (since-twice c.args.self.now c.take_due.new.self c.advance.new.self (subst (Since c.args.self.now) (sym c.in-None.ensures.due.0) c.loop-key.invariant.since) c.if-not-advance.ensures.advanced);
+  ahead = (c.if-not-advance.ensures.reached refl).1;
+  counted =
+      let due = c.in-None.ensures.credit in
+      let step = c.if-not-advance.ensures.steps in
+      let before = c.loop-key.invariant.counted in
+      omega (arith, due, step, before);
+}
+
+pub returns-in-Some-clause-steps : goal.returns-in-Some-clause-steps
+returns-in-Some-clause-steps g c =
+    let due = c.in-Some.ensures.credit in
+    let before = c.loop-key.invariant.counted in
+    omega (arith, due, before)
+
+pub returns-then-not-advance-clause-steps : goal.returns-then-not-advance-clause-steps
+returns-then-not-advance-clause-steps g c =
+    let due = c.in-None.ensures.credit in
+    let step = c.if-not-advance.ensures.steps in
+    let before = c.loop-key.invariant.counted in
+    omega (arith, due, step, before)

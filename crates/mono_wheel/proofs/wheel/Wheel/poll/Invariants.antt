@@ -1,0 +1,14 @@
+use Rattle.std.proofs.Common.{◌≡◌, ◌+◌, ◌≤◌, ◌-◌}
+use Rattle.mono_wheel.specs.Credit.{credit_of}
+use Rattle.mono_wheel.proofs.Polling.{Since}
+use Rattle.mono_wheel.proofs.wheel.Wheel.poll.Given as goal
+
+abbrev pub invariant-loop-key : goal.invariant-loop-key
+invariant-loop-key g l = record {
+  since : Since l.fn.self l.self;
+  ahead : l.self.elapsed ≤ l.now;
+  counted : l.steps + credit_of l.self.elapsed l.self.entries ≡ l.fn.steps + credit_of l.fn.self.elapsed l.fn.self.entries;
+}
+
+abbrev pub decreases-loop-key : goal.decreases-loop-key
+decreases-loop-key g l = l.now - l.self.elapsed

@@ -1,0 +1,21 @@
+-- How often the keys of a wheel are still taken from a slot.
+use Rattle.std.specs.Prelude.{◌≡◌, ℕ, ◌+◌, ◌-◌, ◌==◌, if◌then◌else◌, List, [], ◌∷◌, Option, Some, None}
+use Rattle.mono_wheel.specs.Start.{takes_from}
+use Rattle.mono_wheel.specs.Model.{Timed, Wheel, timed_at}
+
+-- how often the key is still taken from a slot
+abbrev pub takes : ℕ → Option Timed → ℕ
+takes elapsed None = 0
+takes elapsed (Some timed) = if timed.tick == elapsed then 0 else takes_from (timed.tick - elapsed) 5 elapsed timed.registered timed.tick
+
+abbrev pub credit_of : ℕ → List (Option Timed) → ℕ
+credit_of elapsed [] = 0
+credit_of elapsed (entry ∷ rest) = takes elapsed entry + credit_of elapsed rest
+
+-- how often the keys of a wheel are still taken from a slot
+abbrev pub credit : Wheel → ℕ
+credit wheel = credit_of wheel.elapsed wheel.entries
+
+-- the credit changed by that of this key alone
+abbrev pub CreditFollows : Wheel → Wheel → ℕ → Type 0
+CreditFollows old new key = credit new + takes old.elapsed (timed_at old key) ≡ credit old + takes old.elapsed (timed_at new key)

@@ -1,0 +1,30 @@
+//! What a wheel knows of each key.
+ghost use Rattle.std.specs.Prelude.{◌≡◌, ℕ, ◌<◌, ◌≤◌, length, OnOk};
+ghost use Rattle.mono_wheel.specs.Held.{timed_in};
+
+use std::alloc::AllocError;
+
+#[derive(Clone, Copy)]
+pub struct Entry {
+    // The true tick.
+    pub tick: u64,
+    // The tick that gives the slot.
+    pub registered: u64,
+    pub is_in: bool,
+}
+
+/// Makes an entry for a key, which is not in where it is new.
+pub fn make_room(entries: &mut Vec<Entry>, key: usize) -> Result<(), AllocError>
+    ensures below { OnOk result (key < length entries.new.items) }
+    ensures grown { length entries.old.items ≤ length entries.new.items }
+    ensures kept { (other : ℕ) → timed_in entries.new.items other ≡ timed_in entries.old.items other }
+{
+    while entries.len() <= key {
+        entries.push(Entry {
+            tick: 0,
+            registered: 0,
+            is_in: false,
+        })?;
+    }
+    Ok(())
+}

@@ -1,0 +1,94 @@
+//! Slots by numbers: in which list the slot of a tick is, and where it starts.
+ghost use Rattle.std.specs.Prelude.{◌≡◌, ℕ, ◌+◌, ◌<◌, ◌≤◌, ◌^◌};
+ghost use Rattle.mono_wheel.specs.Start.{next_turn, slot_of, start};
+ghost use Rattle.mono_wheel.specs.Held.{place_of, place_in, ranked};
+
+use crate::level::level_for;
+
+/// The pending list, after the 384 slots.
+pub const PENDING: usize = 384;
+
+/// The list of the slot of a tick that lies ahead.
+pub fn place(elapsed: u64, when: u64) -> usize
+    ensures { result ≡ place_of elapsed when }
+{
+    match level_for(elapsed, when) {
+        5 => 320 + ((when >> 30) % 64) as usize,
+        4 => 256 + ((when >> 24) % 64) as usize,
+        3 => 192 + ((when >> 18) % 64) as usize,
+        2 => 128 + ((when >> 12) % 64) as usize,
+        1 => 64 + ((when >> 6) % 64) as usize,
+        _ => (when % 64) as usize,
+    }
+}
+
+/// The list in which a key stands that is registered at this tick.
+pub fn standing(elapsed: u64, registered: u64) -> usize
+    ensures { result ≡ place_in elapsed registered }
+{
+    if registered == elapsed {
+        PENDING
+    } else {
+        place(elapsed, registered)
+    }
+}
+
+/// The slot of a tick at a level.
+pub fn slot_at(level: usize, tick: u64) -> usize
+    requires { level < 6 }
+    ensures value { result ≡ slot_of level tick }
+    ensures below { result < 64 }
+{
+    match level {
+        5 => ((tick >> 30) % 64) as usize,
+        4 => ((tick >> 24) % 64) as usize,
+        3 => ((tick >> 18) % 64) as usize,
+        2 => ((tick >> 12) % 64) as usize,
+        1 => ((tick >> 6) % 64) as usize,
+        _ => (tick % 64) as usize,
+    }
+}
+
+/// The list whose slot is this one in the order in which slots start.
+pub fn list_ranked(elapsed: u64, rank: usize) -> usize
+    requires { rank < 384 }
+    ensures value { result ≡ ranked elapsed rank }
+    ensures below { result < 384 }
+{
+    let level = rank / 64;
+    level * 64 + (slot_at(level, elapsed) + 1 + rank % 64) % 64
+}
+
+// The least number above `now` with the last digit of `goal`.
+fn turn_above(now: u64, goal: u64) -> u64
+    requires { now < goal }
+    ensures { result ≡ next_turn now goal }
+{
+    let near = now / 64 * 64 + goal % 64;
+    if now < near { near } else { near + 64 }
+}
+
+// How many ticks a slot of a level covers.
+fn slot_size(level: usize) -> u64
+    requires { level < 6 }
+    ensures value { result ≡ 64 ^ level }
+    ensures some { 0 < result }
+{
+    match level {
+        5 => 0x4000_0000,
+        4 => 0x100_0000,
+        3 => 0x4_0000,
+        2 => 0x1000,
+        1 => 0x40,
+        _ => 1,
+    }
+}
+
+/// Where the slot of a tick that lies ahead starts.
+pub fn slot_start(elapsed: u64, when: u64) -> u64
+    requires { elapsed < when }
+    ensures { result ≡ start 5 elapsed when }
+{
+    let size = slot_size(level_for(elapsed, when));
+    turn_above(elapsed / size, when / size) * size
+}
