@@ -5,4 +5,5 @@ pub mod Tasks
 pub mod Sleeps
 pub mod Jobs
 pub mod Inbox
+pub mod Joins
 pub mod Valid

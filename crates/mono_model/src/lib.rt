@@ -4,9 +4,11 @@
 mod host;
 pub mod laws;
 mod poll;
+mod task_error;
 
 pub use host::Host;
 pub use poll::Poll;
+pub use task_error::TaskError;
 
 /// What a wake did.
 #[derive(Clone, Copy, Debug, PartialEq, Eq)]

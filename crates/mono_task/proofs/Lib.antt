@@ -1,0 +1,10 @@
+pub mod Forgotten
+pub mod Lists
+pub mod Stays
+pub mod Wakes
+pub mod Places
+pub mod Begins
+pub mod Ends
+pub mod Finishes
+pub mod Handles
+pub mod Spawns

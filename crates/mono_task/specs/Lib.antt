@@ -1,0 +1,6 @@
+pub mod Work
+pub mod Members
+pub mod Entries
+pub mod Schedule
+pub mod Standing
+pub mod Finishing

@@ -1,0 +1,49 @@
+// Futures that run on a context.
+ghost use Rattle.std.specs.Prelude.{◌≡◌, Bool, false, ⊤};
+ghost use Rattle.mono_model.specs.Poll.{OnPending};
+ghost use Rattle.mono_model.specs.declared.poll.Poll.{Poll};
+
+use crate::context::Context;
+use mono_model::{Host, Poll};
+use std::alloc::Global;
+
+/// A computation that runs in turns on a context and answers a value in the end.
+///
+/// A future tells what one poll may answer and leave (`polls`) and what giving it up may leave (`cancels`). Whatever it
+/// is, poll and cancel promise that the context is reached from the one before (`reached`).
+pub trait TaskFuture<C: Context>: Drop {
+    /// The value that the future answers in the end.
+    type Output;
+
+    // it has answered for good, and may not be polled
+    ghost is_spent: { Self → Bool };
+
+    // what its closures require of a poll; true of every future that holds none
+    ghost can_poll: { Self → Type 0 } = { λ _. ⊤ };
+
+    // what one poll may answer, and the future and the context that it may leave
+    ghost polls: { Self → C → Poll Self.Output → Self → C → Type 0 };
+
+    // the context that giving the future up may leave
+    ghost cancels: { Self → C → C → Type 0 };
+
+    /// Whether the future has answered for good.
+    fn spent(&self) -> bool
+        ensures { result ≡ is_spent self.now };
+
+    /// Goes on with the computation in the running task's turn. A future that answers `Pending` may be polled again.
+    ///
+    /// A poll has no answer of its own for want of memory: the context notes that one of its calls was refused memory.
+    fn poll<R: Host>(&mut self, rt: &R, alloc: Global, cx: &mut C) -> Poll<Self::Output>
+        requires unspent { is_spent self.old ≡ false }
+        requires callable { can_poll self.old }
+        ensures polled { polls self.old cx.old result self.new cx.new }
+        ensures again { OnPending result (is_spent self.new ≡ false) }
+        ensures callable { can_poll self.new }
+        ensures reached { C.reaches cx.old cx.new };
+
+    /// Gives the future up, with what it holds in the context: sleeps and join handles.
+    fn cancel(self, cx: &mut C)
+        ensures cancelled { cancels self cx.old cx.new }
+        ensures reached { C.reaches cx.old cx.new };
+}

@@ -1,0 +1,18 @@
+//! Tasks and the queue of those that run next, the context that a running task sees, futures, and join handles.
+#![tactic(auto)]
+
+mod context;
+mod entries;
+mod error;
+mod future;
+mod join;
+mod table;
+#[cfg(test)]
+mod tests;
+
+pub use context::Context;
+pub use error::SpawnTask;
+pub use future::TaskFuture;
+pub use join::{JoinContext, JoinHandle};
+pub use mono_model::{Ended, MAX_NANOS, Poll, TaskError, Woke};
+pub use table::Tasks;

@@ -1,0 +1,320 @@
+// The table of tasks, and the queue of those that run next.
+ghost use Rattle.std.specs.Prelude.{◌≡◌, ◌<◌, ◌≤◌, ◌↔◌, ℕ, ◌+◌, ◌≢◌, true, false, List, [], ◌∷◌, ◌++◌, length, IfOk, OnOk, OnErr, Some, None, Err, is_some, slice_index};
+ghost use Rattle.mono_model.specs.Table.{value_at, next_number, is_full};
+ghost use Rattle.mono_model.specs.Tasks.{spawned, woken};
+ghost use Rattle.mono_model.specs.Joins.{wake_answer, join_answer, joined, drop_answer, join_dropped, finished_answer};
+ghost use Rattle.mono_task.specs.Schedule.{no_schedule, with_tasks, begin_answer, after_begin, end_answer, after_end};
+ghost use Rattle.mono_task.specs.Standing.{owner_of};
+ghost use Rattle.mono_task.specs.Finishing.{Finishes};
+ghost use Rattle.mono_model.specs.declared.poll.Poll.TheVariants.{Ready, Pending};
+ghost use Rattle.mono_task.specs.declared.error.SpawnTask.TheVariants.{AtCapacity};
+ghost use Rattle.mono_task.specs.declared.entries.Entry.TheVariants.{Queued};
+ghost use Rattle.mono_task.specs.declared.entries.Handle.TheVariants.{Kept};
+
+use crate::entries::{Entry, Handle, Seat, Waking};
+use crate::error::SpawnTask;
+use mono_model::{Ended, Poll, TaskError, Woke};
+use mono_wheel::Links;
+use std::alloc::{AllocError, Global};
+use std::marker::Model;
+
+/// The tasks of an executor, by their numbers, and the queue of those that run next.
+///
+/// Numbers count from 0 and are never given twice. A task is live while it has not finished or its handle is kept; of one
+/// that is neither, only its number's place is left.
+#[derive(Drop)]
+pub struct Tasks<O> {
+    // Its one list has the nodes of the queued tasks, the front first.
+    queue: Links,
+    // At each node, the number of its task.
+    owners: Vec<u64>,
+    // At each number that was given out, its task.
+    entries: Vec<Entry<O>>,
+    // How many tasks are queued, and how many are live.
+    queued: usize,
+    live: u64,
+    limit: u64,
+    turns: u64,
+    running: Option<u64>,
+}
+
+impl<O> Model for Tasks<O> {
+    ghost use Rattle.mono_task.specs.Schedule.{Schedule};
+
+    ghost Value = { Schedule O };
+
+    ghost use Rattle.mono_task.specs.Standing.{tasks_of, Keeps};
+
+    ghost view = { λ a. record { tasks = tasks_of a.queue a.owners.items a.entries.items a.limit; turns = a.turns; turn = a.running } };
+
+    ghost invariant = { λ a. Keeps a.queue a.owners.items a.entries.items a.queued a.live a.running };
+}
+
+impl<O> Tasks<O> {
+    /// No task, with room for so many live ones at once.
+    pub fn new(alloc: Global, limit: u64) -> Result<Tasks<O>, AllocError>
+        ensures { IfOk result (λ tasks. tasks ≡ no_schedule limit) }
+    {
+        let queue = Links::new(alloc, 1)?;
+        Ok(Tasks {
+            queue,
+            owners: Vec::new(alloc),
+            entries: Vec::new(alloc),
+            queued: 0,
+            live: 0,
+            limit,
+            turns: 0,
+            running: None,
+        })
+    }
+
+    /// How many tasks are queued.
+    pub fn queue_len(&self) -> usize
+        ensures { result ≡ length self.now.tasks.queue }
+    {
+        self.queued
+    }
+
+    /// How many turns have begun. It stands still at 2^64 - 1.
+    pub fn turns(&self) -> u64
+        ensures { result ≡ self.now.turns }
+    {
+        self.turns
+    }
+}
+
+// A place for the next number, whose task is queued and has this node.
+fn enter<O: Drop>(
+    owners: &mut Vec<u64>,
+    entries: &mut Vec<Entry<O>>,
+    node: usize,
+) -> Result<(), AllocError>
+    ensures longer { length owners.old.items ≤ length owners.new.items }
+    ensures others { (other : ℕ) → other ≢ node → owner_of owners.new.items other ≡ owner_of owners.old.items other }
+    ensures within { OnOk result (node < length owners.new.items) }
+    ensures owner { OnOk result (owner_of owners.new.items node ≡ length entries.old.items) }
+    ensures entered { OnOk result (entries.new.items ≡ entries.old.items ++ Queued (record { node = node; handle = Kept }) ∷ []) }
+    ensures refused { OnErr result (entries.new.items ≡ entries.old.items) }
+{
+    grow(owners, node)?;
+    owners[node] = entries.len() as u64;
+    entries.push(Entry::Queued(Seat {
+        node,
+        handle: Handle::Kept,
+    }))?;
+    Ok(())
+}
+
+// A place for the owner of this node.
+fn grow(owners: &mut Vec<u64>, node: usize) -> Result<(), AllocError>
+    ensures longer { length owners.old.items ≤ length owners.new.items }
+    ensures within { OnOk result (node < length owners.new.items) }
+    ensures kept { (other : ℕ) → owner_of owners.new.items other ≡ owner_of owners.old.items other }
+{
+    while owners.len() <= node {
+        owners.push(0)?;
+    }
+    Ok(())
+}
+
+impl<O: Drop> Tasks<O> {
+    /// A new task, with the next number. It is queued last, and its handle is kept.
+    ///
+    /// Refused with `AtCapacity` exactly where the live tasks are at the limit or the next number is 2^64 - 1 (`full`),
+    /// and else with `Memory` where there was none. A refusal leaves all as it was (`refused`).
+    pub fn spawn(&mut self, alloc: Global) -> Result<u64, SpawnTask>
+        ensures full { (result ≡ Err AtCapacity) ↔ (is_full self.old.tasks.table self.old.tasks.limit ≡ true) }
+        ensures number { IfOk result (λ number. number ≡ next_number self.old.tasks.table) }
+        ensures after { OnOk result (self.new ≡ with_tasks self.old (spawned self.old.tasks)) }
+        ensures refused { OnErr result (self.new ≡ self.old) }
+    {
+        let number = self.entries.len() as u64;
+        if self.live >= self.limit || number == u64::MAX {
+            return Err(SpawnTask::AtCapacity);
+        }
+        if self.queue.reserve(alloc, 1).is_err() {
+            return Err(SpawnTask::Memory);
+        }
+        let node = self.queue.add_node();
+        match enter(&mut self.owners, &mut self.entries, node) {
+            Ok(()) => {
+                self.queue.push_back(0, node);
+                self.queued += 1;
+                self.live += 1;
+                Ok(number)
+            }
+            Err(_) => {
+                self.queue.free_node(node);
+                Err(SpawnTask::Memory)
+            }
+        }
+    }
+
+    /// Wakes a task: an idle one goes to the queue's back (`Queued`), a running one runs again after its turn (`Noted`),
+    /// and any other stays as it is (`Nothing`).
+    ///
+    /// Refused with `NoTask` exactly where the number was never given out.
+    pub fn wake(&mut self, task: u64) -> Result<Woke, TaskError>
+        ensures answer { result ≡ wake_answer self.old.tasks task }
+        ensures after { self.new ≡ with_tasks self.old (woken self.old.tasks task) }
+    {
+        let at = task as usize;
+        if at >= self.entries.len() {
+            return Err(TaskError::NoTask);
+        }
+        let entry = &mut self.entries[at];
+        match entry.wake() {
+            Waking::Queues(node) => {
+                self.queue.push_back(0, node);
+                self.queued += 1;
+                Ok(Woke::Queued)
+            }
+            Waking::Notes => Ok(Woke::Noted),
+            Waking::Nothing => Ok(Woke::Nothing),
+        }
+    }
+
+    /// Begins the turn of the queue's front, which is running from then on. No turn may run already.
+    ///
+    /// Refused with `Idle` exactly where the queue is empty. `turns` counts the turns that begin.
+    pub fn begin_turn(&mut self) -> Result<u64, TaskError>
+        requires { self.old.turn ≡ None }
+        ensures answer { result ≡ begin_answer self.old }
+        ensures after { self.new ≡ after_begin self.old }
+    {
+        let node = match self.queue.pop_front(0) {
+            None => return Err(TaskError::Idle),
+            Some(node) => node,
+        };
+        let task = self.owners[node];
+        self.entries[task as usize].begin();
+        self.queued -= 1;
+        self.turns = self.turns.saturating_add(1);
+        self.running = Some(task);
+        Ok(task)
+    }
+
+    /// Ends the turn that runs. One has to run.
+    ///
+    /// Pending: a task that was woken during its turn goes to the queue's front (`Again`), and any other is idle (`Idle`).
+    /// Ready: where the handle is kept the output is kept for it, and then the task that waits for it is woken (`Done`);
+    /// else the task is gone (`Gone`).
+    pub fn end_turn(&mut self, end: Poll<O>) -> Ended
+        requires { is_some self.old.turn ≡ true }
+        ensures answer { result ≡ end_answer self.old end }
+        ensures after { self.new ≡ after_end self.old end }
+    {
+        match end {
+            Poll::Pending => self.pause(),
+            Poll::Ready(output) => self.complete(output),
+        }
+    }
+
+    // The turn that runs ends pending.
+    fn pause(&mut self) -> Ended
+        requires { is_some self.old.turn ≡ true }
+        ensures answer { result ≡ end_answer self.old Pending }
+        ensures after { self.new ≡ after_end self.old Pending }
+    {
+        let task = match self.running {
+            Some(task) => task,
+            None => unreachable!(),
+        };
+        self.running = None;
+        match self.entries[task as usize].pause() {
+            Some(node) => {
+                self.queue.push_front(0, node);
+                self.queued += 1;
+                Ended::Again
+            }
+            None => Ended::Idle,
+        }
+    }
+
+    // The turn that runs ends with an output.
+    fn complete(&mut self, output: O) -> Ended
+        requires { is_some self.old.turn ≡ true }
+        ensures answer { result ≡ end_answer self.old (Ready output) }
+        ensures after { self.new ≡ after_end self.old (Ready output) }
+    {
+        match self.finish(output) {
+            Handle::Dropped => Ended::Gone,
+            Handle::Kept => Ended::Done,
+            Handle::Awaited(waiter) => {
+                let _ = self.wake(waiter);
+                Ended::Done
+            }
+        }
+    }
+
+    // The task whose turn runs is done, or gone where its handle is dropped. Its node is given back, and so is its handle.
+    fn finish(&mut self, output: O) -> Handle
+        requires { is_some self.old.turn ≡ true }
+        ensures { Finishes self.old self.new output result }
+    {
+        let task = match self.running {
+            Some(task) => task,
+            None => unreachable!(),
+        };
+        self.running = None;
+        let seat = match self.entries[task as usize].complete(output) {
+            Some(seat) => seat,
+            None => unreachable!(),
+        };
+        self.queue.free_node(seat.node);
+        match seat.handle {
+            Handle::Dropped => {
+                self.live -= 1;
+                Handle::Dropped
+            }
+            Handle::Kept => Handle::Kept,
+            Handle::Awaited(waiter) => Handle::Awaited(waiter),
+        }
+    }
+
+    /// Polls for the output of a task, on behalf of the task `by`, which waits for it where there is none yet.
+    ///
+    /// Refused with `NoTask` where the number was never given out, with `NoHandle` where the task's handle is dropped,
+    /// and with `Taken` where the output was taken already, in this order.
+    pub fn poll_join(&mut self, task: u64, by: u64) -> Result<Poll<O>, TaskError>
+        ensures answer { result ≡ join_answer self.old.tasks task }
+        ensures after { self.new ≡ with_tasks self.old (joined self.old.tasks task by) }
+    {
+        let at = task as usize;
+        if at >= self.entries.len() {
+            return Err(TaskError::NoTask);
+        }
+        self.entries[at].join(by)
+    }
+
+    /// Drops the handle of a task, and gives back an output that nobody took. A task that has not finished runs on.
+    ///
+    /// Refused with `NoTask` where the number was never given out, and then with `NoHandle` where the handle is dropped
+    /// already.
+    pub fn drop_join(&mut self, task: u64) -> Result<Option<O>, TaskError>
+        ensures answer { result ≡ drop_answer self.old.tasks task }
+        ensures after { self.new ≡ with_tasks self.old (join_dropped self.old.tasks task) }
+    {
+        let at = task as usize;
+        if at >= self.entries.len() {
+            return Err(TaskError::NoTask);
+        }
+        let entry = &mut self.entries[at];
+        if entry.is_over() {
+            self.live -= 1;
+            return entry.drop_join();
+        }
+        entry.drop_join()
+    }
+
+    /// Whether a task has finished. Refused as `drop_join` is.
+    pub fn is_finished(&self, task: u64) -> Result<bool, TaskError>
+        ensures { result ≡ finished_answer self.now.tasks task }
+    {
+        let at = task as usize;
+        if at >= self.entries.len() {
+            return Err(TaskError::NoTask);
+        }
+        self.entries[at].is_finished()
+    }
+}
