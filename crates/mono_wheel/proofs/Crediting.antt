@@ -114,6 +114,7 @@ credit-later elapsed later entries le fits none before =
         let t = no-slots elapsed entries none fits k timed is in
         let f = takes-still elapsed later timed t.0 t.1 le (before k timed is t.0) in
         omega (arith, f)
+
     zero-more : credit_of later (map timed_of entries) + count (λ o. false) (map timed_of entries) ≡ credit_of later (map timed_of entries)
     zero-more = let r = count-none (λ o. false) (map timed_of entries) (λ k. refl) in omega (arith, r)
 
