@@ -1,16 +1,13 @@
 -- The clock of a wheel goes on.
-use Rattle.std.proofs.Common.{arith, ◌≡◌, ◌≢◌, ℕ, suc, ◌+◌, ◌*◌, ◌<◌, ◌≤◌, ◌⊎◌, inl, inr, length, Bool, true, false, nat_le, List, [], ◌∷◌, map, Option, Some, None, get_or, set, ap, refl, sym, ◌∙◌, subst, length-set}
+use Rattle.std.proofs.Common.{arith, ◌≡◌, ◌≢◌, ℕ, ◌+◌, ◌*◌, ◌<◌, ◌≤◌, inl, inr, length, true, false, nat_le, List, [], ◌∷◌, map, Option, Some, None, set, ap, refl, sym, ◌∙◌, subst, length-set}
 use Rattle.std.proofs.lemmas.Bool.Decides.{leb_tells, eqb_tells}
-use Rattle.std.proofs.lemmas.Bool.{cases_lt}
-use Rattle.mono_wheel.specs.Start.{above, far_digit, slot_of, start}
-use Rattle.mono_wheel.specs.Rings.{at}
+use Rattle.mono_wheel.specs.Start.{far_digit, slot_of, start}
 use Rattle.mono_wheel.specs.Lists.{Lists, IsIn, with_list, list_at, is_node}
-use Rattle.mono_wheel.specs.Model.{Timed, Wheel, AllFit, Precedes, StandsBehind, Fits, IsPending, timed_at, moved, timed_after}
-use Rattle.mono_wheel.specs.Held.{place_of, place_in, timed_of, timed_in, StandsIn, Held, Settling, Settled, Leads, anew, IsNextSlot, NoSlots, Advanced}
+use Rattle.mono_wheel.specs.Model.{Timed, Wheel, Precedes, StandsBehind, Fits, timed_at, moved, timed_after}
+use Rattle.mono_wheel.specs.Held.{place_of, place_in, timed_of, timed_in, StandsIn, Held, Settling, Settled, anew, IsNextSlot, Advanced}
 use Rattle.mono_wheel.specs.declared.entry.Entry.{Entry}
-use Rattle.mono_wheel.proofs.Starts.{start-above, start-le, start-same, level-same}
-use Rattle.mono_wheel.proofs.Places.{place_of-below, place_in-below, place-ahead, place-pending}
-use Rattle.mono_wheel.proofs.Order.{behind-upper}
+use Rattle.mono_wheel.proofs.Starts.{start-above, start-le, level-same}
+use Rattle.mono_wheel.proofs.Places.{place_of-below, place_in-below, place-ahead}
 use Rattle.mono_wheel.proofs.Holding.{list-same, list-other}
 use Rattle.mono_wheel.proofs.Due.{stands-pending}
 use Rattle.mono_wheel.proofs.Searching.{stands-timed, ahead-in}

@@ -1,19 +1,18 @@
 -- How the credit falls while keys are taken from slots.
-use Rattle.std.proofs.Common.{arith, ◌≡◌, ◌≢◌, zero, suc, ℕ, ◌+◌, ◌-◌, ◌<◌, ◌≤◌, ◌⊎◌, inl, inr, length, Bool, true, false, ◌==◌, nat_lt, if◌then◌else◌, List, [], ◌∷◌, ◌++◌, map, Option, Some, None, get_or, set, ap, refl, sym, ◌∙◌, subst, eq-eqb, get_or-set_same, get_or-set_other}
-use Rattle.std.proofs.lemmas.Bool.Decides.{leb_tells, eqb_tells}
-use Rattle.std.proofs.lemmas.Bool.{cases_lt}
-use Rattle.std.proofs.lemmas.List.{map-set, length-map, get_or_past}
+use Rattle.std.proofs.Common.{arith, ◌≡◌, ◌≢◌, zero, suc, ℕ, ◌+◌, ◌-◌, ◌<◌, ◌≤◌, ◌⊎◌, inl, inr, length, Bool, true, false, ◌==◌, nat_lt, if◌then◌else◌, List, [], ◌∷◌, ◌++◌, map, Option, Some, None, get_or, set, ap, refl, sym, ◌∙◌, subst, eq-eqb, get_or-set_other}
+use Rattle.std.proofs.lemmas.Bool.Decides.{eqb_tells}
+use Rattle.std.proofs.lemmas.List.{map-set, length-map}
 use Rattle.mono_wheel.specs.Start.{start, takes_from}
 use Rattle.mono_wheel.specs.Lists.{Lists, IsIn, with_list, list_at}
 use Rattle.mono_wheel.specs.Rings.{Distinct}
-use Rattle.mono_wheel.specs.Model.{Timed, Wheel, Fits, timed_at, moved, timed_after}
+use Rattle.mono_wheel.specs.Model.{Timed, Wheel, Fits, moved, timed_after}
 use Rattle.mono_wheel.specs.Credit.{takes, credit_of, CreditFollows}
 use Rattle.mono_wheel.specs.Held.{place_of, timed_of, timed_in, StandsIn, Held, IsNextSlot, Settled}
 use Rattle.mono_wheel.specs.declared.entry.Entry.{Entry}
 use Rattle.mono_wheel.proofs.Keys.{timed-here}
 use Rattle.mono_wheel.proofs.Due.{due-stands, due-below, stands-pending}
 use Rattle.mono_wheel.proofs.Standing.{false-true}
-use Rattle.mono_wheel.proofs.Starts.{start-le, start-above, start-same, takes-once, eqb-no, ltb_tells}
+use Rattle.mono_wheel.proofs.Starts.{start-le, start-same, takes-once, eqb-no, ltb_tells}
 use Rattle.mono_wheel.proofs.Advancing.{no-slots, moved-stays, moved-anew, ticks-after, in-slot, not-slot, slot-in, in-place, begin-above}
 
 -- one key has other ticks
@@ -114,6 +113,7 @@ credit-later elapsed later entries le fits none before =
         let t = no-slots elapsed entries none fits k timed is in
         let f = takes-still elapsed later timed t.0 t.1 le (before k timed is t.0) in
         omega (arith, f)
+
     zero-more : credit_of later (map timed_of entries) + count (λ o. false) (map timed_of entries) ≡ credit_of later (map timed_of entries)
     zero-more = let r = count-none (λ o. false) (map timed_of entries) (λ k. refl) in omega (arith, r)
 

@@ -1,8 +1,7 @@
 -- The first pending key is taken out.
-use Rattle.std.proofs.Common.{arith, ◌≡◌, ◌≢◌, ℕ, ◌<◌, ◌≤◌, ◌⊎◌, inl, inr, length, Bool, true, false, List, [], ◌∷◌, ◌++◌, map, Option, Some, None, get_or, set, ap, refl, sym, ◌∙◌, subst}
-use Rattle.mono_wheel.specs.Rings.{at}
+use Rattle.std.proofs.Common.{arith, ◌≡◌, ℕ, ◌<◌, inl, inr, length, false, List, [], ◌∷◌, ◌++◌, map, Option, Some, None, set, ap, refl, sym, ◌∙◌, subst}
 use Rattle.mono_wheel.specs.Lists.{Lists, IsIn, with_list, without, list_at}
-use Rattle.mono_wheel.specs.Model.{Timed, Wheel, Precedes, StandsBehind, Fits, timed_at}
+use Rattle.mono_wheel.specs.Model.{Timed, Wheel, StandsBehind, Fits}
 use Rattle.mono_wheel.specs.Held.{timed_of, timed_in, StandsIn, Held, DueTaken}
 use Rattle.mono_wheel.specs.declared.entry.Entry.{Entry}
 use Rattle.mono_wheel.proofs.Chains.{is_in-front}

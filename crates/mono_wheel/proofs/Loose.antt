@@ -1,11 +1,11 @@
 -- A node that was taken out of its list is in no list.
-use Rattle.std.proofs.Common.{arith, ◌≡◌, ◌≢◌, ℕ, ◌<◌, ◌≤◌, ◌⊎◌, inl, inr, length, true, false, List, [], ◌∷◌, map, None, get_or, ap, refl, sym, ◌∙◌, subst, get_or-set_same, get_or-set_other}
+use Rattle.std.proofs.Common.{arith, ◌≡◌, ℕ, ◌<◌, inl, inr, length, List, [], map, None, sym, ◌∙◌, subst, get_or-set_same, get_or-set_other}
 use Rattle.std.proofs.lemmas.Bool.{cases_lt}
 use Rattle.std.proofs.lemmas.Bool.Decides.{eqb_tells}
 use Rattle.std.proofs.lemmas.List.{get_or_past, length-map}
 use Rattle.std.proofs.Math.ListN.{get_or-map}
-use Rattle.mono_wheel.specs.Lists.{Lists, IsIn, IsLoose, with_list, without, list_at, is_node}
-use Rattle.mono_wheel.specs.Rings.{Slots, ring_of, seen, at, is_inner, is_inner_at, Stand, Distinct}
+use Rattle.mono_wheel.specs.Lists.{Lists, IsIn, IsLoose, with_list, without, list_at}
+use Rattle.mono_wheel.specs.Rings.{Slots, ring_of, seen, at, is_inner, Stand}
 use Rattle.mono_wheel.proofs.Chains.{without-gone}
 use Rattle.mono_wheel.proofs.Calls.{seen-below}
 

@@ -1,10 +1,10 @@
 -- Who stands behind whom in the lists, after a key goes in or out.
-use Rattle.std.proofs.Common.{arith, ◌≡◌, ◌≢◌, zero, suc, ℕ, ◌<◌, ◌⊎◌, inl, inr, length, true, false, List, [], ◌∷◌, ◌++◌, get_or, set, ap, refl, sym, ◌∙◌, subst, get_or-set_same, get_or-set_other}
+use Rattle.std.proofs.Common.{◌≡◌, ◌≢◌, ℕ, ◌<◌, ◌⊎◌, inl, inr, length, List, [], ◌∷◌, ◌++◌, set, sym, ◌∙◌, subst, get_or-set_same, get_or-set_other}
 use Rattle.std.proofs.lemmas.Bool.Decides.{eqb_tells}
 use Rattle.mono_wheel.specs.Lists.{IsIn, without}
 use Rattle.mono_wheel.specs.Rings.{at}
 use Rattle.mono_wheel.specs.Model.{StandsBehind}
-use Rattle.mono_wheel.proofs.Chains.{without-stays, is_in_equal}
+use Rattle.mono_wheel.proofs.Chains.{without-stays}
 
 pub behind-lower : (xs : List ℕ) (a b : ℕ) → StandsBehind xs a b → IsIn a xs
 behind-lower [] a b h = absurd h

@@ -1,13 +1,12 @@
 -- What a poll and a look ahead owe.
-use Rattle.std.proofs.Common.{arith, ◌≡◌, ◌≢◌, ℕ, ◌<◌, ◌≤◌, ◌⊎◌, inl, inr, length, Bool, true, false, nat_le, List, [], ◌∷◌, ◌++◌, map, Option, Some, None, ap, refl, sym, ◌∙◌, subst, if◌then◌else◌}
-use Rattle.std.proofs.lemmas.Bool.Decides.{leb_tells, eqb_tells}
+use Rattle.std.proofs.Common.{arith, ◌≡◌, ◌≢◌, ℕ, ◌<◌, ◌≤◌, ◌⊎◌, inl, inr, Bool, nat_le, List, [], ◌∷◌, ◌++◌, map, Option, Some, None, ap, refl, sym, ◌∙◌, subst, if◌then◌else◌}
 use Rattle.std.proofs.lemmas.Bool.{cases_lt}
 use Rattle.mono_wheel.specs.Start.{start}
 use Rattle.mono_wheel.specs.Lists.{Lists, IsIn, list_at}
-use Rattle.mono_wheel.specs.Model.{Timed, Wheel, AllFit, Precedes, Fits, IsPending, IsDue, FirstStart, NothingDue, CameOut, Polled, timed_at, moved, timed_after}
+use Rattle.mono_wheel.specs.Model.{Timed, Wheel, AllFit, Fits, IsPending, FirstStart, NothingDue, CameOut, timed_at, moved, timed_after}
 use Rattle.mono_wheel.specs.Held.{timed_of, timed_in, Held, StandsIn, IsNextSlot, Advanced, DueTaken}
 use Rattle.mono_wheel.specs.declared.entry.Entry.{Entry}
-use Rattle.mono_wheel.proofs.Starts.{start-above, start-le, start-same}
+use Rattle.mono_wheel.proofs.Starts.{start-above, start-same}
 use Rattle.mono_wheel.proofs.Places.{place-pending}
 use Rattle.mono_wheel.proofs.Calls.{last-in}
 use Rattle.mono_wheel.proofs.Due.{stands-pending}

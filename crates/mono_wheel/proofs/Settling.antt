@@ -1,10 +1,9 @@
 -- One key that waits is registered at its true tick.
-use Rattle.std.proofs.Common.{arith, ◌≡◌, ◌≢◌, ℕ, ◌<◌, ◌≤◌, ◌⊎◌, inl, inr, length, Bool, true, false, List, [], ◌∷◌, ◌++◌, map, Option, Some, None, get_or, set, ap, refl, sym, ◌∙◌, subst, length-set}
+use Rattle.std.proofs.Common.{arith, ◌≡◌, ◌≢◌, ℕ, ◌<◌, ◌≤◌, ◌⊎◌, inl, inr, length, true, List, [], ◌∷◌, ◌++◌, Option, Some, None, ap, refl, sym, ◌∙◌, subst, length-set}
 use Rattle.std.proofs.lemmas.Bool.Decides.{eqb_tells}
-use Rattle.mono_wheel.specs.Rings.{at}
 use Rattle.mono_wheel.specs.Lists.{Lists, IsIn, IsLoose, with_list, list_at, is_node}
 use Rattle.mono_wheel.specs.Model.{Timed, StandsBehind, Fits}
-use Rattle.mono_wheel.specs.Held.{place_in, timed_of, timed_in, StandsIn, Held, Settling, Settled, Leads, anew, entry_anew, Registered}
+use Rattle.mono_wheel.specs.Held.{place_in, timed_in, StandsIn, Held, Settling, Settled, Leads, anew, entry_anew, Registered}
 use Rattle.mono_wheel.specs.declared.entry.Entry.{Entry}
 use Rattle.mono_wheel.proofs.Chains.{is_in-front}
 use Rattle.mono_wheel.proofs.Calls.{last-in}

@@ -1,4 +1,4 @@
-use Rattle.std.proofs.Common.{arith, ◌≡◌, ◌<◌, length}
+use Rattle.std.proofs.Common.{arith, ◌<◌, length}
 use Rattle.mono_wheel.proofs.Searching.{slots-none, found-below, found-entry, found-ahead, found-next}
 use Rattle.mono_wheel.proofs.search.next_slot.Goals as goal
 

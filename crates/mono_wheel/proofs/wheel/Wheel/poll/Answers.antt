@@ -1,6 +1,5 @@
-use Rattle.std.proofs.Common.{arith, ◌≡◌, ◌<◌, ◌≤◌, ap, subst, sym, refl, inr}
-use Rattle.mono_wheel.specs.Model.{Wheel, AllFit, IsPending, NothingDue}
-use Rattle.mono_wheel.specs.Held.{Advanced}
+use Rattle.std.proofs.Common.{arith, subst, sym, refl, inr}
+use Rattle.mono_wheel.specs.Model.{IsPending}
 use Rattle.mono_wheel.proofs.Polling.{Since, since-advanced, since-twice, came-out, nothing-due}
 use Rattle.mono_wheel.proofs.wheel.Wheel.poll.Goals as goal
 
