@@ -1,0 +1,185 @@
+//! The workloads, and what one run of them gives.
+use crate::table::Table;
+use crate::watch::Watch;
+use std::alloc::Global;
+use std::io;
+use std::rt::Clock;
+use std::sync::ledger::Ledger;
+
+/// What is done to a wheel with so many keys.
+#[derive(Clone, Copy)]
+pub enum Work {
+    /// Random ticks below 2^32, fired in 16 steps of 2^28.
+    InsertFire,
+    /// Random ticks below 2^32, all of which are taken out.
+    InsertCancel,
+    /// Each key is let be due 1000 ticks later in each of ten rounds of 1000 ticks.
+    KeepAlive,
+    /// Ticks from 1 to 1000, one a step.
+    ShortTicks,
+    /// Ticks up to 2^40, fired in one step.
+    FarJump,
+    /// The next expiration after each insertion.
+    NextExpiration,
+}
+
+/// The workloads in the order in which they are run.
+pub const WORKS: [Work; 6] = [
+    Work::InsertFire,
+    Work::InsertCancel,
+    Work::KeepAlive,
+    Work::ShortTicks,
+    Work::FarJump,
+    Work::NextExpiration,
+];
+
+impl Work {
+    /// The word of a workload.
+    pub fn name(self) -> &'static str {
+        match self {
+            Work::InsertFire => "insert_fire",
+            Work::InsertCancel => "insert_cancel",
+            Work::KeepAlive => "reset_later",
+            Work::ShortTicks => "short_ticks",
+            Work::FarJump => "far_jump",
+            Work::NextExpiration => "next_expiration",
+        }
+    }
+
+    /// The workload of a word.
+    pub fn named(word: &str) -> Option<Work> {
+        match word {
+            "insert_fire" => Some(Work::InsertFire),
+            "insert_cancel" => Some(Work::InsertCancel),
+            "reset_later" => Some(Work::KeepAlive),
+            "short_ticks" => Some(Work::ShortTicks),
+            "far_jump" => Some(Work::FarJump),
+            "next_expiration" => Some(Work::NextExpiration),
+            _ => None,
+        }
+    }
+}
+
+/// What a run gives: how many keys fired, a sum over them in their order, and a sum over the next
+/// expirations.
+#[derive(Clone, Copy)]
+pub struct Outcome {
+    pub fired: u64,
+    pub order: u64,
+    pub nexts: u64,
+}
+
+// Fires all that is due up to a tick.
+fn advance<L: Ledger>(table: &mut Table<L>, base: usize, now: u64, outcome: &mut Outcome) {
+    for _ in 0..u64::MAX {
+        match table.fire(now) {
+            None => return,
+            Some(key) => {
+                let number = key.wrapping_sub(base) as u64;
+                outcome.fired = outcome.fired.wrapping_add(1);
+                outcome.order = outcome
+                    .order
+                    .wrapping_mul(31)
+                    .wrapping_add(number)
+                    .wrapping_add(1);
+            }
+        }
+    }
+}
+
+fn insert_all<L: Ledger>(
+    alloc: Global,
+    table: &mut Table<L>,
+    ticks: &[u64],
+) -> io::Result<Vec<usize>> {
+    let mut keys = Vec::with_capacity(alloc, ticks.len())?;
+    for tick in ticks {
+        keys.push(table.insert(alloc, *tick)?)?;
+    }
+    Ok(keys)
+}
+
+fn ask_next<L: Ledger>(
+    alloc: Global,
+    table: &mut Table<L>,
+    ticks: &[u64],
+    outcome: &mut Outcome,
+) -> io::Result<()> {
+    for tick in ticks {
+        table.insert(alloc, *tick)?;
+        outcome.nexts = outcome.nexts.wrapping_add(table.next().unwrap_or(0));
+    }
+    Ok(())
+}
+
+fn keep_alive<L: Ledger>(
+    table: &mut Table<L>,
+    keys: &[usize],
+    ticks: &[u64],
+    base: usize,
+    outcome: &mut Outcome,
+) {
+    for round in 1..=10u64 {
+        for (key, tick) in keys.iter().zip(ticks) {
+            table.later(*key, tick.wrapping_add(round * 1000));
+        }
+        advance(table, base, round * 1000, outcome);
+    }
+}
+
+fn fire_all<L: Ledger>(table: &mut Table<L>, work: Work, base: usize, outcome: &mut Outcome) {
+    match work {
+        Work::InsertFire => {
+            for step in 1..=16u64 {
+                advance(table, base, step << 28, outcome);
+            }
+        }
+        Work::InsertCancel => advance(table, base, 1 << 32, outcome),
+        Work::KeepAlive => advance(table, base, 50_000, outcome),
+        Work::ShortTicks => {
+            for now in 1..=1000u64 {
+                advance(table, base, now, outcome);
+            }
+        }
+        Work::FarJump => advance(table, base, 1 << 40, outcome),
+        Work::NextExpiration => {}
+    }
+}
+
+/// Runs a workload over these ticks on a new wheel, and notes the time of each phase.
+pub fn run<R: Clock, L: Ledger>(
+    rt: &R,
+    alloc: Global,
+    table: &mut Table<L>,
+    work: Work,
+    ticks: &[u64],
+    watch: &mut Watch,
+) -> io::Result<Outcome> {
+    let mut outcome = Outcome {
+        fired: 0,
+        order: 0,
+        nexts: 0,
+    };
+    watch.start(rt)?;
+    if let Work::NextExpiration = work {
+        ask_next(alloc, table, ticks, &mut outcome)?;
+        watch.lap(rt)?;
+        return Ok(outcome);
+    }
+    let keys = insert_all(alloc, table, ticks)?;
+    watch.lap(rt)?;
+    let base = keys.first().copied().unwrap_or(0);
+    if let Work::KeepAlive = work {
+        keep_alive(table, keys.as_slice(), ticks, base, &mut outcome);
+        watch.lap(rt)?;
+    }
+    if let Work::InsertCancel = work {
+        for key in &keys {
+            table.cancel(*key);
+        }
+        watch.lap(rt)?;
+    }
+    fire_all(table, work, base, &mut outcome);
+    watch.lap(rt)?;
+    Ok(outcome)
+}
