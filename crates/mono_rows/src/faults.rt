@@ -39,7 +39,7 @@ fn at_write(call: Option<u64>, room: usize, status: u8, output: &'static [u8]) -
     }
 }
 
-fn table() -> [Fault; 8] {
+fn table() -> [Fault; 9] {
     let done = b"task 0\nturn 0; sleep 0; ready; done\n".as_slice();
     [
         at_read(0, 4, b"".as_slice()),
@@ -49,6 +49,7 @@ fn table() -> [Fault; 8] {
         at_write(Some(1), ROOM, 0, done),
         at_write(Some(1), 36, 0, done),
         at_write(None, 5, 5, b"task ".as_slice()),
+        at_write(None, 21, 5, b"task 0\nturn 0; sleep ".as_slice()),
         at_write(None, 0, 5, b"".as_slice()),
     ]
 }

@@ -5,8 +5,12 @@ mod caller;
 #[cfg(test)]
 mod faults;
 #[cfg(test)]
+mod refusals;
+#[cfg(test)]
 mod replays;
 #[cfg(test)]
 mod running;
+#[cfg(test)]
+mod waits;
 
 pub use caller::status_of;

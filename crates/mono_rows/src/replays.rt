@@ -1,34 +1,8 @@
-// What a replay writes.
-use crate::running::{PLAIN, WORDS, run};
+// What a replay writes: tasks and sleeps.
+use crate::running::{PLAIN, Row, replayed, run};
 use std::alloc::AllocError;
 
-#[derive(Clone, Copy)]
-struct Row {
-    words: &'static str,
-    input: &'static [u8],
-    output: &'static [u8],
-    status: u8,
-}
-
-fn replayed(input: &'static [u8], output: &'static [u8]) -> Row {
-    Row {
-        words: WORDS,
-        input,
-        output,
-        status: 0,
-    }
-}
-
-fn refused(input: &'static [u8], output: &'static [u8]) -> Row {
-    Row {
-        words: WORDS,
-        input,
-        output,
-        status: 3,
-    }
-}
-
-fn rows() -> [Row; 42] {
+fn rows() -> [Row; 15] {
     [
         // no input
         replayed(b"".as_slice(), b"".as_slice()),
@@ -77,11 +51,11 @@ fn rows() -> [Row; 42] {
             b"spawn\nturn; sleep 12000000; poll 0; pending\nclock 10000000\nclock 5000000\nclock 12000000\n".as_slice(),
             b"task 0\nturn 0; sleep 0; pending; idle\nfired\nfired\nfired 0\n".as_slice(),
         ),
-        // no room comes first
+        // two causes
         Row {
             words: "replay panic 0 0 0",
-            input: b"spawn\nsleep 9223372036854775807000001\n".as_slice(),
-            output: b"refused at-capacity\nrefused at-capacity\n".as_slice(),
+            input: b"spawn\nblock 3\nsleep 9223372036854775807000001\n".as_slice(),
+            output: b"refused at-capacity\nrefused at-capacity\nrefused at-capacity\n".as_slice(),
             status: 0,
         },
         // a refusal in the middle
@@ -96,107 +70,11 @@ fn rows() -> [Row; 42] {
             b"spawn\nwake 0\nturn; pending\nwake 0\nturn; ready 0\nwake 0\n".as_slice(),
             b"task 0\nnothing\nturn 0; idle\nqueued\nturn 0; done\nnothing\n".as_slice(),
         ),
-        // the second line is no word
-        refused(b"spawn\nspawm\n".as_slice(), b"bad line 2\n".as_slice()),
-        // two zeros
-        refused(b"wake 00\n".as_slice(), b"bad line 1\n".as_slice()),
-        // no last line feed
-        refused(b"spawn".as_slice(), b"bad line 1\n".as_slice()),
-        // an empty line
-        refused(b"spawn\n\nspawn\n".as_slice(), b"bad line 2\n".as_slice()),
-        // only a line feed
-        refused(b"\n".as_slice(), b"bad line 1\n".as_slice()),
-        // a trailing blank
-        refused(b"spawn \n".as_slice(), b"bad line 1\n".as_slice()),
-        // a tab
-        refused(b"wake\t0\n".as_slice(), b"bad line 1\n".as_slice()),
-        // a carriage return
-        refused(b"spawn\nspawn\r\n".as_slice(), b"bad line 2\n".as_slice()),
-        // a leading zero
-        refused(b"wake 0\nclock 01\n".as_slice(), b"bad line 2\n".as_slice()),
-        // a sign
-        refused(b"wake +1\n".as_slice(), b"bad line 1\n".as_slice()),
-        // no number
-        refused(b"wake \n".as_slice(), b"bad line 1\n".as_slice()),
-        // a task number out of range
-        refused(
-            b"wake 18446744073709551615\nwake 18446744073709551616\n".as_slice(),
-            b"bad line 2\n".as_slice(),
-        ),
-        // nanoseconds out of range
-        refused(
-            b"clock 340282366920938463463374607431768211455\nclock 340282366920938463463374607431768211456\n".as_slice(),
-            b"bad line 2\n".as_slice(),
-        ),
-        // a byte above 127
-        refused(b"spawn\nspawn\xff\n".as_slice(), b"bad line 2\n".as_slice()),
-        // two ends in a turn
-        refused(
-            b"spawn\nturn; pending; pending\n".as_slice(),
-            b"bad line 2\n".as_slice(),
-        ),
-        // a step behind the end
-        refused(
-            b"turn; pending; spawn\n".as_slice(),
-            b"bad line 1\n".as_slice(),
-        ),
-        // no end
-        refused(b"turn; spawn\n".as_slice(), b"bad line 1\n".as_slice()),
-        // a bare turn
-        refused(b"turn\n".as_slice(), b"bad line 1\n".as_slice()),
-        // a poll outside a turn
-        refused(b"poll 0\n".as_slice(), b"bad line 1\n".as_slice()),
-        // a form that is not built
-        refused(b"spawn\ndrain\n".as_slice(), b"bad line 2\n".as_slice()),
-        // two bad lines
-        refused(b"spawn\nx\ny\n".as_slice(), b"bad line 2\n".as_slice()),
         // the greatest numbers
         replayed(
             b"wake 18446744073709551615\nclock 340282366920938463463374607431768211455\n".as_slice(),
             b"refused no-task\nrefused invalid\n".as_slice(),
         ),
-        // no such strategy
-        Row {
-            words: "replay x 1 1 1",
-            input: b"spawn\n".as_slice(),
-            output: b"".as_slice(),
-            status: 2,
-        },
-        // too few words
-        Row {
-            words: "replay attached 1 1",
-            input: b"spawn\n".as_slice(),
-            output: b"".as_slice(),
-            status: 2,
-        },
-        // too many words
-        Row {
-            words: "replay attached 1 1 1 1",
-            input: b"spawn\n".as_slice(),
-            output: b"".as_slice(),
-            status: 2,
-        },
-        // no command
-        Row {
-            words: "load 0 2",
-            input: b"spawn\n".as_slice(),
-            output: b"".as_slice(),
-            status: 2,
-        },
-        // a limit with a leading zero
-        Row {
-            words: "replay attached 1 01 1",
-            input: b"spawn\n".as_slice(),
-            output: b"".as_slice(),
-            status: 2,
-        },
-        // a limit out of range
-        Row {
-            words: "replay attached 18446744073709551616 1 1",
-            input: b"spawn\n".as_slice(),
-            output: b"".as_slice(),
-            status: 2,
-        },
         // the greatest limits
         Row {
             words: "replay attached 18446744073709551615 18446744073709551615 18446744073709551615",

@@ -8,6 +8,35 @@ pub(crate) const WORDS: &str = "replay attached 16 16 16";
 /// The room for the output in most rows.
 pub(crate) const ROOM: usize = 1048576;
 
+/// An input with its words, and what the top call answers and writes.
+#[derive(Clone, Copy)]
+pub(crate) struct Row {
+    pub words: &'static str,
+    pub input: &'static [u8],
+    pub output: &'static [u8],
+    pub status: u8,
+}
+
+/// Each line is an event.
+pub(crate) fn replayed(input: &'static [u8], output: &'static [u8]) -> Row {
+    Row {
+        words: WORDS,
+        input,
+        output,
+        status: 0,
+    }
+}
+
+/// A line is no event.
+pub(crate) fn refused(input: &'static [u8], output: &'static [u8]) -> Row {
+    Row {
+        words: WORDS,
+        input,
+        output,
+        status: 3,
+    }
+}
+
 /// What one call answered and wrote.
 #[derive(Debug, PartialEq, Eq, Drop)]
 pub(crate) struct Ran {

@@ -3,6 +3,8 @@ pub mod Computing
 pub mod ValidParts
 pub mod Popping
 pub mod Firing
+pub mod Known
+pub mod Matching
 pub mod Running
 pub mod Executing
 pub mod Sleeping
@@ -10,6 +12,7 @@ pub mod Entries
 pub mod Full
 pub mod Agenda
 pub mod OneMachine
-pub mod Phases
+pub mod ValidJobs
+pub mod ValidJoins
 pub mod ValidActs
 pub mod ValidSteps

@@ -5,7 +5,7 @@ use Rattle.std.proofs.lemmas.Bool.Decides.{leb_tells}
 use Rattle.std.proofs.lemmas.List.{length-append, get_or_past}
 use Rattle.std.proofs.lemmas.Bool.{cases_lt}
 use Rattle.mono_model.specs.Ticks.{max_nanos, up}
-use Rattle.mono_model.specs.Table.{value_at, next_number, is_full, is_issued}
+use Rattle.mono_model.specs.Table.{value_at, next_number, is_full}
 use Rattle.mono_model.specs.Tasks.{spawned, woken}
 use Rattle.mono_model.specs.Sleeps.{Sleep, Arming, fresh, armed, elapsed}
 use Rattle.mono_model.specs.Valid.{is_running, of_task}
@@ -19,7 +19,10 @@ use Rattle.mono_rt.specs.declared.events.Query.{Query}
 use Rattle.mono_rt.specs.declared.events.Query.TheVariants as query
 use Rattle.mono_rt.specs.declared.events.TurnStep.{TurnStep}
 use Rattle.mono_rt.specs.declared.events.TurnStep.TheVariants as step
-use Rattle.mono_rt.proofs.ValidParts.{room, other_tasks, other_sleeps}
+use Rattle.mono_model.specs.Joins.{join_dropped, joined}
+use Rattle.mono_rt.proofs.ValidParts.{room, other_tasks, other_sleeps, other_jobs}
+use Rattle.mono_rt.proofs.ValidJobs.{valid_dropped, valid_ended, valid_polled, block_valid}
+use Rattle.mono_rt.proofs.ValidJoins.{valid_join_dropped, valid_joined, next_number-join_dropped, next_number-joined}
 
 -- a test with its outcome
 by_test : (turn : Option ℕ) (b : Bool) (x y : Outcome) → (b ≡ true → IsValidDuring turn x.machine) → (b ≡ false → IsValidDuring turn y.machine) → IsValidDuring turn (cond b x y).machine
@@ -34,11 +37,16 @@ module _ (turn : Option ℕ) (m : Machine) (valid : IsValidDuring turn m) where
   pub act_valid : (a : Act) → IsValidDuring turn (act_outcome a m).machine
   act_valid act.Spawn = by_test turn (is_full m.tasks.table m.tasks.limit) _ _ (λ full. valid)
       (λ free. other_tasks turn turn m (spawned m.tasks) valid (valid_spawned turn m.tasks (room m.tasks.table m.tasks.limit free) valid.tasks) (rw length-append (omega arith)))
-  act_valid (act.Wake t) = by_test turn (is_issued m.tasks.table t) _ _
-      (λ issued. other_tasks turn turn m (woken m.tasks t) valid (valid_woken turn m.tasks t valid.tasks) (omega (arith, next_number-woken m.tasks t))) (λ never. valid)
+  act_valid (act.Wake t) = other_tasks turn turn m (woken m.tasks t) valid (valid_woken turn m.tasks t valid.tasks) (omega (arith, next_number-woken m.tasks t))
   act_valid (act.NewSleep n) = by_test turn (is_full m.sleeps.table m.sleeps.limit) _ _ (λ full. valid)
       (λ free. by_test turn (nat_lt max_nanos n) _ _ (λ late. valid)
       (λ early. other_sleeps turn m _ valid (valid_next_sleep (next_number m.tasks.table) m.sleeps n (room m.sleeps.table m.sleeps.limit free) valid.sleeps)))
+  act_valid (act.DropJoin t) = other_tasks turn turn m (join_dropped m.tasks t) valid (valid_join_dropped turn m.tasks t valid.tasks) (omega (arith, next_number-join_dropped m.tasks t))
+  act_valid (act.Block output) = by_test turn (is_full m.jobs.table m.jobs.limit) _ _ (λ full. valid) (λ free. block_valid turn m valid m.strategy output (room m.jobs.table m.jobs.limit free))
+  act_valid (act.DropJob j) = other_jobs turn m _ valid (valid_dropped (next_number m.tasks.table) m.jobs j valid.jobs)
+  act_valid (act.Finished t) = valid
+  act_valid (act.JobFinished j) = valid
+  act_valid (act.JobEnd j h) = other_jobs turn m _ valid (valid_ended (next_number m.tasks.table) m.jobs j valid.jobs h)
 
 -- the running task was given out
 given : (turn : Option ℕ) (m : Machine) (me : ℕ) → IsValidDuring turn m → turn ≡ Some me → me < next_number m.tasks.table
@@ -66,6 +74,8 @@ module _ (me : ℕ) (m : Machine) (valid : IsValidDuring (Some me) m) where
 
   pub query_valid : (q : Query) → IsValidDuring (Some me) (query_outcome me q m).machine
   query_valid (query.Sleep s) = of_sleep (Some me) m valid _ (value_at m.sleeps.table s) (λ sleep at. poll_sleep_valid s sleep at)
+  query_valid (query.Join t) = other_tasks (Some me) (Some me) m (joined m.tasks t me) valid (valid_joined (Some me) m.tasks t valid.tasks me me_given) (omega (arith, next_number-joined m.tasks t me))
+  query_valid (query.Job j) = other_jobs (Some me) m _ valid (valid_polled (next_number m.tasks.table) m.jobs j valid.jobs me me_given)
 
   pub step_valid : (s : TurnStep) → IsValidDuring (Some me) (step_outcome me s m).machine
   step_valid (step.Act a) = act_valid (Some me) m valid a

@@ -1,21 +1,22 @@
 -- Each step leads from a valid machine to a valid one.
-use Rattle.std.proofs.Common.{◌≡◌, ◌≢◌, ◌<◌, inl, inr, ℕ, zero, suc, true, false, List, [], ◌∷◌, length, get_or, max, Some, None, Option, refl, ap, sym, subst, ◌∙◌, arith}
-use Rattle.std.specs.Prelude.{IfSome, Contains}
+use Rattle.std.proofs.Common.{◌≡◌, ◌≢◌, ◌<◌, inl, inr, ℕ, zero, suc, true, false, Bool, cond, List, [], ◌∷◌, length, get_or, max, Some, None, Option, refl, ap, sym, subst, ◌∙◌, arith}
+use Rattle.std.specs.Prelude.{IfSome, Contains, ◌||◌}
 use Rattle.std.specs.List.{AllByRecursion}
-use Rattle.std.proofs.lemmas.Bool.{cases_eq, cases_lt}
+use Rattle.std.proofs.lemmas.Bool.{cases_eq, cases_lt, ltb-true}
 use Rattle.std.proofs.lemmas.List.{get_or-set_other, get_or-set_same, get_or_past, length-set}
 use Rattle.std.proofs.lemmas.List.Elements.{recursion_from_All, Contains-get_or}
 use Rattle.mono_model.specs.Ticks.{down}
-use Rattle.mono_model.specs.Table.{Table, value_at, next_number, with_value}
-use Rattle.mono_model.specs.Tasks.{begun}
+use Rattle.mono_model.specs.Table.{Table, value_at, next_number, is_issued, with_value}
+use Rattle.mono_model.specs.Tasks.{begun, all_woken}
 use Rattle.mono_model.specs.Sleeps.{Sleeps, Sleep, Arming, fresh, armed, elapsed, with_greatest, IsDueSleep, MayFire}
+use Rattle.mono_model.specs.Inbox.{is_waiting, with_waiting}
 use Rattle.mono_model.specs.Valid.{AreValidTasks, AreValidSleeps, IsValidSleep}
-use Rattle.mono_model.proofs.ValidTasks.{valid_begun, valid_paused, valid_completed, valid_woken_if_any, next_number-begun, next_number-paused, next_number-completed, next_number-woken_if_any}
+use Rattle.mono_model.proofs.ValidTasks.{valid_begun, valid_paused, valid_completed, valid_woken_if_any, valid_all_woken, next_number-begun, next_number-paused, next_number-completed, next_number-woken_if_any, next_number-all_woken}
 use Rattle.mono_model.proofs.ValidSleeps.{valid_elapsed}
-use Rattle.mono_rt.specs.Machine.{Machine, start_machine, IsValidDuring, IsValid}
+use Rattle.mono_rt.specs.Machine.{Machine, with_tasks, with_inbox, start_machine, IsValidDuring, IsValid}
 use Rattle.mono_rt.specs.Acts.{step_outcome}
 use Rattle.mono_rt.specs.Turns.{after_steps, after_end, after_begin, after_turn_for}
-use Rattle.mono_rt.specs.Steps.{Step, ClockStep, after_fire, after_fires, at_clock, greatest_at, waker_at}
+use Rattle.mono_rt.specs.Steps.{Step, ClockStep, after_fire, after_fires, at_clock, greatest_at, waker_at, has_finished, after_remote, after_drain}
 use Rattle.mono_rt.specs.declared.events.TurnStep.{TurnStep}
 use Rattle.mono_rt.specs.declared.events.End.{End}
 use Rattle.mono_rt.specs.declared.events.End.TheVariants as end
@@ -25,11 +26,11 @@ use Rattle.mono_rt.specs.declared.events.Event.{Event}
 use Rattle.mono_rt.specs.declared.events.Event.TheVariants as event
 use Rattle.mono_rt.specs.declared.events.Report.{Report}
 use Rattle.mono_rt.specs.declared.events.Report.TheVariants as report
-use Rattle.mono_rt.proofs.ValidParts.{other_tasks, empty_valid}
+use Rattle.mono_rt.proofs.ValidParts.{other_tasks, other_inbox, put_valid, empty_valid}
 use Rattle.mono_rt.proofs.ValidActs.{act_valid, step_valid}
 
 -- a turn
-steps_valid : (me : ℕ) (steps : List TurnStep) (m : Machine) → IsValidDuring (Some me) m → IsValidDuring (Some me) (after_steps me steps m)
+pub steps_valid : (me : ℕ) (steps : List TurnStep) (m : Machine) → IsValidDuring (Some me) m → IsValidDuring (Some me) (after_steps me steps m)
 steps_valid me [] m valid = valid
 steps_valid me (s ∷ steps) m valid = steps_valid me steps (step_outcome me s m).machine (step_valid me m valid s)
 
@@ -39,11 +40,13 @@ end_valid end.Pending me m valid =
 end_valid (end.Ready o) me m valid =
     other_tasks (Some me) None m _ valid (valid_completed me m.tasks valid.tasks o) (omega (arith, next_number-completed (value_at m.tasks.table me) m.tasks me o))
 
+pub begin_valid : (m : Machine) (front : ℕ) (rest : List ℕ) → m.tasks.queue ≡ front ∷ rest → IsValid m → IsValidDuring (Some front) (after_begin front rest m)
+begin_valid m front rest is valid = other_tasks None (Some front) m (begun m.tasks front rest) valid (valid_begun m.tasks front rest is valid.tasks) (omega (arith, next_number-begun m.tasks front rest))
+
 turn_valid : (steps : List TurnStep) (e : End) (m : Machine) → IsValid m → (queue : List ℕ) → m.tasks.queue ≡ queue → IsValid (after_turn_for queue steps e m)
 turn_valid steps e m valid [] is = valid
 turn_valid steps e m valid (front ∷ rest) is =
-    end_valid e front _ (steps_valid front steps (after_begin front rest m)
-    (other_tasks None (Some front) m (begun m.tasks front rest) valid (valid_begun m.tasks front rest is valid.tasks) (omega (arith, next_number-begun m.tasks front rest))))
+    end_valid e front _ (steps_valid front steps (after_begin front rest m) (begin_valid m front rest is valid))
 
 -- a clock step
 some-armed : (b : Arming) → Some elapsed ≡ Some (armed b) → ⊥
@@ -151,11 +154,36 @@ clock_step_valid : (m : Machine) (n : ℕ) (answer : Report) (new : Machine) →
 clock_step_valid m n (report.Fired fired) new step valid = subst IsValid (sym step.2) (clock_valid m n fired step.1 valid)
 clock_step_valid m n (report.Reply r) new step valid = subst IsValid (sym step.2) valid
 clock_step_valid m n (report.Turn t replies ended) new step valid = absurd step
+clock_step_valid m n report.Listed new step valid = absurd step
+clock_step_valid m n report.Unlisted new step valid = absurd step
+clock_step_valid m n (report.Drained tasks) new step valid = absurd step
+
+-- a remote wake and a drain
+or_false_right : (a b : Bool) → (a || b) ≡ false → b ≡ false
+or_false_right true b e = cc
+or_false_right false b e = e
+
+pub remote_valid : (m : Machine) (t : ℕ) → IsValid m → IsValid (after_remote m t)
+remote_valid m t valid = issued (is_issued m.tasks.table t) refl
+  where
+    waits : (b : Bool) → (has_finished (value_at m.tasks.table t) || is_waiting m.inbox t) ≡ b → t < next_number m.tasks.table → IsValid (cond b m (with_inbox m (with_waiting m.inbox t)))
+    waits true is below = valid
+    waits false is below = other_inbox None m _ valid (put_valid _ m.inbox t (or_false_right _ _ is) below valid.inbox)
+
+    issued : (b : Bool) → is_issued m.tasks.table t ≡ b → IsValid (cond b (cond (has_finished (value_at m.tasks.table t) || is_waiting m.inbox t) m (with_inbox m (with_waiting m.inbox t))) m)
+    issued true is = waits (has_finished (value_at m.tasks.table t) || is_waiting m.inbox t) refl (ltb-true _ _ is)
+    issued false is = valid
+
+drain_valid : (m : Machine) → IsValid m → IsValid (after_drain m)
+drain_valid m valid =
+    other_inbox None (with_tasks m (all_woken m.tasks m.inbox)) [] (other_tasks None None m (all_woken m.tasks m.inbox) valid (valid_all_woken None m.tasks m.inbox valid.tasks) (omega (arith, next_number-all_woken m.tasks m.inbox))) (empty_valid _)
 
 pub step_is_valid : (old : Machine) (event : Event) (answer : Report) (new : Machine) → IsValid old → Step old event answer new → IsValid new
 step_is_valid old (event.Act a) answer new valid step = subst IsValid (sym step.1) (act_valid None old valid a)
 step_is_valid old (event.Turn steps e) answer new valid step = subst IsValid (sym step.1) (turn_valid steps e old valid old.tasks.queue refl)
 step_is_valid old (event.Clock n) answer new valid step = clock_step_valid old n answer new step valid
+step_is_valid old (event.Remote t) answer new valid step = subst IsValid (sym step.1) (remote_valid old t valid)
+step_is_valid old event.Drain answer new valid step = subst IsValid (sym step.1) (drain_valid old valid)
 
 pub start_is_valid : (limits : Limits) (strategy : Blocking) → IsValid (start_machine limits strategy)
 start_is_valid limits strategy = record {

@@ -5,7 +5,7 @@ use Rattle.mono_rt.specs.Machine.{Machine}
 use Rattle.mono_rt.specs.Acts.{act_outcome}
 use Rattle.mono_rt.specs.Turns.{after_turn}
 use Rattle.mono_rt.specs.Steps.{at_clock, greatest_at}
-use Rattle.mono_rt.specs.Worked.{start, new_sleep, poll, DeadlineIsNow, BothRoundings, NoneIsEarly, NoneIsLeftOut, FarSleeps, Ties, WokenInOwnTurn, LatestWaker, EndOfTheType, ClockGoesBack, NoRoomFirst}
+use Rattle.mono_rt.specs.Worked.{start, new_sleep, poll, DeadlineIsNow, BothRoundings, NoneIsEarly, NoneIsLeftOut, FarSleeps, Ties, WokenInOwnTurn, LatestWaker, EndOfTheType, ClockGoesBack, NoRoomFirst, RefusalsOfJoin, DoublesInInbox, TwoCauses, NoPool, OnTheCaller, OnAThread, JobsThatEnd}
 use Rattle.mono_rt.specs.declared.events.Act.TheVariants as act
 use Rattle.mono_rt.specs.declared.events.End.TheVariants as end
 use Rattle.mono_rt.proofs.Computing.{fires, listed, not_listed}
@@ -36,6 +36,27 @@ clock_goes_back = (_, (_, (refl, refl), (_, (lit≤ tt, fires _ 10 [] refl, refl
 
 pub no_room_first : NoRoomFirst
 no_room_first = (_, (_, (refl, refl), (_, (refl, refl), (_, (refl, refl), refl))))
+
+pub refusals_of_join : RefusalsOfJoin
+refusals_of_join = (_, (_, (refl, refl), (_, (refl, refl), (_, (refl, refl), (_, (refl, refl), (_, (refl, refl), refl))))))
+
+pub doubles_in_inbox : DoublesInInbox
+doubles_in_inbox = (_, (_, (refl, refl), (_, (refl, refl), (_, (refl, refl), (_, (refl, refl), (_, (refl, refl), (_, (refl, refl), (_, (refl, refl), refl))))))))
+
+pub two_causes : TwoCauses
+two_causes = (_, (_, (refl, refl), (_, (refl, refl), (_, (refl, refl), refl))))
+
+pub no_pool : NoPool
+no_pool = (_, (_, (refl, refl), refl))
+
+pub on_the_caller : OnTheCaller
+on_the_caller = (_, (_, (refl, refl), (_, (refl, refl), (_, (refl, refl), refl))))
+
+pub on_a_thread : OnAThread
+on_a_thread = (_, (_, (refl, refl), (_, (refl, refl), (_, (refl, refl), (_, (refl, refl), (_, (refl, refl), refl))))))
+
+pub jobs_that_end : JobsThatEnd
+jobs_that_end = (_, (_, (refl, refl), (_, (refl, refl), (_, (refl, refl), (_, (refl, refl), (_, (refl, refl), (_, (refl, refl), (_, (refl, refl), (_, (refl, refl), (_, (refl, refl), refl))))))))))
 
 -- the machine once the sleep is armed
 abbrev spawned_one : Machine

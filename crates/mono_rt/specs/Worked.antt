@@ -1,10 +1,11 @@
 -- Worked runs: a list of events, and a list of reports that the machine may answer.
-use Rattle.std.specs.Prelude.{ℕ, List, [], ◌∷◌}
+use Rattle.std.specs.Prelude.{ℕ, List, [], ◌∷◌, Some, None}
 use Rattle.mono_model.specs.declared.Woke.TheVariants as woke
 use Rattle.mono_model.specs.declared.Ended.TheVariants as ended
 use Rattle.mono_rt.specs.Machine.{Machine, start_machine}
 use Rattle.mono_rt.specs.Steps.{Run}
 use Rattle.mono_rt.specs.declared.events.Act.TheVariants as act
+use Rattle.mono_rt.specs.declared.events.How.TheVariants as how
 use Rattle.mono_rt.specs.declared.events.Query.TheVariants as query
 use Rattle.mono_rt.specs.declared.events.TurnStep.{TurnStep}
 use Rattle.mono_rt.specs.declared.events.TurnStep.TheVariants as step
@@ -15,11 +16,15 @@ use Rattle.mono_rt.specs.declared.events.Reply.TheVariants as reply
 use Rattle.mono_rt.specs.declared.events.Refusal.TheVariants as refusal
 use Rattle.mono_rt.specs.declared.events.Report.{Report}
 use Rattle.mono_rt.specs.declared.events.Report.TheVariants as report
+use Rattle.mono_rt.specs.declared.events.Blocking.{Blocking}
 use Rattle.mono_rt.specs.declared.events.Blocking.TheVariants as blocking
 
 -- the start machine with one limit for tasks, jobs and sleeps
+abbrev pub start_with : Blocking → ℕ → Machine
+start_with strategy limit = start_machine (record { tasks = limit; jobs = limit; sleeps = limit }) strategy
+
 abbrev pub start : ℕ → Machine
-start limit = start_machine (record { tasks = limit; jobs = limit; sleeps = limit }) blocking.Attached
+start limit = start_with blocking.Attached limit
 
 -- some machine is left after these reports
 abbrev pub Answers : Machine → List Event → List Report → Type 0
@@ -33,6 +38,13 @@ new_sleep nanos = step.Act (act.NewSleep nanos)
 
 abbrev pub poll : ℕ → TurnStep
 poll s = step.Query (query.Sleep s)
+
+abbrev pub join : ℕ → TurnStep
+join t = step.Query (query.Join t)
+
+-- one job is made and polled
+abbrev pub block_and_poll : Event
+block_and_poll = event.Turn (step.Act (act.Block 3) ∷ step.Query (query.Job 0) ∷ []) end.Pending
 
 -- A deadline that is now: the sleep has elapsed at its first poll.
 abbrev pub DeadlineIsNow : Type 0
@@ -98,3 +110,45 @@ abbrev pub NoRoomFirst : Type 0
 NoRoomFirst = Answers (start 0)
     (spawn ∷ event.Act (act.NewSleep 9223372036854775807000001) ∷ event.Act (act.Wake 0) ∷ [])
     (report.Reply (reply.Refused refusal.AtCapacity) ∷ report.Reply (reply.Refused refusal.AtCapacity) ∷ report.Reply (reply.Refused refusal.NoTask) ∷ [])
+
+-- The refusals of a join, in their order: an output is handed out once, then it is taken, then the handle is dropped; and
+-- a task that was never made has no handle either.
+abbrev pub RefusalsOfJoin : Type 0
+RefusalsOfJoin = Answers (start 16)
+    (spawn ∷ spawn ∷ event.Turn (join 1 ∷ []) end.Pending ∷ event.Turn [] (end.Ready 9) ∷ event.Turn (join 1 ∷ join 1 ∷ step.Act (act.DropJoin 1) ∷ join 1 ∷ join 5 ∷ []) end.Pending ∷ [])
+    (report.Reply (reply.Task 0) ∷ report.Reply (reply.Task 1) ∷ report.Turn 0 (reply.Pending ∷ []) ended.Idle ∷ report.Turn 1 [] ended.Done
+    ∷ report.Turn 0 (reply.Output 9 ∷ reply.Refused refusal.Taken ∷ reply.Dropped None ∷ reply.Refused refusal.NoHandle ∷ reply.Refused refusal.NoTask ∷ []) ended.Idle ∷ [])
+
+-- Doubles in the inbox: a task that waits there is not listed again, and the drain wakes it once.
+abbrev pub DoublesInInbox : Type 0
+DoublesInInbox = Answers (start 16)
+    (spawn ∷ event.Turn [] end.Pending ∷ event.Remote 0 ∷ event.Remote 0 ∷ event.Drain ∷ event.Drain ∷ event.Turn [] end.Pending ∷ [])
+    (report.Reply (reply.Task 0) ∷ report.Turn 0 [] ended.Idle ∷ report.Listed ∷ report.Unlisted ∷ report.Drained (0 ∷ []) ∷ report.Drained [] ∷ report.Turn 0 [] ended.Idle ∷ [])
+
+-- Two causes: with no room, also a job that may not be made here is refused for want of room.
+abbrev pub TwoCauses : Type 0
+TwoCauses = Answers (start_with blocking.Panic 0)
+    (spawn ∷ event.Act (act.Block 3) ∷ event.Act (act.NewSleep 9223372036854775807000001) ∷ [])
+    (report.Reply (reply.Refused refusal.AtCapacity) ∷ report.Reply (reply.Refused refusal.AtCapacity) ∷ report.Reply (reply.Refused refusal.AtCapacity) ∷ [])
+
+-- Three strategies: a job is refused, has run on the caller, or runs until its end is told.
+abbrev pub NoPool : Type 0
+NoPool = Answers (start_with blocking.Panic 4) (event.Act (act.Block 3) ∷ []) (report.Reply (reply.Refused refusal.NoPool) ∷ [])
+
+abbrev pub OnTheCaller : Type 0
+OnTheCaller = Answers (start_with blocking.ExecuteLocal 4)
+    (spawn ∷ block_and_poll ∷ event.Act (act.JobEnd 0 how.Ran) ∷ [])
+    (report.Reply (reply.Task 0) ∷ report.Turn 0 (reply.Job 0 ∷ reply.Output 3 ∷ []) ended.Idle ∷ report.Reply (reply.Refused refusal.Ended) ∷ [])
+
+abbrev pub OnAThread : Type 0
+OnAThread = Answers (start_with blocking.Attached 4)
+    (spawn ∷ block_and_poll ∷ event.Act (act.JobEnd 0 how.Canceled) ∷ event.Remote 0 ∷ event.Drain ∷ [])
+    (report.Reply (reply.Task 0) ∷ report.Turn 0 (reply.Job 0 ∷ reply.Pending ∷ []) ended.Idle ∷ report.Reply (reply.Ended (Some 0)) ∷ report.Listed ∷ report.Drained (0 ∷ []) ∷ [])
+
+-- The end of a job whose handle was dropped changes nothing, and no output comes out of one that was canceled.
+abbrev pub JobsThatEnd : Type 0
+JobsThatEnd = Answers (start_with blocking.Attached 4)
+    (event.Act (act.Block 3) ∷ event.Act (act.Block 4) ∷ event.Act (act.DropJob 0) ∷ event.Act (act.JobEnd 0 how.Ran) ∷ event.Act (act.JobEnd 1 how.Canceled) ∷ event.Act (act.JobFinished 1)
+    ∷ event.Act (act.DropJob 1) ∷ event.Act (act.DropJob 1) ∷ event.Act (act.JobEnd 2 how.Ran) ∷ [])
+    (report.Reply (reply.Job 0) ∷ report.Reply (reply.Job 1) ∷ report.Reply (reply.Dropped None) ∷ report.Reply (reply.Ended None) ∷ report.Reply (reply.Ended None) ∷ report.Reply reply.Yes
+    ∷ report.Reply (reply.Dropped None) ∷ report.Reply (reply.Refused refusal.NoHandle) ∷ report.Reply (reply.Refused refusal.NoTask) ∷ [])

@@ -3,7 +3,8 @@ use crate::{Ended, List, Woke};
 
 /// A call that stands by itself or in a turn.
 ///
-/// Tasks and sleeps go by their numbers, which count from 0 and are never given twice.
+/// Tasks, jobs and sleeps go by their numbers, which count from 0 and are never given twice. A task or a job has a handle,
+/// which is kept until it is dropped. Where several refusals are named, the first that holds is the answer.
 #[derive(Clone, Copy, Debug, PartialEq, Eq)]
 pub enum Act {
     /// Makes a task, which is queued last. Refused as `AtCapacity`.
@@ -13,6 +14,30 @@ pub enum Act {
     /// Makes a sleep until a deadline, in nanoseconds from the clock's zero; it is not armed yet. Refused as
     /// `AtCapacity`, and then as `Invalid`.
     NewSleep(u128),
+    /// Drops the handle of a task. A task that has finished is gone, and an output that nobody took comes back; any other
+    /// runs on, and nobody waits for it. Refused as `NoTask`, and then as `NoHandle`.
+    DropJoin(u64),
+    /// Makes a blocking job whose output will have this number. Refused as `AtCapacity`, and then as `NoPool`.
+    Block(u64),
+    /// Drops the handle of a job, which is gone; an output that nobody took comes back. Refused as `NoTask`, and then as
+    /// `NoHandle`.
+    DropJob(u64),
+    /// Asks whether a task has finished. Refused as `NoTask`, and then as `NoHandle`.
+    Finished(u64),
+    /// Asks whether a job has ended. Refused as `NoTask`, and then as `NoHandle`.
+    JobFinished(u64),
+    /// A job has ended. Its waiter is answered and waits no longer; it is not woken. Refused as `NoTask`, and then as
+    /// `Ended`; the end of a job whose handle was dropped changes nothing.
+    JobEnd(u64, How),
+}
+
+/// How a job ended.
+#[derive(Clone, Copy, Debug, PartialEq, Eq)]
+pub enum How {
+    /// It ran, and its output is there.
+    Ran,
+    /// It was canceled, and has no output.
+    Canceled,
 }
 
 /// A poll, by the task whose turn it is.
@@ -20,6 +45,10 @@ pub enum Act {
 pub enum Query {
     /// Polls a sleep. One that was never polled is armed first. Refused as `NoTimer`.
     Sleep(u64),
+    /// Polls for the output of a task. Refused as `NoTask`, then as `NoHandle`, and then as `Taken`.
+    Join(u64),
+    /// Polls for the output of a job. Refused as `NoTask`, then as `NoHandle`, and then as `Taken`.
+    Job(u64),
 }
 
 /// One step of a turn.
@@ -49,6 +78,10 @@ pub enum Event {
     Turn(List<TurnStep>, End),
     /// The clock shows so many nanoseconds from its zero. Refused as `Invalid`.
     Clock(u128),
+    /// Another thread wakes a task, which then waits in the inbox. Refused as `NoTask`.
+    Remote(u64),
+    /// Each task that waits in the inbox is woken, in order.
+    Drain,
 }
 
 /// Why an act, a poll or an event was refused. Nothing has changed then.
@@ -56,14 +89,22 @@ pub enum Event {
 pub enum Refusal {
     /// No task is queued.
     Idle,
-    /// No task was ever given this number.
+    /// No task or job was ever given this number.
     NoTask,
     /// No sleep was ever given this number, or it is gone.
     NoTimer,
-    /// As many tasks or sleeps are there as the limit allows, or their numbers are used up: the next is 2^64 - 1.
+    /// The handle of the task or the job was dropped.
+    NoHandle,
+    /// The output of the task or the job was taken, or it is known already that the job has none.
+    Taken,
+    /// As many tasks, jobs or sleeps are there as the limit allows, or their numbers are used up: the next is 2^64 - 1.
     AtCapacity,
     /// A deadline or a clock value is above `MAX_NANOS`.
     Invalid,
+    /// No blocking job may be made here.
+    NoPool,
+    /// The job has ended already.
+    Ended,
 }
 
 /// The answer to an act or a poll.
@@ -75,10 +116,24 @@ pub enum Reply {
     Woke(Woke),
     /// The sleep with this number was made.
     Sleep(u64),
-    /// The sleep is armed, and the task that polled is the one that it wakes.
+    /// The handle was dropped. An output that nobody took comes back.
+    Dropped(Option<u64>),
+    /// The job with this number was made.
+    Job(u64),
+    /// The task has finished, or the job has ended.
+    Yes,
+    /// It has not.
+    No,
+    /// The job has ended, and this task waited for it.
+    Ended(Option<u64>),
+    /// The sleep is armed, or the output is to come, and the task that polled is the one that is woken.
     Pending,
     /// The sleep has elapsed.
     Ready,
+    /// The output of the task or the job.
+    Output(u64),
+    /// The job was canceled.
+    Canceled,
     /// The act or the poll was refused.
     Refused(Refusal),
 }
@@ -92,6 +147,12 @@ pub enum Report {
     Turn(u64, List<Reply>, Ended),
     /// The sleeps that were due at this clock step, in the order in which they fired.
     Fired(List<u64>),
+    /// The task that another thread woke waits in the inbox, last.
+    Listed,
+    /// The task that another thread woke has finished or waits in the inbox already.
+    Unlisted,
+    /// The tasks that waited in the inbox, in order. Each was woken.
+    Drained(List<u64>),
 }
 
 /// How many tasks, jobs and sleeps may be there at a time.

@@ -29,6 +29,15 @@ impl<T> List<T> {
     }
 }
 
+impl<T> From<Vec<T>> for List<T> {
+    /// The list of the items of a vector.
+    fn from(items: Vec<T>) -> List<T>
+        ensures { result ≡ items.items }
+    {
+        List { items }
+    }
+}
+
 impl<T: Drop> List<T> {
     /// Puts an item at the end. Where memory is refused the list stays as it was.
     pub fn push(&mut self, item: T) -> Result<(), AllocError>

@@ -1,5 +1,5 @@
 // Worked runs of the machine.
-ghost use Rattle.mono_rt.specs.Worked.{DeadlineIsNow, BothRoundings, NoneIsEarly, NoneIsLeftOut, FarSleeps, Ties, WokenInOwnTurn, LatestWaker, EndOfTheType, ClockGoesBack, NoRoomFirst};
+ghost use Rattle.mono_rt.specs.Worked.{DeadlineIsNow, BothRoundings, NoneIsEarly, NoneIsLeftOut, FarSleeps, Ties, WokenInOwnTurn, LatestWaker, EndOfTheType, ClockGoesBack, NoRoomFirst, RefusalsOfJoin, DoublesInInbox, TwoCauses, NoPool, OnTheCaller, OnAThread, JobsThatEnd};
 
 /// A sleep whose deadline is now has elapsed at its first poll.
 pub fn deadline_is_now()
@@ -54,4 +54,39 @@ pub fn clock_goes_back()
 /// Of two causes the first in order is the answer.
 pub fn no_room_first()
     ensures { NoRoomFirst }
+{}
+
+/// The refusals of a join come in their order, and an output is handed out once.
+pub fn refusals_of_join()
+    ensures { RefusalsOfJoin }
+{}
+
+/// A task that waits in the inbox is not listed again, and the drain wakes it once.
+pub fn doubles_in_inbox()
+    ensures { DoublesInInbox }
+{}
+
+/// With no room, also a job that may not be made here is refused for want of room.
+pub fn two_causes()
+    ensures { TwoCauses }
+{}
+
+/// Where jobs run nowhere, one is refused.
+pub fn no_pool()
+    ensures { NoPool }
+{}
+
+/// Where jobs run on the caller, one has ended once it is made.
+pub fn on_the_caller()
+    ensures { OnTheCaller }
+{}
+
+/// Where jobs run on threads, the end of one answers who waited for it, and wakes nobody.
+pub fn on_a_thread()
+    ensures { OnAThread }
+{}
+
+/// The end of a dropped job changes nothing, and no output comes out of a canceled one.
+pub fn jobs_that_end()
+    ensures { JobsThatEnd }
 {}

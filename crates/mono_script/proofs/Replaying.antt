@@ -10,6 +10,8 @@ use Rattle.std.specs.Str.Parse.{AllDigits}
 use Rattle.std.specs.Prelude.{◌==◌}
 use Rattle.mono_rt.specs.declared.events.Act.{Act}
 use Rattle.mono_rt.specs.declared.events.Act.TheVariants as act
+use Rattle.mono_rt.specs.declared.events.How.{How}
+use Rattle.mono_rt.specs.declared.events.How.TheVariants as how
 use Rattle.mono_rt.specs.declared.events.Query.TheVariants as query
 use Rattle.mono_rt.specs.declared.events.TurnStep.{TurnStep}
 use Rattle.mono_rt.specs.declared.events.TurnStep.TheVariants as step
@@ -24,7 +26,7 @@ use Rattle.mono_rt.specs.declared.executor.Exec.{Exec}
 use Rattle.mono_rt.specs.Machine.{Machine, start_machine}
 use Rattle.mono_rt.specs.Steps.{Step, Run}
 use Rattle.mono_rt.specs.Stands.{Stands}
-use Rattle.mono_script.specs.Written.{act_text, step_text, end_text, parts_text, event_text, FitsAct, FitsStep, FitsEnd, FitSteps, FitsEvent, report_line}
+use Rattle.mono_script.specs.Written.{how_text, act_text, step_text, end_text, parts_text, event_text, FitsAct, FitsStep, FitsEnd, FitSteps, FitsEvent, report_line}
 use Rattle.mono_script.specs.Lines.{Line, onto_first, lines, IsEventLine, AreEventLines, IsFirstBad, BeginsWith, BeginsWithNone}
 use Rattle.mono_script.specs.Answers.{IsReplayed, Answers}
 
@@ -48,14 +50,27 @@ no_feed_digits (c ∷ cs) d =
 no_feed_number : (word : List ℕ) (n : ℕ) → NoFeed word → n < 10 ^ 64 → NoFeed (word ++ decimal n)
 no_feed_number word n p l = no_feed_both word (decimal n) p (no_feed_digits (decimal n) (decimal_is_IsNumeral_wide n l).0.1)
 
+no_feed_how : (h : How) → NoFeed (how_text h)
+no_feed_how how.Ran = (refl, (refl, (refl, tt)))
+no_feed_how how.Canceled = (refl, (refl, (refl, (refl, (refl, (refl, (refl, (refl, tt))))))))
+
 no_feed_act : (a : Act) → FitsAct a → NoFeed (act_text a)
 no_feed_act act.Spawn f = (refl, (refl, (refl, (refl, (refl, tt)))))
 no_feed_act (act.Wake t) f = no_feed_number (codes "wake ") t (refl, (refl, (refl, (refl, (refl, tt))))) (omega arith)
 no_feed_act (act.NewSleep n) f = no_feed_number (codes "sleep ") n (refl, (refl, (refl, (refl, (refl, (refl, tt)))))) (omega arith)
+no_feed_act (act.DropJoin t) f = no_feed_number (codes "drop-join ") t (refl, (refl, (refl, (refl, (refl, (refl, (refl, (refl, (refl, (refl, tt)))))))))) (omega arith)
+no_feed_act (act.Block o) f = no_feed_number (codes "block ") o (refl, (refl, (refl, (refl, (refl, (refl, tt)))))) (omega arith)
+no_feed_act (act.DropJob j) f = no_feed_number (codes "drop-job ") j (refl, (refl, (refl, (refl, (refl, (refl, (refl, (refl, (refl, tt))))))))) (omega arith)
+no_feed_act (act.Finished t) f = no_feed_number (codes "finished ") t (refl, (refl, (refl, (refl, (refl, (refl, (refl, (refl, (refl, tt))))))))) (omega arith)
+no_feed_act (act.JobFinished j) f = no_feed_number (codes "job-finished ") j (refl, (refl, (refl, (refl, (refl, (refl, (refl, (refl, (refl, (refl, (refl, (refl, (refl, tt))))))))))))) (omega arith)
+no_feed_act (act.JobEnd j h) f =
+    no_feed_both (codes "job-end " ++ decimal j ++ codes " ") (how_text h) (no_feed_both (codes "job-end " ++ decimal j) (codes " ") (no_feed_number (codes "job-end ") j (refl, (refl, (refl, (refl, (refl, (refl, (refl, (refl, tt)))))))) (omega arith)) (refl, tt)) (no_feed_how h)
 
 no_feed_step : (s : TurnStep) → FitsStep s → NoFeed (step_text s)
 no_feed_step (step.Act a) f = no_feed_act a f
 no_feed_step (step.Query (query.Sleep s)) f = no_feed_number (codes "poll ") s (refl, (refl, (refl, (refl, (refl, tt))))) (omega arith)
+no_feed_step (step.Query (query.Join t)) f = no_feed_number (codes "join ") t (refl, (refl, (refl, (refl, (refl, tt))))) (omega arith)
+no_feed_step (step.Query (query.Job j)) f = no_feed_number (codes "job ") j (refl, (refl, (refl, (refl, tt)))) (omega arith)
 
 no_feed_end : (e : End) → FitsEnd e → NoFeed (end_text e)
 no_feed_end end.Pending f = (refl, (refl, (refl, (refl, (refl, (refl, (refl, tt)))))))
@@ -69,6 +84,8 @@ no_feed_event : (e : Event) → FitsEvent e → NoFeed (event_text e)
 no_feed_event (event.Act a) f = no_feed_act a f
 no_feed_event (event.Turn steps e) f = (refl, (refl, (refl, (refl, no_feed_parts steps e f.0 f.1))))
 no_feed_event (event.Clock n) f = no_feed_number (codes "clock ") n (refl, (refl, (refl, (refl, (refl, (refl, tt)))))) (omega arith)
+no_feed_event (event.Remote t) f = no_feed_number (codes "remote ") t (refl, (refl, (refl, (refl, (refl, (refl, (refl, tt))))))) (omega arith)
+no_feed_event event.Drain f = (refl, (refl, (refl, (refl, (refl, tt)))))
 
 -- ---- lines
 

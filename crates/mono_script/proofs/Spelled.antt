@@ -5,6 +5,8 @@ use Rattle.std.proofs.lemmas.List.{append-nil}
 use Rattle.std.specs.Fmt.{decimal}
 use Rattle.mono_rt.specs.declared.events.Act.{Act}
 use Rattle.mono_rt.specs.declared.events.Act.TheVariants as act
+use Rattle.mono_rt.specs.declared.events.How.{How}
+use Rattle.mono_rt.specs.declared.events.How.TheVariants as how
 use Rattle.mono_rt.specs.declared.events.Query.{Query}
 use Rattle.mono_rt.specs.declared.events.Query.TheVariants as query
 use Rattle.mono_rt.specs.declared.events.TurnStep.{TurnStep}
@@ -13,9 +15,9 @@ use Rattle.mono_rt.specs.declared.events.End.{End}
 use Rattle.mono_rt.specs.declared.events.End.TheVariants as end
 use Rattle.mono_rt.specs.declared.events.Event.{Event}
 use Rattle.mono_rt.specs.declared.events.Event.TheVariants as event
-use Rattle.mono_script.specs.Written.{act_text, step_text, end_text, parts_text, event_text, FitsAct, FitsStep, FitsEnd, FitSteps, FitsEvent}
+use Rattle.mono_script.specs.Written.{how_text, act_text, step_text, end_text, parts_text, event_text, FitsAct, FitsStep, FitsEnd, FitSteps, FitsEvent}
 use Rattle.mono_script.specs.Lines.{BeginsWith, BeginsWithNone}
-use Rattle.mono_script.specs.Reading.{Gives, GivesIf, Read, when, mapped, then_read, ends_or, word_at, digits_from, s_act_at, act_at, number_at, nanos_at, step_at, end_at, parts_at, event_at, line_at}
+use Rattle.mono_script.specs.Reading.{Gives, GivesIf, Read, when, mapped, then_read, ends_or, word_at, digits_from, s_act_at, drop_at, how_at, job_act_at, other_act_at, act_at, job_step_at, number_at, nanos_at, step_at, end_at, parts_at, event_at, line_at}
 use Rattle.mono_script.proofs.Words.{word_is}
 use Rattle.mono_script.proofs.Digits.{digits_found, digits_again, starts_digit}
 
@@ -51,6 +53,9 @@ numbered_found top word make bytes r y rest some bound w e =
     let d = digits_found top r k.0 rest some bound k.1 in
     (k.0, k.2, word_is word bytes r w ∙ ap (λ x. word ++ x) d.0 ∙ sym (append_assoc word (decimal k.0) rest), d.1)
 
+regroup : (a b c d e : List ℕ) → a ++ (b ++ (c ++ d ++ e)) ≡ a ++ b ++ c ++ d ++ e
+regroup a b c d e = grind (arith, append_assoc)
+
 small : 2 ^ 64 ≤ 10 ^ 64
 small = lit≤ tt
 
@@ -76,20 +81,112 @@ s_act_found bytes a rest e = elim (when_cases (word_at (codes "spawn") bytes) _ 
   ]
 ]
 
-act_found : (bytes : List ℕ) (a : Act) (rest : List ℕ) → act_at bytes ≡ Some (a, rest) → ActIs bytes rest a
-unfolding act_at
-act_found bytes a rest e = elim (chosen (slice_index bytes 0 == 115) _ _ _ e) [
-  | inl s ↦ s_act_found bytes a rest s.1
-  | inr o ↦ elim (when_cases (word_at (codes "wake ") bytes) _ _ _ o.1) [
+drop_found : (bytes : List ℕ) (a : Act) (rest : List ℕ) → drop_at bytes ≡ Some (a, rest) → ActIs bytes rest a
+unfolding drop_at
+drop_found bytes a rest e = elim (when_cases (word_at (codes "drop-join ") bytes) _ _ _ e) [
+  | inl u ↦
+      let k = numbered_found (2 ^ 64) (codes "drop-join ") act.DropJoin bytes u.0 a rest (lit< tt) small u.1 u.2 in
+      subst (ActIs bytes rest) k.1 (k.2, k.3)
+  | inr w0 ↦ elim (when_cases (word_at (codes "drop-job ") bytes) _ _ _ w0.1) [
     | inl u ↦
-        let k = numbered_found (2 ^ 64) (codes "wake ") act.Wake bytes u.0 a rest (lit< tt) small u.1 u.2 in
+        let k = numbered_found (2 ^ 64) (codes "drop-job ") act.DropJob bytes u.0 a rest (lit< tt) small u.1 u.2 in
+        subst (ActIs bytes rest) k.1 (k.2, k.3)
+    | inr w1 ↦ cc w1.1
+  ]
+]
+
+how_found : (bytes : List ℕ) (h : How) (rest : List ℕ) → how_at bytes ≡ Some (h, rest) → bytes ≡ how_text h ++ rest
+how_found bytes h rest e = elim (when_cases (word_at (codes "ran") bytes) _ _ _ e) [
+  | inl w ↦
+      let k : (how.Ran ≡ h) × (w.0 ≡ rest) = grind (arith, w.2) in
+      subst (λ x. bytes ≡ how_text x ++ rest) k.0 (word_is (codes "ran") bytes w.0 w.1 ∙ ap (λ r. codes "ran" ++ r) k.1)
+  | inr w ↦ elim (when_cases (word_at (codes "canceled") bytes) _ _ _ w.1) [
+    | inl u ↦
+        let k : (how.Canceled ≡ h) × (u.0 ≡ rest) = grind (arith, u.2) in
+        subst (λ x. bytes ≡ how_text x ++ rest) k.0 (word_is (codes "canceled") bytes u.0 u.1 ∙ ap (λ r. codes "canceled" ++ r) k.1)
+    | inr u ↦ cc u.1
+  ]
+]
+
+job_end_found : (bytes r : List ℕ) (a : Act) (rest : List ℕ) → word_at (codes "job-end ") bytes ≡ Some r
+    → then_read (number_at r) (λ j rest. when (word_at (codes " ") rest) (λ q. mapped (act.JobEnd j) (how_at q)) None) ≡ Some (a, rest) → ActIs bytes rest a
+job_end_found bytes r a rest w e =
+    let s = then_some (number_at r) (λ j rest. when (word_at (codes " ") rest) (λ q. mapped (act.JobEnd j) (how_at q)) None) (a, rest) e in
+    let n = digits_found (2 ^ 64) r s.0 s.1 (lit< tt) small s.2 in
+    elim (when_cases (word_at (codes " ") s.1) _ _ _ s.3) [
+      | inl u ↦
+          let k = mapped_some (act.JobEnd s.0) (how_at u.0) a rest u.2 in
+          let h = how_found u.0 k.0 rest k.1 in
+          let front : bytes ≡ codes "job-end " ++ (decimal s.0 ++ s.1) = word_is (codes "job-end ") bytes r w ∙ ap (λ x. codes "job-end " ++ x) n.0 in
+          let behind : s.1 ≡ codes " " ++ (how_text k.0 ++ rest) = word_is (codes " ") s.1 u.0 u.1 ∙ ap (λ x. codes " " ++ x) h in
+          let all : bytes ≡ act_text (act.JobEnd s.0 k.0) ++ rest = front ∙ ap (λ x. codes "job-end " ++ (decimal s.0 ++ x)) behind
+          ∙ regroup (codes "job-end ") (decimal s.0) (codes " ") (how_text k.0) rest in
+          subst (ActIs bytes rest) k.2 (all, n.1)
+      | inr u ↦ cc u.1
+    ]
+
+job_act_found : (bytes : List ℕ) (a : Act) (rest : List ℕ) → job_act_at bytes ≡ Some (a, rest) → ActIs bytes rest a
+unfolding job_act_at
+job_act_found bytes a rest e = elim (when_cases (word_at (codes "job-end ") bytes) _ _ _ e) [
+  | inl w ↦ job_end_found bytes w.0 a rest w.1 w.2
+  | inr w ↦ elim (when_cases (word_at (codes "job-finished ") bytes) _ _ _ w.1) [
+    | inl u ↦
+        let k = numbered_found (2 ^ 64) (codes "job-finished ") act.JobFinished bytes u.0 a rest (lit< tt) small u.1 u.2 in
         subst (ActIs bytes rest) k.1 (k.2, k.3)
     | inr u ↦ cc u.1
   ]
 ]
 
+other_act_found : (bytes : List ℕ) (a : Act) (rest : List ℕ) → other_act_at bytes ≡ Some (a, rest) → ActIs bytes rest a
+unfolding other_act_at
+other_act_found bytes a rest e = elim (when_cases (word_at (codes "wake ") bytes) _ _ _ e) [
+  | inl u ↦
+      let k = numbered_found (2 ^ 64) (codes "wake ") act.Wake bytes u.0 a rest (lit< tt) small u.1 u.2 in
+      subst (ActIs bytes rest) k.1 (k.2, k.3)
+  | inr w0 ↦ elim (when_cases (word_at (codes "block ") bytes) _ _ _ w0.1) [
+    | inl u ↦
+        let k = numbered_found (2 ^ 64) (codes "block ") act.Block bytes u.0 a rest (lit< tt) small u.1 u.2 in
+        subst (ActIs bytes rest) k.1 (k.2, k.3)
+    | inr w1 ↦ elim (when_cases (word_at (codes "finished ") bytes) _ _ _ w1.1) [
+      | inl u ↦
+          let k = numbered_found (2 ^ 64) (codes "finished ") act.Finished bytes u.0 a rest (lit< tt) small u.1 u.2 in
+          subst (ActIs bytes rest) k.1 (k.2, k.3)
+      | inr w2 ↦ cc w2.1
+    ]
+  ]
+]
+
+act_found : (bytes : List ℕ) (a : Act) (rest : List ℕ) → act_at bytes ≡ Some (a, rest) → ActIs bytes rest a
+unfolding act_at
+act_found bytes a rest e = elim (chosen (slice_index bytes 0 == 115) _ _ _ e) [
+  | inl s ↦ s_act_found bytes a rest s.1
+  | inr v ↦ elim (chosen (slice_index bytes 0 == 100) _ _ _ v.1) [
+    | inl s ↦ drop_found bytes a rest s.1
+    | inr v ↦ elim (chosen (slice_index bytes 0 == 106) _ _ _ v.1) [
+      | inl s ↦ job_act_found bytes a rest s.1
+      | inr o ↦ other_act_found bytes a rest o.1
+    ]
+  ]
+]
+
 abbrev StepIs : List ℕ → List ℕ → TurnStep → Type 0
 StepIs bytes rest s = (bytes ≡ step_text s ++ rest) × FitsStep s
+
+job_step_found : (bytes : List ℕ) (s : TurnStep) (rest : List ℕ) → job_step_at bytes ≡ Some (s, rest) → StepIs bytes rest s
+unfolding job_step_at
+job_step_found bytes s rest e = elim (when_cases (word_at (codes "join ") bytes) _ _ _ e) [
+  | inl u ↦
+      let k = numbered_found (2 ^ 64) (codes "join ") (λ t. step.Query (query.Join t)) bytes u.0 s rest (lit< tt) small u.1 u.2 in
+      subst (StepIs bytes rest) k.1 (k.2, k.3)
+  | inr w0 ↦ elim (when_cases (word_at (codes "job ") bytes) _ _ _ w0.1) [
+    | inl u ↦
+        let k = numbered_found (2 ^ 64) (codes "job ") (λ j. step.Query (query.Job j)) bytes u.0 s rest (lit< tt) small u.1 u.2 in
+        subst (StepIs bytes rest) k.1 (k.2, k.3)
+    | inr w1 ↦
+        let k = mapped_some step.Act (job_act_at bytes) s rest w1.1 in
+        subst (StepIs bytes rest) k.2 (job_act_found bytes k.0 rest k.1)
+  ]
+]
 
 step_found : (bytes : List ℕ) (s : TurnStep) (rest : List ℕ) → step_at bytes ≡ Some (s, rest) → StepIs bytes rest s
 unfolding step_at
@@ -100,9 +197,12 @@ step_found bytes s rest e = elim (chosen (slice_index bytes 0 == 112) _ _ _ e) [
         subst (StepIs bytes rest) k.1 (k.2, k.3)
     | inr u ↦ cc u.1
   ]
-  | inr o ↦
-      let k = mapped_some step.Act (act_at bytes) s rest o.1 in
-      subst (StepIs bytes rest) k.2 (act_found bytes k.0 rest k.1)
+  | inr v ↦ elim (chosen (slice_index bytes 0 == 106) _ _ _ v.1) [
+    | inl j ↦ job_step_found bytes s rest j.1
+    | inr o ↦
+        let k = mapped_some step.Act (act_at bytes) s rest o.1 in
+        subst (StepIs bytes rest) k.2 (act_found bytes k.0 rest k.1)
+  ]
 ]
 
 abbrev EndIs : List ℕ → List ℕ → End → Type 0
@@ -176,9 +276,19 @@ event_found bytes e rest h = elim (when_cases (word_at (codes "turn") bytes) _ _
     | inl u ↦
         let k = numbered_found (2 ^ 128) (codes "clock ") event.Clock bytes u.0 e rest (lit< tt) large u.1 u.2 in
         subst (EventIs bytes rest) k.1 (k.2, k.3)
-    | inr u ↦
-        let k = mapped_some event.Act (act_at bytes) e rest u.1 in
-        subst (EventIs bytes rest) k.2 (act_found bytes k.0 rest k.1)
+    | inr w ↦ elim (when_cases (word_at (codes "remote ") bytes) _ _ _ w.1) [
+      | inl u ↦
+          let k = numbered_found (2 ^ 64) (codes "remote ") event.Remote bytes u.0 e rest (lit< tt) small u.1 u.2 in
+          subst (EventIs bytes rest) k.1 (k.2, k.3)
+      | inr w ↦ elim (when_cases (word_at (codes "drain") bytes) _ _ _ w.1) [
+        | inl u ↦
+            let k : (event.Drain ≡ e) × (u.0 ≡ rest) = grind (arith, u.2) in
+            subst (EventIs bytes rest) k.0 (word_is (codes "drain") bytes u.0 u.1 ∙ ap (λ r. codes "drain" ++ r) k.1, tt)
+        | inr u ↦
+            let k = mapped_some event.Act (act_at bytes) e rest u.1 in
+            subst (EventIs bytes rest) k.2 (act_found bytes k.0 rest k.1)
+      ]
+    ]
   ]
 ]
 
@@ -197,23 +307,43 @@ line_found bytes e rest h =
 
 -- ---- what is spelled so is read
 
+how_again : (h : How) (rest : List ℕ) → how_at (how_text h ++ rest) ≡ Some (h, rest)
+how_again how.Ran rest = refl
+how_again how.Canceled rest = refl
+
 act_again : (a : Act) (rest : List ℕ) → FitsAct a → starts_digit rest ≡ false → act_at (act_text a ++ rest) ≡ Some (a, rest)
-unfolding act_at s_act_at
+unfolding act_at s_act_at drop_at job_act_at other_act_at
 act_again act.Spawn rest f d = refl
 act_again (act.Wake t) rest f d = rw (digits_again (2 ^ 64) t rest small f d) refl
 act_again (act.NewSleep n) rest f d = rw (digits_again (2 ^ 128) n rest large f d) refl
+act_again (act.DropJoin t) rest f d = rw (digits_again (2 ^ 64) t rest small f d) refl
+act_again (act.Block o) rest f d = rw (digits_again (2 ^ 64) o rest small f d) refl
+act_again (act.DropJob j) rest f d = rw (digits_again (2 ^ 64) j rest small f d) refl
+act_again (act.Finished t) rest f d = rw (digits_again (2 ^ 64) t rest small f d) refl
+act_again (act.JobFinished j) rest f d = rw (digits_again (2 ^ 64) j rest small f d) refl
+act_again (act.JobEnd j h) rest f d =
+    ap act_at (sym (regroup (codes "job-end ") (decimal j) (codes " ") (how_text h) rest))
+    ∙ rw (digits_again (2 ^ 64) j (codes " " ++ how_text h ++ rest) small f refl, how_again h rest) refl
 
 -- where an act stands, no other word does
 act_is_no_poll : (a : Act) (rest : List ℕ) → FitsAct a → step_at (act_text a ++ rest) ≡ mapped step.Act (act_at (act_text a ++ rest))
-unfolding step_at
+unfolding step_at job_step_at act_at
 act_is_no_poll act.Spawn rest f = refl
 act_is_no_poll (act.Wake t) rest f = refl
 act_is_no_poll (act.NewSleep n) rest f = refl
+act_is_no_poll (act.DropJoin t) rest f = refl
+act_is_no_poll (act.Block o) rest f = refl
+act_is_no_poll (act.DropJob j) rest f = refl
+act_is_no_poll (act.Finished t) rest f = refl
+act_is_no_poll (act.JobFinished j) rest f = refl
+act_is_no_poll (act.JobEnd j h) rest f = refl
 
 step_again : (s : TurnStep) (rest : List ℕ) → FitsStep s → starts_digit rest ≡ false → step_at (step_text s ++ rest) ≡ Some (s, rest)
-unfolding step_at
+unfolding step_at job_step_at
 step_again (step.Act a) rest f d = act_is_no_poll a rest f ∙ rw (act_again a rest f d) refl
 step_again (step.Query (query.Sleep s)) rest f d = rw (digits_again (2 ^ 64) s rest small f d) refl
+step_again (step.Query (query.Join t)) rest f d = rw (digits_again (2 ^ 64) t rest small f d) refl
+step_again (step.Query (query.Job j)) rest f d = rw (digits_again (2 ^ 64) j rest small f d) refl
 
 end_again : (e : End) (rest : List ℕ) → FitsEnd e → starts_digit rest ≡ false → end_at (end_text e ++ rest) ≡ Some (Some (e, rest))
 unfolding end_at
@@ -225,11 +355,19 @@ unfolding end_at
 act_is_no_end act.Spawn rest f = refl
 act_is_no_end (act.Wake t) rest f = refl
 act_is_no_end (act.NewSleep n) rest f = refl
+act_is_no_end (act.DropJoin t) rest f = refl
+act_is_no_end (act.Block o) rest f = refl
+act_is_no_end (act.DropJob j) rest f = refl
+act_is_no_end (act.Finished t) rest f = refl
+act_is_no_end (act.JobFinished j) rest f = refl
+act_is_no_end (act.JobEnd j h) rest f = refl
 
 step_is_no_end : (s : TurnStep) (rest : List ℕ) → FitsStep s → end_at (step_text s ++ rest) ≡ None
 unfolding end_at
 step_is_no_end (step.Act a) rest f = act_is_no_end a rest f
 step_is_no_end (step.Query (query.Sleep s)) rest f = refl
+step_is_no_end (step.Query (query.Join t)) rest f = refl
+step_is_no_end (step.Query (query.Job j)) rest f = refl
 
 -- parts begin with a semicolon
 parts_no_digit : (steps : List TurnStep) (e : End) (rest : List ℕ) → starts_digit (parts_text steps e ++ rest) ≡ false
@@ -256,6 +394,12 @@ unfolding event_at
 act_is_no_event act.Spawn rest f = refl
 act_is_no_event (act.Wake t) rest f = refl
 act_is_no_event (act.NewSleep n) rest f = refl
+act_is_no_event (act.DropJoin t) rest f = refl
+act_is_no_event (act.Block o) rest f = refl
+act_is_no_event (act.DropJob j) rest f = refl
+act_is_no_event (act.Finished t) rest f = refl
+act_is_no_event (act.JobFinished j) rest f = refl
+act_is_no_event (act.JobEnd j h) rest f = refl
 
 event_again : (e : Event) (rest : List ℕ) → FitsEvent e → starts_digit rest ≡ false → event_at (event_text e ++ rest) ≡ Some (e, rest)
 unfolding event_at
@@ -263,6 +407,8 @@ event_again (event.Act a) rest f d = act_is_no_event a rest f ∙ rw (act_again 
 event_again (event.Turn steps e) rest f d =
     parts_again steps e (length (parts_text steps e ++ rest)) [] rest (omega (arith, length-append (parts_text steps e) rest, parts_long steps e)) f.0 f.1 d
 event_again (event.Clock n) rest f d = rw (digits_again (2 ^ 128) n rest large f d) refl
+event_again (event.Remote t) rest f d = rw (digits_again (2 ^ 64) t rest small f d) refl
+event_again event.Drain rest f d = refl
 
 pub line_again : (e : Event) (rest : List ℕ) → FitsEvent e → line_at (event_text e ++ 10 ∷ rest) ≡ Some (e, rest)
 unfolding line_at

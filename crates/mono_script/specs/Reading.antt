@@ -3,6 +3,8 @@ use Rattle.std.specs.Prelude.{◌≡◌, ℕ, zero, suc, ◌+◌, ◌-◌, ◌*�
 use Rattle.std.specs.Char.{is_ascii_digit}
 use Rattle.mono_rt.specs.declared.events.Act.{Act}
 use Rattle.mono_rt.specs.declared.events.Act.TheVariants as act
+use Rattle.mono_rt.specs.declared.events.How.{How}
+use Rattle.mono_rt.specs.declared.events.How.TheVariants as how
 use Rattle.mono_rt.specs.declared.events.Query.TheVariants as query
 use Rattle.mono_rt.specs.declared.events.TurnStep.{TurnStep}
 use Rattle.mono_rt.specs.declared.events.TurnStep.TheVariants as step
@@ -71,15 +73,48 @@ abbrev pub then_read : {A B : Type 0} → Read A → (A → List ℕ → Read B)
 then_read None f = None
 then_read (Some x) f = f x.0 x.1
 
+-- an act that drops a handle
+unfoldable pub drop_at : List ℕ → Read Act
+drop_at bytes =
+    when (word_at (codes "drop-join ") bytes) (λ r. mapped act.DropJoin (number_at r))
+    (when (word_at (codes "drop-job ") bytes) (λ r. mapped act.DropJob (number_at r)) None)
+
+abbrev pub how_at : List ℕ → Read How
+how_at bytes = when (word_at (codes "ran") bytes) (λ r. Some (how.Ran, r)) (when (word_at (codes "canceled") bytes) (λ r. Some (how.Canceled, r)) None)
+
+-- an act on a job whose word begins with that of a job
+unfoldable pub job_act_at : List ℕ → Read Act
+job_act_at bytes =
+    when (word_at (codes "job-end ") bytes)
+    (λ r. then_read (number_at r) (λ j rest. when (word_at (codes " ") rest) (λ q. mapped (act.JobEnd j) (how_at q)) None))
+    (when (word_at (codes "job-finished ") bytes) (λ r. mapped act.JobFinished (number_at r)) None)
+
+-- an act whose first letter no other act has
+unfoldable pub other_act_at : List ℕ → Read Act
+other_act_at bytes =
+    when (word_at (codes "wake ") bytes) (λ r. mapped act.Wake (number_at r))
+    (when (word_at (codes "block ") bytes) (λ r. mapped act.Block (number_at r))
+    (when (word_at (codes "finished ") bytes) (λ r. mapped act.Finished (number_at r)) None))
+
 unfoldable pub act_at : List ℕ → Read Act
 act_at bytes =
     if slice_index bytes 0 == 115 then s_act_at bytes
-    else when (word_at (codes "wake ") bytes) (λ r. mapped act.Wake (number_at r)) None
+    else if slice_index bytes 0 == 100 then drop_at bytes
+    else if slice_index bytes 0 == 106 then job_act_at bytes
+    else other_act_at bytes
+
+-- a poll of a task or a job, or an act on a job
+unfoldable pub job_step_at : List ℕ → Read TurnStep
+job_step_at bytes =
+    when (word_at (codes "join ") bytes) (λ r. mapped (λ t. step.Query (query.Join t)) (number_at r))
+    (when (word_at (codes "job ") bytes) (λ r. mapped (λ j. step.Query (query.Job j)) (number_at r))
+    (mapped step.Act (job_act_at bytes)))
 
 unfoldable pub step_at : List ℕ → Read TurnStep
 step_at bytes =
     if slice_index bytes 0 == 112
     then when (word_at (codes "poll ") bytes) (λ r. mapped (λ s. step.Query (query.Sleep s)) (number_at r)) None
+    else if slice_index bytes 0 == 106 then job_step_at bytes
     else mapped step.Act (act_at bytes)
 
 -- where the rest is an end, that end; None where a step has to stand
@@ -109,7 +144,9 @@ unfoldable pub event_at : List ℕ → Read Event
 event_at bytes =
     when (word_at (codes "turn") bytes) (λ r. parts_at (length r) [] r)
     (when (word_at (codes "clock ") bytes) (λ r. mapped event.Clock (nanos_at r))
-    (mapped event.Act (act_at bytes)))
+    (when (word_at (codes "remote ") bytes) (λ r. mapped event.Remote (number_at r))
+    (when (word_at (codes "drain") bytes) (λ r. Some (event.Drain, r))
+    (mapped event.Act (act_at bytes)))))
 
 -- an event and the line feed behind it
 unfoldable pub line_at : List ℕ → Read Event

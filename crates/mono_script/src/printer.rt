@@ -1,6 +1,6 @@
 // Report lines into one vector of bytes.
 ghost use Rattle.std.specs.Prelude.{◌≡◌, ◌++◌, [], ◌∷◌, codes, decimal, flat_map, OnOk};
-ghost use Rattle.mono_script.specs.Written.{reply_text, refusal_text, ended_text, report_text, woke_text, reply_part, number_part, report_line};
+ghost use Rattle.mono_script.specs.Written.{reply_text, refusal_text, ended_text, report_text, number_text, woke_text, reply_part, number_part, report_line};
 
 use itoa::Buffer;
 use mono_rt::{Ended, Refusal, Reply, Report, Woke};
@@ -28,6 +28,16 @@ fn pair(out: &mut Vec<u8>, text: &[u8], n: u64) -> Result<(), AllocError>
     number(out, n)
 }
 
+fn maybe_pair(out: &mut Vec<u8>, text: &[u8], n: Option<u64>) -> Result<(), AllocError>
+    ensures { OnOk result (out.new.items ≡ out.old.items ++ (text.now ++ number_text n)) }
+{
+    word(out, text)?;
+    match n {
+        Some(n) => pair(out, b" ".as_slice(), n),
+        None => Ok(()),
+    }
+}
+
 fn refused_word(refusal: Refusal) -> &'static [u8]
     ensures { result.now ≡ codes "refused " ++ refusal_text refusal }
 {
@@ -35,8 +45,12 @@ fn refused_word(refusal: Refusal) -> &'static [u8]
         Refusal::Idle => b"refused idle".as_slice(),
         Refusal::NoTask => b"refused no-task".as_slice(),
         Refusal::NoTimer => b"refused no-timer".as_slice(),
+        Refusal::NoHandle => b"refused no-handle".as_slice(),
+        Refusal::Taken => b"refused taken".as_slice(),
         Refusal::AtCapacity => b"refused at-capacity".as_slice(),
         Refusal::Invalid => b"refused invalid".as_slice(),
+        Refusal::NoPool => b"refused no-pool".as_slice(),
+        Refusal::Ended => b"refused ended".as_slice(),
     }
 }
 
@@ -68,8 +82,15 @@ fn reply(out: &mut Vec<u8>, reply: Reply) -> Result<(), AllocError>
         Reply::Task(t) => pair(out, b"task ".as_slice(), t),
         Reply::Woke(woke) => word(out, woke_word(woke)),
         Reply::Sleep(s) => pair(out, b"sleep ".as_slice(), s),
+        Reply::Dropped(o) => maybe_pair(out, b"dropped".as_slice(), o),
+        Reply::Job(j) => pair(out, b"job ".as_slice(), j),
+        Reply::Yes => word(out, b"yes".as_slice()),
+        Reply::No => word(out, b"no".as_slice()),
+        Reply::Ended(t) => maybe_pair(out, b"ended".as_slice(), t),
         Reply::Pending => word(out, b"pending".as_slice()),
         Reply::Ready => word(out, b"ready".as_slice()),
+        Reply::Output(o) => pair(out, b"ready ".as_slice(), o),
+        Reply::Canceled => word(out, b"canceled".as_slice()),
         Reply::Refused(refusal) => word(out, refused_word(refusal)),
     }
 }
@@ -121,6 +142,9 @@ fn report(out: &mut Vec<u8>, report: &Report) -> Result<(), AllocError>
         Report::Reply(r) => reply(out, *r),
         Report::Turn(task, list, ended) => turn(out, *task, list.as_slice(), *ended),
         Report::Fired(list) => listed(out, b"fired".as_slice(), list.as_slice()),
+        Report::Listed => word(out, b"listed".as_slice()),
+        Report::Unlisted => word(out, b"unlisted".as_slice()),
+        Report::Drained(list) => listed(out, b"drained".as_slice(), list.as_slice()),
     }
 }
 

@@ -2,9 +2,9 @@
 ghost use Rattle.std.specs.Prelude.{◌≡◌, ◌+◌, ◌-◌, ◌*◌, ◌^◌, ◌<◌, ◌≤◌, ◌↔◌, IfNone, IfSome, IfOk, Some, None, length, IsTrue, if◌then◌else◌, [], ◌++◌, slice_index, nat_lt, drop, decimal, ℕ};
 ghost use Rattle.mono_script.specs.Lines.{BeginsWith, BeginsWithNone};
 ghost use Rattle.mono_script.specs.Reading as Reading;
-ghost use Rattle.mono_script.specs.Reading.{Gives, GivesIf, GivesEnd, word_at, number_at, nanos_at, s_act_at, act_at, step_at, end_at, parts_at, event_at, line_at};
+ghost use Rattle.mono_script.specs.Reading.{Gives, GivesIf, GivesEnd, word_at, number_at, nanos_at, s_act_at, drop_at, how_at, job_act_at, other_act_at, act_at, job_step_at, step_at, end_at, parts_at, event_at, line_at};
 
-use mono_rt::{Act, End, Event, List, Query, TurnStep};
+use mono_rt::{Act, End, Event, How, List, Query, TurnStep};
 use std::alloc::{AllocError, Global};
 use std::mem;
 
@@ -198,19 +198,108 @@ impl<'a> Reader<'a> {
         None
     }
 
+    // An act that drops a handle.
+    #[tactic(auto, unfolding(crate::specs::Reading::drop_at))]
+    fn drop_act(&mut self) -> Option<Act>
+        ensures { Gives result self.new.rest.now (drop_at self.old.rest.now) }
+    {
+        if self.take(b"drop-join ".as_slice()) {
+            let task = self.number()?;
+            return Some(Act::DropJoin(task));
+        }
+        if self.take(b"drop-job ".as_slice()) {
+            let job = self.number()?;
+            return Some(Act::DropJob(job));
+        }
+        None
+    }
+
+    #[inline(always)]
+    fn how(&mut self) -> Option<How>
+        ensures { Gives result self.new.rest.now (how_at self.old.rest.now) }
+    {
+        if self.take(b"ran".as_slice()) {
+            return Some(How::Ran);
+        }
+        if self.take(b"canceled".as_slice()) {
+            return Some(How::Canceled);
+        }
+        None
+    }
+
+    // An act on a job whose word begins with that of a job.
+    #[tactic(auto, unfolding(crate::specs::Reading::job_act_at))]
+    fn job_act(&mut self) -> Option<Act>
+        ensures { Gives result self.new.rest.now (job_act_at self.old.rest.now) }
+    {
+        if self.take(b"job-end ".as_slice()) {
+            let job = self.number()?;
+            if !self.take(b" ".as_slice()) {
+                return None;
+            }
+            let how = self.how()?;
+            return Some(Act::JobEnd(job, how));
+        }
+        if self.take(b"job-finished ".as_slice()) {
+            let job = self.number()?;
+            return Some(Act::JobFinished(job));
+        }
+        None
+    }
+
+    // An act whose first letter no other act has.
+    #[tactic(auto, unfolding(crate::specs::Reading::other_act_at))]
+    fn other_act(&mut self) -> Option<Act>
+        ensures { Gives result self.new.rest.now (other_act_at self.old.rest.now) }
+    {
+        if self.take(b"wake ".as_slice()) {
+            let task = self.number()?;
+            return Some(Act::Wake(task));
+        }
+        if self.take(b"block ".as_slice()) {
+            let output = self.number()?;
+            return Some(Act::Block(output));
+        }
+        if self.take(b"finished ".as_slice()) {
+            let task = self.number()?;
+            return Some(Act::Finished(task));
+        }
+        None
+    }
+
     // An act that stands by itself or in a turn.
     #[tactic(auto, unfolding(crate::specs::Reading::act_at))]
     fn act(&mut self) -> Option<Act>
         ensures { Gives result self.new.rest.now (act_at self.old.rest.now) }
     {
-        if self.first() == b's' {
+        let first = self.first();
+        if first == b's' {
             return self.s_act();
         }
-        if self.take(b"wake ".as_slice()) {
-            let task = self.number()?;
-            return Some(Act::Wake(task));
+        if first == b'd' {
+            return self.drop_act();
         }
-        None
+        if first == b'j' {
+            return self.job_act();
+        }
+        self.other_act()
+    }
+
+    // A poll of a task or a job, or an act on a job.
+    #[tactic(auto, unfolding(crate::specs::Reading::job_step_at))]
+    fn job_step(&mut self) -> Option<TurnStep>
+        ensures { Gives result self.new.rest.now (job_step_at self.old.rest.now) }
+    {
+        if self.take(b"join ".as_slice()) {
+            let task = self.number()?;
+            return Some(TurnStep::Query(Query::Join(task)));
+        }
+        if self.take(b"job ".as_slice()) {
+            let job = self.number()?;
+            return Some(TurnStep::Query(Query::Job(job)));
+        }
+        let act = self.job_act()?;
+        Some(TurnStep::Act(act))
     }
 
     // A step of a turn: an act or a poll.
@@ -218,12 +307,16 @@ impl<'a> Reader<'a> {
     fn step(&mut self) -> Option<TurnStep>
         ensures { Gives result self.new.rest.now (step_at self.old.rest.now) }
     {
-        if self.first() == b'p' {
+        let first = self.first();
+        if first == b'p' {
             if self.take(b"poll ".as_slice()) {
                 let sleep = self.number()?;
                 return Some(TurnStep::Query(Query::Sleep(sleep)));
             }
             return None;
+        }
+        if first == b'j' {
+            return self.job_step();
         }
         let act = self.act()?;
         Some(TurnStep::Act(act))
@@ -288,6 +381,15 @@ impl<'a> Reader<'a> {
                 return Ok(None);
             };
             return Ok(Some(Event::Clock(n)));
+        }
+        if self.take(b"remote ".as_slice()) {
+            let Some(task) = self.number() else {
+                return Ok(None);
+            };
+            return Ok(Some(Event::Remote(task)));
+        }
+        if self.take(b"drain".as_slice()) {
+            return Ok(Some(Event::Drain));
         }
         let Some(act) = self.act() else {
             return Ok(None);
