@@ -9,4 +9,4 @@ remove-requires g c = c.args.self.now.marks.within c.args.key (c.is_in.ensures.m
 
 pub free_entry-requires-clause-reserved : goal.free_entry-requires-clause-reserved
 free_entry-requires-clause-reserved g c =
-    ap (λ keys. slice_index_or keys c.args.key false) c.remove.ensures.reserved ∙ c.args.self.now.marks.reserved c.args.key (c.is_in.ensures.marked c.if-is_in.true)
+    ap (λ keys. slice_index_or keys c.args.key false) c.remove.ensures.changed.reserved ∙ c.args.self.now.marks.reserved c.args.key (c.is_in.ensures.marked c.if-is_in.true)
