@@ -1,0 +1,15 @@
+pub mod Instants
+pub mod Texts
+pub mod Sleeps
+pub mod Futures
+pub mod Entries
+pub mod Keeping
+pub mod Registered
+pub mod Turning
+pub mod Timers
+pub mod Firing
+pub mod Acts
+pub mod Stands
+pub mod Missed
+pub mod Ticking
+pub mod Timeouts

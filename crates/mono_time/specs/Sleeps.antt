@@ -1,0 +1,153 @@
+-- Sleeps as those who call the timers see them: by their numbers, each with its latest waker alone.
+use Rattle.std.specs.Prelude.{◌≡◌, ◌<◌, ◌≤◌, ℕ, max, ⊤, Bool, true, false, if◌then◌else◌, [], Option, Some, None, Result, Ok, Err, nat_le, count_by}
+use Rattle.mono_model.specs.Ticks.{up, down}
+use Rattle.mono_model.specs.Table.{Table, value_at, next_number, is_full, with_next, with_value, without}
+use Rattle.mono_model.specs.declared.poll.Poll.{Poll}
+use Rattle.mono_model.specs.declared.poll.Poll.TheVariants.{Ready, Pending}
+use Rattle.mono_time.specs.declared.error.Error.{Error}
+use Rattle.mono_time.specs.declared.error.Error.TheVariants.{Shutdown, AtCapacity, Invalid}
+use Rattle.mono_time.specs.declared.error.SleepError.{SleepError}
+use Rattle.mono_time.specs.declared.error.SleepError.TheVariants.{Memory, Timer}
+
+-- A sleep for a tick that was never polled or reset, one that is armed at a tick with the task that polled it last, or
+-- one that has elapsed. Only an armed sleep has a waker.
+pub data Kept : Type 0 where
+  fresh : (tick : ℕ) → Kept
+  armed : (tick : ℕ) → (waker : Option ℕ) → Kept
+  elapsed : Kept
+
+-- the live sleeps by their numbers, the greatest tick of the clock so far, how many sleeps may live, and whether there
+-- are timers at all
+pub record SleepTable : Type 0 where
+  pub table : Table Kept
+  pub greatest : ℕ
+  pub limit : ℕ
+  pub is_enabled : Bool
+
+abbrev pub no_sleeps : ℕ → Bool → SleepTable
+no_sleeps limit is_enabled = record { table = []; greatest = 0; limit = limit; is_enabled = is_enabled }
+
+abbrev pub with_table : SleepTable → Table Kept → SleepTable
+with_table sleeps table = record { table = table; greatest = sleeps.greatest; limit = sleeps.limit; is_enabled = sleeps.is_enabled }
+
+abbrev pub waker_of : Kept → Option ℕ
+waker_of (fresh tick) = None
+waker_of (armed tick waker) = waker
+waker_of elapsed = None
+
+-- armed at a tick, or elapsed where the tick is not above the greatest so far
+abbrev pub at_tick : ℕ → ℕ → Option ℕ → Kept
+at_tick greatest tick waker = if nat_le tick greatest then elapsed else armed tick waker
+
+-- one sleep changes, where it is live
+abbrev pub changed_value : Option Kept → SleepTable → ℕ → (Kept → Kept) → SleepTable
+changed_value None sleeps s change = sleeps
+changed_value (Some kept) sleeps s change = with_table sleeps (with_value sleeps.table s (change kept))
+
+abbrev pub changed : SleepTable → ℕ → (Kept → Kept) → SleepTable
+changed sleeps s change = changed_value (value_at sleeps.table s) sleeps s change
+
+-- what is answered of a sleep, or the refusal where no live sleep has the number
+abbrev pub of_live : {A : Type 0} → Option Kept → (Kept → A) → Result A Error
+of_live None answer = Err Shutdown
+of_live (Some kept) answer = Ok (answer kept)
+
+-- A new sleep has the next number and is fresh. It is refused where there are no timers, and then where no further sleep
+-- is given out. Want of memory comes last. No refusal changes anything.
+abbrev pub added : SleepTable → ℕ → SleepTable
+added sleeps tick = with_table sleeps (with_next sleeps.table (fresh tick))
+
+abbrev pub Added : SleepTable → ℕ → Result ℕ SleepError → SleepTable → Type 0
+Added old nanos (Ok number) new =
+    (old.is_enabled ≡ true) × (is_full old.table old.limit ≡ false) × (number ≡ next_number old.table) × (new ≡ added old (up nanos))
+Added old nanos (Err (Timer Shutdown)) new = (old.is_enabled ≡ false) × (new ≡ old)
+Added old nanos (Err (Timer AtCapacity)) new = (old.is_enabled ≡ true) × (is_full old.table old.limit ≡ true) × (new ≡ old)
+Added old nanos (Err (Timer Invalid)) new = ⊥
+Added old nanos (Err Memory) new = (old.is_enabled ≡ true) × (is_full old.table old.limit ≡ false) × (new ≡ old)
+
+-- A poll by a task: a fresh sleep is armed first. One that has elapsed is ready, and of any other the task is the waker.
+abbrev pub polled_kept : ℕ → ℕ → Kept → Kept
+polled_kept greatest by (fresh tick) = at_tick greatest tick (Some by)
+polled_kept greatest by (armed tick waker) = armed tick (Some by)
+polled_kept greatest by elapsed = elapsed
+
+abbrev pub is_ready_at : ℕ → Kept → Bool
+is_ready_at greatest (fresh tick) = nat_le tick greatest
+is_ready_at greatest (armed tick waker) = false
+is_ready_at greatest elapsed = true
+
+abbrev pub poll_of : Bool → Poll ⊤
+poll_of is_ready = if is_ready then Ready tt else Pending
+
+abbrev pub poll_answer : SleepTable → ℕ → Result (Poll ⊤) Error
+poll_answer sleeps s = of_live (value_at sleeps.table s) (λ kept. poll_of (is_ready_at sleeps.greatest kept))
+
+abbrev pub polled : SleepTable → ℕ → ℕ → SleepTable
+polled sleeps s by = changed sleeps s (polled_kept sleeps.greatest by)
+
+-- A reset to a tick keeps the waker, or hands it out where the sleep elapses at once.
+abbrev pub woken_by_reset : ℕ → ℕ → Kept → Option ℕ
+woken_by_reset greatest tick kept = if nat_le tick greatest then waker_of kept else None
+
+abbrev pub reset_answer : SleepTable → ℕ → ℕ → Result (Option ℕ) Error
+reset_answer sleeps s nanos = of_live (value_at sleeps.table s) (woken_by_reset sleeps.greatest (up nanos))
+
+abbrev pub reset : SleepTable → ℕ → ℕ → SleepTable
+reset sleeps s nanos = changed sleeps s (λ kept. at_tick sleeps.greatest (up nanos) (waker_of kept))
+
+-- A removed sleep is gone, and wakes nobody.
+abbrev pub remove_answer : SleepTable → ℕ → Result ⊤ Error
+remove_answer sleeps s = of_live (value_at sleeps.table s) (λ kept. tt)
+
+abbrev pub removed_value : Option Kept → SleepTable → ℕ → SleepTable
+removed_value None sleeps s = sleeps
+removed_value (Some kept) sleeps s = with_table sleeps (without sleeps.table s)
+
+abbrev pub removed : SleepTable → ℕ → SleepTable
+removed sleeps s = removed_value (value_at sleeps.table s) sleeps s
+
+abbrev pub is_elapsed : Kept → Bool
+is_elapsed (fresh tick) = false
+is_elapsed (armed tick waker) = false
+is_elapsed elapsed = true
+
+abbrev pub elapsed_answer : SleepTable → ℕ → Result Bool Error
+elapsed_answer sleeps s = of_live (value_at sleeps.table s) is_elapsed
+
+-- an answer without the waker that it hands out, and that waker alone
+abbrev pub without_waker : Result (Option ℕ) Error → Result ⊤ Error
+without_waker (Ok waker) = Ok tt
+without_waker (Err error) = Err error
+
+abbrev pub waker_in : Result (Option ℕ) Error → Option ℕ
+waker_in (Ok waker) = waker
+waker_in (Err error) = None
+
+-- The clock shows n: the greatest tick is the greater of itself and that of n.
+abbrev pub at_clock : SleepTable → ℕ → SleepTable
+at_clock sleeps nanos = record { table = sleeps.table; greatest = max sleeps.greatest (down nanos); limit = sleeps.limit; is_enabled = sleeps.is_enabled }
+
+-- a sleep fires: it has elapsed
+abbrev pub fired : SleepTable → ℕ → SleepTable
+fired sleeps s = with_table sleeps (with_value sleeps.table s elapsed)
+
+-- no armed sleep has a tick up to the greatest
+abbrev pub IsNoneArmedUpTo : SleepTable → Type 0
+IsNoneArmedUpTo sleeps = (s tick : ℕ) (waker : Option ℕ) → value_at sleeps.table s ≡ Some (armed tick waker) → sleeps.greatest < tick
+
+-- the sleep is armed with this waker at a tick up to the greatest, and no sleep is armed at a lower tick
+pub record IsFiredFirst (sleeps : SleepTable) (s : ℕ) (waker : Option ℕ) : Type 0 where
+  pub tick : ℕ
+  pub is_armed_there : value_at sleeps.table s ≡ Some (armed tick waker)
+  pub is_due : tick ≤ sleeps.greatest
+  pub is_least : (other later : ℕ) (task : Option ℕ) → value_at sleeps.table other ≡ Some (armed later task) → tick ≤ later
+
+-- how many sleeps are armed
+abbrev pub is_armed : Option Kept → Bool
+is_armed None = false
+is_armed (Some (fresh tick)) = false
+is_armed (Some (armed tick waker)) = true
+is_armed (Some elapsed) = false
+
+abbrev pub armed_count : SleepTable → ℕ
+armed_count sleeps = count_by is_armed sleeps.table

@@ -1,0 +1,50 @@
+-- What a value with a deadline answers and leaves.
+use Rattle.std.specs.Prelude.{◌≡◌, ℕ, ⊤, Option, Result, Ok, Err}
+use Rattle.mono_model.specs.Tasks.{Tasks}
+use Rattle.mono_model.specs.declared.poll.Poll.{Poll}
+use Rattle.mono_model.specs.declared.poll.Poll.TheVariants.{Ready, Pending}
+use Rattle.mono_task.specs.Members.{FutureOf}
+use Rattle.mono_time.specs.Sleeps.{SleepTable}
+use Rattle.mono_time.specs.Futures.{SleepMade, SleepMadeAt, SleepPolls, SleepCancels}
+use Rattle.mono_time.specs.declared.deadlines.Timeout.{Timeout}
+use Rattle.mono_time.specs.declared.deadlines.TimeoutRefused.{TimeoutRefused}
+use Rattle.mono_time.specs.declared.error.Elapsed as one
+use Rattle.mono_time.specs.declared.error.Error.{Error}
+use Rattle.mono_time.specs.declared.error.SleepError.{SleepError}
+use Rattle.mono_time.specs.declared.error.TimeoutError.{TimeoutError}
+use Rattle.mono_time.specs.declared.error.TimeoutError.TheVariants.{Elapsed, Timer}
+use Rattle.mono_time.specs.declared.sleeping.Sleep.{Sleep}
+
+-- the delay that was made, or why there is none
+abbrev pub delay_of : {T : Type 0} → Result (Timeout T) (TimeoutRefused T) → Result Sleep SleepError
+delay_of (Ok t) = Ok t.delay
+delay_of (Err e) = Err e.cause
+
+-- the future, in the timeout or handed back
+abbrev pub future_of : {T : Type 0} → Result (Timeout T) (TimeoutRefused T) → T
+future_of (Ok t) = t.value
+future_of (Err e) = e.future
+
+-- what the delay's answer means where the value was not ready
+abbrev pub late_answer : {O : Type 0} → Poll (Result ⊤ Error) → Poll (Result O TimeoutError)
+late_answer (Ready (Ok x)) = Ready (Err (Elapsed (record {})))
+late_answer (Ready (Err e)) = Ready (Err (Timer e))
+late_answer Pending = Pending
+
+module _ {T C O : Type 0} (future : FutureOf T C O) (number : C → ℕ) (sleeps : C → SleepTable) (work : C → Tasks ⊤) where
+  -- The value was polled, with this answer. Where it is ready the delay is given up, and else it is polled.
+  abbrev pub AfterValue : Poll O → Sleep → C → Poll (Result O TimeoutError) → Sleep → C → Type 0
+  AfterValue (Ready x) delay c r left d = (r ≡ Ready (Ok x)) × (left ≡ delay) × SleepCancels sleeps work delay c d
+  AfterValue Pending delay c r left d = (p : Poll (Result ⊤ Error)) × SleepPolls number sleeps work delay c p left d × (r ≡ late_answer p)
+
+  -- a poll of the value in some context that its poll leaves, and then of the delay
+  pub record TimeoutPolls (f : Timeout T) (c : C) (r : Poll (Result O TimeoutError)) (g : Timeout T) (d : C) : Type 0 where
+    pub answer : Poll O
+    pub middle : C
+    pub value : future.polls f.value c answer g.value middle
+    pub rest : AfterValue answer f.delay middle r g.delay d
+
+module _ {T C O : Type 0} (future : FutureOf T C O) (sleeps : C → SleepTable) (work : C → Tasks ⊤) where
+  -- the value is given up, and then the delay
+  abbrev pub TimeoutCancels : Timeout T → C → C → Type 0
+  TimeoutCancels f c d = (middle : C) × future.cancels f.value c middle × SleepCancels sleeps work f.delay middle d

@@ -1,0 +1,60 @@
+// What a running task sees of the timers.
+ghost use Rattle.std.specs.Prelude.{◌≡◌, ℕ, Bool, true};
+ghost use Rattle.mono_model.specs.Tasks.{woken_if_any};
+ghost use Rattle.mono_time.specs.Sleeps.{SleepTable, Added, poll_answer, polled, reset_answer, reset, remove_answer, removed, elapsed_answer, without_waker, waker_in};
+ghost use Rattle.mono_time.specs.declared.error.SleepError.TheVariants.{Memory};
+
+use crate::error::{Error, SleepError};
+use crate::instant::Instant;
+use mono_task::{Context, Poll};
+use std::alloc::Global;
+
+/// A context with sleeps: it tells them as a table, and its calls are those of [`crate::Timers`] on that table.
+pub trait TimeContext: Context {
+    ghost use Rattle.mono_time.specs.Instants.{nanos_of};
+
+    // the sleeps by their numbers
+    ghost sleeps: { Self → SleepTable };
+
+    /// A fresh sleep for a deadline, with the next number. It counts as live until it is dropped.
+    ///
+    /// Refused as shutdown exactly where there are no timers, and then at capacity exactly where the live sleeps are at
+    /// their limit or the numbers are used up. Want of memory comes last, and is noted in the context. No refusal changes
+    /// the sleeps (`added`).
+    fn add_sleep(&mut self, alloc: Global, deadline: Instant) -> Result<u64, SleepError>
+        ensures added { Added (sleeps self.old) (nanos_of deadline) result (sleeps self.new) }
+        ensures memory { result ≡ Err Memory → Self.is_out_of_memory self.new ≡ true }
+        ensures work { Self.work self.new ≡ Self.work self.old }
+        ensures reached { Self.reaches self.old self.new };
+
+    /// Polls a sleep for the running task: ready where it has elapsed, and else the task is its only waker.
+    ///
+    /// Refused as shutdown exactly where no live sleep has the number (`answer`).
+    fn poll_sleep(&mut self, sleep: u64) -> Result<Poll<()>, Error>
+        ensures answer { result ≡ poll_answer (sleeps self.old) sleep }
+        ensures sleeps { sleeps self.new ≡ polled (sleeps self.old) sleep (Self.number self.old) }
+        ensures work { Self.work self.new ≡ Self.work self.old }
+        ensures reached { Self.reaches self.old self.new };
+
+    /// Arms a sleep anew for a deadline. Where it elapses at once, its waker is woken (`work`).
+    ///
+    /// Refused as shutdown exactly where no live sleep has the number (`answer`).
+    fn reset_sleep(&mut self, sleep: u64, deadline: Instant) -> Result<(), Error>
+        ensures answer { result ≡ without_waker (reset_answer (sleeps self.old) sleep (nanos_of deadline)) }
+        ensures sleeps { sleeps self.new ≡ reset (sleeps self.old) sleep (nanos_of deadline) }
+        ensures work { Self.work self.new ≡ woken_if_any (Self.work self.old) (waker_in (reset_answer (sleeps self.old) sleep (nanos_of deadline))) }
+        ensures reached { Self.reaches self.old self.new };
+
+    /// Gives a sleep up. It wakes nobody.
+    ///
+    /// Refused as shutdown exactly where no live sleep has the number (`answer`).
+    fn drop_sleep(&mut self, sleep: u64) -> Result<(), Error>
+        ensures answer { result ≡ remove_answer (sleeps self.old) sleep }
+        ensures sleeps { sleeps self.new ≡ removed (sleeps self.old) sleep }
+        ensures work { Self.work self.new ≡ Self.work self.old }
+        ensures reached { Self.reaches self.old self.new };
+
+    /// Whether a sleep has elapsed. Refused as shutdown exactly where no live sleep has the number.
+    fn sleep_elapsed(&self, sleep: u64) -> Result<bool, Error>
+        ensures { result ≡ elapsed_answer (sleeps self.now) sleep };
+}

@@ -1,0 +1,109 @@
+// What the timers keep of a live sleep, at its key in the wheel.
+ghost use Rattle.std.specs.Prelude.{◌≡◌, ◌<◌, ℕ, [], ◌∷◌, ◌++◌, OnOk, OnErr, IfOk, Some, length, slice_get};
+ghost use Rattle.mono_time.specs.Entries.{is_armed_state, is_elapsed_state, waker_in_state};
+ghost use Rattle.mono_time.specs.Keeping.{EntriesStay, KeyMade, NoKeyMade};
+
+use mono_wheel::Wheel;
+use std::alloc::{AllocError, Global};
+
+/// A sleep for a tick that was never armed, one that is armed with the task that polled it last, or one that has elapsed.
+/// The tick at which a sleep is armed is the wheel's.
+#[derive(Clone, Copy)]
+pub(crate) enum State {
+    Fresh(u64),
+    Armed(Option<u64>),
+    Elapsed,
+}
+
+/// A sleep's number and its state.
+#[derive(Clone, Copy)]
+pub(crate) struct Entry {
+    pub(crate) sleep: u64,
+    pub(crate) state: State,
+}
+
+impl State {
+    pub(crate) fn is_armed(&self) -> bool
+        ensures { result ≡ is_armed_state self.now }
+    {
+        match self {
+            State::Fresh(_) => false,
+            State::Armed(_) => true,
+            State::Elapsed => false,
+        }
+    }
+
+    pub(crate) fn is_elapsed(&self) -> bool
+        ensures { result ≡ is_elapsed_state self.now }
+    {
+        match self {
+            State::Fresh(_) => false,
+            State::Armed(_) => false,
+            State::Elapsed => true,
+        }
+    }
+
+    /// The task that is to be woken when the sleep elapses.
+    pub(crate) fn waker(&self) -> Option<u64>
+        ensures { result ≡ waker_in_state self.now }
+    {
+        match self {
+            State::Fresh(_) => None,
+            State::Armed(waker) => *waker,
+            State::Elapsed => None,
+        }
+    }
+}
+
+/// Makes an entry for a key, where there is none yet.
+pub(crate) fn make_entry(entries: &mut Vec<Entry>, key: usize) -> Result<(), AllocError>
+    ensures below { OnOk result (key < length entries.new.items) }
+    ensures kept { (k : ℕ) → k < length entries.old.items → slice_get entries.new.items k ≡ slice_get entries.old.items k }
+{
+    while entries.len() <= key {
+        entries.push(Entry {
+            sleep: 0,
+            state: State::Elapsed,
+        })?;
+    }
+    Ok(())
+}
+
+/// Makes the places of a further sleep with this key: one for its entry, and one for its key. Without memory no key is there.
+pub(crate) fn make_places(
+    keys: &mut Vec<Option<u32>>,
+    entries: &mut Vec<Entry>,
+    key: usize,
+) -> Result<(), AllocError>
+    ensures keys { OnOk result (keys.new.items ≡ keys.old.items ++ Some key ∷ []) }
+    ensures inside { OnOk result (key < length entries.new.items) }
+    ensures refused { OnErr result (keys.new.items ≡ keys.old.items) }
+    ensures entries { EntriesStay entries.old.items entries.new.items }
+{
+    if key > u32::MAX as usize {
+        return Err(AllocError);
+    }
+    make_entry(entries, key)?;
+    keys.push(Some(key as u32))?;
+    Ok(())
+}
+
+/// A key for a further sleep, with its places.
+pub(crate) fn make_key(
+    alloc: Global,
+    wheel: &mut Wheel,
+    keys: &mut Vec<Option<u32>>,
+    entries: &mut Vec<Entry>,
+) -> Result<usize, AllocError>
+    ensures made { IfOk result (λ key. KeyMade wheel.old wheel.new keys.old.items keys.new.items entries.old.items entries.new.items key) }
+    ensures refused { OnErr result (NoKeyMade wheel.old wheel.new keys.old.items keys.new.items entries.old.items entries.new.items) }
+{
+    let key = wheel.reserve_entry(alloc)?;
+    match make_places(keys, entries, key) {
+        Ok(()) => Ok(key),
+        Err(error) => {
+            wheel.free_entry(key);
+            Err(error)
+        }
+    }
+}

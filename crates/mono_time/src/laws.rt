@@ -1,0 +1,31 @@
+// Laws on instants and sleeps, as functions with empty bodies.
+ghost use Rattle.std.specs.Prelude.{◌≡◌, ◌==◌, ◌≤◌, ℕ, Option, Some};
+ghost use Rattle.std.specs.Ordering.{nat_cmp};
+ghost use Rattle.mono_model.specs.Ticks.{up, down};
+ghost use Rattle.mono_model.specs.Table.{value_at};
+ghost use Rattle.mono_time.specs.declared.instant.Instant.{Instant};
+ghost use Rattle.mono_time.specs.Instants.{nanos_of};
+ghost use Rattle.mono_time.specs.Sleeps.{SleepTable, IsNoneArmedUpTo, IsFiredFirst, armed, polled, reset, removed, added};
+
+use crate::instant::Instant;
+use std::hash::Hash;
+
+/// Instants are compared as their numbers, and equal numbers hash alike.
+pub fn instants_are_numbers()
+    ensures eq { (a b : Instant) → ⟦<Instant as PartialEq>⟧.eq a b ≡ (nanos_of a == nanos_of b) }
+    ensures cmp { (a b : Instant) → ⟦<Instant as Ord>⟧.cmp a b ≡ nat_cmp (nanos_of a) (nanos_of b) }
+    ensures hash { (a b : Instant) → nanos_of a ≡ nanos_of b → ⟦<Instant as Hash>⟧.hash_input a ≡ ⟦<Instant as Hash>⟧.hash_input b }
+{}
+
+/// A sleep that is armed for a deadline fires only once the greatest reading of the clock so far is not before the deadline.
+pub fn none_fires_early()
+    ensures { (sleeps : SleepTable) (clock deadline s : ℕ) (waker task : Option ℕ) → sleeps.greatest ≡ down clock → value_at sleeps.table s ≡ Some (armed (up deadline) task) → IsFiredFirst sleeps s waker → deadline ≤ clock }
+{}
+
+/// After a clock step every armed sleep has a tick above the greatest, and so it stays until the next clock step.
+pub fn none_is_late()
+    ensures added { (sleeps : SleepTable) (tick : ℕ) → IsNoneArmedUpTo sleeps → IsNoneArmedUpTo (added sleeps tick) }
+    ensures polled { (sleeps : SleepTable) (s by : ℕ) → IsNoneArmedUpTo sleeps → IsNoneArmedUpTo (polled sleeps s by) }
+    ensures reset { (sleeps : SleepTable) (s nanos : ℕ) → IsNoneArmedUpTo sleeps → IsNoneArmedUpTo (reset sleeps s nanos) }
+    ensures removed { (sleeps : SleepTable) (s : ℕ) → IsNoneArmedUpTo sleeps → IsNoneArmedUpTo (removed sleeps s) }
+{}

@@ -1,0 +1,241 @@
+// The table of sleeps over the wheel.
+ghost use Rattle.std.specs.Prelude.{◌≡◌, ◌<◌, ◌≤◌, ◌+◌, ◌^◌, ℕ, max, true, Option, None, Some, IfOk, IfNone, IfSome, OnSome, OnErr, MatchOption, is_some, slice_get};
+ghost use Rattle.mono_model.specs.Ticks.{up, down};
+ghost use Rattle.mono_model.specs.Table.{value_at};
+ghost use Rattle.mono_wheel.specs.Model.{timed_at, is_reserved};
+ghost use Rattle.mono_time.specs.Keeping.{Holds};
+ghost use Rattle.mono_time.specs.Sleeps.{poll_of};
+
+use crate::arming::{put_in, put_later};
+use crate::entry::{Entry, State, make_key};
+use crate::error::{Error, SleepError};
+use crate::instant::Instant;
+use crate::turning::{elapse, poll_entry, reset_entry, take_out};
+use mono_model::Poll;
+use mono_wheel::laws::slots_start_ahead;
+use mono_wheel::{Steps, Wheel};
+use std::alloc::{AllocError, Global};
+use std::sync::ledger::Ledger;
+
+/// The sleeps of an executor, by their numbers, on a [`Wheel`].
+///
+/// A sleep is fresh, armed at a tick, or elapsed; an armed sleep has at most one waker, the task that polled it last. Ticks
+/// are milliseconds below 2^63. Only `new` and `add` take memory. A sleep's number is never given twice, and of a sleep that
+/// was removed eight bytes stay.
+#[derive(Drop)]
+pub struct Timers {
+    wheel: Wheel,
+    // by the sleep's number its key in the wheel, while it is live
+    keys: Vec<Option<u32>>,
+    // by key, what is kept of the sleep
+    entries: Vec<Entry>,
+    // the greatest tick of the clock so far
+    greatest: u64,
+    limit: u64,
+    live: u64,
+    is_enabled: bool,
+    pub ghost holds: { Holds wheel keys.items entries.items greatest live },
+}
+
+// The key of a sleep in the wheel, while it is live.
+fn key_at(keys: &Vec<Option<u32>>, sleep: u64) -> Option<usize>
+    ensures { result ≡ value_at keys.now.items sleep }
+{
+    let at = sleep as usize;
+    if at >= keys.len() {
+        return None;
+    }
+    match keys[at] {
+        None => None,
+        Some(key) => Some(key as usize),
+    }
+}
+
+fn ready_if(is_ready: bool) -> Poll<()>
+    ensures { result ≡ poll_of is_ready }
+{
+    if is_ready {
+        Poll::Ready(())
+    } else {
+        Poll::Pending
+    }
+}
+
+impl Timers {
+    ghost use Rattle.mono_model.specs.Sleeps.{Sleeps};
+    ghost use Rattle.mono_model.specs.Sleeps as model;
+    ghost use Rattle.mono_time.specs.Instants.{nanos_of};
+    ghost use Rattle.mono_time.specs.Sleeps.{no_sleeps, Added, poll_answer, polled, reset_answer, reset, remove_answer, removed, elapsed_answer, at_clock, fired, IsNoneArmedUpTo, IsFiredFirst, armed_count, armed};
+    ghost use Rattle.mono_time.specs.Acts as machine;
+    ghost use Rattle.mono_time.specs.Timers.{sleeps_of, elapsed_tick, registered_of, credit_left};
+    ghost use Rattle.mono_time.specs.Registered.{RegistersOnly, polled_registered, reset_registered, moved_registered, NextExpiration};
+    ghost use Rattle.mono_time.specs.Stands.{StandsForSleeps};
+
+    /// Timers without sleeps, for at most `limit` live ones; without `enabled` no sleep is ever made.
+    pub fn new(alloc: Global, limit: u64, enabled: bool) -> Result<Timers, AllocError>
+        ensures sleeps { IfOk result (λ timers. sleeps_of timers ≡ no_sleeps limit enabled) }
+        ensures elapsed { IfOk result (λ timers. elapsed_tick timers ≡ 0) }
+        ensures stands { IfOk result (λ timers. StandsForSleeps timers (model.no_sleeps limit)) }
+    {
+        let wheel = Wheel::new(alloc)?;
+        Ok(Timers {
+            wheel,
+            keys: Vec::new(alloc),
+            entries: Vec::new(alloc),
+            greatest: 0,
+            limit,
+            live: 0,
+            is_enabled: enabled,
+        })
+    }
+
+    /// A fresh sleep for a deadline, with the next number. It counts as live until it is removed.
+    ///
+    /// Refused as shutdown exactly where the timers are not enabled, and then at capacity exactly where the live sleeps are
+    /// at the limit or the next number is 2^64 - 1; want of memory comes last. No refusal changes anything (`added`).
+    pub fn add(&mut self, alloc: Global, deadline: Instant) -> Result<u64, SleepError>
+        ensures added { Added (sleeps_of self.old) (nanos_of deadline) result (sleeps_of self.new) }
+        ensures elapsed { elapsed_tick self.new ≡ elapsed_tick self.old }
+        ensures registered { (s : ℕ) → registered_of self.new s ≡ registered_of self.old s }
+        ensures stands { (m : Sleeps) → StandsForSleeps self.old m → machine.Adds (sleeps_of self.old).is_enabled m (nanos_of deadline) result (StandsForSleeps self.new) }
+    {
+        if !self.is_enabled {
+            return Err(SleepError::Timer(Error::Shutdown));
+        }
+        if self.live >= self.limit {
+            return Err(SleepError::Timer(Error::AtCapacity));
+        }
+        let sleep = self.keys.len() as u64;
+        match make_key(alloc, &mut self.wheel, &mut self.keys, &mut self.entries) {
+            Err(_) => Err(SleepError::Memory),
+            Ok(key) => {
+                let state = State::Fresh(deadline.tick());
+                self.entries[key] = Entry { sleep, state };
+                self.live += 1;
+                Ok(sleep)
+            }
+        }
+    }
+
+    /// Polls a sleep for a task: a fresh one is armed first at the tick of its deadline. Ready where it has elapsed, and else
+    /// the task is its only waker. Refused as shutdown exactly where no live sleep has the number (`answer`).
+    pub fn poll(&mut self, sleep: u64, by: u64) -> Result<Poll<()>, Error>
+        ensures answer { result ≡ poll_answer (sleeps_of self.old) sleep }
+        ensures sleeps { sleeps_of self.new ≡ polled (sleeps_of self.old) sleep by }
+        ensures elapsed { elapsed_tick self.new ≡ elapsed_tick self.old }
+        ensures registered { RegistersOnly (registered_of self.old) (registered_of self.new) sleep (polled_registered (sleeps_of self.old).greatest (value_at (sleeps_of self.old).table sleep) (registered_of self.old sleep)) }
+        ensures stands { (m : Sleeps) → StandsForSleeps self.old m → (result ≡ machine.poll_answer m sleep) × StandsForSleeps self.new (machine.polled m sleep by) }
+    {
+        match key_at(&self.keys, sleep) {
+            None => Err(Error::Shutdown),
+            Some(key) => {
+                let entry = &mut self.entries[key];
+                let is_ready = poll_entry(&mut self.wheel, entry, key, self.greatest, by);
+                Ok(ready_if(is_ready))
+            }
+        }
+    }
+
+    /// Arms a sleep at the tick of a new deadline. Where it elapses at once, the answer is its waker, which is to be woken;
+    /// else the waker stays. Refused as shutdown exactly where no live sleep has the number (`answer`).
+    pub fn reset(&mut self, sleep: u64, deadline: Instant) -> Result<Option<u64>, Error>
+        ensures answer { result ≡ reset_answer (sleeps_of self.old) sleep (nanos_of deadline) }
+        ensures sleeps { sleeps_of self.new ≡ reset (sleeps_of self.old) sleep (nanos_of deadline) }
+        ensures elapsed { elapsed_tick self.new ≡ elapsed_tick self.old }
+        ensures registered { IsNoneArmedUpTo (sleeps_of self.old) → RegistersOnly (registered_of self.old) (registered_of self.new) sleep (reset_registered (sleeps_of self.old).greatest (up (nanos_of deadline)) (value_at (sleeps_of self.old).table sleep) (registered_of self.old sleep)) }
+        ensures stands { (m : Sleeps) → StandsForSleeps self.old m → (result ≡ machine.reset_answer m sleep (nanos_of deadline)) × StandsForSleeps self.new (machine.reset m sleep (nanos_of deadline)) }
+    {
+        match key_at(&self.keys, sleep) {
+            None => Err(Error::Shutdown),
+            Some(key) => {
+                let tick = deadline.tick();
+                let entry = &mut self.entries[key];
+                Ok(reset_entry(&mut self.wheel, entry, key, self.greatest, tick))
+            }
+        }
+    }
+
+    /// Gives a sleep up: it is gone, and wakes nobody. Refused as shutdown exactly where no live sleep has the number
+    /// (`answer`).
+    pub fn remove(&mut self, sleep: u64) -> Result<(), Error>
+        ensures answer { result ≡ remove_answer (sleeps_of self.old) sleep }
+        ensures sleeps { sleeps_of self.new ≡ removed (sleeps_of self.old) sleep }
+        ensures elapsed { elapsed_tick self.new ≡ elapsed_tick self.old }
+        ensures registered { RegistersOnly (registered_of self.old) (registered_of self.new) sleep None }
+        ensures stands { (m : Sleeps) → StandsForSleeps self.old m → (result ≡ machine.remove_answer m sleep) × StandsForSleeps self.new (machine.removed m sleep) }
+    {
+        match key_at(&self.keys, sleep) {
+            None => Err(Error::Shutdown),
+            Some(key) => {
+                let is_armed = self.entries[key].state.is_armed();
+                take_out(&mut self.wheel, key, is_armed);
+                self.wheel.free_entry(key);
+                self.keys[sleep as usize] = None;
+                self.live -= 1;
+                Ok(())
+            }
+        }
+    }
+
+    /// Whether a sleep has elapsed. Refused as shutdown exactly where no live sleep has the number.
+    pub fn is_elapsed(&self, sleep: u64) -> Result<bool, Error>
+        ensures answer { result ≡ elapsed_answer (sleeps_of self.now) sleep }
+        ensures stands { (m : Sleeps) → StandsForSleeps self.now m → result ≡ machine.elapsed_answer m sleep }
+    {
+        match key_at(&self.keys, sleep) {
+            None => Err(Error::Shutdown),
+            Some(key) => Ok(self.entries[key].state.is_elapsed()),
+        }
+    }
+
+    /// The greatest tick of the clock so far.
+    pub fn greatest(&self) -> u64
+        ensures { result ≡ (sleeps_of self.now).greatest }
+    {
+        self.greatest
+    }
+
+    /// The next sleep that fires in the clock step to a reading, with its waker, which is to be woken. The greatest tick
+    /// becomes the greater of itself and the reading's tick, rounded down (`none`, `some`).
+    ///
+    /// None exactly where no armed sleep has a tick up to the greatest. Sleeps fire in ascending ticks, and of those of one
+    /// tick that were not moved the one that was armed first fires first (`stands`). A clock step is a run of calls with one
+    /// reading, until one answers None. Its steps are exactly the fall of the wheel's credit (`steps`).
+    pub fn clock<L: Ledger>(
+        &mut self,
+        now: Instant,
+        steps: &mut Steps<L>,
+    ) -> Option<(u64, Option<u64>)>
+        ensures none { IfNone result (IsNoneArmedUpTo (at_clock (sleeps_of self.old) (nanos_of now)) × (sleeps_of self.new ≡ at_clock (sleeps_of self.old) (nanos_of now))) }
+        ensures some { IfSome result (λ x. IsFiredFirst (at_clock (sleeps_of self.old) (nanos_of now)) x.0 x.1 × (sleeps_of self.new ≡ fired (at_clock (sleeps_of self.old) (nanos_of now)) x.0)) }
+        ensures fewer { OnSome result (armed_count (sleeps_of self.new) < armed_count (sleeps_of self.old)) }
+        ensures elapsed { IfNone result (elapsed_tick self.new ≡ (sleeps_of self.new).greatest) }
+        ensures registered { (s : ℕ) → value_at (sleeps_of self.new).table s ≡ value_at (sleeps_of self.old).table s → registered_of self.new s ≡ moved_registered (elapsed_tick self.old) (elapsed_tick self.new) (value_at (sleeps_of self.old).table s) (registered_of self.old s) }
+        ensures steps { steps.new + credit_left self.new ≡ steps.old + credit_left self.old }
+        ensures gone { IfSome result (λ x. registered_of self.new x.0 ≡ None) }
+        ensures stands { (m : Sleeps) → StandsForSleeps self.old m → machine.Fires (machine.at_clock m (nanos_of now)) result (StandsForSleeps self.new) }
+    {
+        let greatest = self.greatest.max(now.clock_tick());
+        self.greatest = greatest;
+        match self.wheel.poll(greatest, steps) {
+            None => None,
+            Some(key) => {
+                let entry = &mut self.entries[key];
+                let waker = elapse(entry);
+                Some((entry.sleep, waker))
+            }
+        }
+    }
+
+    /// The next tick at which the wheel has something to do: None exactly where no sleep is armed, else the first start of a
+    /// slot with a sleep (`next`).
+    ///
+    /// While no clock step is under way it is above the greatest tick and not above the least armed tick (`ahead`).
+    pub fn next_expiration_time(&self) -> Option<u64>
+        ensures next { NextExpiration (elapsed_tick self.now) (registered_of self.now) (sleeps_of self.now) result }
+        ensures ahead { IsNoneArmedUpTo (sleeps_of self.now) → elapsed_tick self.now ≡ (sleeps_of self.now).greatest → IfSome result (λ next. ((sleeps_of self.now).greatest < next) × ((s tick : ℕ) (waker : Option ℕ) → value_at (sleeps_of self.now).table s ≡ Some (armed tick waker) → next ≤ tick)) }
+    {
+        slots_start_ahead();
+        self.wheel.next_expiration_time()
+    }
+}
