@@ -1,0 +1,26 @@
+use Rattle.std.proofs.Common.{◌≡◌, ◌<◌, ◌∙◌, sym, length, get_or, rules, true, false}
+use Rattle.std.proofs.lemmas.List.{length-set}
+use Rattle.mono_combine.specs.Branches.{Advances, is_waiting, maybe_spent}
+use Rattle.mono_combine.proofs.Lists.{turn_more, may_here, may_later, may_more, any_after, or_true, or_false, all_turns, polled_again, if_pending}
+use Rattle.mono_combine.proofs.list.poll_each.Goals as goal
+use Rattle.mono_combine.proofs.list.poll_each.Goals.{then-is_pending, else-is_pending}
+
+pub loop-i-preserved : goal.loop-i-preserved
+loop-i-preserved g c =
+    let xs = c.loop-i.branches.items in
+    let less : c.loop-i.i < length c.loop-i.branches.items = search rules in
+    let is : c.index_mut.result.now ≡ get_or c.loop-i.branches.items c.loop-i.i c.index_mut.result.now = search rules in
+    record {
+      same_length = length-set xs _ _ ∙ c.loop-i.invariant.same_length;
+      to_come = may_later g.T.TaskFuture xs _ _ _ less is c.loop-i.invariant.to_come;
+      taken = may_more g.T.TaskFuture xs _ _ less c.loop-i.invariant.taken (polled_again g.T.TaskFuture _ _ _ _ _ c.poll.ensures.polled.0 c.poll.ensures.polled.1 (if_pending _ _ c.poll.ensures.again), c.poll.ensures.callable);
+      polled = turn_more (Advances g.T.TaskFuture) xs _ _ _ less is _ _ _ _ c.loop-i.invariant.polled c.poll.ensures.polled.0;
+      waits = elim c.if-is_pending.branch [
+        | then-is_pending w ↦ w.waits-is ∙ sym (or_true c.loop-i.waits) ∙ any_after is_waiting xs _ _ less _ c.loop-i.invariant.waits _ (sym c.poll.ensures.polled.1 ∙ sym c.is_pending.ensures ∙ w.if-is_pending.true)
+        | else-is_pending w ↦ w.waits-is ∙ sym (or_false c.loop-i.waits) ∙ any_after is_waiting xs _ _ less _ c.loop-i.invariant.waits _ (sym c.poll.ensures.polled.1 ∙ sym c.is_pending.ensures ∙ w.if-is_pending.false)
+      ];
+      reached = g.met.C.Context.reaches_on _ _ _ c.loop-i.invariant.reached c.poll.ensures.reached;
+    }
+
+pub returns-clause-polled : goal.returns-clause-polled
+returns-clause-polled g c = all_turns (Advances g.T.TaskFuture) _ _ _ _ c.loop-i.i (search rules) c.loop-i.invariant.polled

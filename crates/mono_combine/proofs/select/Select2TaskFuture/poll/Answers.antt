@@ -1,0 +1,26 @@
+use Rattle.std.proofs.Common.{refl, ap, sym}
+use Rattle.mono_model.specs.declared.poll.Poll.TheVariants.{Ready, Pending}
+use Rattle.mono_combine.proofs.select.Select2TaskFuture.poll.Goals as goal
+
+pub returns-in-Ready-clause-polled : goal.returns-in-Ready-clause-polled
+returns-in-Ready-clause-polled g c =
+    let kept = rw c.draw-start.ensures.next at c.select_from.ensures.kept in
+    record {
+      picked = Ready c.in-Ready.pick;
+      left = record { first = c.select_from.new.self.first; second = c.select_from.new.self.second; cx = c.select_from.new.cx };
+      selects = rw (c.in-Ready.is, c.draw-start.ensures.start) at c.select_from.ensures.selects;
+      ends = (
+        ap (λ out. Ready out) c.answer_of.ensures,
+        rw (c.give_up.ensures.gone, c.give_up-in-Ready.ensures.gone, ap (λ s. s.first_test) kept, ap (λ s. s.second_test) kept, ap (λ s. s.start) kept) refl,
+        (c.give_up.new.cx, c.give_up.ensures.given_up, c.give_up-in-Ready.ensures.given_up),
+      );
+    }
+
+pub returns-in-Pending-clause-polled : goal.returns-in-Pending-clause-polled
+returns-in-Pending-clause-polled g c =
+    record {
+      picked = Pending;
+      left = record { first = c.select_from.new.self.first; second = c.select_from.new.self.second; cx = c.select_from.new.cx };
+      selects = rw (c.in-Pending.is, c.draw-start.ensures.start) at c.select_from.ensures.selects;
+      ends = (refl, rw c.draw-start.ensures.next at c.select_from.ensures.kept, refl);
+    }

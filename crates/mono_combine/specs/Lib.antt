@@ -1,0 +1,11 @@
+pub mod Random
+pub mod PollFns
+pub mod Rules
+pub mod Starts
+pub mod Looks
+pub mod Branches
+pub mod Lending
+pub mod Joined
+pub mod TryJoined
+pub mod Selected
+pub mod Listed

@@ -1,0 +1,51 @@
+-- Many branches of one type.
+use Rattle.std.specs.Prelude.{◌≡◌, ⊤, Bool, true, false, List, [], ◌∷◌, map}
+use Rattle.std.specs.List.{list_any}
+use Rattle.mono_task.specs.Members.{FutureOf}
+use Rattle.mono_model.specs.Poll.{OnPending, OnReady}
+use Rattle.mono_model.specs.declared.poll.Poll.{Poll}
+use Rattle.mono_model.specs.declared.poll.Poll.TheVariants.{Ready, Pending}
+use Rattle.mono_combine.specs.declared.maybe.MaybeDone.{MaybeDone}
+use Rattle.mono_combine.specs.declared.maybe.MaybeDone.TheVariants.{Gone}
+use Rattle.mono_combine.specs.Branches.{Advances, maybe_spent, MaybeCanPoll, MaybeCancels, output_of}
+use Rattle.mono_combine.specs.Rules.{join_rule}
+
+-- each branch has its turn once, in the written order
+abbrev pub EachInTurn : {M C : Type 0} → (M → C → M → C → Type 0) → List M → C → List M → C → Type 0
+EachInTurn step [] c [] d = d ≡ c
+EachInTurn step [] c (n ∷ ns) d = ⊥
+EachInTurn step (m ∷ ms) c [] d = ⊥
+EachInTurn {M} {C} step (m ∷ ms) c (n ∷ ns) d = (middle : C) × step m c n middle × EachInTurn step ms middle ns d
+
+module _ {C T O : Type 0} (future : FutureOf T C O) where
+  abbrev pub MayPoll : MaybeDone C T O → Type 0
+  MayPoll m = (maybe_spent future m ≡ false) × MaybeCanPoll future m
+
+  abbrev pub AllMayPoll : List (MaybeDone C T O) → Type 0
+  AllMayPoll [] = ⊤
+  AllMayPoll (m ∷ ms) = MayPoll m × AllMayPoll ms
+
+  abbrev pub AllCanPoll : List (MaybeDone C T O) → Type 0
+  AllCanPoll [] = ⊤
+  AllCanPoll (m ∷ ms) = MaybeCanPoll future m × AllCanPoll ms
+
+  -- what is left of the branch is given up
+  abbrev pub GivesUp : MaybeDone C T O → C → MaybeDone C T O → C → Type 0
+  GivesUp m c n d = (n ≡ Gone) × MaybeCancels future m c d
+
+  -- each branch that is not done is polled once, in the written order, and the answer is the rule's
+  pub record JoinListPolls (branches : List (MaybeDone C T O)) (c : C) (r : Poll (List O)) (left : List (MaybeDone C T O)) (has_answered : Bool) (d : C) : Type 0 where
+    pub polled : List (MaybeDone C T O)
+    pub turns : EachInTurn (Advances future) branches c polled d
+    pub answer : r ≡ join_rule (map output_of polled)
+    pub waits : OnPending r ((left ≡ polled) × (has_answered ≡ false))
+    pub ends : OnReady r (has_answered ≡ true)
+
+  -- what is left of the branches is given up in the written order
+  abbrev pub AllCancel : List (MaybeDone C T O) → C → C → Type 0
+  AllCancel branches c d = (left : List (MaybeDone C T O)) × EachInTurn GivesUp branches c left d
+
+-- the answer with a vector seen as the list of its items
+abbrev pub answer_as : {V O : Type 0} → (V → List O) → Poll V → Poll (List O)
+answer_as items (Ready v) = Ready (items v)
+answer_as items Pending = Pending

@@ -1,0 +1,58 @@
+-- A branch of a select: its turn, and how it is given up.
+use Rattle.std.specs.Prelude.{◌≡◌, ⊤, Bool, true, false}
+use Rattle.std.specs.Fn.{Shared, FnReturnsAt}
+use denote.Ref.{Bor}
+use Rattle.mono_task.specs.Members.{FutureOf}
+use Rattle.mono_model.specs.declared.poll.Poll.{Poll}
+use Rattle.mono_model.specs.declared.poll.Poll.TheVariants.{Ready, Pending}
+use Rattle.mono_combine.specs.declared.branch.Branch.{Branch}
+use Rattle.mono_combine.specs.declared.branch.Branch.TheVariants.{Live, Out, Gone}
+use Rattle.mono_combine.specs.declared.branch.Look.{Look}
+use Rattle.mono_combine.specs.declared.branch.Look.TheVariants.{Passes, Waits, Rests}
+
+-- its bit in the mask is set
+abbrev pub is_out : {T : Type 0} → Branch T → Bool
+is_out (Live f) = false
+is_out (Out f) = true
+is_out Gone = true
+
+module _ {T C O : Type 0} (future : FutureOf T C O) where
+  -- a branch that is left out is never polled
+  abbrev pub branch_spent : Branch T → Bool
+  branch_spent (Live f) = future.is_spent f
+  branch_spent (Out f) = false
+  branch_spent Gone = false
+
+  abbrev pub BranchCanPoll : Branch T → Type 0
+  BranchCanPoll (Live f) = future.can_poll f
+  BranchCanPoll (Out f) = ⊤
+  BranchCanPoll Gone = ⊤
+
+  -- what is left of it is given up
+  abbrev pub BranchCancels : Branch T → C → C → Type 0
+  BranchCancels (Live f) c d = future.cancels f c d
+  BranchCancels (Out f) c d = future.cancels f c d
+  BranchCancels Gone c d = d ≡ c
+
+abbrev pub passes_if : {O : Type 0} → Bool → O → Look O
+passes_if true x = Passes x
+passes_if false x = Rests
+
+module _ {T P C O : Type 0} (future : FutureOf T C O) (call : Shared P (Bor O × Unit {0}) Bool) (test : P) where
+  -- a branch that was ready is out from then on, and its future is given up at once
+  abbrev pub AfterPoll : Poll O → T → C → Look O → Branch T → C → Type 0
+  AfterPoll (Ready x) left c look b d = future.cancels left c d × (b ≡ Gone) × ((is_true : Bool) × FnReturnsAt call test x is_true × (look ≡ passes_if is_true x))
+  AfterPoll Pending left c look b d = (look ≡ Waits) × (b ≡ Live left) × (d ≡ c)
+
+  pub record IsPolled (f : T) (c : C) (look : Look O) (b : Branch T) (d : C) : Type 0 where
+    pub answer : Poll O
+    pub left : T
+    pub middle : C
+    pub polled : future.polls f c answer left middle
+    pub rest : AfterPoll answer left middle look b d
+
+  -- the turn of a branch: a live one is polled, and any other stays as it is
+  abbrev pub HasTurn : Branch T → C → Look O → Branch T → C → Type 0
+  HasTurn (Live f) c look b d = IsPolled f c look b d
+  HasTurn (Out f) c look b d = (b ≡ Out f) × (d ≡ c)
+  HasTurn Gone c look b d = (b ≡ Gone) × (d ≡ c)

@@ -1,0 +1,11 @@
+-- Words on a closure that is called as a poll is.
+use Rattle.std.specs.Fn.{Mut, CalledAtMut}
+use denote.Ref.{MutBor}
+use Rattle.mono_model.specs.declared.poll.Poll.{Poll}
+
+abbrev pub Poller : Type 0 → Type 0 → Type 0 → Type 1
+Poller F C T = Mut F (MutBor C × Unit {0}) (Poll T × (MutBor C × Unit {0}))
+
+-- each call leaves a context that is reached from the one before
+abbrev pub StaysReached : {F C T : Type 0} → Poller F C T → (C → C → Type 0) → Type 0
+StaysReached {F} {C} {T} g reaches = (f : F) (c : C) (r : Poll T) (f' : F) (d : C) → CalledAtMut g f c r f' d → reaches c d

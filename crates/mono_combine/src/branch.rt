@@ -1,0 +1,103 @@
+// A branch of a select.
+ghost use Rattle.std.specs.Prelude.{◌≡◌, false};
+ghost use Rattle.mono_combine.specs.Looks.{is_out, branch_spent, BranchCanPoll, BranchCancels, HasTurn};
+ghost use Rattle.mono_combine.specs.Rules.{unless_masked};
+
+use mono_model::{Host, Poll};
+use mono_task::{Context, TaskFuture};
+use std::alloc::Global;
+use std::mem;
+
+// What one turn of a branch gave.
+#[derive(Drop)]
+pub(crate) enum Look<X> {
+    // It is ready, and its predicate is true of the output.
+    Passes(X),
+    // It is pending.
+    Waits,
+    // It is left out, or ready with an output of which its predicate is false.
+    Rests,
+}
+
+// A branch of a select. Its bit in the mask is set unless it is live.
+#[derive(Drop)]
+pub(crate) enum Branch<T> {
+    // It is polled in its turn.
+    Live(T),
+    // The mask that was handed in leaves it out.
+    Out(T),
+    // It was ready, or the select has answered; its future was given up.
+    Gone,
+}
+
+impl<T> Branch<T> {
+    pub(crate) fn spent<C: Context>(&self) -> bool
+    where
+        T: TaskFuture<C>,
+        ensures { result ≡ branch_spent T.TaskFuture self.now }
+    {
+        match self {
+            Branch::Live(future) => future.spent(),
+            Branch::Out(_) => false,
+            Branch::Gone => false,
+        }
+    }
+
+    // The turn of the branch: a live one is polled, and given up at once where it is ready.
+    pub(crate) fn look<R: Host, C: Context, P>(
+        &mut self,
+        test: &P,
+        rt: &R,
+        alloc: Global,
+        cx: &mut C,
+    ) -> Look<T::Output>
+    where
+        T: TaskFuture<C, Output: Drop>,
+        P: Fn(&T::Output) -> bool,
+        requires unspent { branch_spent T.TaskFuture self.old ≡ false }
+        requires callable { BranchCanPoll T.TaskFuture self.old }
+        requires test { P.IsAlwaysCallable test.now }
+        ensures turn { HasTurn T.TaskFuture P.Fn test.now self.old cx.old result self.new cx.new }
+        ensures counts { unless_masked (is_out self.old) result ≡ result }
+        ensures unspent { branch_spent T.TaskFuture self.new ≡ false }
+        ensures callable { BranchCanPoll T.TaskFuture self.new }
+        ensures reached { C.reaches cx.old cx.new }
+    {
+        match mem::replace(self, Branch::Gone) {
+            Branch::Live(mut future) => match future.poll(rt, alloc, cx) {
+                Poll::Ready(x) => {
+                    future.cancel(cx);
+                    if test(&x) {
+                        Look::Passes(x)
+                    } else {
+                        Look::Rests
+                    }
+                }
+                Poll::Pending => {
+                    *self = Branch::Live(future);
+                    Look::Waits
+                }
+            },
+            Branch::Out(future) => {
+                *self = Branch::Out(future);
+                Look::Rests
+            }
+            Branch::Gone => Look::Rests,
+        }
+    }
+
+    // Gives up a future that is left.
+    pub(crate) fn give_up<C: Context>(&mut self, cx: &mut C)
+    where
+        T: TaskFuture<C>,
+        ensures gone { self.new ≡ Branch.Gone }
+        ensures given_up { BranchCancels T.TaskFuture self.old cx.old cx.new }
+        ensures reached { C.reaches cx.old cx.new }
+    {
+        match mem::replace(self, Branch::Gone) {
+            Branch::Live(future) => future.cancel(cx),
+            Branch::Out(future) => future.cancel(cx),
+            Branch::Gone => {}
+        }
+    }
+}

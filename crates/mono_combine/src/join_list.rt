@@ -1,0 +1,80 @@
+// Many branches that are polled until all outputs are there.
+ghost use Rattle.std.specs.Prelude.{◌≡◌, ◌≤◌, ◌||◌, false, true, [], length, map, vec_len, vec_capacity, IfOk, IfErr};
+ghost use Rattle.std.specs.List.{list_any, All};
+ghost use Rattle.mono_combine.specs.Branches.{maybe_spent};
+ghost use Rattle.mono_combine.specs.Listed.{AllCanPoll, JoinListPolls, AllCancel, answer_as};
+
+use crate::list::{any_spent, collect, fill, give_up_each, poll_each};
+use crate::maybe::MaybeDone;
+use mono_model::{Host, Poll};
+use mono_task::{Context, TaskFuture};
+use std::alloc::Global;
+use std::mem;
+
+/// At most 64 futures of one type of which each poll polls every unfinished one once, in the written order.
+///
+/// It answers all outputs in the written order once all are there (`join_rule`), and is spent from then on. The room for
+/// the outputs is made when the form is made, so that no poll can be refused memory.
+#[derive(Drop)]
+pub struct JoinList<C: Context, T: TaskFuture<C>> {
+    branches: Vec<MaybeDone<C, T>>,
+    outputs: Vec<T::Output>,
+    has_answered: bool,
+    ghost no_outputs: { outputs.items ≡ [] },
+    ghost room: { vec_len branches ≤ vec_capacity outputs },
+}
+
+impl<C: Context, T: TaskFuture<C, Output: Drop>> JoinList<C, T> {
+    /// The join of at most 64 futures that are not spent. It hands them back only where memory is refused.
+    pub fn new(alloc: Global, v: Vec<T>) -> Result<JoinList<C, T>, Vec<T>>
+        requires few { vec_len v ≤ 64 }
+        requires unspent { All (λ f. T.is_spent f ≡ false) v.items }
+        ensures made { IfOk result (λ form. form.branches.items ≡ map MaybeDone.Future v.items) }
+        ensures fresh { IfOk result (λ form. form.has_answered ≡ false) }
+        ensures handed_back { IfErr result (λ back. back ≡ v) }
+    {
+        let Ok(mut branches) = Vec::with_capacity(alloc, v.len()) else {
+            return Err(v);
+        };
+        let Ok(outputs) = Vec::with_capacity(alloc, v.len()) else {
+            return Err(v);
+        };
+        fill(v.into_iter(), &mut branches);
+        Ok(JoinList {
+            branches,
+            outputs,
+            has_answered: false,
+        })
+    }
+}
+
+impl<C: Context, T: TaskFuture<C, Output: Drop>> TaskFuture<C> for JoinList<C, T> {
+    type Output = Vec<T::Output>;
+
+    ghost is_spent = { λ f. f.has_answered || list_any (maybe_spent T.TaskFuture) f.branches.items };
+
+    ghost can_poll = { λ f. AllCanPoll T.TaskFuture f.branches.items };
+
+    ghost polls = { λ f c r g d. JoinListPolls T.TaskFuture f.branches.items c (answer_as (λ v. v.items) r) g.branches.items g.has_answered d };
+
+    ghost cancels = { λ f c d. AllCancel T.TaskFuture f.branches.items c d };
+
+    fn spent(&self) -> bool {
+        self.has_answered || any_spent(&self.branches)
+    }
+
+    fn poll<R: Host>(&mut self, rt: &R, alloc: Global, cx: &mut C) -> Poll<Vec<T::Output>> {
+        if poll_each(rt, alloc, cx, &mut self.branches) {
+            return Poll::Pending;
+        }
+        self.has_answered = true;
+        let branches = mem::replace(&mut self.branches, Vec::new(alloc));
+        let mut outputs = mem::replace(&mut self.outputs, Vec::new(alloc));
+        collect(branches.into_iter(), &mut outputs);
+        Poll::Ready(outputs)
+    }
+
+    fn cancel(mut self, cx: &mut C) {
+        give_up_each(cx, &mut self.branches);
+    }
+}

@@ -1,0 +1,71 @@
+// Two branches that are polled until both outputs are there.
+ghost use Rattle.std.specs.Prelude.{◌≡◌, ◌||◌, false};
+ghost use Rattle.mono_combine.specs.Branches.{maybe_spent, MaybeCanPoll};
+ghost use Rattle.mono_combine.specs.Joined.{JoinPolls, JoinCancels};
+
+use crate::maybe::{MaybeDone, maybe_done};
+use mono_model::{Host, Poll};
+use mono_task::{Context, TaskFuture};
+use std::alloc::Global;
+
+/// Two futures of which each poll polls every unfinished one once, in the written order.
+///
+/// It answers both outputs once both are there (`join_rule`), and is spent from then on.
+#[derive(Drop)]
+pub struct Join2<C: Context, A: TaskFuture<C>, B: TaskFuture<C>> {
+    a: MaybeDone<C, A>,
+    b: MaybeDone<C, B>,
+}
+
+impl<C: Context, A: TaskFuture<C>, B: TaskFuture<C>> Join2<C, A, B> {
+    /// The join of two futures that are not spent.
+    pub fn new(a: A, b: B) -> Join2<C, A, B>
+        requires a { A.is_spent a ≡ false }
+        requires b { B.is_spent b ≡ false }
+        ensures a { result.a ≡ MaybeDone.Future a }
+        ensures b { result.b ≡ MaybeDone.Future b }
+    {
+        Join2 {
+            a: maybe_done(a),
+            b: maybe_done(b),
+        }
+    }
+}
+
+impl<C, A, B> TaskFuture<C> for Join2<C, A, B>
+where
+    C: Context,
+    A: TaskFuture<C, Output: Drop>,
+    B: TaskFuture<C, Output: Drop>,
+{
+    type Output = (A::Output, B::Output);
+
+    ghost is_spent = { λ f. maybe_spent A.TaskFuture f.a || maybe_spent B.TaskFuture f.b };
+
+    ghost can_poll = { λ f. MaybeCanPoll A.TaskFuture f.a × MaybeCanPoll B.TaskFuture f.b };
+
+    ghost polls = { JoinPolls A.TaskFuture B.TaskFuture };
+
+    ghost cancels = { JoinCancels A.TaskFuture B.TaskFuture };
+
+    fn spent(&self) -> bool {
+        self.a.spent() || self.b.spent()
+    }
+
+    fn poll<R: Host>(&mut self, rt: &R, alloc: Global, cx: &mut C) -> Poll<Self::Output> {
+        let first = self.a.poll(rt, alloc, cx);
+        let second = self.b.poll(rt, alloc, cx);
+        if first.is_pending() || second.is_pending() {
+            return Poll::Pending;
+        }
+        let x = self.a.take_done();
+        let y = self.b.take_done();
+        Poll::Ready((x, y))
+    }
+
+    fn cancel(self, cx: &mut C) {
+        let Join2 { a, b } = self;
+        a.cancel(cx);
+        b.cancel(cx);
+    }
+}

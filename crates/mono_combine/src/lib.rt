@@ -1,0 +1,29 @@
+//! Futures made of futures: closures as futures, futures that keep their output, joins, selects, and random numbers.
+//!
+//! What each form answers is a rule on what its branches answered in this poll: `join_rule`, `try_join_rule` and
+//! `select_rule` of specs/Rules. How the branches are polled and given up is said by the branches' own relations.
+#![tactic(auto)]
+
+mod branch;
+#[cfg(test)]
+mod example;
+mod join_list;
+mod joins;
+mod list;
+mod maybe;
+mod polling;
+mod random;
+mod select;
+mod start;
+#[cfg(test)]
+mod tests;
+mod try_joins;
+
+pub use join_list::JoinList;
+pub use joins::Join2;
+pub use maybe::{MaybeDone, maybe_done};
+pub use polling::{PollFn, poll_fn};
+pub use random::FastRand;
+pub use select::{Out2, Select2};
+pub use start::Start;
+pub use try_joins::TryJoin2;

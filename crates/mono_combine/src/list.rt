@@ -1,0 +1,94 @@
+// Many branches of one type that keep their output.
+ghost use Rattle.std.specs.Prelude.{◌≡◌, ◌≤◌, ◌+◌, ◌++◌, false, [], length, map, vec_len, vec_capacity};
+ghost use Rattle.std.specs.List.{list_any, filter_map};
+ghost use Rattle.std.specs.Vec.Iter.{into_iter_items, into_iter_len};
+ghost use Rattle.mono_combine.specs.Branches.{maybe_spent, is_waiting, output_of, Advances};
+ghost use Rattle.mono_combine.specs.Listed.{EachInTurn, AllMayPoll, GivesUp};
+
+use crate::maybe::{MaybeDone, maybe_done};
+use mono_model::Host;
+use mono_task::{Context, TaskFuture};
+use std::alloc::Global;
+use std::vec;
+
+// Puts the futures behind the branches, which have the room for them.
+pub(crate) fn fill<C: Context, T: TaskFuture<C, Output: Drop>>(
+    mut futures: vec::IntoIter<T>,
+    branches: &mut Vec<MaybeDone<C, T>>,
+)
+    requires { vec_len branches.old + into_iter_len futures ≤ vec_capacity branches.old }
+    ensures { branches.new.items ≡ branches.old.items ++ map MaybeDone.Future (into_iter_items futures) }
+{
+    while let Some(future) = futures.next() {
+        if branches.push(maybe_done(future)).is_err() {
+            unreachable!();
+        }
+    }
+}
+
+// Whether a branch is spent.
+pub(crate) fn any_spent<C: Context, T: TaskFuture<C, Output: Drop>>(
+    branches: &[MaybeDone<C, T>],
+) -> bool
+    ensures { result ≡ list_any (maybe_spent T.TaskFuture) branches.now }
+{
+    for branch in branches {
+        if branch.spent() {
+            return true;
+        }
+    }
+    false
+}
+
+// Polls each branch once, in the written order. True if one of them waits.
+pub(crate) fn poll_each<R: Host, C: Context, T: TaskFuture<C, Output: Drop>>(
+    rt: &R,
+    alloc: Global,
+    cx: &mut C,
+    branches: &mut Vec<MaybeDone<C, T>>,
+) -> bool
+    requires { AllMayPoll T.TaskFuture branches.old.items }
+    ensures polled { EachInTurn (Advances T.TaskFuture) branches.old.items cx.old branches.new.items cx.new }
+    ensures length { vec_len branches.new ≡ vec_len branches.old }
+    ensures waits { result ≡ list_any is_waiting branches.new.items }
+    ensures again { AllMayPoll T.TaskFuture branches.new.items }
+    ensures reached { C.reaches cx.old cx.new }
+{
+    let mut waits = false;
+    for i in 0..branches.len() {
+        if branches[i].poll(rt, alloc, cx).is_pending() {
+            waits = true;
+        }
+    }
+    waits
+}
+
+// Gives up what is left of each branch, in the written order.
+pub(crate) fn give_up_each<C: Context, T: TaskFuture<C, Output: Drop>>(
+    cx: &mut C,
+    branches: &mut Vec<MaybeDone<C, T>>,
+)
+    ensures given_up { EachInTurn (GivesUp T.TaskFuture) branches.old.items cx.old branches.new.items cx.new }
+    ensures reached { C.reaches cx.old cx.new }
+{
+    for i in 0..branches.len() {
+        branches[i].give_up(cx);
+    }
+}
+
+// The outputs that are there, in the written order, in a vector that has the room for them.
+pub(crate) fn collect<C: Context, T: TaskFuture<C, Output: Drop>>(
+    mut branches: vec::IntoIter<MaybeDone<C, T>>,
+    outputs: &mut Vec<T::Output>,
+)
+    requires { vec_len outputs.old + into_iter_len branches ≤ vec_capacity outputs.old }
+    ensures { outputs.new.items ≡ outputs.old.items ++ filter_map output_of (into_iter_items branches) }
+{
+    while let Some(mut branch) = branches.next() {
+        if let Some(output) = branch.take_output() {
+            if outputs.push(output).is_err() {
+                unreachable!();
+            }
+        }
+    }
+}

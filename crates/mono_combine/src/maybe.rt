@@ -1,0 +1,142 @@
+// A future, or the output that it gave.
+ghost use Rattle.std.specs.Prelude.{◌≡◌, false};
+ghost use Rattle.std.specs.Option.{option_copied_mut};
+ghost use Rattle.std.specs.Borrow.{sem};
+ghost use Rattle.mono_combine.specs.Lending.{LendsOutput};
+ghost use Rattle.mono_combine.specs.Branches.{maybe_spent, MaybeCanPoll, MaybePolls, MaybeCancels, is_waiting, output_of, without_output};
+
+use mono_model::{Host, Poll};
+use mono_task::{Context, TaskFuture};
+use std::alloc::Global;
+use std::mem;
+
+/// A future, or the output that it gave until that is taken.
+///
+/// It is spent exactly where the output was taken or where it holds a future that is spent.
+#[derive(Drop)]
+pub enum MaybeDone<C: Context, Fut: TaskFuture<C>> {
+    /// The future has not answered.
+    Future(Fut),
+    /// The future has answered, and was given up at once.
+    Done(Fut::Output),
+    /// The output was taken.
+    Gone,
+}
+
+/// A future whose output is kept once it is there.
+pub fn maybe_done<C: Context, Fut: TaskFuture<C>>(future: Fut) -> MaybeDone<C, Fut>
+    ensures { result ≡ MaybeDone.Future future }
+{
+    MaybeDone::Future(future)
+}
+
+impl<C: Context, Fut: TaskFuture<C, Output: Drop>> MaybeDone<C, Fut> {
+    /// The output, if it is there.
+    pub fn output_mut(&mut self) -> Option<&mut Fut::Output>
+        ensures value { option_copied_mut result ≡ output_of self.old }
+        ensures* writes_back { sem 𝓛 (LendsOutput C.row Fut.row Fut.Output.row self.entry result) }
+    {
+        match self {
+            MaybeDone::Done(output) => Some(output),
+            _ => None,
+        }
+    }
+
+    /// Takes the output, if it is there; it is gone then, and else all stays as it was.
+    pub fn take_output(&mut self) -> Option<Fut::Output>
+        ensures output { result ≡ output_of self.old }
+        ensures left { self.new ≡ without_output self.old }
+    {
+        match mem::replace(self, MaybeDone::Gone) {
+            MaybeDone::Done(output) => Some(output),
+            MaybeDone::Future(future) => {
+                *self = MaybeDone::Future(future);
+                None
+            }
+            MaybeDone::Gone => None,
+        }
+    }
+
+    // Takes the output, which is there.
+    pub(crate) fn take_done(&mut self) -> Fut::Output
+        requires unspent { maybe_spent Fut.TaskFuture self.old ≡ false }
+        requires done { is_waiting self.old ≡ false }
+        ensures output { self.old ≡ MaybeDone.Done result }
+        ensures gone { self.new ≡ MaybeDone.Gone }
+    {
+        let MaybeDone::Done(output) = mem::replace(self, MaybeDone::Gone) else {
+            unreachable!()
+        };
+        output
+    }
+
+    // Whether the output is still to come.
+    pub(crate) fn is_waiting(&self) -> bool
+        ensures { result ≡ is_waiting self.now }
+    {
+        match self {
+            MaybeDone::Future(_) => true,
+            MaybeDone::Done(_) => false,
+            MaybeDone::Gone => false,
+        }
+    }
+
+    // Gives up what is left of it.
+    pub(crate) fn give_up(&mut self, cx: &mut C)
+        ensures gone { self.new ≡ MaybeDone.Gone }
+        ensures cancelled { MaybeCancels Fut.TaskFuture self.old cx.old cx.new }
+        ensures reached { C.reaches cx.old cx.new }
+    {
+        mem::replace(self, MaybeDone::Gone).cancel(cx);
+    }
+}
+
+/// Answers `Ready` where the output is there, and polls the future before that. The output stays until it is taken.
+impl<C: Context, Fut: TaskFuture<C, Output: Drop>> TaskFuture<C> for MaybeDone<C, Fut> {
+    type Output = ();
+
+    ghost is_spent = { maybe_spent Fut.TaskFuture };
+
+    ghost can_poll = { MaybeCanPoll Fut.TaskFuture };
+
+    ghost polls = { MaybePolls Fut.TaskFuture };
+
+    ghost cancels = { MaybeCancels Fut.TaskFuture };
+
+    fn spent(&self) -> bool {
+        match self {
+            MaybeDone::Future(future) => future.spent(),
+            MaybeDone::Done(_) => false,
+            MaybeDone::Gone => true,
+        }
+    }
+
+    fn poll<R: Host>(&mut self, rt: &R, alloc: Global, cx: &mut C) -> Poll<()> {
+        match mem::replace(self, MaybeDone::Gone) {
+            MaybeDone::Future(mut future) => match future.poll(rt, alloc, cx) {
+                Poll::Ready(output) => {
+                    future.cancel(cx);
+                    *self = MaybeDone::Done(output);
+                    Poll::Ready(())
+                }
+                Poll::Pending => {
+                    *self = MaybeDone::Future(future);
+                    Poll::Pending
+                }
+            },
+            MaybeDone::Done(output) => {
+                *self = MaybeDone::Done(output);
+                Poll::Ready(())
+            }
+            MaybeDone::Gone => unreachable!(),
+        }
+    }
+
+    fn cancel(self, cx: &mut C) {
+        match self {
+            MaybeDone::Future(future) => future.cancel(cx),
+            MaybeDone::Done(_) => {}
+            MaybeDone::Gone => {}
+        }
+    }
+}

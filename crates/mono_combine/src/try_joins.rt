@@ -1,0 +1,114 @@
+// Two branches that are polled until one fails or both values are there.
+ghost use Rattle.std.specs.Prelude.{◌≡◌, ◌||◌, false};
+ghost use Rattle.mono_combine.specs.Branches.{maybe_spent, MaybeCanPoll, is_waiting};
+ghost use Rattle.mono_combine.specs.TryJoined.{failure_of, without_failure, TryJoinPolls, TryJoinCancels};
+
+use crate::maybe::{MaybeDone, maybe_done};
+use mono_model::{Host, Poll};
+use mono_task::{Context, TaskFuture};
+use std::alloc::Global;
+
+/// Two futures of which each poll polls every unfinished one once, in the written order, up to the first that fails.
+///
+/// The first error in the written order is answered at once, and the unfinished branches are given up in the written
+/// order; else both values are answered once both are there (`try_join_rule`). It is spent once it has answered.
+#[derive(Drop)]
+pub struct TryJoin2<C: Context, A: TaskFuture<C>, B: TaskFuture<C>> {
+    a: MaybeDone<C, A>,
+    b: MaybeDone<C, B>,
+}
+
+impl<C: Context, A: TaskFuture<C>, B: TaskFuture<C>> TryJoin2<C, A, B> {
+    /// The join of two futures that are not spent.
+    pub fn new(a: A, b: B) -> TryJoin2<C, A, B>
+        requires a { A.is_spent a ≡ false }
+        requires b { B.is_spent b ≡ false }
+        ensures a { result.a ≡ MaybeDone.Future a }
+        ensures b { result.b ≡ MaybeDone.Future b }
+    {
+        TryJoin2 {
+            a: maybe_done(a),
+            b: maybe_done(b),
+        }
+    }
+}
+
+impl<C: Context, X: Drop, E: Drop, Fut: TaskFuture<C, Output = Result<X, E>>> MaybeDone<C, Fut> {
+    // Takes the error, if there is one.
+    fn take_failure(&mut self) -> Option<E>
+        ensures error { result ≡ failure_of self.old }
+        ensures left { self.new ≡ without_failure self.old }
+    {
+        if let MaybeDone::Done(Err(_)) = self {
+            match self.take_output() {
+                Some(Err(error)) => Some(error),
+                _ => unreachable!(),
+            }
+        } else {
+            None
+        }
+    }
+
+    // Takes the value, which is there.
+    fn take_value(&mut self) -> X
+        requires unspent { maybe_spent Fut.TaskFuture self.old ≡ false }
+        requires done { is_waiting self.old ≡ false }
+        requires succeeded { failure_of self.old ≡ None }
+        ensures output { self.old ≡ MaybeDone.Done (Ok result) }
+        ensures gone { self.new ≡ MaybeDone.Gone }
+    {
+        match self.take_done() {
+            Ok(value) => value,
+            Err(_) => unreachable!(),
+        }
+    }
+}
+
+impl<C, A, B, X, Y, E> TaskFuture<C> for TryJoin2<C, A, B>
+where
+    C: Context,
+    A: TaskFuture<C, Output = Result<X, E>>,
+    B: TaskFuture<C, Output = Result<Y, E>>,
+    X: Drop,
+    Y: Drop,
+    E: Drop,
+{
+    type Output = Result<(X, Y), E>;
+
+    ghost is_spent = { λ f. maybe_spent A.TaskFuture f.a || maybe_spent B.TaskFuture f.b };
+
+    ghost can_poll = { λ f. MaybeCanPoll A.TaskFuture f.a × MaybeCanPoll B.TaskFuture f.b };
+
+    ghost polls = { TryJoinPolls A.TaskFuture B.TaskFuture };
+
+    ghost cancels = { TryJoinCancels A.TaskFuture B.TaskFuture };
+
+    fn spent(&self) -> bool {
+        self.a.spent() || self.b.spent()
+    }
+
+    fn poll<R: Host>(&mut self, rt: &R, alloc: Global, cx: &mut C) -> Poll<Self::Output> {
+        let _ = self.a.poll(rt, alloc, cx);
+        if let Some(error) = self.a.take_failure() {
+            self.b.give_up(cx);
+            return Poll::Ready(Err(error));
+        }
+        let _ = self.b.poll(rt, alloc, cx);
+        if let Some(error) = self.b.take_failure() {
+            self.a.give_up(cx);
+            return Poll::Ready(Err(error));
+        }
+        if self.a.is_waiting() || self.b.is_waiting() {
+            return Poll::Pending;
+        }
+        let x = self.a.take_value();
+        let y = self.b.take_value();
+        Poll::Ready(Ok((x, y)))
+    }
+
+    fn cancel(self, cx: &mut C) {
+        let TryJoin2 { a, b } = self;
+        a.cancel(cx);
+        b.cancel(cx);
+    }
+}

@@ -1,0 +1,18 @@
+-- Words on what a stream answers.
+use Rattle.std.specs.Prelude.{⊤, Option, Some, None}
+use Rattle.mono_model.specs.declared.poll.Poll.{Poll}
+use Rattle.mono_stream.specs.declared.handled.Stop.{Stop}
+use Rattle.mono_stream.specs.declared.handled.Stop.TheVariants.{Ended, Waits, Many}
+use Rattle.mono_model.specs.declared.poll.Poll.TheVariants.{Ready, Pending}
+
+-- the fact holds unless the stream has ended
+abbrev pub UnlessEnded : {X : Type 0} → Poll (Option X) → Type 0 → Type 0
+UnlessEnded (Ready (Some x)) P = P
+UnlessEnded (Ready None) P = ⊤
+UnlessEnded Pending P = P
+
+-- the fact holds unless no more items were handled because the stream has ended
+abbrev pub UnlessStopped : Stop → Type 0 → Type 0
+UnlessStopped Ended P = ⊤
+UnlessStopped Waits P = P
+UnlessStopped Many P = P

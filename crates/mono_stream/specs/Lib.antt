@@ -1,0 +1,6 @@
+pub mod Ends
+pub mod Members
+pub mod Iterated
+pub mod Mapped
+pub mod Chained
+pub mod Handled

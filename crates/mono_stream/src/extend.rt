@@ -1,0 +1,50 @@
+// Streams and futures made of a stream.
+ghost use Rattle.std.specs.Prelude.{◌≡◌, false, None};
+
+use crate::chained::Then;
+use crate::handled::ForEach;
+use crate::mapped::Map;
+use crate::streams::Stream;
+use mono_task::{Context, TaskFuture};
+
+/// What can be made of every stream.
+pub trait StreamExt<C: Context>: Stream<C> + Sized {
+    /// The stream of what `f` answers for each item.
+    fn map<T, F: FnMut(Self::Item) -> T>(self, f: F) -> Map<Self, F>
+        ensures stream { result.stream ≡ self }
+        ensures f { result.f ≡ f }
+    {
+        Map { stream: self, f }
+    }
+
+    /// The stream of the outputs of the futures that `f` makes of the items. None of these may be spent.
+    fn then<F: FnMut(Self::Item) -> Fut, Fut: TaskFuture<C>>(self, f: F) -> Then<Self, F, Fut>
+        ensures stream { result.stream ≡ self }
+        ensures f { result.f ≡ f }
+        ensures made { result.made ≡ None }
+    {
+        Then {
+            stream: self,
+            f,
+            made: None,
+        }
+    }
+
+    /// The future that handles each item by the future that `f` makes of it. None of these may be spent.
+    fn for_each<F: FnMut(Self::Item) -> Fut, Fut: TaskFuture<C, Output = ()>>(
+        self,
+        f: F,
+    ) -> ForEach<Self, F, Fut>
+        ensures stream { result.items.stream ≡ self }
+        ensures f { result.items.f ≡ f }
+        ensures made { result.items.made ≡ None }
+        ensures fresh { result.has_ended ≡ false }
+    {
+        ForEach {
+            items: self.then(f),
+            has_ended: false,
+        }
+    }
+}
+
+impl<C: Context, S: Stream<C>> StreamExt<C> for S {}
