@@ -1,24 +1,23 @@
 -- One more sleep, or none for want of memory.
-use Rattle.std.proofs.Common.{◌≡◌, ◌≢◌, ◌<◌, ◌≤◌, ◌⊎◌, ◌^◌, inl, inr, ℕ, ◌+◌, ◌-◌, zero, suc, true, false, Bool, List, [], ◌∷◌, ◌++◌, length, get_or, set, map, Some, None, Ok, Err, refl, ap, sym, subst, ◌∙◌, arith, ne_eqb}
-use Rattle.std.specs.Prelude.{Option, slice_get, is_some, Result, nat_le, ◌==◌, ◌||◌}
+use Rattle.std.proofs.Common.{◌≡◌, ◌≢◌, ◌<◌, ◌⊎◌, ◌^◌, inl, inr, ℕ, ◌+◌, ◌-◌, zero, suc, true, false, Bool, List, [], ◌∷◌, ◌++◌, length, set, Some, None, refl, ap, sym, subst, ◌∙◌, arith, ne_eqb}
+use Rattle.std.specs.Prelude.{Option, slice_get, is_some, nat_le, ◌==◌, ◌||◌}
 use Rattle.std.specs.Option.{option_map}
 use Rattle.std.proofs.lemmas.Bool.{cases_eq, cases_lt}
-use Rattle.std.proofs.lemmas.List.{map-append, length_push, length-map, get_or_append_left, get_or_push, get_or_past}
+use Rattle.std.proofs.lemmas.List.{map-append, length_push, get_or_append_left, get_or_push, get_or_past}
 use Rattle.std.proofs.lemmas.Option.{slice_get_within}
 use Rattle.mono_model.specs.Ticks.{up}
-use Rattle.mono_model.specs.Table.{Table, value_at, with_next, table_of, count_of, is_full, next_number}
+use Rattle.mono_model.specs.Table.{Table, value_at, with_next, table_of, count_of, is_full}
 use Rattle.mono_model.specs.Sleeps as model
 use Rattle.mono_model.specs.Sleeps.{Sleeps, Arming, with_next_sleep}
 use Rattle.mono_model.proofs.Counts.{count_of-with_next}
 use Rattle.mono_model.proofs.TableOf.{table_of-next, table_of-same, length-table_of, value_at-table_of}
-use Rattle.mono_wheel.specs.Model.{Wheel, Timed, timed_at, is_reserved, Precedes}
-use Rattle.mono_time.specs.Sleeps.{Kept, fresh}
-use Rattle.mono_time.specs.Acts as machine
-use Rattle.mono_time.specs.Entries.{kept_in, kept_of, owner_of, is_armed_entry, fresh_tick_of}
+use Rattle.mono_wheel.specs.Model.{Wheel, timed_at, is_reserved}
+use Rattle.mono_time.specs.Sleeps.{fresh}
+use Rattle.mono_time.specs.Entries.{kept_of, owner_of, is_armed_entry, fresh_tick_of}
 use Rattle.mono_time.specs.Keeping.{Holds, KeyMade, NoKeyMade, EntriesStay, kept_at, kept_under}
 use Rattle.mono_time.specs.Stands.{Standing, seen}
 use Rattle.mono_time.specs.declared.entry.Entry.{Entry}
-use Rattle.mono_time.specs.declared.entry.State.TheVariants.{Fresh, Armed, Elapsed}
+use Rattle.mono_time.specs.declared.entry.State.TheVariants.{Fresh}
 use Rattle.mono_time.proofs.Counting.{count_of-same}
 use Rattle.mono_time.proofs.Holding.{some-same, none-some, given_inside}
 use Rattle.mono_time.proofs.Slices.{slice_get-set_in, slice_get-set_other}

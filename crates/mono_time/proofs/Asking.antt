@@ -1,11 +1,11 @@
 -- Whether a sleep has elapsed.
-use Rattle.std.proofs.Common.{◌≡◌, ◌<◌, ℕ, true, false, Bool, List, Some, None, Ok, refl, ap, sym, ◌∙◌}
+use Rattle.std.proofs.Common.{◌≡◌, ℕ, Bool, List, Some, Ok, refl, ap, sym, ◌∙◌}
 use Rattle.std.specs.Prelude.{Option, slice_get, Result}
 use Rattle.mono_model.specs.Table.{Table, value_at}
 use Rattle.mono_model.specs.Sleeps as model
 use Rattle.mono_model.specs.Sleeps.{Sleeps}
 use Rattle.mono_wheel.specs.Model.{Wheel, Timed, timed_at}
-use Rattle.mono_time.specs.Sleeps.{Kept, is_elapsed}
+use Rattle.mono_time.specs.Sleeps.{is_elapsed}
 use Rattle.mono_time.specs.Acts as machine
 use Rattle.mono_time.specs.Entries.{kept_in, is_elapsed_state}
 use Rattle.mono_time.specs.Keeping.{Holds}

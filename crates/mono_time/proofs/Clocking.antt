@@ -1,20 +1,20 @@
 -- A call within a clock step.
-use Rattle.std.proofs.Common.{◌≡◌, ◌≢◌, ◌<◌, ◌≤◌, ◌⊎◌, ◌^◌, inl, inr, ℕ, ◌+◌, true, false, Bool, cond, List, length, get_or, set, map, Some, None, refl, ap, sym, subst, ◌∙◌, arith}
+use Rattle.std.proofs.Common.{◌≡◌, ◌≢◌, ◌<◌, ◌≤◌, ◌^◌, inl, inr, ℕ, true, false, Bool, cond, List, length, set, Some, None, refl, ap, sym, subst, ◌∙◌, arith}
 use Rattle.std.specs.Prelude.{Option, slice_get, is_some, nat_le, max, slice_index_or}
 use Rattle.std.specs.Option.{option_map}
-use Rattle.std.proofs.lemmas.Bool.{cases_eq, cases_lt}
+use Rattle.std.proofs.lemmas.Bool.{cases_lt}
 use Rattle.std.proofs.lemmas.List.{get_or_past, get_or-set_same}
 use Rattle.mono_model.specs.Ticks.{down}
-use Rattle.mono_model.specs.Table.{Table, value_at, with_value, table_of}
+use Rattle.mono_model.specs.Table.{Table, value_at, with_value}
 use Rattle.mono_model.specs.Sleeps as model
 use Rattle.mono_model.specs.Sleeps.{Sleeps, Arming, with_greatest, with_sleep, IsDueSleep, MayPrecede}
 use Rattle.mono_time.specs.Firing.{IsFirstDue, IsNoneDue}
 use Rattle.mono_model.proofs.TableOf.{table_of-same, value_at-table_of, length-table_of}
 use Rattle.mono_wheel.specs.Start.{start}
-use Rattle.mono_wheel.specs.Model.{Wheel, Timed, timed_at, timed_after, is_reserved, moved, Precedes, CameOut, NothingDue, IsDue}
-use Rattle.mono_time.specs.Sleeps.{Kept, fresh, armed, elapsed, waker_of}
+use Rattle.mono_wheel.specs.Model.{Wheel, Timed, timed_at, timed_after, CameOut, NothingDue}
+use Rattle.mono_time.specs.Sleeps.{Kept, armed, elapsed}
 use Rattle.mono_time.specs.Acts as machine
-use Rattle.mono_time.specs.Entries.{is_armed_state, kept_in, kept_of, tick_in, waker_in_state, is_armed_entry, owner_of, fresh_tick}
+use Rattle.mono_time.specs.Entries.{is_armed_state, kept_in, kept_of, tick_in, waker_in_state, owner_of, fresh_tick}
 use Rattle.mono_time.specs.Keeping.{Holds, KeepsBut, kept_at, kept_under}
 use Rattle.mono_time.specs.Stands.{Standing, seen}
 use Rattle.mono_time.specs.declared.entry.Entry.{Entry}

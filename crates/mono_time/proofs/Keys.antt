@@ -1,7 +1,7 @@
 -- What a call on the wheel leaves of the other keys.
-use Rattle.std.proofs.Common.{◌≡◌, ◌≢◌, ◌<◌, ◌≤◌, ◌⊎◌, inl, inr, ℕ, Some, None, refl, ap, sym, ◌∙◌}
+use Rattle.std.proofs.Common.{ℕ, None, refl, ap, ◌∙◌}
 use Rattle.std.specs.Prelude.{is_some, slice_index_or, false, Option}
-use Rattle.mono_wheel.specs.Model.{Wheel, Timed, timed_at, is_reserved, Changed}
+use Rattle.mono_wheel.specs.Model.{Wheel, Timed, Changed}
 use Rattle.mono_time.specs.Entries.{tick_in}
 use Rattle.mono_time.specs.Keeping.{KeepsBut, ArmedAnew}
 

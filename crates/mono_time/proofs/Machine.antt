@@ -1,13 +1,13 @@
 -- The machine's sleeps after one of them is in another state.
-use Rattle.std.proofs.Common.{◌≡◌, ◌≢◌, ◌<◌, ◌≤◌, inl, inr, ℕ, ◌+◌, true, false, Bool, List, length, get_or, set, Some, None, refl, ap, sym, subst, ◌∙◌, arith}
+use Rattle.std.proofs.Common.{◌≡◌, ℕ, ◌+◌, true, List, set, Some, None, ap, sym, subst, ◌∙◌, arith}
 use Rattle.std.specs.Prelude.{Option, slice_get}
 use Rattle.std.proofs.lemmas.List.{set-get_or}
-use Rattle.mono_model.specs.Table.{Table, value_at, with_value}
+use Rattle.mono_model.specs.Table.{Table, value_at}
 use Rattle.mono_model.specs.Sleeps as model
 use Rattle.mono_model.specs.Sleeps.{Sleeps, Arming, with_sleep, armed_anew}
 use Rattle.mono_wheel.specs.Model.{Wheel, Timed, timed_at, Precedes, Changed}
 use Rattle.mono_time.specs.Sleeps.{Kept, armed}
-use Rattle.mono_time.specs.Keeping.{Holds, KeepsBut, ArmedAnew}
+use Rattle.mono_time.specs.Keeping.{Holds, ArmedAnew}
 use Rattle.mono_time.specs.Stands.{Standing, seen}
 use Rattle.mono_time.specs.declared.entry.Entry.{Entry}
 use Rattle.mono_time.proofs.Holding.{key_apart}

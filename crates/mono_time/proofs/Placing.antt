@@ -1,10 +1,10 @@
 -- Where a sleep stands in each of the states that a call leaves it in.
-use Rattle.std.proofs.Common.{◌≡◌, ◌≢◌, ◌<◌, ◌≤◌, ℕ, ◌+◌, true, false, Bool, List, length, Some, None, refl, ap, sym, subst, ◌∙◌, arith}
+use Rattle.std.proofs.Common.{◌≡◌, ◌≢◌, ℕ, ◌+◌, true, false, List, Some, ap, sym, subst, ◌∙◌, arith}
 use Rattle.std.specs.Prelude.{Option}
 use Rattle.mono_model.specs.Table.{Table, value_at}
 use Rattle.mono_model.specs.Sleeps as model
 use Rattle.mono_model.specs.Sleeps.{Sleeps, Arming}
-use Rattle.mono_wheel.specs.Model.{Wheel, Timed, timed_at, Precedes}
+use Rattle.mono_wheel.specs.Model.{Wheel, timed_at, Precedes}
 use Rattle.mono_time.specs.Keeping.{ArmedAnew}
 use Rattle.mono_time.specs.Stands.{Standing}
 use Rattle.mono_time.specs.declared.entry.Entry.{Entry}

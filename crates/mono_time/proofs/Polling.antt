@@ -1,17 +1,17 @@
 -- A poll of a sleep of the machine.
-use Rattle.std.proofs.Common.{◌≡◌, ◌≢◌, ◌<◌, ◌≤◌, inl, inr, ℕ, ◌+◌, true, false, Bool, List, length, get_or, set, Some, None, Ok, refl, ap, sym, subst, ◌∙◌, arith}
+use Rattle.std.proofs.Common.{◌≡◌, inl, inr, ℕ, true, false, Bool, List, set, Some, Ok, refl, ap, sym, subst, arith}
 use Rattle.std.specs.Prelude.{Option, slice_get, nat_le, Result, ⊤}
 use Rattle.std.proofs.lemmas.Bool.{le-leb, lt-leb}
 use Rattle.mono_model.specs.Ticks.{up}
-use Rattle.mono_model.specs.Table.{Table, value_at, with_value}
+use Rattle.mono_model.specs.Table.{Table, value_at}
 use Rattle.mono_model.specs.Sleeps as model
 use Rattle.mono_model.specs.Sleeps.{Sleeps, Arming, with_sleep, armed_anew}
 use Rattle.mono_model.specs.declared.poll.Poll.{Poll}
 use Rattle.mono_wheel.specs.Model.{Wheel, timed_at}
-use Rattle.mono_time.specs.Sleeps.{Kept, fresh, armed, elapsed, polled_kept, poll_of, at_tick, is_ready_at}
+use Rattle.mono_time.specs.Sleeps.{fresh, armed, elapsed, polled_kept, poll_of, at_tick}
 use Rattle.mono_time.specs.Acts as machine
-use Rattle.mono_time.specs.Entries.{is_armed_state, kept_in, tick_in}
-use Rattle.mono_time.specs.Keeping.{Holds, kept_at, ArmedAnew}
+use Rattle.mono_time.specs.Entries.{kept_in}
+use Rattle.mono_time.specs.Keeping.{Holds, ArmedAnew}
 use Rattle.mono_time.specs.Stands.{Standing, seen}
 use Rattle.mono_time.specs.Turning.{PolledEntry}
 use Rattle.mono_time.specs.declared.entry.Entry.{Entry}
@@ -20,7 +20,7 @@ use Rattle.mono_time.specs.declared.entry.State.TheVariants.{Fresh, Armed, Elaps
 use Rattle.mono_time.specs.declared.error.Error.{Error}
 use Rattle.mono_time.proofs.Standing.{sleep_there}
 use Rattle.mono_time.proofs.Turned.{Turned, turned-polled}
-use Rattle.mono_time.proofs.Machine.{StandsAfter, stands-unarmed, stands-anew, stands-same, with_same}
+use Rattle.mono_time.proofs.Machine.{stands-unarmed, stands-anew, stands-same, with_same}
 use Rattle.mono_time.proofs.Writing.{is_in-entry, kept-there}
 
 abbrev pub answered : Poll ⊤ → Result (Poll ⊤) Error

@@ -1,21 +1,20 @@
 -- Where the sleeps are registered after a call.
-use Rattle.std.proofs.Common.{◌≡◌, ◌≢◌, ◌<◌, ◌≤◌, ◌⊎◌, inl, inr, ℕ, ◌+◌, true, false, Bool, cond, List, [], ◌∷◌, ◌++◌, length, get_or, set, Some, None, refl, ap, sym, subst, ◌∙◌, arith}
+use Rattle.std.proofs.Common.{◌≡◌, ◌≢◌, ◌<◌, ◌≤◌, ◌⊎◌, inl, inr, ℕ, true, false, Bool, cond, List, [], ◌∷◌, ◌++◌, length, get_or, set, Some, None, refl, ap, sym, ◌∙◌, arith}
 use Rattle.std.specs.Prelude.{Option, slice_get, is_some, nat_le}
 use Rattle.std.proofs.lemmas.Bool.{le-leb, lt-leb, cases_eq, cases_lt}
 use Rattle.std.proofs.lemmas.List.{get_or-set_other, get_or-set_same, get_or_append_left, get_or_push, get_or_past, length_push}
 use Rattle.mono_model.specs.Table.{Table, value_at}
 use Rattle.mono_wheel.specs.Start.{start}
-use Rattle.mono_wheel.specs.Model.{Wheel, Timed, timed_at, timed_after, Changed, CameOut, NothingDue}
-use Rattle.mono_time.specs.Sleeps.{Kept, fresh, armed, elapsed}
+use Rattle.mono_wheel.specs.Model.{Wheel, Timed, timed_at, timed_after, Changed, CameOut}
+use Rattle.mono_time.specs.Sleeps.{armed}
 use Rattle.mono_time.specs.Entries.{is_armed_state, kept_in, kept_of, tick_in, is_armed_entry, owner_of}
-use Rattle.mono_time.specs.Keeping.{Holds, KeepsBut, ArmedAnew, Rearmed, KeyMade, NoKeyMade, kept_at, kept_under}
-use Rattle.mono_time.specs.Registered.{registered_in, registered_under, registered_at, RegistersOnly, anew_above, polled_registered, reset_registered, moved_registered}
+use Rattle.mono_time.specs.Keeping.{Holds, ArmedAnew, Rearmed, KeyMade, NoKeyMade, kept_at, kept_under}
+use Rattle.mono_time.specs.Registered.{registered_in, registered_under, registered_at, RegistersOnly, polled_registered, reset_registered, moved_registered}
 use Rattle.mono_time.specs.Turning.{PolledEntry, ResetEntry, PutAt, Out}
 use Rattle.mono_time.specs.declared.entry.Entry.{Entry}
 use Rattle.mono_time.specs.declared.entry.State.{State}
 use Rattle.mono_time.specs.declared.entry.State.TheVariants.{Fresh, Armed, Elapsed}
-use Rattle.mono_time.proofs.Holding.{some-same, none-some, given_inside}
-use Rattle.mono_time.proofs.Turned.{Turned}
+use Rattle.mono_time.proofs.Holding.{some-same, given_inside}
 
 not_in : (timed : Option Timed) → is_some timed ≡ false → registered_in timed ≡ None
 not_in None is = refl

@@ -1,17 +1,17 @@
 -- A sleep is given up.
-use Rattle.std.proofs.Common.{◌≡◌, ◌≢◌, ◌<◌, ◌≤◌, ◌^◌, inl, inr, ℕ, ◌+◌, ◌-◌, true, false, Bool, List, [], length, get_or, set, map, Some, None, Ok, refl, ap, sym, subst, ◌∙◌, arith}
+use Rattle.std.proofs.Common.{◌≡◌, ◌≢◌, ◌<◌, inl, inr, ℕ, ◌+◌, true, false, List, length, get_or, set, Some, None, Ok, refl, ap, sym, ◌∙◌, arith}
 use Rattle.std.specs.Prelude.{Option, slice_get, is_some, Result, ⊤}
 use Rattle.std.specs.Option.{option_map}
 use Rattle.std.proofs.lemmas.Bool.{cases_eq}
 use Rattle.std.proofs.lemmas.List.{map-set, length-set, get_or-set_other, get_or-set_same}
-use Rattle.mono_model.specs.Table.{Table, value_at, without, table_of, count_of}
+use Rattle.mono_model.specs.Table.{Table, value_at, without, table_of}
 use Rattle.mono_model.specs.Sleeps as model
 use Rattle.mono_model.specs.Sleeps.{Sleeps, Arming, without_sleep}
 use Rattle.mono_model.proofs.TableOf.{table_of-set}
 use Rattle.mono_wheel.specs.Model.{Wheel, Timed, timed_at, is_reserved, Precedes, KeepsOrder}
 use Rattle.mono_time.specs.Acts as machine
-use Rattle.mono_time.specs.Entries.{kept_in, kept_of, tick_in, owner_of}
-use Rattle.mono_time.specs.Keeping.{Holds, KeepsBut, kept_at, kept_under}
+use Rattle.mono_time.specs.Entries.{kept_in, tick_in, owner_of}
+use Rattle.mono_time.specs.Keeping.{Holds, kept_at, kept_under}
 use Rattle.mono_time.specs.Stands.{Standing, seen}
 use Rattle.mono_time.specs.Turning.{Out}
 use Rattle.mono_time.specs.declared.entry.Entry.{Entry}
@@ -19,7 +19,7 @@ use Rattle.mono_time.specs.declared.error.Error.{Error}
 use Rattle.mono_time.proofs.Counting.{count_of-gone}
 use Rattle.mono_time.proofs.Holding.{some-same, none-some, given_inside, kept_of-ticks}
 use Rattle.mono_time.proofs.Standing.{same_length, sleep_there}
-use Rattle.mono_time.proofs.Writing.{table_kept, kept-there, table-there}
+use Rattle.mono_time.proofs.Writing.{table_kept, kept-there}
 
 abbrev pub answered : ⊤ → Result ⊤ Error
 answered x = Ok x

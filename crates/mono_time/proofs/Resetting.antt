@@ -1,25 +1,25 @@
 -- A reset of a sleep of the machine.
-use Rattle.std.proofs.Common.{◌≡◌, ◌≢◌, ◌<◌, ◌≤◌, ◌⊎◌, inl, inr, ℕ, ◌+◌, true, false, Bool, cond, List, length, get_or, set, Some, None, Ok, refl, ap, sym, subst, ◌∙◌, arith}
+use Rattle.std.proofs.Common.{◌≡◌, ◌≢◌, ◌<◌, ◌≤◌, ◌⊎◌, inl, inr, ℕ, true, false, Bool, List, set, Some, None, Ok, refl, ap, sym, subst, ◌∙◌, arith}
 use Rattle.std.specs.Prelude.{Option, slice_get, nat_le, nat_lt, ◌||◌, Result}
 use Rattle.std.proofs.lemmas.Bool.{le-leb, lt-leb, lt-ltb, le-ltb, cases_lt}
 use Rattle.mono_model.specs.Ticks.{up}
-use Rattle.mono_model.specs.Table.{Table, value_at, with_value}
+use Rattle.mono_model.specs.Table.{Table, value_at}
 use Rattle.mono_model.specs.Sleeps as model
 use Rattle.mono_model.specs.Sleeps.{Sleeps, Arming, with_sleep, armed_anew, armed_later, armed_above, after_arming, woken_by_arming}
 use Rattle.mono_wheel.specs.Model.{Wheel, Timed, timed_at, Changed}
-use Rattle.mono_time.specs.Sleeps.{Kept, fresh, armed, elapsed, at_tick, waker_of}
+use Rattle.mono_time.specs.Sleeps.{armed, elapsed, at_tick, waker_of}
 use Rattle.mono_time.specs.Acts as machine
-use Rattle.mono_time.specs.Entries.{is_armed_state, kept_in, tick_in, waker_in_state}
-use Rattle.mono_time.specs.Keeping.{Holds, kept_at, ArmedAnew, Rearmed}
+use Rattle.mono_time.specs.Entries.{kept_in, tick_in, waker_in_state}
+use Rattle.mono_time.specs.Keeping.{Holds, ArmedAnew, Rearmed}
 use Rattle.mono_time.specs.Stands.{Standing, seen}
-use Rattle.mono_time.specs.Turning.{ResetEntry, PutAt, Out}
+use Rattle.mono_time.specs.Turning.{ResetEntry, PutAt}
 use Rattle.mono_time.specs.declared.entry.Entry.{Entry}
 use Rattle.mono_time.specs.declared.entry.State.{State}
 use Rattle.mono_time.specs.declared.entry.State.TheVariants.{Fresh, Armed, Elapsed}
 use Rattle.mono_time.specs.declared.error.Error.{Error}
 use Rattle.mono_time.proofs.Standing.{sleep_there}
 use Rattle.mono_time.proofs.Turned.{Turned, turned-reset}
-use Rattle.mono_time.proofs.Machine.{StandsAfter, stands-unarmed, stands-moved, stands-anew, stands-extended}
+use Rattle.mono_time.proofs.Machine.{stands-unarmed, stands-moved, stands-anew, stands-extended}
 use Rattle.mono_time.proofs.Writing.{kept-there}
 
 abbrev pub answered : Option ℕ → Result (Option ℕ) Error

@@ -1,11 +1,11 @@
 -- No call leaves a sleep armed at a tick up to the greatest, where none was.
-use Rattle.std.proofs.Common.{◌≡◌, ◌≢◌, ◌<◌, ◌≤◌, inl, inr, ℕ, zero, suc, true, false, Bool, cond, List, [], ◌∷◌, length, get_or, set, Some, None, refl, ap, sym, ◌∙◌, arith}
+use Rattle.std.proofs.Common.{◌≡◌, ◌<◌, inl, inr, ℕ, zero, suc, true, false, Bool, cond, [], ◌∷◌, length, set, Some, None, refl, ap, sym, ◌∙◌, arith}
 use Rattle.std.specs.Prelude.{Option, nat_le}
 use Rattle.std.proofs.lemmas.Bool.{leb-false, cases_eq, cases_lt}
 use Rattle.std.proofs.lemmas.List.{get_or-set_other, get_or-set_same, get_or_past, length-set}
 use Rattle.mono_model.specs.Ticks.{up}
 use Rattle.mono_model.specs.Table.{Table, value_at, with_value, with_next, without}
-use Rattle.mono_time.specs.Sleeps.{Kept, SleepTable, fresh, armed, elapsed, at_tick, polled_kept, waker_of, changed, changed_value, polled, reset, removed, removed_value, added, with_table, IsNoneArmedUpTo}
+use Rattle.mono_time.specs.Sleeps.{Kept, SleepTable, fresh, armed, elapsed, at_tick, polled_kept, waker_of, changed_value, polled, reset, removed, removed_value, added, with_table, IsNoneArmedUpTo}
 
 some-same : (a b : Kept) → Some a ≡ Some b → a ≡ b
 some-same a b e = cc

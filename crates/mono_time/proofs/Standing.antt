@@ -1,6 +1,6 @@
 -- One sleep of the machine is in another state, and the timers stand for it.
-use Rattle.std.proofs.Common.{◌≡◌, ◌≢◌, ◌<◌, ◌≤◌, inl, inr, ℕ, ◌+◌, true, false, Bool, List, [], ◌∷◌, length, get_or, set, map, Some, None, refl, ap, sym, subst, ◌∙◌, arith}
-use Rattle.std.specs.Prelude.{Option, is_some, slice_get}
+use Rattle.std.proofs.Common.{◌≡◌, ◌≢◌, ◌<◌, ◌≤◌, inl, inr, ℕ, false, List, length, get_or, set, Some, None, refl, ap, sym, subst, ◌∙◌, arith}
+use Rattle.std.specs.Prelude.{Option, slice_get}
 use Rattle.std.specs.Option.{option_map}
 use Rattle.std.proofs.lemmas.Bool.{cases_eq, cases_lt}
 use Rattle.std.proofs.lemmas.List.{map-set, length-map, get_or-set_other, get_or-set_same, get_or_past}
@@ -11,7 +11,7 @@ use Rattle.mono_model.specs.Sleeps.{Sleeps, Arming}
 use Rattle.mono_model.proofs.TableOf.{length-table_of, value_at-table_of}
 use Rattle.mono_wheel.specs.Model.{Wheel, Timed, timed_at, Precedes}
 use Rattle.mono_time.specs.Sleeps.{Kept}
-use Rattle.mono_time.specs.Entries.{kept_in, kept_of}
+use Rattle.mono_time.specs.Entries.{kept_in}
 use Rattle.mono_time.specs.Keeping.{Holds, KeepsBut, kept_at, kept_under}
 use Rattle.mono_time.specs.Stands.{Standing, seen}
 use Rattle.mono_time.specs.declared.entry.Entry.{Entry}

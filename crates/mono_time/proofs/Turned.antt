@@ -3,7 +3,7 @@ use Rattle.std.proofs.Common.{◌≡◌, ◌≢◌, ◌<◌, ◌≤◌, ◌⊎�
 use Rattle.std.specs.Prelude.{Option, is_some, nat_le}
 use Rattle.std.proofs.lemmas.Bool.{le-leb, lt-leb}
 use Rattle.mono_wheel.specs.Model.{Wheel, Timed, timed_at, Changed}
-use Rattle.mono_time.specs.Sleeps.{Kept, fresh, armed, elapsed, polled_kept, is_ready_at, at_tick, waker_of, woken_by_reset}
+use Rattle.mono_time.specs.Sleeps.{Kept, armed, elapsed, polled_kept, is_ready_at, at_tick, waker_of, woken_by_reset}
 use Rattle.mono_time.specs.Entries.{is_armed_state, fresh_tick, tick_in, kept_in, waker_in_state}
 use Rattle.mono_time.specs.Keeping.{KeepsBut, ArmedAnew, Rearmed}
 use Rattle.mono_time.specs.Turning.{PolledEntry, ResetEntry, PutAt, Out}

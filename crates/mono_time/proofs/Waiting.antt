@@ -1,13 +1,13 @@
 -- The next tick at which the wheel has something to do.
-use Rattle.std.proofs.Common.{◌≡◌, ◌≢◌, ◌<◌, ◌≤◌, ◌⊎◌, inl, inr, ℕ, true, false, Bool, List, length, get_or, Some, None, refl, ap, sym, subst, ◌∙◌, arith}
+use Rattle.std.proofs.Common.{◌≡◌, ◌<◌, ◌≤◌, inl, inr, ℕ, true, false, Bool, List, Some, None, refl, ap, sym, subst, ◌∙◌, arith}
 use Rattle.std.specs.Prelude.{Option, slice_get, is_some, IfSome}
 use Rattle.mono_model.specs.Table.{Table, value_at}
 use Rattle.mono_wheel.specs.Start.{start}
-use Rattle.mono_wheel.specs.Model.{Wheel, Timed, timed_at, NextTick, FirstStart, IsPending, AllFit, Fits}
-use Rattle.mono_time.specs.Sleeps.{Kept, SleepTable, fresh, armed, elapsed}
-use Rattle.mono_time.specs.Entries.{is_armed_state, kept_in, tick_in, owner_of, is_armed_entry}
-use Rattle.mono_time.specs.Keeping.{Holds, kept_at}
-use Rattle.mono_time.specs.Registered.{registered_in, registered_under, registered_at, NextExpiration, FirstSlot, IsOnePending}
+use Rattle.mono_wheel.specs.Model.{Wheel, Timed, timed_at, NextTick, IsPending, AllFit, Fits}
+use Rattle.mono_time.specs.Sleeps.{SleepTable, armed}
+use Rattle.mono_time.specs.Entries.{is_armed_state, kept_in, tick_in, owner_of}
+use Rattle.mono_time.specs.Keeping.{Holds}
+use Rattle.mono_time.specs.Registered.{registered_in, registered_under, registered_at, NextExpiration, IsOnePending}
 use Rattle.mono_time.specs.declared.entry.Entry.{Entry}
 use Rattle.mono_time.specs.declared.entry.State.{State}
 use Rattle.mono_time.specs.declared.entry.State.TheVariants.{Fresh, Armed, Elapsed}

@@ -1,13 +1,13 @@
 -- The timers after one sleep is in another state.
-use Rattle.std.proofs.Common.{◌≡◌, ◌≢◌, ◌<◌, ◌≤◌, ◌^◌, inl, inr, ℕ, true, false, Bool, List, length, get_or, set, Some, None, refl, ap, sym, subst, ◌∙◌, arith}
+use Rattle.std.proofs.Common.{◌≡◌, ◌<◌, ◌^◌, inl, inr, ℕ, List, length, set, Some, None, refl, ap, sym, subst, ◌∙◌, arith}
 use Rattle.std.specs.Prelude.{Option, is_some, slice_get}
 use Rattle.std.proofs.lemmas.Option.{slice_get_within}
 use Rattle.mono_model.specs.Table.{Table, value_at, with_value, table_of}
 use Rattle.std.proofs.lemmas.Bool.{cases_lt}
 use Rattle.std.proofs.lemmas.List.{get_or_past}
 use Rattle.mono_model.proofs.TableOf.{value_at-table_of, length-table_of}
-use Rattle.mono_wheel.specs.Model.{Wheel, Timed, timed_at, is_reserved}
-use Rattle.mono_time.specs.Sleeps.{Kept, SleepTable, changed, with_table}
+use Rattle.mono_wheel.specs.Model.{Wheel, timed_at}
+use Rattle.mono_time.specs.Sleeps.{Kept}
 use Rattle.mono_time.specs.Entries.{is_armed_state, fresh_tick, kept_in, owner_of, is_armed_entry, fresh_tick_of, kept_of}
 use Rattle.mono_time.specs.Keeping.{Holds, kept_at, kept_under}
 use Rattle.mono_time.specs.declared.entry.Entry.{Entry}

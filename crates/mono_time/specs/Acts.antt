@@ -2,7 +2,7 @@
 use Rattle.std.specs.Prelude.{◌≡◌, ℕ, ⊤, max, Bool, true, false, if◌then◌else◌, Option, Some, None, Result, Ok, Err, nat_le}
 use Rattle.mono_model.specs.Ticks.{up, down}
 use Rattle.mono_model.specs.Table.{value_at, is_full, next_number}
-use Rattle.mono_model.specs.Sleeps.{Sleeps, Sleep, Arming, fresh, armed, elapsed, waker_of, with_sleep, without_sleep, with_next_sleep, with_greatest, armed_anew, after_arming, woken_by_arming}
+use Rattle.mono_model.specs.Sleeps.{Sleeps, Sleep, fresh, armed, elapsed, waker_of, with_sleep, without_sleep, with_next_sleep, with_greatest, armed_anew, after_arming, woken_by_arming}
 use Rattle.mono_time.specs.Firing.{IsFirstDue, IsNoneDue}
 use Rattle.mono_model.specs.declared.poll.Poll.{Poll}
 use Rattle.mono_time.specs.Sleeps.{poll_of}

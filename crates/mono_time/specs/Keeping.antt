@@ -1,5 +1,5 @@
 -- How the timers keep their sleeps: by number a key of the wheel, and at the key the sleep's number and state.
-use Rattle.std.specs.Prelude.{◌≡◌, ◌≢◌, ◌<◌, ◌≤◌, ◌⊎◌, ℕ, ◌^◌, Bool, true, false, List, [], ◌∷◌, ◌++◌, length, Option, Some, None, is_some, slice_get}
+use Rattle.std.specs.Prelude.{◌≡◌, ◌≢◌, ◌<◌, ◌≤◌, ◌⊎◌, ℕ, ◌^◌, true, false, List, [], ◌∷◌, ◌++◌, length, Option, Some, None, is_some, slice_get}
 use Rattle.mono_model.specs.Table.{Table, value_at, count_of}
 use Rattle.mono_wheel.specs.Model.{Wheel, Timed, timed_at, is_reserved, Precedes, KeepsOrder, Changed}
 use Rattle.mono_time.specs.Sleeps.{Kept}

@@ -1,6 +1,6 @@
 -- Where a sleep is registered in the wheel: its slot is the one that this tick has. A lazily moved sleep is registered at
 -- an earlier tick than its own, until the clock comes to the start of that slot.
-use Rattle.std.specs.Prelude.{◌≡◌, ◌≢◌, ◌<◌, ◌≤◌, ◌⊎◌, ℕ, if◌then◌else◌, Option, Some, None, nat_le}
+use Rattle.std.specs.Prelude.{◌≡◌, ◌≢◌, ◌≤◌, ◌⊎◌, ℕ, if◌then◌else◌, Option, Some, None, nat_le}
 use Rattle.mono_model.specs.Table.{Table, value_at}
 use Rattle.mono_wheel.specs.Start.{start}
 use Rattle.mono_wheel.specs.Model.{Wheel, Timed, timed_at}

@@ -1,12 +1,12 @@
 -- When an interval ticks, and what a poll of it answers and leaves.
-use Rattle.std.specs.Prelude.{◌≡◌, ℕ, ⊤, Bool, false, true, Result, Ok, Err, nat_le}
+use Rattle.std.specs.Prelude.{◌≡◌, ℕ, ⊤, false, true, Result, Ok, Err, nat_le}
 use Rattle.std.specs.Duration.{as_nanos}
 use Rattle.mono_model.specs.Ticks.{max_nanos}
 use Rattle.mono_model.specs.Tasks.{Tasks}
 use Rattle.mono_model.specs.declared.poll.Poll.{Poll}
 use Rattle.mono_model.specs.declared.poll.Poll.TheVariants.{Ready, Pending}
 use Rattle.mono_time.specs.Instants.{nanos_of}
-use Rattle.mono_time.specs.Sleeps.{SleepTable, Added, poll_answer, polled, reset, removed}
+use Rattle.mono_time.specs.Sleeps.{SleepTable, Added, poll_answer, polled, reset}
 use Rattle.mono_time.specs.declared.error.Error.{Error}
 use Rattle.mono_time.specs.declared.error.Error.TheVariants.{Invalid}
 use Rattle.mono_time.specs.declared.error.SleepError.{SleepError}

@@ -1,14 +1,13 @@
 -- What a value with a deadline answers and leaves.
-use Rattle.std.specs.Prelude.{◌≡◌, ℕ, ⊤, Option, Result, Ok, Err}
+use Rattle.std.specs.Prelude.{◌≡◌, ℕ, ⊤, Result, Ok, Err}
 use Rattle.mono_model.specs.Tasks.{Tasks}
 use Rattle.mono_model.specs.declared.poll.Poll.{Poll}
 use Rattle.mono_model.specs.declared.poll.Poll.TheVariants.{Ready, Pending}
 use Rattle.mono_task.specs.Members.{FutureOf}
 use Rattle.mono_time.specs.Sleeps.{SleepTable}
-use Rattle.mono_time.specs.Futures.{SleepMade, SleepMadeAt, SleepPolls, SleepCancels}
+use Rattle.mono_time.specs.Futures.{SleepPolls, SleepCancels}
 use Rattle.mono_time.specs.declared.deadlines.Timeout.{Timeout}
 use Rattle.mono_time.specs.declared.deadlines.TimeoutRefused.{TimeoutRefused}
-use Rattle.mono_time.specs.declared.error.Elapsed as one
 use Rattle.mono_time.specs.declared.error.Error.{Error}
 use Rattle.mono_time.specs.declared.error.SleepError.{SleepError}
 use Rattle.mono_time.specs.declared.error.TimeoutError.{TimeoutError}

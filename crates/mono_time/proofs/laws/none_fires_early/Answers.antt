@@ -1,5 +1,5 @@
-use Rattle.std.proofs.Common.{◌≡◌, ◌≤◌, ℕ, ◌+◌, ◌*◌, ◌/◌, Some, Option, sym, ◌∙◌, ap, arith}
-use Rattle.mono_model.specs.Ticks.{up, down}
+use Rattle.std.proofs.Common.{◌≡◌, ℕ, Some, Option, sym, ◌∙◌, arith}
+use Rattle.mono_model.specs.Ticks.{up}
 use Rattle.mono_time.specs.Sleeps.{armed}
 use Rattle.mono_time.proofs.laws.none_fires_early.Goals as goal
 

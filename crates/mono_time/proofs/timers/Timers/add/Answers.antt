@@ -1,16 +1,14 @@
-use Rattle.std.proofs.Common.{rules, ◌≡◌, ◌<◌, ◌≤◌, ◌^◌, ◌+◌, ℕ, List, [], ◌∷◌, ◌++◌, true, false, Bool, Some, None, refl, ap, sym, subst, ◌∙◌, length, set, arith}
+use Rattle.std.proofs.Common.{rules, ◌≡◌, ◌<◌, ◌^◌, ◌+◌, true, false, refl, ap, sym, subst, ◌∙◌, length, set}
 use Rattle.std.specs.Prelude.{nat_le}
 use Rattle.std.proofs.lemmas.Bool.{le-leb, lt-leb}
-use Rattle.mono_model.specs.Table.{Table, with_next}
-use Rattle.mono_model.specs.Sleeps.{Sleeps}
+use Rattle.mono_model.specs.Table.{with_next}
 use Rattle.mono_model.proofs.TableOf.{length-table_of}
 use Rattle.mono_time.specs.Instants.{nanos_of}
-use Rattle.mono_time.specs.Sleeps.{Kept, SleepTable, with_table, added, fresh}
+use Rattle.mono_time.specs.Sleeps.{with_table, added, fresh}
 use Rattle.mono_time.specs.Keeping.{Holds, kept_at}
 use Rattle.mono_time.specs.Acts as machine
 use Rattle.mono_time.specs.Stands.{Standing}
 use Rattle.mono_time.specs.Timers.{sleeps_of}
-use Rattle.mono_time.specs.declared.entry.Entry.{Entry}
 use Rattle.mono_time.specs.declared.entry.State.TheVariants.{Fresh}
 use Rattle.mono_time.specs.Registered.{registered_at}
 use Rattle.mono_time.proofs.Registering.{registered-added}

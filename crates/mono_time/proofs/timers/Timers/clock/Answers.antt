@@ -1,4 +1,4 @@
-use Rattle.std.proofs.Common.{rules, ◌≡◌, ◌≢◌, ◌<◌, ◌≤◌, ◌^◌, ℕ, max, Some, None, refl, ap, sym, subst, ◌∙◌, length, set, arith}
+use Rattle.std.proofs.Common.{◌≡◌, ◌≢◌, ◌<◌, ◌≤◌, ◌^◌, ℕ, max, Some, refl, ap, sym, subst, ◌∙◌, length, set, arith}
 use Rattle.std.specs.Prelude.{slice_get, Option, count_by}
 use Rattle.std.proofs.lemmas.Option.{slice_get_read}
 use Rattle.mono_model.specs.Ticks.{down}
@@ -6,7 +6,7 @@ use Rattle.mono_model.specs.Table.{value_at, with_value}
 use Rattle.mono_time.specs.Firing.{IsFirstDue}
 use Rattle.mono_wheel.specs.Model.{CameOut, NothingDue}
 use Rattle.mono_time.specs.Instants.{nanos_of}
-use Rattle.mono_time.specs.Sleeps.{SleepTable, armed, elapsed, Kept, is_armed, IsFiredFirst, fired, at_clock}
+use Rattle.mono_time.specs.Sleeps.{armed, elapsed, Kept, is_armed, IsFiredFirst, fired, at_clock}
 use Rattle.mono_time.specs.Timers.{sleeps_of}
 use Rattle.mono_time.specs.Acts as machine
 use Rattle.mono_time.specs.Stands.{Standing}
@@ -15,7 +15,7 @@ use Rattle.mono_time.specs.Registered.{registered_at, moved_registered}
 use Rattle.mono_time.proofs.Counting.{fewer_armed}
 use Rattle.mono_time.proofs.Registering.{registered-moved, registered-gone, after-out}
 use Rattle.mono_time.proofs.Writing.{key_inside, table_kept, value-table}
-use Rattle.mono_time.proofs.Clocking.{came-owner, holds-fired, table-fired, table-armed, fired-value, table-least, fired-number, machine-fired, holds-none, table-none, none-armed, machine-none}
+use Rattle.mono_time.proofs.Clocking.{came-owner, holds-fired, table-fired, table-armed, fired-value, table-least, fired-number, machine-fired, table-none, none-armed, machine-none}
 use Rattle.mono_time.proofs.timers.Timers.clock.Goals as goal
 
 pub invariant_of-self-in-Some : goal.invariant_of-self-in-Some

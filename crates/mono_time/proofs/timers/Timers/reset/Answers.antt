@@ -1,10 +1,10 @@
-use Rattle.std.proofs.Common.{rules, ◌≡◌, ◌<◌, ℕ, Some, None, refl, ap, sym, subst, ◌∙◌, length, set}
+use Rattle.std.proofs.Common.{rules, ◌≡◌, ◌<◌, Some, refl, ap, sym, ◌∙◌, length}
 use Rattle.std.specs.Prelude.{slice_get}
 use Rattle.std.proofs.lemmas.Option.{slice_get_read}
 use Rattle.mono_model.specs.Table.{value_at}
 use Rattle.mono_wheel.specs.Model.{timed_at}
 use Rattle.mono_time.specs.Instants.{nanos_of}
-use Rattle.mono_time.specs.Sleeps.{at_tick, waker_of, woken_by_reset}
+use Rattle.mono_time.specs.Sleeps.{woken_by_reset}
 use Rattle.mono_time.specs.Entries.{kept_in}
 use Rattle.mono_model.specs.Ticks.{up}
 use Rattle.mono_time.specs.Registered.{registered_in, registered_under, registered_at, reset_registered}
