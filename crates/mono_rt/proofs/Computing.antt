@@ -5,8 +5,8 @@ use Rattle.std.proofs.lemmas.Bool.{cases_lt, lt-ltb, le-ltb}
 use Rattle.std.proofs.lemmas.Bool.Decides.{leb_tells, eqb_tells}
 use Rattle.mono_model.specs.Table.{Table, value_at, with_value}
 use Rattle.mono_model.specs.Sleeps.{Sleep, Arming, fresh, armed, elapsed, IsDueSleep, MayPrecede, MayFire}
-use Rattle.mono_rt.specs.Firing.{IsFirstDue, IsNoneDue, FireInTurn}
-use Rattle.mono_rt.proofs.Firing.{may_fire}
+use Rattle.mono_time.specs.Firing.{IsFirstDue, IsNoneDue, FireInTurn}
+use Rattle.mono_time.proofs.Firing.{may_fire}
 
 abbrev is_due : Option Sleep → ℕ → Bool
 is_due None g = false

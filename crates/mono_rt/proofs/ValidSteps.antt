@@ -13,10 +13,11 @@ use Rattle.mono_model.specs.Inbox.{is_waiting, with_waiting}
 use Rattle.mono_model.specs.Valid.{AreValidTasks, AreValidSleeps, IsValidSleep}
 use Rattle.mono_model.proofs.ValidTasks.{valid_begun, valid_paused, valid_completed, valid_woken_if_any, valid_all_woken, next_number-begun, next_number-paused, next_number-completed, next_number-woken_if_any, next_number-all_woken}
 use Rattle.mono_model.proofs.ValidSleeps.{valid_elapsed}
+use Rattle.mono_time.specs.Acts.{waker_at}
 use Rattle.mono_rt.specs.Machine.{Machine, with_tasks, with_inbox, start_machine, IsValidDuring, IsValid}
 use Rattle.mono_rt.specs.Acts.{step_outcome}
 use Rattle.mono_rt.specs.Turns.{after_steps, after_end, after_begin, after_turn_for}
-use Rattle.mono_rt.specs.Steps.{Step, ClockStep, after_fire, after_fires, at_clock, greatest_at, waker_at, has_finished, after_remote, after_drain}
+use Rattle.mono_rt.specs.Steps.{Step, ClockStep, after_fire, after_fires, at_clock, greatest_at, has_finished, after_remote, after_drain}
 use Rattle.mono_rt.specs.declared.events.TurnStep.{TurnStep}
 use Rattle.mono_rt.specs.declared.events.End.{End}
 use Rattle.mono_rt.specs.declared.events.End.TheVariants as end
@@ -57,11 +58,11 @@ none-armed b e = cc
 
 tasks_valid : (x : Machine) (fired : List ℕ) → AreValidTasks None x.tasks → AreValidTasks None (after_fires x fired).tasks
 tasks_valid x [] valid = valid
-tasks_valid x (s ∷ fired) valid = tasks_valid (after_fire x s) fired (valid_woken_if_any None x.tasks (waker_at (value_at x.sleeps.table s)) valid)
+tasks_valid x (s ∷ fired) valid = tasks_valid (after_fire x s) fired (valid_woken_if_any None x.tasks (waker_at x.sleeps s) valid)
 
 same_next : (x : Machine) (fired : List ℕ) → next_number (after_fires x fired).tasks.table ≡ next_number x.tasks.table
 same_next x [] = refl
-same_next x (s ∷ fired) = same_next (after_fire x s) fired ∙ next_number-woken_if_any x.tasks (waker_at (value_at x.sleeps.table s))
+same_next x (s ∷ fired) = same_next (after_fire x s) fired ∙ next_number-woken_if_any x.tasks (waker_at x.sleeps s)
 
 same_jobs : (x : Machine) (fired : List ℕ) → (after_fires x fired).jobs ≡ x.jobs
 same_jobs x [] = refl

@@ -5,7 +5,7 @@ use Rattle.mono_rt.specs.Machine.{Machine}
 use Rattle.mono_rt.specs.Acts.{act_outcome}
 use Rattle.mono_rt.specs.Turns.{after_turn}
 use Rattle.mono_rt.specs.Steps.{at_clock, greatest_at}
-use Rattle.mono_rt.specs.Worked.{start, new_sleep, poll, DeadlineIsNow, BothRoundings, NoneIsEarly, NoneIsLeftOut, FarSleeps, Ties, WokenInOwnTurn, LatestWaker, EndOfTheType, ClockGoesBack, NoRoomFirst, RefusalsOfJoin, DoublesInInbox, TwoCauses, NoPool, OnTheCaller, OnAThread, JobsThatEnd}
+use Rattle.mono_rt.specs.Worked.{start, new_sleep, poll, DeadlineIsNow, BothRoundings, NoneIsEarly, NoneIsLeftOut, FarSleeps, Ties, WokenInOwnTurn, LatestWaker, EndOfTheType, ClockGoesBack, LateMove, RefusalFirst, RefusalInTheMiddle, NoRoomFirst, RefusalsOfJoin, DoublesInInbox, TwoCauses, NoPool, OnTheCaller, OnAThread, JobsThatEnd}
 use Rattle.mono_rt.specs.declared.events.Act.TheVariants as act
 use Rattle.mono_rt.specs.declared.events.End.TheVariants as end
 use Rattle.mono_rt.proofs.Computing.{fires, listed, not_listed}
@@ -17,7 +17,7 @@ pub both_roundings : BothRoundings
 both_roundings = (_, (_, (refl, refl), (_, (refl, refl), (_, (lit≤ tt, fires _ 1 [] refl, refl), (_, (lit≤ tt, fires _ 2 (0 ∷ []) refl, refl), refl)))))
 
 pub far_sleeps : FarSleeps
-far_sleeps = (_, (_, (refl, refl), (_, (refl, refl), (_, (lit≤ tt, fires _ 1073741824 (1 ∷ []) refl, refl), refl))))
+far_sleeps = (_, (_, (refl, refl), (_, (refl, refl), (_, (lit≤ tt, fires _ 1073741824 (1 ∷ []) refl, refl), (_, (refl, refl), refl)))))
 
 pub ties : Ties
 ties = (_, (_, (refl, refl), (_, (refl, refl), (_, (lit≤ tt, fires _ 100 (2 ∷ 0 ∷ 1 ∷ []) refl, refl), refl))))
@@ -29,10 +29,19 @@ pub latest_waker : LatestWaker
 latest_waker = (_, (_, (refl, refl), (_, (refl, refl), (_, (refl, refl), (_, (refl, refl), (_, (lit≤ tt, fires _ 10 (0 ∷ []) refl, refl), (_, (refl, refl), (_, (refl, refl), refl))))))))
 
 pub end_of_the_type : EndOfTheType
-end_of_the_type = (_, (_, (refl, refl), (_, (refl, refl), (_, (lit≤ tt, fires _ 9223372036854775807 [] refl, refl), (_, (lit< tt, refl, refl), refl)))))
+end_of_the_type = (_, (_, (refl, refl), (_, (refl, refl), (_, (lit≤ tt, fires _ 9223372036854775807 [] refl, refl), (_, (lit< tt, refl, refl), (_, (refl, refl), refl))))))
 
 pub clock_goes_back : ClockGoesBack
-clock_goes_back = (_, (_, (refl, refl), (_, (lit≤ tt, fires _ 10 [] refl, refl), (_, (lit≤ tt, fires _ 10 [] refl, refl), (_, (refl, refl), refl)))))
+clock_goes_back = (_, (_, (refl, refl), (_, (refl, refl), (_, (lit≤ tt, fires _ 10 [] refl, refl), (_, (lit≤ tt, fires _ 10 [] refl, refl), (_, (refl, refl), (_, (refl, refl), refl)))))))
+
+pub late_move : LateMove
+late_move = (_, (_, (refl, refl), (_, (refl, refl), (_, (lit≤ tt, fires _ 50 [] refl, refl), (_, (lit≤ tt, fires _ 80 (0 ∷ []) refl, refl), (_, (refl, refl), refl))))))
+
+pub refusal_first : RefusalFirst
+refusal_first = (_, (_, (refl, refl), (_, (refl, refl), refl)))
+
+pub refusal_in_the_middle : RefusalInTheMiddle
+refusal_in_the_middle = (_, (_, (refl, refl), (_, (refl, refl), (_, (refl, refl), (_, (refl, refl), refl)))))
 
 pub no_room_first : NoRoomFirst
 no_room_first = (_, (_, (refl, refl), (_, (refl, refl), (_, (refl, refl), refl))))

@@ -1,14 +1,17 @@
 -- What each act and each poll answers and leaves. The refusals are tried in the order in which they stand.
-use Rattle.std.specs.Prelude.{ℕ, if◌then◌else◌, Option, Some, None, Result, Ok, Err, nat_lt, nat_le}
+use Rattle.std.specs.Prelude.{ℕ, if◌then◌else◌, Option, Some, None, Result, Ok, Err, nat_lt}
 use Rattle.mono_model.specs.Ticks.{max_nanos, up}
 use Rattle.mono_model.specs.Table.{value_at, next_number, is_full}
-use Rattle.mono_model.specs.Tasks.{spawned, woken}
+use Rattle.mono_model.specs.Tasks.{spawned, woken, woken_if_any}
 use Rattle.mono_model.specs.Joins as join
 use Rattle.mono_model.specs.Jobs as job
-use Rattle.mono_model.specs.Sleeps.{Sleep, fresh, armed, elapsed, with_sleep, with_next_sleep, armed_anew}
+use Rattle.mono_model.specs.Sleeps.{Sleep}
+use Rattle.mono_time.specs.Sleeps.{waker_in}
+use Rattle.mono_time.specs.Acts as sleep
 use Rattle.mono_rt.specs.Machine.{Machine, with_tasks, with_sleeps, with_jobs}
 use Rattle.mono_rt.specs.JobCalls as jobs
 use Rattle.mono_rt.specs.JoinCalls.{wake_reply, drop_reply, finished_reply, join_reply}
+use Rattle.mono_rt.specs.SleepCalls.{poll_reply, gone_reply, elapsed_reply, reset_reply}
 use Rattle.mono_rt.specs.declared.events.Act.{Act}
 use Rattle.mono_rt.specs.declared.events.Act.TheVariants as act
 use Rattle.mono_rt.specs.declared.events.Query.{Query}
@@ -45,9 +48,15 @@ block blocking.ExecuteLocal output m = answered (reply.Job (next_number m.jobs.t
 block blocking.Panic output m = refused refusal.NoPool m
 
 -- A sleep, or the refusal: it was never given out, or is gone.
-abbrev pub for_sleep : Option Sleep → Machine → (Sleep → Outcome) → Outcome
-for_sleep None m f = refused refusal.NoTimer m
-for_sleep (Some sleep) m f = f sleep
+abbrev pub for_sleep : Option Sleep → Machine → Outcome → Outcome
+for_sleep None m outcome = refused refusal.NoTimer m
+for_sleep (Some value) m outcome = outcome
+
+-- A sleep is armed at the tick of n. Where it elapses at once, its waker is woken.
+abbrev pub reset : ℕ → ℕ → Machine → Outcome
+reset s n m =
+    answered (reset_reply m.sleeps.greatest (up n))
+    (with_tasks (with_sleeps m (sleep.reset m.sleeps s n)) (woken_if_any m.tasks (waker_in (sleep.reset_answer m.sleeps s n))))
 
 abbrev pub act_outcome : Act → Machine → Outcome
 act_outcome act.Spawn m =
@@ -57,29 +66,22 @@ act_outcome (act.Wake t) m = answered (wake_reply (join.wake_answer m.tasks t)) 
 act_outcome (act.NewSleep n) m =
     if is_full m.sleeps.table m.sleeps.limit then refused refusal.AtCapacity m
     else if nat_lt max_nanos n then refused refusal.Invalid m
-    else answered (reply.Sleep (next_number m.sleeps.table)) (with_sleeps m (with_next_sleep m.sleeps (fresh n)))
+    else answered (reply.Sleep (next_number m.sleeps.table)) (with_sleeps m (sleep.added m.sleeps n))
+act_outcome (act.Reset s n) m =
+    for_sleep (value_at m.sleeps.table s) m (if nat_lt max_nanos n then refused refusal.Invalid m else reset s n m)
+act_outcome (act.DropSleep s) m = answered (gone_reply (sleep.remove_answer m.sleeps s)) (with_sleeps m (sleep.removed m.sleeps s))
 act_outcome (act.DropJoin t) m = answered (drop_reply (join.drop_answer m.tasks t)) (with_tasks m (join.join_dropped m.tasks t))
 act_outcome (act.Block output) m =
     if is_full m.jobs.table m.jobs.limit then refused refusal.AtCapacity m else block m.strategy output m
 act_outcome (act.DropJob j) m = answered (reply_of (jobs.drop_answer m.jobs j)) (with_jobs m (jobs.job_dropped m.jobs j))
 act_outcome (act.Finished t) m = answered (finished_reply (join.finished_answer m.tasks t)) m
 act_outcome (act.JobFinished j) m = answered (reply_of (jobs.finished_answer m.jobs j)) m
+act_outcome (act.SleepElapsed s) m = answered (elapsed_reply (sleep.elapsed_answer m.sleeps s)) m
 act_outcome (act.JobEnd j h) m = answered (reply_of (jobs.end_answer m.jobs j)) (with_jobs m (jobs.job_ended m.jobs j h))
 
--- A poll that answers Pending makes the running task the only waker or waiter.
--- A fresh sleep is armed first.
-abbrev pub poll_sleep : ℕ → ℕ → Sleep → Machine → Outcome
-poll_sleep me s (fresh n) m =
-    if nat_le (up n) m.sleeps.greatest
-    then answered reply.Ready (with_sleeps m (with_sleep m.sleeps s elapsed))
-    else answered reply.Pending (with_sleeps m (armed_anew m.sleeps s (up n) (Some me)))
-poll_sleep me s (armed a) m =
-    answered reply.Pending (with_sleeps m (with_sleep m.sleeps s (armed (record { tick = a.tick; arm = a.arm; is_moved = a.is_moved; waker = Some me }))))
-poll_sleep me s elapsed m = answered reply.Ready m
-
--- the poll by the running task, `me`
+-- the poll by the running task, `me`, which becomes the only waker or waiter where the answer is Pending
 abbrev pub query_outcome : ℕ → Query → Machine → Outcome
-query_outcome me (query.Sleep s) m = for_sleep (value_at m.sleeps.table s) m (λ sleep. poll_sleep me s sleep m)
+query_outcome me (query.Sleep s) m = answered (poll_reply (sleep.poll_answer m.sleeps s)) (with_sleeps m (sleep.polled m.sleeps s me))
 query_outcome me (query.Join t) m = answered (join_reply (join.join_answer m.tasks t)) (with_tasks m (join.joined m.tasks t me))
 query_outcome me (query.Job j) m = answered (reply_of (jobs.poll_answer m.jobs j)) (with_jobs m (jobs.job_polled m.jobs j me))
 

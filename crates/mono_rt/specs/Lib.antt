@@ -2,11 +2,10 @@ pub mod Machine
 pub mod JobTable
 pub mod JobCalls
 pub mod JoinCalls
+pub mod SleepCalls
 pub mod Acts
 pub mod Turns
 pub mod Steps
 pub mod Worked
-pub mod Plain
-pub mod Firing
 pub mod Matches
 pub mod Stands

@@ -72,8 +72,8 @@ NoneIsLeftOut = Answers (start 16) rounded_events
 -- Two sleeps far apart, at the ticks 2 ^ 36 and 2 ^ 30: the nearer one fires at its tick.
 abbrev pub FarSleeps : Type 0
 FarSleeps = Answers (start 16)
-    (spawn ∷ event.Turn (new_sleep 68719476736000000 ∷ new_sleep 1073741824000000 ∷ poll 0 ∷ poll 1 ∷ []) end.Pending ∷ event.Clock 1073741824000000 ∷ [])
-    (report.Reply (reply.Task 0) ∷ report.Turn 0 (reply.Sleep 0 ∷ reply.Sleep 1 ∷ reply.Pending ∷ reply.Pending ∷ []) ended.Idle ∷ report.Fired (1 ∷ []) ∷ [])
+    (spawn ∷ event.Turn (new_sleep 68719476736000000 ∷ new_sleep 1073741824000000 ∷ poll 0 ∷ poll 1 ∷ []) end.Pending ∷ event.Clock 1073741824000000 ∷ event.Act (act.SleepElapsed 0) ∷ [])
+    (report.Reply (reply.Task 0) ∷ report.Turn 0 (reply.Sleep 0 ∷ reply.Sleep 1 ∷ reply.Pending ∷ reply.Pending ∷ []) ended.Idle ∷ report.Fired (1 ∷ []) ∷ report.Reply reply.No ∷ [])
 
 -- Ties: sleeps of one tick fire in the order in which they were armed.
 abbrev pub Ties : Type 0
@@ -93,17 +93,38 @@ LatestWaker = Answers (start 16)
     (spawn ∷ spawn ∷ event.Turn (new_sleep 10000000 ∷ poll 0 ∷ []) end.Pending ∷ event.Turn (poll 0 ∷ []) end.Pending ∷ event.Clock 10000000 ∷ event.Turn [] (end.Ready 1) ∷ event.Turn [] (end.Ready 2) ∷ [])
     (report.Reply (reply.Task 0) ∷ report.Reply (reply.Task 1) ∷ report.Turn 0 (reply.Sleep 0 ∷ reply.Pending ∷ []) ended.Idle ∷ report.Turn 1 (reply.Pending ∷ []) ended.Idle ∷ report.Fired (0 ∷ []) ∷ report.Turn 1 [] ended.Done ∷ report.Reply (reply.Refused refusal.Idle) ∷ [])
 
--- The greatest deadline and the greatest clock value, and the next above each.
+-- The greatest deadline and the greatest clock value, and the next above each. A reset to the greatest deadline elapses
+-- at once where the clock has come to it.
 abbrev pub EndOfTheType : Type 0
 EndOfTheType = Answers (start 16)
-    (event.Act (act.NewSleep 9223372036854775807000000) ∷ event.Act (act.NewSleep 9223372036854775807000001) ∷ event.Clock 9223372036854775807000000 ∷ event.Clock 9223372036854775807000001 ∷ [])
-    (report.Reply (reply.Sleep 0) ∷ report.Reply (reply.Refused refusal.Invalid) ∷ report.Fired [] ∷ report.Reply (reply.Refused refusal.Invalid) ∷ [])
+    (event.Act (act.NewSleep 9223372036854775807000000) ∷ event.Act (act.NewSleep 9223372036854775807000001) ∷ event.Clock 9223372036854775807000000 ∷ event.Clock 9223372036854775807000001
+    ∷ event.Act (act.Reset 0 9223372036854775807000000) ∷ [])
+    (report.Reply (reply.Sleep 0) ∷ report.Reply (reply.Refused refusal.Invalid) ∷ report.Fired [] ∷ report.Reply (reply.Refused refusal.Invalid) ∷ report.Reply reply.Elapsed ∷ [])
 
--- A clock that goes back: the greatest tick stays, and a deadline below it has passed.
+-- A clock that goes back: the greatest tick stays, so that a reset to a deadline below it elapses at once, and the waker
+-- is woken.
 abbrev pub ClockGoesBack : Type 0
 ClockGoesBack = Answers (start 16)
-    (spawn ∷ event.Clock 10000000 ∷ event.Clock 5000000 ∷ event.Turn (new_sleep 9000000 ∷ poll 0 ∷ []) (end.Ready 1) ∷ [])
-    (report.Reply (reply.Task 0) ∷ report.Fired [] ∷ report.Fired [] ∷ report.Turn 0 (reply.Sleep 0 ∷ reply.Ready ∷ []) ended.Done ∷ [])
+    (spawn ∷ event.Turn (new_sleep 12000000 ∷ poll 0 ∷ []) end.Pending ∷ event.Clock 10000000 ∷ event.Clock 5000000 ∷ event.Act (act.Reset 0 9000000) ∷ event.Turn [] (end.Ready 1) ∷ [])
+    (report.Reply (reply.Task 0) ∷ report.Turn 0 (reply.Sleep 0 ∷ reply.Pending ∷ []) ended.Idle ∷ report.Fired [] ∷ report.Fired [] ∷ report.Reply reply.Elapsed ∷ report.Turn 0 [] ended.Done ∷ [])
+
+-- A late move: the sleep fires at the deadline to which it was moved, and wakes who polled it.
+abbrev pub LateMove : Type 0
+LateMove = Answers (start 16)
+    (spawn ∷ event.Turn (new_sleep 50000000 ∷ poll 0 ∷ step.Act (act.Reset 0 80000000) ∷ []) end.Pending ∷ event.Clock 50000000 ∷ event.Clock 80000000 ∷ event.Turn [] end.Pending ∷ [])
+    (report.Reply (reply.Task 0) ∷ report.Turn 0 (reply.Sleep 0 ∷ reply.Pending ∷ reply.Armed ∷ []) ended.Idle ∷ report.Fired [] ∷ report.Fired (0 ∷ []) ∷ report.Turn 0 [] ended.Idle ∷ [])
+
+-- A refused turn does no step.
+abbrev pub RefusalFirst : Type 0
+RefusalFirst = Answers (start 16)
+    (event.Turn (new_sleep 0 ∷ []) (end.Ready 1) ∷ event.Act (act.SleepElapsed 0) ∷ [])
+    (report.Reply (reply.Refused refusal.Idle) ∷ report.Reply (reply.Refused refusal.NoTimer) ∷ [])
+
+-- A refusal in the middle of a turn does not end it.
+abbrev pub RefusalInTheMiddle : Type 0
+RefusalInTheMiddle = Answers (start 16)
+    (spawn ∷ event.Act (act.NewSleep 5000000) ∷ event.Act (act.DropSleep 0) ∷ event.Turn (step.Act (act.Finished 0) ∷ poll 0 ∷ step.Act (act.Wake 0) ∷ []) end.Pending ∷ [])
+    (report.Reply (reply.Task 0) ∷ report.Reply (reply.Sleep 0) ∷ report.Reply (reply.Dropped None) ∷ report.Turn 0 (reply.No ∷ reply.Refused refusal.NoTimer ∷ reply.Woke woke.Noted ∷ []) ended.Again ∷ [])
 
 -- Of two causes the first is the answer: with no room, also a deadline that is too late is refused for want of room.
 abbrev pub NoRoomFirst : Type 0

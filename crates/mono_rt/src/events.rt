@@ -14,6 +14,13 @@ pub enum Act {
     /// Makes a sleep until a deadline, in nanoseconds from the clock's zero; it is not armed yet. Refused as
     /// `AtCapacity`, and then as `Invalid`.
     NewSleep(u128),
+    /// Arms a sleep at another deadline, in nanoseconds from the clock's zero. Where the tick of that deadline has come,
+    /// the sleep has elapsed and its waker is woken; else it keeps its waker. Refused as `NoTimer`, and then as `Invalid`.
+    Reset(u64, u128),
+    /// Drops a sleep, which is gone and wakes nobody. Refused as `NoTimer`.
+    DropSleep(u64),
+    /// Asks whether a sleep has elapsed. Refused as `NoTimer`.
+    SleepElapsed(u64),
     /// Drops the handle of a task. A task that has finished is gone, and an output that nobody took comes back; any other
     /// runs on, and nobody waits for it. Refused as `NoTask`, and then as `NoHandle`.
     DropJoin(u64),
@@ -116,11 +123,15 @@ pub enum Reply {
     Woke(Woke),
     /// The sleep with this number was made.
     Sleep(u64),
-    /// The handle was dropped. An output that nobody took comes back.
+    /// The sleep that was reset is armed.
+    Armed,
+    /// The sleep that was reset has elapsed at once.
+    Elapsed,
+    /// The handle or the sleep was dropped. An output that nobody took comes back.
     Dropped(Option<u64>),
     /// The job with this number was made.
     Job(u64),
-    /// The task has finished, or the job has ended.
+    /// The task has finished, the job has ended, or the sleep has elapsed.
     Yes,
     /// It has not.
     No,

@@ -5,6 +5,7 @@ ghost use Rattle.mono_rt.specs.Steps.{Step, Run};
 
 use crate::parts::Parts;
 use crate::{Blocking, Event, Limits, Report};
+use mono_time::Timers;
 use std::alloc::{AllocError, Global};
 
 /// An executor: tasks with their queue, jobs, sleeps, and the inbox of wakes from other threads.
@@ -18,6 +19,9 @@ pub struct Exec {
 }
 
 impl Exec {
+    ghost use Rattle.mono_time.specs.Sleeps.{IsNoneArmedUpTo};
+    ghost use Rattle.mono_time.specs.Stands.{StandsForSleeps};
+    ghost use Rattle.mono_time.specs.Timers.{sleeps_of, elapsed_tick};
     ghost use Rattle.mono_rt.specs.Stands.{Stands};
 
     /// An executor with no task, no job, no sleep, an empty inbox and a clock at 0: it stands for the start machine with
@@ -56,6 +60,18 @@ impl Exec {
                 Ok(report)
             }
         }
+    }
+
+    /// The table of sleeps, which stands for the machine's sleeps (`sleeps`) with its greatest tick (`greatest`).
+    ///
+    /// No clock step is under way (`rests`). So the table's next expiration is None exactly where no sleep is armed, and
+    /// else above the greatest tick and not above the least armed tick.
+    pub fn timers(&self) -> &Timers
+        ensures sleeps { (m : Machine) → Stands self.now m → StandsForSleeps result.now m.sleeps }
+        ensures greatest { (m : Machine) → Stands self.now m → (sleeps_of result.now).greatest ≡ m.sleeps.greatest }
+        ensures rests { (m : Machine) → Stands self.now m → IsNoneArmedUpTo (sleeps_of result.now) × (elapsed_tick result.now ≡ (sleeps_of result.now).greatest) }
+    {
+        &self.parts.timers
     }
 }
 

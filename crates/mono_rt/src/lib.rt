@@ -11,7 +11,7 @@ mod parts;
 mod remote;
 mod replies;
 mod rows;
-mod timers;
+mod sleeps;
 mod turns;
 
 pub use events::{Act, Blocking, End, Event, How, Limits, Query, Refusal, Reply, Report, TurnStep};
@@ -19,11 +19,12 @@ pub use executor::{Exec, replay};
 pub use laws::{none_is_late, one_machine, starts_valid, stays_valid};
 pub use lists::List;
 pub use mono_model::{Ended, MAX_NANOS, Woke};
+pub use mono_time::Timers;
 pub use rows::{
     both_roundings, clock_goes_back, deadline_is_now, doubles_in_inbox, end_of_the_type,
-    far_sleeps, jobs_that_end, latest_waker, no_pool, no_room_first, none_is_early,
-    none_is_left_out, on_a_thread, on_the_caller, refusals_of_join, ties, two_causes,
-    woken_in_own_turn,
+    far_sleeps, jobs_that_end, late_move, latest_waker, no_pool, no_room_first, none_is_early,
+    none_is_left_out, on_a_thread, on_the_caller, refusal_first, refusal_in_the_middle,
+    refusals_of_join, ties, two_causes, woken_in_own_turn,
 };
 
 #[cfg(test)]

@@ -1,27 +1,19 @@
 // The parts of an executor, and the acts and polls on them.
-ghost use Rattle.std.specs.Prelude.{◌≡◌, ◌≤◌, IfOk, OnOk, None};
-ghost use Rattle.mono_model.specs.Ticks.{up, max_nanos};
+ghost use Rattle.std.specs.Prelude.{◌≡◌, IfOk, OnOk, None};
 ghost use Rattle.mono_rt.specs.Machine.{Machine, start_machine};
 ghost use Rattle.mono_rt.specs.Acts.{act_outcome, query_outcome, step_outcome};
 ghost use Rattle.mono_rt.specs.Matches.{Matches};
 
 use crate::jobs::Jobs;
-use crate::replies::{drop_reply, finished_reply, join_reply, reply_of, wake_reply};
-use crate::timers::Timers;
-use crate::{Act, Blocking, Limits, MAX_NANOS, Query, Refusal, Reply, TurnStep};
+use crate::replies::{
+    drop_reply, elapsed_reply, finished_reply, gone_reply, join_reply, poll_reply, reply_of,
+    wake_reply,
+};
+use crate::{Act, Blocking, Limits, Query, Refusal, Reply, TurnStep};
 use mono_inbox::InboxState;
 use mono_task::{SpawnTask, Tasks};
+use mono_time::Timers;
 use std::alloc::{AllocError, AllocFailed, Global};
-
-const NANOS_PER_TICK: u128 = 1000000;
-
-/// The tick of a deadline.
-fn tick_of_deadline(n: u128) -> u64
-    requires { n ≤ max_nanos }
-    ensures { result ≡ up n }
-{
-    ((n + 999999) / NANOS_PER_TICK) as u64
-}
 
 /// The tasks, the sleeps, the jobs and the inbox of an executor, while a turn runs or none does.
 ///
@@ -42,10 +34,11 @@ impl Parts {
         ensures rest { IfOk result (λ parts. parts.tasks.turn ≡ None) }
     {
         let tasks = Tasks::new(alloc, limits.tasks)?;
+        let timers = Timers::new(alloc, limits.sleeps, true)?;
         let inbox = InboxState::new(alloc, 0)?;
         Ok(Parts {
             tasks,
-            timers: Timers::new(alloc, limits.sleeps),
+            timers,
             jobs: Jobs::new(alloc, limits.jobs),
             inbox,
             blocking,
@@ -66,22 +59,6 @@ impl Parts {
             Err(SpawnTask::AtCapacity) => Ok(Reply::Refused(Refusal::AtCapacity)),
             Err(SpawnTask::Memory) => Err(AllocError),
         }
-    }
-
-    /// A sleep is made.
-    fn new_sleep(&mut self, n: u128) -> Result<Reply, AllocError>
-        ensures reply { IfOk result (λ r. (m : Machine) → Matches self.old m → r ≡ (act_outcome (Act.NewSleep n) m).reply) }
-        ensures matches { OnOk result ((m : Machine) → Matches self.old m → Matches self.new (act_outcome (Act.NewSleep n) m).machine) }
-        ensures turn { self.new.tasks.turn ≡ self.old.tasks.turn }
-    {
-        if self.timers.is_full() {
-            return Ok(Reply::Refused(Refusal::AtCapacity));
-        }
-        if n > MAX_NANOS {
-            return Ok(Reply::Refused(Refusal::Invalid));
-        }
-        let s = self.timers.add(tick_of_deadline(n))?;
-        Ok(Reply::Sleep(s))
     }
 
     /// A job is made, by the strategy.
@@ -115,26 +92,16 @@ impl Parts {
         match act {
             Act::Spawn => self.spawn(alloc),
             Act::Wake(t) => Ok(wake_reply(self.tasks.wake(t))),
-            Act::NewSleep(n) => self.new_sleep(n),
+            Act::NewSleep(n) => self.new_sleep(alloc, n),
+            Act::Reset(s, n) => Ok(self.reset(s, n)),
+            Act::DropSleep(s) => Ok(gone_reply(self.timers.remove(s))),
+            Act::SleepElapsed(s) => Ok(elapsed_reply(self.timers.is_elapsed(s))),
             Act::DropJoin(t) => Ok(drop_reply(self.tasks.drop_join(t))),
             Act::Block(output) => self.block(output),
             Act::DropJob(j) => Ok(reply_of(self.jobs.drop_handle(j))),
             Act::Finished(t) => Ok(finished_reply(self.tasks.is_finished(t))),
             Act::JobFinished(j) => Ok(reply_of(self.jobs.has_ended(j))),
             Act::JobEnd(j, how) => Ok(reply_of(self.jobs.end(j, how))),
-        }
-    }
-
-    /// A poll of a sleep by the running task.
-    fn poll_sleep(&mut self, me: u64, s: u64) -> Result<Reply, AllocError>
-        ensures reply { IfOk result (λ r. (m : Machine) → Matches self.old m → r ≡ (query_outcome me (Query.Sleep s) m).reply) }
-        ensures matches { OnOk result ((m : Machine) → Matches self.old m → Matches self.new (query_outcome me (Query.Sleep s) m).machine) }
-        ensures turn { self.new.tasks.turn ≡ self.old.tasks.turn }
-    {
-        match self.timers.poll(s, me)? {
-            None => Ok(Reply::Refused(Refusal::NoTimer)),
-            Some(true) => Ok(Reply::Ready),
-            Some(false) => Ok(Reply::Pending),
         }
     }
 
@@ -145,7 +112,7 @@ impl Parts {
         ensures turn { self.new.tasks.turn ≡ self.old.tasks.turn }
     {
         match query {
-            Query::Sleep(s) => self.poll_sleep(me, s),
+            Query::Sleep(s) => Ok(poll_reply(self.timers.poll(s, me))),
             Query::Join(t) => Ok(join_reply(self.tasks.poll_join(t, me))),
             Query::Job(j) => Ok(reply_of(self.jobs.poll(j, me))),
         }

@@ -1,10 +1,12 @@
 // The answers of calls as replies.
 ghost use Rattle.std.specs.Prelude.{◌≡◌};
 ghost use Rattle.mono_rt.specs.Acts.{reply_of};
+ghost use Rattle.mono_rt.specs.SleepCalls.{poll_reply, gone_reply, elapsed_reply};
 ghost use Rattle.mono_rt.specs.JoinCalls.{refusal_of, wake_reply, drop_reply, finished_reply, join_reply};
 
 use crate::{Refusal, Reply, Woke};
 use mono_task::{Poll, TaskError};
+use mono_time::Error;
 
 /// The refusal of a call on a task.
 fn refusal_of(error: TaskError) -> Refusal
@@ -67,5 +69,37 @@ pub fn join_reply(answer: Result<Poll<u64>, TaskError>) -> Reply
         Ok(Poll::Ready(output)) => Reply::Output(output),
         Ok(Poll::Pending) => Reply::Pending,
         Err(error) => Reply::Refused(refusal_of(error)),
+    }
+}
+
+/// The reply to a poll of a sleep.
+pub fn poll_reply(answer: Result<Poll<()>, Error>) -> Reply
+    ensures { result ≡ poll_reply answer }
+{
+    match answer {
+        Ok(Poll::Ready(_)) => Reply::Ready,
+        Ok(Poll::Pending) => Reply::Pending,
+        Err(_) => Reply::Refused(Refusal::NoTimer),
+    }
+}
+
+/// The reply to the drop of a sleep.
+pub fn gone_reply(answer: Result<(), Error>) -> Reply
+    ensures { result ≡ gone_reply answer }
+{
+    match answer {
+        Ok(_) => Reply::Dropped(None),
+        Err(_) => Reply::Refused(Refusal::NoTimer),
+    }
+}
+
+/// The reply to the question whether a sleep has elapsed.
+pub fn elapsed_reply(answer: Result<bool, Error>) -> Reply
+    ensures { result ≡ elapsed_reply answer }
+{
+    match answer {
+        Ok(true) => Reply::Yes,
+        Ok(false) => Reply::No,
+        Err(_) => Reply::Refused(Refusal::NoTimer),
     }
 }

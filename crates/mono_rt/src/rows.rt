@@ -1,5 +1,5 @@
 // Worked runs of the machine.
-ghost use Rattle.mono_rt.specs.Worked.{DeadlineIsNow, BothRoundings, NoneIsEarly, NoneIsLeftOut, FarSleeps, Ties, WokenInOwnTurn, LatestWaker, EndOfTheType, ClockGoesBack, NoRoomFirst, RefusalsOfJoin, DoublesInInbox, TwoCauses, NoPool, OnTheCaller, OnAThread, JobsThatEnd};
+ghost use Rattle.mono_rt.specs.Worked.{DeadlineIsNow, BothRoundings, NoneIsEarly, NoneIsLeftOut, FarSleeps, Ties, WokenInOwnTurn, LatestWaker, EndOfTheType, ClockGoesBack, LateMove, RefusalFirst, RefusalInTheMiddle, NoRoomFirst, RefusalsOfJoin, DoublesInInbox, TwoCauses, NoPool, OnTheCaller, OnAThread, JobsThatEnd};
 
 /// A sleep whose deadline is now has elapsed at its first poll.
 pub fn deadline_is_now()
@@ -41,14 +41,30 @@ pub fn latest_waker()
     ensures { LatestWaker }
 {}
 
-/// The greatest deadline and the greatest clock value are taken, and the next above each is refused.
+/// The greatest deadline and the greatest clock value are taken, and the next above each is refused; a reset to the
+/// greatest deadline elapses at once where the clock has come to it.
 pub fn end_of_the_type()
     ensures { EndOfTheType }
 {}
 
-/// A clock that goes back leaves the greatest tick, so that a deadline below it has passed.
+/// A clock that goes back leaves the greatest tick, so that a reset to a deadline below it elapses at once.
 pub fn clock_goes_back()
     ensures { ClockGoesBack }
+{}
+
+/// A sleep that was moved to a later deadline fires there.
+pub fn late_move()
+    ensures { LateMove }
+{}
+
+/// A refused turn does no step.
+pub fn refusal_first()
+    ensures { RefusalFirst }
+{}
+
+/// A refusal in the middle of a turn does not end it.
+pub fn refusal_in_the_middle()
+    ensures { RefusalInTheMiddle }
 {}
 
 /// Of two causes the first in order is the answer.

@@ -13,3 +13,4 @@ pub mod Stands
 pub mod Missed
 pub mod Ticking
 pub mod Timeouts
+pub mod Lending

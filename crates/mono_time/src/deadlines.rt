@@ -1,6 +1,8 @@
 // A future that has to be ready before a deadline.
 ghost use Rattle.std.specs.Prelude.{◌≡◌};
 ghost use Rattle.mono_time.specs.Futures.{SleepCancels};
+ghost use Rattle.std.specs.Borrow.{sem};
+ghost use Rattle.mono_time.specs.Lending.{LendsValue};
 ghost use Rattle.mono_time.specs.Timeouts.{TimeoutPolls, TimeoutCancels};
 
 use crate::context::TimeContext;
@@ -36,8 +38,11 @@ impl<T> Timeout<T> {
         &self.value
     }
 
-    /// The future, to be changed.
-    pub fn get_mut(&mut self) -> &mut T {
+    /// The future, to be changed. The delay stays.
+    pub fn get_mut(&mut self) -> &mut T
+        ensures* writes_back { sem 𝓛 (LendsValue T.row self.entry result) }
+        ensures value { result.now ≡ self.old.value }
+    {
         &mut self.value
     }
 

@@ -1,7 +1,7 @@
 // The table of sleeps over the wheel.
 ghost use Rattle.std.specs.Prelude.{◌≡◌, ◌<◌, ◌≤◌, ◌+◌, ◌^◌, ℕ, max, true, Option, None, Some, IfOk, IfNone, IfSome, OnSome, OnErr, MatchOption, is_some, slice_get};
 ghost use Rattle.mono_model.specs.Ticks.{up, down};
-ghost use Rattle.mono_model.specs.Table.{value_at};
+ghost use Rattle.mono_model.specs.Table.{value_at, is_full};
 ghost use Rattle.mono_wheel.specs.Model.{timed_at, is_reserved};
 ghost use Rattle.mono_time.specs.Keeping.{Holds};
 ghost use Rattle.mono_time.specs.Sleeps.{poll_of};
@@ -87,6 +87,14 @@ impl Timers {
             live: 0,
             is_enabled: enabled,
         })
+    }
+
+    /// Whether no further sleep is given out: exactly where the live sleeps are at the limit or the next number is 2^64 - 1.
+    pub fn is_full(&self) -> bool
+        ensures full { result ≡ is_full (sleeps_of self.now).table (sleeps_of self.now).limit }
+        ensures stands { (m : Sleeps) → StandsForSleeps self.now m → result ≡ is_full m.table m.limit }
+    {
+        self.live >= self.limit
     }
 
     /// A fresh sleep for a deadline, with the next number. It counts as live until it is removed.
