@@ -1,8 +1,7 @@
 -- What a try-join answers where a branch has failed.
-use Rattle.std.proofs.Common.{◌≡◌, Option, Some, None, Result, Ok, Err, refl, sym, ap}
+use Rattle.std.proofs.Common.{◌≡◌, Some, None, Result, Ok, Err, refl}
 use Rattle.mono_task.specs.Members.{FutureOf}
-use Rattle.mono_model.specs.declared.poll.Poll.{Poll}
-use Rattle.mono_model.specs.declared.poll.Poll.TheVariants.{Ready, Pending}
+use Rattle.mono_model.specs.declared.poll.Poll.TheVariants.{Ready}
 use Rattle.mono_combine.specs.declared.maybe.MaybeDone.{MaybeDone}
 use Rattle.mono_combine.specs.declared.maybe.MaybeDone.TheVariants.{Future, Done, Gone}
 use Rattle.mono_combine.specs.declared.try_joins.TryJoin2.{TryJoin2}

@@ -1,5 +1,5 @@
 -- One more branch of a list had its turn.
-use Rattle.std.proofs.Common.{◌≡◌, ℕ, suc, ◌≤◌, append-nil, ◌+◌, ◌<◌, Bool, true, false, ◌||◌, List, [], ◌∷◌, ◌++◌, length, get_or, take, drop, set, map, refl, sym, ◌∙◌, ap, arith, drop-cons, add-one, Option, Some, None, is_none}
+use Rattle.std.proofs.Common.{◌≡◌, ℕ, suc, ◌≤◌, append-nil, ◌+◌, ◌<◌, Bool, true, false, ◌||◌, List, [], ◌∷◌, ◌++◌, length, get_or, take, drop, set, map, refl, sym, ◌∙◌, ap, arith, drop-cons, add-one, is_none}
 use Rattle.std.specs.List.{list_any, filter_map, cons_option}
 use Rattle.std.proofs.lemmas.List.{drop-set-lt, take_more_set, append_assoc, take_all, drop_all}
 use Rattle.mono_task.specs.Members.{FutureOf}
@@ -8,7 +8,7 @@ use Rattle.mono_model.specs.declared.poll.Poll.TheVariants.{Ready, Pending}
 use Rattle.mono_model.specs.Poll.{is_pending, OnPending}
 use Rattle.mono_combine.specs.declared.maybe.MaybeDone.{MaybeDone}
 use Rattle.mono_combine.specs.declared.maybe.MaybeDone.TheVariants.{Future, Done, Gone}
-use Rattle.mono_combine.specs.Branches.{Advances, AfterBranch, is_waiting, maybe_spent, MaybeCanPoll, output_of}
+use Rattle.mono_combine.specs.Branches.{Advances, AfterBranch, is_waiting, maybe_spent, output_of}
 use Rattle.mono_combine.specs.Rules.{join_rule}
 use Rattle.mono_combine.specs.Listed.{EachInTurn, MayPoll, AllMayPoll, AllCanPoll}
 

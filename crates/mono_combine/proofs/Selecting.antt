@@ -1,14 +1,11 @@
 -- The turns of two branches, and what the rule picks of their answers.
-use Rattle.std.proofs.Common.{◌≡◌, Bool, true, false, Option, Some, None, refl}
+use Rattle.std.proofs.Common.{◌≡◌, Bool, true, false, Some, refl}
 use Rattle.std.specs.Fn.{Shared}
 use denote.Ref.{Bor}
 use Rattle.mono_task.specs.Members.{FutureOf}
-use Rattle.mono_model.specs.declared.poll.Poll.{Poll}
-use Rattle.mono_model.specs.declared.poll.Poll.TheVariants.{Ready, Pending}
-use Rattle.mono_combine.specs.declared.branch.Branch.{Branch}
+use Rattle.mono_model.specs.declared.poll.Poll.TheVariants.{Ready}
 use Rattle.mono_combine.specs.declared.branch.Look.{Look}
 use Rattle.mono_combine.specs.declared.branch.Look.TheVariants.{Passes, Waits, Rests}
-use Rattle.mono_combine.specs.declared.select.Out2.{Out2}
 use Rattle.mono_combine.specs.declared.select.Out2.TheVariants.{First, Second}
 use Rattle.mono_combine.specs.Looks.{is_out, HasTurn}
 use Rattle.mono_combine.specs.Rules.{unless_masked, passes, waits}

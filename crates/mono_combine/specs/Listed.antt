@@ -1,6 +1,5 @@
 -- Many branches of one type.
 use Rattle.std.specs.Prelude.{◌≡◌, ⊤, Bool, true, false, List, [], ◌∷◌, map}
-use Rattle.std.specs.List.{list_any}
 use Rattle.mono_task.specs.Members.{FutureOf}
 use Rattle.mono_model.specs.Poll.{OnPending, OnReady}
 use Rattle.mono_model.specs.declared.poll.Poll.{Poll}

@@ -10,7 +10,7 @@ use Rattle.mono_combine.specs.declared.maybe.MaybeDone.{MaybeDone}
 use Rattle.mono_combine.specs.declared.maybe.MaybeDone.TheVariants.{Future, Done, Gone}
 use Rattle.mono_combine.specs.declared.try_joins.TryJoin2.{TryJoin2}
 use Rattle.mono_combine.specs.Branches.{Advances, MaybeCancels, output_of}
-use Rattle.mono_combine.specs.Rules.{error_of, value_of, try_join_rule}
+use Rattle.mono_combine.specs.Rules.{error_of, try_join_rule}
 
 -- the error or the value that a branch has
 abbrev pub failure_of : {C Fut X E : Type 0} → MaybeDone C Fut (Result X E) → Option E

@@ -15,7 +15,7 @@ pub(crate) struct Countdown {
 }
 
 /// The future that waits so many polls.
-pub(crate) fn countdown(left: u64) -> Countdown
+pub(crate) fn countdown_of(left: u64) -> Countdown
     ensures left { result.left ≡ left }
     ensures fresh { result.has_answered ≡ false }
 {
@@ -65,7 +65,10 @@ pub(crate) fn join_waits<C: Context, R: Host>(
     requires { 0 < first }
     ensures { result ≡ true }
 {
-    let mut both: Join2<C, Countdown, Countdown> = Join2::new(countdown(first), countdown(second));
+    let mut both: Join2<C, Countdown, Countdown> = Join2::new(
+        countdown_of(first),
+        countdown_of(second),
+    );
     let answer = both.poll(rt, alloc, cx);
     let waits = answer.is_pending();
     both.cancel(cx);

@@ -6,7 +6,9 @@ ghost use Rattle.mono_model.specs.Joins.{wake_answer};
 ghost use Rattle.mono_task.specs.Work.{without_outputs};
 
 use crate::example::join_waits;
-use crate::{FastRand, Join2, JoinList, MaybeDone, Out2, Select2, Start, TryJoin2, maybe_done, poll_fn};
+use crate::{
+    FastRand, Join2, JoinList, MaybeDone, Out2, Select2, Start, TryJoin2, maybe_done, poll_fn,
+};
 use mono_model::{Host, Poll};
 use mono_task::{Context, SpawnTask, TaskError, TaskFuture, Tasks, Woke};
 use std::alloc::Global;
@@ -303,8 +305,14 @@ fn join_all<R: Host>(rt: &R, alloc: Global, waits: u64) -> Result<Listed, SpawnT
 #[test]
 fn lists(rt: HostRuntime) {
     let alloc = rt.alloc();
-    assert_eq!(rt; join_all(&rt, alloc, 0), Ok((Poll::Ready((1, 2, 3)), 162738)));
-    assert_eq!(rt; join_all(&rt, alloc, 1), Ok((Poll::Ready((1, 2, 3)), 1623827)));
+    assert_eq!(rt;
+        join_all(&rt, alloc, 0),
+        Ok((Poll::Ready((1, 2, 3)), 162738))
+    );
+    assert_eq!(rt;
+        join_all(&rt, alloc, 1),
+        Ok((Poll::Ready((1, 2, 3)), 1623827))
+    );
 }
 
 type Kept = (Option<u64>, Poll<()>, Option<u64>, Option<u64>, u64);

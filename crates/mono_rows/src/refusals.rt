@@ -54,8 +54,8 @@ fn rows() -> [Row; 38] {
         refused(b"turn\n".as_slice(), b"bad line 1\n".as_slice()),
         // a poll outside a turn
         refused(b"poll 0\n".as_slice(), b"bad line 1\n".as_slice()),
-        // a form that is not built
-        refused(b"drain\nreset 0 5\n".as_slice(), b"bad line 2\n".as_slice()),
+        // a reset without a deadline
+        refused(b"drain\nreset 0\n".as_slice(), b"bad line 2\n".as_slice()),
         // a poll of a task outside a turn
         refused(b"join 0\n".as_slice(), b"bad line 1\n".as_slice()),
         // a poll of a job outside a turn

@@ -2,7 +2,7 @@
 use crate::running::{PLAIN, Row, replayed, run};
 use std::alloc::AllocError;
 
-fn rows() -> [Row; 15] {
+fn rows() -> [Row; 18] {
     [
         // no input
         replayed(b"".as_slice(), b"".as_slice()),
@@ -18,8 +18,8 @@ fn rows() -> [Row; 15] {
         ),
         // two sleeps far apart
         replayed(
-            b"spawn\nturn; sleep 68719476736000000; sleep 1073741824000000; poll 0; poll 1; pending\nclock 1073741824000000\n".as_slice(),
-            b"task 0\nturn 0; sleep 0; sleep 1; pending; pending; idle\nfired 1\n".as_slice(),
+            b"spawn\nturn; sleep 68719476736000000; sleep 1073741824000000; poll 0; poll 1; pending\nclock 1073741824000000\nelapsed 0\n".as_slice(),
+            b"task 0\nturn 0; sleep 0; sleep 1; pending; pending; idle\nfired 1\nno\n".as_slice(),
         ),
         // ties
         replayed(
@@ -38,18 +38,33 @@ fn rows() -> [Row; 15] {
         ),
         // a turn with nothing queued
         replayed(
-            b"turn; sleep 0; ready 1\nsleep 0\n".as_slice(),
-            b"refused idle\nsleep 0\n".as_slice(),
+            b"turn; sleep 0; ready 1\nelapsed 0\n".as_slice(),
+            b"refused idle\nrefused no-timer\n".as_slice(),
         ),
         // the type's end
         replayed(
-            b"sleep 9223372036854775807000000\nsleep 9223372036854775807000001\nclock 9223372036854775807000000\nclock 9223372036854775807000001\n".as_slice(),
-            b"sleep 0\nrefused invalid\nfired\nrefused invalid\n".as_slice(),
+            b"sleep 9223372036854775807000000\nsleep 9223372036854775807000001\nclock 9223372036854775807000000\nclock 9223372036854775807000001\nreset 0 9223372036854775807000000\n".as_slice(),
+            b"sleep 0\nrefused invalid\nfired\nrefused invalid\nelapsed\n".as_slice(),
         ),
         // a clock that goes back
         replayed(
-            b"spawn\nturn; sleep 12000000; poll 0; pending\nclock 10000000\nclock 5000000\nclock 12000000\n".as_slice(),
-            b"task 0\nturn 0; sleep 0; pending; idle\nfired\nfired\nfired 0\n".as_slice(),
+            b"spawn\nturn; sleep 12000000; poll 0; pending\nclock 10000000\nclock 5000000\nreset 0 9000000\nturn; ready 1\n".as_slice(),
+            b"task 0\nturn 0; sleep 0; pending; idle\nfired\nfired\nelapsed\nturn 0; done\n".as_slice(),
+        ),
+        // a late move
+        replayed(
+            b"spawn\nturn; sleep 50000000; poll 0; reset 0 80000000; pending\nclock 50000000\nclock 80000000\nturn; pending\n".as_slice(),
+            b"task 0\nturn 0; sleep 0; pending; armed; idle\nfired\nfired 0\nturn 0; idle\n".as_slice(),
+        ),
+        // a dropped sleep, and a refusal in the middle
+        replayed(
+            b"spawn\nsleep 5000000\ndrop-sleep 0\nturn; finished 0; poll 0; wake 0; pending\n".as_slice(),
+            b"task 0\nsleep 0\ndropped\nturn 0; no; refused no-timer; noted; again\n".as_slice(),
+        ),
+        // the refusals of a reset
+        replayed(
+            b"reset 0 9223372036854775807000001\nsleep 5\nreset 0 9223372036854775807000001\nreset 0 9223372036854775807000000\nelapsed 0\nreset 0 0\nelapsed 0\ndrop-sleep 0\ndrop-sleep 0\nreset 0 0\n".as_slice(),
+            b"refused no-timer\nsleep 0\nrefused invalid\narmed\nno\nelapsed\nyes\ndropped\nrefused no-timer\nrefused no-timer\n".as_slice(),
         ),
         // two causes
         Row {

@@ -72,8 +72,13 @@ impl Parts {
             None => Ok(Report::Reply(Reply::Refused(Refusal::Invalid))),
             Some(now) => {
                 let blank = Blank::new(1);
-                let fired =
-                    fire_all::<Brand>(&mut self.timers, &mut self.tasks, alloc, now, blank)?;
+                let fired = fire_all::<Brand>(
+                    &mut self.timers,
+                    &mut self.tasks,
+                    alloc,
+                    now,
+                    blank,
+                )?;
                 Ok(Report::Fired(fired))
             }
         }

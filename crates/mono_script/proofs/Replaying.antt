@@ -58,11 +58,15 @@ no_feed_act : (a : Act) → FitsAct a → NoFeed (act_text a)
 no_feed_act act.Spawn f = (refl, (refl, (refl, (refl, (refl, tt)))))
 no_feed_act (act.Wake t) f = no_feed_number (codes "wake ") t (refl, (refl, (refl, (refl, (refl, tt))))) (omega arith)
 no_feed_act (act.NewSleep n) f = no_feed_number (codes "sleep ") n (refl, (refl, (refl, (refl, (refl, (refl, tt)))))) (omega arith)
+no_feed_act (act.Reset s n) f =
+    no_feed_number (codes "reset " ++ decimal s ++ codes " ") n (no_feed_both (codes "reset " ++ decimal s) (codes " ") (no_feed_number (codes "reset ") s (refl, (refl, (refl, (refl, (refl, (refl, tt)))))) (omega (arith, f.0))) (refl, tt)) (omega (arith, f.1))
+no_feed_act (act.DropSleep s) f = no_feed_number (codes "drop-sleep ") s (refl, (refl, (refl, (refl, (refl, (refl, (refl, (refl, (refl, (refl, (refl, tt))))))))))) (omega arith)
 no_feed_act (act.DropJoin t) f = no_feed_number (codes "drop-join ") t (refl, (refl, (refl, (refl, (refl, (refl, (refl, (refl, (refl, (refl, tt)))))))))) (omega arith)
 no_feed_act (act.Block o) f = no_feed_number (codes "block ") o (refl, (refl, (refl, (refl, (refl, (refl, tt)))))) (omega arith)
 no_feed_act (act.DropJob j) f = no_feed_number (codes "drop-job ") j (refl, (refl, (refl, (refl, (refl, (refl, (refl, (refl, (refl, tt))))))))) (omega arith)
 no_feed_act (act.Finished t) f = no_feed_number (codes "finished ") t (refl, (refl, (refl, (refl, (refl, (refl, (refl, (refl, (refl, tt))))))))) (omega arith)
 no_feed_act (act.JobFinished j) f = no_feed_number (codes "job-finished ") j (refl, (refl, (refl, (refl, (refl, (refl, (refl, (refl, (refl, (refl, (refl, (refl, (refl, tt))))))))))))) (omega arith)
+no_feed_act (act.SleepElapsed s) f = no_feed_number (codes "elapsed ") s (refl, (refl, (refl, (refl, (refl, (refl, (refl, (refl, tt)))))))) (omega arith)
 no_feed_act (act.JobEnd j h) f =
     no_feed_both (codes "job-end " ++ decimal j ++ codes " ") (how_text h) (no_feed_both (codes "job-end " ++ decimal j) (codes " ") (no_feed_number (codes "job-end ") j (refl, (refl, (refl, (refl, (refl, (refl, (refl, (refl, tt)))))))) (omega arith)) (refl, tt)) (no_feed_how h)
 

@@ -17,7 +17,7 @@ use Rattle.mono_rt.specs.declared.events.Event.{Event}
 use Rattle.mono_rt.specs.declared.events.Event.TheVariants as event
 use Rattle.mono_script.specs.Written.{how_text, act_text, step_text, end_text, parts_text, event_text, FitsAct, FitsStep, FitsEnd, FitSteps, FitsEvent}
 use Rattle.mono_script.specs.Lines.{BeginsWith, BeginsWithNone}
-use Rattle.mono_script.specs.Reading.{Gives, GivesIf, Read, when, mapped, then_read, ends_or, word_at, digits_from, s_act_at, drop_at, how_at, job_act_at, other_act_at, act_at, job_step_at, number_at, nanos_at, step_at, end_at, parts_at, event_at, line_at}
+use Rattle.mono_script.specs.Reading.{Gives, GivesIf, Read, when, mapped, then_read, ends_or, word_at, digits_from, s_act_at, drop_at, reset_at, how_at, job_act_at, other_act_at, act_at, job_step_at, number_at, nanos_at, step_at, end_at, parts_at, event_at, line_at}
 use Rattle.mono_script.proofs.Words.{word_is}
 use Rattle.mono_script.proofs.Digits.{digits_found, digits_again, starts_digit}
 
@@ -91,7 +91,12 @@ drop_found bytes a rest e = elim (when_cases (word_at (codes "drop-join ") bytes
     | inl u ↦
         let k = numbered_found (2 ^ 64) (codes "drop-job ") act.DropJob bytes u.0 a rest (lit< tt) small u.1 u.2 in
         subst (ActIs bytes rest) k.1 (k.2, k.3)
-    | inr w1 ↦ cc w1.1
+    | inr w1 ↦ elim (when_cases (word_at (codes "drop-sleep ") bytes) _ _ _ w1.1) [
+      | inl u ↦
+          let k = numbered_found (2 ^ 64) (codes "drop-sleep ") act.DropSleep bytes u.0 a rest (lit< tt) small u.1 u.2 in
+          subst (ActIs bytes rest) k.1 (k.2, k.3)
+      | inr w2 ↦ cc w2.1
+    ]
   ]
 ]
 
@@ -137,6 +142,20 @@ job_act_found bytes a rest e = elim (when_cases (word_at (codes "job-end ") byte
   ]
 ]
 
+reset_found : (bytes r : List ℕ) (a : Act) (rest : List ℕ) → word_at (codes "reset ") bytes ≡ Some r → reset_at r ≡ Some (a, rest) → ActIs bytes rest a
+reset_found bytes r a rest w e =
+    let s = then_some (number_at r) (λ s rest. when (word_at (codes " ") rest) (λ q. mapped (act.Reset s) (nanos_at q)) None) (a, rest) e in
+    let n = digits_found (2 ^ 64) r s.0 s.1 (lit< tt) small s.2 in
+    elim (when_cases (word_at (codes " ") s.1) _ _ _ s.3) [
+      | inl u ↦
+          let k = numbered_found (2 ^ 128) (codes " ") (act.Reset s.0) s.1 u.0 a rest (lit< tt) large u.1 u.2 in
+          let front : bytes ≡ codes "reset " ++ (decimal s.0 ++ s.1) = word_is (codes "reset ") bytes r w ∙ ap (λ x. codes "reset " ++ x) n.0 in
+          let all : bytes ≡ act_text (act.Reset s.0 k.0) ++ rest = front ∙ ap (λ x. codes "reset " ++ (decimal s.0 ++ x)) k.2
+          ∙ regroup (codes "reset ") (decimal s.0) (codes " ") (decimal k.0) rest in
+          subst (ActIs bytes rest) k.1 (all, (n.1, k.3))
+      | inr u ↦ cc u.1
+    ]
+
 other_act_found : (bytes : List ℕ) (a : Act) (rest : List ℕ) → other_act_at bytes ≡ Some (a, rest) → ActIs bytes rest a
 unfolding other_act_at
 other_act_found bytes a rest e = elim (when_cases (word_at (codes "wake ") bytes) _ _ _ e) [
@@ -151,7 +170,15 @@ other_act_found bytes a rest e = elim (when_cases (word_at (codes "wake ") bytes
       | inl u ↦
           let k = numbered_found (2 ^ 64) (codes "finished ") act.Finished bytes u.0 a rest (lit< tt) small u.1 u.2 in
           subst (ActIs bytes rest) k.1 (k.2, k.3)
-      | inr w2 ↦ cc w2.1
+      | inr w2 ↦ elim (when_cases (word_at (codes "elapsed ") bytes) _ _ _ w2.1) [
+        | inl u ↦
+            let k = numbered_found (2 ^ 64) (codes "elapsed ") act.SleepElapsed bytes u.0 a rest (lit< tt) small u.1 u.2 in
+            subst (ActIs bytes rest) k.1 (k.2, k.3)
+        | inr w3 ↦ elim (when_cases (word_at (codes "reset ") bytes) _ _ _ w3.1) [
+          | inl u ↦ reset_found bytes u.0 a rest u.1 u.2
+          | inr w4 ↦ cc w4.1
+        ]
+      ]
     ]
   ]
 ]
@@ -316,11 +343,16 @@ unfolding act_at s_act_at drop_at job_act_at other_act_at
 act_again act.Spawn rest f d = refl
 act_again (act.Wake t) rest f d = rw (digits_again (2 ^ 64) t rest small f d) refl
 act_again (act.NewSleep n) rest f d = rw (digits_again (2 ^ 128) n rest large f d) refl
+act_again (act.Reset s n) rest f d =
+    ap act_at (sym (regroup (codes "reset ") (decimal s) (codes " ") (decimal n) rest))
+    ∙ rw (digits_again (2 ^ 64) s (codes " " ++ decimal n ++ rest) small f.0 refl, digits_again (2 ^ 128) n rest large f.1 d) refl
+act_again (act.DropSleep s) rest f d = rw (digits_again (2 ^ 64) s rest small f d) refl
 act_again (act.DropJoin t) rest f d = rw (digits_again (2 ^ 64) t rest small f d) refl
 act_again (act.Block o) rest f d = rw (digits_again (2 ^ 64) o rest small f d) refl
 act_again (act.DropJob j) rest f d = rw (digits_again (2 ^ 64) j rest small f d) refl
 act_again (act.Finished t) rest f d = rw (digits_again (2 ^ 64) t rest small f d) refl
 act_again (act.JobFinished j) rest f d = rw (digits_again (2 ^ 64) j rest small f d) refl
+act_again (act.SleepElapsed s) rest f d = rw (digits_again (2 ^ 64) s rest small f d) refl
 act_again (act.JobEnd j h) rest f d =
     ap act_at (sym (regroup (codes "job-end ") (decimal j) (codes " ") (how_text h) rest))
     ∙ rw (digits_again (2 ^ 64) j (codes " " ++ how_text h ++ rest) small f refl, how_again h rest) refl
@@ -331,11 +363,14 @@ unfolding step_at job_step_at act_at
 act_is_no_poll act.Spawn rest f = refl
 act_is_no_poll (act.Wake t) rest f = refl
 act_is_no_poll (act.NewSleep n) rest f = refl
+act_is_no_poll (act.Reset s n) rest f = refl
+act_is_no_poll (act.DropSleep s) rest f = refl
 act_is_no_poll (act.DropJoin t) rest f = refl
 act_is_no_poll (act.Block o) rest f = refl
 act_is_no_poll (act.DropJob j) rest f = refl
 act_is_no_poll (act.Finished t) rest f = refl
 act_is_no_poll (act.JobFinished j) rest f = refl
+act_is_no_poll (act.SleepElapsed s) rest f = refl
 act_is_no_poll (act.JobEnd j h) rest f = refl
 
 step_again : (s : TurnStep) (rest : List ℕ) → FitsStep s → starts_digit rest ≡ false → step_at (step_text s ++ rest) ≡ Some (s, rest)
@@ -355,11 +390,14 @@ unfolding end_at
 act_is_no_end act.Spawn rest f = refl
 act_is_no_end (act.Wake t) rest f = refl
 act_is_no_end (act.NewSleep n) rest f = refl
+act_is_no_end (act.Reset s n) rest f = refl
+act_is_no_end (act.DropSleep s) rest f = refl
 act_is_no_end (act.DropJoin t) rest f = refl
 act_is_no_end (act.Block o) rest f = refl
 act_is_no_end (act.DropJob j) rest f = refl
 act_is_no_end (act.Finished t) rest f = refl
 act_is_no_end (act.JobFinished j) rest f = refl
+act_is_no_end (act.SleepElapsed s) rest f = refl
 act_is_no_end (act.JobEnd j h) rest f = refl
 
 step_is_no_end : (s : TurnStep) (rest : List ℕ) → FitsStep s → end_at (step_text s ++ rest) ≡ None
@@ -394,11 +432,14 @@ unfolding event_at
 act_is_no_event act.Spawn rest f = refl
 act_is_no_event (act.Wake t) rest f = refl
 act_is_no_event (act.NewSleep n) rest f = refl
+act_is_no_event (act.Reset s n) rest f = refl
+act_is_no_event (act.DropSleep s) rest f = refl
 act_is_no_event (act.DropJoin t) rest f = refl
 act_is_no_event (act.Block o) rest f = refl
 act_is_no_event (act.DropJob j) rest f = refl
 act_is_no_event (act.Finished t) rest f = refl
 act_is_no_event (act.JobFinished j) rest f = refl
+act_is_no_event (act.SleepElapsed s) rest f = refl
 act_is_no_event (act.JobEnd j h) rest f = refl
 
 event_again : (e : Event) (rest : List ℕ) → FitsEvent e → starts_digit rest ≡ false → event_at (event_text e ++ rest) ≡ Some (e, rest)

@@ -73,11 +73,12 @@ abbrev pub then_read : {A B : Type 0} → Read A → (A → List ℕ → Read B)
 then_read None f = None
 then_read (Some x) f = f x.0 x.1
 
--- an act that drops a handle
+-- an act that drops a handle or a sleep
 unfoldable pub drop_at : List ℕ → Read Act
 drop_at bytes =
     when (word_at (codes "drop-join ") bytes) (λ r. mapped act.DropJoin (number_at r))
-    (when (word_at (codes "drop-job ") bytes) (λ r. mapped act.DropJob (number_at r)) None)
+    (when (word_at (codes "drop-job ") bytes) (λ r. mapped act.DropJob (number_at r))
+    (when (word_at (codes "drop-sleep ") bytes) (λ r. mapped act.DropSleep (number_at r)) None))
 
 abbrev pub how_at : List ℕ → Read How
 how_at bytes = when (word_at (codes "ran") bytes) (λ r. Some (how.Ran, r)) (when (word_at (codes "canceled") bytes) (λ r. Some (how.Canceled, r)) None)
@@ -89,12 +90,18 @@ job_act_at bytes =
     (λ r. then_read (number_at r) (λ j rest. when (word_at (codes " ") rest) (λ q. mapped (act.JobEnd j) (how_at q)) None))
     (when (word_at (codes "job-finished ") bytes) (λ r. mapped act.JobFinished (number_at r)) None)
 
+-- a reset, behind its word
+abbrev pub reset_at : List ℕ → Read Act
+reset_at bytes = then_read (number_at bytes) (λ s rest. when (word_at (codes " ") rest) (λ q. mapped (act.Reset s) (nanos_at q)) None)
+
 -- an act whose first letter no other act has
 unfoldable pub other_act_at : List ℕ → Read Act
 other_act_at bytes =
     when (word_at (codes "wake ") bytes) (λ r. mapped act.Wake (number_at r))
     (when (word_at (codes "block ") bytes) (λ r. mapped act.Block (number_at r))
-    (when (word_at (codes "finished ") bytes) (λ r. mapped act.Finished (number_at r)) None))
+    (when (word_at (codes "finished ") bytes) (λ r. mapped act.Finished (number_at r))
+    (when (word_at (codes "elapsed ") bytes) (λ r. mapped act.SleepElapsed (number_at r))
+    (when (word_at (codes "reset ") bytes) reset_at None))))
 
 unfoldable pub act_at : List ℕ → Read Act
 act_at bytes =

@@ -33,11 +33,14 @@ abbrev pub act_text : Act → List ℕ
 act_text act.Spawn = codes "spawn"
 act_text (act.Wake t) = codes "wake " ++ decimal t
 act_text (act.NewSleep n) = codes "sleep " ++ decimal n
+act_text (act.Reset s n) = codes "reset " ++ decimal s ++ codes " " ++ decimal n
+act_text (act.DropSleep s) = codes "drop-sleep " ++ decimal s
 act_text (act.DropJoin t) = codes "drop-join " ++ decimal t
 act_text (act.Block o) = codes "block " ++ decimal o
 act_text (act.DropJob j) = codes "drop-job " ++ decimal j
 act_text (act.Finished t) = codes "finished " ++ decimal t
 act_text (act.JobFinished j) = codes "job-finished " ++ decimal j
+act_text (act.SleepElapsed s) = codes "elapsed " ++ decimal s
 act_text (act.JobEnd j h) = codes "job-end " ++ decimal j ++ codes " " ++ how_text h
 
 abbrev pub query_text : Query → List ℕ
@@ -71,11 +74,14 @@ abbrev pub FitsAct : Act → Type 0
 FitsAct act.Spawn = Unit {0}
 FitsAct (act.Wake t) = t < 2 ^ 64
 FitsAct (act.NewSleep n) = n < 2 ^ 128
+FitsAct (act.Reset s n) = (s < 2 ^ 64) × (n < 2 ^ 128)
+FitsAct (act.DropSleep s) = s < 2 ^ 64
 FitsAct (act.DropJoin t) = t < 2 ^ 64
 FitsAct (act.Block o) = o < 2 ^ 64
 FitsAct (act.DropJob j) = j < 2 ^ 64
 FitsAct (act.Finished t) = t < 2 ^ 64
 FitsAct (act.JobFinished j) = j < 2 ^ 64
+FitsAct (act.SleepElapsed s) = s < 2 ^ 64
 FitsAct (act.JobEnd j h) = j < 2 ^ 64
 
 abbrev pub FitsQuery : Query → Type 0
@@ -129,6 +135,8 @@ abbrev pub reply_text : Reply → List ℕ
 reply_text (reply.Task t) = codes "task " ++ decimal t
 reply_text (reply.Woke w) = woke_text w
 reply_text (reply.Sleep s) = codes "sleep " ++ decimal s
+reply_text reply.Armed = codes "armed"
+reply_text reply.Elapsed = codes "elapsed"
 reply_text (reply.Dropped o) = codes "dropped" ++ number_text o
 reply_text (reply.Job j) = codes "job " ++ decimal j
 reply_text reply.Yes = codes "yes"

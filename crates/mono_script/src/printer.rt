@@ -82,6 +82,8 @@ fn reply(out: &mut Vec<u8>, reply: Reply) -> Result<(), AllocError>
         Reply::Task(t) => pair(out, b"task ".as_slice(), t),
         Reply::Woke(woke) => word(out, woke_word(woke)),
         Reply::Sleep(s) => pair(out, b"sleep ".as_slice(), s),
+        Reply::Armed => word(out, b"armed".as_slice()),
+        Reply::Elapsed => word(out, b"elapsed".as_slice()),
         Reply::Dropped(o) => maybe_pair(out, b"dropped".as_slice(), o),
         Reply::Job(j) => pair(out, b"job ".as_slice(), j),
         Reply::Yes => word(out, b"yes".as_slice()),

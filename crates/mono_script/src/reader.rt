@@ -2,7 +2,7 @@
 ghost use Rattle.std.specs.Prelude.{◌≡◌, ◌+◌, ◌-◌, ◌*◌, ◌^◌, ◌<◌, ◌≤◌, ◌↔◌, IfNone, IfSome, IfOk, Some, None, length, IsTrue, if◌then◌else◌, [], ◌++◌, slice_index, nat_lt, drop, decimal, ℕ};
 ghost use Rattle.mono_script.specs.Lines.{BeginsWith, BeginsWithNone};
 ghost use Rattle.mono_script.specs.Reading as Reading;
-ghost use Rattle.mono_script.specs.Reading.{Gives, GivesIf, GivesEnd, word_at, number_at, nanos_at, s_act_at, drop_at, how_at, job_act_at, other_act_at, act_at, job_step_at, step_at, end_at, parts_at, event_at, line_at};
+ghost use Rattle.mono_script.specs.Reading.{Gives, GivesIf, GivesEnd, word_at, number_at, nanos_at, s_act_at, drop_at, reset_at, how_at, job_act_at, other_act_at, act_at, job_step_at, step_at, end_at, parts_at, event_at, line_at};
 
 use mono_rt::{Act, End, Event, How, List, Query, TurnStep};
 use std::alloc::{AllocError, Global};
@@ -198,7 +198,7 @@ impl<'a> Reader<'a> {
         None
     }
 
-    // An act that drops a handle.
+    // An act that drops a handle or a sleep.
     #[tactic(auto, unfolding(crate::specs::Reading::drop_at))]
     fn drop_act(&mut self) -> Option<Act>
         ensures { Gives result self.new.rest.now (drop_at self.old.rest.now) }
@@ -210,6 +210,10 @@ impl<'a> Reader<'a> {
         if self.take(b"drop-job ".as_slice()) {
             let job = self.number()?;
             return Some(Act::DropJob(job));
+        }
+        if self.take(b"drop-sleep ".as_slice()) {
+            let sleep = self.number()?;
+            return Some(Act::DropSleep(sleep));
         }
         None
     }
@@ -247,6 +251,18 @@ impl<'a> Reader<'a> {
         None
     }
 
+    // The sleep and the deadline of a reset.
+    fn reset(&mut self) -> Option<Act>
+        ensures { Gives result self.new.rest.now (reset_at self.old.rest.now) }
+    {
+        let sleep = self.number()?;
+        if !self.take(b" ".as_slice()) {
+            return None;
+        }
+        let n = self.nanos()?;
+        Some(Act::Reset(sleep, n))
+    }
+
     // An act whose first letter no other act has.
     #[tactic(auto, unfolding(crate::specs::Reading::other_act_at))]
     fn other_act(&mut self) -> Option<Act>
@@ -263,6 +279,13 @@ impl<'a> Reader<'a> {
         if self.take(b"finished ".as_slice()) {
             let task = self.number()?;
             return Some(Act::Finished(task));
+        }
+        if self.take(b"elapsed ".as_slice()) {
+            let sleep = self.number()?;
+            return Some(Act::SleepElapsed(sleep));
+        }
+        if self.take(b"reset ".as_slice()) {
+            return self.reset();
         }
         None
     }

@@ -1,6 +1,5 @@
 -- One more item was handled.
 use Rattle.std.proofs.Common.{◌≡◌, ◌+◌, ℕ, suc, arith, Some}
-use Rattle.std.specs.Prelude.{⊤}
 use Rattle.mono_model.specs.declared.poll.Poll.TheVariants.{Ready}
 use Rattle.mono_stream.specs.Handled.{Polls, Items}
 

@@ -1,6 +1,5 @@
 -- Items that are handled one after the other, at most 256 in one poll.
 use Rattle.std.specs.Prelude.{◌≡◌, ◌<◌, ℕ, zero, suc, ⊤, Bool, true, false, Some, None, Result, Option}
-use Rattle.mono_task.specs.Members.{FutureOf}
 use Rattle.mono_model.specs.declared.Woke.{Woke}
 use Rattle.mono_model.specs.declared.task_error.TaskError.{TaskError}
 use Rattle.mono_model.specs.declared.poll.Poll.{Poll}

@@ -1,8 +1,6 @@
-use Rattle.std.proofs.Common.{◌≡◌, false, ◌≤◌, ◌+◌, ◌++◌, refl, sym, ap, ◌∙◌, arith, length}
-use Rattle.std.specs.Prelude.{vec_len, vec_capacity}
-use Rattle.std.specs.List.{filter_map}
+use Rattle.std.proofs.Common.{◌≡◌, false, refl, sym, ap, ◌∙◌, arith, length}
+use Rattle.std.specs.Prelude.{vec_len}
 use Rattle.mono_model.specs.declared.poll.Poll.TheVariants.{Ready}
-use Rattle.mono_combine.specs.Branches.{output_of}
 use Rattle.mono_combine.proofs.Lists.{neither, may_from, can_from, unspent_from, joins_waiting, joins_all}
 use Rattle.mono_combine.proofs.join_list.JoinListTaskFuture.poll.Goals as goal
 

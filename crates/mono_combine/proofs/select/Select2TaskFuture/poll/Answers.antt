@@ -1,4 +1,4 @@
-use Rattle.std.proofs.Common.{refl, ap, sym}
+use Rattle.std.proofs.Common.{refl, ap}
 use Rattle.mono_model.specs.declared.poll.Poll.TheVariants.{Ready, Pending}
 use Rattle.mono_combine.proofs.select.Select2TaskFuture.poll.Goals as goal
 

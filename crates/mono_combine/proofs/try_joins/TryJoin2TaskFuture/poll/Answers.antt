@@ -1,5 +1,4 @@
-use Rattle.std.proofs.Common.{◌≡◌, None, sym, ◌∙◌, rules, subst}
-use Rattle.mono_combine.specs.Branches.{MaybeCancels}
+use Rattle.std.proofs.Common.{◌≡◌, None, sym, ◌∙◌, rules}
 use Rattle.mono_combine.proofs.Failing.{first_failed, second_failed, kept}
 use Rattle.mono_combine.proofs.try_joins.TryJoin2TaskFuture.poll.Goals as goal
 
