@@ -101,7 +101,7 @@ true-false e = cc
 false-true : false ≡ true → ⊥
 false-true e = cc
 
-queued_phase : (phase : Phase ℕ) → is_queued phase ≡ true → is_finished phase ≡ false
+pub queued_phase : (phase : Phase ℕ) → is_queued phase ≡ true → is_finished phase ≡ false
 queued_phase idle is = refl
 queued_phase queued is = refl
 queued_phase (running noted) is = refl
@@ -120,7 +120,7 @@ once_true true le = refl
 once_true false le = absurd (omega (arith, le))
 
 module _ (tasks : Tasks ℕ) (front : ℕ) (rest : List ℕ) (is : tasks.queue ≡ front ∷ rest) (valid : AreValidTasks None tasks) where
-  front_is_queued : of_task is_queued (value_at tasks.table front) ≡ true
+  pub front_is_queued : of_task is_queued (value_at tasks.table front) ≡ true
   front_is_queued =
       let often : times (front ∷ rest) front ≡ once_if (of_task is_queued (value_at tasks.table front)) = ap (λ q. times q front) (sym is) ∙ valid.queue front in
       once_true _ (omega (arith, often, one_time front))

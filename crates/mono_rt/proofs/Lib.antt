@@ -11,3 +11,7 @@ pub mod ValidJobs
 pub mod ValidJoins
 pub mod ValidActs
 pub mod ValidSteps
+pub mod Finished
+pub mod Awaiting
+pub mod Spending
+pub mod Handouts

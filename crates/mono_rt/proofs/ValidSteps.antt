@@ -64,7 +64,7 @@ same_next : (x : Machine) (fired : List ℕ) → next_number (after_fires x fire
 same_next x [] = refl
 same_next x (s ∷ fired) = same_next (after_fire x s) fired ∙ next_number-woken_if_any x.tasks (waker_at x.sleeps s)
 
-same_jobs : (x : Machine) (fired : List ℕ) → (after_fires x fired).jobs ≡ x.jobs
+pub same_jobs : (x : Machine) (fired : List ℕ) → (after_fires x fired).jobs ≡ x.jobs
 same_jobs x [] = refl
 same_jobs x (s ∷ fired) = same_jobs (after_fire x s) fired
 

@@ -9,3 +9,5 @@ pub mod Steps
 pub mod Worked
 pub mod Matches
 pub mod Stands
+pub mod History
+pub mod Handouts

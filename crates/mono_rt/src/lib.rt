@@ -16,7 +16,10 @@ mod turns;
 
 pub use events::{Act, Blocking, End, Event, How, Limits, Query, Refusal, Reply, Report, TurnStep};
 pub use executor::{Exec, replay};
-pub use laws::{none_is_late, one_machine, starts_valid, stays_valid};
+pub use laws::{
+    finished_has_no_turn, job_hands_out_once, none_is_late, none_is_lost, one_machine,
+    starts_valid, stays_valid, task_hands_out_once, wakes_are_kept,
+};
 pub use lists::List;
 pub use mono_model::{Ended, MAX_NANOS, Woke};
 pub use mono_time::Timers;
