@@ -26,7 +26,7 @@ rank-level k o b = omega (arith, b)
 rank-offset : (k o : ℕ) → o < 64 → (k * 64 + o) % 64 ≡ o
 rank-offset k o b = omega (arith, b)
 
-ranked-parts : (elapsed k o : ℕ) → o < 64 → ranked elapsed (k * 64 + o) ≡ k * 64 + (slot_of k elapsed + 1 + o) % 64
+pub ranked-parts : (elapsed k o : ℕ) → o < 64 → ranked elapsed (k * 64 + o) ≡ k * 64 + (slot_of k elapsed + 1 + o) % 64
 ranked-parts elapsed k o b = ap (λ z. z * 64 + (slot_of z elapsed + 1 + (k * 64 + o) % 64) % 64) (rank-level k o b) ∙ ap (λ z. k * 64 + (slot_of k elapsed + 1 + z) % 64) (rank-offset k o b)
 
 offset-low : (now goal : ℕ) → offset now goal < 64

@@ -1,11 +1,14 @@
 //! Slots by numbers: in which list the slot of a tick is, and where it starts.
 ghost use Rattle.std.specs.Prelude.{◌≡◌, ℕ, ◌+◌, ◌<◌, ◌≤◌, ◌^◌};
 ghost use Rattle.mono_wheel.specs.Start.{next_turn, slot_of, start};
-ghost use Rattle.mono_wheel.specs.Held.{place_of, place_in, ranked};
+ghost use Rattle.mono_wheel.specs.Held.{place_of, place_in};
 
 use crate::level::level_for;
 
-/// The pending list, after the 384 slots.
+/// How many slots there are, whose lists come first.
+pub const SLOTS: usize = 384;
+
+/// The pending list, after the slots.
 pub const PENDING: usize = 384;
 
 /// The list of the slot of a tick that lies ahead.
@@ -47,16 +50,6 @@ pub fn slot_at(level: usize, tick: u64) -> usize
         1 => ((tick >> 6) % 64) as usize,
         _ => (tick % 64) as usize,
     }
-}
-
-/// The list whose slot is this one in the order in which slots start.
-pub fn list_ranked(elapsed: u64, rank: usize) -> usize
-    requires { rank < 384 }
-    ensures value { result ≡ ranked elapsed rank }
-    ensures below { result < 384 }
-{
-    let level = rank / 64;
-    level * 64 + (slot_at(level, elapsed) + 1 + rank % 64) % 64
 }
 
 // The least number above `now` with the last digit of `goal`.

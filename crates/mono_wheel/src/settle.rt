@@ -3,18 +3,15 @@ ghost use Rattle.std.specs.Prelude.{◌≡◌, ℕ, ◌+◌, ◌<◌, length};
 ghost use Rattle.mono_wheel.specs.Lists.{IsLoose, list_at};
 ghost use Rattle.mono_wheel.specs.Held.{Held, Registered, Settling, Settled};
 
+use crate::Steps;
 use crate::entry::Entry;
 use crate::numbers::standing;
-use crate::{Links, Steps};
+use crate::slot_links::SlotLinks;
 use std::sync::ledger::Ledger;
 
-/// The list of the keys that wait to be registered anew.
-pub const TAKEN: usize = 385;
-
 // Registers one key that stands in no list at its true tick.
-fn register(elapsed: u64, entries: &mut Vec<Entry>, links: &mut Links, key: usize)
+fn register(elapsed: u64, entries: &mut Vec<Entry>, links: &mut SlotLinks, key: usize)
     requires room { key < length entries.old.items }
-    requires lists { length links.old.lists ≡ 386 }
     requires loose { IsLoose links.old key }
     ensures { Registered elapsed entries.old.items entries.new.items links.old links.new key }
 {
@@ -28,7 +25,7 @@ fn register(elapsed: u64, entries: &mut Vec<Entry>, links: &mut Links, key: usiz
 pub fn settle<L: Ledger>(
     elapsed: u64,
     entries: &mut Vec<Entry>,
-    links: &mut Links,
+    links: &mut SlotLinks,
     steps: &mut Steps<L>,
 )
     requires { Settling elapsed entries.old.items links.old }
@@ -36,7 +33,7 @@ pub fn settle<L: Ledger>(
     ensures settled { Settled entries.old.items entries.new.items links.old links.new }
     ensures steps { steps.new ≡ steps.old + length (list_at links.old 385) }
 {
-    while let Some(key) = links.pop_back(TAKEN, steps) {
+    while let Some(key) = links.pop_taken(steps) {
         register(elapsed, entries, links, key);
     }
 }

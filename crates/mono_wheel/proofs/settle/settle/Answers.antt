@@ -5,12 +5,12 @@ use Rattle.mono_wheel.proofs.settle.settle.Goals as goal
 
 pub loop-key-preserved : goal.loop-key-preserved
 loop-key-preserved g c = record {
-  settling = step-settling c.args.elapsed c.args.entries.now.items c.loop-key.entries.items c.register.new.entries.items c.args.links.now c.loop-key.links c.pop_back.new.self c.register.new.links c.in-Some.key c.in-Some.ensures.popped.0
+  settling = step-settling c.args.elapsed c.args.entries.now.items c.loop-key.entries.items c.register.new.entries.items c.args.links.now c.loop-key.links c.pop_taken.new.self c.register.new.links c.in-Some.key c.in-Some.ensures.popped.0
       c.loop-key.invariant.settling c.loop-key.invariant.settled c.in-Some.ensures.popped.1 c.in-Some.ensures.popped.2 c.in-Some.ensures.loose c.register.ensures;
-  settled = step-settled c.args.elapsed c.args.entries.now.items c.loop-key.entries.items c.register.new.entries.items c.args.links.now c.loop-key.links c.pop_back.new.self c.register.new.links c.in-Some.key c.in-Some.ensures.popped.0
+  settled = step-settled c.args.elapsed c.args.entries.now.items c.loop-key.entries.items c.register.new.entries.items c.args.links.now c.loop-key.links c.pop_taken.new.self c.register.new.links c.in-Some.key c.in-Some.ensures.popped.0
       c.loop-key.invariant.settling c.loop-key.invariant.settled c.in-Some.ensures.popped.1 c.in-Some.ensures.popped.2 c.in-Some.ensures.loose c.register.ensures;
   counted =
-      let now = taken c.args.elapsed c.args.entries.now.items c.loop-key.entries.items c.register.new.entries.items c.args.links.now c.loop-key.links c.pop_back.new.self c.register.new.links c.in-Some.key c.in-Some.ensures.popped.0
+      let now = taken c.args.elapsed c.args.entries.now.items c.loop-key.entries.items c.register.new.entries.items c.args.links.now c.loop-key.links c.pop_taken.new.self c.register.new.links c.in-Some.key c.in-Some.ensures.popped.0
       c.loop-key.invariant.settling c.loop-key.invariant.settled c.in-Some.ensures.popped.1 c.in-Some.ensures.popped.2 c.in-Some.ensures.loose c.register.ensures in
       let a : length (list_at c.register.new.links 385) ≡ length c.in-Some.ensures.popped.0 = ap length now in
       let b : length (list_at c.loop-key.links 385) ≡ length c.in-Some.ensures.popped.0 + 1 = ap length c.in-Some.ensures.popped.1 ∙ length-append c.in-Some.ensures.popped.0 (c.in-Some.key ∷ []) in

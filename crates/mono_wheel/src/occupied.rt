@@ -1,0 +1,62 @@
+//! For each slot of a wheel a bit, which says whether its list has a node.
+ghost use Rattle.std.specs.Prelude.{◌≡◌, ℕ, ◌*◌, ◌+◌, ◌<◌};
+ghost use Rattle.mono_wheel.specs.Bits.{occupied_bit, KeepsOthers, IsFirstAfter};
+
+use std::marker::Model;
+
+/// One bit for each of the 384 slots: bit `s` of level `l` is that of list `l * 64 + s`.
+#[derive(Drop)]
+pub struct Occupied {
+    levels: [u64; 6],
+}
+
+impl Model for Occupied {
+    ghost use Rattle.std.specs.Prelude.{◌≡◌, ℕ, List, length};
+
+    ghost Value = { List ℕ };
+
+    ghost view = { λ a. a.levels };
+
+    ghost invariant = { λ a. length a.levels ≡ 6 };
+}
+
+impl Occupied {
+    /// No slot has a node.
+    pub fn new() -> Occupied
+        ensures { (list : ℕ) → list < 384 → occupied_bit result list ≡ 0 }
+    {
+        Occupied { levels: [0; 6] }
+    }
+
+    /// Sets the bit of a slot.
+    pub fn mark(&mut self, list: usize)
+        requires { list < 384 }
+        ensures here { occupied_bit self.new list ≡ 1 }
+        ensures others { KeepsOthers self.old self.new list }
+    {
+        self.levels[list / 64] |= 1 << (list % 64);
+    }
+
+    /// Takes the bit of a slot away.
+    pub fn clear(&mut self, list: usize)
+        requires { list < 384 }
+        ensures here { occupied_bit self.new list ≡ 0 }
+        ensures others { KeepsOthers self.old self.new list }
+    {
+        self.levels[list / 64] &= !(1 << (list % 64));
+    }
+
+    /// The first slot of a level whose bit is set, from the one after this slot on, this slot last.
+    pub fn first_after(&self, level: usize, slot: usize) -> Option<usize>
+        requires level { level < 6 }
+        requires slot { slot < 64 }
+        ensures { IsFirstAfter self.now level slot result }
+    {
+        let bits = self.levels[level].rotate_right(slot as u32 + 1);
+        if bits == 0 {
+            None
+        } else {
+            Some((slot + 1 + bits.trailing_zeros() as usize) % 64)
+        }
+    }
+}

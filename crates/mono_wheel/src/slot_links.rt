@@ -1,0 +1,155 @@
+//! The lists of a wheel, and which slots have a node.
+ghost use Rattle.std.specs.Prelude.{◌≡◌, ◌≢◌, ℕ, ◌+◌, ◌<◌, ◌≤◌, true, false, [], ◌∷◌, ◌++◌, List, replicate, IfOk, OnOk, OnErr, IfSome, is_some, if◌then◌else◌};
+ghost use Rattle.mono_wheel.specs.Rings.{Distinct};
+ghost use Rattle.mono_wheel.specs.Lists.{list_at, IsIn, IsLoose, is_node, with_list, without, IsLast, PoppedBack, Added, Freed};
+ghost use Rattle.mono_wheel.specs.Held.{IsFirstOccupied};
+
+use crate::numbers::{SLOTS, slot_at};
+use crate::occupied::Occupied;
+use crate::{Links, Steps};
+use std::alloc::{AllocError, Global};
+use std::marker::Model;
+use std::sync::ledger::Ledger;
+
+/// The list of the keys that wait to be registered anew.
+pub const TAKEN: usize = 385;
+
+// How many lists there are: the slots, the pending list, the taken list.
+const LISTS: usize = 386;
+
+/// The lists of a wheel: one for each slot, the pending list, the taken list. A bit for each slot
+/// says whether its list has a node, so that the next slot is found in six looks. A contract sees
+/// the lists alone.
+#[derive(Drop)]
+pub struct SlotLinks {
+    links: Links,
+    occupied: Occupied,
+}
+
+impl Model for SlotLinks {
+    ghost use Rattle.mono_wheel.specs.Lists.{Lists};
+    ghost use Rattle.mono_wheel.specs.Bits.{Marks};
+
+    ghost Value = { Lists };
+
+    ghost view = { λ a. a.links };
+
+    ghost invariant = { λ a. Marks a.occupied a.links };
+}
+
+impl SlotLinks {
+    /// Empty lists, and no node.
+    pub fn new(alloc: Global) -> Result<SlotLinks, AllocError>
+        ensures lists { IfOk result (λ links. links.lists ≡ replicate 386 []) }
+        ensures nodes { IfOk result (λ links. (node : ℕ) → is_node links node ≡ false) }
+    {
+        let links = Links::new(alloc, LISTS)?;
+        Ok(SlotLinks {
+            links,
+            occupied: Occupied::new(),
+        })
+    }
+
+    /// No node stands in two lists or twice in one, and each is a known node. Nothing is done.
+    pub fn lists_are_disjoint(&self)
+        ensures once { (list : ℕ) → Distinct (list_at self.now list) }
+        ensures apart { (list other node : ℕ) → IsIn node (list_at self.now list) → IsIn node (list_at self.now other) → list ≡ other }
+        ensures known { (list node : ℕ) → IsIn node (list_at self.now list) → is_node self.now node ≡ true }
+    {
+        self.links.lists_are_disjoint();
+    }
+
+    /// The last node of the list, or None exactly where it is empty.
+    pub fn last(&self, list: usize) -> Option<usize>
+        requires { list < 386 }
+        ensures { IsLast (list_at self.now list) result }
+    {
+        self.links.last(list)
+    }
+
+    /// The list of the first slot that has a node: of each level from the slot after the current one
+    /// on, the current slot last.
+    pub fn first_occupied(&self, elapsed: u64) -> Option<usize>
+        ensures { IsFirstOccupied elapsed self.now result }
+    {
+        for level in 0..6 {
+            if let Some(slot) = self.occupied.first_after(level, slot_at(level, elapsed)) {
+                return Some(level * 64 + slot);
+            }
+        }
+        None
+    }
+
+    /// Puts a node that is in no list before the first.
+    pub fn push_front(&mut self, list: usize, node: usize)
+        requires list { list < 386 }
+        requires loose { IsLoose self.old node }
+        ensures { self.new ≡ with_list self.old list (node ∷ list_at self.old list) }
+    {
+        self.links.push_front(list, node);
+        if list < SLOTS {
+            self.occupied.mark(list);
+        }
+    }
+
+    /// Takes a node out of its list; the order of the others stays.
+    pub fn remove(&mut self, list: usize, node: usize)
+        requires list { list < 386 }
+        requires within { IsIn node (list_at self.old list) }
+        ensures without { self.new ≡ with_list self.old list (without node (list_at self.old list)) }
+        ensures gone { IsIn node (list_at self.new list) → ⊥ }
+        ensures loose { IsLoose self.new node }
+        ensures parts { (front back : List ℕ) → list_at self.old list ≡ front ++ node ∷ back → self.new ≡ with_list self.old list (front ++ back) }
+    {
+        self.links.remove(list, node);
+        if list < SLOTS && self.links.is_empty(list) {
+            self.occupied.clear(list);
+        }
+    }
+
+    /// Takes the last node of the taken list out, as one step, or answers None exactly where that
+    /// list is empty, as no step.
+    pub fn pop_taken<L: Ledger>(&mut self, steps: &mut Steps<L>) -> Option<usize>
+        ensures popped { PoppedBack self.old self.new 385 result }
+        ensures loose { IfSome result (λ node. IsLoose self.new node) }
+        ensures steps { steps.new ≡ steps.old + (if is_some result then 1 else 0) }
+    {
+        self.links.pop_back(TAKEN, steps)
+    }
+
+    /// Moves the whole list of a slot to the taken list, which is empty, in the time of an exchange.
+    pub fn take(&mut self, slot: usize)
+        requires slot { slot < 384 }
+        requires empty { list_at self.old 385 ≡ [] }
+        ensures { self.new ≡ with_list (with_list self.old slot []) 385 (list_at self.old slot) }
+    {
+        self.links.take(slot, TAKEN);
+        self.occupied.clear(slot);
+    }
+
+    /// A new node, in no list. It takes no memory: there is room for it.
+    pub fn add_node(&mut self) -> usize
+        requires { 0 < self.old.room }
+        ensures { Added self.old self.new result }
+    {
+        self.links.add_node()
+    }
+
+    /// Lets go of a node that is in no list; its room can be used again.
+    pub fn free_node(&mut self, node: usize)
+        requires { IsLoose self.old node }
+        ensures { Freed self.old self.new node }
+    {
+        self.links.free_node(node);
+    }
+
+    /// Makes sure of memory for so many more nodes, as that of `Links`.
+    pub fn reserve(&mut self, alloc: Global, more: usize) -> Result<(), AllocError>
+        ensures room { OnOk result (more ≤ self.new.room) }
+        ensures kept { self.new ≡ record self.old { room = self.new.room } }
+        ensures grown { self.old.room ≤ self.new.room }
+        ensures refused { OnErr result (self.new ≡ self.old) }
+    {
+        self.links.reserve(alloc, more)
+    }
+}
