@@ -15,14 +15,8 @@ pub const PENDING: usize = 384;
 pub fn place(elapsed: u64, when: u64) -> usize
     ensures { result ≡ place_of elapsed when }
 {
-    match level_for(elapsed, when) {
-        5 => 320 + ((when >> 30) % 64) as usize,
-        4 => 256 + ((when >> 24) % 64) as usize,
-        3 => 192 + ((when >> 18) % 64) as usize,
-        2 => 128 + ((when >> 12) % 64) as usize,
-        1 => 64 + ((when >> 6) % 64) as usize,
-        _ => (when % 64) as usize,
-    }
+    let level = level_for(elapsed, when);
+    level * 64 + slot_at(level, when)
 }
 
 /// The list in which a key stands that is registered at this tick.
@@ -42,14 +36,7 @@ pub fn slot_at(level: usize, tick: u64) -> usize
     ensures value { result ≡ slot_of level tick }
     ensures below { result < 64 }
 {
-    match level {
-        5 => ((tick >> 30) % 64) as usize,
-        4 => ((tick >> 24) % 64) as usize,
-        3 => ((tick >> 18) % 64) as usize,
-        2 => ((tick >> 12) % 64) as usize,
-        1 => ((tick >> 6) % 64) as usize,
-        _ => (tick % 64) as usize,
-    }
+    ((tick >> (level * 6)) % 64) as usize
 }
 
 // The least number above `now` with the last digit of `goal`.
@@ -67,14 +54,7 @@ fn slot_size(level: usize) -> u64
     ensures value { result ≡ 64 ^ level }
     ensures some { 0 < result }
 {
-    match level {
-        5 => 0x4000_0000,
-        4 => 0x100_0000,
-        3 => 0x4_0000,
-        2 => 0x1000,
-        1 => 0x40,
-        _ => 1,
-    }
+    1 << (level * 6)
 }
 
 /// Where the slot of a tick that lies ahead starts.
