@@ -34,16 +34,18 @@ module _ {C : Type 0} (sleeps : C → SleepTable) where
   SleepMadeAt None c result d = (result ≡ Err (Timer Invalid)) × (d ≡ c)
   SleepMadeAt (Some nanos) c result d = SleepMade (sleeps c) nanos result (sleeps d)
 
-module _ {C : Type 0} (number : C → ℕ) (sleeps : C → SleepTable) (work : C → Tasks ⊤) where
+module _ {C : Type 0} (number : C → ℕ) (sleeps : C → SleepTable) (work : C → Tasks ⊤) (reaches : C → C → Type 0) where
   -- a poll of this sleep may give r and lead from c to d
   pub record SleepPolls (s : Sleep) (c : C) (r : Poll (Result ⊤ Error)) (t : Sleep) (d : C) : Type 0 where
     pub answer : call_of r ≡ poll_answer (sleeps c) s.number
     pub sleep : t ≡ s
     pub sleeps_after : sleeps d ≡ polled (sleeps c) s.number (number c)
     pub work_after : work d ≡ work c
+    pub reached : reaches c d
 
-module _ {C : Type 0} (sleeps : C → SleepTable) (work : C → Tasks ⊤) where
+module _ {C : Type 0} (sleeps : C → SleepTable) (work : C → Tasks ⊤) (reaches : C → C → Type 0) where
   -- giving this sleep up may lead from c to d
   pub record SleepCancels (s : Sleep) (c d : C) : Type 0 where
     pub sleeps_after : sleeps d ≡ removed (sleeps c) s.number
     pub work_after : work d ≡ work c
+    pub reached : reaches c d

@@ -30,11 +30,11 @@ late_answer (Ready (Ok x)) = Ready (Err (Elapsed (record {})))
 late_answer (Ready (Err e)) = Ready (Err (Timer e))
 late_answer Pending = Pending
 
-module _ {T C O : Type 0} (future : FutureOf T C O) (number : C → ℕ) (sleeps : C → SleepTable) (work : C → Tasks ⊤) where
+module _ {T C O : Type 0} (future : FutureOf T C O) (number : C → ℕ) (sleeps : C → SleepTable) (work : C → Tasks ⊤) (reaches : C → C → Type 0) where
   -- The value was polled, with this answer. Where it is ready the delay is given up, and else it is polled.
   abbrev pub AfterValue : Poll O → Sleep → C → Poll (Result O TimeoutError) → Sleep → C → Type 0
-  AfterValue (Ready x) delay c r left d = (r ≡ Ready (Ok x)) × (left ≡ delay) × SleepCancels sleeps work delay c d
-  AfterValue Pending delay c r left d = (p : Poll (Result ⊤ Error)) × SleepPolls number sleeps work delay c p left d × (r ≡ late_answer p)
+  AfterValue (Ready x) delay c r left d = (r ≡ Ready (Ok x)) × (left ≡ delay) × SleepCancels sleeps work reaches delay c d
+  AfterValue Pending delay c r left d = (p : Poll (Result ⊤ Error)) × SleepPolls number sleeps work reaches delay c p left d × (r ≡ late_answer p)
 
   -- a poll of the value in some context that its poll leaves, and then of the delay
   pub record TimeoutPolls (f : Timeout T) (c : C) (r : Poll (Result O TimeoutError)) (g : Timeout T) (d : C) : Type 0 where
@@ -43,7 +43,7 @@ module _ {T C O : Type 0} (future : FutureOf T C O) (number : C → ℕ) (sleeps
     pub value : future.polls f.value c answer g.value middle
     pub rest : AfterValue answer f.delay middle r g.delay d
 
-module _ {T C O : Type 0} (future : FutureOf T C O) (sleeps : C → SleepTable) (work : C → Tasks ⊤) where
+module _ {T C O : Type 0} (future : FutureOf T C O) (sleeps : C → SleepTable) (work : C → Tasks ⊤) (reaches : C → C → Type 0) where
   -- the value is given up, and then the delay
   abbrev pub TimeoutCancels : Timeout T → C → C → Type 0
-  TimeoutCancels f c d = (middle : C) × future.cancels f.value c middle × SleepCancels sleeps work f.delay middle d
+  TimeoutCancels f c d = (middle : C) × future.cancels f.value c middle × SleepCancels sleeps work reaches f.delay middle d

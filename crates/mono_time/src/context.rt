@@ -1,6 +1,8 @@
 // What a running task sees of the timers.
-ghost use Rattle.std.specs.Prelude.{◌≡◌, ℕ, Bool, true};
+ghost use Rattle.std.specs.Prelude.{◌≡◌, ℕ, Bool, true, Result};
 ghost use Rattle.mono_model.specs.Tasks.{woken_if_any};
+ghost use Rattle.mono_model.specs.declared.Woke.{Woke};
+ghost use Rattle.mono_model.specs.declared.task_error.TaskError.{TaskError};
 ghost use Rattle.mono_time.specs.Sleeps.{SleepTable, Added, poll_answer, polled, reset_answer, reset, remove_answer, removed, elapsed_answer, without_waker, waker_in};
 ghost use Rattle.mono_time.specs.declared.error.SleepError.TheVariants.{Memory};
 
@@ -57,4 +59,7 @@ pub trait TimeContext: Context {
     /// Whether a sleep has elapsed. Refused as shutdown exactly where no live sleep has the number.
     fn sleep_elapsed(&self, sleep: u64) -> Result<bool, Error>
         ensures { result ≡ elapsed_answer (sleeps self.now) sleep };
+
+    // a wake keeps the sleeps
+    ghost wakes_no_sleep: { (c d : Self) (t : ℕ) (answer : Result Woke TaskError) → Self.wakes c t answer d → sleeps d ≡ sleeps c };
 }

@@ -49,7 +49,7 @@ impl<T> Timeout<T> {
     /// The future alone. The delay is given up.
     pub fn into_inner<C: TimeContext>(self, cx: &mut C) -> T
         ensures value { result ≡ self.value }
-        ensures delay { SleepCancels C.sleeps C.work self.delay cx.old cx.new }
+        ensures delay { SleepCancels C.sleeps C.work C.reaches self.delay cx.old cx.new }
         ensures reached { C.reaches cx.old cx.new }
     {
         let Timeout { value, delay } = self;
@@ -65,9 +65,9 @@ impl<C: TimeContext, T: TaskFuture<C>> TaskFuture<C> for Timeout<T> {
 
     ghost can_poll = { λ f. T.can_poll f.value };
 
-    ghost polls = { TimeoutPolls T.TaskFuture C.number C.sleeps C.work };
+    ghost polls = { TimeoutPolls T.TaskFuture C.number C.sleeps C.work C.reaches };
 
-    ghost cancels = { TimeoutCancels T.TaskFuture C.sleeps C.work };
+    ghost cancels = { TimeoutCancels T.TaskFuture C.sleeps C.work C.reaches };
 
     fn spent(&self) -> bool {
         self.value.spent()

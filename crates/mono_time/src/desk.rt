@@ -85,4 +85,6 @@ impl TimeContext for Desk {
     fn sleep_elapsed(&self, sleep: u64) -> Result<bool, Error> {
         self.timers.is_elapsed(sleep)
     }
+
+    ghost wakes_no_sleep = { λ c d t r w. ap (λ x. sleeps_of x.timers) w };
 }

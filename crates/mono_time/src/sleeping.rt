@@ -70,9 +70,9 @@ impl<C: TimeContext> TaskFuture<C> for Sleep {
     // it may be polled again, and then answers the same until it is reset
     ghost is_spent = { λ s. false };
 
-    ghost polls = { SleepPolls C.number C.sleeps C.work };
+    ghost polls = { SleepPolls C.number C.sleeps C.work C.reaches };
 
-    ghost cancels = { SleepCancels C.sleeps C.work };
+    ghost cancels = { SleepCancels C.sleeps C.work C.reaches };
 
     fn spent(&self) -> bool {
         false

@@ -98,7 +98,7 @@ impl Interval {
 
     /// Gives the interval up, with its delay.
     pub fn cancel<C: TimeContext>(self, cx: &mut C)
-        ensures cancelled { SleepCancels C.sleeps C.work self.delay cx.old cx.new }
+        ensures cancelled { SleepCancels C.sleeps C.work C.reaches self.delay cx.old cx.new }
         ensures reached { C.reaches cx.old cx.new }
     {
         let Interval {
