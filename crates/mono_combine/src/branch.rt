@@ -8,14 +8,14 @@ use mono_task::{Context, TaskFuture};
 use std::alloc::Global;
 use std::mem;
 
-// What one turn of a branch gave.
+/// What one turn of a branch of a select gave. The rule of a select (`select_rule`) speaks of it.
 #[derive(Drop)]
-pub(crate) enum Look<X> {
-    // It is ready, and its predicate is true of the output.
+pub enum Look<X> {
+    /// The branch is ready, and its predicate is true of the output.
     Passes(X),
-    // It is pending.
+    /// The branch is pending.
     Waits,
-    // It is left out, or ready with an output of which its predicate is false.
+    /// The branch is left out, or ready with an output of which its predicate is false.
     Rests,
 }
 

@@ -19,6 +19,7 @@ mod start;
 mod tests;
 mod try_joins;
 
+pub use branch::Look;
 pub use join_list::JoinList;
 pub use joins::Join2;
 pub use maybe::{MaybeDone, maybe_done};
