@@ -1,0 +1,4 @@
+mod Delays
+mod Limits
+mod Races
+mod Nesting

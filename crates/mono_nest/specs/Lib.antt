@@ -1,0 +1,2 @@
+pub mod Countdowns
+pub mod Nests
