@@ -1,3 +1,4 @@
 pub mod Failing
 pub mod Selecting
 pub mod Lists
+mod Trying

@@ -12,7 +12,7 @@ use Rattle.mono_combine.specs.Branches.{Advances, AfterBranch, is_waiting, maybe
 use Rattle.mono_combine.specs.Rules.{join_rule}
 use Rattle.mono_combine.specs.Listed.{EachInTurn, MayPoll, AllMayPoll, AllCanPoll}
 
-here : {M : Type 0} (xs : List M) (i : ℕ) (m : M) → i < length xs → m ≡ get_or xs i m → drop i xs ≡ m ∷ drop (i + 1) xs
+pub here : {M : Type 0} (xs : List M) (i : ℕ) (m : M) → i < length xs → m ≡ get_or xs i m → drop i xs ≡ m ∷ drop (i + 1) xs
 here xs i m less is = rw add-one (drop-cons xs i m less ∙ ap (λ x. x ∷ drop (suc i) xs) (sym is))
 
 or_assoc : (a b c : Bool) → ((a || b) || c) ≡ (a || (b || c))
@@ -65,7 +65,7 @@ if_pending (Ready x) P h is = absurd (cc)
 if_pending Pending P h is = h
 
 module _ {C T O : Type 0} (future : FutureOf T C O) where
-  may_append : (xs ys : List (MaybeDone C T O)) → AllMayPoll future xs → AllMayPoll future ys → AllMayPoll future (xs ++ ys)
+  pub may_append : (xs ys : List (MaybeDone C T O)) → AllMayPoll future xs → AllMayPoll future ys → AllMayPoll future (xs ++ ys)
   may_append [] ys h k = k
   may_append (x ∷ xs) ys h k = (h.0, may_append xs ys h.1 k)
 

@@ -9,3 +9,4 @@ pub mod Joined
 pub mod TryJoined
 pub mod Selected
 pub mod Listed
+pub mod TryListed

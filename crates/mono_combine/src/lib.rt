@@ -17,7 +17,9 @@ mod select;
 mod start;
 #[cfg(test)]
 mod tests;
+mod try_join_list;
 mod try_joins;
+mod try_list;
 
 pub use branch::Look;
 pub use join_list::JoinList;
@@ -27,4 +29,5 @@ pub use polling::{PollFn, poll_fn};
 pub use random::FastRand;
 pub use select::{Out2, Select2};
 pub use start::Start;
+pub use try_join_list::{Fallible, TryJoinList};
 pub use try_joins::TryJoin2;

@@ -26,11 +26,11 @@ pub(crate) fn fill<C: Context, T: TaskFuture<C, Output: Drop>>(
     }
 }
 
-// Whether a branch is spent.
+// Whether a branch is spent. It takes the vector, since a form over results can't lend it as a slice from a `&self`.
 pub(crate) fn any_spent<C: Context, T: TaskFuture<C, Output: Drop>>(
-    branches: &[MaybeDone<C, T>],
+    branches: &Vec<MaybeDone<C, T>>,
 ) -> bool
-    ensures { result ≡ list_any (maybe_spent T.TaskFuture) branches.now }
+    ensures { result ≡ list_any (maybe_spent T.TaskFuture) branches.now.items }
 {
     for branch in branches {
         if branch.spent() {

@@ -7,7 +7,8 @@ ghost use Rattle.mono_task.specs.Work.{without_outputs};
 
 use crate::example::join_waits;
 use crate::{
-    FastRand, Join2, JoinList, MaybeDone, Out2, Select2, Start, TryJoin2, maybe_done, poll_fn,
+    FastRand, Join2, JoinList, MaybeDone, Out2, Select2, Start, TryJoin2, TryJoinList, maybe_done,
+    poll_fn,
 };
 use mono_model::{Host, Poll};
 use mono_task::{Context, SpawnTask, TaskError, TaskFuture, Tasks, Woke};
@@ -300,6 +301,53 @@ fn join_all<R: Host>(rt: &R, alloc: Global, waits: u64) -> Result<Listed, SpawnT
         Poll::Pending => Poll::Pending,
     };
     Ok((answer, cx.notes))
+}
+
+/// At most two polls of a try-join of a list of two: the answer, and the notes.
+fn try_join_all<R: Host>(rt: &R, alloc: Global, pair: (Step, Step)) -> Result<Tried, SpawnTask> {
+    let mut cx = empty_desk(alloc)?;
+    let (a, b) = pair;
+    let trials = match vec![in alloc; Trial { step: a }, Trial { step: b }] {
+        Ok(trials) => trials,
+        Err(_) => return Err(SpawnTask::Memory),
+    };
+    let Ok(mut form) = TryJoinList::new(alloc, trials) else {
+        return Err(SpawnTask::Memory);
+    };
+    let last = match form.poll(rt, alloc, &mut cx) {
+        Poll::Pending => form.poll(rt, alloc, &mut cx),
+        ready => ready,
+    };
+    let answer = match last {
+        Poll::Ready(Ok(values)) => match values.as_slice() {
+            [x, y] => Poll::Ready(Ok((*x, *y))),
+            _ => Poll::Pending,
+        },
+        Poll::Ready(Err(error)) => Poll::Ready(Err(error)),
+        Poll::Pending => Poll::Pending,
+    };
+    Ok((answer, cx.notes))
+}
+
+#[test]
+fn tried_lists(rt: HostRuntime) {
+    let alloc = rt.alloc();
+    assert_eq!(rt;
+        try_join_all(&rt, alloc, branches((0, 0), (1, 2))),
+        Ok((Poll::Ready(Ok((1, 2))), 1627))
+    );
+    assert_eq!(rt;
+        try_join_all(&rt, alloc, branches((0, 9), (8, 2))),
+        Ok((Poll::Ready(Err(8)), 167))
+    );
+    assert_eq!(rt;
+        try_join_all(&rt, alloc, branches((1, 0), (1, 8))),
+        Ok((Poll::Ready(Err(8)), 1276))
+    );
+    assert_eq!(rt;
+        try_join_all(&rt, alloc, branches((0, 1), (1, 2))),
+        Ok((Poll::Ready(Ok((1, 2))), 16227))
+    );
 }
 
 #[test]

@@ -1,0 +1,46 @@
+use Rattle.std.proofs.Common.{◌≡◌, ◌<◌, ◌∙◌, false, sym, length, get_or, rules}
+use Rattle.std.proofs.lemmas.List.{length-set}
+use Rattle.mono_combine.specs.TryListed.{TriesOnce, has_failed}
+use Rattle.mono_combine.proofs.Lists.{turn_more, may_later, may_more, all_turns, polled_again, if_pending}
+use Rattle.mono_combine.proofs.Trying.{tested, none_more, ends_here, all_may, one_now}
+use Rattle.mono_combine.proofs.try_list.poll_until_failed.Goals as goal
+
+pub returns-then-has_failed-clause-polled : goal.returns-then-has_failed-clause-polled
+returns-then-has_failed-clause-polled g c =
+    let xs = c.loop-i.branches.items in
+    let less : c.loop-i.i < length c.loop-i.branches.items = search rules in
+    let is : c.index_mut.result.now ≡ get_or c.loop-i.branches.items c.loop-i.i c.index_mut.result.now = search rules in
+    ends_here g.T.TaskFuture xs _ _ _ less is _ _ _ _ c.loop-i.invariant.polled c.poll.ensures.polled.0
+    (tested xs _ _ _ less c.index.ensures _ _ c.has_failed.ensures c.if-has_failed.true)
+
+pub returns-then-has_failed-clause-failed : goal.returns-then-has_failed-clause-failed
+returns-then-has_failed-clause-failed g c =
+    let less : c.loop-i.i < length c.loop-i.branches.items = search rules in
+    one_now c.loop-i.branches.items _ _ less (tested c.loop-i.branches.items _ _ _ less c.index.ensures _ _ c.has_failed.ensures c.if-has_failed.true)
+
+pub returns-then-has_failed-clause-again : goal.returns-then-has_failed-clause-again
+returns-then-has_failed-clause-again g c =
+    let xs = c.loop-i.branches.items in
+    let less : c.loop-i.i < length c.loop-i.branches.items = search rules in
+    let is : c.index_mut.result.now ≡ get_or c.loop-i.branches.items c.loop-i.i c.index_mut.result.now = search rules in
+    all_may g.T.TaskFuture xs _ _ _ less is
+    (may_more g.T.TaskFuture xs _ _ less c.loop-i.invariant.taken (polled_again g.T.TaskFuture _ _ _ _ _ c.poll.ensures.polled.0 c.poll.ensures.polled.1 (if_pending _ _ c.poll.ensures.again), c.poll.ensures.callable))
+    (may_later g.T.TaskFuture xs _ _ _ less is c.loop-i.invariant.to_come)
+
+pub loop-i-preserved : goal.loop-i-preserved
+loop-i-preserved g c =
+    let xs = c.loop-i.branches.items in
+    let less : c.loop-i.i < length c.loop-i.branches.items = search rules in
+    let is : c.index_mut.result.now ≡ get_or c.loop-i.branches.items c.loop-i.i c.index_mut.result.now = search rules in
+    let well : has_failed c.poll.new.self ≡ false = tested xs _ _ _ less c.index.ensures _ _ c.has_failed.ensures c.if-has_failed.false in
+    record {
+      same_length = length-set xs _ _ ∙ c.loop-i.invariant.same_length;
+      to_come = may_later g.T.TaskFuture xs _ _ _ less is c.loop-i.invariant.to_come;
+      taken = may_more g.T.TaskFuture xs _ _ less c.loop-i.invariant.taken (polled_again g.T.TaskFuture _ _ _ _ _ c.poll.ensures.polled.0 c.poll.ensures.polled.1 (if_pending _ _ c.poll.ensures.again), c.poll.ensures.callable);
+      polled = turn_more (TriesOnce g.T.TaskFuture) xs _ _ _ less is _ _ _ _ c.loop-i.invariant.polled (record { advanced = c.poll.ensures.polled.0; failed = sym well });
+      none_failed = none_more xs _ _ less c.loop-i.invariant.none_failed well;
+      reached = g.met.C.Context.reaches_on _ _ _ c.loop-i.invariant.reached c.poll.ensures.reached;
+    }
+
+pub returns-clause-polled : goal.returns-clause-polled
+returns-clause-polled g c = all_turns (TriesOnce g.T.TaskFuture) _ _ _ _ c.loop-i.i (search rules) c.loop-i.invariant.polled

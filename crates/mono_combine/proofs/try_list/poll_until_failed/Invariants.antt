@@ -1,0 +1,16 @@
+use Rattle.std.proofs.Common.{◌≡◌, ◌++◌, false, List, length, take, drop}
+use Rattle.std.specs.List.{list_any}
+use Rattle.mono_combine.specs.Listed.{AllMayPoll, EachInTurn}
+use Rattle.mono_combine.specs.TryListed.{TriesOnce, has_failed}
+use Rattle.mono_combine.proofs.try_list.poll_until_failed.Given as goal
+
+-- the turns that are still to come go on from those that were taken, of which none has failed
+abbrev pub invariant-loop-i : goal.invariant-loop-i
+invariant-loop-i g l = record {
+  same_length : length l.branches.items ≡ length l.initial.branches.items;
+  to_come : AllMayPoll g.T.TaskFuture (drop l.i l.branches.items);
+  taken : AllMayPoll g.T.TaskFuture (take l.i l.branches.items);
+  polled : (rest : List _) (t : _) → EachInTurn (TriesOnce g.T.TaskFuture) (drop l.i l.branches.items) (record { one_failed = false; cx = l.cx }) rest t → EachInTurn (TriesOnce g.T.TaskFuture) l.initial.branches.items (record { one_failed = false; cx = l.initial.cx }) (take l.i l.branches.items ++ rest) t;
+  none_failed : list_any has_failed (take l.i l.branches.items) ≡ false;
+  reached : g.C.Context.reaches l.initial.cx l.cx;
+}

@@ -1,0 +1,113 @@
+// Many branches that are polled until one fails or all values are there.
+ghost use Rattle.std.specs.Prelude.{◌≡◌, ◌≤◌, ◌||◌, false, true, [], length, map, vec_len, vec_capacity, IfOk, IfErr};
+ghost use Rattle.std.specs.List.{list_any, All};
+ghost use Rattle.mono_combine.specs.Branches.{maybe_spent};
+ghost use Rattle.mono_combine.specs.Listed.{AllCanPoll, AllCancel};
+ghost use Rattle.mono_combine.specs.TryListed.{TryJoinListPolls, tried_as};
+
+use crate::list::{any_spent, fill, give_up_each};
+use crate::maybe::MaybeDone;
+use crate::try_list::{any_waiting, collect_values, give_up_failing, poll_until_failed};
+use mono_model::{Host, Poll};
+use mono_task::{Context, TaskFuture};
+use std::alloc::Global;
+use std::mem;
+
+/// What a branch that may fail answers: a value or an error.
+pub trait Fallible {
+    /// The value of one that succeeds.
+    type Value;
+}
+
+impl<X, E> Fallible for Result<X, E> {
+    type Value = X;
+}
+
+/// At most 64 futures of one type of which each poll polls every unfinished one once, in the written order, up to the
+/// first that fails.
+///
+/// The first error in the written order is answered at once, and the unfinished branches are given up in the written
+/// order; else all values are answered in the written order once all are there (`try_join_rule`). It is spent once it
+/// has answered. The room for the values is made when the form is made, so that no poll can be refused memory.
+#[derive(Drop)]
+pub struct TryJoinList<C: Context, T: TaskFuture<C, Output: Fallible>> {
+    branches: Vec<MaybeDone<C, T>>,
+    values: Vec<<T::Output as Fallible>::Value>,
+    has_answered: bool,
+    ghost no_values: { values.items ≡ [] },
+    ghost room: { vec_len branches ≤ vec_capacity values },
+}
+
+impl<C, X, E, T> TryJoinList<C, T>
+where
+    C: Context,
+    X: Drop,
+    E: Drop,
+    T: TaskFuture<C, Output = Result<X, E>>,
+{
+    /// The join of at most 64 futures that are not spent. It hands them back only where memory is refused.
+    pub fn new(alloc: Global, v: Vec<T>) -> Result<TryJoinList<C, T>, Vec<T>>
+        requires few { vec_len v ≤ 64 }
+        requires unspent { All (λ f. T.is_spent f ≡ false) v.items }
+        ensures made { IfOk result (λ form. form.branches.items ≡ map MaybeDone.Future v.items) }
+        ensures fresh { IfOk result (λ form. form.has_answered ≡ false) }
+        ensures handed_back { IfErr result (λ back. back ≡ v) }
+    {
+        let Ok(mut branches) = Vec::with_capacity(alloc, v.len()) else {
+            return Err(v);
+        };
+        let Ok(values) = Vec::with_capacity(alloc, v.len()) else {
+            return Err(v);
+        };
+        fill(v.into_iter(), &mut branches);
+        Ok(TryJoinList {
+            branches,
+            values,
+            has_answered: false,
+        })
+    }
+}
+
+impl<C, X, E, T> TaskFuture<C> for TryJoinList<C, T>
+where
+    C: Context,
+    X: Drop,
+    E: Drop,
+    T: TaskFuture<C, Output = Result<X, E>>,
+{
+    type Output = Result<Vec<X>, E>;
+
+    ghost is_spent = { λ f. f.has_answered || list_any (maybe_spent T.TaskFuture) f.branches.items };
+
+    ghost can_poll = { λ f. AllCanPoll T.TaskFuture f.branches.items };
+
+    ghost polls = { λ f c r g d. TryJoinListPolls T.TaskFuture f.branches.items c (tried_as (λ v. v.items) r) g.branches.items g.has_answered d };
+
+    ghost cancels = { λ f c d. AllCancel T.TaskFuture f.branches.items c d };
+
+    fn spent(&self) -> bool {
+        self.has_answered || any_spent(&self.branches)
+    }
+
+    fn poll<R: Host>(&mut self, rt: &R, alloc: Global, cx: &mut C) -> Poll<Result<Vec<X>, E>> {
+        if poll_until_failed(rt, alloc, cx, &mut self.branches) {
+            self.has_answered = true;
+            return match give_up_failing(cx, &mut self.branches) {
+                Some(error) => Poll::Ready(Err(error)),
+                None => unreachable!(),
+            };
+        }
+        if any_waiting(&self.branches) {
+            return Poll::Pending;
+        }
+        self.has_answered = true;
+        let branches = mem::replace(&mut self.branches, Vec::new(alloc));
+        let mut values = mem::replace(&mut self.values, Vec::new(alloc));
+        collect_values(branches.into_iter(), &mut values);
+        Poll::Ready(Ok(values))
+    }
+
+    fn cancel(mut self, cx: &mut C) {
+        give_up_each(cx, &mut self.branches);
+    }
+}

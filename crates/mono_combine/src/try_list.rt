@@ -1,0 +1,149 @@
+// Many branches of one type that keep their output, until one fails.
+ghost use Rattle.std.specs.Prelude.{◌≡◌, ◌≤◌, ◌+◌, ◌++◌, false, length, vec_len, vec_capacity};
+ghost use Rattle.std.specs.List.{list_any, filter_map};
+ghost use Rattle.std.specs.Vec.Iter.{into_iter_items, into_iter_len};
+ghost use Rattle.mono_combine.specs.Branches.{is_waiting, MaybeCancels};
+ghost use Rattle.mono_combine.specs.Listed.{EachInTurn, AllMayPoll, GivesUp};
+ghost use Rattle.mono_combine.specs.TryJoined.{failure_of};
+ghost use Rattle.mono_combine.specs.TryListed.{TriesEach, has_failed, value_in, earlier, first_failure};
+
+use crate::maybe::MaybeDone;
+use mono_model::Host;
+use mono_task::{Context, TaskFuture};
+use std::alloc::Global;
+use std::{mem, vec};
+
+impl<C: Context, X: Drop, E: Drop, Fut: TaskFuture<C, Output = Result<X, E>>> MaybeDone<C, Fut> {
+    // Whether the branch has failed.
+    fn has_failed(&self) -> bool
+        ensures { result ≡ has_failed self.now }
+    {
+        matches!(self, MaybeDone::Done(Err(_)))
+    }
+
+    // The value, where it is there.
+    fn into_value(self) -> Option<X>
+        ensures { result ≡ value_in self }
+    {
+        match self {
+            MaybeDone::Done(Ok(value)) => Some(value),
+            _ => None,
+        }
+    }
+
+    // Gives up what is left of it, and hands out the error, if there is one.
+    fn give_up_failing(&mut self, cx: &mut C) -> Option<E>
+        ensures error { result ≡ failure_of self.old }
+        ensures gone { self.new ≡ MaybeDone.Gone }
+        ensures cancelled { MaybeCancels Fut.TaskFuture self.old cx.old cx.new }
+        ensures reached { C.reaches cx.old cx.new }
+    {
+        match mem::replace(self, MaybeDone::Gone) {
+            MaybeDone::Future(future) => {
+                future.cancel(cx);
+                None
+            }
+            MaybeDone::Done(Err(error)) => Some(error),
+            MaybeDone::Done(Ok(_)) => None,
+            MaybeDone::Gone => None,
+        }
+    }
+}
+
+// The first of two errors.
+fn earlier_of<E: Drop>(first: Option<E>, later: Option<E>) -> Option<E>
+    ensures { result ≡ earlier first later }
+{
+    match first {
+        Some(error) => Some(error),
+        None => later,
+    }
+}
+
+// Polls each branch in the written order, up to the first that fails. True if one has failed.
+pub(crate) fn poll_until_failed<R, C, X, E, T>(
+    rt: &R,
+    alloc: Global,
+    cx: &mut C,
+    branches: &mut Vec<MaybeDone<C, T>>,
+) -> bool
+where
+    R: Host,
+    C: Context,
+    X: Drop,
+    E: Drop,
+    T: TaskFuture<C, Output = Result<X, E>>,
+    requires { AllMayPoll T.TaskFuture branches.old.items }
+    ensures polled { TriesEach T.TaskFuture branches.old.items cx.old branches.new.items result cx.new }
+    ensures length { vec_len branches.new ≡ vec_len branches.old }
+    ensures failed { result ≡ list_any has_failed branches.new.items }
+    ensures again { AllMayPoll T.TaskFuture branches.new.items }
+    ensures reached { C.reaches cx.old cx.new }
+{
+    for i in 0..branches.len() {
+        let _ = branches[i].poll(rt, alloc, cx);
+        if branches[i].has_failed() {
+            return true;
+        }
+    }
+    false
+}
+
+// Whether a branch waits.
+pub(crate) fn any_waiting<C: Context, T: TaskFuture<C, Output: Drop>>(
+    branches: &[MaybeDone<C, T>],
+) -> bool
+    ensures { result ≡ list_any is_waiting branches.now }
+{
+    for branch in branches {
+        if branch.is_waiting() {
+            return true;
+        }
+    }
+    false
+}
+
+// Gives up what is left of each branch, in the written order, and hands out the first error.
+pub(crate) fn give_up_failing<C, X, E, T>(
+    cx: &mut C,
+    branches: &mut Vec<MaybeDone<C, T>>,
+) -> Option<E>
+where
+    C: Context,
+    X: Drop,
+    E: Drop,
+    T: TaskFuture<C, Output = Result<X, E>>,
+    ensures error { result ≡ first_failure branches.old.items }
+    ensures length { vec_len branches.new ≡ vec_len branches.old }
+    ensures given_up { EachInTurn (GivesUp T.TaskFuture) branches.old.items cx.old branches.new.items cx.new }
+    ensures reached { C.reaches cx.old cx.new }
+{
+    let mut first = None;
+    for i in 0..branches.len() {
+        let later = branches[i].give_up_failing(cx);
+        first = earlier_of(first, later);
+    }
+    first
+}
+
+// The values that are there, in the written order, in a vector that has the room for them.
+pub(crate) fn collect_values<C, X, E, T>(
+    mut branches: vec::IntoIter<MaybeDone<C, T>>,
+    values: &mut Vec<X>,
+)
+where
+    C: Context,
+    X: Drop,
+    E: Drop,
+    T: TaskFuture<C, Output = Result<X, E>>,
+    requires { vec_len values.old + into_iter_len branches ≤ vec_capacity values.old }
+    ensures { values.new.items ≡ values.old.items ++ filter_map value_in (into_iter_items branches) }
+{
+    while let Some(branch) = branches.next() {
+        if let Some(value) = branch.into_value() {
+            if values.push(value).is_err() {
+                unreachable!();
+            }
+        }
+    }
+}
