@@ -1,5 +1,5 @@
 -- One poll of a countdown with a deadline, and how it is given up.
-use Rattle.std.proofs.Common.{◌≡◌, ℕ, true, false, Bool, Ok, Err, refl, ap, sym, subst, ◌∙◌}
+use Rattle.std.proofs.Common.{◌≡◌, ℕ, true, false, Ok, Err, refl, ap, subst, ◌∙◌}
 use Rattle.std.specs.Prelude.{⊤, Result}
 use Rattle.mono_model.specs.Tasks.{Tasks, woken}
 use Rattle.mono_model.specs.Poll.{OnPending, OnReady, call_of}
@@ -9,7 +9,6 @@ use Rattle.mono_model.specs.declared.poll.Poll.{Poll}
 use Rattle.mono_model.specs.declared.poll.Poll.TheVariants.{Ready, Pending}
 use Rattle.mono_task.specs.Members.{FutureOf}
 use Rattle.mono_time.specs.Sleeps.{SleepTable, poll_answer, polled, removed}
-use Rattle.mono_time.specs.Futures.{SleepPolls, SleepCancels}
 use Rattle.mono_time.specs.Timeouts.{TimeoutPolls, TimeoutCancels, AfterValue, late_answer}
 use Rattle.mono_time.specs.declared.error.Error.{Error}
 use Rattle.mono_time.specs.declared.error.TimeoutError.{TimeoutError}

@@ -1,6 +1,6 @@
 -- One poll of the nest, and how it is given up.
-use Rattle.std.proofs.Common.{◌≡◌, ◌≢◌, inl, inr, Ok, Err, ℕ, true, false, Bool, List, [], ◌∷◌, ◌++◌, Some, None, refl, ap, sym, subst, ◌∙◌}
-use Rattle.std.specs.Prelude.{⊤, Result, Option}
+use Rattle.std.proofs.Common.{◌≡◌, ◌≢◌, inl, inr, Ok, Err, ℕ, true, Bool, [], ◌∷◌, ◌++◌, Some, None, refl, ap, sym, subst, ◌∙◌}
+use Rattle.std.specs.Prelude.{⊤, Result}
 use Rattle.std.specs.Fn.{Shared}
 use denote.Ref.{Bor}
 use Rattle.mono_model.specs.Tasks.{Tasks, woken}
@@ -26,7 +26,7 @@ use Rattle.mono_nest.specs.Countdowns.{is_over}
 use Rattle.mono_nest.specs.Nests.{Limited, Waits, IsLate, Apart, Passes, late, polled_once, race_of, nest_of, all_polled, all_removed, after_end, delay_in, delays_in_race, delays_in, delays_of}
 use Rattle.mono_nest.proofs.Delays.{still_waits, apart-removed, gone-removed, stays_gone-removed, stays_gone-polled, removed-append}
 use Rattle.mono_nest.proofs.Limits.{Answer, limited}
-use Rattle.mono_nest.proofs.Races.{RaceWaits, race_waits, race_first, race_late, race_cancels}
+use Rattle.mono_nest.proofs.Races.{race_waits, race_first, race_late, race_cancels}
 
 abbrev pub Raced : Type 0
 Raced = Out2 Answer Answer

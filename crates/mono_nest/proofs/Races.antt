@@ -1,5 +1,5 @@
 -- One poll of a select of two countdowns with deadlines, and how it is given up.
-use Rattle.std.proofs.Common.{◌≡◌, ◌≢◌, Some, Ok, Err, ℕ, true, false, Bool, List, [], ◌∷◌, ◌++◌, refl, ap, sym, subst, ◌∙◌}
+use Rattle.std.proofs.Common.{◌≡◌, ◌≢◌, Some, Ok, Err, ℕ, true, false, Bool, [], ◌∷◌, refl, ap, sym, subst, ◌∙◌}
 use Rattle.std.specs.Prelude.{⊤, Result, Option}
 use Rattle.std.specs.List.{FoldsTo}
 use Rattle.std.specs.Fn.{Shared}
@@ -17,10 +17,9 @@ use Rattle.mono_combine.specs.declared.branch.Look.TheVariants as look
 use Rattle.mono_combine.specs.declared.select.Out2.{Out2}
 use Rattle.mono_combine.specs.declared.select.Out2.TheVariants.{First, Second}
 use Rattle.mono_combine.specs.declared.select.Select2.{Select2}
-use Rattle.mono_combine.specs.declared.start.Start.TheVariants.{Biased}
 use Rattle.mono_combine.specs.Looks.{HasTurn, AfterPoll, BranchCancels, passes_if}
 use Rattle.mono_combine.specs.Rules.{select_rule, select_turns}
-use Rattle.mono_combine.specs.Selected.{Seats, masks, looks, TurnOf, SelectEnds, SelectPolls, SelectCancels, without_number}
+use Rattle.mono_combine.specs.Selected.{Seats, looks, TurnOf, SelectEnds, SelectPolls, SelectCancels, without_number}
 use Rattle.mono_nest.specs.Countdowns.{is_over}
 use Rattle.mono_nest.specs.Nests.{Limited, Waits, IsLate, Passes, late, polled_once, race_of, all_removed, delay_in, delays_in_race}
 use Rattle.mono_nest.proofs.Delays.{still_waits, apart-polled, removed-append}

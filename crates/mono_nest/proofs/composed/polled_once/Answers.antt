@@ -1,4 +1,4 @@
-use Rattle.std.proofs.Common.{ap, ◌∙◌, [], ◌∷◌, ◌≡◌}
+use Rattle.std.proofs.Common.{ap, ◌∙◌, [], ◌∷◌}
 use Rattle.mono_model.specs.Poll.{is_pending}
 use Rattle.mono_nest.specs.Nests.{delays_of, all_removed}
 use Rattle.mono_nest.proofs.composed.polled_once.Goals as goal
