@@ -87,6 +87,26 @@ completed l g left rest b a R W input events status.ReadFault p told short good 
 completed l g left rest b a R W input events status.WriteFault p told short good no_read no_write = absurd (no_write p.0)
 completed l g left rest b a R W input events status.Usage p told short good no_read no_write = absurd p
 
+-- ---- where the count of faults rose
+
+pub rose_in_reading : (s : Status) (old new : ℕ) → (s ≢ status.ReadFault → new ≡ old) → old < new → status_code s ≡ 4
+rose_in_reading status.ReadFault old new stays less = refl
+rose_in_reading status.Done old new stays less = absurd (omega (arith, less, stays (λ e. omega (arith, ap status_code e))))
+rose_in_reading status.Usage old new stays less = absurd (omega (arith, less, stays (λ e. omega (arith, ap status_code e))))
+rose_in_reading status.BadLine old new stays less = absurd (omega (arith, less, stays (λ e. omega (arith, ap status_code e))))
+rose_in_reading status.WriteFault old new stays less = absurd (omega (arith, less, stays (λ e. omega (arith, ap status_code e))))
+rose_in_reading status.OutOfMemory old new stays less = absurd (omega (arith, less, stays (λ e. omega (arith, ap status_code e))))
+rose_in_reading status.TooLong old new stays less = absurd (omega (arith, less, stays (λ e. omega (arith, ap status_code e))))
+
+pub rose_in_writing : (s : Status) (old new : ℕ) → (s ≢ status.WriteFault → new ≡ old) → old < new → status_code s ≡ 5
+rose_in_writing status.WriteFault old new stays less = refl
+rose_in_writing status.Done old new stays less = absurd (omega (arith, less, stays (λ e. omega (arith, ap status_code e))))
+rose_in_writing status.Usage old new stays less = absurd (omega (arith, less, stays (λ e. omega (arith, ap status_code e))))
+rose_in_writing status.BadLine old new stays less = absurd (omega (arith, less, stays (λ e. omega (arith, ap status_code e))))
+rose_in_writing status.ReadFault old new stays less = absurd (omega (arith, less, stays (λ e. omega (arith, ap status_code e))))
+rose_in_writing status.OutOfMemory old new stays less = absurd (omega (arith, less, stays (λ e. omega (arith, ap status_code e))))
+rose_in_writing status.TooLong old new stays less = absurd (omega (arith, less, stays (λ e. omega (arith, ap status_code e))))
+
 -- ---- what a number says
 
 pub says : (l : Limits) (g : Blocking) (left rest before after : Option (List ℕ)) (R W : Type 0) (code n : ℕ) (s t : Status)

@@ -5,9 +5,9 @@ use Rattle.std.specs.Prelude.{◌≡◌, ℕ, ◌+◌, ◌-◌, ◌^◌, ◌<◌
 abbrev pub HasRisen : ℕ → ℕ → Type 0
 HasRisen before now = (before < now) ⊎ (2 ^ 64 - 1 ≤ before)
 
--- An error comes only where the count rose, and the count never falls.
+-- An error comes only where the count rose, and without an error it stays.
 abbrev pub HasCause : {T E : Type 0} → ℕ → ℕ → Result T E → Type 0
-HasCause before now (Ok x) = before ≤ now
+HasCause before now (Ok x) = now ≡ before
 HasCause before now (Err e) = (before ≤ now) × HasRisen before now
 
 -- A read of n bytes into a buffer, where the bytes that are left are told.

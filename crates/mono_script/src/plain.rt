@@ -1,5 +1,6 @@
 // A source and a sink in memory that never fail.
-ghost use Rattle.std.specs.Prelude.{◌≡◌, ◌≤◌, length, take, drop, min};
+ghost use Rattle.std.specs.Prelude.{◌≡◌, ◌<◌, ◌≤◌, Some, IfOk, OnErr, length, take, drop, min};
+ghost use Rattle.mono_script.specs.Outside.{HasCause, Reads};
 
 use crate::sink::{Sink, SinkFault};
 use crate::source::{Source, SourceFault};
@@ -48,7 +49,14 @@ impl Source for PlainSource {
 
     ghost left = { λ source. Some source };
 
-    fn read(&mut self, buffer: &mut [u8]) -> Result<usize, SourceFault> {
+    /// Fills the buffer as far as the bytes go (`all`).
+    fn read(&mut self, buffer: &mut [u8]) -> Result<usize, SourceFault>
+        ensures within { IfOk result (λ n. n ≤ length buffer.old) }
+        ensures bytes { IfOk result (λ n. Reads (Some self.old) (Some self.new) buffer.new n) }
+        ensures none { OnErr result (self.new ≡ self.old) }
+        ensures cause { HasCause 0 0 result }
+        ensures all { IfOk result (λ n. n ≡ min (length self.old) (length buffer.old)) }
+    {
         let n = copied(&self.bytes[self.at..], buffer);
         self.at += n;
         Ok(n)
@@ -73,7 +81,13 @@ impl Sink for PlainSink {
 
     ghost written = { λ sink. None };
 
-    fn write(&mut self, piece: &[u8]) -> Result<usize, SinkFault> {
+    /// Takes the whole piece (`all`).
+    fn write(&mut self, piece: &[u8]) -> Result<usize, SinkFault>
+        ensures within { IfOk result (λ n. n ≤ length piece.now) }
+        ensures some { IfOk result (λ n. 0 < length piece.now → 0 < n) }
+        ensures cause { HasCause 0 0 result }
+        ensures all { IfOk result (λ n. n ≡ length piece.now) }
+    {
         Ok(piece.len())
     }
 }

@@ -17,7 +17,7 @@ pub trait Sink {
     ghost written: { Self → Option (List ℕ) };
 
     /// Takes bytes from the front of the piece and answers how many: at least one, where the piece isn't empty. It fails
-    /// only where the count of faults rose in this call (`cause`), and then no byte was taken (`none`).
+    /// only where the count of faults rose in this call, which else stays (`cause`), and then no byte was taken (`none`).
     fn write(&mut self, piece: &[u8]) -> Result<usize, SinkFault>
         ensures within { IfOk result (λ n. n ≤ length piece.now) }
         ensures some { IfOk result (λ n. 0 < length piece.now → 0 < n) }

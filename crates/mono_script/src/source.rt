@@ -19,8 +19,8 @@ pub trait Source {
     ghost left: { Self → Option (List ℕ) };
 
     /// Puts the next bytes at the front of the buffer and answers how many. 0 for a buffer that isn't empty is the end
-    /// of the input. It fails only where the count of faults rose in this call (`cause`), and then no byte has moved
-    /// (`none`).
+    /// of the input. It fails only where the count of faults rose in this call, which else stays (`cause`), and then no
+    /// byte has moved (`none`).
     fn read(&mut self, buffer: &mut [u8]) -> Result<usize, SourceFault>
         ensures within { IfOk result (λ n. n ≤ length buffer.old) }
         ensures bytes { IfOk result (λ n. Reads (left self.old) (left self.new) buffer.new n) }
@@ -74,6 +74,7 @@ fn fill<S: Source>(source: &mut S, block: &mut [u8], bytes: &mut Vec<u8>) -> Res
     ensures long { IsErrOf result InputError.TooLong → IsLongerThan 16777216 (S.left source.old) }
     ensures fault { IsErrOf result InputError.Fault → HasRisen (S.faults source.old) (S.faults source.new) }
     ensures later { S.faults source.old ≤ S.faults source.new }
+    ensures stays { (IsErrOf result InputError.Fault → ⊥) → S.faults source.new ≡ S.faults source.old }
 {
     while bytes.len() <= MAX_INPUT {
         let Ok(n) = source.read(block) else {
@@ -93,6 +94,7 @@ pub fn read_all<S: Source>(alloc: Global, source: &mut S) -> Result<Vec<u8>, Inp
     ensures long { IsErrOf result InputError.TooLong → IsLongerThan 16777216 (S.left source.old) }
     ensures fault { IsErrOf result InputError.Fault → HasRisen (S.faults source.old) (S.faults source.new) }
     ensures later { S.faults source.old ≤ S.faults source.new }
+    ensures stays { (IsErrOf result InputError.Fault → ⊥) → S.faults source.new ≡ S.faults source.old }
 {
     let mut block = zeros(alloc, BLOCK)?;
     let mut bytes = Vec::new(alloc);

@@ -15,7 +15,9 @@ pub struct StdinSource {
 
 impl StdinSource {
     /// The source that reads this standard input.
-    pub fn new(stdin: Stdin) -> StdinSource {
+    pub fn new(stdin: Stdin) -> StdinSource
+        ensures { result.faults ≡ 0 }
+    {
         StdinSource { stdin, faults: 0 }
     }
 }
@@ -49,7 +51,9 @@ pub struct StdoutSink {
 
 impl StdoutSink {
     /// The sink that writes to this standard output.
-    pub fn new(stdout: Stdout) -> StdoutSink {
+    pub fn new(stdout: Stdout) -> StdoutSink
+        ensures { result.faults ≡ 0 }
+    {
         StdoutSink { stdout, faults: 0 }
     }
 }

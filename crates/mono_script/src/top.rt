@@ -89,6 +89,7 @@ fn made(
 fn write_output<K: Sink>(sink: &mut K, is_bad: bool, text: &[u8]) -> Status
     ensures wrote { IsWritten is_bad text.now (K.written sink.old) (K.written sink.new) (HasRisen (K.faults sink.old) (K.faults sink.new)) result }
     ensures later { K.faults sink.old ≤ K.faults sink.new }
+    ensures stays { result ≢ Status.WriteFault → K.faults sink.new ≡ K.faults sink.old }
 {
     if write_all(sink, text).is_err() {
         return Status::WriteFault;
@@ -109,6 +110,7 @@ fn answer_input<K: Sink>(
 ) -> Status
     ensures ends { EndsOn limits blocking input.now (K.written sink.old) (K.written sink.new) (HasRisen (K.faults sink.old) (K.faults sink.new)) result }
     ensures later { K.faults sink.old ≤ K.faults sink.new }
+    ensures stays { result ≢ Status.WriteFault → K.faults sink.new ≡ K.faults sink.old }
 {
     match made(alloc, limits, blocking, input) {
         Ok(output) => write_output(sink, output.is_bad, &output.text),
@@ -125,6 +127,8 @@ fn replay_command<S: Source, K: Sink>(
 ) -> Status
     ensures ends { Ends limits blocking (S.left source.old) (S.left source.new) (K.written sink.old) (K.written sink.new) (HasRisen (S.faults source.old) (S.faults source.new)) (HasRisen (K.faults sink.old) (K.faults sink.new)) result }
     ensures later { (S.faults source.old ≤ S.faults source.new) × (K.faults sink.old ≤ K.faults sink.new) }
+    ensures read_stays { result ≢ Status.ReadFault → S.faults source.new ≡ S.faults source.old }
+    ensures write_stays { result ≢ Status.WriteFault → K.faults sink.new ≡ K.faults sink.old }
 {
     match read_all(alloc, source) {
         Ok(input) => answer_input(alloc, limits, blocking, &input, sink),
@@ -139,8 +143,8 @@ fn replay_command<S: Source, K: Sink>(
 ///
 /// Each status has a clause of its name that says what it means, and the clauses `usage`, `too_long_where` and
 /// `bad_line_where` say exactly where it comes: in the order of usage, reading, bad line, writing. A read or a write
-/// fault comes only where the count of that object rose in this call. Want of memory may come at any time before the
-/// first write. `complete` says that a good command over good input ends with 0, but for a fault or want of memory.
+/// fault comes only where the count of that object rose in this call, and wherever it rose (`read_fault_where`,
+/// `write_fault_where`). Want of memory may come at any time before the first write. `complete` says that a good command over good input ends with 0, but for a fault or want of memory.
 pub fn program<S: Source, K: Sink>(
     alloc: Global,
     words: &Vec<String>,
@@ -159,6 +163,8 @@ pub fn program<S: Source, K: Sink>(
     ensures too_long_where { (input : List ℕ) → S.left source.old ≡ Some input → IsRead result → (result ≡ 7 ↔ max_input < length input) }
     ensures bad_line_where { (input : List ℕ) → S.left source.old ≡ Some input → IsRead result → result ≢ 5 → (result ≡ 3 ↔ (length input ≤ max_input) × ((n : ℕ) × IsFirstBad (lines input) n)) }
     ensures complete { (limits : Limits) (strategy : Blocking) (input : List ℕ) (events : List Event) → IsReplay (map string_bytes words.now.items) limits strategy → S.left source.old ≡ Some input → length input ≤ max_input → AreEventLines events (lines input) → (HasRisen (S.faults source.old) (S.faults source.new) → ⊥) → (HasRisen (K.faults sink.old) (K.faults sink.new) → ⊥) → (result ≡ 0) ⊎ (result ≡ 6) }
+    ensures read_fault_where { S.faults source.old < S.faults source.new → result ≡ 4 }
+    ensures write_fault_where { K.faults sink.old < K.faults sink.new → result ≡ 5 }
     ensures counts { (S.faults source.old ≤ S.faults source.new) × (K.faults sink.old ≤ K.faults sink.new) }
 {
     match read_command(words) {

@@ -1,5 +1,5 @@
 use Rattle.std.proofs.Common.{arith}
-use Rattle.std.proofs.Common.{length-drop, ◌≤◌, ◌+◌, length, drop, ap}
+use Rattle.std.proofs.Common.{length-drop, ◌≤◌, ◌+◌, ◌∙◌, length, drop, ap}
 use Rattle.mono_script.proofs.Outside.{write_on}
 use Rattle.mono_script.proofs.sink.write_all.Goals as goal
 
@@ -9,5 +9,5 @@ loop-done-preserved g c =
     let within : n ≤ length (drop c.loop-done.done c.args.bytes.now) = rw c.rest_of.ensures at c.in_ok-done.ensures.within in (
       omega (arith, c.loop-done-test.true, length-drop c.loop-done.done c.args.bytes.now, within),
       write_on (g.K.Sink.written c.args.sink.now) (g.K.Sink.written c.loop-done.sink) (g.K.Sink.written c.write.new.self) c.args.bytes.now c.loop-done.done n c.loop-done.invariant.1 (rw c.rest_of.ensures at c.in_ok-done.ensures.bytes),
-      omega (arith, c.loop-done.invariant.2, c.in_ok-done.ensures.cause),
+      c.in_ok-done.ensures.cause ∙ c.loop-done.invariant.2,
     )

@@ -3,7 +3,7 @@ use Rattle.mono_script.specs.Outside.{HasRisen}
 use Rattle.mono_script.specs.Ending.{IsRead, status_code}
 use Rattle.mono_script.specs.declared.top.Status.TheVariants as status
 use Rattle.mono_script.proofs.Commands.{command_once}
-use Rattle.mono_script.proofs.Statuses.{says, done, write_fault, bad_where, completed}
+use Rattle.mono_script.proofs.Statuses.{says, done, write_fault, bad_where, completed, rose_in_reading, rose_in_writing}
 use Rattle.mono_script.proofs.top.program.Goals as goal
 
 pub returns-in-Some-clause-done : goal.returns-in-Some-clause-done
@@ -42,3 +42,11 @@ returns-in-Some-clause-complete g c = λ limits strategy input events words told
     (HasRisen (g.S.Source.faults c.args.source.now) (g.S.Source.faults c.replay_command.new.source)) (HasRisen (g.K.Sink.faults c.args.sink.now) (g.K.Sink.faults c.replay_command.new.sink))
     input events c.replay_command.result c.replay_command.ensures.ends told short good no_read no_write in
     rw c.code.ensures ended
+
+pub returns-in-Some-clause-read_fault_where : goal.returns-in-Some-clause-read_fault_where
+returns-in-Some-clause-read_fault_where g c = λ less.
+    c.code.ensures ∙ rose_in_reading c.replay_command.result (g.S.Source.faults c.args.source.now) (g.S.Source.faults c.replay_command.new.source) c.replay_command.ensures.read_stays less
+
+pub returns-in-Some-clause-write_fault_where : goal.returns-in-Some-clause-write_fault_where
+returns-in-Some-clause-write_fault_where g c = λ less.
+    c.code.ensures ∙ rose_in_writing c.replay_command.result (g.K.Sink.faults c.args.sink.now) (g.K.Sink.faults c.replay_command.new.sink) c.replay_command.ensures.write_stays less
