@@ -1,5 +1,5 @@
 // Wakes from other threads, which wait in the inbox until it is drained.
-ghost use Rattle.std.specs.Prelude.{◌≡◌, IfOk, OnOk};
+ghost use Rattle.std.specs.Prelude.{◌≡◌, IfOk, OnErr, OnOk};
 ghost use Rattle.mono_model.specs.Tasks.{all_woken};
 ghost use Rattle.mono_task.specs.Schedule as schedule;
 ghost use Rattle.mono_rt.specs.Machine.{Machine};
@@ -40,10 +40,11 @@ impl Parts {
         }
     }
 
-    /// Each task that waits in the inbox is woken, in order. Where memory is refused nothing changes.
+    /// Each task that waits in the inbox is woken, in order. Where memory is refused nothing changes (`refused`).
     pub fn drain(&mut self, alloc: Global) -> Result<Report, AllocError>
         ensures report { IfOk result (λ r. (m : Machine) → Matches self.old m → r ≡ report.Drained m.inbox) }
         ensures matches { OnOk result ((m : Machine) → Matches self.old m → Matches self.new (after_drain m)) }
+        ensures refused { OnErr result (self.new ≡ self.old) }
         ensures turn { self.new.tasks.turn ≡ self.old.tasks.turn }
     {
         let mut woken = Vec::with_capacity(alloc, self.inbox.waiting())?;
