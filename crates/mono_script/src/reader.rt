@@ -60,6 +60,23 @@ fn is_zero(value: u128, count: usize) -> bool
     count > 0 && value == 0
 }
 
+// Whether the text begins with the word, byte by byte, since a word is short and mostly differs in its first byte.
+#[inline(always)]
+fn begins_with(text: &[u8], word: &[u8]) -> bool
+    ensures cut { word_at word.now text.now ≡ (if result then Some (drop (length word.now) text.now) else None) }
+    ensures len { IsTrue result → length word.now ≤ length text.now }
+{
+    if text.len() < word.len() {
+        return false;
+    }
+    'bytes: for i in 0..word.len() {
+        if text[i] != word[i] {
+            return false;
+        }
+    }
+    true
+}
+
 impl<'a> Reader<'a> {
     /// A reader of this input, from its first line.
     pub fn new(input: &'a [u8]) -> Reader<'a>
@@ -93,13 +110,11 @@ impl<'a> Reader<'a> {
         ensures found { word_at word.now self.old.rest.now ≡ (if result then Some self.new.rest.now else None) }
         ensures kept { (if result then self.old.rest.now else self.new.rest.now) ≡ self.old.rest.now }
     {
-        match self.rest.strip_prefix(word) {
-            Some(rest) => {
-                self.rest = rest;
-                true
-            }
-            None => false,
+        if begins_with(self.rest, word) {
+            self.rest = &self.rest[word.len()..];
+            return true;
         }
+        false
     }
 
     // Goes on behind the digits of the text, of which there are len.
