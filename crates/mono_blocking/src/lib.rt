@@ -1,11 +1,23 @@
-//! Jobs that block: a job with the runner's end of its word, and what is done with one where there is no pool.
+//! Jobs that block: a job with the runner's end of its word, the pool whose workers run such jobs, and who starts the
+//! threads of the workers.
 #![tactic(auto)]
 
+mod pool;
+#[cfg(test)]
+mod pool_tests;
+mod queue;
+mod spawner;
+mod spawners;
 mod strategy;
 mod task;
 #[cfg(test)]
 mod tests;
+mod worker;
 
 pub use mono_joinword::{JoinError, Outcome};
-pub use strategy::{BlockingHandle, BlockingStrategy};
+pub use pool::DefaultThreadPool;
+pub use spawner::{Entry, Spawner, StartFault};
+pub use spawners::{NoSpawner, ThreadSpawner};
+pub use strategy::{BlockingHandle, BlockingStrategy, NoPool, Offered, ScheduleError, ThreadPool};
 pub use task::{BlockingTask, Job, JobJoiner, JobWaker, Spent};
+pub use worker::Worker;

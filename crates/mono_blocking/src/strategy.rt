@@ -1,4 +1,12 @@
-// What a runtime does with blocking jobs.
+// What a runtime does with blocking jobs, and what a pool is.
+ghost use Rattle.std.specs.Prelude.{◌≡◌, ℕ, IsOk, ⊤};
+ghost use Rattle.mono_blocking.specs.Pool.{Offers, Schedules};
+ghost use Rattle.mono_blocking.specs.declared.strategy.Offered.TheVariants.{Here};
+
+use crate::task::{BlockingTask, Job};
+use mono_model::Host;
+use std::alloc::Global;
+use std::marker::PhantomData;
 
 /// What is done with a blocking job where no pool is attached.
 #[derive(Clone, Copy, Debug)]
@@ -16,4 +24,103 @@ pub enum BlockingHandle<P> {
     Attached(P),
     /// There is no pool.
     Empty(BlockingStrategy),
+}
+
+/// Why a pool did not take a task. The task comes back.
+#[derive(Drop)]
+pub enum ScheduleError<J: Job> {
+    /// There was no memory for it.
+    Memory(BlockingTask<J>),
+    /// The pool refused it, and counted a refusal.
+    Refused(BlockingTask<J>),
+}
+
+/// What a pool does with a task that it is offered.
+#[derive(Clone, Copy, Debug, PartialEq, Eq)]
+pub enum Offered {
+    /// It took the task.
+    Taken,
+    /// The task is to be run on the caller.
+    Here,
+    /// There was no memory for it.
+    Memory,
+    /// It refuses the task, and counted a refusal.
+    Refused,
+}
+
+/// What runs blocking tasks. Whoever has a task calls `schedule_task`; a pool writes what it does with one (`offer`).
+pub trait ThreadPool {
+    /// The jobs that it runs.
+    type Job: Job;
+
+    /// How often it refused a task, which never falls. A count of 2^64 - 1 counts as risen.
+    ghost refusals: { Self → ℕ };
+
+    /// Whether it runs each task on the caller, from now on.
+    ghost runs_here: { Self → Type 0 } = { λ _. ⊥ };
+
+    /// Takes the task out of `task`, or leaves that same task there (`offer`): to be run on the caller, or since there
+    /// is no memory, or refused, which comes only where the count of refusals rose in this call.
+    fn offer<R: Host>(
+        &mut self,
+        rt: &R,
+        alloc: Global,
+        task: &mut Option<BlockingTask<Self::Job>>,
+    ) -> Offered
+        ensures offer { Offers task.old task.new (refusals self.old) (refusals self.new) result }
+        ensures here { runs_here self.old → (result ≡ Here) × runs_here self.new };
+
+    /// Takes a task, to run it here or elsewhere. Where it does not, the same task comes back. It is refused only where
+    /// the count of refusals rose in this call (`answer`). A pool that runs each task on the caller always answers Ok
+    /// (`here`).
+    final fn schedule_task<R: Host>(
+        &mut self,
+        rt: &R,
+        alloc: Global,
+        task: BlockingTask<Self::Job>,
+    ) -> Result<(), ScheduleError<Self::Job>>
+        ensures answer { Schedules task (refusals self.old) (refusals self.new) result }
+        ensures here { runs_here self.old → (IsOk result) × runs_here self.new }
+    {
+        let mut left = Some(task);
+        let offered = self.offer(rt, alloc, &mut left);
+        let Some(task) = left else {
+            return Ok(());
+        };
+        match offered {
+            Offered::Taken => unreachable!(),
+            Offered::Here => {
+                drop(task.run(rt));
+                Ok(())
+            }
+            Offered::Memory => Err(ScheduleError::Memory(task)),
+            Offered::Refused => Err(ScheduleError::Refused(task)),
+        }
+    }
+}
+
+/// A pool that is never attached: it has no thread, and each task is run on the caller.
+#[derive(Drop)]
+pub struct NoPool<J> {
+    marker: PhantomData<J>,
+}
+
+impl<J: Job> ThreadPool for NoPool<J> {
+    type Job = J;
+
+    ghost refusals = { λ _. 0 };
+
+    ghost runs_here = { λ _. ⊤ };
+
+    fn offer<R: Host>(
+        &mut self,
+        _rt: &R,
+        _alloc: Global,
+        task: &mut Option<BlockingTask<J>>,
+    ) -> Offered
+        ensures offer { Offers task.old task.new 0 0 result }
+        ensures here { ⊤ → (result ≡ Here) × ⊤ }
+    {
+        Offered::Here
+    }
 }

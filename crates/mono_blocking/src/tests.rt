@@ -1,4 +1,4 @@
-// Each public function on its happy path, and what a drop does.
+// A task and its joiner: each public function on its happy path, and what a drop does.
 use super::*;
 use mono_inbox::{Inbox, NoUnpark, RemoteWaker};
 use mono_model::{Host, Poll};
@@ -7,7 +7,7 @@ use std::test::Fail;
 
 /// Gives its number.
 #[derive(Drop)]
-struct Gives(u64);
+pub(crate) struct Gives(pub(crate) u64);
 
 impl Outcome for Gives {
     ghost output_number = { λ job. job.0 };

@@ -1,0 +1,103 @@
+// The locked queue of a pool.
+ghost use Rattle.std.specs.Prelude.{◌≡◌, ◌↔◌, IsTrue, true, false, [], ◌∷◌, ◌++◌, OnOk, OnErr, IfErr, MatchOption};
+
+use mono_model::Host;
+use std::alloc::Global;
+use std::collections::VecDeque;
+use std::sync::{Condvar, Mutex};
+
+/// What waits for a worker, in order, and whether the pool is closed.
+#[derive(Drop)]
+pub(crate) struct QueueState<T> {
+    waiting: VecDeque<T>,
+    is_closed: bool,
+}
+
+impl<T: Drop> QueueState<T> {
+    /// Nothing waits, and the pool is open.
+    fn new(alloc: Global) -> QueueState<T>
+        ensures waiting { result.waiting.items ≡ [] }
+        ensures open { result.is_closed ≡ false }
+    {
+        QueueState {
+            waiting: VecDeque::new(alloc),
+            is_closed: false,
+        }
+    }
+
+    /// Puts an item last. Where memory is refused it comes back, and nothing changes.
+    fn put(&mut self, item: T) -> Result<(), T>
+        ensures put { OnOk result (self.new.waiting.items ≡ self.old.waiting.items ++ item ∷ []) }
+        ensures refused { IfErr result (λ back. (back ≡ item) × (self.new.waiting.items ≡ self.old.waiting.items)) }
+        ensures closed { self.new.is_closed ≡ self.old.is_closed }
+    {
+        if self.waiting.reserve(1).is_err() {
+            return Err(item);
+        }
+        self.waiting.push_back_reserved(item);
+        Ok(())
+    }
+
+    /// Takes the first item. None exactly where nothing waits.
+    fn take(&mut self) -> Option<T>
+        ensures taken { MatchOption result ((self.old.waiting.items ≡ []) × (self.new.waiting.items ≡ [])) (λ item. self.old.waiting.items ≡ item ∷ self.new.waiting.items) }
+        ensures closed { self.new.is_closed ≡ self.old.is_closed }
+    {
+        self.waiting.pop_front()
+    }
+
+    /// Closes the pool. What waits still waits.
+    fn close(&mut self)
+        ensures closed { self.new.is_closed ≡ true }
+        ensures waiting { self.new.waiting.items ≡ self.old.waiting.items }
+    {
+        self.is_closed = true;
+    }
+
+    /// Whether a worker has to wait: nothing waits for it, and the pool is open.
+    fn is_idle(&self) -> bool
+        ensures { IsTrue result ↔ (self.now.waiting.items ≡ []) × (self.now.is_closed ≡ false) }
+    {
+        self.waiting.is_empty() && !self.is_closed
+    }
+}
+
+/// The queue under its lock, and what tells workers of a change.
+#[derive(Drop)]
+pub(crate) struct Queue<T> {
+    state: Mutex<QueueState<T>>,
+    changed: Condvar,
+}
+
+impl<T: Drop> Queue<T> {
+    /// An open queue in which nothing waits.
+    pub(crate) fn new(alloc: Global) -> Queue<T> {
+        Queue {
+            state: Mutex::new(QueueState::new(alloc)),
+            changed: Condvar::new(),
+        }
+    }
+
+    /// Puts an item last, and tells one worker. Where memory is refused the item comes back.
+    pub(crate) fn put<R: Host>(&self, rt: &R, item: T) -> Result<(), T>
+        ensures { IfErr result (λ back. back ≡ item) }
+    {
+        self.state.lock(rt).put(item)?;
+        self.changed.notify_one();
+        Ok(())
+    }
+
+    /// Waits for an item and takes the first. None only where the pool is closed and nothing waits.
+    pub(crate) fn next<R: Host>(&self, rt: &R) -> Option<T> {
+        let mut state = self
+            .changed
+            .wait_while(rt, self.state.lock(rt), |state| state.is_idle());
+        state.take()
+    }
+
+    /// Closes the pool, and tells all workers.
+    pub(crate) fn close<R: Host>(&self, rt: &R) {
+        self.state.lock(rt).close();
+        self.changed.notify_all();
+    }
+}
