@@ -1,5 +1,5 @@
 -- What a pool does with a task, and what it answers, by the counts of its refusals before and after.
-use Rattle.std.specs.Prelude.{◌≡◌, ℕ, ◌≤◌, Option, Some, None, Result, Ok, Err}
+use Rattle.std.specs.Prelude.{◌≡◌, ℕ, ◌≤◌, Option, None, Result, Ok, Err}
 use Rattle.mono_joinword.specs.declared.outcome.Outcome.{Ghosts}
 use Rattle.mono_blocking.specs.Counts.{HasRisen}
 use Rattle.mono_blocking.specs.declared.task.BlockingTask.{BlockingTask}

@@ -7,22 +7,56 @@ use crate::spawner::Spawner;
 use std::alloc::Global;
 use std::thread::{JoinHandle, Threads};
 
+/// How often a spawner was asked, and how often it refused. Both end at 2^64 - 1.
+#[derive(Drop)]
+struct Asked {
+    starts: u64,
+    refusals: u64,
+}
+
+impl Asked {
+    /// It was never asked.
+    fn never() -> Asked
+        ensures starts { result.starts ≡ 0 }
+        ensures refusals { result.refusals ≡ 0 }
+    {
+        Asked {
+            starts: 0,
+            refusals: 0,
+        }
+    }
+
+    /// Counts a start.
+    fn count(&mut self)
+        ensures starts { self.new.starts ≡ counted_by 1 self.old.starts }
+        ensures refusals { self.new.refusals ≡ self.old.refusals }
+    {
+        self.starts = self.starts.saturating_add(1);
+    }
+
+    /// Counts a refusal.
+    fn refuse(&mut self)
+        ensures starts { self.new.starts ≡ self.old.starts }
+        ensures refusals { self.new.refusals ≡ counted_by 1 self.old.refusals }
+    {
+        self.refusals = self.refusals.saturating_add(1);
+    }
+}
+
 /// Refuses each start.
 #[derive(Drop)]
 pub struct NoSpawner {
-    starts: u64,
-    refusals: u64,
+    asked: Asked,
 }
 
 impl NoSpawner {
     /// A spawner that was never asked: both counts are 0.
     pub fn new() -> NoSpawner
-        ensures starts { result.starts ≡ 0 }
-        ensures refusals { result.refusals ≡ 0 }
+        ensures starts { result.asked.starts ≡ 0 }
+        ensures refusals { result.asked.refusals ≡ 0 }
     {
         NoSpawner {
-            starts: 0,
-            refusals: 0,
+            asked: Asked::never(),
         }
     }
 }
@@ -30,34 +64,34 @@ impl NoSpawner {
 impl Spawner for NoSpawner {
     type Entry = ();
 
-    ghost starts = { λ spawner. spawner.starts };
+    ghost starts = { λ spawner. spawner.asked.starts };
 
-    ghost refusals = { λ spawner. spawner.refusals };
+    ghost refusals = { λ spawner. spawner.asked.refusals };
 
     fn admit(&mut self) -> Option<()>
-        ensures starts { self.new.starts ≡ counted_by 1 self.old.starts }
+        ensures starts { self.new.asked.starts ≡ counted_by 1 self.old.asked.starts }
         ensures none { IsNone result }
-        ensures admitted { IfSome result (λ _. ⊤ × (self.new.refusals ≡ self.old.refusals)) }
-        ensures refused { IfNone result (self.new.refusals ≡ counted_by 1 self.old.refusals) }
+        ensures admitted { IfSome result (λ _. ⊤ × (self.new.asked.refusals ≡ self.old.asked.refusals)) }
+        ensures refused { IfNone result (self.new.asked.refusals ≡ counted_by 1 self.old.asked.refusals) }
     {
-        self.starts = self.starts.saturating_add(1);
-        self.refusals = self.refusals.saturating_add(1);
+        self.asked.count();
+        self.asked.refuse();
         None
     }
 
     fn keep(&mut self, thread: JoinHandle<()>)
         requires { ⊤ }
-        ensures starts { self.new.starts ≡ self.old.starts }
-        ensures refusals { self.new.refusals ≡ self.old.refusals }
+        ensures starts { self.new.asked.starts ≡ self.old.asked.starts }
+        ensures refusals { self.new.asked.refusals ≡ self.old.asked.refusals }
     {
         drop(thread);
     }
 
     fn refuse(&mut self)
-        ensures starts { self.new.starts ≡ self.old.starts }
-        ensures refusals { self.new.refusals ≡ counted_by 1 self.old.refusals }
+        ensures starts { self.new.asked.starts ≡ self.old.asked.starts }
+        ensures refusals { self.new.asked.refusals ≡ counted_by 1 self.old.asked.refusals }
     {
-        self.refusals = self.refusals.saturating_add(1);
+        self.asked.refuse();
     }
 }
 
@@ -65,24 +99,22 @@ impl Spawner for NoSpawner {
 #[derive(Drop)]
 pub struct ThreadSpawner {
     threads: Vec<JoinHandle<()>>,
-    starts: u64,
-    refusals: u64,
+    asked: Asked,
 }
 
 impl ThreadSpawner {
     /// A spawner that was never asked: it has no thread, and both counts are 0.
     pub fn new(alloc: Global) -> ThreadSpawner
-        ensures starts { result.starts ≡ 0 }
-        ensures refusals { result.refusals ≡ 0 }
+        ensures starts { result.asked.starts ≡ 0 }
+        ensures refusals { result.asked.refusals ≡ 0 }
     {
         ThreadSpawner {
             threads: Vec::new(alloc),
-            starts: 0,
-            refusals: 0,
+            asked: Asked::never(),
         }
     }
 
-    /// Waits for each thread that was started. It returns once each pool whose workers they run was closed.
+    /// Waits for each thread that was started. Close each pool whose workers they run first: until then they do not end.
     pub fn join<R: Threads>(self, rt: &R) {
         for thread in self.threads {
             thread.join(rt);
@@ -90,23 +122,24 @@ impl ThreadSpawner {
     }
 }
 
+/// A start is refused where there is no memory to keep a thread, or where the system makes none.
 impl Spawner for ThreadSpawner {
     type Entry = ();
 
-    ghost starts = { λ spawner. spawner.starts };
+    ghost starts = { λ spawner. spawner.asked.starts };
 
-    ghost refusals = { λ spawner. spawner.refusals };
+    ghost refusals = { λ spawner. spawner.asked.refusals };
 
     ghost can_keep = { λ spawner. vec_len spawner.threads < vec_capacity spawner.threads };
 
     fn admit(&mut self) -> Option<()>
-        ensures starts { self.new.starts ≡ counted_by 1 self.old.starts }
-        ensures admitted { IfSome result (λ _. (vec_len self.new.threads < vec_capacity self.new.threads) × (self.new.refusals ≡ self.old.refusals)) }
-        ensures refused { IfNone result (self.new.refusals ≡ counted_by 1 self.old.refusals) }
+        ensures starts { self.new.asked.starts ≡ counted_by 1 self.old.asked.starts }
+        ensures admitted { IfSome result (λ _. (vec_len self.new.threads < vec_capacity self.new.threads) × (self.new.asked.refusals ≡ self.old.asked.refusals)) }
+        ensures refused { IfNone result (self.new.asked.refusals ≡ counted_by 1 self.old.asked.refusals) }
     {
-        self.starts = self.starts.saturating_add(1);
+        self.asked.count();
         if self.threads.reserve(1).is_err() {
-            self.refuse();
+            self.asked.refuse();
             return None;
         }
         Some(())
@@ -114,16 +147,16 @@ impl Spawner for ThreadSpawner {
 
     fn keep(&mut self, thread: JoinHandle<()>)
         requires { vec_len self.old.threads < vec_capacity self.old.threads }
-        ensures starts { self.new.starts ≡ self.old.starts }
-        ensures refusals { self.new.refusals ≡ self.old.refusals }
+        ensures starts { self.new.asked.starts ≡ self.old.asked.starts }
+        ensures refusals { self.new.asked.refusals ≡ self.old.asked.refusals }
     {
         self.threads.push_reserved(thread);
     }
 
     fn refuse(&mut self)
-        ensures starts { self.new.starts ≡ self.old.starts }
-        ensures refusals { self.new.refusals ≡ counted_by 1 self.old.refusals }
+        ensures starts { self.new.asked.starts ≡ self.old.asked.starts }
+        ensures refusals { self.new.asked.refusals ≡ counted_by 1 self.old.asked.refusals }
     {
-        self.refusals = self.refusals.saturating_add(1);
+        self.asked.refuse();
     }
 }
