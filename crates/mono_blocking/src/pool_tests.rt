@@ -1,5 +1,6 @@
-// Pools: without workers, with two, and one that refuses.
-ghost use Rattle.std.specs.Prelude.{◌≡◌};
+// Pools: without workers, with two, with a spawner of its own, and one that refuses.
+ghost use Rattle.std.specs.Prelude.{◌≡◌, ◌<◌, IfNone, IfSome};
+ghost use Rattle.std.specs.Vec.{vec_len, vec_capacity};
 ghost use Rattle.mono_blocking.specs.Counts.{counted_by};
 ghost use Rattle.mono_blocking.specs.Pool.{Offers};
 ghost use Rattle.mono_blocking.specs.declared.strategy.Offered.TheVariants.{Here};
@@ -12,6 +13,7 @@ use std::alloc::{AllocError, Global};
 use std::sync::Arc;
 use std::sync::atomic::{AtomicU64, Ordering};
 use std::test::Fail;
+use std::thread::JoinHandle;
 
 /// A waker of task 0 for a joiner.
 fn waker<R: Host>(rt: &R, alloc: Global) -> Result<JobWaker<NoUnpark>, AllocError> {
@@ -150,6 +152,83 @@ fn two_workers_run_two_jobs_at_once(rt: HostRuntime) -> Result<(), Fail> {
     };
     assert!(rt; matches!(answer(&rt, alloc, first)?, Some((1, true))));
     assert!(rt; matches!(answer(&rt, alloc, second)?, Some((2, true))));
+    Ok(())
+}
+
+/// Sets the flag.
+#[derive(Drop)]
+struct Sets(Arc<AtomicU64, Global>);
+
+impl Entry for Sets {
+    fn enter(self) {
+        self.0.store(1, Ordering::SeqCst);
+    }
+}
+
+/// Starts threads that set a flag before they run their worker.
+#[derive(Drop)]
+struct SetsFirst {
+    inner: ThreadSpawner,
+    flag: Arc<AtomicU64, Global>,
+}
+
+impl Spawner for SetsFirst {
+    type Entry = Sets;
+
+    ghost starts = { λ spawner. spawner.inner.asked.starts };
+
+    ghost refusals = { λ spawner. spawner.inner.asked.refusals };
+
+    ghost can_keep = { λ spawner. vec_len spawner.inner.threads < vec_capacity spawner.inner.threads };
+
+    fn admit(&mut self) -> Option<Sets>
+        ensures starts { self.new.inner.asked.starts ≡ counted_by 1 self.old.inner.asked.starts }
+        ensures admitted { IfSome result (λ _. (vec_len self.new.inner.threads < vec_capacity self.new.inner.threads) × (self.new.inner.asked.refusals ≡ self.old.inner.asked.refusals)) }
+        ensures refused { IfNone result (self.new.inner.asked.refusals ≡ counted_by 1 self.old.inner.asked.refusals) }
+    {
+        self.inner.admit()?;
+        match Arc::try_clone(&self.flag) {
+            Ok(flag) => Some(Sets(flag)),
+            Err(_) => {
+                self.inner.refuse();
+                None
+            }
+        }
+    }
+
+    fn keep(&mut self, thread: JoinHandle<()>)
+        requires { vec_len self.old.inner.threads < vec_capacity self.old.inner.threads }
+        ensures starts { self.new.inner.asked.starts ≡ self.old.inner.asked.starts }
+        ensures refusals { self.new.inner.asked.refusals ≡ self.old.inner.asked.refusals }
+    {
+        self.inner.keep(thread);
+    }
+
+    fn refuse(&mut self)
+        ensures starts { self.new.inner.asked.starts ≡ self.old.inner.asked.starts }
+        ensures refusals { self.new.inner.asked.refusals ≡ counted_by 1 self.old.inner.asked.refusals }
+    {
+        self.inner.refuse();
+    }
+}
+
+#[test]
+fn a_thread_enters_before_its_worker(rt: HostRuntime) -> Result<(), Fail> {
+    let alloc = rt.alloc();
+    let flag = Arc::new(alloc, AtomicU64::new(0))?;
+    let mut spawner = SetsFirst {
+        inner: ThreadSpawner::new(alloc),
+        flag: Arc::try_clone(&flag)?,
+    };
+    let mut pool = DefaultThreadPool::new(&rt, alloc, 1, &mut spawner)?;
+    let joiner = schedule(&rt, alloc, &mut pool, Meets { number: 1, flag });
+    pool.close(&rt);
+    let SetsFirst { inner, flag: _flag } = spawner;
+    inner.join(&rt);
+    let Some(joiner) = joiner else {
+        return Err("the job was not taken".into());
+    };
+    assert!(rt; matches!(answer(&rt, alloc, joiner)?, Some((1, true))));
     Ok(())
 }
 
