@@ -4,9 +4,10 @@ ghost use Rattle.mono_rt.specs.Machine.{Machine, start_machine};
 ghost use Rattle.mono_rt.specs.Steps.{Step, Run};
 
 use crate::parts::Parts;
-use crate::{Blocking, Event, Limits, Report};
+use crate::{Blocking, Event, Limits, List, Reply, Report};
 use mono_time::Timers;
 use std::alloc::{AllocError, Global};
+use std::mem;
 
 /// An executor: tasks with their queue, jobs, sleeps, and the inbox of wakes from other threads.
 ///
@@ -41,13 +42,30 @@ impl Exec {
     pub fn apply(&mut self, alloc: Global, event: &Event) -> Result<Report, AllocError>
         ensures { IfOk result (λ report. (m : Machine) → Stands self.old m → (new : Machine) × Step m event.now report new × Stands self.new new) }
     {
+        let mut spare = List::new(alloc);
+        self.apply_reusing(alloc, event, &mut spare)
+    }
+
+    /// As `apply`, by the same step of the machine (`Step`).
+    ///
+    /// The spare list is used for the replies of a turn, so that the list of an earlier report can serve again. Nothing
+    /// else is done with it.
+    pub fn apply_reusing(
+        &mut self,
+        alloc: Global,
+        event: &Event,
+        spare: &mut List<Reply>,
+    ) -> Result<Report, AllocError>
+        ensures { IfOk result (λ report. (m : Machine) → Stands self.old m → (new : Machine) × Step m event.now report new × Stands self.new new) }
+    {
         match event {
             Event::Act(act) => {
                 let reply = self.parts.act(alloc, *act)?;
                 Ok(Report::Reply(reply))
             }
             Event::Turn(steps, end) => {
-                let report = self.parts.turn(alloc, steps.as_slice(), *end)?;
+                let replies = mem::replace(spare, List::new(alloc));
+                let report = self.parts.turn(alloc, replies, steps.as_slice(), *end)?;
                 Ok(report)
             }
             Event::Clock(n) => {

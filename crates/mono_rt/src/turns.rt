@@ -10,18 +10,19 @@ use mono_task::Poll;
 use std::alloc::{AllocError, AllocFailed, Global};
 
 impl Parts {
-    /// Each step in order, with its reply.
+    /// Each step in order, with its reply. The list is emptied, and its memory used for the replies.
     fn steps(
         &mut self,
         alloc: Global,
         me: u64,
+        mut replies: List<Reply>,
         steps: &[TurnStep],
     ) -> Result<List<Reply>, AllocError>
         ensures replies { IfOk result (λ r. (m : Machine) → Matches self.old m → r ≡ replies_of me steps.now m) }
         ensures matches { OnOk result ((m : Machine) → Matches self.old m → Matches self.new (after_steps me steps.now m)) }
         ensures turn { self.new.tasks.turn ≡ self.old.tasks.turn }
     {
-        let mut replies = List::new(alloc);
+        replies.clear();
         for step in steps {
             let reply = self.step(alloc, me, *step)?;
             replies.push(reply)?;
@@ -50,6 +51,7 @@ impl Parts {
         &mut self,
         alloc: Global,
         me: u64,
+        spare: List<Reply>,
         steps: &[TurnStep],
         end: End,
     ) -> Result<Report, AllocError>
@@ -58,15 +60,17 @@ impl Parts {
         ensures matches { OnOk result ((m : Machine) → Matches self.old m → IsValidDuring (Some me) m → Matches self.new (after_end end me (after_steps me steps.now m))) }
         ensures rest { self.new.tasks.turn ≡ None }
     {
-        let replies = self.steps(alloc, me, steps);
+        let replies = self.steps(alloc, me, spare, steps);
         let ended = self.end(me, end);
         Ok(Report::Turn(me, replies?, ended))
     }
 
-    /// A turn of the task at the queue's front. Where no task is queued it is refused, and no step is done.
+    /// A turn of the task at the queue's front. Where no task is queued it is refused, and no step is done. The spare list
+    /// is used for the replies.
     pub fn turn(
         &mut self,
         alloc: Global,
+        spare: List<Reply>,
         steps: &[TurnStep],
         end: End,
     ) -> Result<Report, AllocError>
@@ -78,7 +82,7 @@ impl Parts {
         match self.tasks.begin_turn() {
             Err(_) => Ok(Report::Reply(Reply::Refused(Refusal::Idle))),
             Ok(me) => {
-                let report = self.turn_of(alloc, me, steps, end)?;
+                let report = self.turn_of(alloc, me, spare, steps, end)?;
                 Ok(report)
             }
         }
