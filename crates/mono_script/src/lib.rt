@@ -15,6 +15,7 @@ mod top;
 
 pub use laws::one_answer;
 pub use memory::{MemSink, MemSource};
+pub use mono_blocking::{NoSpawner, ThreadSpawner};
 pub use plain::{PlainSink, PlainSource};
 pub use printer::report_line;
 pub use reader::Reader;
