@@ -2,3 +2,5 @@ pub mod Failing
 pub mod Selecting
 pub mod Lists
 mod Trying
+mod Rounds
+mod Ending

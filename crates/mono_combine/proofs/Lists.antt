@@ -15,7 +15,7 @@ use Rattle.mono_combine.specs.Listed.{EachInTurn, MayPoll, AllMayPoll, AllCanPol
 pub here : {M : Type 0} (xs : List M) (i : ℕ) (m : M) → i < length xs → m ≡ get_or xs i m → drop i xs ≡ m ∷ drop (i + 1) xs
 here xs i m less is = rw add-one (drop-cons xs i m less ∙ ap (λ x. x ∷ drop (suc i) xs) (sym is))
 
-or_assoc : (a b c : Bool) → ((a || b) || c) ≡ (a || (b || c))
+pub or_assoc : (a b c : Bool) → ((a || b) || c) ≡ (a || (b || c))
 or_assoc true b c = refl
 or_assoc false b c = refl
 

@@ -10,3 +10,4 @@ pub mod TryJoined
 pub mod Selected
 pub mod Listed
 pub mod TryListed
+pub mod ListSelected

@@ -1,6 +1,6 @@
 -- A branch of a select: its turn, and how it is given up.
-use Rattle.std.specs.Prelude.{◌≡◌, ⊤, Bool, true, false}
-use Rattle.std.specs.Fn.{Shared, FnReturnsAt}
+use Rattle.std.specs.Prelude.{◌≡◌, ℕ, ⊤, Bool, true, false}
+use Rattle.std.specs.Fn.{Shared, FnReturns, FnReturnsAt}
 use denote.Ref.{Bor}
 use Rattle.mono_task.specs.Members.{FutureOf}
 use Rattle.mono_model.specs.declared.poll.Poll.{Poll}
@@ -38,10 +38,11 @@ abbrev pub passes_if : {O : Type 0} → Bool → O → Look O
 passes_if true x = Passes x
 passes_if false x = Rests
 
-module _ {T P C O : Type 0} (future : FutureOf T C O) (call : Shared P (Bor O × Unit {0}) Bool) (test : P) where
-  -- a branch that was ready is out from then on, and its future is given up at once
+module _ {T C O : Type 0} (future : FutureOf T C O) (says : O → Bool → Type 0) where
+  -- a branch that was ready is out from then on, and its future is given up at once; its predicate says of the output
+  -- whether the branch passes
   abbrev pub AfterPoll : Poll O → T → C → Look O → Branch T → C → Type 0
-  AfterPoll (Ready x) left c look b d = future.cancels left c d × (b ≡ Gone) × ((is_true : Bool) × FnReturnsAt call test x is_true × (look ≡ passes_if is_true x))
+  AfterPoll (Ready x) left c look b d = future.cancels left c d × (b ≡ Gone) × ((is_true : Bool) × says x is_true × (look ≡ passes_if is_true x))
   AfterPoll Pending left c look b d = (look ≡ Waits) × (b ≡ Live left) × (d ≡ c)
 
   pub record IsPolled (f : T) (c : C) (look : Look O) (b : Branch T) (d : C) : Type 0 where
@@ -52,7 +53,21 @@ module _ {T P C O : Type 0} (future : FutureOf T C O) (call : Shared P (Bor O ×
     pub rest : AfterPoll answer left middle look b d
 
   -- the turn of a branch: a live one is polled, and any other stays as it is
-  abbrev pub HasTurn : Branch T → C → Look O → Branch T → C → Type 0
-  HasTurn (Live f) c look b d = IsPolled f c look b d
-  HasTurn (Out f) c look b d = (b ≡ Out f) × (d ≡ c)
-  HasTurn Gone c look b d = (b ≡ Gone) × (d ≡ c)
+  abbrev pub TurnBy : Branch T → C → Look O → Branch T → C → Type 0
+  TurnBy (Live f) c look b d = IsPolled f c look b d
+  TurnBy (Out f) c look b d = (b ≡ Out f) × (d ≡ c)
+  TurnBy Gone c look b d = (b ≡ Gone) × (d ≡ c)
+
+-- the turn of a branch whose predicate is asked of the output
+abbrev pub HasTurn : {T P C O : Type 0} → FutureOf T C O → Shared P (Bor O × Unit {0}) Bool → P → Branch T → C → Look O → Branch T → C → Type 0
+HasTurn future call test b c look b' d = TurnBy future (FnReturnsAt call test) b c look b' d
+
+-- a call of a predicate at a number and a `&` to x
+pub record ReturnsFor {P O : Type 0} (call : Shared P (ℕ × (Bor O × Unit {0})) Bool) (test : P) (number : ℕ) (x : O) (is_true : Bool) : Type 0 where
+  pub shown : Bor O
+  pub shows : shown.now ≡ x
+  pub says : FnReturns call test (number, (shown, tt)) is_true
+
+-- the turn of a branch whose predicate is asked of its number and the output
+abbrev pub HasTurnAt : {T P C O : Type 0} → FutureOf T C O → Shared P (ℕ × (Bor O × Unit {0})) Bool → P → ℕ → Branch T → C → Look O → Branch T → C → Type 0
+HasTurnAt future call test number b c look b' d = TurnBy future (ReturnsFor call test number) b c look b' d

@@ -2,6 +2,7 @@
 ghost use Rattle.std.specs.Prelude.{◌≡◌, false};
 ghost use Rattle.mono_combine.specs.Looks.{is_out, branch_spent, BranchCanPoll, BranchCancels, HasTurn};
 ghost use Rattle.mono_combine.specs.Rules.{unless_masked};
+ghost use Rattle.mono_combine.specs.Selected.{left_out_if};
 
 use mono_model::{Host, Poll};
 use mono_task::{Context, TaskFuture};
@@ -28,6 +29,17 @@ pub(crate) enum Branch<T> {
     Out(T),
     // It was ready, or the select has answered; its future was given up.
     Gone,
+}
+
+// A branch that the mask leaves out where its bit is set.
+pub(crate) fn branch_of<T>(future: T, is_left_out: bool) -> Branch<T>
+    ensures { result ≡ left_out_if is_left_out future }
+{
+    if is_left_out {
+        Branch::Out(future)
+    } else {
+        Branch::Live(future)
+    }
 }
 
 impl<T> Branch<T> {

@@ -4,7 +4,7 @@ ghost use Rattle.mono_model.specs.Poll.{OnPending};
 ghost use Rattle.mono_combine.specs.Looks.{branch_spent, BranchCanPoll};
 ghost use Rattle.mono_combine.specs.Selected.{Selects, SelectPolls, SelectCancels, select_spent, as_second, as_first, then_look, or_disabled, left_out_if};
 
-use crate::branch::{Branch, Look};
+use crate::branch::{Branch, Look, branch_of};
 use crate::start::Start;
 use mono_model::{Host, Poll};
 use mono_task::{Context, TaskFuture};
@@ -34,17 +34,6 @@ pub struct Select2<A, B, G, H> {
     second_test: H,
     start: Start,
     has_answered: bool,
-}
-
-// A branch that the mask leaves out where its bit is set.
-fn branch_of<T>(future: T, is_left_out: bool) -> Branch<T>
-    ensures { result ≡ left_out_if is_left_out future }
-{
-    if is_left_out {
-        Branch::Out(future)
-    } else {
-        Branch::Live(future)
-    }
 }
 
 // What is picked where this is the answer of the branch that had its turn last.

@@ -7,8 +7,8 @@ ghost use Rattle.mono_task.specs.Work.{without_outputs};
 
 use crate::example::join_waits;
 use crate::{
-    FastRand, Join2, JoinList, MaybeDone, Out2, Select2, Start, TryJoin2, TryJoinList, maybe_done,
-    poll_fn,
+    FastRand, Join2, JoinList, MaybeDone, Out, Out2, Select2, SelectList, Start, TryJoin2,
+    TryJoinList, maybe_done, poll_fn,
 };
 use mono_model::{Host, Poll};
 use mono_task::{Context, SpawnTask, TaskError, TaskFuture, Tasks, Woke};
@@ -360,6 +360,89 @@ fn lists(rt: HostRuntime) {
     assert_eq!(rt;
         join_all(&rt, alloc, 1),
         Ok((Poll::Ready((1, 2, 3)), 1623827))
+    );
+}
+
+/// One poll of a biased select of four ready branches.
+fn pick<R: Host>(rt: &R, alloc: Global, mask: u64) -> Result<Poll<Out<u64>>, SpawnTask> {
+    let mut cx = empty_desk(alloc)?;
+    let (a, b) = branches((0, 0), (1, 2));
+    let (c, d) = branches((0, 0), (3, 4));
+    let steps = match vec![in alloc; a, b, c, d] {
+        Ok(steps) => steps,
+        Err(_) => return Err(SpawnTask::Memory),
+    };
+    let Ok(mut form) = SelectList::new(alloc, steps, |_: u32, _: &u64| true, mask, Start::Biased)
+    else {
+        return Err(SpawnTask::Memory);
+    };
+    Ok(form.poll(rt, alloc, &mut cx))
+}
+
+#[test]
+fn picks(rt: HostRuntime) {
+    let alloc = rt.alloc();
+    // the count goes from 0 on, the branch i is enabled where it is below i + 1, and its output is the next count
+    let cases = [
+        (0, Out::Picked(0, 1)),
+        (1, Out::Picked(1, 2)),
+        (3, Out::Picked(2, 3)),
+        (7, Out::Picked(3, 4)),
+        (15, Out::Disabled),
+    ];
+    for (mask, answer) in cases {
+        assert_eq!(rt; pick(&rt, alloc, mask), Ok(Poll::Ready(answer)));
+    }
+}
+
+type PickedOne = (Poll<Out<u64>>, u64);
+
+/// At most two polls of a select of three, of which the last passes always and the others with an even value.
+fn select_all<R: Host>(
+    rt: &R,
+    alloc: Global,
+    pair: (Step, Step),
+    mask: u64,
+    start: Start,
+) -> Result<PickedOne, SpawnTask> {
+    let mut cx = empty_desk(alloc)?;
+    let (a, b) = pair;
+    let c = Step {
+        digit: 3,
+        waits: 0,
+        value: 5,
+    };
+    let steps = match vec![in alloc; a, b, c] {
+        Ok(steps) => steps,
+        Err(_) => return Err(SpawnTask::Memory),
+    };
+    let passes = |number: u32, x: &u64| number == 2 || *x % 2 == 0;
+    let Ok(mut form) = SelectList::new(alloc, steps, passes, mask, start) else {
+        return Err(SpawnTask::Memory);
+    };
+    let last = match form.poll(rt, alloc, &mut cx) {
+        Poll::Pending => form.poll(rt, alloc, &mut cx),
+        ready => ready,
+    };
+    Ok((last, cx.notes))
+}
+
+#[test]
+fn selected_lists(rt: HostRuntime) {
+    let alloc = rt.alloc();
+    // the seed's first number is between a third and two thirds of 2 ^ 32, so the second branch has its turn first
+    let second_first = Start::Random(FastRand::new(0x8000_0000_0000_0000));
+    assert_eq!(rt;
+        select_all(&rt, alloc, branches((0, 1), (3, 4)), 0, Start::Biased),
+        Ok((Poll::Ready(Out::Picked(2, 5)), 162387))
+    );
+    assert_eq!(rt;
+        select_all(&rt, alloc, branches((0, 1), (3, 4)), 4, Start::Biased),
+        Ok((Poll::Ready(Out::Picked(1, 4)), 162278))
+    );
+    assert_eq!(rt;
+        select_all(&rt, alloc, branches((0, 0), (4, 3)), 0, second_first),
+        Ok((Poll::Ready(Out::Picked(2, 5)), 27386))
     );
 }
 

@@ -1,0 +1,14 @@
+use Rattle.std.proofs.Common.{◌≡◌, length}
+use Rattle.std.specs.List.{All}
+use Rattle.mono_combine.specs.ListSelected.{MayLook}
+use Rattle.mono_combine.proofs.Rounds.{SoFar}
+use Rattle.mono_combine.proofs.row.look_round.Given as goal
+
+-- the turns so far are those of a poll of which none has passed yet
+abbrev pub invariant-loop-turn : goal.invariant-loop-turn
+invariant-loop-turn g l = record {
+  same_length : length l.branches.items ≡ length l.initial.branches.items;
+  so_far : SoFar g.T.TaskFuture g.G.Fn l.test l.start (record { branches = l.initial.branches.items; cx = l.initial.cx }) l.turn (record { branches = l.branches.items; cx = l.cx }) l.some_wait;
+  may : All (MayLook g.T.TaskFuture) l.branches.items;
+  reached : g.C.Context.reaches l.initial.cx l.cx;
+}

@@ -1,0 +1,49 @@
+use Rattle.std.proofs.Common.{◌≡◌, ◌∙◌, false, refl, sym, ap}
+use Rattle.mono_model.specs.declared.poll.Poll.TheVariants.{Ready, Pending}
+use Rattle.mono_combine.proofs.Lists.{neither}
+use Rattle.mono_combine.proofs.Ending.{may_look, unspent_of, can_of, ended_can}
+use Rattle.mono_combine.proofs.select_list.SelectListTaskFuture.poll.Goals as goal
+
+pub look_round-requires-clause-may : goal.look_round-requires-clause-may
+look_round-requires-clause-may g c = may_look g.T.TaskFuture _ (neither _ _ c.requires.unspent).1 c.requires.callable.0
+
+pub invariant_of-self : goal.invariant_of-self
+invariant_of-self g c = record {
+  some = rw (sym (c.end_each.ensures.length ∙ c.look_round.ensures.length)) at c.args.self.now.some;
+  few = rw (sym (c.end_each.ensures.length ∙ c.look_round.ensures.length)) at c.args.self.now.few;
+}
+
+pub returns-in-Ready-clause-polled : goal.returns-in-Ready-clause-polled
+returns-in-Ready-clause-polled g c = (
+  record {
+    picked = Ready c.in-Ready.pick;
+    left = record { branches = c.look_round.new.branches.items; cx = c.look_round.new.cx };
+    selects = rw (c.in-Ready.is, c.draw-start.ensures.start, c.len-count.ensures, c.args.self.now.branches.ok.0) at c.look_round.ensures.selects;
+    ends = (ap (λ out. Ready out) c.answer_of.ensures, c.end_each.ensures.ended, refl);
+  },
+  refl,
+  c.draw-start.ensures.next,
+)
+
+pub returns-in-Ready-clause-callable : goal.returns-in-Ready-clause-callable
+returns-in-Ready-clause-callable g c = (ended_can g.T.TaskFuture _ _ _ _ c.end_each.ensures.ended, c.requires.callable.1)
+
+pub returns-in-Pending-clause-polled : goal.returns-in-Pending-clause-polled
+returns-in-Pending-clause-polled g c = (
+  record {
+    picked = Pending;
+    left = record { branches = c.look_round.new.branches.items; cx = c.look_round.new.cx };
+    selects = rw (c.in-Pending.is, c.draw-start.ensures.start, c.len-count.ensures, c.args.self.now.branches.ok.0) at c.look_round.ensures.selects;
+    ends = (refl, refl, (neither _ _ c.requires.unspent).0, refl);
+  },
+  refl,
+  c.draw-start.ensures.next,
+)
+
+pub returns-in-Pending-clause-again : goal.returns-in-Pending-clause-again
+returns-in-Pending-clause-again g c =
+    let fresh : c.args.self.now.has_answered ≡ false = (neither _ _ c.requires.unspent).0 in
+    rw fresh (unspent_of g.T.TaskFuture _ c.look_round.ensures.again)
+
+pub returns-in-Pending-clause-callable : goal.returns-in-Pending-clause-callable
+returns-in-Pending-clause-callable g c = (can_of g.T.TaskFuture _ c.look_round.ensures.again, c.requires.callable.1)

@@ -1,0 +1,10 @@
+// What a select of a list answers.
+
+/// What a select of a list of branches answers.
+#[derive(Clone, Copy, Debug, PartialEq, Eq, Drop)]
+pub enum Out<X> {
+    /// The number of the branch that was picked, from 0 on, and its output.
+    Picked(u32, X),
+    /// No branch is left that could be picked.
+    Disabled,
+}

@@ -1,0 +1,118 @@
+// Many branches of which the first that is ready and passes the predicate is the answer.
+ghost use Rattle.std.specs.Prelude.{◌≡◌, ◌≤◌, ◌<◌, ◌||◌, false, length, vec_len, IfOk, IfErr};
+ghost use Rattle.std.specs.List.{list_any, All};
+ghost use Rattle.mono_combine.specs.Looks.{branch_spent, BranchCanPoll};
+ghost use Rattle.mono_combine.specs.Starts.{next_start};
+ghost use Rattle.mono_combine.specs.ListSelected.{masked_from, SelectListPolls, RowCancels, out_of};
+
+use crate::branch::Branch;
+use crate::pick::Out;
+use crate::row::{any_branch_spent, end_each, look_round, mask_each};
+use crate::start::Start;
+use mono_model::{Host, Poll};
+use mono_task::{Context, TaskFuture};
+use std::alloc::Global;
+
+/// From 1 to 64 futures of one type of which the first that is ready and passes the predicate is the answer
+/// (`select_rule`).
+///
+/// Each poll draws anew which branch has its turn first; the others follow in the written order, round the end. A branch
+/// that is ready is given up at once and is out from then on, also where the predicate is false of its number and output.
+/// Where a branch is picked, and where none is left, the unfinished branches are given up in the written order, also
+/// those that the mask left out. It is spent once it has answered.
+#[derive(Drop)]
+pub struct SelectList<T, G> {
+    branches: Vec<Branch<T>>,
+    test: G,
+    start: Start,
+    has_answered: bool,
+    ghost some: { 0 < vec_len branches },
+    ghost few: { vec_len branches ≤ 64 },
+}
+
+// The answer of a poll that ends.
+fn answer_of<X>(pick: Option<(u32, X)>) -> Out<X>
+    ensures { result ≡ out_of pick }
+{
+    match pick {
+        Some((number, x)) => Out::Picked(number, x),
+        None => Out::Disabled,
+    }
+}
+
+impl<T: Drop, G> SelectList<T, G> {
+    /// The select of 1 to 64 futures that are not spent, with a predicate of a branch's number and its output. Bit `i` of
+    /// the mask leaves the branch with the number `i` out; further bits count for nothing. It hands the futures and the
+    /// predicate back only where memory is refused.
+    pub fn new(
+        alloc: Global,
+        v: Vec<T>,
+        g: G,
+        mask: u64,
+        start: Start,
+    ) -> Result<SelectList<T, G>, (Vec<T>, G)>
+        requires some { 0 < vec_len v }
+        requires few { vec_len v ≤ 64 }
+        ensures made { IfOk result (λ form. form.branches.items ≡ masked_from mask 0 v.items) }
+        ensures test { IfOk result (λ form. form.test ≡ g) }
+        ensures start { IfOk result (λ form. form.start ≡ start) }
+        ensures fresh { IfOk result (λ form. form.has_answered ≡ false) }
+        ensures handed_back { IfErr result (λ back. back ≡ (v, g)) }
+    {
+        let Ok(mut branches) = Vec::with_capacity(alloc, v.len()) else {
+            return Err((v, g));
+        };
+        mask_each(v.into_iter(), mask, &mut branches);
+        Ok(SelectList {
+            branches,
+            test: g,
+            start,
+            has_answered: false,
+        })
+    }
+}
+
+impl<C, T, G> TaskFuture<C> for SelectList<T, G>
+where
+    C: Context,
+    T: TaskFuture<C, Output: Drop>,
+    G: Fn(u32, &T::Output) -> bool + Drop,
+{
+    type Output = Out<T::Output>;
+
+    ghost is_spent = { λ s. s.has_answered || list_any (branch_spent T.TaskFuture) s.branches.items };
+
+    ghost can_poll = { λ s. All (BranchCanPoll T.TaskFuture) s.branches.items × G.IsAlwaysCallable s.test };
+
+    ghost polls = { λ s c r t d. SelectListPolls T.TaskFuture G.Fn s.test s.start s.branches.items c r t.branches.items t.has_answered d × (t.test ≡ s.test) × (t.start ≡ next_start s.start) };
+
+    ghost cancels = { λ s c d. RowCancels T.TaskFuture s.branches.items c d };
+
+    fn spent(&self) -> bool {
+        self.has_answered || any_branch_spent(&self.branches)
+    }
+
+    fn poll<R: Host>(&mut self, rt: &R, alloc: Global, cx: &mut C) -> Poll<Out<T::Output>> {
+        let count = self.branches.len();
+        let start = self.start.draw(count as u32);
+        match look_round(
+            rt,
+            alloc,
+            cx,
+            &mut self.branches,
+            &self.test,
+            start as usize,
+        ) {
+            Poll::Ready(pick) => {
+                end_each(cx, &mut self.branches);
+                self.has_answered = true;
+                Poll::Ready(answer_of(pick))
+            }
+            Poll::Pending => Poll::Pending,
+        }
+    }
+
+    fn cancel(mut self, cx: &mut C) {
+        end_each(cx, &mut self.branches);
+    }
+}
