@@ -1,5 +1,5 @@
 -- The turns of the branches of a list from a start on, round the end, and what the rule picks of their answers.
-use Rattle.std.proofs.Common.{◌≡◌, ◌≢◌, ℕ, zero, suc, ◌≤◌, ◌+◌, ◌-◌, ◌<◌, ◌%◌, ◌⊎◌, inl, inr, subst, ◌||◌, Bool, true, false, List, [], ◌∷◌, ◌++◌, length, get_or, set, map, refl, sym, ◌∙◌, ap, arith, Option, Some, None, add-one}
+use Rattle.std.proofs.Common.{◌≡◌, ◌≢◌, ℕ, zero, suc, ◌≤◌, ◌+◌, ◌-◌, ◌<◌, ◌%◌, ◌⊎◌, inl, inr, subst, ◌||◌, Bool, true, false, List, [], ◌∷◌, ◌++◌, length, get_or, set, map, refl, sym, ◌∙◌, ap, arith, Option, Some, None}
 use Rattle.std.specs.Prelude.{⊤}
 use Rattle.std.specs.List.{list_any, filter_map, range_with_len, cons_option, FoldsTo}
 use Rattle.std.specs.Fn.{Shared}
@@ -12,9 +12,9 @@ use denote.Ref.{Bor}
 use Rattle.mono_combine.proofs.Lists.{neither, or_assoc}
 use Rattle.mono_task.specs.Members.{FutureOf}
 use Rattle.mono_model.specs.declared.poll.Poll.{Poll}
-use Rattle.mono_model.specs.declared.poll.Poll.TheVariants.{Ready, Pending}
+use Rattle.mono_model.specs.declared.poll.Poll.TheVariants.{Ready}
 use Rattle.mono_combine.specs.declared.branch.Branch.{Branch}
-use Rattle.mono_combine.specs.declared.branch.Branch.TheVariants.{Live, Out, Gone}
+use Rattle.mono_combine.specs.declared.branch.Branch.TheVariants.{Gone}
 use Rattle.mono_combine.specs.declared.branch.Look.{Look}
 use Rattle.mono_combine.specs.declared.branch.Look.TheVariants.{Passes, Waits, Rests}
 use Rattle.mono_combine.specs.Looks.{is_out, HasTurnAt}

@@ -8,7 +8,7 @@ use Rattle.mono_combine.specs.declared.maybe.MaybeDone.{MaybeDone}
 use Rattle.mono_combine.specs.declared.maybe.MaybeDone.TheVariants.{Future, Done, Gone}
 use Rattle.mono_combine.specs.Branches.{Advances, is_waiting, output_of}
 use Rattle.mono_combine.specs.Rules.{try_join_rule, unless_failed, error_of, value_of}
-use Rattle.mono_combine.specs.Listed.{EachInTurn, AllMayPoll, AllCanPoll, AllCancel, GivesUp}
+use Rattle.mono_combine.specs.Listed.{EachInTurn, AllMayPoll, AllCanPoll, AllCancel, AllGone, GivesUp}
 use Rattle.mono_combine.specs.TryJoined.{failure_of}
 use Rattle.mono_combine.specs.TryListed.{Trying, TriesOnce, has_failed, value_in, earlier, first_failure}
 use Rattle.mono_combine.proofs.Lists.{here, any_more, or_true, turn_more, may_append}
@@ -121,6 +121,13 @@ module _ {C T X E : Type 0} (future : FutureOf T C (Result X E)) (xs : List (May
   all_may before later = rw (take-append-drop (i + 1) (set xs i n)) at (may_append future (take (i + 1) (set xs i n)) (drop (i + 1) (set xs i n)) before later)
 
 module _ {C T O : Type 0} (future : FutureOf T C O) where
+  -- nothing is left of branches that were given up
+  pub all_gone : (xs ys : List (MaybeDone C T O)) (c d : C) → EachInTurn (GivesUp future) xs c ys d → AllGone ys
+  all_gone [] [] c d h = tt
+  all_gone [] (y ∷ ys) c d h = absurd h
+  all_gone (x ∷ xs) [] c d h = absurd h
+  all_gone (x ∷ xs) (y ∷ ys) c d h = (h.1.0, all_gone xs ys h.0 d h.2)
+
   -- branches that were given up ask nothing of a poll
   pub gone_can_poll : (xs ys : List (MaybeDone C T O)) (c d : C) → EachInTurn (GivesUp future) xs c ys d → AllCanPoll future ys
   gone_can_poll [] [] c d h = tt

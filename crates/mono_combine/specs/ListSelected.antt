@@ -1,13 +1,13 @@
 -- Many branches of one type of which the first that is ready and passes the predicate is the answer.
-use Rattle.std.specs.Prelude.{◌≡◌, ℕ, ⊤, Bool, true, false, List, [], ◌∷◌, length, map, ◌+◌, ◌==◌, ◌/◌, ◌%◌, ◌^◌, Option, Some, None, slice_index_or, slice_set}
-use Rattle.std.specs.List.{FoldsTo, All}
+use Rattle.std.specs.Prelude.{◌≡◌, ℕ, Bool, true, false, List, [], ◌∷◌, length, map, ◌+◌, ◌==◌, ◌/◌, ◌%◌, ◌^◌, Option, Some, None, slice_index_or, slice_set}
+use Rattle.std.specs.List.{FoldsTo}
 use Rattle.std.specs.Fn.{Shared}
 use denote.Ref.{Bor}
 use Rattle.mono_task.specs.Members.{FutureOf}
 use Rattle.mono_model.specs.declared.poll.Poll.{Poll}
 use Rattle.mono_model.specs.declared.poll.Poll.TheVariants.{Ready, Pending}
 use Rattle.mono_combine.specs.declared.branch.Branch.{Branch}
-use Rattle.mono_combine.specs.declared.branch.Branch.TheVariants.{Live, Out, Gone}
+use Rattle.mono_combine.specs.declared.branch.Branch.TheVariants.{Gone}
 use Rattle.mono_combine.specs.declared.branch.Look.{Look}
 use Rattle.mono_combine.specs.declared.pick.Out as out
 use Rattle.mono_combine.specs.declared.pick.Out.TheVariants.{Picked, Disabled}
@@ -16,7 +16,7 @@ use Rattle.mono_combine.specs.Listed.{EachInTurn}
 use Rattle.mono_combine.specs.Looks.{is_out, branch_spent, BranchCanPoll, BranchCancels, HasTurnAt}
 use Rattle.mono_combine.specs.Rules.{look_at, select_rule, select_turns}
 use Rattle.mono_combine.specs.Selected.{left_out_if}
-use Rattle.mono_combine.specs.Starts.{start_of, next_start}
+use Rattle.mono_combine.specs.Starts.{start_of}
 
 -- the branches and the context
 pub record Row (T C : Type 0) : Type 0 where

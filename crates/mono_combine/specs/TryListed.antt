@@ -7,7 +7,7 @@ use Rattle.mono_model.specs.declared.poll.Poll.TheVariants.{Ready, Pending}
 use Rattle.mono_combine.specs.declared.maybe.MaybeDone.{MaybeDone}
 use Rattle.mono_combine.specs.declared.maybe.MaybeDone.TheVariants.{Future, Done, Gone}
 use Rattle.mono_combine.specs.Branches.{output_of}
-use Rattle.mono_combine.specs.Listed.{EachInTurn, AllCancel}
+use Rattle.mono_combine.specs.Listed.{EachInTurn, AllCancel, AllGone}
 use Rattle.mono_combine.specs.Rules.{try_join_rule}
 use Rattle.mono_combine.specs.TryJoined.{failure_of, AdvancesUnless}
 
@@ -48,7 +48,7 @@ module _ {C T X E : Type 0} (future : FutureOf T C (Result X E)) where
   TriesEach branches c polled one_failed d = EachInTurn TriesOnce branches (record { one_failed = false; cx = c }) polled (record { one_failed = one_failed; cx = d })
 
   -- each branch that is not done is polled once, in the written order, up to the first that fails; the answer is the
-  -- rule's, and where there is one the unfinished branches are given up in the written order
+  -- rule's, and where there is one the unfinished branches are given up in the written order, and nothing is left
   pub record TryJoinListPolls (branches : List (MaybeDone C T (Result X E))) (c : C) (r : Poll (Result (List X) E)) (left : List (MaybeDone C T (Result X E))) (has_answered : Bool) (d : C) : Type 0 where
     pub polled : List (MaybeDone C T (Result X E))
     pub one_failed : Bool
@@ -56,7 +56,7 @@ module _ {C T X E : Type 0} (future : FutureOf T C (Result X E)) where
     pub turns : TriesEach branches c polled one_failed after
     pub answer : r ≡ try_join_rule (map output_of polled)
     pub waits : OnPending r ((left ≡ polled) × (has_answered ≡ false) × (d ≡ after))
-    pub ends : OnReady r ((has_answered ≡ true) × AllCancel future polled after d)
+    pub ends : OnReady r ((has_answered ≡ true) × AllCancel future polled after d × AllGone left)
 
 -- the answer with a vector of values seen as the list of its items
 abbrev pub tried_as : {V X E : Type 0} → (V → List X) → Poll (Result V E) → Poll (Result (List X) E)

@@ -45,5 +45,5 @@ returns-clause-polled g c =
       turns = c.poll_each.ensures.polled;
       answer = ap (λ xs. Ready xs) (c.collect.ensures ∙ (rw (none, some) refl)) ∙ joins_all g.T.TaskFuture _ c.poll_each.ensures.again (sym c.poll_each.ensures.waits ∙ c.if-poll_each.false);
       waits = tt;
-      ends = refl;
+      ends = (refl, rw (ap (λ v. v.items) c.replace-branches.ensures.after ∙ c.new.ensures.items) tt);
     }

@@ -2,7 +2,7 @@ use Rattle.std.proofs.Common.{◌≡◌, true, false, Ok, refl, sym, ap, ◌∙�
 use Rattle.std.specs.Prelude.{vec_len}
 use Rattle.mono_model.specs.declared.poll.Poll.TheVariants.{Ready}
 use Rattle.mono_combine.proofs.Lists.{neither, may_from, can_from, unspent_from}
-use Rattle.mono_combine.proofs.Trying.{tries_waiting, tries_all, tries_failed, one_fails, nothing_left, gone_can_poll}
+use Rattle.mono_combine.proofs.Trying.{tries_waiting, tries_all, tries_failed, one_fails, nothing_left, all_gone, gone_can_poll}
 use Rattle.mono_combine.proofs.try_join_list.TryJoinListTaskFuture.poll.Goals as goal
 
 pub poll_until_failed-requires : goal.poll_until_failed-requires
@@ -19,7 +19,7 @@ returns-then-poll_until_failed-clause-polled g c = record {
   turns = rw c.if-poll_until_failed.true at c.poll_until_failed.ensures.polled;
   answer = tries_failed c.poll_until_failed.new.branches.items _ (sym c.give_up_failing.ensures.error ∙ c.in-Some.is);
   waits = tt;
-  ends = (refl, (_, c.give_up_failing.ensures.given_up));
+  ends = (refl, (_, c.give_up_failing.ensures.given_up), all_gone g.T.TaskFuture _ _ _ _ c.give_up_failing.ensures.given_up);
 }
 
 pub returns-then-poll_until_failed-clause-callable : goal.returns-then-poll_until_failed-clause-callable
@@ -68,5 +68,5 @@ returns-clause-polled g c =
       turns = rw c.if-poll_until_failed.false at c.poll_until_failed.ensures.polled;
       answer = ap (λ xs. Ready (Ok xs)) (c.collect_values.ensures ∙ (rw (none, some) refl)) ∙ tries_all g.T.TaskFuture _ c.poll_until_failed.ensures.again (sym c.poll_until_failed.ensures.failed ∙ c.if-poll_until_failed.false) waiting;
       waits = tt;
-      ends = (refl, nothing_left g.T.TaskFuture _ _ waiting);
+      ends = (refl, nothing_left g.T.TaskFuture _ _ waiting, rw (ap (λ v. v.items) c.replace-branches.ensures.after ∙ c.new.ensures.items) tt);
     }
