@@ -2,3 +2,4 @@ mod Delays
 mod Limits
 mod Races
 mod Nesting
+mod Making

@@ -4,7 +4,7 @@ ghost use Rattle.std.proofs.Common.{◌∙◌, ap};
 ghost use Rattle.mono_model.specs.Tasks.{no_tasks};
 ghost use Rattle.mono_time.specs.Timers.{sleeps_of};
 
-use crate::{Answer, Countdown, Limited, nest, race};
+use crate::{Answer, Countdown, Limited, begin, nest, race};
 use mono_combine::Out2;
 use mono_model::{Host, Poll, TaskError, Woke};
 use mono_task::{Context, TaskFuture};
@@ -112,13 +112,34 @@ fn limited(
     }
 }
 
-/// Two polls of a nest: in the first the fourth is out of time and the others wait, and in the second the first answers.
-fn two_polls<R: Host>(rt: &R, alloc: Global) -> Result<bool, Fail> {
-    let mut cx = Desk {
+/// A desk at the clock's zero.
+fn fresh_desk(alloc: Global) -> Result<Desk, Fail>
+    ensures { IfOk result (λ d. (sleeps_of d.timers).greatest ≡ 0) }
+{
+    Ok(Desk {
         now: Instant::from_nanos(0).ok_or("no instant")?,
         is_out_of_memory: false,
         timers: Timers::new(alloc, 4, true)?,
-    };
+    })
+}
+
+/// The first poll of a nest none of whose deadlines is due.
+fn first_poll<R: Host>(rt: &R, alloc: Global) -> Result<bool, Fail> {
+    let mut cx = fresh_desk(alloc)?;
+    let at = Instant::from_nanos(10000000).ok_or("no instant")?;
+    let waits = begin(rt, alloc, &mut cx, (at, at), ((1, 2), (3, 4)));
+    Ok(waits == Ok(true) && cx.sleep_elapsed(0) == Err(Error::Shutdown))
+}
+
+#[test]
+fn begun(rt: HostRuntime) -> Result<(), Fail> {
+    assert!(rt; first_poll(&rt, rt.alloc())?);
+    Ok(())
+}
+
+/// Two polls of a nest: in the first the fourth is out of time and the others wait, and in the second the first answers.
+fn two_polls<R: Host>(rt: &R, alloc: Global) -> Result<bool, Fail> {
+    let mut cx = fresh_desk(alloc)?;
     let a = limited(alloc, &mut cx, 10, 1, 5)?;
     let b = limited(alloc, &mut cx, 10, 9, 6)?;
     let e = limited(alloc, &mut cx, 10, 9, 7)?;
