@@ -1,5 +1,5 @@
 -- One poll of a select of two countdowns with deadlines, and how it is given up.
-use Rattle.std.proofs.Common.{◌≡◌, ◌≢◌, Some, Ok, Err, ℕ, true, false, Bool, [], ◌∷◌, refl, ap, sym, subst, ◌∙◌}
+use Rattle.std.proofs.Common.{◌≡◌, ◌≢◌, Some, Ok, ℕ, true, false, Bool, [], ◌∷◌, refl, ap, sym, subst, ◌∙◌}
 use Rattle.std.specs.Prelude.{⊤, Result, Option}
 use Rattle.std.specs.List.{FoldsTo}
 use Rattle.std.specs.Fn.{Shared}
