@@ -6,7 +6,7 @@ ghost use Rattle.mono_script.specs.Answers.{IsAnswer, Answers};
 
 use crate::printer::report_line;
 use crate::reader::Reader;
-use mono_rt::{Blocking, Event, Exec, Limits, List, TurnStep};
+use mono_rt::{Blocking, Event, Exec, Limits, List, Reply, Report, TurnStep};
 use std::alloc::{AllocError, Global};
 
 /// What an input is answered: the number of the first line that says no event, counted from 1, or the lines of the
@@ -19,11 +19,21 @@ pub enum Replayed {
     Output(Vec<u8>),
 }
 
-// Keeps the list of a turn's steps for the next turn.
+// The lists of a turn's steps and of its replies, for the next turn.
+#[derive(Drop)]
+struct Spare {
+    steps: List<TurnStep>,
+    replies: List<Reply>,
+}
+
+// Keeps the lists of a turn for the next one.
 #[inline(always)]
-fn keep_steps(event: Event, spare: &mut List<TurnStep>) {
+fn keep_lists(event: Event, report: Report, spare: &mut Spare) {
     if let Event::Turn(steps, _) = event {
-        *spare = steps;
+        spare.steps = steps;
+        if let Report::Turn(_, replies, _) = report {
+            spare.replies = replies;
+        }
     }
 }
 
@@ -33,14 +43,14 @@ fn one_event(
     alloc: Global,
     exec: &mut Exec,
     event: Event,
-    spare: &mut List<TurnStep>,
+    spare: &mut Spare,
     out: &mut Vec<u8>,
 ) -> Result<(), AllocError>
     ensures { OnOk result ((m : Machine) → Stands exec.old m → Answers m event exec.new out.old.items out.new.items) }
 {
-    let report = exec.apply(alloc, &event)?;
+    let report = exec.apply_reusing(alloc, &event, &mut spare.replies)?;
     report_line(out, &report)?;
-    keep_steps(event, spare);
+    keep_lists(event, report, spare);
     Ok(())
 }
 
@@ -56,10 +66,13 @@ pub fn answer(
     let mut exec = Exec::new(alloc, limits, blocking)?;
     let mut out = Vec::new(alloc);
     let mut reader = Reader::new(input);
-    let mut spare = List::new(alloc);
+    let mut spare = Spare {
+        steps: List::new(alloc),
+        replies: List::new(alloc),
+    };
     let mut count = 0usize;
     'lines: while !reader.is_empty() {
-        let Some(event) = reader.line(alloc, &mut spare)? else {
+        let Some(event) = reader.line(alloc, &mut spare.steps)? else {
             return Ok(Replayed::BadLine(count + 1));
         };
         one_event(alloc, &mut exec, event, &mut spare, &mut out)?;
