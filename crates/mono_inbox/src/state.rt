@@ -1,7 +1,8 @@
 // The plain state of an inbox: who waits, and who is known.
-ghost use Rattle.std.specs.Prelude.{◌≡◌, ◌+◌, ◌<◌, ◌≤◌, IfOk, OnOk, OnErr, MatchOption, length, vec_len, vec_capacity, [], ◌∷◌, ◌++◌};
+ghost use Rattle.std.specs.Prelude.{◌≡◌, ◌+◌, ◌<◌, ◌≤◌, false, IfOk, OnOk, OnErr, MatchOption, length, vec_len, vec_capacity, [], ◌∷◌, ◌++◌};
 ghost use Rattle.std.specs.VecDeque.{deque_len, deque_capacity};
-ghost use Rattle.mono_inbox.specs.State.{no_state, put_answer, after_put, with_list, HasNoDoubles, AlsoKnows, Forgets};
+ghost use Rattle.mono_model.specs.Inbox.{is_waiting};
+ghost use Rattle.mono_inbox.specs.State.{no_state, is_known, put_answer, after_put, with_list, HasNoDoubles, AlsoKnows, Forgets};
 
 use crate::standings::{Standing, make_entry, set_standing, standing_of};
 use std::alloc::{AllocError, Global};
@@ -51,10 +52,11 @@ impl InboxState {
 
     /// Makes the task known, and its place in the list sure: no later `put` of it takes memory.
     ///
-    /// Where memory is refused nothing changes.
+    /// Where memory is refused nothing changes; it is never wanted for a task that is known or waits (`wanted`).
     pub fn know(&mut self, _alloc: Global, task: u64) -> Result<(), AllocError>
         ensures known { OnOk result (AlsoKnows self.old self.new task) }
         ensures refused { OnErr result (self.new ≡ self.old) }
+        ensures wanted { OnErr result ((is_known self.old task ≡ false) × (is_waiting self.old.waiting task ≡ false)) }
     {
         match standing_of(&self.standings, task) {
             Standing::Unknown => {

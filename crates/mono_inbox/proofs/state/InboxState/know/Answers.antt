@@ -1,13 +1,17 @@
 use Rattle.std.proofs.Common.{rules, ◌≡◌, ◌<◌, ◌+◌, ◌-◌, ◌++◌, length, vec_len, refl, sym, ◌∙◌, arith}
-use Rattle.std.specs.Prelude.{replicate}
+use Rattle.std.specs.Prelude.{replicate, Result, Ok, Err, OnErr}
 use Rattle.std.proofs.Common.{Vec, Global}
 use Rattle.std.specs.VecDeque.{deque_len}
 use Rattle.mono_inbox.specs.declared.standings.Standing.{Standing}
 use Rattle.mono_inbox.specs.declared.standings.Standing.TheVariants.{Known, Waiting, Unknown, Retired}
 use Rattle.mono_inbox.specs.Standings.{standing_at}
 use Rattle.mono_inbox.proofs.Counting.{waits_within, also_known, also_known_here}
-use Rattle.mono_inbox.proofs.Kept.{entry_of, know-sound, again-sound}
+use Rattle.mono_inbox.proofs.Kept.{entry_of, unknown_is, know-sound, again-sound}
 use Rattle.mono_inbox.proofs.state.InboxState.know.Goals as goal
+
+on_err : {A E : Type 0} (r : Result A E) (P : Type 0) → P → OnErr r P
+on_err (Ok x) P p = tt
+on_err (Err e) P p = p
 
 entries : (v : Vec Standing Global) → vec_len v ≡ length v.items
 entries v = search rules
@@ -50,3 +54,15 @@ returns-in-Retired-clause-known c =
       known = λ u. also_known_here c.self.inside.standings.items c.args.task u Waiting below refl;
       waiting = refl;
     })
+
+pub returns-in_err-make_room-in-Unknown-clause-wanted :
+    goal.returns-in_err-make_room-in-Unknown-clause-wanted
+returns-in_err-make_room-in-Unknown-clause-wanted c =
+    let at : standing_at c.self.inside.standings.items c.args.task ≡ Unknown = sym c.standing_of.ensures ∙ c.in-Unknown.is in
+    rw (← c.self.view_is) (on_err c.from_residual.result _ (unknown_is c.self.inside.waiting.items c.self.inside.standings.items c.self.inside.places _ c.self.invariant c.args.task at))
+
+pub returns-in_err-make_entry-in-Unknown-clause-wanted :
+    goal.returns-in_err-make_entry-in-Unknown-clause-wanted
+returns-in_err-make_entry-in-Unknown-clause-wanted c =
+    let at : standing_at c.self.inside.standings.items c.args.task ≡ Unknown = sym c.standing_of.ensures ∙ c.in-Unknown.is in
+    rw (← c.self.view_is) (on_err c.from_residual-in_err-make_entry-in-Unknown.result _ (unknown_is c.self.inside.waiting.items c.self.inside.standings.items c.self.inside.places _ c.self.invariant c.args.task at))
