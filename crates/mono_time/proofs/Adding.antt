@@ -132,6 +132,11 @@ module _ (wheel left : Wheel) (keys : Table ℕ) (entries after : List Entry) (g
       back = λ j q in_wheel owned.
           let at_q : value_at keys q ≡ Some j = holds.back j q (was_in j in_wheel) (sym (ap owner_of (entry_in j in_wheel)) ∙ owned) in
           get_or_append_left keys (Some k ∷ []) None q (given_inside keys q j at_q) ∙ at_q;
+      used = λ j is_used nobody. elim (cases_eq j k) [
+        | inl here ↦ nobody (length keys) (get_or_push keys (Some k) None (length keys) refl ∙ ap Some (sym here))
+        | inr apart ↦ holds.used j (sym (made.keys_stay.same_reserved j apart) ∙ is_used)
+            (λ q at_q. nobody q (get_or_append_left keys (Some k ∷ []) None q (given_inside keys q j at_q) ∙ at_q))
+      ];
       elapsed = omega (arith, made.keys_stay.same_elapsed, holds.elapsed);
       greatest_below = holds.greatest_below;
       live_count = omega (arith, holds.live_count, count_of-with_next keys k);
@@ -189,11 +194,12 @@ module _ (wheel left : Wheel) (keys : Table ℕ) (entries after : List Entry) (g
     pub holds-same : Holds left keys after greatest live
     holds-same = record {
       owners = λ q j at_q. ap owner_of (stays none.entries_stay q j at_q) ∙ holds.owners q j at_q;
-      reserved = λ q j at_q. none.still_reserved j (holds.reserved q j at_q);
+      reserved = λ q j at_q. none.same_reserved j ∙ holds.reserved q j at_q;
       is_in = λ q j at_q. ap is_some (none.same_ticks j) ∙ holds.is_in q j at_q ∙ sym (ap is_armed_entry (stays none.entries_stay q j at_q));
       fresh_below = λ q j at_q. subst (λ v. fresh_tick_of v < 2 ^ 63) (sym (stays none.entries_stay q j at_q)) (holds.fresh_below q j at_q);
       owned = λ j in_wheel. ap (λ v. is_some (owner_of v)) (entry_same j in_wheel) ∙ holds.owned j (sym (ap is_some (none.same_ticks j)) ∙ in_wheel);
       back = λ j q in_wheel owned. holds.back j q (sym (ap is_some (none.same_ticks j)) ∙ in_wheel) (sym (ap owner_of (entry_same j in_wheel)) ∙ owned);
+      used = λ j is_used. holds.used j (sym (none.same_reserved j) ∙ is_used);
       elapsed = omega (arith, none.same_elapsed, holds.elapsed);
       greatest_below = holds.greatest_below;
       live_count = holds.live_count;
@@ -236,7 +242,7 @@ made_at wheel left keys new entries after k made = record {
 pub none_at : (wheel left : Wheel) (keys new : Table ℕ) (entries after : List Entry) → NoKeyMade wheel left keys new entries after → NoKeyMade wheel left keys keys entries after
 none_at wheel left keys new entries after none = record {
   same_ticks = none.same_ticks;
-  still_reserved = none.still_reserved;
+  same_reserved = none.same_reserved;
   same_order = none.same_order;
   same_elapsed = none.same_elapsed;
   same_keys = refl;

@@ -106,6 +106,7 @@ module _ (wheel left : Wheel) (keys : Table ℕ) (entries : List Entry) (greates
     fresh_below = holds.fresh_below;
     owned = holds.owned;
     back = holds.back;
+    used = holds.used;
     elapsed = omega (arith, holds.elapsed, less);
     greatest_below = below;
     live_count = holds.live_count;
@@ -127,6 +128,7 @@ module _ (wheel left : Wheel) (keys : Table ℕ) (entries : List Entry) (greates
       fresh_below = holds.fresh_below;
       owned = λ k in_wheel. holds.owned k (sym (none-some_same k) ∙ in_wheel);
       back = λ k s in_wheel owned. holds.back k s (sym (none-some_same k) ∙ in_wheel) owned;
+      used = λ k is_used. holds.used k (sym (ap (λ rs. slice_index_or rs k false) nothing.reserved) ∙ is_used);
       elapsed = omega (arith, nothing.elapsed);
       greatest_below = below;
       live_count = holds.live_count;

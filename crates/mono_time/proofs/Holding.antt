@@ -86,6 +86,7 @@ module _ (wheel left : Wheel) (keys : Table ℕ) (entries : List Entry) (greates
           ap (value_at keys) (sym (some-same _ _ this)) ∙ at ∙ ap Some (sym here)
       | inr apart ↦ holds.back j q (sym (keeps.in_or_out j apart) ∙ in_wheel) (sym (owner_after j) ∙ owned)
     ];
+    used = λ j is_used. holds.used j (sym (keeps.reserved j) ∙ is_used);
     elapsed = gone;
     greatest_below = below;
     live_count = holds.live_count;

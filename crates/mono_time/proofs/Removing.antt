@@ -27,6 +27,9 @@ answered x = Ok x
 abbrev no_ticks : Option Timed
 no_ticks = None
 
+false-true : false ≡ true → ⊥
+false-true e = cc
+
 none-some-true : is_some no_ticks ≡ true → ⊥
 none-some-true e = cc
 
@@ -55,8 +58,8 @@ module _ (wheel mid left : Wheel) (keys : Table ℕ) (entries : List Entry) (gre
   not_out : (j : ℕ) → is_some (timed_at left j) ≡ true → j ≢ k
   not_out j there is = none-some-true (sym (ap is_some (timed-left j ∙ ap (timed_at mid) is ∙ out.gone)) ∙ there)
 
-  pub holds-removed : (fewer : ℕ) → fewer + 1 ≡ live → Holds left (set keys s None) entries greatest fewer
-  holds-removed fewer count = record {
+  pub holds-removed : (fewer : ℕ) → fewer + 1 ≡ live → is_reserved left k ≡ false → Holds left (set keys s None) entries greatest fewer
+  holds-removed fewer count freed = record {
     owners = λ q j at_q. holds.owners q j (still_there q j at_q).1;
     reserved = λ q j at_q. let there = still_there q j at_q in
         reserved_others j (other_key q j there.0 there.1) ∙ out.keeps.reserved j ∙ holds.reserved q j there.1;
@@ -67,6 +70,10 @@ module _ (wheel mid left : Wheel) (keys : Table ℕ) (entries : List Entry) (gre
     back = λ j q in_wheel owned.
         let at_q : value_at keys q ≡ Some j = holds.back j q (sym (ap is_some (timed-left j) ∙ out.keeps.in_or_out j (not_out j in_wheel)) ∙ in_wheel) owned in
         value_other q (λ is. not_out j in_wheel (some-same _ _ (sym at_q ∙ ap (value_at keys) is ∙ at))) ∙ at_q;
+    used = λ j is_used nobody.
+        let other : j ≢ k = λ is. false-true (sym freed ∙ ap (is_reserved left) (sym is) ∙ is_used) in
+        holds.used j (sym (reserved_others j other ∙ out.keeps.reserved j) ∙ is_used)
+        (λ q at_q. nobody q (value_other q (λ is. other (some-same _ _ (sym at_q ∙ ap (value_at keys) is ∙ at))) ∙ at_q));
     elapsed = omega (arith, same_elapsed, out.elapsed, holds.elapsed);
     greatest_below = holds.greatest_below;
     live_count = omega (arith, count, holds.live_count, count_of-gone keys s k at);

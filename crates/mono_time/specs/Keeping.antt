@@ -15,7 +15,7 @@ abbrev pub kept_at : Wheel → Table ℕ → List Entry → ℕ → Option Kept
 kept_at wheel keys entries s = kept_under wheel entries (value_at keys s)
 
 -- Each live sleep has a reserved key, at which its number stands, and which is in the wheel exactly while it is armed.
--- What is in the wheel belongs to a live sleep.
+-- What is in the wheel belongs to a live sleep, and each reserved key is that of one.
 pub record Holds (wheel : Wheel) (keys : Table ℕ) (entries : List Entry) (greatest live : ℕ) : Type 0 where
   pub owners : (s k : ℕ) → value_at keys s ≡ Some k → owner_of (slice_get entries k) ≡ Some s
   pub reserved : (s k : ℕ) → value_at keys s ≡ Some k → is_reserved wheel k ≡ true
@@ -23,6 +23,7 @@ pub record Holds (wheel : Wheel) (keys : Table ℕ) (entries : List Entry) (grea
   pub fresh_below : (s k : ℕ) → value_at keys s ≡ Some k → fresh_tick_of (slice_get entries k) < 2 ^ 63
   pub owned : (k : ℕ) → is_some (timed_at wheel k) ≡ true → is_some (owner_of (slice_get entries k)) ≡ true
   pub back : (k s : ℕ) → is_some (timed_at wheel k) ≡ true → owner_of (slice_get entries k) ≡ Some s → value_at keys s ≡ Some k
+  pub used : (k : ℕ) → is_reserved wheel k ≡ true → ((s : ℕ) → value_at keys s ≢ Some k) → ⊥
   pub elapsed : wheel.elapsed ≤ greatest
   pub greatest_below : greatest < 2 ^ 63
   pub live_count : live ≡ count_of keys
@@ -75,7 +76,7 @@ pub record KeyMade (old new : Wheel) (old_keys new_keys : Table ℕ) (old_entrie
 -- There is no further key, and all that there was stays.
 pub record NoKeyMade (old new : Wheel) (old_keys new_keys : Table ℕ) (old_entries new_entries : List Entry) : Type 0 where
   pub same_ticks : (other : ℕ) → timed_at new other ≡ timed_at old other
-  pub still_reserved : (other : ℕ) → is_reserved old other ≡ true → is_reserved new other ≡ true
+  pub same_reserved : (other : ℕ) → is_reserved new other ≡ is_reserved old other
   pub same_order : KeepsOrder old new
   pub same_elapsed : new.elapsed ≡ old.elapsed
   pub same_keys : new_keys ≡ old_keys

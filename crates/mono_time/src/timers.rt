@@ -21,7 +21,7 @@ use std::sync::ledger::Ledger;
 ///
 /// A sleep is fresh, armed at a tick, or elapsed; an armed sleep has at most one waker, the task that polled it last. Ticks
 /// are milliseconds below 2^63. Only `new` and `add` take memory. A sleep's number is never given twice, and of a sleep that
-/// was removed eight bytes stay.
+/// was removed eight bytes stay: each key of the wheel is that of a live sleep (`holds`).
 #[derive(Drop)]
 pub struct Timers {
     wheel: Wheel,

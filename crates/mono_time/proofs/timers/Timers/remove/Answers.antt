@@ -33,7 +33,7 @@ invariant_of-self c =
     let e = c.index.result.now in
     let was : slice_get t.entries.items k ≡ Some e = slice_get_read t.entries.items _ k e refl (key_inside t.wheel t.keys.items t.entries.items t.greatest t.live t.holds s k at) c.index.ensures in
     let count : t.live - 1 + 1 ≡ t.live = omega (arith, t.holds.live_count, count_of-gone t.keys.items s k at) in
-    record { holds = holds-removed t.wheel c.take_out.new.wheel c.free_entry.new.self t.keys.items t.entries.items t.greatest t.live t.holds s k at c.take_out.ensures c.free_entry.ensures.entries c.free_entry.ensures.elapsed c.free_entry.ensures.others (t.live - 1) count }
+    record { holds = holds-removed t.wheel c.take_out.new.wheel c.free_entry.new.self t.keys.items t.entries.items t.greatest t.live t.holds s k at c.take_out.ensures c.free_entry.ensures.entries c.free_entry.ensures.elapsed c.free_entry.ensures.others (t.live - 1) count c.free_entry.ensures.gone }
 
 pub returns-in-None-clause-answer : goal.returns-in-None-clause-answer
 returns-in-None-clause-answer c = let t = c.args.self.now in rw (none-there t.wheel t.keys.items t.entries.items c.args.sleep (sym c.in-None.ensures)) refl
