@@ -13,36 +13,87 @@ use std::sync::ledger::{Blank, Ledger};
 use std::test::Fail;
 use std::time::Duration;
 
-fn at_millis(millis: u64) -> Result<Instant, Fail> {
-    Ok(Instant::from_nanos(millis as u128 * 1000000).ok_or("no instant")?)
+fn at_millis(millis: u64) -> Instant
+    requires { millis < 2 ^ 63 }
+{
+    match Instant::from_nanos(millis as u128 * 1000000) {
+        Some(instant) => instant,
+        None => unreachable!(),
+    }
 }
 
 fn desk(alloc: Global) -> Result<Desk, Fail> {
     Ok(Desk {
         me: 7,
-        now: at_millis(0)?,
+        now: at_millis(0),
         is_out_of_memory: false,
         timers: Timers::new(alloc, 4, true)?,
     })
 }
 
 // Goes to a time, by a clock step in which at most one sleep fires.
-fn go_to<L: Ledger>(cx: &mut Desk, now: Instant, steps: &mut Steps<L>) {
+fn go_to<L: Ledger>(cx: &mut Desk, millis: u64, steps: &mut Steps<L>)
+    requires { millis < 2 ^ 63 }
+{
+    let now = at_millis(millis);
     cx.now = now;
     let _ = cx.timers.clock(now, steps);
     let _ = cx.timers.clock(now, steps);
 }
 
-fn ticks_at(cx: &mut Desk, interval: &mut Interval, millis: u64) -> bool {
-    match interval.poll_tick(cx) {
-        Ok(Poll::Ready(tick)) => tick.as_nanos() == millis as u128 * 1000000,
-        Ok(Poll::Pending) => false,
-        Err(_) => false,
-    }
+// Whether a poll of the interval answers this tick.
+fn ticks_at(cx: &mut Desk, interval: &mut Interval, millis: u64) -> bool
+    requires { millis < 2 ^ 63 }
+{
+    interval.poll_tick(cx) == Ok(Poll::Ready(at_millis(millis)))
 }
 
 fn waits(cx: &mut Desk, interval: &mut Interval) -> bool {
-    matches!(interval.poll_tick(cx), Ok(Poll::Pending))
+    interval.poll_tick(cx) == Ok(Poll::Pending)
+}
+
+// Whether the interval ticks at this time, and no sooner than then once more.
+fn ticks_once<L: Ledger>(
+    cx: &mut Desk,
+    interval: &mut Interval,
+    millis: u64,
+    steps: &mut Steps<L>,
+) -> bool
+    requires { millis < 2 ^ 63 }
+{
+    go_to(cx, millis, steps);
+    ticks_at(cx, interval, millis) && waits(cx, interval)
+}
+
+// An interval from now on, and one from a start.
+fn in_time<L: Ledger>(alloc: Global, steps: &mut Steps<L>) -> Result<bool, Fail> {
+    let mut cx = desk(alloc)?;
+    let mut now = interval(alloc, &mut cx, Duration::from_millis(10))?;
+    let mut later = interval_at(alloc, &mut cx, at_millis(50), Duration::from_millis(10))?;
+    Ok(
+        ticks_once(&mut cx, &mut now, 0, steps)
+            && ticks_once(&mut cx, &mut now, 10, steps)
+            && ticks_once(&mut cx, &mut now, 20, steps)
+            && ticks_once(&mut cx, &mut later, 50, steps)
+            && ticks_once(&mut cx, &mut later, 60, steps)
+            && ticks_once(&mut cx, &mut later, 70, steps),
+    )
+}
+
+// Ticks that were missed follow at once.
+fn burst<L: Ledger>(alloc: Global, steps: &mut Steps<L>) -> Result<bool, Fail> {
+    let mut cx = desk(alloc)?;
+    let mut ticks = interval(alloc, &mut cx, Duration::from_millis(50))?;
+    go_to(&mut cx, 199, steps);
+    Ok(
+        ticks.period().as_nanos() == 50000000
+            && ticks.missed_tick_behavior() == MissedTickBehavior::default()
+            && ticks_at(&mut cx, &mut ticks, 0)
+            && ticks_at(&mut cx, &mut ticks, 50)
+            && ticks_at(&mut cx, &mut ticks, 100)
+            && ticks_at(&mut cx, &mut ticks, 150)
+            && waits(&mut cx, &mut ticks),
+    )
 }
 
 // An interval of 50 ms from a start, with the tick of that start polled at a time: the next deadline.
@@ -52,61 +103,55 @@ fn next_deadline<L: Ledger>(
     behavior: MissedTickBehavior,
     start: u64,
     now: u64,
-) -> Result<u128, Fail> {
+) -> Result<u128, Fail>
+    requires start { start < 2 ^ 63 }
+    requires now { now < 2 ^ 63 }
+{
     let mut cx = desk(alloc)?;
-    let mut ticks = interval_at(alloc, &mut cx, at_millis(start)?, Duration::from_millis(50))?;
+    let mut ticks = interval_at(alloc, &mut cx, at_millis(start), Duration::from_millis(50))?;
     ticks.set_missed_tick_behavior(behavior);
-    go_to(&mut cx, at_millis(now)?, steps);
+    go_to(&mut cx, now, steps);
     let ticked = ticks_at(&mut cx, &mut ticks, start);
     let next = ticks.delay.deadline().as_nanos();
     ticks.cancel(&mut cx);
     if ticked { Ok(next / 1000000) } else { Ok(0) }
 }
 
-fn ticks<L: Ledger>(alloc: Global, steps: &mut Steps<L>) -> Result<bool, Fail> {
-    let mut passed = true;
-    let mut cx = desk(alloc)?;
-    let mut now = interval(alloc, &mut cx, Duration::from_millis(10))?;
-    for millis in [0, 10, 20] {
-        go_to(&mut cx, at_millis(millis)?, steps);
-        passed = passed && ticks_at(&mut cx, &mut now, millis);
-        passed = passed && waits(&mut cx, &mut now);
-    }
-    let mut late = desk(alloc)?;
-    let mut burst = interval(alloc, &mut late, Duration::from_millis(50))?;
-    go_to(&mut late, at_millis(199)?, steps);
-    for millis in [0, 50, 100, 150] {
-        passed = passed && ticks_at(&mut late, &mut burst, millis);
-    }
-    passed = passed && waits(&mut late, &mut burst);
-    passed = passed && burst.period().as_nanos() == 50000000;
-    passed = passed && burst.missed_tick_behavior() == MissedTickBehavior::default();
-    Ok(passed)
+// One tick that came late enough to be missed, or 5 ms late, which is not.
+fn late<L: Ledger>(
+    alloc: Global,
+    steps: &mut Steps<L>,
+    behavior: MissedTickBehavior,
+) -> Result<(u128, u128), Fail> {
+    let in_time = next_deadline(alloc, steps, behavior, 100, 105)?;
+    let missed = next_deadline(alloc, steps, behavior, 100, 106)?;
+    Ok((in_time, missed))
 }
 
 fn next_deadlines<L: Ledger>(alloc: Global, steps: &mut Steps<L>) -> Result<bool, Fail> {
-    let mut passed = true;
-    for (behavior, start, now, next) in [
-        (MissedTickBehavior::Burst, 50, 50, 100),
-        (MissedTickBehavior::Skip, 0, 75, 100),
-        (MissedTickBehavior::Delay, 0, 200, 250),
-        (MissedTickBehavior::Burst, 100, 105, 150),
-        (MissedTickBehavior::Delay, 100, 105, 150),
-        (MissedTickBehavior::Skip, 100, 105, 150),
-        (MissedTickBehavior::Burst, 100, 106, 150),
-        (MissedTickBehavior::Delay, 100, 106, 156),
-        (MissedTickBehavior::Skip, 100, 106, 150),
-    ] {
-        passed = passed && next_deadline(alloc, steps, behavior, start, now)? == next;
-    }
-    Ok(passed)
+    let skips = next_deadline(alloc, steps, MissedTickBehavior::Skip, 0, 75)?;
+    let delays = next_deadline(alloc, steps, MissedTickBehavior::Delay, 0, 200)?;
+    let burst = late(alloc, steps, MissedTickBehavior::Burst)?;
+    let delay = late(alloc, steps, MissedTickBehavior::Delay)?;
+    let skip = late(alloc, steps, MissedTickBehavior::Skip)?;
+    Ok(
+        skips == 100
+            && delays == 250
+            && burst == (150, 150)
+            && delay == (150, 156)
+            && skip == (150, 150),
+    )
 }
 
 fn intervals<L: Ledger>(alloc: Global, blank: Blank) -> Result<bool, Fail>
     requires { (blank.name ≡ L.name) × (blank.parts ≡ L.parts) × (0 < L.parts) }
 {
     let mut steps: Steps<L> = Steps::new(blank);
-    Ok(ticks(alloc, &mut steps)? && next_deadlines(alloc, &mut steps)?)
+    Ok(
+        in_time(alloc, &mut steps)?
+            && burst(alloc, &mut steps)?
+            && next_deadlines(alloc, &mut steps)?,
+    )
 }
 
 #[test]
@@ -157,38 +202,41 @@ fn one_poll<C: TimeContext, F: TaskFuture<C>, R: Host>(
     future.poll(rt, alloc, cx)
 }
 
+// A value that is ready is answered, and one that is not has elapsed: its delay stays.
 fn limits<R: Host>(rt: &R, alloc: Global) -> Result<bool, Fail> {
     let mut cx = desk(alloc)?;
-    let now = at_millis(0)?;
     let ready = Answer { value: Some(5) };
-    let Ok(mut first) = timeout_at(alloc, &mut cx, now, ready) else {
+    let Ok(mut first) = timeout_at(alloc, &mut cx, at_millis(0), ready) else {
         return Ok(false);
     };
     let value = one_poll(rt, alloc, &mut cx, &mut first);
     let pending = Answer { value: None };
-    let Ok(mut second) = timeout_at(alloc, &mut cx, now, pending) else {
+    let Ok(mut second) = timeout_at(alloc, &mut cx, at_millis(0), pending) else {
         return Ok(false);
     };
     let late = one_poll(rt, alloc, &mut cx, &mut second);
-    let other = Answer { value: Some(6) };
-    let Ok(third) = timeout(alloc, &mut cx, Duration::from_secs(1), other) else {
-        return Ok(false);
-    };
-    let kept = third.get_ref().value == Some(6);
-    let back = third.into_inner(&mut cx);
     Ok(
         value == Poll::Ready(Ok(5))
             && late == Poll::Ready(Err(TimeoutError::Elapsed(Elapsed)))
-            && kept
-            && back.value == Some(6)
             && cx.sleep_elapsed(0) == Err(Error::Shutdown)
-            && cx.sleep_elapsed(1) == Ok(true)
-            && cx.sleep_elapsed(2) == Err(Error::Shutdown),
+            && cx.sleep_elapsed(1) == Ok(true),
     )
+}
+
+fn taken_back(alloc: Global) -> Result<bool, Fail> {
+    let mut cx = desk(alloc)?;
+    let value = Answer { value: Some(6) };
+    let Ok(timeout) = timeout(alloc, &mut cx, Duration::from_secs(1), value) else {
+        return Ok(false);
+    };
+    let kept = timeout.get_ref().value;
+    let back = timeout.into_inner(&mut cx);
+    Ok(kept == Some(6) && back.value == Some(6) && cx.sleep_elapsed(0) == Err(Error::Shutdown))
 }
 
 #[test]
 fn timeouts(rt: HostRuntime) -> Result<(), Fail> {
     assert!(rt; limits(&rt, rt.alloc())?);
+    assert!(rt; taken_back(rt.alloc())?);
     Ok(())
 }
