@@ -1,5 +1,5 @@
 // The locked queue of a pool.
-ghost use Rattle.std.specs.Prelude.{◌≡◌, ◌↔◌, IsTrue, true, false, [], ◌∷◌, ◌++◌, OnOk, OnErr, IfErr, MatchOption};
+ghost use Rattle.std.specs.Prelude.{◌≡◌, ◌↔◌, IsTrue, true, false, [], ◌∷◌, ◌++◌, OnOk, IfErr, IfNone, MatchOption};
 
 use mono_model::Host;
 use std::alloc::Global;
@@ -38,8 +38,10 @@ impl<T: Drop> QueueState<T> {
         Ok(())
     }
 
-    /// Takes the first item. None exactly where nothing waits.
+    /// Takes the first item. None exactly where nothing waits, which is only where the pool is closed.
     fn take(&mut self) -> Option<T>
+        requires { self.old.waiting.items ≡ [] → self.old.is_closed ≡ true }
+        ensures ended { IfNone result (self.old.is_closed ≡ true) }
         ensures taken { MatchOption result ((self.old.waiting.items ≡ []) × (self.new.waiting.items ≡ [])) (λ item. self.old.waiting.items ≡ item ∷ self.new.waiting.items) }
         ensures closed { self.new.is_closed ≡ self.old.is_closed }
     {
