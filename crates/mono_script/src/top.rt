@@ -144,7 +144,8 @@ fn replay_command<S: Source, K: Sink>(
 /// Each status has a clause of its name that says what it means, and the clauses `usage`, `too_long_where` and
 /// `bad_line_where` say exactly where it comes: in the order of usage, reading, bad line, writing. A read or a write
 /// fault comes only where the count of that object rose in this call, and wherever it rose (`read_fault_where`,
-/// `write_fault_where`). Want of memory may come at any time before the first write. `complete` says that a good command over good input ends with 0, but for a fault or want of memory.
+/// `write_fault_where`). Want of memory may come at any time before the first write. `complete` says that a good
+/// command over good input ends with 0, but for a fault or want of memory.
 pub fn program<S: Source, K: Sink>(
     alloc: Global,
     words: &Vec<String>,
