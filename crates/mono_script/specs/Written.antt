@@ -131,6 +131,11 @@ abbrev pub number_text : Option ℕ → List ℕ
 number_text None = []
 number_text (Some n) = codes " " ++ decimal n
 
+-- a number, where there is one
+abbrev pub any_number : Option ℕ → List ℕ
+any_number None = []
+any_number (Some n) = decimal n
+
 abbrev pub reply_text : Reply → List ℕ
 reply_text (reply.Task t) = codes "task " ++ decimal t
 reply_text (reply.Woke w) = woke_text w
