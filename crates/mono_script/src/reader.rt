@@ -14,6 +14,9 @@ pub struct Reader<'a> {
     rest: &'a [u8],
 }
 
+// From here on one digit more might be too much.
+const LONG: u64 = 1_000_000_000_000_000_000;
+
 // What stands where a step or the end of a turn may stand.
 #[derive(Clone, Copy)]
 enum TurnEnd {
@@ -132,10 +135,54 @@ impl<'a> Reader<'a> {
     }
 
     // The number below 2^64 that stands here, in decimal without sign and leading zeros, and goes past it.
+    // By `long_number` where it begins with a zero or is long.
     fn number(&mut self) -> Option<u64>
         ensures { Gives result self.new.rest.now (number_at self.old.rest.now) }
     {
         let text = self.rest;
+        if self.first() == b'0' {
+            return self.long_number(text);
+        }
+        let mut value = 0u64;
+        'digits: for i in 0..text.len() {
+            let digit = text[i];
+            if !digit.is_ascii_digit() {
+                return self.end(text, i, value);
+            }
+            if value >= LONG {
+                return self.long_number(text);
+            }
+            value = value * 10 + u64::from(digit - b'0');
+        }
+        self.end(text, text.len(), value)
+    }
+
+    // As `number`, below 2^128.
+    fn nanos(&mut self) -> Option<u128>
+        ensures { Gives result self.new.rest.now (nanos_at self.old.rest.now) }
+    {
+        let text = self.rest;
+        if self.first() == b'0' {
+            return self.long_nanos(text);
+        }
+        let mut value = 0u64;
+        'digits: for i in 0..text.len() {
+            let digit = text[i];
+            if !digit.is_ascii_digit() {
+                return self.end(text, i, u128::from(value));
+            }
+            if value >= LONG {
+                return self.long_nanos(text);
+            }
+            value = value * 10 + u64::from(digit - b'0');
+        }
+        self.end(text, text.len(), u128::from(value))
+    }
+
+    // As `number`, digit by digit with each test.
+    fn long_number(&mut self, text: &'a [u8]) -> Option<u64>
+        ensures { Gives result self.new.rest.now (number_at text.now) }
+    {
         let mut value = 0u64;
         'digits: for i in 0..text.len() {
             let digit = text[i];
@@ -153,30 +200,7 @@ impl<'a> Reader<'a> {
         self.end(text, text.len(), value)
     }
 
-    // As `number`, below 2^128: by `long_nanos` where 64 bits are too few.
-    fn nanos(&mut self) -> Option<u128>
-        ensures { Gives result self.new.rest.now (nanos_at self.old.rest.now) }
-    {
-        let text = self.rest;
-        let mut value = 0u64;
-        'digits: for i in 0..text.len() {
-            let digit = text[i];
-            if !digit.is_ascii_digit() {
-                return self.end(text, i, u128::from(value));
-            }
-            if is_leading_zero(value, i) {
-                return None;
-            }
-            let Some(sum) = next_value(value, digit) else {
-                return self.long_nanos(text);
-            };
-            value = sum;
-        }
-        self.end(text, text.len(), u128::from(value))
-    }
-
-    // As `number`, below 2^128.
-    #[cold]
+    // As `nanos`, digit by digit with each test.
     fn long_nanos(&mut self, text: &'a [u8]) -> Option<u128>
         ensures { Gives result self.new.rest.now (nanos_at text.now) }
     {
