@@ -2,7 +2,7 @@
 use Rattle.std.proofs.Common.{◌≡◌, ◌≢◌, Some, Ok, ℕ, true, false, Bool, [], ◌∷◌, refl, ap, sym, subst, ◌∙◌}
 use Rattle.std.specs.Prelude.{⊤, Result, Option}
 use Rattle.std.specs.List.{FoldsTo}
-use Rattle.std.specs.Fn.{Shared}
+use Rattle.std.specs.Fn.{Shared, FnReturnsAt}
 use denote.Ref.{Bor}
 use Rattle.mono_model.specs.Tasks.{Tasks, woken}
 use Rattle.mono_model.specs.declared.Woke.{Woke}
@@ -73,7 +73,7 @@ module _ {C : Type 0} (number : C → ℕ) (sleeps : C → SleepTable) (work : C
   turn_waits call test t b b' c d x is turn waits =
       let turn' : HasTurn (limited number sleeps work wakes reaches) call test (Live t) c x b' d = subst (λ v. HasTurn (limited number sleeps work wakes reaches) call test v c x b' d) is turn in
       let w = limit_waits number sleeps work wakes reaches same keeps t c turn'.answer turn'.left turn'.middle turn'.polled waits in
-      let rest : AfterPoll (limited number sleeps work wakes reaches) call test Pending turn'.left turn'.middle x b' d = subst (λ v. AfterPoll (limited number sleeps work wakes reaches) call test v turn'.left turn'.middle x b' d) w.answer turn'.rest in
+      let rest : AfterPoll (limited number sleeps work wakes reaches) (FnReturnsAt call test) Pending turn'.left turn'.middle x b' d = subst (λ v. AfterPoll (limited number sleeps work wakes reaches) (FnReturnsAt call test) v turn'.left turn'.middle x b' d) w.answer turn'.rest in
       record {
         look_is = rest.0;
         left_is = rest.1 ∙ ap Live w.left_is;
@@ -137,7 +137,7 @@ module _ {C : Type 0} (number : C → ℕ) (sleeps : C → SleepTable) (work : C
   turn_passes call test t b b' c d x w after is turn passes answers =
       let turn' : HasTurn (limited number sleeps work wakes reaches) call test (Live t) c x b' d = subst (λ v. HasTurn (limited number sleeps work wakes reaches) call test v c x b' d) is turn in
       let a = answers turn'.answer turn'.left turn'.middle turn'.polled in
-      let rest : AfterPoll (limited number sleeps work wakes reaches) call test (Ready w) turn'.left turn'.middle x b' d = subst (λ v. AfterPoll (limited number sleeps work wakes reaches) call test v turn'.left turn'.middle x b' d) a.0 turn'.rest in
+      let rest : AfterPoll (limited number sleeps work wakes reaches) (FnReturnsAt call test) (Ready w) turn'.left turn'.middle x b' d = subst (λ v. AfterPoll (limited number sleeps work wakes reaches) (FnReturnsAt call test) v turn'.left turn'.middle x b' d) a.0 turn'.rest in
       let k = limit_cancels number sleeps work wakes reaches same keeps turn'.left turn'.middle d rest.0 in
       let true_is : rest.2.0 ≡ true = passes rest.2.0 rest.2.1 in (
         rest.2.2 ∙ ap (λ v. passes_if v w) true_is,
