@@ -1,16 +1,16 @@
 // A clock step, at which the sleeps that are due fire.
-ghost use Rattle.std.specs.Prelude.{◌≡◌, ◌<◌, IfOk, IfNone, IfSome, OnSome};
-ghost use Rattle.mono_time.specs.Firing.{IsFirstDue, IsNoneDue, FireInTurn};
-ghost use Rattle.mono_task.specs.Schedule.{Schedule};
+ghost use Rattle.std.specs.Prelude.{◌≡◌, ◌<◌, ◌++◌, ◌∷◌, [], IfOk, OnOk};
+ghost use Rattle.mono_model.specs.Sleeps.{Sleeps};
+ghost use Rattle.mono_time.specs.Acts as sleep;
+ghost use Rattle.mono_time.specs.Firing.{FireInTurn};
 ghost use Rattle.mono_time.specs.Instants.{nanos_of};
-ghost use Rattle.mono_time.specs.Sleeps.{armed_count};
 ghost use Rattle.mono_time.specs.Timers.{sleeps_of, elapsed_tick};
 ghost use Rattle.mono_rt.specs.Machine.{Machine};
-ghost use Rattle.mono_rt.specs.Steps.{ClockStep, at_clock, after_fire, after_fires};
-ghost use Rattle.mono_rt.specs.Matches.{Matches, MatchesInStep};
+ghost use Rattle.mono_rt.specs.Steps.{ClockStep, at_clock, after_fires, all_fired, with_first, wakers_of};
+ghost use Rattle.mono_rt.specs.Matches.{Keeps, Matches, MatchesInStep};
 
 use crate::parts::Parts;
-use crate::sleeps::wake_if_any;
+use crate::remote::wake_all;
 use crate::{List, Refusal, Reply, Report};
 use mono_task::Tasks;
 use mono_time::{Instant, Timers};
@@ -19,29 +19,51 @@ use std::alloc::{AllocError, AllocFailed, Global};
 use std::marker::Brand;
 use std::sync::ledger::{Blank, Ledger};
 
-/// The next sleep fires that is due once the clock shows an instant.
-fn fire<L: Ledger>(
-    timers: &mut Timers,
-    tasks: &mut Tasks<u64>,
-    now: Instant,
-    steps: &mut Steps<L>,
-) -> Option<u64>
-    ensures none { IfNone result ((m : Machine) → MatchesInStep timers.old tasks.old m → MatchesInStep timers.new tasks.new (at_clock m (nanos_of now)) × IsNoneDue (at_clock m (nanos_of now)).sleeps.table (at_clock m (nanos_of now)).sleeps.greatest) }
-    ensures some { IfSome result (λ s. (m : Machine) → MatchesInStep timers.old tasks.old m → MatchesInStep timers.new tasks.new (after_fire (at_clock m (nanos_of now)) s) × IsFirstDue (at_clock m (nanos_of now)).sleeps.table (at_clock m (nanos_of now)).sleeps.greatest s) }
-    ensures has_gone { IfNone result (elapsed_tick timers.new ≡ (sleeps_of timers.new).greatest) }
-    ensures fewer { OnSome result (armed_count (sleeps_of timers.new) < armed_count (sleeps_of timers.old)) }
-    ensures turn { tasks.new.turn ≡ tasks.old.turn }
-{
-    match timers.clock(now, steps) {
-        None => None,
-        Some((s, waker)) => {
-            wake_if_any(tasks, waker);
-            Some(s)
+/// The sleeps that fired, in order, and the wakers of those that had one.
+#[derive(Drop)]
+struct Due {
+    fired: List<u64>,
+    wakers: Vec<u64>,
+}
+
+impl Due {
+    /// One more sleep has fired. Its waker, if there is one, comes behind the others.
+    fn put(&mut self, s: u64, waker: Option<u64>) -> Result<(), AllocError>
+        ensures fired { OnOk result (self.new.fired ≡ self.old.fired ++ s ∷ []) }
+        ensures wakers { OnOk result (self.new.wakers.items ≡ self.old.wakers.items ++ with_first waker []) }
+    {
+        self.fired.push(s)?;
+        if let Some(t) = waker {
+            self.wakers.push(t)?;
         }
+        Ok(())
     }
 }
 
-/// All sleeps that are due fire, one after another.
+/// Takes all sleeps that are due, one after another. Nobody is woken yet.
+fn take_due<L: Ledger>(
+    timers: &mut Timers,
+    alloc: Global,
+    now: Instant,
+    blank: Blank,
+) -> Result<Due, AllocError>
+    requires { (blank.name ≡ L.name) × (blank.parts ≡ L.parts) × (0 < L.parts) }
+    ensures fires { IfOk result (λ due. (sleeps : Sleeps) → Keeps timers.old sleeps → Keeps timers.new (all_fired (sleep.at_clock sleeps (nanos_of now)) due.fired) × FireInTurn (sleep.at_clock sleeps (nanos_of now)).table (sleep.at_clock sleeps (nanos_of now)).greatest due.fired) }
+    ensures wakers { IfOk result (λ due. (sleeps : Sleeps) → Keeps timers.old sleeps → due.wakers.items ≡ wakers_of (sleep.at_clock sleeps (nanos_of now)) due.fired) }
+    ensures has_gone { IfOk result (λ due. elapsed_tick timers.new ≡ (sleeps_of timers.new).greatest) }
+{
+    let mut steps: Steps<L> = Steps::new(blank);
+    let mut due = Due {
+        fired: List::new(alloc),
+        wakers: Vec::new(alloc),
+    };
+    while let Some((s, waker)) = timers.clock(now, &mut steps) {
+        due.put(s, waker)?;
+    }
+    Ok(due)
+}
+
+/// All sleeps that are due fire, one after another, and then their wakers are woken in the same order.
 fn fire_all<L: Ledger>(
     timers: &mut Timers,
     tasks: &mut Tasks<u64>,
@@ -54,11 +76,8 @@ fn fire_all<L: Ledger>(
     ensures has_gone { IfOk result (λ fired. elapsed_tick timers.new ≡ (sleeps_of timers.new).greatest) }
     ensures turn { tasks.new.turn ≡ tasks.old.turn }
 {
-    let mut steps: Steps<L> = Steps::new(blank);
-    let mut fired = List::new(alloc);
-    while let Some(s) = fire(timers, tasks, now, &mut steps) {
-        fired.push(s)?;
-    }
+    let Due { fired, wakers } = take_due::<L>(timers, alloc, now, blank)?;
+    wake_all(tasks, &wakers);
     Ok(fired)
 }
 
