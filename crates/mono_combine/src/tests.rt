@@ -446,6 +446,71 @@ fn selected_lists(rt: HostRuntime) {
     );
 }
 
+/// What any future answers at its first poll. It is given up then.
+fn first_answer<F: TaskFuture<Desk>, R: Host>(
+    rt: &R,
+    alloc: Global,
+    mut future: F,
+) -> Result<Poll<F::Output>, SpawnTask>
+    requires unspent { F.is_spent future ≡ false }
+    requires callable { F.can_poll future }
+{
+    let mut cx = empty_desk(alloc)?;
+    let answer = future.poll(rt, alloc, &mut cx);
+    future.cancel(&mut cx);
+    Ok(answer)
+}
+
+#[test]
+fn two_through_the_bound(rt: HostRuntime) {
+    let alloc = rt.alloc();
+    let (a, b) = branches((0, 0), (1, 2));
+    assert_eq!(rt;
+        first_answer(&rt, alloc, Join2::new(a, b)),
+        Ok(Poll::Ready((1, 2)))
+    );
+    let (a, b) = branches((0, 1), (8, 2));
+    let form = TryJoin2::new(Trial { step: a }, Trial { step: b });
+    assert_eq!(rt; first_answer(&rt, alloc, form), Ok(Poll::Ready(Err(8))));
+    let (a, b) = branches((1, 0), (1, 2));
+    let form = Select2::new(a, b, |_: &u64| true, |_: &u64| true, 0, Start::Biased);
+    assert_eq!(rt;
+        first_answer(&rt, alloc, form),
+        Ok(Poll::Ready(Out2::Second(2)))
+    );
+}
+
+/// The first answers of the three forms of a list, of which the join waits.
+fn lists_through_the_bound<R: Host>(rt: &R, alloc: Global) -> Result<bool, SpawnTask> {
+    let (a, b) = branches((0, 1), (1, 2));
+    let (c, d) = branches((0, 1), (8, 2));
+    let (e, f) = branches((1, 0), (1, 2));
+    let steps = vec![in alloc; a, b].map_err(|_| SpawnTask::Memory)?;
+    let trials = vec![in alloc; Trial { step: c }, Trial { step: d }].map_err(
+        |_| SpawnTask::Memory,
+    )?;
+    let others = vec![in alloc; e, f].map_err(|_| SpawnTask::Memory)?;
+    let Ok(join) = JoinList::new(alloc, steps) else {
+        return Err(SpawnTask::Memory);
+    };
+    let Ok(try_join) = TryJoinList::new(alloc, trials) else {
+        return Err(SpawnTask::Memory);
+    };
+    let Ok(select) = SelectList::new(alloc, others, |_: u32, _: &u64| true, 0, Start::Biased) else {
+        return Err(SpawnTask::Memory);
+    };
+    Ok(
+        first_answer(rt, alloc, join)?.is_pending()
+            && matches!(first_answer(rt, alloc, try_join)?, Poll::Ready(Err(8)))
+            && first_answer(rt, alloc, select)? == Poll::Ready(Out::Picked(1, 2)),
+    )
+}
+
+#[test]
+fn many_through_the_bound(rt: HostRuntime) {
+    assert_eq!(rt; lists_through_the_bound(&rt, rt.alloc()), Ok(true));
+}
+
 type Kept = (Option<u64>, Poll<()>, Option<u64>, Option<u64>, u64);
 
 /// An output that is kept, changed where it stands, and taken once.
