@@ -2,6 +2,7 @@ pub mod Poll
 pub mod Ticks
 pub mod Table
 pub mod Tasks
+pub mod Due
 pub mod Sleeps
 pub mod Jobs
 pub mod Inbox
