@@ -1,5 +1,6 @@
 // Laws on instants and sleeps, as functions with empty bodies.
 ghost use Rattle.std.specs.Prelude.{◌≡◌, ◌==◌, ◌≤◌, ℕ, Option, Some};
+ghost use Rattle.std.specs.Hash as fed;
 ghost use Rattle.std.specs.Ordering.{nat_cmp};
 ghost use Rattle.mono_model.specs.Ticks.{up, down};
 ghost use Rattle.mono_model.specs.Table.{value_at};
@@ -10,11 +11,11 @@ ghost use Rattle.mono_time.specs.Sleeps.{SleepTable, IsNoneArmedUpTo, IsFiredFir
 use crate::instant::Instant;
 use std::hash::Hash;
 
-/// Instants are compared as their numbers, and equal numbers hash alike.
+/// Instants are compared and hashed as their numbers.
 pub fn instants_are_numbers()
     ensures eq { (a b : Instant) → ⟦<Instant as PartialEq>⟧.eq a b ≡ (nanos_of a == nanos_of b) }
     ensures cmp { (a b : Instant) → ⟦<Instant as Ord>⟧.cmp a b ≡ nat_cmp (nanos_of a) (nanos_of b) }
-    ensures hash { (a b : Instant) → nanos_of a ≡ nanos_of b → ⟦<Instant as Hash>⟧.hash_input a ≡ ⟦<Instant as Hash>⟧.hash_input b }
+    ensures hash { (a : Instant) → ⟦<Instant as Hash>⟧.hash_input a ≡ fed.u128 (nanos_of a) }
 {}
 
 /// A sleep that is armed for a deadline fires only once the greatest reading of the clock so far is not before the deadline.
