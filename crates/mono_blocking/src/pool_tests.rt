@@ -13,7 +13,9 @@ use std::alloc::{AllocError, Global};
 use std::sync::Arc;
 use std::sync::atomic::{AtomicU64, Ordering};
 use std::test::Fail;
+use std::thread;
 use std::thread::JoinHandle;
+use std::time::Duration;
 
 /// A waker of task 0 for a joiner.
 fn waker<R: Host>(rt: &R, alloc: Global) -> Result<JobWaker<NoUnpark>, AllocError> {
@@ -276,5 +278,91 @@ fn a_refused_task_comes_back(rt: HostRuntime) -> Result<(), Fail> {
             Poll::Ready(Err(JoinError::Canceled))
         )
     );
+    Ok(())
+}
+
+#[test]
+fn one_worker_runs_all(rt: HostRuntime) -> Result<(), Fail> {
+    let alloc = rt.alloc();
+    let mut spawner = ThreadSpawner::new(alloc);
+    let mut pool = DefaultThreadPool::new(&rt, alloc, 1, &mut spawner)?;
+    assert_eq!(rt; pool.workers(), 1);
+    let mut joiners = Vec::new(alloc);
+    for number in 0..5u64 {
+        let Ok((task, joiner)) = BlockingTask::new(alloc, Gives(number)) else {
+            return Err("memory".into());
+        };
+        assert!(rt; pool.schedule_task(&rt, alloc, task).is_ok());
+        joiners.push(joiner)?;
+    }
+    pool.close(&rt);
+    spawner.join(&rt);
+    let mut number = 0u64;
+    for joiner in joiners {
+        assert!(rt; joiner.cancel() == Some(Ok(number)));
+        number = number.wrapping_add(1);
+    }
+    Ok(())
+}
+
+#[test]
+fn close_ends_workers_that_wait(rt: HostRuntime) -> Result<(), Fail> {
+    let alloc = rt.alloc();
+    let mut spawner = ThreadSpawner::new(alloc);
+    let pool: DefaultThreadPool<Gives> = DefaultThreadPool::new(&rt, alloc, 3, &mut spawner)?;
+    assert_eq!(rt; pool.workers(), 3);
+    thread::sleep(&rt, Duration::from_millis(50));
+    pool.close(&rt);
+    spawner.join(&rt);
+    Ok(())
+}
+
+#[test]
+fn a_worker_that_waits_is_told(rt: HostRuntime) -> Result<(), Fail> {
+    let alloc = rt.alloc();
+    let mut spawner = ThreadSpawner::new(alloc);
+    let mut pool = DefaultThreadPool::new(&rt, alloc, 1, &mut spawner)?;
+    thread::sleep(&rt, Duration::from_millis(50));
+    let flag = Arc::new(alloc, AtomicU64::new(0))?;
+    let theirs = Arc::try_clone(&flag)?;
+    let joiner = schedule(
+        &rt,
+        alloc,
+        &mut pool,
+        Meets {
+            number: 2,
+            flag: theirs,
+        },
+    );
+    assert!(rt; looks(&flag));
+    pool.close(&rt);
+    spawner.join(&rt);
+    assert!(rt; joiner.is_some());
+    Ok(())
+}
+
+#[test]
+fn one_worker_leaves_the_caller_free(rt: HostRuntime) -> Result<(), Fail> {
+    let alloc = rt.alloc();
+    let mut spawner = ThreadSpawner::new(alloc);
+    let mut pool = DefaultThreadPool::new(&rt, alloc, 1, &mut spawner)?;
+    let flag = Arc::new(alloc, AtomicU64::new(0))?;
+    let theirs = Arc::try_clone(&flag)?;
+    let joiner = schedule(
+        &rt,
+        alloc,
+        &mut pool,
+        Meets {
+            number: 1,
+            flag: theirs,
+        },
+    );
+    flag.store(1, Ordering::SeqCst);
+    pool.close(&rt);
+    spawner.join(&rt);
+    let Some(joiner) = joiner else {
+        return Err("the job was not taken".into());
+    };
+    assert!(rt; matches!(answer(&rt, alloc, joiner)?, Some((1, true))));
     Ok(())
 }
