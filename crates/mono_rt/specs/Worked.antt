@@ -3,7 +3,9 @@ use Rattle.std.specs.Prelude.{ℕ, List, [], ◌∷◌, Some, None}
 use Rattle.mono_model.specs.declared.Woke.TheVariants as woke
 use Rattle.mono_model.specs.declared.Ended.TheVariants as ended
 use Rattle.mono_rt.specs.Machine.{Machine, start_machine}
-use Rattle.mono_rt.specs.Steps.{Run}
+use Rattle.mono_rt.specs.Acts.{act_outcome}
+use Rattle.mono_rt.specs.Turns.{after_turn}
+use Rattle.mono_rt.specs.Steps.{Run, Step}
 use Rattle.mono_rt.specs.declared.events.Act.TheVariants as act
 use Rattle.mono_rt.specs.declared.events.How.TheVariants as how
 use Rattle.mono_rt.specs.declared.events.Query.TheVariants as query
@@ -173,3 +175,146 @@ JobsThatEnd = Answers (start_with blocking.Attached 4)
     ∷ event.Act (act.DropJob 1) ∷ event.Act (act.DropJob 1) ∷ event.Act (act.JobEnd 2 how.Ran) ∷ [])
     (report.Reply (reply.Job 0) ∷ report.Reply (reply.Job 1) ∷ report.Reply (reply.Dropped None) ∷ report.Reply (reply.Ended None) ∷ report.Reply (reply.Ended None) ∷ report.Reply reply.Yes
     ∷ report.Reply (reply.Dropped None) ∷ report.Reply (reply.Refused refusal.NoHandle) ∷ report.Reply (reply.Refused refusal.NoTask) ∷ [])
+
+-- The end of a job answers who waited for it and wakes nobody: the task has a turn once a wake from a thread is
+-- drained.
+abbrev pub EndOfJobWakesNobody : Type 0
+EndOfJobWakesNobody = Answers (start 4)
+    (spawn ∷ event.Turn (step.Act (act.Block 3) ∷ step.Query (query.Job 0) ∷ []) end.Pending ∷ event.Act (act.JobEnd 0 how.Ran) ∷ event.Turn [] end.Pending ∷ event.Remote 0 ∷ event.Turn [] end.Pending ∷ event.Drain ∷ event.Turn (step.Query (query.Job 0) ∷ step.Query (query.Job 0) ∷ step.Act (act.JobFinished 0) ∷ []) end.Pending ∷ [])
+    (report.Reply (reply.Task 0) ∷ report.Turn 0 (reply.Job 0 ∷ reply.Pending ∷ []) ended.Idle ∷ report.Reply (reply.Ended (Some 0)) ∷ report.Reply (reply.Refused refusal.Idle) ∷ report.Listed ∷ report.Reply (reply.Refused refusal.Idle) ∷ report.Drained (0 ∷ []) ∷ report.Turn 0 (reply.Output 3 ∷ reply.Refused refusal.Taken ∷ reply.Yes ∷ []) ended.Idle ∷ [])
+
+-- That a job was canceled is told once; then it is taken, has finished, and its handle can be dropped.
+abbrev pub CanceledIsToldOnce : Type 0
+CanceledIsToldOnce = Answers (start 4)
+    (spawn ∷ event.Act (act.Block 3) ∷ event.Act (act.JobEnd 0 how.Canceled) ∷ event.Turn (step.Query (query.Job 0) ∷ step.Query (query.Job 0) ∷ step.Act (act.JobFinished 0) ∷ step.Act (act.DropJob 0) ∷ []) end.Pending ∷ [])
+    (report.Reply (reply.Task 0) ∷ report.Reply (reply.Job 0) ∷ report.Reply (reply.Ended None) ∷ report.Turn 0 (reply.Canceled ∷ reply.Refused refusal.Taken ∷ reply.Yes ∷ reply.Dropped None ∷ []) ended.Idle ∷ [])
+
+-- A clock step wakes in the order in which it fires.
+abbrev pub WakesInOrder : Type 0
+WakesInOrder = Answers (start 16)
+    (spawn ∷ spawn ∷ event.Turn (new_sleep 10000000 ∷ poll 0 ∷ []) end.Pending ∷ event.Turn (new_sleep 20000000 ∷ poll 1 ∷ []) end.Pending ∷ event.Clock 20000000 ∷ event.Turn [] end.Pending ∷ event.Turn [] end.Pending ∷ [])
+    (report.Reply (reply.Task 0) ∷ report.Reply (reply.Task 1) ∷ report.Turn 0 (reply.Sleep 0 ∷ reply.Pending ∷ []) ended.Idle ∷ report.Turn 1 (reply.Sleep 1 ∷ reply.Pending ∷ []) ended.Idle ∷ report.Fired (0 ∷ 1 ∷ []) ∷ report.Turn 0 [] ended.Idle ∷ report.Turn 1 [] ended.Idle ∷ [])
+
+-- Of two tasks that polled a join handle the one that polled last is woken.
+abbrev pub LatestWaiter : Type 0
+LatestWaiter = Answers (start 16)
+    (spawn ∷ spawn ∷ spawn ∷ event.Turn (join 2 ∷ []) end.Pending ∷ event.Turn (join 2 ∷ []) end.Pending ∷ event.Turn [] (end.Ready 5) ∷ event.Turn (join 2 ∷ []) end.Pending ∷ event.Turn [] end.Pending ∷ [])
+    (report.Reply (reply.Task 0) ∷ report.Reply (reply.Task 1) ∷ report.Reply (reply.Task 2) ∷ report.Turn 0 (reply.Pending ∷ []) ended.Idle ∷ report.Turn 1 (reply.Pending ∷ []) ended.Idle ∷ report.Turn 2 [] ended.Done ∷ report.Turn 1 (reply.Output 5 ∷ []) ended.Idle ∷ report.Reply (reply.Refused refusal.Idle) ∷ [])
+
+-- Of two tasks that polled a job the one that polled last is answered at its end.
+abbrev pub LatestWaiterOfJob : Type 0
+LatestWaiterOfJob = Answers (start 16)
+    (spawn ∷ spawn ∷ event.Turn (step.Act (act.Block 3) ∷ step.Query (query.Job 0) ∷ []) end.Pending ∷ event.Turn (step.Query (query.Job 0) ∷ []) end.Pending ∷ event.Act (act.JobEnd 0 how.Ran) ∷ [])
+    (report.Reply (reply.Task 0) ∷ report.Reply (reply.Task 1) ∷ report.Turn 0 (reply.Job 0 ∷ reply.Pending ∷ []) ended.Idle ∷ report.Turn 1 (reply.Pending ∷ []) ended.Idle ∷ report.Reply (reply.Ended (Some 1)) ∷ [])
+
+-- A task that wakes itself twice in its turn runs once more, and one that wakes itself in its last turn does not.
+abbrev pub NotedTwice : Type 0
+NotedTwice = Answers (start 16)
+    (spawn ∷ event.Turn (step.Act (act.Wake 0) ∷ step.Act (act.Wake 0) ∷ []) end.Pending ∷ event.Turn (step.Act (act.Wake 0) ∷ []) (end.Ready 1) ∷ event.Turn [] end.Pending ∷ [])
+    (report.Reply (reply.Task 0) ∷ report.Turn 0 (reply.Woke woke.Noted ∷ reply.Woke woke.Noted ∷ []) ended.Again ∷ report.Turn 0 (reply.Woke woke.Noted ∷ []) ended.Done ∷ report.Reply (reply.Refused refusal.Idle) ∷ [])
+
+-- A wake from a thread lists a queued task and one without a handle, and none that has finished; a task that finishes
+-- once it is listed comes out of the drain and has no turn.
+abbrev pub WhoIsListed : Type 0
+WhoIsListed = Answers (start 16)
+    (spawn ∷ spawn ∷ spawn ∷ event.Remote 0 ∷ event.Turn [] (end.Ready 1) ∷ event.Remote 0 ∷ event.Act (act.DropJoin 1) ∷ event.Turn [] end.Pending ∷ event.Remote 1 ∷ event.Drain ∷ event.Turn [] end.Pending ∷ event.Turn [] end.Pending ∷ event.Turn [] end.Pending ∷ [])
+    (report.Reply (reply.Task 0) ∷ report.Reply (reply.Task 1) ∷ report.Reply (reply.Task 2) ∷ report.Listed ∷ report.Turn 0 [] ended.Done ∷ report.Unlisted ∷ report.Reply (reply.Dropped None) ∷ report.Turn 1 [] ended.Idle ∷ report.Listed ∷ report.Drained (0 ∷ 1 ∷ []) ∷ report.Turn 2 [] ended.Idle ∷ report.Turn 1 [] ended.Idle ∷ report.Reply (reply.Refused refusal.Idle) ∷ [])
+
+-- A task that finishes while it waits in the inbox is not listed again, and comes out of the drain.
+abbrev pub FinishesInTheInbox : Type 0
+FinishesInTheInbox = Answers (start 16)
+    (spawn ∷ event.Remote 0 ∷ event.Turn [] (end.Ready 1) ∷ event.Remote 0 ∷ event.Drain ∷ [])
+    (report.Reply (reply.Task 0) ∷ report.Listed ∷ report.Turn 0 [] ended.Done ∷ report.Unlisted ∷ report.Drained (0 ∷ []) ∷ [])
+
+-- A wake of a queued task leaves its place in the queue.
+abbrev pub QueuedStaysInPlace : Type 0
+QueuedStaysInPlace = Answers (start 16)
+    (spawn ∷ spawn ∷ event.Act (act.Wake 0) ∷ event.Turn [] end.Pending ∷ [])
+    (report.Reply (reply.Task 0) ∷ report.Reply (reply.Task 1) ∷ report.Reply (reply.Woke woke.Nothing) ∷ report.Turn 0 [] ended.Idle ∷ [])
+
+-- A reset arms a sleep that was never polled, and one that has fired, which then is no longer elapsed.
+abbrev pub ResetOfAFreshSleep : Type 0
+ResetOfAFreshSleep = Answers (start 16)
+    (event.Act (act.NewSleep 5000000) ∷ event.Act (act.Reset 0 6000000) ∷ event.Clock 5000000 ∷ event.Clock 6000000 ∷ event.Act (act.Reset 0 7000000) ∷ event.Act (act.SleepElapsed 0) ∷ event.Clock 7000000 ∷ [])
+    (report.Reply (reply.Sleep 0) ∷ report.Reply reply.Armed ∷ report.Fired [] ∷ report.Fired (0 ∷ []) ∷ report.Reply reply.Armed ∷ report.Reply reply.No ∷ report.Fired (0 ∷ []) ∷ [])
+
+-- The drop of a polled sleep wakes nobody, and the sleep does not fire.
+abbrev pub DroppedSleepWakesNobody : Type 0
+DroppedSleepWakesNobody = Answers (start 16)
+    (spawn ∷ event.Turn (new_sleep 5000000 ∷ poll 0 ∷ []) end.Pending ∷ event.Act (act.DropSleep 0) ∷ event.Turn [] end.Pending ∷ event.Clock 5000000 ∷ [])
+    (report.Reply (reply.Task 0) ∷ report.Turn 0 (reply.Sleep 0 ∷ reply.Pending ∷ []) ended.Idle ∷ report.Reply (reply.Dropped None) ∷ report.Reply (reply.Refused refusal.Idle) ∷ report.Fired [] ∷ [])
+
+-- A sleep that is moved to an earlier tick fires behind those that were armed for it before.
+abbrev pub MovedEarlierIsLast : Type 0
+MovedEarlierIsLast = Answers (start 16)
+    (spawn ∷ event.Turn (new_sleep 90000000 ∷ new_sleep 60000000 ∷ poll 0 ∷ poll 1 ∷ []) end.Pending ∷ event.Act (act.Reset 0 60000000) ∷ event.Clock 60000000 ∷ [])
+    (report.Reply (reply.Task 0) ∷ report.Turn 0 (reply.Sleep 0 ∷ reply.Sleep 1 ∷ reply.Pending ∷ reply.Pending ∷ []) ended.Idle ∷ report.Reply reply.Armed ∷ report.Fired (1 ∷ 0 ∷ []) ∷ [])
+
+-- A sleep that is moved to an earlier tick wakes who polled it, and is ready at every further poll.
+abbrev pub MovedEarlierKeepsWaker : Type 0
+MovedEarlierKeepsWaker = Answers (start 16)
+    (spawn ∷ event.Turn (new_sleep 90000000 ∷ poll 0 ∷ []) end.Pending ∷ event.Act (act.Reset 0 60000000) ∷ event.Clock 60000000 ∷ event.Turn (poll 0 ∷ poll 0 ∷ []) end.Pending ∷ [])
+    (report.Reply (reply.Task 0) ∷ report.Turn 0 (reply.Sleep 0 ∷ reply.Pending ∷ []) ended.Idle ∷ report.Reply reply.Armed ∷ report.Fired (0 ∷ []) ∷ report.Turn 0 (reply.Ready ∷ reply.Ready ∷ []) ended.Idle ∷ [])
+
+-- A task or job that has ended takes room until its handle is dropped.
+abbrev pub FinishedTakesRoom : Type 0
+FinishedTakesRoom = Answers (start 1)
+    (spawn ∷ event.Turn [] (end.Ready 1) ∷ spawn ∷ event.Act (act.DropJoin 0) ∷ spawn ∷ event.Act (act.Block 1) ∷ event.Act (act.JobEnd 0 how.Ran) ∷ event.Act (act.Block 2) ∷ event.Act (act.DropJob 0) ∷ event.Act (act.Block 2) ∷ [])
+    (report.Reply (reply.Task 0) ∷ report.Turn 0 [] ended.Done ∷ report.Reply (reply.Refused refusal.AtCapacity) ∷ report.Reply (reply.Dropped (Some 1)) ∷ report.Reply (reply.Task 1) ∷ report.Reply (reply.Job 0) ∷ report.Reply (reply.Ended None) ∷ report.Reply (reply.Refused refusal.AtCapacity) ∷ report.Reply (reply.Dropped (Some 1)) ∷ report.Reply (reply.Job 1) ∷ [])
+
+-- A task without a handle takes room until it has finished, and then is gone.
+abbrev pub NoHandleTakesRoom : Type 0
+NoHandleTakesRoom = Answers (start 1)
+    (spawn ∷ event.Act (act.DropJoin 0) ∷ spawn ∷ event.Turn [] (end.Ready 1) ∷ spawn ∷ [])
+    (report.Reply (reply.Task 0) ∷ report.Reply (reply.Dropped None) ∷ report.Reply (reply.Refused refusal.AtCapacity) ∷ report.Turn 0 [] ended.Gone ∷ report.Reply (reply.Task 1) ∷ [])
+
+-- A task that polled its own handle is not queued by its end.
+abbrev pub WaitsForItself : Type 0
+WaitsForItself = Answers (start 16)
+    (spawn ∷ event.Turn (join 0 ∷ []) end.Pending ∷ event.Act (act.Wake 0) ∷ event.Turn [] (end.Ready 1) ∷ event.Turn [] end.Pending ∷ [])
+    (report.Reply (reply.Task 0) ∷ report.Turn 0 (reply.Pending ∷ []) ended.Idle ∷ report.Reply (reply.Woke woke.Queued) ∷ report.Turn 0 [] ended.Done ∷ report.Reply (reply.Refused refusal.Idle) ∷ [])
+
+-- A task whose output was taken has finished.
+abbrev pub TakenHasFinished : Type 0
+TakenHasFinished = Answers (start 16)
+    (spawn ∷ spawn ∷ event.Turn [] (end.Ready 1) ∷ event.Turn (join 0 ∷ step.Act (act.Finished 0) ∷ []) end.Pending ∷ [])
+    (report.Reply (reply.Task 0) ∷ report.Reply (reply.Task 1) ∷ report.Turn 0 [] ended.Done ∷ report.Turn 1 (reply.Output 1 ∷ reply.Yes ∷ []) ended.Idle ∷ [])
+
+-- A sleep whose deadline is now is not elapsed before it is polled.
+abbrev pub DueIsNotElapsed : Type 0
+DueIsNotElapsed = Answers (start 16)
+    (event.Act (act.NewSleep 0) ∷ event.Act (act.SleepElapsed 0) ∷ [])
+    (report.Reply (reply.Sleep 0) ∷ report.Reply reply.No ∷ [])
+
+-- A clock step fires in the order of the ticks, whatever was armed first.
+abbrev pub AscendingTicks : Type 0
+AscendingTicks = Answers (start 16)
+    (spawn ∷ event.Turn (new_sleep 20000000 ∷ new_sleep 10000000 ∷ poll 0 ∷ poll 1 ∷ poll 0 ∷ []) end.Pending ∷ event.Clock 20000000 ∷ [])
+    (report.Reply (reply.Task 0) ∷ report.Turn 0 (reply.Sleep 0 ∷ reply.Sleep 1 ∷ reply.Pending ∷ reply.Pending ∷ reply.Pending ∷ []) ended.Idle ∷ report.Fired (1 ∷ 0 ∷ []) ∷ [])
+
+-- A task that has finished is not listed, even where its handle stands.
+abbrev pub DoneIsNotListed : Type 0
+DoneIsNotListed = Answers (start 16)
+    (spawn ∷ event.Turn [] (end.Ready 1) ∷ event.Remote 0 ∷ [])
+    (report.Reply (reply.Task 0) ∷ report.Turn 0 [] ended.Done ∷ report.Unlisted ∷ [])
+
+-- A further poll of an armed sleep leaves its place within its tick.
+abbrev pub PollKeepsItsPlace : Type 0
+PollKeepsItsPlace = Answers (start 16)
+    (spawn ∷ event.Turn (new_sleep 10000000 ∷ new_sleep 10000000 ∷ poll 0 ∷ poll 1 ∷ poll 0 ∷ []) end.Pending ∷ event.Clock 10000000 ∷ [])
+    (report.Reply (reply.Task 0) ∷ report.Turn 0 (reply.Sleep 0 ∷ reply.Sleep 1 ∷ reply.Pending ∷ reply.Pending ∷ reply.Pending ∷ []) ended.Idle ∷ report.Fired (0 ∷ 1 ∷ []) ∷ [])
+
+-- the machine once two sleeps are armed
+abbrev pub two_armed : ℕ → ℕ → Machine
+two_armed n k = after_turn (new_sleep n ∷ new_sleep k ∷ poll 0 ∷ poll 1 ∷ []) end.Pending (act_outcome act.Spawn (start 16)).machine
+
+-- Of two sleeps with ticks of their own the later one may not fire first, of two with one tick the one that was armed later
+-- may not, and none fires twice.
+abbrev pub NoneFiresBeforeAnEarlier : Type 0
+NoneFiresBeforeAnEarlier = (new : Machine) → Step (two_armed 20000000 10000000) (event.Clock 20000000) (report.Fired (0 ∷ 1 ∷ [])) new → ⊥
+
+abbrev pub NoneFiresBeforeItsTurn : Type 0
+NoneFiresBeforeItsTurn = (new : Machine) → Step (two_armed 10000000 10000000) (event.Clock 10000000) (report.Fired (1 ∷ 0 ∷ [])) new → ⊥
+
+abbrev pub NoneFiresTwice : Type 0
+NoneFiresTwice = (new : Machine) → Step (two_armed 10000000 20000000) (event.Clock 10000000) (report.Fired (0 ∷ 0 ∷ [])) new → ⊥

@@ -24,10 +24,16 @@ pub use lists::List;
 pub use mono_model::{Ended, MAX_NANOS, Woke};
 pub use mono_time::Timers;
 pub use rows::{
-    both_roundings, clock_goes_back, deadline_is_now, doubles_in_inbox, end_of_the_type,
-    far_sleeps, jobs_that_end, late_move, latest_waker, no_pool, no_room_first, none_is_early,
-    none_is_left_out, on_a_thread, on_the_caller, refusal_first, refusal_in_the_middle,
-    refusals_of_join, ties, two_causes, woken_in_own_turn,
+    ascending_ticks, both_roundings, canceled_is_told_once, clock_goes_back, deadline_is_now,
+    done_is_not_listed, doubles_in_inbox, dropped_sleep_wakes_nobody, due_is_not_elapsed,
+    end_of_job_wakes_nobody, end_of_the_type, far_sleeps, finished_takes_room,
+    finishes_in_the_inbox, jobs_that_end, late_move, latest_waiter, latest_waiter_of_job,
+    latest_waker, moved_earlier_is_last, moved_earlier_keeps_waker, no_handle_takes_room, no_pool,
+    no_room_first, none_fires_before_an_earlier, none_fires_before_its_turn, none_fires_twice,
+    none_is_early, none_is_left_out, noted_twice, on_a_thread, on_the_caller, poll_keeps_its_place,
+    queued_stays_in_place, refusal_first, refusal_in_the_middle, refusals_of_join,
+    reset_of_a_fresh_sleep, taken_has_finished, ties, two_causes, waits_for_itself, wakes_in_order,
+    who_is_listed, woken_in_own_turn,
 };
 
 #[cfg(test)]
