@@ -1,6 +1,7 @@
 // One place of the table of tasks, and what each call makes of it.
 ghost use Rattle.std.specs.Prelude.{◌≡◌, true, Ok};
 ghost use Rattle.mono_model.specs.Joins.{kept_value, join_value, drop_value, finished_value};
+ghost use Rattle.mono_task.specs.Work.{has_output};
 ghost use Rattle.mono_task.specs.Entries.{task_of, seat_of, is_over, woken_entry, waking_of, begun_entry, paused_entry, pausing_of, completed_entry, joined_entry, dropped_entry, awaited, wait_answer, let_go, let_go_answer};
 ghost use Rattle.mono_task.specs.declared.entries.Entry.TheVariants.{Gone, Taken};
 
@@ -138,6 +139,21 @@ impl<O: Drop> Entry<O> {
         match self {
             Entry::Done(_) | Entry::Taken => true,
             _ => false,
+        }
+    }
+
+    /// Whether the task has finished and its output was not taken.
+    pub fn has_output(&self) -> bool
+        ensures { result ≡ has_output (task_of self.now) }
+    {
+        match self {
+            Entry::Done(_) => true,
+            Entry::Gone
+            | Entry::Taken
+            | Entry::Idle(_)
+            | Entry::Queued(_)
+            | Entry::Running(_)
+            | Entry::Noted(_) => false,
         }
     }
 

@@ -5,6 +5,7 @@ ghost use Rattle.mono_model.specs.Tasks.{spawned, woken};
 ghost use Rattle.mono_model.specs.Joins.{wake_answer, join_answer, joined, drop_answer, join_dropped, finished_answer};
 ghost use Rattle.mono_task.specs.Schedule.{no_schedule, with_tasks, begin_answer, after_begin, end_answer, after_end};
 ghost use Rattle.mono_task.specs.Standing.{owner_of};
+ghost use Rattle.mono_task.specs.Work.{has_output};
 ghost use Rattle.mono_task.specs.Finishing.{Finishes};
 ghost use Rattle.mono_model.specs.declared.poll.Poll.TheVariants.{Ready, Pending};
 ghost use Rattle.mono_task.specs.declared.error.SpawnTask.TheVariants.{AtCapacity};
@@ -305,6 +306,17 @@ impl<O: Drop> Tasks<O> {
             return entry.drop_join();
         }
         entry.drop_join()
+    }
+
+    /// Whether a task has finished and its output was not taken.
+    pub fn has_output(&self, task: u64) -> bool
+        ensures { result ≡ has_output (value_at self.now.tasks.table task) }
+    {
+        let at = task as usize;
+        if at >= self.entries.len() {
+            return false;
+        }
+        self.entries[at].has_output()
     }
 
     /// Whether a task has finished. Refused as `drop_join` is.
