@@ -139,10 +139,10 @@ remote_put parts m t inbox st is =
     (subst (λ b. Matches (with_state parts (after_put parts.inbox t)) (put b m t)) (unlisted parts m t st) (listed_by (is_unlisted parts.inbox t) parts m t st)))
 
 -- one more of several tasks is woken
-pub woken_more : (ts : List ℕ) (i d : ℕ) (tasks all : Tasks ℕ) → i < length ts → all_woken tasks (drop i ts) ≡ all → all_woken (woken tasks (get_or ts i d)) (drop (i + 1) ts) ≡ all
+pub woken_more : {O : Type 0} (ts : List ℕ) (i d : ℕ) (tasks all : Tasks O) → i < length ts → all_woken tasks (drop i ts) ≡ all → all_woken (woken tasks (get_or ts i d)) (drop (i + 1) ts) ≡ all
 woken_more ts i d tasks all inside left = ap (all_woken tasks) (sym (first_and_rest ts i d inside)) ∙ left
 
-pub schedule_is : (s before : Schedule ℕ) (tasks : Tasks ℕ) → s.turns ≡ before.turns → s.turn ≡ before.turn → s.tasks ≡ tasks → s ≡ schedule.with_tasks before tasks
+pub schedule_is : {O : Type 0} (s before : Schedule O) (tasks : Tasks O) → s.turns ≡ before.turns → s.turn ≡ before.turn → s.tasks ≡ tasks → s ≡ schedule.with_tasks before tasks
 schedule_is s before tasks turns turn is =
     ap (λ x. record { tasks = x; turns = s.turns; turn = s.turn }) is ∙ ap (λ x. record { tasks = tasks; turns = x; turn = s.turn }) turns ∙ ap (λ x. record { tasks = tasks; turns = before.turns; turn = x }) turn
 

@@ -21,9 +21,9 @@ use std::sync::ledger::{Blank, Ledger};
 
 /// The sleeps that fired, in order, and the wakers of those that had one.
 #[derive(Drop)]
-struct Due {
-    fired: List<u64>,
-    wakers: Vec<u64>,
+pub struct Due {
+    pub fired: List<u64>,
+    pub wakers: Vec<u64>,
 }
 
 impl Due {
@@ -41,7 +41,7 @@ impl Due {
 }
 
 /// Takes all sleeps that are due, one after another. Nobody is woken yet.
-fn take_due<L: Ledger>(
+pub fn take_due<L: Ledger>(
     timers: &mut Timers,
     alloc: Global,
     now: Instant,

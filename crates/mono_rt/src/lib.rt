@@ -14,6 +14,7 @@ mod rows;
 mod sleeps;
 mod turns;
 
+pub use clock_steps::{Due, take_due};
 pub use events::{Act, Blocking, End, Event, How, Limits, Query, Refusal, Reply, Report, TurnStep};
 pub use executor::{Exec, replay};
 pub use laws::{
@@ -23,6 +24,11 @@ pub use laws::{
 pub use lists::List;
 pub use mono_model::{Ended, MAX_NANOS, Woke};
 pub use mono_time::Timers;
+pub use remote::wake_all;
+pub use replies::{
+    drop_reply, elapsed_reply, finished_reply, gone_reply, join_reply, poll_reply, refusal_of,
+    wake_reply,
+};
 pub use rows::{
     ascending_ticks, both_roundings, canceled_is_told_once, clock_goes_back, deadline_is_now,
     done_is_not_listed, doubles_in_inbox, dropped_sleep_wakes_nobody, due_is_not_elapsed,
@@ -35,6 +41,7 @@ pub use rows::{
     reset_of_a_fresh_sleep, taken_has_finished, ties, two_causes, waits_for_itself, wakes_in_order,
     who_is_listed, woken_in_own_turn,
 };
+pub use sleeps::{reset_reply, wake_if_any};
 
 #[cfg(test)]
 mod tests;

@@ -13,7 +13,7 @@ use mono_task::{TaskError, Tasks};
 use std::alloc::{AllocError, Global};
 
 /// Wakes each task, in order.
-pub fn wake_all(tasks: &mut Tasks<u64>, woken: &[u64])
+pub fn wake_all<O: Drop>(tasks: &mut Tasks<O>, woken: &[u64])
     ensures { tasks.new ≡ schedule.with_tasks tasks.old (all_woken tasks.old.tasks woken.now) }
 {
     for t in woken {

@@ -9,7 +9,7 @@ use mono_task::{Poll, TaskError};
 use mono_time::Error;
 
 /// The refusal of a call on a task.
-fn refusal_of(error: TaskError) -> Refusal
+pub fn refusal_of(error: TaskError) -> Refusal
     ensures { result ≡ refusal_of error }
 {
     match error {

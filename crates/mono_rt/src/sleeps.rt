@@ -16,7 +16,7 @@ use mono_time::{Instant, SleepError};
 use std::alloc::{AllocError, Global};
 
 /// Wakes a waker, if there is one.
-pub fn wake_if_any(tasks: &mut Tasks<u64>, waker: Option<u64>)
+pub fn wake_if_any<O: Drop>(tasks: &mut Tasks<O>, waker: Option<u64>)
     ensures { tasks.new ≡ schedule.with_tasks tasks.old (woken_if_any tasks.old.tasks waker) }
 {
     if let Some(t) = waker {
@@ -25,7 +25,7 @@ pub fn wake_if_any(tasks: &mut Tasks<u64>, waker: Option<u64>)
 }
 
 /// The reply to the reset of a sleep to a deadline.
-fn reset_reply(n: u128, greatest: u64) -> Reply
+pub fn reset_reply(n: u128, greatest: u64) -> Reply
     requires { n ≤ max_nanos }
     ensures { result ≡ reset_reply greatest (up n) }
 {

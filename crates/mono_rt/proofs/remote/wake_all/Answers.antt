@@ -5,7 +5,7 @@ use Rattle.mono_rt.proofs.Matching.{woken_more, schedule_is}
 use Rattle.mono_rt.proofs.remote.wake_all.Goals as goal
 
 pub loop-t-preserved : goal.loop-t-preserved
-loop-t-preserved c =
+loop-t-preserved g c =
     let before = c.loop-t.invariant in
     let woken = c.args.woken.now in
     let i = c.loop-t.t-index in (
@@ -15,6 +15,6 @@ loop-t-preserved c =
     )
 
 pub returns : goal.returns
-returns c =
+returns g c =
     let before = c.loop-t.invariant in
     schedule_is c.loop-t.tasks c.args.tasks.now _ before.0 before.1 (ap (all_woken c.loop-t.tasks.tasks) (sym (nothing_left c.args.woken.now c.loop-t.t-index c.loop-t-test.false)) ∙ before.2)
