@@ -2,17 +2,26 @@
 #![tactic(auto)]
 
 mod inbox;
+mod listing;
+mod log;
 mod parker;
+mod recorded;
+mod recorded_inbox;
 mod registry;
 mod standings;
 mod state;
 mod waker;
 
 pub use inbox::Inbox;
+pub use log::CallEntry;
 pub use parker::{Parker, Token, UnparkHandle};
+pub use recorded::{CallShare, PutReply, Recorded};
+pub use recorded_inbox::{RecordedInbox, RecordedWaker};
 pub use registry::{RegisterError, Registry, RegistryState};
 pub use state::InboxState;
 pub use waker::{NoUnpark, RemoteWaker, Unpark};
 
+#[cfg(test)]
+mod recorded_tests;
 #[cfg(test)]
 mod tests;

@@ -1,158 +1,163 @@
-// The plain state of an inbox: who waits, and who is known.
-ghost use Rattle.std.specs.Prelude.{◌≡◌, ◌+◌, ◌<◌, ◌≤◌, false, IfOk, OnOk, OnErr, MatchOption, length, vec_len, vec_capacity, [], ◌∷◌, ◌++◌};
-ghost use Rattle.std.specs.VecDeque.{deque_len, deque_capacity};
+// The state of an inbox: who waits, who is known, and the calls that were kept.
+ghost use Rattle.std.specs.Prelude.{◌≡◌, ◌+◌, ◌<◌, ◌≤◌, true, false, IfOk, OnOk, OnErr, MatchOption, length, vec_len, vec_capacity, [], ◌∷◌, ◌++◌};
 ghost use Rattle.mono_model.specs.Inbox.{is_waiting};
+ghost use Rattle.mono_inbox.specs.declared.log.CallEntry.TheVariants.{Know, Put, DrainOne, Drain, Retire};
 ghost use Rattle.mono_inbox.specs.State.{no_state, is_known, put_answer, after_put, with_list, HasNoDoubles, AlsoKnows, Forgets};
+ghost use Rattle.mono_inbox.specs.History.{is_history, StandsFor, count_puts};
+ghost use Rattle.mono_inbox.specs.Log.{is_full, with_entry, with_ledger_put, new_recording};
 
-use crate::standings::{Standing, make_entry, set_standing, standing_of};
+use crate::listing::Listing;
+use crate::log::{CallEntry, CallLog};
 use std::alloc::{AllocError, Global};
-use std::collections::VecDeque;
 use std::marker::Model;
 
-/// The room that is made for the first task.
-const LEAST_ROOM: usize = 4;
-
 /// Tasks that other threads have woken, each once and in order, and the tasks that may be woken so.
+///
+/// A recorded one also keeps its calls with their replies, in order, until it is full.
 ///
 /// The memory is a byte for each number up to the greatest that was made known, and eight bytes for each task that is
 /// known or waits.
 #[derive(Drop)]
 pub struct InboxState {
-    waiting: VecDeque<u64>,
-    standings: Vec<Standing>,
-    places: usize,
+    listing: Listing,
+    log: CallLog,
 }
 
 impl Model for InboxState {
-    ghost use Rattle.std.specs.Prelude.{map};
-    ghost use Rattle.std.specs.VecDeque.{deque_capacity};
-    ghost use Rattle.mono_inbox.specs.State.{State};
+    ghost use Rattle.mono_inbox.specs.Log.{Recording, IsFaithful};
 
-    ghost Value = { State };
+    ghost Value = { Recording };
 
-    ghost use Rattle.mono_inbox.specs.Standings.{knows};
-    ghost use Rattle.mono_inbox.specs.Sound.{IsSound};
+    ghost view = { λ a. record { state = a.listing; log = a.log } };
 
-    ghost view = { λ a. record { waiting = a.waiting.items; known = map knows a.standings.items } };
-
-    ghost invariant = { λ a. IsSound a.waiting.items a.standings.items a.places (deque_capacity a.waiting) };
+    ghost invariant = { λ a. IsFaithful a.listing a.log };
 }
 
 impl InboxState {
-    /// An inbox in which no task waits and none is known, with room for so many tasks.
+    /// An inbox in which no task waits and none is known, with room for so many tasks. It keeps no calls.
     pub fn new(alloc: Global, capacity: usize) -> Result<InboxState, AllocError>
-        ensures { IfOk result (λ state. state ≡ no_state) }
+        ensures { IfOk result (λ state. state ≡ new_recording 0) }
+    {
+        InboxState::recorded(alloc, capacity, 0)
+    }
+
+    /// The same, which keeps so many calls.
+    pub fn recorded(alloc: Global, capacity: usize, calls: usize) -> Result<InboxState, AllocError>
+        ensures { IfOk result (λ state. state ≡ new_recording calls) }
     {
         Ok(InboxState {
-            waiting: VecDeque::with_capacity(alloc, capacity)?,
-            standings: Vec::with_capacity(alloc, capacity)?,
-            places: 0,
+            listing: Listing::new(alloc, capacity)?,
+            log: CallLog::new(alloc, calls)?,
         })
     }
 
     /// Makes the task known, and its place in the list sure: no later `put` of it takes memory.
     ///
     /// Where memory is refused nothing changes; it is never wanted for a task that is known or waits (`wanted`).
-    pub fn know(&mut self, _alloc: Global, task: u64) -> Result<(), AllocError>
-        ensures known { OnOk result (AlsoKnows self.old self.new task) }
+    pub fn know(&mut self, alloc: Global, task: u64) -> Result<(), AllocError>
+        ensures known { OnOk result (AlsoKnows self.old.state self.new.state task) }
+        ensures kept { OnOk result (self.new.log ≡ with_entry self.old.log (Know task)) }
         ensures refused { OnErr result (self.new ≡ self.old) }
-        ensures wanted { OnErr result ((is_known self.old task ≡ false) × (is_waiting self.old.waiting task ≡ false)) }
+        ensures wanted { OnErr result ((is_known self.old.state task ≡ false) × (is_waiting self.old.state.waiting task ≡ false)) }
     {
-        match standing_of(&self.standings, task) {
-            Standing::Unknown => {
-                make_room(&mut self.waiting, self.places)?;
-                make_entry(&mut self.standings, task)?;
-                set_standing(&mut self.standings, task, Standing::Known);
-                self.places += 1;
-            }
-            Standing::Retired => set_standing(&mut self.standings, task, Standing::Waiting),
-            Standing::Known | Standing::Waiting => {}
-        }
+        self.listing.know(alloc, task)?;
+        self.log.keep(CallEntry::Know(task));
         Ok(())
     }
 
     /// Lists the task's wake: true where the task now waits, last. False exactly where it waits already or is not
-    /// known; then nothing changes.
+    /// known; then list and known tasks stay.
     pub fn put(&mut self, task: u64) -> bool
-        ensures answer { result ≡ put_answer self.old task }
-        ensures state { self.new ≡ after_put self.old task }
+        ensures answer { result ≡ put_answer self.old.state task }
+        ensures state { self.new.state ≡ after_put self.old.state task }
+        ensures kept { self.new.log ≡ with_entry self.old.log (Put task result) }
     {
-        match standing_of(&self.standings, task) {
-            Standing::Known => {
-                set_standing(&mut self.standings, task, Standing::Waiting);
-                self.waiting.push_back_reserved(task);
-                true
-            }
-            Standing::Unknown | Standing::Waiting | Standing::Retired => false,
-        }
+        let listed = self.listing.put(task);
+        self.log.keep(CallEntry::Put(task, listed));
+        listed
+    }
+
+    /// The same, counted as a wake with a share.
+    pub(crate) fn put_counted(&mut self, task: u64) -> bool
+        ensures answer { result ≡ put_answer self.old.state task }
+        ensures state { self.new.state ≡ after_put self.old.state task }
+        ensures kept { self.new.log ≡ with_ledger_put self.old.log task result }
+    {
+        let listed = self.listing.put(task);
+        self.log.keep_ledger_put(task, listed);
+        listed
     }
 
     /// Takes the first waiting task out of the list. None exactly where the list is empty.
     pub fn drain_one(&mut self) -> Option<u64>
-        ensures { MatchOption result ((self.old.waiting ≡ []) × (self.new ≡ self.old)) (λ t. (self.old.waiting ≡ t ∷ self.new.waiting) × (self.new.known ≡ self.old.known)) }
+        ensures task { MatchOption result ((self.old.state.waiting ≡ []) × (self.new.state ≡ self.old.state)) (λ t. (self.old.state.waiting ≡ t ∷ self.new.state.waiting) × (self.new.state.known ≡ self.old.state.known)) }
+        ensures kept { self.new.log ≡ with_entry self.old.log (DrainOne result) }
     {
-        let task = self.waiting.pop_front()?;
-        match standing_of(&self.standings, task) {
-            Standing::Retired => {
-                set_standing(&mut self.standings, task, Standing::Unknown);
-                self.places -= 1;
-            }
-            Standing::Waiting => set_standing(&mut self.standings, task, Standing::Known),
-            Standing::Unknown | Standing::Known => unreachable!(),
-        }
-        Some(task)
+        let task = self.listing.drain_one();
+        self.log.keep(CallEntry::DrainOne(task));
+        task
     }
 
     /// Appends all waiting tasks to `into` in order, each once, and leaves the list empty.
     pub fn drain(&mut self, into: &mut Vec<u64>)
-        requires { vec_len into.old + length self.old.waiting ≤ vec_capacity into.old }
-        ensures items { into.new.items ≡ into.old.items ++ self.old.waiting }
+        requires { vec_len into.old + length self.old.state.waiting ≤ vec_capacity into.old }
+        ensures items { into.new.items ≡ into.old.items ++ self.old.state.waiting }
         ensures capacity { vec_capacity into.new ≡ vec_capacity into.old }
-        ensures state { self.new ≡ with_list self.old [] }
-        ensures distinct { HasNoDoubles self.old.waiting }
+        ensures state { self.new.state ≡ with_list self.old.state [] }
+        ensures kept { self.new.log ≡ with_entry self.old.log (Drain (length self.old.state.waiting)) }
+        ensures distinct { HasNoDoubles self.old.state.waiting }
     {
-        let _ = &self.waiting;
-        while let Some(task) = self.drain_one() {
-            into.push_reserved(task);
-        }
+        let tasks = self.listing.waiting() as u64;
+        self.listing.drain(into);
+        self.log.keep(CallEntry::Drain(tasks));
     }
 
     /// How many tasks wait.
     pub fn waiting(&self) -> usize
-        ensures count { result ≡ length self.now.waiting }
-        ensures distinct { HasNoDoubles self.now.waiting }
+        ensures count { result ≡ length self.now.state.waiting }
+        ensures distinct { HasNoDoubles self.now.state.waiting }
     {
-        self.waiting.len()
+        self.listing.waiting()
     }
 
     /// Makes the task unknown. Where it waits, its entry stays until the drain.
     pub fn retire(&mut self, task: u64)
-        ensures { Forgets self.old self.new task }
+        ensures state { Forgets self.old.state self.new.state task }
+        ensures kept { self.new.log ≡ with_entry self.old.log (Retire task) }
     {
-        match standing_of(&self.standings, task) {
-            Standing::Known => {
-                set_standing(&mut self.standings, task, Standing::Unknown);
-                self.places -= 1;
-            }
-            Standing::Waiting => set_standing(&mut self.standings, task, Standing::Retired),
-            Standing::Unknown | Standing::Retired => {}
-        }
+        self.listing.retire(task);
+        self.log.keep(CallEntry::Retire(task));
     }
-}
 
-/// Makes the list's room more than so many places, of which the waiting tasks are some. What is too little at least
-/// doubles, so that a task costs the same however many there are.
-fn make_room(waiting: &mut VecDeque<u64>, places: usize) -> Result<(), AllocError>
-    requires { deque_len waiting.old ≤ places }
-    ensures items { waiting.new.items ≡ waiting.old.items }
-    ensures capacity { deque_capacity waiting.old ≤ deque_capacity waiting.new }
-    ensures room { OnOk result (places < deque_capacity waiting.new) }
-{
-    if places < waiting.capacity() {
-        return Ok(());
+    /// The kept calls, in order: a history of one thread, which stands for the state where none was left out.
+    pub fn history(&self) -> &Vec<CallEntry>
+        ensures entries { result.now.items ≡ self.now.log.entries }
+        ensures replies { is_history result.now.items ≡ true }
+        ensures stands { is_full self.now.log ≡ false → StandsFor result.now.items self.now.state }
+    {
+        self.log.entries()
     }
-    let Some(more) = (places - waiting.len()).checked_add(places.max(LEAST_ROOM)) else {
-        return Err(AllocError);
-    };
-    waiting.reserve(more)
+
+    /// As many calls are kept as may be: the list of calls stays from now on.
+    pub fn is_full(&self) -> bool
+        ensures { result ≡ is_full self.now.log }
+    {
+        self.log.is_full()
+    }
+
+    /// How many kept wakes were made without a share.
+    pub fn plain_puts(&self) -> u64
+        ensures number { result ≡ self.now.log.plain_puts }
+        ensures counted { result + self.now.log.ledger_puts ≡ count_puts self.now.log.entries }
+    {
+        self.log.plain_puts()
+    }
+
+    /// How many kept wakes were made with a share.
+    pub fn ledger_puts(&self) -> u64
+        ensures number { result ≡ self.now.log.ledger_puts }
+        ensures counted { self.now.log.plain_puts + result ≡ count_puts self.now.log.entries }
+    {
+        self.log.ledger_puts()
+    }
 }
