@@ -3,7 +3,8 @@ ghost use Rattle.std.specs.Prelude.{◌≡◌, ◌≢◌, ◌≤◌, ◌⊎◌, 
 ghost use Rattle.mono_rt.specs.declared.events.Event.{Event};
 ghost use Rattle.mono_rt.specs.declared.events.Limits.{Limits};
 ghost use Rattle.mono_rt.specs.declared.events.Blocking.{Blocking};
-ghost use Rattle.mono_script.specs.Command.{IsReplay, IsNoCommand};
+ghost use Rattle.mono_script.specs.declared.command.Command.TheVariants as command;
+ghost use Rattle.mono_script.specs.Command.{IsCommand, IsNoCommand};
 ghost use Rattle.mono_script.specs.Lines.{lines, AreEventLines};
 ghost use Rattle.mono_script.specs.Ending.{max_input};
 
@@ -18,7 +19,7 @@ pub fn status_of(alloc: Global, words: &Vec<String>, input: Vec<u8>) -> u8
     ensures usage { result ≡ 2 ↔ IsNoCommand (map string_bytes words.now.items) }
     ensures no_read_fault { result ≢ 4 }
     ensures no_write_fault { result ≢ 5 }
-    ensures complete { (limits : Limits) (strategy : Blocking) (events : List Event) → IsReplay (map string_bytes words.now.items) limits strategy → length input.items ≤ max_input → AreEventLines events (lines input.items) → (result ≡ 0) ⊎ (result ≡ 6) }
+    ensures complete { (limits : Limits) (strategy : Blocking) (events : List Event) → IsCommand (map string_bytes words.now.items) (command.Replay limits strategy) → length input.items ≤ max_input → AreEventLines events (lines input.items) → (result ≡ 0) ⊎ (result ≡ 6) }
 {
     let mut source = PlainSource::new(input);
     let mut sink = PlainSink::new();

@@ -116,9 +116,9 @@ fn rows() -> [Row; 38] {
             output: b"".as_slice(),
             status: 2,
         },
-        // no command
+        // a count above its bound
         Row {
-            words: "load 0 2",
+            words: "load 0 100001",
             input: b"spawn\n".as_slice(),
             output: b"".as_slice(),
             status: 2,

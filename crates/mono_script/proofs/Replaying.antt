@@ -27,7 +27,7 @@ use Rattle.mono_rt.specs.Machine.{Machine, start_machine}
 use Rattle.mono_rt.specs.Steps.{Step, Run}
 use Rattle.mono_rt.specs.Stands.{Stands}
 use Rattle.mono_script.specs.Written.{how_text, act_text, step_text, end_text, parts_text, event_text, FitsAct, FitsStep, FitsEnd, FitSteps, FitsEvent, report_line}
-use Rattle.mono_script.specs.Lines.{Line, onto_first, lines, IsEventLine, AreEventLines, IsFirstBad, BeginsWith, BeginsWithNone}
+use Rattle.mono_script.specs.Lines.{AreLines, IsFirstWrong, Line, onto_first, lines, IsEventLine, AreEventLines, IsFirstBad, BeginsWith, BeginsWithNone}
 use Rattle.mono_script.specs.Answers.{IsReplayed, Answers}
 
 -- ---- the text of an event has no line feed
@@ -212,12 +212,15 @@ first_bad limits strategy input count exec out (b ∷ rest) p some none =
     let f = first_line b rest in
     (p.events, p.good, f.0, f.1, p.split ∙ ap (λ x. p.good ++ x) f.2, p.each, omega (arith, p.counted), no_event (b ∷ rest) f.0 f.1 f.2 none)
 
--- lines that all say events have no first bad one
-good_and_bad : (good : List Line) (bad : Line) (rest : List Line) (events : List Event) → AreEventLines events (good ++ bad ∷ rest) → ((e : Event) → IsEventLine e bad → ⊥) → ⊥
-good_and_bad [] bad rest [] p none = p
-good_and_bad [] bad rest (e ∷ events) p none = none e p.0
-good_and_bad (g ∷ good) bad rest [] p none = p
-good_and_bad (g ∷ good) bad rest (e ∷ events) p none = good_and_bad good bad rest events p.1 none
+-- lines that all say values have no first wrong one
+good_and_bad : {A : Type 0} (Says : A → Line → Type 0) (good : List Line) (bad : Line) (rest : List Line) (xs : List A) → AreLines Says xs (good ++ bad ∷ rest) → ((x : A) → Says x bad → ⊥) → ⊥
+good_and_bad Says [] bad rest [] p none = p
+good_and_bad Says [] bad rest (x ∷ xs) p none = none x p.0
+good_and_bad Says (g ∷ good) bad rest [] p none = p
+good_and_bad Says (g ∷ good) bad rest (x ∷ xs) p none = good_and_bad Says good bad rest xs p.1 none
+
+pub not_both_of : {A : Type 0} (Says : A → Line → Type 0) (xs : List A) (ls : List Line) (n : ℕ) → AreLines Says xs ls → IsFirstWrong Says ls n → ⊥
+not_both_of Says xs ls n p b = good_and_bad Says b.1 b.2 b.3 xs (subst (AreLines Says xs) b.4 p) b.7
 
 pub not_both : (events : List Event) (ls : List Line) (n : ℕ) → AreEventLines events ls → IsFirstBad ls n → ⊥
-not_both events ls n p b = good_and_bad b.1 b.2 b.3 events (subst (AreEventLines events) b.4 p) b.7
+not_both events ls n p b = not_both_of IsEventLine events ls n p b

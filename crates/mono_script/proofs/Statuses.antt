@@ -1,15 +1,31 @@
--- What each status number says, from what the status says.
-use Rattle.std.proofs.Common.{◌≡◌, ◌≢◌, ◌↔◌, ◌⊎◌, ℕ, ◌<◌, ◌≤◌, List, Option, Some, length, refl, sym, ap, subst, ◌∙◌, arith, inl, inr}
-use Rattle.mono_rt.specs.declared.events.Limits.{Limits}
-use Rattle.mono_rt.specs.declared.events.Blocking.{Blocking}
-use Rattle.mono_rt.specs.declared.events.Event.{Event}
-use Rattle.mono_script.specs.Lines.{lines, AreEventLines, IsFirstBad}
-use Rattle.mono_script.specs.Answers.{IsReplayed}
+-- What each status number says, from what the status says; for every command.
+use Rattle.std.proofs.Common.{◌≡◌, ◌≢◌, ◌↔◌, ◌⊎◌, ℕ, ◌<◌, ◌≤◌, Bool, true, false, List, Option, Some, length, refl, sym, ap, subst, ◌∙◌, arith, inl, inr}
+use Rattle.mono_script.specs.declared.command.Command.{Command}
+use Rattle.mono_script.specs.declared.command.Command.TheVariants as command
+use Rattle.mono_script.specs.Lines.{lines}
 use Rattle.mono_script.specs.Outside.{HasReadAll, IsLongerThan}
-use Rattle.mono_script.specs.Ending.{Ends, IsDone, NamesBadLine, IsCutShort, IsRead, IsOutput, status_code, max_input}
-use Rattle.mono_script.specs.declared.top.Status.{Status}
-use Rattle.mono_script.specs.declared.top.Status.TheVariants as status
+use Rattle.mono_script.specs.Ending.{Meaning, Ends, HasInput, IsInput, HasAnswered, NamesBadLine, IsCutShort, IsRead, IsAnswered, status_code, max_input}
+use Rattle.mono_script.specs.Meanings.{meaning}
+use Rattle.mono_script.specs.declared.ends.Status.{Status}
+use Rattle.mono_script.specs.declared.ends.Status.TheVariants as status
 use Rattle.mono_script.proofs.Replaying.{not_both}
+
+-- ---- each command: what is owed of its meaning
+
+-- a good input has no first bad line, and an answer is one to a good input
+pub record Sound (m : Meaning) : Type 0 where
+  pub apart : (input : List ℕ) (n : ℕ) → m.IsGood input → m.IsFirstBad input n → ⊥
+  pub good : (input : List ℕ) (s : Status) (output : List ℕ) → m.Answers input s output → m.IsGood input
+
+pub sound : (c : Command) → Sound (meaning c)
+sound (command.Replay l g) = record {
+  apart = λ input n good bad. not_both good.0 (lines input) n good.1 bad;
+  good = λ input s output a. (a.1.events, a.1.are_lines);
+}
+sound (command.Load seed count) = record {
+  apart = λ input n good bad. bad;
+  good = λ input s output a. tt;
+}
 
 -- ---- one status, one number
 
@@ -22,6 +38,15 @@ done status.WriteFault e = absurd (omega (arith, e))
 done status.OutOfMemory e = absurd (omega (arith, e))
 done status.TooLong e = absurd (omega (arith, e))
 
+pub bad_line : (s : Status) → status_code s ≡ 3 → s ≡ status.BadLine
+bad_line status.BadLine e = refl
+bad_line status.Done e = absurd (omega (arith, e))
+bad_line status.Usage e = absurd (omega (arith, e))
+bad_line status.ReadFault e = absurd (omega (arith, e))
+bad_line status.WriteFault e = absurd (omega (arith, e))
+bad_line status.OutOfMemory e = absurd (omega (arith, e))
+bad_line status.TooLong e = absurd (omega (arith, e))
+
 pub write_fault : (s : Status) → status_code s ≡ 5 → s ≡ status.WriteFault
 write_fault status.WriteFault e = refl
 write_fault status.Done e = absurd (omega (arith, e))
@@ -33,59 +58,73 @@ write_fault status.TooLong e = absurd (omega (arith, e))
 
 -- ---- where a status comes
 
--- the bytes that were read are those that the source told
-same_input : (left : Option (List ℕ)) (input bytes : List ℕ) (rest : Option (List ℕ)) → left ≡ Some input → HasReadAll left bytes rest → input ≡ bytes
-same_input left input bytes rest told read = let k : HasReadAll (Some input) bytes rest = subst (λ l. HasReadAll l bytes rest) told read in k.0
-
 longer : (left : Option (List ℕ)) (input : List ℕ) → left ≡ Some input → IsLongerThan max_input left → max_input < length input
 longer left input told long = subst (IsLongerThan max_input) told long
 
-short_or_long : (left rest : Option (List ℕ)) (input bytes : List ℕ) → left ≡ Some input → HasReadAll left bytes rest → length bytes ≤ max_input → length input ≤ max_input
-short_or_long left rest input bytes told read short = rw (same_input left input bytes rest told read) short
+-- what was read is the input, which is not too long
+had : (reads : Bool) (left : Option (List ℕ)) (input bytes : List ℕ) (rest : Option (List ℕ)) → IsInput reads left input → HasInput reads left bytes rest
+    → (input ≡ bytes) × (length input ≤ max_input)
+had true left input bytes rest told read =
+    let k : HasReadAll (Some input) bytes rest = subst (λ l. HasReadAll l bytes rest) told read.0 in
+    (k.0, rw k.0 read.1)
+had false left input bytes rest told read = (told ∙ sym read.0, rw told (omega arith))
 
-pub long_where : (l : Limits) (g : Blocking) (left rest before after : Option (List ℕ)) (R W : Type 0) (input : List ℕ) (s : Status)
-    → Ends l g left rest before after R W s → left ≡ Some input → IsRead (status_code s) → (status_code s ≡ 7 ↔ max_input < length input)
-long_where l g left rest b a R W input status.Done p told read =
-    (λ e. absurd (omega (arith, e)), λ long. absurd (omega (arith, long, short_or_long left rest input p.input told p.read p.short)))
-long_where l g left rest b a R W input status.BadLine p told read =
-    (λ e. absurd (omega (arith, e)), λ long. absurd (omega (arith, long, short_or_long left rest input p.input told p.read p.short)))
-long_where l g left rest b a R W input status.WriteFault p told read =
-    (λ e. absurd (omega (arith, e)), λ long. absurd (omega (arith, long, short_or_long left rest input p.1.input told p.1.read p.1.short)))
-long_where l g left rest b a R W input status.TooLong p told read = (λ _. longer left input told p.0, λ _. refl)
-long_where l g left rest b a R W input status.ReadFault p told read = absurd (read.read_fault refl)
-long_where l g left rest b a R W input status.OutOfMemory p told read = absurd (read.memory refl)
-long_where l g left rest b a R W input status.Usage p told read = absurd p
+too_long : (reads : Bool) (left : Option (List ℕ)) (input : List ℕ) → reads ≡ true → IsInput reads left input → IsLongerThan max_input left → max_input < length input
+too_long true left input r told long = longer left input told long
+too_long false left input r told long = cc r
 
-both : (l : Limits) (g : Blocking) (input bytes output : List ℕ) (n : ℕ) → input ≡ bytes → IsReplayed l g bytes output → IsFirstBad (lines input) n → ⊥
-both l g input bytes output n e r bad = not_both r.events (lines bytes) n r.are_lines (subst (λ x. IsFirstBad (lines x) n) e bad)
+pub long_where : (m : Meaning) (left rest before after : Option (List ℕ)) (R W : Type 0) (input : List ℕ) (s : Status)
+    → Ends m left rest before after R W s → IsInput m.reads left input → IsRead (status_code s) → (status_code s ≡ 7 ↔ max_input < length input)
+long_where m left rest b a R W input status.Done p told read =
+    let h = had m.reads left input p.input rest told p.read in (λ e. absurd (omega (arith, e)), λ long. absurd (omega (arith, long, h.1)))
+long_where m left rest b a R W input status.BadLine p told read =
+    let h = had m.reads left input p.input rest told p.read in (λ e. absurd (omega (arith, e)), λ long. absurd (omega (arith, long, h.1)))
+long_where m left rest b a R W input status.WriteFault p told read =
+    let h = had m.reads left input p.1.input rest told p.1.read in (λ e. absurd (omega (arith, e)), λ long. absurd (omega (arith, long, h.1)))
+long_where m left rest b a R W input status.TooLong p told read = (λ _. too_long m.reads left input p.0 told p.1, λ _. refl)
+long_where m left rest b a R W input status.ReadFault p told read = absurd (read.read_fault refl)
+long_where m left rest b a R W input status.OutOfMemory p told read = absurd (read.memory refl)
+long_where m left rest b a R W input status.Usage p told read = absurd p
 
-pub bad_where : (l : Limits) (g : Blocking) (left rest before after : Option (List ℕ)) (R W : Type 0) (input : List ℕ) (s : Status)
-    → Ends l g left rest before after R W s → left ≡ Some input → IsRead (status_code s) → status_code s ≢ 5
-    → (status_code s ≡ 3 ↔ (length input ≤ max_input) × ((n : ℕ) × IsFirstBad (lines input) n))
-bad_where l g left rest b a R W input status.Done p told read wrote =
-    (λ e. absurd (omega (arith, e)), λ bad. absurd (both l g input p.input p.output bad.1.0 (same_input left input p.input rest told p.read) p.replayed bad.1.1))
-bad_where l g left rest b a R W input status.BadLine p told read wrote =
-    let same = same_input left input p.input rest told p.read in
-    (λ _. (short_or_long left rest input p.input told p.read p.short, (p.line, subst (λ x. IsFirstBad (lines x) p.line) (sym same) p.first)), λ _. refl)
-bad_where l g left rest b a R W input status.TooLong p told read wrote =
-    (λ e. absurd (omega (arith, e)), λ bad. absurd (omega (arith, bad.0, longer left input told p.0)))
-bad_where l g left rest b a R W input status.WriteFault p told read wrote = absurd (wrote refl)
-bad_where l g left rest b a R W input status.ReadFault p told read wrote = absurd (read.read_fault refl)
-bad_where l g left rest b a R W input status.OutOfMemory p told read wrote = absurd (read.memory refl)
-bad_where l g left rest b a R W input status.Usage p told read wrote = absurd p
+-- an answer keeps a bad line away
+answered : (m : Meaning) → Sound m → (t : Status) (left rest before after : Option (List ℕ)) (input : List ℕ) → HasAnswered m t left rest before after → IsInput m.reads left input
+    → (n : ℕ) → m.IsFirstBad input n → ⊥
+answered m sound t left rest b a input p told n bad =
+    let h = had m.reads left input p.input rest told p.read in
+    sound.apart p.input n (sound.good p.input t p.output p.answers) (subst (λ x. m.IsFirstBad x n) h.0 bad)
 
-pub completed : (l : Limits) (g : Blocking) (left rest before after : Option (List ℕ)) (R W : Type 0) (input : List ℕ) (events : List Event) (s : Status)
-    → Ends l g left rest before after R W s → left ≡ Some input → length input ≤ max_input → AreEventLines events (lines input) → (R → ⊥) → (W → ⊥)
-    → (status_code s ≡ 0) ⊎ (status_code s ≡ 6)
-completed l g left rest b a R W input events status.Done p told short good no_read no_write = inl refl
-completed l g left rest b a R W input events status.OutOfMemory p told short good no_read no_write = inr refl
-completed l g left rest b a R W input events status.BadLine p told short good no_read no_write =
-    let same = same_input left input p.input rest told p.read in
-    absurd (not_both events (lines input) p.line good (subst (λ x. IsFirstBad (lines x) p.line) (sym same) p.first))
-completed l g left rest b a R W input events status.TooLong p told short good no_read no_write = absurd (omega (arith, short, longer left input told p.0))
-completed l g left rest b a R W input events status.ReadFault p told short good no_read no_write = absurd (no_read p.0)
-completed l g left rest b a R W input events status.WriteFault p told short good no_read no_write = absurd (no_write p.0)
-completed l g left rest b a R W input events status.Usage p told short good no_read no_write = absurd p
+pub bad_where : (m : Meaning) → Sound m → (left rest before after : Option (List ℕ)) (R W : Type 0) (input : List ℕ) (s : Status)
+    → Ends m left rest before after R W s → IsInput m.reads left input → IsRead (status_code s) → status_code s ≢ 5
+    → (status_code s ≡ 3 ↔ (length input ≤ max_input) × ((n : ℕ) × m.IsFirstBad input n))
+bad_where m sound left rest b a R W input status.Done p told read wrote =
+    (λ e. absurd (omega (arith, e)), λ bad. absurd (answered m sound status.Done left rest b a input p told bad.1.0 bad.1.1))
+bad_where m sound left rest b a R W input status.BadLine p told read wrote =
+    let h = had m.reads left input p.input rest told p.read in
+    (λ _. (h.1, (p.line, subst (λ x. m.IsFirstBad x p.line) (sym h.0) p.first)), λ _. refl)
+bad_where m sound left rest b a R W input status.TooLong p told read wrote =
+    (λ e. absurd (omega (arith, e)), λ bad. absurd (omega (arith, bad.0, too_long m.reads left input p.0 told p.1)))
+bad_where m sound left rest b a R W input status.WriteFault p told read wrote = absurd (wrote refl)
+bad_where m sound left rest b a R W input status.ReadFault p told read wrote = absurd (read.read_fault refl)
+bad_where m sound left rest b a R W input status.OutOfMemory p told read wrote = absurd (read.memory refl)
+bad_where m sound left rest b a R W input status.Usage p told read wrote = absurd p
+
+was_answered : (m : Meaning) (t : Status) (left rest before after : Option (List ℕ)) (input : List ℕ) → HasAnswered m t left rest before after → IsInput m.reads left input
+    → IsAnswered m input (status_code t)
+was_answered m t left rest b a input p told =
+    let h = had m.reads left input p.input rest told p.read in (t, refl, (p.output, subst (λ x. m.Answers x t p.output) (sym h.0) p.answers))
+
+pub completed : (m : Meaning) → Sound m → (left rest before after : Option (List ℕ)) (R W : Type 0) (input : List ℕ) (s : Status)
+    → Ends m left rest before after R W s → IsInput m.reads left input → length input ≤ max_input → m.IsGood input → (m.reads ≡ true → R → ⊥) → (W → ⊥)
+    → (status_code s ≡ 6) ⊎ IsAnswered m input (status_code s)
+completed m sound left rest b a R W input status.Done p told short good no_read no_write = inr (was_answered m status.Done left rest b a input p told)
+completed m sound left rest b a R W input status.OutOfMemory p told short good no_read no_write = inl refl
+completed m sound left rest b a R W input status.BadLine p told short good no_read no_write =
+    let h = had m.reads left input p.input rest told p.read in
+    absurd (sound.apart input p.line good (subst (λ x. m.IsFirstBad x p.line) (sym h.0) p.first))
+completed m sound left rest b a R W input status.TooLong p told short good no_read no_write = absurd (omega (arith, short, too_long m.reads left input p.0 told p.1))
+completed m sound left rest b a R W input status.ReadFault p told short good no_read no_write = absurd (no_read p.0 p.1)
+completed m sound left rest b a R W input status.WriteFault p told short good no_read no_write = absurd (no_write p.0)
+completed m sound left rest b a R W input status.Usage p told short good no_read no_write = absurd p
 
 -- ---- where the count of faults rose
 
@@ -109,6 +148,6 @@ rose_in_writing status.TooLong old new stays less = absurd (omega (arith, less, 
 
 -- ---- what a number says
 
-pub says : (l : Limits) (g : Blocking) (left rest before after : Option (List ℕ)) (R W : Type 0) (code n : ℕ) (s t : Status)
-    → code ≡ status_code s → Ends l g left rest before after R W s → code ≡ n → (status_code s ≡ n → s ≡ t) → Ends l g left rest before after R W t
-says l g left rest before after R W code n s t e p is same = subst (Ends l g left rest before after R W) (same (sym e ∙ is)) p
+pub says : (m : Meaning) (left rest before after : Option (List ℕ)) (R W : Type 0) (code n : ℕ) (s t : Status)
+    → code ≡ status_code s → Ends m left rest before after R W s → code ≡ n → (status_code s ≡ n → s ≡ t) → Ends m left rest before after R W t
+says m left rest before after R W code n s t e p is same = subst (Ends m left rest before after R W) (same (sym e ∙ is)) p

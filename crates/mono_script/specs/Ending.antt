@@ -1,13 +1,9 @@
--- How a replay command ends. Of the source, left is what it had left before and rest what it has left afterwards; of the
+-- How a command ends. Of the source, left is what it had left before and rest what it has left afterwards; of the
 -- sink, before and after are what was written before and afterwards.
-use Rattle.std.specs.Prelude.{◌≡◌, ◌≢◌, ℕ, ◌≤◌, Bool, true, false, List, [], ◌∷◌, ◌++◌, length, Option, codes, decimal}
-use Rattle.mono_rt.specs.declared.events.Limits.{Limits}
-use Rattle.mono_rt.specs.declared.events.Blocking.{Blocking}
-use Rattle.mono_script.specs.Lines.{lines, IsFirstBad}
-use Rattle.mono_script.specs.Answers.{IsReplayed}
+use Rattle.std.specs.Prelude.{◌≡◌, ◌≢◌, ℕ, ◌≤◌, ◌⊎◌, Bool, true, false, List, [], ◌∷◌, ◌++◌, length, Option, Some, codes, decimal}
 use Rattle.mono_script.specs.Outside.{HasReadAll, IsLongerThan, HasWritten, HasWrittenPrefix}
-use Rattle.mono_script.specs.declared.top.Status.{Status}
-use Rattle.mono_script.specs.declared.top.Status.TheVariants as status
+use Rattle.mono_script.specs.declared.ends.Status.{Status}
+use Rattle.mono_script.specs.declared.ends.Status.TheVariants as status
 
 -- the most bytes of an input
 abbrev pub max_input : ℕ
@@ -15,39 +11,6 @@ max_input = 16777216
 
 abbrev pub bad_line_text : ℕ → List ℕ
 bad_line_text n = codes "bad line " ++ decimal n ++ 10 ∷ []
-
--- The input was read to its end and replayed, and every line was written.
-pub record IsDone (limits : Limits) (strategy : Blocking) (left rest before after : Option (List ℕ)) : Type 0 where
-  pub input : List ℕ
-  pub output : List ℕ
-  pub read : HasReadAll left input rest
-  pub short : length input ≤ max_input
-  pub replayed : IsReplayed limits strategy input output
-  pub wrote : HasWritten before after output
-
--- The input was read to its end, and its first bad line was named.
-pub record NamesBadLine (left rest before after : Option (List ℕ)) : Type 0 where
-  pub input : List ℕ
-  pub line : ℕ
-  pub read : HasReadAll left input rest
-  pub short : length input ≤ max_input
-  pub first : IsFirstBad (lines input) line
-  pub wrote : HasWritten before after (bad_line_text line)
-
--- The output for an input with a bad line, or with none.
-abbrev pub IsOutput : Limits → Blocking → List ℕ → Bool → List ℕ → Type 0
-IsOutput limits strategy input true output = (n : ℕ) × IsFirstBad (lines input) n × (output ≡ bad_line_text n)
-IsOutput limits strategy input false output = IsReplayed limits strategy input output
-
--- The input was read to its end, and of an output for it the first few bytes were written.
-pub record IsCutShort (limits : Limits) (strategy : Blocking) (left rest before after : Option (List ℕ)) : Type 0 where
-  pub input : List ℕ
-  pub output : List ℕ
-  pub is_bad : Bool
-  pub read : HasReadAll left input rest
-  pub short : length input ≤ max_input
-  pub allowed : IsOutput limits strategy input is_bad output
-  pub wrote : HasWrittenPrefix before after output
 
 abbrev pub status_code : Status → ℕ
 status_code status.Done = 0
@@ -58,6 +21,62 @@ status_code status.WriteFault = 5
 status_code status.OutOfMemory = 6
 status_code status.TooLong = 7
 
+-- What a command is.
+pub record Meaning : Type 1 where
+  -- It reads the source. One that does not has no bytes as input.
+  pub reads : Bool
+  -- Each line of the input is in the command's form.
+  pub IsGood : List ℕ → Type 0
+  -- Line n of the input, counted from 1, is the first that is not, or that is missing.
+  pub IsFirstBad : List ℕ → ℕ → Type 0
+  -- For a good input: a status, which is Done or one of the command's own, and an output that go together.
+  pub Answers : List ℕ → Status → List ℕ → Type 0
+
+-- The input that a command goes by, where the source tells it.
+abbrev pub IsInput : Bool → Option (List ℕ) → List ℕ → Type 0
+IsInput true left input = left ≡ Some input
+IsInput false left input = input ≡ []
+
+-- The input was read to its end and is not too long; or none is read.
+abbrev pub HasInput : Bool → Option (List ℕ) → List ℕ → Option (List ℕ) → Type 0
+HasInput true left input rest = HasReadAll left input rest × (length input ≤ max_input)
+HasInput false left input rest = (input ≡ []) × (rest ≡ left)
+
+-- The command had its input, gave it the answer that goes with the status, and all of that was written.
+pub record HasAnswered (m : Meaning) (s : Status) (left rest before after : Option (List ℕ)) : Type 0 where
+  pub input : List ℕ
+  pub output : List ℕ
+  pub read : HasInput m.reads left input rest
+  pub answers : m.Answers input s output
+  pub wrote : HasWritten before after output
+
+-- The command had its input, and its first bad line was named.
+pub record NamesBadLine (m : Meaning) (left rest before after : Option (List ℕ)) : Type 0 where
+  pub input : List ℕ
+  pub line : ℕ
+  pub read : HasInput m.reads left input rest
+  pub first : m.IsFirstBad input line
+  pub wrote : HasWritten before after (bad_line_text line)
+
+-- What is to be written for the input, and the status that it then ends with.
+abbrev pub IsOutput : Meaning → List ℕ → Status → List ℕ → Type 0
+IsOutput m input status.Done output = m.Answers input status.Done output
+IsOutput m input status.BadLine output = (n : ℕ) × m.IsFirstBad input n × (output ≡ bad_line_text n)
+IsOutput m input status.Usage output = ⊥
+IsOutput m input status.ReadFault output = ⊥
+IsOutput m input status.WriteFault output = ⊥
+IsOutput m input status.OutOfMemory output = ⊥
+IsOutput m input status.TooLong output = ⊥
+
+-- The command had its input, and of an output for it the first few bytes were written.
+pub record IsCutShort (m : Meaning) (left rest before after : Option (List ℕ)) : Type 0 where
+  pub input : List ℕ
+  pub output : List ℕ
+  pub meant : Status
+  pub read : HasInput m.reads left input rest
+  pub allowed : IsOutput m input meant output
+  pub wrote : HasWrittenPrefix before after output
+
 -- No fault, no want of memory and no word kept the program from reading all of its input.
 pub record IsRead (code : ℕ) : Type 0 where
   pub usage : code ≢ 2
@@ -65,32 +84,19 @@ pub record IsRead (code : ℕ) : Type 0 where
   pub memory : code ≢ 6
 
 -- what each status says of the outside; reading and writing say that a count of faults rose
-abbrev pub Ends : Limits → Blocking → Option (List ℕ) → Option (List ℕ) → Option (List ℕ) → Option (List ℕ) → Type 0 → Type 0 → Status → Type 0
-Ends limits strategy left rest before after reading writing status.Done = IsDone limits strategy left rest before after
-Ends limits strategy left rest before after reading writing status.BadLine = NamesBadLine left rest before after
-Ends limits strategy left rest before after reading writing status.ReadFault = reading × (after ≡ before)
-Ends limits strategy left rest before after reading writing status.WriteFault = writing × IsCutShort limits strategy left rest before after
-Ends limits strategy left rest before after reading writing status.OutOfMemory = after ≡ before
-Ends limits strategy left rest before after reading writing status.TooLong = IsLongerThan max_input left × (after ≡ before)
-Ends limits strategy left rest before after reading writing status.Usage = ⊥
+abbrev pub Ends : Meaning → Option (List ℕ) → Option (List ℕ) → Option (List ℕ) → Option (List ℕ) → Type 0 → Type 0 → Status → Type 0
+Ends m left rest before after reading writing status.Done = HasAnswered m status.Done left rest before after
+Ends m left rest before after reading writing status.BadLine = NamesBadLine m left rest before after
+Ends m left rest before after reading writing status.ReadFault = (m.reads ≡ true) × reading × (after ≡ before)
+Ends m left rest before after reading writing status.WriteFault = writing × IsCutShort m left rest before after
+Ends m left rest before after reading writing status.OutOfMemory = after ≡ before
+Ends m left rest before after reading writing status.TooLong = (m.reads ≡ true) × IsLongerThan max_input left × (after ≡ before)
+Ends m left rest before after reading writing status.Usage = ⊥
 
--- what writing an output ended in
-abbrev pub IsWritten : Bool → List ℕ → Option (List ℕ) → Option (List ℕ) → Type 0 → Status → Type 0
-IsWritten is_bad text before after writing status.Done = (is_bad ≡ false) × HasWritten before after text
-IsWritten is_bad text before after writing status.BadLine = (is_bad ≡ true) × HasWritten before after text
-IsWritten is_bad text before after writing status.WriteFault = writing × HasWrittenPrefix before after text
-IsWritten is_bad text before after writing status.ReadFault = ⊥
-IsWritten is_bad text before after writing status.OutOfMemory = ⊥
-IsWritten is_bad text before after writing status.TooLong = ⊥
-IsWritten is_bad text before after writing status.Usage = ⊥
+-- A good input was answered, with this number as status.
+abbrev pub IsAnswered : Meaning → List ℕ → ℕ → Type 0
+IsAnswered m input code = (s : Status) × (code ≡ status_code s) × ((output : List ℕ) × m.Answers input s output)
 
--- what the answer to this input ended in
-abbrev pub EndsOn : Limits → Blocking → List ℕ → Option (List ℕ) → Option (List ℕ) → Type 0 → Status → Type 0
-EndsOn limits strategy input before after writing status.Done = (output : List ℕ) × IsReplayed limits strategy input output × HasWritten before after output
-EndsOn limits strategy input before after writing status.BadLine = (n : ℕ) × IsFirstBad (lines input) n × HasWritten before after (bad_line_text n)
-EndsOn limits strategy input before after writing status.WriteFault =
-    writing × (output : List ℕ) × (is_bad : Bool) × IsOutput limits strategy input is_bad output × HasWrittenPrefix before after output
-EndsOn limits strategy input before after writing status.OutOfMemory = after ≡ before
-EndsOn limits strategy input before after writing status.ReadFault = ⊥
-EndsOn limits strategy input before after writing status.TooLong = ⊥
-EndsOn limits strategy input before after writing status.Usage = ⊥
+-- what writing an output that goes with the status meant ended in
+abbrev pub IsWritten : Status → List ℕ → Option (List ℕ) → Option (List ℕ) → Type 0 → Status → Type 0
+IsWritten meant text before after writing s = ((s ≡ meant) × HasWritten before after text) ⊎ ((s ≡ status.WriteFault) × writing × HasWrittenPrefix before after text)

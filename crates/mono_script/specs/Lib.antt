@@ -6,3 +6,4 @@ pub mod Memory
 pub mod Answers
 pub mod Command
 pub mod Ending
+pub mod Meanings

@@ -2,7 +2,9 @@
 #![tactic(auto)]
 
 mod command;
+mod ends;
 mod laws;
+mod load_line;
 mod memory;
 mod plain;
 mod printer;
@@ -13,6 +15,8 @@ mod source;
 mod standard;
 mod top;
 
+pub use command::Command;
+pub use ends::Status;
 pub use laws::one_answer;
 pub use memory::{MemSink, MemSource};
 pub use mono_blocking::{NoSpawner, ThreadSpawner};
@@ -23,7 +27,7 @@ pub use replay::{Replayed, answer};
 pub use sink::{Sink, SinkFault, write_all};
 pub use source::{InputError, MAX_INPUT, Source, SourceFault, read_all};
 pub use standard::{StdinSource, StdoutSink};
-pub use top::{Status, program};
+pub use top::program;
 
 #[cfg(test)]
 mod tests;

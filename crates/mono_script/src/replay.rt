@@ -3,7 +3,10 @@ ghost use Rattle.std.specs.Prelude.{IfOk, OnOk};
 ghost use Rattle.mono_rt.specs.Machine.{Machine};
 ghost use Rattle.mono_rt.specs.Stands.{Stands};
 ghost use Rattle.mono_script.specs.Answers.{IsAnswer, Answers};
+ghost use Rattle.mono_script.specs.Ending.{IsOutput};
+ghost use Rattle.mono_script.specs.Meanings.{replaying};
 
+use crate::ends::{Output, Status, bad_line};
 use crate::printer::report_line;
 use crate::reader::Reader;
 use mono_rt::{Blocking, Event, Exec, Limits, List, Reply, Report, TurnStep};
@@ -79,4 +82,22 @@ pub fn answer(
         count += 1;
     }
     Ok(Replayed::Output(out))
+}
+
+// The replay's answer as an output.
+pub(crate) fn output_of_replay(
+    alloc: Global,
+    limits: Limits,
+    blocking: Blocking,
+    input: &[u8],
+) -> Result<Output, AllocError>
+    ensures { IfOk result (λ o. IsOutput (replaying limits blocking) input.now o.status o.text.items) }
+{
+    match answer(alloc, limits, blocking, input)? {
+        Replayed::BadLine(n) => bad_line(alloc, n),
+        Replayed::Output(text) => Ok(Output {
+            status: Status::Done,
+            text,
+        }),
+    }
 }

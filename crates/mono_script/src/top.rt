@@ -1,151 +1,109 @@
 // The top call: words, source and sink to a status.
-ghost use Rattle.std.specs.Prelude.{◌≡◌, ◌≢◌, ◌≤◌, ◌<◌, ◌↔◌, ◌⊎◌, List, ℕ, Some, length, IfOk, map, string_bytes};
-ghost use Rattle.mono_rt.specs.declared.events.Event.{Event};
+ghost use Rattle.std.specs.Prelude.{◌≡◌, ◌≢◌, ◌≤◌, ◌<◌, ◌↔◌, ◌⊎◌, true, false, List, ℕ, Some, length, IfOk, OnOk, IsErrOf, map, string_bytes};
 ghost use Rattle.mono_script.specs.Outside.{HasRisen, IsLongerThan};
-ghost use Rattle.mono_script.specs.Lines.{lines, AreEventLines, IsFirstBad};
-ghost use Rattle.mono_script.specs.Command.{IsReplay, IsNoCommand};
-ghost use Rattle.mono_script.specs.Ending.{IsDone, NamesBadLine, IsCutShort, IsRead, IsOutput, Ends, EndsOn, IsWritten, status_code, bad_line_text, max_input};
+ghost use Rattle.mono_script.specs.Command.{FitsCommand, IsCommand, IsNoCommand};
+ghost use Rattle.mono_script.specs.Ending.{HasInput, IsInput, HasAnswered, NamesBadLine, IsCutShort, IsRead, IsOutput, IsAnswered, Ends, IsWritten, status_code, max_input};
+ghost use Rattle.mono_script.specs.Meanings.{meaning};
+ghost use Rattle.mono_script.specs.declared.ends.Status.TheVariants as status;
+ghost use Rattle.mono_script.specs.declared.source.InputError.TheVariants as input_error;
 
-use crate::command::read_command;
-use crate::replay::{Replayed, answer};
+use crate::command::{Command, read_command};
+use crate::ends::{Output, Status};
+use crate::load_line::output_of_load;
+use crate::replay::output_of_replay;
 use crate::sink::{Sink, write_all};
 use crate::source::{InputError, Source, read_all};
-use mono_rt::{Blocking, Limits};
 use std::alloc::{AllocError, Global};
 
-/// How the program ends.
-#[derive(Clone, Copy, Debug, PartialEq, Eq)]
-pub enum Status {
-    /// 0: the input was read to its end, and all report lines were written.
-    Done,
-    /// 2: the words are no command.
-    Usage,
-    /// 3: a line is no event; `bad line n` was written.
-    BadLine,
-    /// 4: a read failed.
-    ReadFault,
-    /// 5: a write failed.
-    WriteFault,
-    /// 6: memory was refused.
-    OutOfMemory,
-    /// 7: the input has more than 2^24 bytes.
-    TooLong,
-}
-
-impl Status {
-    /// The number of the status.
-    pub fn code(self) -> u8
-        ensures { result ≡ status_code self }
-    {
-        match self {
-            Status::Done => 0,
-            Status::Usage => 2,
-            Status::BadLine => 3,
-            Status::ReadFault => 4,
-            Status::WriteFault => 5,
-            Status::OutOfMemory => 6,
-            Status::TooLong => 7,
-        }
+// What the command is to write for the input.
+fn made(alloc: Global, command: Command, input: &[u8]) -> Result<Output, AllocError>
+    requires { FitsCommand command }
+    ensures { IfOk result (λ o. IsOutput (meaning command) input.now o.status o.text.items) }
+{
+    match command {
+        Command::Replay(limits, blocking) => output_of_replay(alloc, limits, blocking, input),
+        Command::Load(seed, count) => output_of_load(alloc, seed, count, input),
     }
 }
 
-// All that is to be written, and whether it names a bad line.
-#[derive(Drop)]
-struct Output {
-    is_bad: bool,
-    text: Vec<u8>,
-}
-
-fn bad_line(alloc: Global, n: usize) -> Result<Vec<u8>, AllocError>
-    ensures { IfOk result (λ text. text.items ≡ bad_line_text n) }
+// Whether the command reads the source.
+fn reads(command: Command) -> bool
+    ensures { result ≡ (meaning command).reads }
 {
-    let mut buffer = itoa::Buffer::new();
-    let mut text = Vec::from_slice(alloc, b"bad line ")?;
-    text.extend_from_slice(buffer.format(n).as_bytes())?;
-    text.extend_from_slice(b"\n")?;
-    Ok(text)
+    match command {
+        Command::Replay(_, _) => true,
+        Command::Load(_, _) => false,
+    }
 }
 
-fn made(
+// The command's input; none where it does not read.
+fn input_of<S: Source>(
     alloc: Global,
-    limits: Limits,
-    blocking: Blocking,
-    input: &[u8],
-) -> Result<Output, AllocError>
-    ensures { IfOk result (λ o. IsOutput limits blocking input.now o.is_bad o.text.items) }
+    command: Command,
+    source: &mut S,
+) -> Result<Vec<u8>, InputError>
+    ensures ok { IfOk result (λ bytes. HasInput (meaning command).reads (S.left source.old) bytes.items (S.left source.new)) }
+    ensures reads { (IsErrOf result input_error.TooLong) ⊎ (IsErrOf result input_error.Fault) → (meaning command).reads ≡ true }
+    ensures long { IsErrOf result input_error.TooLong → IsLongerThan max_input (S.left source.old) }
+    ensures fault { IsErrOf result input_error.Fault → HasRisen (S.faults source.old) (S.faults source.new) }
+    ensures later { S.faults source.old ≤ S.faults source.new }
+    ensures stays { (IsErrOf result input_error.Fault → ⊥) → S.faults source.new ≡ S.faults source.old }
+    ensures unread { (meaning command).reads ≡ false → S.left source.new ≡ S.left source.old }
 {
-    match answer(alloc, limits, blocking, input)? {
-        Replayed::BadLine(n) => {
-            let text = bad_line(alloc, n)?;
-            Ok(Output { is_bad: true, text })
-        }
-        Replayed::Output(text) => Ok(Output {
-            is_bad: false,
-            text,
-        }),
+    if reads(command) {
+        read_all(alloc, source)
+    } else {
+        Ok(Vec::new(alloc))
     }
 }
 
-fn write_output<K: Sink>(sink: &mut K, is_bad: bool, text: &[u8]) -> Status
-    ensures wrote { IsWritten is_bad text.now (K.written sink.old) (K.written sink.new) (HasRisen (K.faults sink.old) (K.faults sink.new)) result }
+fn write_output<K: Sink>(sink: &mut K, meant: Status, text: &[u8]) -> Status
+    ensures wrote { IsWritten meant text.now (K.written sink.old) (K.written sink.new) (HasRisen (K.faults sink.old) (K.faults sink.new)) result }
     ensures later { K.faults sink.old ≤ K.faults sink.new }
-    ensures stays { result ≢ Status.WriteFault → K.faults sink.new ≡ K.faults sink.old }
+    ensures stays { result ≢ status.WriteFault → K.faults sink.new ≡ K.faults sink.old }
 {
     if write_all(sink, text).is_err() {
         return Status::WriteFault;
     }
-    if is_bad {
-        Status::BadLine
-    } else {
-        Status::Done
-    }
+    meant
 }
 
-fn answer_input<K: Sink>(
+// The command over its input, to the sink.
+fn carry_out<S: Source, K: Sink>(
     alloc: Global,
-    limits: Limits,
-    blocking: Blocking,
-    input: &[u8],
+    command: Command,
+    source: &mut S,
     sink: &mut K,
 ) -> Status
-    ensures ends { EndsOn limits blocking input.now (K.written sink.old) (K.written sink.new) (HasRisen (K.faults sink.old) (K.faults sink.new)) result }
-    ensures later { K.faults sink.old ≤ K.faults sink.new }
-    ensures stays { result ≢ Status.WriteFault → K.faults sink.new ≡ K.faults sink.old }
+    requires { FitsCommand command }
+    ensures ends { Ends (meaning command) (S.left source.old) (S.left source.new) (K.written sink.old) (K.written sink.new) (HasRisen (S.faults source.old) (S.faults source.new)) (HasRisen (K.faults sink.old) (K.faults sink.new)) result }
+    ensures later { (S.faults source.old ≤ S.faults source.new) × (K.faults sink.old ≤ K.faults sink.new) }
+    ensures read_stays { result ≢ status.ReadFault → S.faults source.new ≡ S.faults source.old }
+    ensures write_stays { result ≢ status.WriteFault → K.faults sink.new ≡ K.faults sink.old }
+    ensures unread { (meaning command).reads ≡ false → S.left source.new ≡ S.left source.old }
 {
-    match made(alloc, limits, blocking, input) {
-        Ok(output) => write_output(sink, output.is_bad, &output.text),
+    let input = match input_of(alloc, command, source) {
+        Ok(input) => input,
+        Err(InputError::Memory) => return Status::OutOfMemory,
+        Err(InputError::Fault) => return Status::ReadFault,
+        Err(InputError::TooLong) => return Status::TooLong,
+    };
+    match made(alloc, command, &input) {
+        Ok(output) => write_output(sink, output.status, &output.text),
         Err(_) => Status::OutOfMemory,
     }
 }
 
-fn replay_command<S: Source, K: Sink>(
-    alloc: Global,
-    limits: Limits,
-    blocking: Blocking,
-    source: &mut S,
-    sink: &mut K,
-) -> Status
-    ensures ends { Ends limits blocking (S.left source.old) (S.left source.new) (K.written sink.old) (K.written sink.new) (HasRisen (S.faults source.old) (S.faults source.new)) (HasRisen (K.faults sink.old) (K.faults sink.new)) result }
-    ensures later { (S.faults source.old ≤ S.faults source.new) × (K.faults sink.old ≤ K.faults sink.new) }
-    ensures read_stays { result ≢ Status.ReadFault → S.faults source.new ≡ S.faults source.old }
-    ensures write_stays { result ≢ Status.WriteFault → K.faults sink.new ≡ K.faults sink.old }
-{
-    match read_all(alloc, source) {
-        Ok(input) => answer_input(alloc, limits, blocking, &input, sink),
-        Err(InputError::Memory) => Status::OutOfMemory,
-        Err(InputError::Fault) => Status::ReadFault,
-        Err(InputError::TooLong) => Status::TooLong,
-    }
-}
-
-/// Reads the source, replays its events and writes one line for each report. The words are those behind the program's
-/// name; the one command is `replay STRATEGY TASKS JOBS SLEEPS`.
+/// Carries out the command that the words say: it reads the source, makes the answer and writes it. The words are those
+/// behind the program's name.
 ///
-/// Each status has a clause of its name that says what it means, and the clauses `usage`, `too_long_where` and
-/// `bad_line_where` say exactly where it comes: in the order of usage, reading, bad line, writing. A read or a write
-/// fault comes only where the count of that object rose in this call, and wherever it rose (`read_fault_where`,
-/// `write_fault_where`). Want of memory may come at any time before the first write. `complete` says that a good
-/// command over good input ends with 0, but for a fault or want of memory.
+/// What a command is stands in one record (`Meaning`): whether it reads, which input is good, which line of another is
+/// the first bad one, and which status and output answer a good input. Each status has a clause of its name that says
+/// what it means, for every command, and the clauses `usage`, `too_long_where` and `bad_line_where` say exactly where it
+/// comes: in the order of usage, reading, bad line, writing. A read or a write fault comes only where the count of that
+/// object rose in this call, and wherever it rose (`read_fault_where`, `write_fault_where`). Want of memory may come at
+/// any time before the first write. `complete` says that a good command over good input ends with an answer, but for a
+/// fault or want of memory.
 pub fn program<S: Source, K: Sink>(
     alloc: Global,
     words: &Vec<String>,
@@ -154,28 +112,23 @@ pub fn program<S: Source, K: Sink>(
 ) -> u8
     ensures usage { result ≡ 2 ↔ IsNoCommand (map string_bytes words.now.items) }
     ensures untouched { result ≡ 2 → (S.left source.new ≡ S.left source.old) × (K.written sink.new ≡ K.written sink.old) }
-    ensures done { result ≡ 0 → (limits : Limits) (strategy : Blocking) → IsReplay (map string_bytes words.now.items) limits strategy → IsDone limits strategy (S.left source.old) (S.left source.new) (K.written sink.old) (K.written sink.new) }
-    ensures bad_line { result ≡ 3 → NamesBadLine (S.left source.old) (S.left source.new) (K.written sink.old) (K.written sink.new) }
+    ensures done { result ≡ 0 → (c : Command) → IsCommand (map string_bytes words.now.items) c → HasAnswered (meaning c) status.Done (S.left source.old) (S.left source.new) (K.written sink.old) (K.written sink.new) }
+    ensures bad_line { result ≡ 3 → (c : Command) → IsCommand (map string_bytes words.now.items) c → NamesBadLine (meaning c) (S.left source.old) (S.left source.new) (K.written sink.old) (K.written sink.new) }
     ensures read_fault { result ≡ 4 → HasRisen (S.faults source.old) (S.faults source.new) × (K.written sink.new ≡ K.written sink.old) }
-    ensures write_fault { result ≡ 5 → HasRisen (K.faults sink.old) (K.faults sink.new) × ((limits : Limits) (strategy : Blocking) → IsReplay (map string_bytes words.now.items) limits strategy → IsCutShort limits strategy (S.left source.old) (S.left source.new) (K.written sink.old) (K.written sink.new)) }
+    ensures write_fault { result ≡ 5 → HasRisen (K.faults sink.old) (K.faults sink.new) × ((c : Command) → IsCommand (map string_bytes words.now.items) c → IsCutShort (meaning c) (S.left source.old) (S.left source.new) (K.written sink.old) (K.written sink.new)) }
     ensures out_of_memory { result ≡ 6 → K.written sink.new ≡ K.written sink.old }
     ensures too_long { result ≡ 7 → IsLongerThan max_input (S.left source.old) × (K.written sink.new ≡ K.written sink.old) }
-    ensures others { (status : Status) × (result ≡ status_code status) }
-    ensures too_long_where { (input : List ℕ) → S.left source.old ≡ Some input → IsRead result → (result ≡ 7 ↔ max_input < length input) }
-    ensures bad_line_where { (input : List ℕ) → S.left source.old ≡ Some input → IsRead result → result ≢ 5 → (result ≡ 3 ↔ (length input ≤ max_input) × ((n : ℕ) × IsFirstBad (lines input) n)) }
-    ensures complete { (limits : Limits) (strategy : Blocking) (input : List ℕ) (events : List Event) → IsReplay (map string_bytes words.now.items) limits strategy → S.left source.old ≡ Some input → length input ≤ max_input → AreEventLines events (lines input) → (HasRisen (S.faults source.old) (S.faults source.new) → ⊥) → (HasRisen (K.faults sink.old) (K.faults sink.new) → ⊥) → (result ≡ 0) ⊎ (result ≡ 6) }
+    ensures others { (s : Status) × (result ≡ status_code s) }
+    ensures too_long_where { (c : Command) (input : List ℕ) → IsCommand (map string_bytes words.now.items) c → IsInput (meaning c).reads (S.left source.old) input → IsRead result → (result ≡ 7 ↔ max_input < length input) }
+    ensures bad_line_where { (c : Command) (input : List ℕ) → IsCommand (map string_bytes words.now.items) c → IsInput (meaning c).reads (S.left source.old) input → IsRead result → result ≢ 5 → (result ≡ 3 ↔ (length input ≤ max_input) × ((n : ℕ) × (meaning c).IsFirstBad input n)) }
+    ensures complete { (c : Command) (input : List ℕ) → IsCommand (map string_bytes words.now.items) c → IsInput (meaning c).reads (S.left source.old) input → length input ≤ max_input → (meaning c).IsGood input → ((meaning c).reads ≡ true → HasRisen (S.faults source.old) (S.faults source.new) → ⊥) → (HasRisen (K.faults sink.old) (K.faults sink.new) → ⊥) → (result ≡ 6) ⊎ IsAnswered (meaning c) input result }
+    ensures unread { (c : Command) → IsCommand (map string_bytes words.now.items) c → (meaning c).reads ≡ false → S.left source.new ≡ S.left source.old }
     ensures read_fault_where { S.faults source.old < S.faults source.new → result ≡ 4 }
     ensures write_fault_where { K.faults sink.old < K.faults sink.new → result ≡ 5 }
     ensures counts { (S.faults source.old ≤ S.faults source.new) × (K.faults sink.old ≤ K.faults sink.new) }
 {
     match read_command(words) {
-        Some(command) => replay_command(
-            alloc,
-            command.limits,
-            command.blocking,
-            source,
-            sink,
-        ).code(),
+        Some(command) => carry_out(alloc, command, source, sink).code(),
         None => Status::Usage.code(),
     }
 }

@@ -1,52 +1,78 @@
-use Rattle.std.proofs.Common.{◌≡◌, ◌⊎◌, ℕ, sym, subst, ◌∙◌, List, map, string_bytes}
+use Rattle.std.proofs.Common.{◌≡◌, ◌⊎◌, ℕ, sym, ap, subst, ◌∙◌, List, map, string_bytes}
 use Rattle.mono_script.specs.Outside.{HasRisen}
-use Rattle.mono_script.specs.Ending.{IsRead, status_code}
-use Rattle.mono_script.specs.declared.top.Status.TheVariants as status
+use Rattle.mono_script.specs.Ending.{IsRead, HasAnswered, NamesBadLine, IsCutShort, status_code}
+use Rattle.mono_script.specs.Meanings.{meaning}
+use Rattle.mono_script.specs.declared.ends.Status.TheVariants as status
 use Rattle.mono_script.proofs.Commands.{command_once}
-use Rattle.mono_script.proofs.Statuses.{says, done, write_fault, bad_where, completed, rose_in_reading, rose_in_writing}
+use Rattle.mono_script.proofs.Statuses.{says, sound, done, bad_line, write_fault, long_where, bad_where, completed, rose_in_reading, rose_in_writing}
 use Rattle.mono_script.proofs.top.program.Goals as goal
 
 pub returns-in-Some-clause-done : goal.returns-in-Some-clause-done
-returns-in-Some-clause-done g c = λ is limits strategy words.
-    let same = command_once (map string_bytes c.args.words.now.items) limits c.in-Some.command.limits strategy c.in-Some.command.blocking words c.in-Some.ensures.found in
-    let ended = says c.in-Some.command.limits c.in-Some.command.blocking
-    (g.S.Source.left c.args.source.now) (g.S.Source.left c.replay_command.new.source) (g.K.Sink.written c.args.sink.now) (g.K.Sink.written c.replay_command.new.sink)
-    (HasRisen (g.S.Source.faults c.args.source.now) (g.S.Source.faults c.replay_command.new.source)) (HasRisen (g.K.Sink.faults c.args.sink.now) (g.K.Sink.faults c.replay_command.new.sink))
-    c.code.result 0 c.replay_command.result status.Done c.code.ensures c.replay_command.ensures.ends is (done c.replay_command.result) in
-    rw (same.0, same.1) ended
+returns-in-Some-clause-done g c = λ is d words.
+    let same = command_once (map string_bytes c.args.words.now.items) d c.in-Some.command words c.in-Some.ensures.found in
+    let ended = says (meaning c.in-Some.command)
+    (g.S.Source.left c.args.source.now) (g.S.Source.left c.carry_out.new.source) (g.K.Sink.written c.args.sink.now) (g.K.Sink.written c.carry_out.new.sink)
+    (HasRisen (g.S.Source.faults c.args.source.now) (g.S.Source.faults c.carry_out.new.source)) (HasRisen (g.K.Sink.faults c.args.sink.now) (g.K.Sink.faults c.carry_out.new.sink))
+    c.code.result 0 c.carry_out.result status.Done c.code.ensures c.carry_out.ensures.ends is (done c.carry_out.result) in
+    rw same ended
+
+pub returns-in-Some-clause-bad_line : goal.returns-in-Some-clause-bad_line
+returns-in-Some-clause-bad_line g c = λ is d words.
+    let same = command_once (map string_bytes c.args.words.now.items) d c.in-Some.command words c.in-Some.ensures.found in
+    let ended = says (meaning c.in-Some.command)
+    (g.S.Source.left c.args.source.now) (g.S.Source.left c.carry_out.new.source) (g.K.Sink.written c.args.sink.now) (g.K.Sink.written c.carry_out.new.sink)
+    (HasRisen (g.S.Source.faults c.args.source.now) (g.S.Source.faults c.carry_out.new.source)) (HasRisen (g.K.Sink.faults c.args.sink.now) (g.K.Sink.faults c.carry_out.new.sink))
+    c.code.result 3 c.carry_out.result status.BadLine c.code.ensures c.carry_out.ensures.ends is (bad_line c.carry_out.result) in
+    rw same ended
 
 pub returns-in-Some-clause-write_fault : goal.returns-in-Some-clause-write_fault
 returns-in-Some-clause-write_fault g c = λ is.
-    let ended = says c.in-Some.command.limits c.in-Some.command.blocking
-    (g.S.Source.left c.args.source.now) (g.S.Source.left c.replay_command.new.source) (g.K.Sink.written c.args.sink.now) (g.K.Sink.written c.replay_command.new.sink)
-    (HasRisen (g.S.Source.faults c.args.source.now) (g.S.Source.faults c.replay_command.new.source)) (HasRisen (g.K.Sink.faults c.args.sink.now) (g.K.Sink.faults c.replay_command.new.sink))
-    c.code.result 5 c.replay_command.result status.WriteFault c.code.ensures c.replay_command.ensures.ends is (write_fault c.replay_command.result) in (
+    let ended = says (meaning c.in-Some.command)
+    (g.S.Source.left c.args.source.now) (g.S.Source.left c.carry_out.new.source) (g.K.Sink.written c.args.sink.now) (g.K.Sink.written c.carry_out.new.sink)
+    (HasRisen (g.S.Source.faults c.args.source.now) (g.S.Source.faults c.carry_out.new.source)) (HasRisen (g.K.Sink.faults c.args.sink.now) (g.K.Sink.faults c.carry_out.new.sink))
+    c.code.result 5 c.carry_out.result status.WriteFault c.code.ensures c.carry_out.ensures.ends is (write_fault c.carry_out.result) in (
       ended.0,
-      λ limits strategy words.
-          let same = command_once (map string_bytes c.args.words.now.items) limits c.in-Some.command.limits strategy c.in-Some.command.blocking words c.in-Some.ensures.found in
-          rw (same.0, same.1) ended.1,
+      λ d words.
+          let same = command_once (map string_bytes c.args.words.now.items) d c.in-Some.command words c.in-Some.ensures.found in
+          rw same ended.1,
     )
 
+pub returns-in-Some-clause-too_long_where : goal.returns-in-Some-clause-too_long_where
+returns-in-Some-clause-too_long_where g c = λ d input words told read.
+    let same = command_once (map string_bytes c.args.words.now.items) d c.in-Some.command words c.in-Some.ensures.found in
+    let where_long = long_where (meaning c.in-Some.command)
+    (g.S.Source.left c.args.source.now) (g.S.Source.left c.carry_out.new.source) (g.K.Sink.written c.args.sink.now) (g.K.Sink.written c.carry_out.new.sink)
+    (HasRisen (g.S.Source.faults c.args.source.now) (g.S.Source.faults c.carry_out.new.source)) (HasRisen (g.K.Sink.faults c.args.sink.now) (g.K.Sink.faults c.carry_out.new.sink))
+    input c.carry_out.result c.carry_out.ensures.ends (rw same at told) (subst IsRead c.code.ensures read) in
+    rw c.code.ensures where_long
+
 pub returns-in-Some-clause-bad_line_where : goal.returns-in-Some-clause-bad_line_where
-returns-in-Some-clause-bad_line_where g c = λ input told read wrote.
-    let where_bad = bad_where c.in-Some.command.limits c.in-Some.command.blocking
-    (g.S.Source.left c.args.source.now) (g.S.Source.left c.replay_command.new.source) (g.K.Sink.written c.args.sink.now) (g.K.Sink.written c.replay_command.new.sink)
-    (HasRisen (g.S.Source.faults c.args.source.now) (g.S.Source.faults c.replay_command.new.source)) (HasRisen (g.K.Sink.faults c.args.sink.now) (g.K.Sink.faults c.replay_command.new.sink))
-    input c.replay_command.result c.replay_command.ensures.ends told (subst IsRead c.code.ensures read) (rw c.code.ensures at wrote) in
-    rw c.code.ensures where_bad
+returns-in-Some-clause-bad_line_where g c = λ d input words told read wrote.
+    let same = command_once (map string_bytes c.args.words.now.items) d c.in-Some.command words c.in-Some.ensures.found in
+    let where_bad = bad_where (meaning c.in-Some.command) (sound c.in-Some.command)
+    (g.S.Source.left c.args.source.now) (g.S.Source.left c.carry_out.new.source) (g.K.Sink.written c.args.sink.now) (g.K.Sink.written c.carry_out.new.sink)
+    (HasRisen (g.S.Source.faults c.args.source.now) (g.S.Source.faults c.carry_out.new.source)) (HasRisen (g.K.Sink.faults c.args.sink.now) (g.K.Sink.faults c.carry_out.new.sink))
+    input c.carry_out.result c.carry_out.ensures.ends (rw same at told) (subst IsRead c.code.ensures read) (rw c.code.ensures at wrote) in
+    rw (same, c.code.ensures) where_bad
 
 pub returns-in-Some-clause-complete : goal.returns-in-Some-clause-complete
-returns-in-Some-clause-complete g c = λ limits strategy input events words told short good no_read no_write.
-    let ended = completed c.in-Some.command.limits c.in-Some.command.blocking
-    (g.S.Source.left c.args.source.now) (g.S.Source.left c.replay_command.new.source) (g.K.Sink.written c.args.sink.now) (g.K.Sink.written c.replay_command.new.sink)
-    (HasRisen (g.S.Source.faults c.args.source.now) (g.S.Source.faults c.replay_command.new.source)) (HasRisen (g.K.Sink.faults c.args.sink.now) (g.K.Sink.faults c.replay_command.new.sink))
-    input events c.replay_command.result c.replay_command.ensures.ends told short good no_read no_write in
-    rw c.code.ensures ended
+returns-in-Some-clause-complete g c = λ d input words told short good no_read no_write.
+    let same = command_once (map string_bytes c.args.words.now.items) d c.in-Some.command words c.in-Some.ensures.found in
+    let ended = completed (meaning c.in-Some.command) (sound c.in-Some.command)
+    (g.S.Source.left c.args.source.now) (g.S.Source.left c.carry_out.new.source) (g.K.Sink.written c.args.sink.now) (g.K.Sink.written c.carry_out.new.sink)
+    (HasRisen (g.S.Source.faults c.args.source.now) (g.S.Source.faults c.carry_out.new.source)) (HasRisen (g.K.Sink.faults c.args.sink.now) (g.K.Sink.faults c.carry_out.new.sink))
+    input c.carry_out.result c.carry_out.ensures.ends (rw same at told) short (rw same at good) (rw same at no_read) no_write in
+    rw (same, c.code.ensures) ended
+
+pub returns-in-Some-clause-unread : goal.returns-in-Some-clause-unread
+returns-in-Some-clause-unread g c = λ d words off.
+    let same = command_once (map string_bytes c.args.words.now.items) d c.in-Some.command words c.in-Some.ensures.found in
+    c.carry_out.ensures.unread (rw same at off)
 
 pub returns-in-Some-clause-read_fault_where : goal.returns-in-Some-clause-read_fault_where
 returns-in-Some-clause-read_fault_where g c = λ less.
-    c.code.ensures ∙ rose_in_reading c.replay_command.result (g.S.Source.faults c.args.source.now) (g.S.Source.faults c.replay_command.new.source) c.replay_command.ensures.read_stays less
+    c.code.ensures ∙ rose_in_reading c.carry_out.result (g.S.Source.faults c.args.source.now) (g.S.Source.faults c.carry_out.new.source) c.carry_out.ensures.read_stays less
 
 pub returns-in-Some-clause-write_fault_where : goal.returns-in-Some-clause-write_fault_where
 returns-in-Some-clause-write_fault_where g c = λ less.
-    c.code.ensures ∙ rose_in_writing c.replay_command.result (g.K.Sink.faults c.args.sink.now) (g.K.Sink.faults c.replay_command.new.sink) c.replay_command.ensures.write_stays less
+    c.code.ensures ∙ rose_in_writing c.carry_out.result (g.K.Sink.faults c.args.sink.now) (g.K.Sink.faults c.carry_out.new.sink) c.carry_out.ensures.write_stays less

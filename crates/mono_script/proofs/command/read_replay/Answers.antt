@@ -1,6 +1,6 @@
 use Rattle.std.proofs.Common.{rules, ◌≡◌, ◌∷◌, [], map, string_bytes, sym, ap, ◌∙◌}
 use Rattle.mono_script.proofs.Commands.{five}
-use Rattle.mono_script.proofs.command.read_command.Goals as goal
+use Rattle.mono_script.proofs.command.read_replay.Goals as goal
 
 pub returns-clause-none : goal.returns-clause-none
 returns-clause-none c =
