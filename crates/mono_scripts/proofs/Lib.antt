@@ -1,0 +1,4 @@
+pub mod Beginnings
+pub mod Fronts
+pub mod FirstBad
+pub mod Worked

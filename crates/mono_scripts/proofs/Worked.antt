@@ -1,0 +1,187 @@
+-- Worked scripts, by computation.
+use Rattle.std.proofs.Common.{◌≡◌, ℕ, ◌^◌, List, [], refl, sym, ap, ◌∙◌, lit≤, lit<, codes, Some}
+use Rattle.std.proofs.lemmas.List.{append-nil}
+use Rattle.std.specs.Fmt.{decimal}
+use Rattle.mono_script.specs.Reading.{digits_from}
+use Rattle.mono_script.proofs.Digits.{digits_found}
+use Rattle.std.proofs.Common.{◌+◌, ◌++◌, ◌∷◌, ◌≤◌, length, map, flat_map, arith, length-append, subst}
+use Rattle.std.proofs.lemmas.List.{length-map}
+use Rattle.mono_script.specs.Lines.{lines}
+use Rattle.mono_scripts.specs.Beginnings.{Begins, missing}
+use Rattle.mono_scripts.specs.Script.{Kind, Script, IsSound}
+use Rattle.mono_scripts.specs.Written.{IsScript, ended, script_texts, kind_texts, body_text, task_lines}
+use Rattle.std.proofs.Common.{Option, None}
+use Rattle.mono_rt.specs.declared.events.Reply.{Reply}
+use Rattle.mono_rt.specs.declared.events.Reply.TheVariants as reply
+use Rattle.mono_rt.specs.declared.events.End.TheVariants as end
+use Rattle.mono_scripts.specs.Driven.{kept, Gives, turn_at, start_of}
+use Rattle.mono_scripts.specs.declared.scripts.BodyLine.TheVariants as body
+use Rattle.std.proofs.Common.{◌<◌}
+use Rattle.mono_rt.specs.declared.events.Limits.{Limits}
+use Rattle.mono_script.specs.Lines.{Line}
+use Rattle.mono_scripts.specs.Script.{MayStand}
+use Rattle.mono_scripts.proofs.Fronts.{body_once, may_fit, no_done}
+use Rattle.mono_scripts.proofs.FirstBad.{bad_in_kind}
+use Rattle.mono_scripts.specs.Following.{MayFollow, goes_on, ends, front_texts}
+use Rattle.mono_scripts.specs.Worked.{NoSuchKind, no_such_kind_text, NoMemory, poll_sleep, NoKind, EndsInAKind, script, kind, ASleep, ChildTasks, AJob, NotItsTurn, ASleepIsWritten}
+
+abbrev all_kept : List Reply → List (Option Reply)
+all_kept [] = []
+all_kept (r ∷ rs) = Some r ∷ all_kept rs
+
+pub a_sleep : ASleep
+a_sleep = (all_kept (reply.Sleep 0 ∷ reply.Pending ∷ []), refl, (refl, refl, (all_kept (reply.Ready ∷ reply.Dropped None ∷ []), refl, (refl, refl, tt))))
+
+pub child_tasks : ChildTasks
+child_tasks = (
+  all_kept (reply.Task 1 ∷ reply.Task 2 ∷ reply.Pending ∷ []),
+  refl,
+  (
+    refl,
+    refl,
+    (
+      all_kept (reply.Sleep 0 ∷ reply.Pending ∷ []),
+      refl,
+      (
+        refl,
+        refl,
+        (
+          all_kept (reply.Sleep 1 ∷ reply.Pending ∷ []),
+          refl,
+          (
+            refl,
+            refl,
+            (
+              all_kept (reply.Ready ∷ reply.Dropped None ∷ []),
+              refl,
+              (
+                refl,
+                refl,
+                (
+                  all_kept (reply.Ready ∷ reply.Dropped None ∷ []),
+                  refl,
+                  (
+                    refl,
+                    refl,
+                    (all_kept (reply.Output 7 ∷ reply.Dropped None ∷ reply.Output 7 ∷ reply.Dropped None ∷ []), refl, (refl, refl, tt)),
+                  ),
+                ),
+              ),
+            ),
+          ),
+        ),
+      ),
+    ),
+  ),
+)
+
+pub a_job : AJob
+a_job = (all_kept (reply.Job 0 ∷ reply.Output 4 ∷ reply.Dropped None ∷ []), refl, (refl, refl, tt))
+
+-- the sleep was refused for want of memory, and the task went on
+pub no_memory : NoMemory
+no_memory = (None ∷ [], refl, (refl, refl, tt))
+
+pub not_its_turn : NotItsTurn
+not_its_turn d = wrong_turn d.0 d.1 d.2
+  where
+    wrong_turn : (answers : List (Option Reply)) → kept answers ≡ reply.Pending ∷ [] → Gives (turn_at (Some (start_of (kind (body.Yield ∷ []) 5))) 0 0 answers) (poll_sleep 0 ∷ []) end.Pending (λ turned. Unit {0}) → ⊥
+    wrong_turn [] e g = g
+    wrong_turn (None ∷ answers) e g = g
+    wrong_turn (Some r ∷ []) e g = cc g.0
+    wrong_turn (Some r ∷ a ∷ answers) e g = g
+
+-- ---- numbers as text, by what reading them gives
+
+number : (text : List ℕ) (n : ℕ) → digits_from (2 ^ 64) 0 0 text ≡ Some (n, []) → decimal n ≡ text
+number text n e = sym ((digits_found (2 ^ 64) text n [] (lit< tt) (lit≤ tt) e).0 ∙ append-nil (decimal n))
+
+sixteen : decimal 16 ≡ codes "16"
+unfolding digits_from
+sixteen = number (codes "16") 16 refl
+
+five : decimal 5 ≡ codes "5"
+unfolding digits_from
+five = number (codes "5") 5 refl
+
+tenth : decimal 100000000 ≡ codes "100000000"
+unfolding digits_from
+tenth = number (codes "100000000") 100000000 refl
+
+pub a_sleep_is_written : ASleepIsWritten
+a_sleep_is_written = record {
+  sound = record {
+    limits = record { tasks = lit< tt; jobs = lit< tt; sleeps = lit< tt };
+    some = lit≤ tt;
+    few = lit≤ tt;
+    each = (record { few = lit≤ tt; each = (lit< tt, tt); output = lit< tt }, tt);
+  };
+  text = rw (sixteen, five, tenth) refl;
+}
+
+one : decimal 1 ≡ codes "1"
+unfolding digits_from
+one = number (codes "1") 1 refl
+
+zero_text : decimal 0 ≡ codes "0"
+unfolding digits_from
+zero_text = number (codes "0") 0 refl
+
+-- a script has at least three lines
+three_lines : (s : Script) → 1 ≤ length s.kinds → 3 ≤ length (map ended (script_texts s))
+three_lines s some = by_kinds s.kinds some
+  where
+    by_kinds : (ks : List Kind) → 1 ≤ length ks → 3 ≤ length (map ended (script_texts (record { limits = s.limits; kinds = ks })))
+    by_kinds [] l = absurd (omega (arith, l))
+    by_kinds (k ∷ ks) l = omega (arith, length-map (script_texts (record { limits = s.limits; kinds = k ∷ ks })) ended, length-append (kind_texts k) (flat_map kind_texts ks), length-append (codes "task" ∷ map body_text k.body) ((codes "done " ++ decimal k.output) ∷ []))
+
+pub no_kind : NoKind
+no_kind = missing refl begins (λ s. omega (arith, three_lines s.0 s.1.some, ap length s.2))
+  where
+    begins : Begins (IsScript 0) (lines (codes "limits 1 1 1" ++ 10 ∷ []))
+    begins = (
+      ended (codes "task") ∷ ended (codes "done 0") ∷ [],
+      (
+        script 1 (kind [] 0 ∷ []),
+        record {
+          limits = record { tasks = lit< tt; jobs = lit< tt; sleeps = lit< tt };
+          some = lit≤ tt;
+          few = lit≤ tt;
+          each = (record { few = lit≤ tt; each = tt; output = lit< tt }, tt);
+        },
+        rw (one, zero_text) refl,
+      ),
+    )
+
+pub ends_in_a_kind : EndsInAKind
+ends_in_a_kind = missing refl begins (λ s. omega (arith, three_lines s.0 s.1.some, ap length s.2))
+  where
+    begins : Begins (IsScript 1) (lines ((codes "limits 1 1 1" ++ 10 ∷ []) ++ (codes "task" ++ 10 ∷ [])))
+    begins = (
+      ended (codes "done 0") ∷ [],
+      (
+        script 1 (kind [] 0 ∷ []),
+        record {
+          limits = record { tasks = lit< tt; jobs = lit< tt; sleeps = lit< tt };
+          some = lit≤ tt;
+          few = lit≤ tt;
+          each = (record { few = lit≤ tt; each = tt; output = lit< tt }, tt);
+        },
+        rw (one, zero_text) refl,
+      ),
+    )
+
+no_such_split : lines no_such_kind_text ≡ map ended (front_texts (record { tasks = 1; jobs = 1; sleeps = 1 }) [] []) ++ ended (codes "spawn 1") ∷ ended (codes "done 0") ∷ []
+no_such_split = rw one refl
+
+no_such_line : MayFollow 1 [] (ended (codes "spawn 1")) → ⊥
+no_such_line (goes_on c e may short) =
+    let text : body_text (body.Spawn 1) ≡ body_text c = ap (λ t. codes "spawn " ++ t) one ∙ ap (λ (l : Line). l.bytes) e in
+    let same : body.Spawn 1 ≡ c = body_once (body.Spawn 1) c (lit< tt) (may_fit 1 [] c may) text in
+    let m : MayStand 1 [] (body.Spawn 1) = subst (MayStand 1 []) (sym same) may in
+    omega (arith, m.1)
+no_such_line (ends o e fits) = no_done (body.Spawn 1) o (lit< tt) (ap (λ t. codes "spawn " ++ t) one ∙ ap (λ (l : Line). l.bytes) e)
+
+pub no_such_kind : NoSuchKind
+no_such_kind =
+    bad_in_kind no_such_kind_text (record { tasks = 1; jobs = 1; sleeps = 1 }) [] [] (ended (codes "spawn 1")) (ended (codes "done 0") ∷ []) (record { tasks = lit< tt; jobs = lit< tt; sleeps = lit< tt }) tt tt (lit< tt) (lit≤ tt) no_such_split no_such_line
