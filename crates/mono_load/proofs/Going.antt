@@ -1,14 +1,14 @@
 -- Runs one behind another, with their sums.
 use Rattle.std.proofs.Common.{◌≡◌, ℕ, zero, suc, ◌+◌, ◌*◌, ◌-◌, ◌%◌, ◌^◌, ◌<◌, ◌≤◌, List, [], ◌∷◌, ◌++◌, length, flat_map, refl, sym, ap, subst, ◌∙◌, arith, append_assoc, length-append, drop}
 use Rattle.std.proofs.lemmas.List.{append-nil}
-use Rattle.mono_rt.specs.Machine.{Machine, start_machine}
-use Rattle.mono_rt.specs.declared.events.Blocking.TheVariants as blocking
+use Rattle.mono_machine.specs.Machine.{Machine, start_machine}
+use Rattle.mono_machine.specs.declared.events.Blocking.TheVariants as blocking
 use Rattle.mono_combine.specs.Random.{seeded}
-use Rattle.mono_rt.specs.Steps.{Run, Step}
-use Rattle.mono_rt.specs.Stands.{Stands}
-use Rattle.mono_rt.specs.declared.executor.Exec.{Exec}
-use Rattle.mono_rt.specs.declared.events.Event.{Event}
-use Rattle.mono_rt.specs.declared.events.Report.{Report}
+use Rattle.mono_machine.specs.Steps.{Run, Step}
+use Rattle.mono_exec.specs.Stands.{Stands}
+use Rattle.mono_exec.specs.declared.executor.Exec.{Exec}
+use Rattle.mono_machine.specs.declared.events.Event.{Event}
+use Rattle.mono_machine.specs.declared.events.Report.{Report}
 use Rattle.mono_load.specs.Load.{load_limits, sleepers, clocks, endings, IsSummary, Goes, GoesOn, Adds, order_from, fired_in, total_of, refusals_in}
 use Rattle.mono_load.specs.declared.tallies.Tally.{Tally}
 

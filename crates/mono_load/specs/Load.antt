@@ -1,21 +1,21 @@
 -- The events of a load, and the summary of its reports.
 use Rattle.std.specs.Prelude.{◌≡◌, ℕ, zero, suc, ◌+◌, ◌*◌, ◌%◌, ◌^◌, List, [], ◌∷◌, ◌++◌, length, flat_map}
-use Rattle.mono_rt.specs.Machine.{Machine, start_machine}
-use Rattle.mono_rt.specs.Steps.{Run, Step}
-use Rattle.mono_rt.specs.Stands.{Stands}
-use Rattle.mono_rt.specs.declared.executor.Exec.{Exec}
-use Rattle.mono_rt.specs.declared.events.Limits.{Limits}
-use Rattle.mono_rt.specs.declared.events.Blocking.TheVariants as blocking
-use Rattle.mono_rt.specs.declared.events.Act.TheVariants as act
-use Rattle.mono_rt.specs.declared.events.Query.TheVariants as query
-use Rattle.mono_rt.specs.declared.events.TurnStep.TheVariants as step
-use Rattle.mono_rt.specs.declared.events.End.TheVariants as end
-use Rattle.mono_rt.specs.declared.events.Event.{Event}
-use Rattle.mono_rt.specs.declared.events.Event.TheVariants as event
-use Rattle.mono_rt.specs.declared.events.Reply.{Reply}
-use Rattle.mono_rt.specs.declared.events.Reply.TheVariants as reply
-use Rattle.mono_rt.specs.declared.events.Report.{Report}
-use Rattle.mono_rt.specs.declared.events.Report.TheVariants as report
+use Rattle.mono_machine.specs.Machine.{Machine, start_machine}
+use Rattle.mono_machine.specs.Steps.{Run, Step}
+use Rattle.mono_exec.specs.Stands.{Stands}
+use Rattle.mono_exec.specs.declared.executor.Exec.{Exec}
+use Rattle.mono_machine.specs.declared.events.Limits.{Limits}
+use Rattle.mono_machine.specs.declared.events.Blocking.TheVariants as blocking
+use Rattle.mono_machine.specs.declared.events.Act.TheVariants as act
+use Rattle.mono_machine.specs.declared.events.Query.TheVariants as query
+use Rattle.mono_machine.specs.declared.events.TurnStep.TheVariants as step
+use Rattle.mono_machine.specs.declared.events.End.TheVariants as end
+use Rattle.mono_machine.specs.declared.events.Event.{Event}
+use Rattle.mono_machine.specs.declared.events.Event.TheVariants as event
+use Rattle.mono_machine.specs.declared.events.Reply.{Reply}
+use Rattle.mono_machine.specs.declared.events.Reply.TheVariants as reply
+use Rattle.mono_machine.specs.declared.events.Report.{Report}
+use Rattle.mono_machine.specs.declared.events.Report.TheVariants as report
 use Rattle.mono_combine.specs.Random.{seeded, drawn, after_draw}
 use Rattle.mono_combine.specs.declared.random.FastRand.{FastRand}
 use Rattle.mono_load.specs.declared.loads.Summary.{Summary}

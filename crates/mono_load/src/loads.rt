@@ -4,7 +4,7 @@ ghost use Rattle.mono_load.specs.Load.{Goes, GoesOn, IsSummary, sleep_turn, slee
 
 use crate::tallies::{Tally, added};
 use mono_combine::FastRand;
-use mono_rt::{Act, Blocking, End, Event, Exec, Limits, List, Query, TurnStep};
+use mono_exec::{Act, Blocking, End, Event, Exec, Limits, List, Query, TurnStep};
 use std::alloc::{AllocError, Global};
 
 /// What the reports of a load come to.

@@ -1,11 +1,13 @@
 //! The words in which the crates of the executor speak of ticks, tasks, sleeps, jobs and the inbox.
 #![tactic(auto)]
 
+mod error;
 mod host;
 pub mod laws;
 mod poll;
 mod task_error;
 
+pub use error::{Error, SleepError};
 pub use host::Host;
 pub use poll::Poll;
 pub use task_error::TaskError;

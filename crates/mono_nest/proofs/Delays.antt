@@ -5,9 +5,10 @@ use Rattle.std.proofs.lemmas.Bool.{cases_eq}
 use Rattle.std.proofs.lemmas.List.{get_or-set_other, get_or-set_same}
 use Rattle.mono_model.specs.declared.poll.Poll.{Poll}
 use Rattle.mono_model.specs.declared.poll.Poll.TheVariants.{Pending}
-use Rattle.mono_time.specs.declared.error.Error.{Error}
+use Rattle.mono_model.specs.declared.error.Error.{Error}
 use Rattle.mono_model.specs.Table.{value_at}
-use Rattle.mono_time.specs.Sleeps.{Kept, SleepTable, fresh, armed, elapsed, polled_kept, is_ready_at, poll_of, of_live, poll_answer, changed_value, polled, removed, removed_value}
+use Rattle.mono_time.specs.Sleeps.{Kept, SleepTable, fresh, armed, elapsed, polled_kept, is_ready_at, of_live, poll_answer, changed_value, polled, removed, removed_value}
+use Rattle.mono_model.specs.SleepAnswers.{poll_of}
 use Rattle.mono_time.proofs.Holding.{given_inside, none-some}
 use Rattle.mono_nest.specs.Nests.{all_removed}
 

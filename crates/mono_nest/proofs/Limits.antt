@@ -10,10 +10,10 @@ use Rattle.mono_model.specs.declared.poll.Poll.TheVariants.{Ready, Pending}
 use Rattle.mono_task.specs.Members.{FutureOf}
 use Rattle.mono_time.specs.Sleeps.{SleepTable, poll_answer, polled, removed}
 use Rattle.mono_time.specs.Timeouts.{TimeoutPolls, TimeoutCancels, AfterValue, late_answer}
-use Rattle.mono_time.specs.declared.error.Error.{Error}
+use Rattle.mono_model.specs.declared.error.Error.{Error}
 use Rattle.mono_time.specs.declared.error.TimeoutError.{TimeoutError}
 use Rattle.mono_time.specs.declared.error.TimeoutError.TheVariants.{Elapsed}
-use Rattle.mono_time.specs.declared.sleeping.Sleep.{Sleep}
+use Rattle.mono_time.specs.declared.sleeps.Sleep.{Sleep}
 use Rattle.mono_nest.specs.Countdowns.{is_over, answer_of, one_fewer, answered, WakesItself, CountdownPolls}
 use Rattle.mono_nest.specs.Nests.{Limited, Waits, IsLate, polled_once}
 use Rattle.mono_nest.specs.declared.by_hand.Countdown.{Countdown}

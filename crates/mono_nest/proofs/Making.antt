@@ -7,12 +7,13 @@ use Rattle.std.proofs.lemmas.List.{get_or_append_left}
 use Rattle.mono_model.specs.Ticks.{up}
 use Rattle.mono_model.specs.Table.{value_at, next_number}
 use Rattle.mono_model.specs.declared.poll.Poll.TheVariants.{Pending}
-use Rattle.mono_time.specs.Sleeps.{Kept, SleepTable, Added, fresh, is_ready_at, poll_of, of_live, poll_answer, added}
+use Rattle.mono_time.specs.Sleeps.{Kept, SleepTable, Added, fresh, is_ready_at, of_live, poll_answer, added}
+use Rattle.mono_model.specs.SleepAnswers.{poll_of}
 use Rattle.mono_time.specs.Futures.{SleepMade}
-use Rattle.mono_time.specs.declared.sleeping.Sleep.{Sleep}
-use Rattle.mono_time.specs.declared.error.SleepError.{SleepError}
-use Rattle.mono_time.specs.declared.error.SleepError.TheVariants.{Timer, Memory}
-use Rattle.mono_time.specs.declared.error.Error.TheVariants.{Shutdown, AtCapacity, Invalid}
+use Rattle.mono_time.specs.declared.sleeps.Sleep.{Sleep}
+use Rattle.mono_model.specs.declared.error.SleepError.{SleepError}
+use Rattle.mono_model.specs.declared.error.SleepError.TheVariants.{Timer, Memory}
+use Rattle.mono_model.specs.declared.error.Error.TheVariants.{Shutdown, AtCapacity, Invalid}
 use Rattle.mono_time.proofs.Holding.{given_inside}
 use Rattle.mono_nest.specs.Countdowns.{is_over}
 use Rattle.mono_nest.specs.Nests.{Limited, Waits, MayBegin}

@@ -5,7 +5,7 @@ use denote.Ref.{Bor}
 use Rattle.mono_model.specs.declared.poll.Poll.TheVariants.{Ready, Pending}
 use Rattle.mono_time.specs.Sleeps.{SleepTable, poll_answer, polled, removed}
 use Rattle.mono_model.specs.Table.{value_at}
-use Rattle.mono_time.specs.declared.deadlines.Timeout.{Timeout}
+use Rattle.mono_time.specs.declared.timeouts.Timeout.{Timeout}
 use Rattle.mono_time.specs.declared.error.TimeoutError.{TimeoutError}
 use Rattle.mono_time.specs.declared.error.TimeoutError.TheVariants.{Elapsed}
 use Rattle.mono_combine.specs.declared.branch.Branch.{Branch}

@@ -1,8 +1,8 @@
 // A caller of the top call, proved from its contract alone.
 ghost use Rattle.std.specs.Prelude.{◌≡◌, ◌≢◌, ◌≤◌, ◌⊎◌, ◌↔◌, List, length, map, string_bytes};
-ghost use Rattle.mono_rt.specs.declared.events.Event.{Event};
-ghost use Rattle.mono_rt.specs.declared.events.Limits.{Limits};
-ghost use Rattle.mono_rt.specs.declared.events.Blocking.{Blocking};
+ghost use Rattle.mono_machine.specs.declared.events.Event.{Event};
+ghost use Rattle.mono_machine.specs.declared.events.Limits.{Limits};
+ghost use Rattle.mono_machine.specs.declared.events.Blocking.{Blocking};
 ghost use Rattle.mono_script.specs.declared.command.Command.TheVariants as command;
 ghost use Rattle.mono_script.specs.Command.{IsCommand, IsNoCommand};
 ghost use Rattle.mono_script.specs.Lines.{lines, AreEventLines};

@@ -29,7 +29,7 @@ fn rows() -> [Row; 18] {
         // a task woken in its own turn
         replayed(
             b"spawn\nspawn\nturn; wake 0; pending\nturn; pending\nturn; pending\n".as_slice(),
-            b"task 0\ntask 1\nturn 0; noted; again\nturn 0; idle\nturn 1; idle\n".as_slice(),
+            b"task 0\ntask 1\nturn 0; noted; again\nturn 1; idle\nturn 0; idle\n".as_slice(),
         ),
         // the latest waker alone
         replayed(

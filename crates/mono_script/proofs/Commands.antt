@@ -3,9 +3,9 @@ use Rattle.std.proofs.Common.{◌≡◌, ◌≢◌, ℕ, zero, suc, ◌+◌, ◌
 use Rattle.std.proofs.lemmas.List.{append-nil, length-map}
 use Rattle.std.specs.Prelude.{nat_eq, ◌&&◌, Bool, true, false, if◌then◌else◌}
 use Rattle.std.specs.Fmt.{decimal}
-use Rattle.mono_rt.specs.declared.events.Limits.{Limits}
-use Rattle.mono_rt.specs.declared.events.Blocking.{Blocking}
-use Rattle.mono_rt.specs.declared.events.Blocking.TheVariants as blocking
+use Rattle.mono_machine.specs.declared.events.Limits.{Limits}
+use Rattle.mono_machine.specs.declared.events.Blocking.{Blocking}
+use Rattle.mono_machine.specs.declared.events.Blocking.TheVariants as blocking
 use Rattle.mono_script.specs.Reading.{Read, number_at}
 use Rattle.mono_script.specs.declared.command.Command.{Command}
 use Rattle.mono_script.specs.declared.command.Command.TheVariants as command

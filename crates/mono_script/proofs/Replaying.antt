@@ -8,24 +8,24 @@ use Rattle.std.proofs.lemmas.Str.Parse.{digit_from_value}
 use Rattle.std.specs.Fmt.{decimal}
 use Rattle.std.specs.Str.Parse.{AllDigits}
 use Rattle.std.specs.Prelude.{◌==◌}
-use Rattle.mono_rt.specs.declared.events.Act.{Act}
-use Rattle.mono_rt.specs.declared.events.Act.TheVariants as act
-use Rattle.mono_rt.specs.declared.events.How.{How}
-use Rattle.mono_rt.specs.declared.events.How.TheVariants as how
-use Rattle.mono_rt.specs.declared.events.Query.TheVariants as query
-use Rattle.mono_rt.specs.declared.events.TurnStep.{TurnStep}
-use Rattle.mono_rt.specs.declared.events.TurnStep.TheVariants as step
-use Rattle.mono_rt.specs.declared.events.End.{End}
-use Rattle.mono_rt.specs.declared.events.End.TheVariants as end
-use Rattle.mono_rt.specs.declared.events.Event.{Event}
-use Rattle.mono_rt.specs.declared.events.Event.TheVariants as event
-use Rattle.mono_rt.specs.declared.events.Report.{Report}
-use Rattle.mono_rt.specs.declared.events.Limits.{Limits}
-use Rattle.mono_rt.specs.declared.events.Blocking.{Blocking}
-use Rattle.mono_rt.specs.declared.executor.Exec.{Exec}
-use Rattle.mono_rt.specs.Machine.{Machine, start_machine}
-use Rattle.mono_rt.specs.Steps.{Step, Run}
-use Rattle.mono_rt.specs.Stands.{Stands}
+use Rattle.mono_machine.specs.declared.events.Act.{Act}
+use Rattle.mono_machine.specs.declared.events.Act.TheVariants as act
+use Rattle.mono_machine.specs.declared.events.How.{How}
+use Rattle.mono_machine.specs.declared.events.How.TheVariants as how
+use Rattle.mono_machine.specs.declared.events.Query.TheVariants as query
+use Rattle.mono_machine.specs.declared.events.TurnStep.{TurnStep}
+use Rattle.mono_machine.specs.declared.events.TurnStep.TheVariants as step
+use Rattle.mono_machine.specs.declared.events.End.{End}
+use Rattle.mono_machine.specs.declared.events.End.TheVariants as end
+use Rattle.mono_machine.specs.declared.events.Event.{Event}
+use Rattle.mono_machine.specs.declared.events.Event.TheVariants as event
+use Rattle.mono_machine.specs.declared.events.Report.{Report}
+use Rattle.mono_machine.specs.declared.events.Limits.{Limits}
+use Rattle.mono_machine.specs.declared.events.Blocking.{Blocking}
+use Rattle.mono_exec.specs.declared.executor.Exec.{Exec}
+use Rattle.mono_machine.specs.Machine.{Machine, start_machine}
+use Rattle.mono_machine.specs.Steps.{Step, Run}
+use Rattle.mono_exec.specs.Stands.{Stands}
 use Rattle.mono_script.specs.Written.{how_text, act_text, step_text, end_text, parts_text, event_text, FitsAct, FitsStep, FitsEnd, FitSteps, FitsEvent, report_line}
 use Rattle.mono_script.specs.Lines.{AreLines, IsFirstWrong, Line, onto_first, lines, IsEventLine, AreEventLines, IsFirstBad, BeginsWith, BeginsWithNone}
 use Rattle.mono_script.specs.Answers.{IsReplayed, Answers}

@@ -1,8 +1,8 @@
 -- The words of each command.
 use Rattle.std.specs.Prelude.{◌≡◌, ℕ, ◌<◌, ◌≤◌, ◌^◌, List, [], ◌∷◌, codes, decimal}
-use Rattle.mono_rt.specs.declared.events.Limits.{Limits}
-use Rattle.mono_rt.specs.declared.events.Blocking.{Blocking}
-use Rattle.mono_rt.specs.declared.events.Blocking.TheVariants as blocking
+use Rattle.mono_machine.specs.declared.events.Limits.{Limits}
+use Rattle.mono_machine.specs.declared.events.Blocking.{Blocking}
+use Rattle.mono_machine.specs.declared.events.Blocking.TheVariants as blocking
 use Rattle.mono_script.specs.declared.command.Command.{Command}
 use Rattle.mono_script.specs.declared.command.Command.TheVariants as command
 

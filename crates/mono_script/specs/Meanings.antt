@@ -1,8 +1,8 @@
 -- What each command is.
 use Rattle.std.specs.Prelude.{◌≡◌, ℕ, ◌<◌, ◌≤◌, true, false, codes, List, [], ◌∷◌, ◌++◌, length, decimal}
-use Rattle.mono_rt.specs.declared.events.Limits.{Limits}
-use Rattle.mono_rt.specs.declared.events.Blocking.{Blocking}
-use Rattle.mono_rt.specs.declared.events.Event.{Event}
+use Rattle.mono_machine.specs.declared.events.Limits.{Limits}
+use Rattle.mono_machine.specs.declared.events.Blocking.{Blocking}
+use Rattle.mono_machine.specs.declared.events.Event.{Event}
 use Rattle.mono_script.specs.declared.command.Command.{Command}
 use Rattle.mono_script.specs.declared.command.Command.TheVariants as command
 use Rattle.mono_script.specs.declared.ends.Status.{Status}

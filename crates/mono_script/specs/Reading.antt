@@ -1,17 +1,17 @@
 -- Reading on lists of bytes: what each method of the reader computes.
 use Rattle.std.specs.Prelude.{◌≡◌, ℕ, zero, suc, ◌+◌, ◌-◌, ◌*◌, ◌^◌, ◌==◌, ◌&&◌, nat_lt, Bool, true, false, if◌then◌else◌, List, [], ◌∷◌, ◌++◌, length, Option, Some, None, Result, Ok, Err, codes, slice_index}
 use Rattle.std.specs.Char.{is_ascii_digit}
-use Rattle.mono_rt.specs.declared.events.Act.{Act}
-use Rattle.mono_rt.specs.declared.events.Act.TheVariants as act
-use Rattle.mono_rt.specs.declared.events.How.{How}
-use Rattle.mono_rt.specs.declared.events.How.TheVariants as how
-use Rattle.mono_rt.specs.declared.events.Query.TheVariants as query
-use Rattle.mono_rt.specs.declared.events.TurnStep.{TurnStep}
-use Rattle.mono_rt.specs.declared.events.TurnStep.TheVariants as step
-use Rattle.mono_rt.specs.declared.events.End.{End}
-use Rattle.mono_rt.specs.declared.events.End.TheVariants as end
-use Rattle.mono_rt.specs.declared.events.Event.{Event}
-use Rattle.mono_rt.specs.declared.events.Event.TheVariants as event
+use Rattle.mono_machine.specs.declared.events.Act.{Act}
+use Rattle.mono_machine.specs.declared.events.Act.TheVariants as act
+use Rattle.mono_machine.specs.declared.events.How.{How}
+use Rattle.mono_machine.specs.declared.events.How.TheVariants as how
+use Rattle.mono_machine.specs.declared.events.Query.TheVariants as query
+use Rattle.mono_machine.specs.declared.events.TurnStep.{TurnStep}
+use Rattle.mono_machine.specs.declared.events.TurnStep.TheVariants as step
+use Rattle.mono_machine.specs.declared.events.End.{End}
+use Rattle.mono_machine.specs.declared.events.End.TheVariants as end
+use Rattle.mono_machine.specs.declared.events.Event.{Event}
+use Rattle.mono_machine.specs.declared.events.Event.TheVariants as event
 use Rattle.mono_script.specs.declared.reader.TurnEnd.{TurnEnd}
 use Rattle.mono_script.specs.declared.reader.TurnEnd.TheVariants as found
 

@@ -4,24 +4,24 @@ use Rattle.mono_model.specs.declared.Woke.{Woke}
 use Rattle.mono_model.specs.declared.Woke.TheVariants as woke
 use Rattle.mono_model.specs.declared.Ended.{Ended}
 use Rattle.mono_model.specs.declared.Ended.TheVariants as ended
-use Rattle.mono_rt.specs.declared.events.Act.{Act}
-use Rattle.mono_rt.specs.declared.events.Act.TheVariants as act
-use Rattle.mono_rt.specs.declared.events.How.{How}
-use Rattle.mono_rt.specs.declared.events.How.TheVariants as how
-use Rattle.mono_rt.specs.declared.events.Query.{Query}
-use Rattle.mono_rt.specs.declared.events.Query.TheVariants as query
-use Rattle.mono_rt.specs.declared.events.TurnStep.{TurnStep}
-use Rattle.mono_rt.specs.declared.events.TurnStep.TheVariants as step
-use Rattle.mono_rt.specs.declared.events.End.{End}
-use Rattle.mono_rt.specs.declared.events.End.TheVariants as end
-use Rattle.mono_rt.specs.declared.events.Event.{Event}
-use Rattle.mono_rt.specs.declared.events.Event.TheVariants as event
-use Rattle.mono_rt.specs.declared.events.Refusal.{Refusal}
-use Rattle.mono_rt.specs.declared.events.Refusal.TheVariants as refusal
-use Rattle.mono_rt.specs.declared.events.Reply.{Reply}
-use Rattle.mono_rt.specs.declared.events.Reply.TheVariants as reply
-use Rattle.mono_rt.specs.declared.events.Report.{Report}
-use Rattle.mono_rt.specs.declared.events.Report.TheVariants as report
+use Rattle.mono_machine.specs.declared.events.Act.{Act}
+use Rattle.mono_machine.specs.declared.events.Act.TheVariants as act
+use Rattle.mono_machine.specs.declared.events.How.{How}
+use Rattle.mono_machine.specs.declared.events.How.TheVariants as how
+use Rattle.mono_machine.specs.declared.events.Query.{Query}
+use Rattle.mono_machine.specs.declared.events.Query.TheVariants as query
+use Rattle.mono_machine.specs.declared.events.TurnStep.{TurnStep}
+use Rattle.mono_machine.specs.declared.events.TurnStep.TheVariants as step
+use Rattle.mono_machine.specs.declared.events.End.{End}
+use Rattle.mono_machine.specs.declared.events.End.TheVariants as end
+use Rattle.mono_machine.specs.declared.events.Event.{Event}
+use Rattle.mono_machine.specs.declared.events.Event.TheVariants as event
+use Rattle.mono_machine.specs.declared.events.Refusal.{Refusal}
+use Rattle.mono_machine.specs.declared.events.Refusal.TheVariants as refusal
+use Rattle.mono_machine.specs.declared.events.Reply.{Reply}
+use Rattle.mono_machine.specs.declared.events.Reply.TheVariants as reply
+use Rattle.mono_machine.specs.declared.events.Report.{Report}
+use Rattle.mono_machine.specs.declared.events.Report.TheVariants as report
 
 -- ---- events
 

@@ -3,7 +3,7 @@ ghost use Rattle.std.specs.Prelude.{◌≡◌, ◌∷◌, [], List, ℕ, IfSome,
 ghost use Rattle.mono_script.specs.Command.{AreLimits, AreLoad, IsCommand, IsNoReplay, IsNoLoad, IsNoCommand, strategy_text};
 
 use crate::reader::whole_number;
-use mono_rt::{Blocking, Limits};
+use mono_exec::{Blocking, Limits};
 
 /// What the words ask for.
 #[derive(Clone, Copy)]

@@ -1,6 +1,6 @@
 // Facts about the definitions alone.
 ghost use Rattle.std.specs.Prelude.{List, ℕ};
-ghost use Rattle.mono_rt.specs.declared.events.Event.{Event};
+ghost use Rattle.mono_machine.specs.declared.events.Event.{Event};
 ghost use Rattle.mono_script.specs.Lines.{Line, AreEventLines, IsFirstBad};
 
 /// Lines that all say events have no first bad one.

@@ -3,7 +3,7 @@ ghost use Rattle.std.specs.Prelude.{◌≡◌, ◌≤◌, ◌++◌, [], ◌∷�
 ghost use Rattle.mono_script.specs.Written.{reply_text, refusal_text, ended_text, any_number, woke_text, reply_part, number_part, report_line};
 
 use itoa::Buffer;
-use mono_rt::{Ended, Refusal, Reply, Report, Woke};
+use mono_exec::{Ended, Refusal, Reply, Report, Woke};
 use std::alloc::AllocError;
 
 #[inline(always)]

@@ -4,7 +4,7 @@ ghost use Rattle.mono_script.specs.Lines.{BeginsWith, BeginsWithNone};
 ghost use Rattle.mono_script.specs.Reading as Reading;
 ghost use Rattle.mono_script.specs.Reading.{Gives, GivesIf, GivesEnd, word_at, number_at, nanos_at, s_act_at, drop_at, reset_at, how_at, job_act_at, other_act_at, act_at, job_step_at, step_at, end_at, parts_at, event_at, line_at};
 
-use mono_rt::{Act, End, Event, How, List, Query, TurnStep};
+use mono_exec::{Act, End, Event, How, List, Query, TurnStep};
 use std::alloc::{AllocError, Global};
 use std::mem;
 

@@ -1,7 +1,7 @@
 // Reads, replays and writes line by line.
 ghost use Rattle.std.specs.Prelude.{IfOk, OnOk};
-ghost use Rattle.mono_rt.specs.Machine.{Machine};
-ghost use Rattle.mono_rt.specs.Stands.{Stands};
+ghost use Rattle.mono_machine.specs.Machine.{Machine};
+ghost use Rattle.mono_exec.specs.Stands.{Stands};
 ghost use Rattle.mono_script.specs.Answers.{IsAnswer, Answers};
 ghost use Rattle.mono_script.specs.Ending.{IsOutput};
 ghost use Rattle.mono_script.specs.Meanings.{replaying};
@@ -9,7 +9,7 @@ ghost use Rattle.mono_script.specs.Meanings.{replaying};
 use crate::ends::{Output, Status, bad_line};
 use crate::printer::report_line;
 use crate::reader::Reader;
-use mono_rt::{Blocking, Event, Exec, Limits, List, Reply, Report, TurnStep};
+use mono_exec::{Blocking, Event, Exec, Limits, List, Reply, Report, TurnStep};
 use std::alloc::{AllocError, Global};
 
 /// What an input is answered: the number of the first line that says no event, counted from 1, or the lines of the

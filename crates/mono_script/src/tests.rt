@@ -1,6 +1,6 @@
 // Each public call once, but for `program`, which has its rows in a crate above.
 use crate::{MemSink, PlainSink, PlainSource, Reader, read_all, report_line, write_all};
-use mono_rt::{List, Reply, Report};
+use mono_exec::{List, Reply, Report};
 use std::alloc::AllocError;
 
 #[test]

@@ -5,7 +5,7 @@ use Rattle.std.specs.Fmt.{decimal}
 use Rattle.mono_script.specs.Reading.{Read, number_at, word_at, when}
 use Rattle.mono_script.proofs.Digits.{digits_again}
 use Rattle.std.proofs.Common.{flat_map, append_assoc, length-append}
-use Rattle.mono_rt.specs.declared.events.Limits.{Limits}
+use Rattle.mono_machine.specs.declared.events.Limits.{Limits}
 use Rattle.mono_script.specs.Lines.{Line}
 use Rattle.mono_scripts.specs.Script.{Kind, Script, MayStand, AllMayStand, IsSoundKind, AreSoundKinds, IsSound}
 use Rattle.mono_scripts.specs.Following.{MayFollow, goes_on, ends, done_text}

@@ -1,19 +1,19 @@
 -- The turns that a script's lines give.
 use Rattle.std.specs.Prelude.{◌≡◌, ℕ, ◌+◌, Bool, true, false, if◌then◌else◌, List, [], ◌∷◌, ◌++◌, length, map, slice_index_or, slice_set, Option, Some, None}
 use Rattle.mono_time.specs.Futures.{deadline_after}
-use Rattle.mono_rt.specs.declared.events.Act.{Act}
-use Rattle.mono_rt.specs.declared.events.Act.TheVariants as act
-use Rattle.mono_rt.specs.declared.events.Query.TheVariants as query
-use Rattle.mono_rt.specs.declared.events.TurnStep.{TurnStep}
-use Rattle.mono_rt.specs.declared.events.TurnStep.TheVariants as step
-use Rattle.mono_rt.specs.declared.events.End.{End}
-use Rattle.mono_rt.specs.declared.events.End.TheVariants as end
-use Rattle.mono_rt.specs.declared.events.Event.{Event}
-use Rattle.mono_rt.specs.declared.events.Event.TheVariants as event
-use Rattle.mono_rt.specs.declared.events.Reply.{Reply}
-use Rattle.mono_rt.specs.declared.events.Reply.TheVariants as reply
-use Rattle.mono_rt.specs.declared.events.Report.{Report}
-use Rattle.mono_rt.specs.declared.events.Report.TheVariants as report
+use Rattle.mono_machine.specs.declared.events.Act.{Act}
+use Rattle.mono_machine.specs.declared.events.Act.TheVariants as act
+use Rattle.mono_machine.specs.declared.events.Query.TheVariants as query
+use Rattle.mono_machine.specs.declared.events.TurnStep.{TurnStep}
+use Rattle.mono_machine.specs.declared.events.TurnStep.TheVariants as step
+use Rattle.mono_machine.specs.declared.events.End.{End}
+use Rattle.mono_machine.specs.declared.events.End.TheVariants as end
+use Rattle.mono_machine.specs.declared.events.Event.{Event}
+use Rattle.mono_machine.specs.declared.events.Event.TheVariants as event
+use Rattle.mono_machine.specs.declared.events.Reply.{Reply}
+use Rattle.mono_machine.specs.declared.events.Reply.TheVariants as reply
+use Rattle.mono_machine.specs.declared.events.Report.{Report}
+use Rattle.mono_machine.specs.declared.events.Report.TheVariants as report
 use Rattle.mono_scripts.specs.Script.{Kind, Script}
 use Rattle.mono_scripts.specs.declared.scripts.BodyLine.{BodyLine}
 use Rattle.mono_scripts.specs.declared.scripts.BodyLine.TheVariants as body

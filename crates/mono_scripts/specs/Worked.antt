@@ -1,16 +1,16 @@
 -- Worked scripts: the turns that they give.
 use Rattle.std.specs.Prelude.{◌≡◌, ℕ, List, [], ◌∷◌, ◌++◌, map, flat_map, Some, None, codes}
 use Rattle.mono_model.specs.declared.Ended.TheVariants as ended
-use Rattle.mono_rt.specs.declared.events.Act.TheVariants as act
-use Rattle.mono_rt.specs.declared.events.How.TheVariants as how
-use Rattle.mono_rt.specs.declared.events.Query.TheVariants as query
-use Rattle.mono_rt.specs.declared.events.TurnStep.{TurnStep}
-use Rattle.mono_rt.specs.declared.events.TurnStep.TheVariants as step
-use Rattle.mono_rt.specs.declared.events.End.TheVariants as end
-use Rattle.mono_rt.specs.declared.events.Event.TheVariants as event
-use Rattle.mono_rt.specs.declared.events.Reply.{Reply}
-use Rattle.mono_rt.specs.declared.events.Reply.TheVariants as reply
-use Rattle.mono_rt.specs.declared.events.Report.TheVariants as report
+use Rattle.mono_machine.specs.declared.events.Act.TheVariants as act
+use Rattle.mono_machine.specs.declared.events.How.TheVariants as how
+use Rattle.mono_machine.specs.declared.events.Query.TheVariants as query
+use Rattle.mono_machine.specs.declared.events.TurnStep.{TurnStep}
+use Rattle.mono_machine.specs.declared.events.TurnStep.TheVariants as step
+use Rattle.mono_machine.specs.declared.events.End.TheVariants as end
+use Rattle.mono_machine.specs.declared.events.Event.TheVariants as event
+use Rattle.mono_machine.specs.declared.events.Reply.{Reply}
+use Rattle.mono_machine.specs.declared.events.Reply.TheVariants as reply
+use Rattle.mono_machine.specs.declared.events.Report.TheVariants as report
 use Rattle.mono_script.specs.Lines.{lines}
 use Rattle.mono_scripts.specs.Script.{Kind, Script}
 use Rattle.mono_scripts.specs.Written.{Spells, IsFirstBad, ended, script_texts}

@@ -1,6 +1,6 @@
 // Facts about the definitions alone.
 ghost use Rattle.std.specs.Prelude.{◌≡◌, ◌<◌, ◌≤◌, ◌+◌, ◌++◌, ◌∷◌, [], List, ℕ, length, map};
-ghost use Rattle.mono_rt.specs.declared.events.Limits.{Limits};
+ghost use Rattle.mono_machine.specs.declared.events.Limits.{Limits};
 ghost use Rattle.mono_script.specs.Command.{FitLimits};
 ghost use Rattle.mono_script.specs.Lines.{Line, lines};
 ghost use Rattle.mono_scripts.specs.declared.scripts.BodyLine.{BodyLine};

@@ -197,7 +197,7 @@ impl<O: Drop> Tasks<O> {
 
     /// Ends the turn that runs. One has to run.
     ///
-    /// Pending: a task that was woken during its turn goes to the queue's front (`Again`), and any other is idle (`Idle`).
+    /// Pending: a task that was woken during its turn goes to the queue's back (`Again`), and any other is idle (`Idle`).
     /// Ready: where the handle is kept the output is kept for it, and then the task that waits for it is woken (`Done`);
     /// else the task is gone (`Gone`).
     pub fn end_turn(&mut self, end: Poll<O>) -> Ended
@@ -224,7 +224,7 @@ impl<O: Drop> Tasks<O> {
         self.running = None;
         match self.entries[task as usize].pause() {
             Some(node) => {
-                self.queue.push_front(0, node);
+                self.queue.push_back(0, node);
                 self.queued += 1;
                 Ended::Again
             }

@@ -6,14 +6,14 @@ use Rattle.mono_model.specs.Sleeps as model
 use Rattle.mono_model.specs.Sleeps.{Sleeps}
 use Rattle.mono_wheel.specs.Model.{Wheel, Timed, timed_at}
 use Rattle.mono_time.specs.Sleeps.{is_elapsed}
-use Rattle.mono_time.specs.Acts as machine
+use Rattle.mono_model.specs.SleepActs as machine
 use Rattle.mono_time.specs.Entries.{kept_in, is_elapsed_state}
 use Rattle.mono_time.specs.Keeping.{Holds}
 use Rattle.mono_time.specs.Stands.{Standing, seen}
 use Rattle.mono_time.specs.declared.entry.Entry.{Entry}
 use Rattle.mono_time.specs.declared.entry.State.{State}
 use Rattle.mono_time.specs.declared.entry.State.TheVariants.{Fresh, Armed, Elapsed}
-use Rattle.mono_time.specs.declared.error.Error.{Error}
+use Rattle.mono_model.specs.declared.error.Error.{Error}
 use Rattle.mono_time.proofs.Standing.{sleep_there}
 use Rattle.mono_time.proofs.Writing.{kept-there}
 

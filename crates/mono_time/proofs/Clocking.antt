@@ -8,12 +8,12 @@ use Rattle.mono_model.specs.Ticks.{down}
 use Rattle.mono_model.specs.Table.{Table, value_at, with_value}
 use Rattle.mono_model.specs.Sleeps as model
 use Rattle.mono_model.specs.Sleeps.{Sleeps, Arming, with_greatest, with_sleep, IsDueSleep, MayPrecede}
-use Rattle.mono_time.specs.Firing.{IsFirstDue, IsNoneDue}
+use Rattle.mono_model.specs.Firing.{IsFirstDue, IsNoneDue}
 use Rattle.mono_model.proofs.TableOf.{table_of-same, value_at-table_of, length-table_of}
 use Rattle.mono_wheel.specs.Start.{start}
 use Rattle.mono_wheel.specs.Model.{Wheel, Timed, timed_at, timed_after, CameOut, NothingDue}
 use Rattle.mono_time.specs.Sleeps.{Kept, armed, elapsed}
-use Rattle.mono_time.specs.Acts as machine
+use Rattle.mono_model.specs.SleepActs as machine
 use Rattle.mono_time.specs.Entries.{is_armed_state, kept_in, kept_of, tick_in, waker_in_state, owner_of, fresh_tick}
 use Rattle.mono_time.specs.Keeping.{Holds, KeepsBut, kept_at, kept_under}
 use Rattle.mono_time.specs.Stands.{Standing, seen}

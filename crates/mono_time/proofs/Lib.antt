@@ -1,4 +1,3 @@
-pub mod Firing
 pub mod Slices
 pub mod Keys
 pub mod Holding

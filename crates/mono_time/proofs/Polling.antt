@@ -8,8 +8,9 @@ use Rattle.mono_model.specs.Sleeps as model
 use Rattle.mono_model.specs.Sleeps.{Sleeps, Arming, with_sleep, armed_anew}
 use Rattle.mono_model.specs.declared.poll.Poll.{Poll}
 use Rattle.mono_wheel.specs.Model.{Wheel, timed_at}
-use Rattle.mono_time.specs.Sleeps.{fresh, armed, elapsed, polled_kept, poll_of, at_tick}
-use Rattle.mono_time.specs.Acts as machine
+use Rattle.mono_time.specs.Sleeps.{fresh, armed, elapsed, polled_kept, at_tick}
+use Rattle.mono_model.specs.SleepAnswers.{poll_of}
+use Rattle.mono_model.specs.SleepActs as machine
 use Rattle.mono_time.specs.Entries.{kept_in}
 use Rattle.mono_time.specs.Keeping.{Holds, ArmedAnew}
 use Rattle.mono_time.specs.Stands.{Standing, seen}
@@ -17,7 +18,7 @@ use Rattle.mono_time.specs.Turning.{PolledEntry}
 use Rattle.mono_time.specs.declared.entry.Entry.{Entry}
 use Rattle.mono_time.specs.declared.entry.State.{State}
 use Rattle.mono_time.specs.declared.entry.State.TheVariants.{Fresh, Armed, Elapsed}
-use Rattle.mono_time.specs.declared.error.Error.{Error}
+use Rattle.mono_model.specs.declared.error.Error.{Error}
 use Rattle.mono_time.proofs.Standing.{sleep_there}
 use Rattle.mono_time.proofs.Turned.{Turned, turned-polled}
 use Rattle.mono_time.proofs.Machine.{stands-unarmed, stands-anew, stands-same, with_same}

@@ -9,13 +9,13 @@ use Rattle.mono_model.specs.Sleeps as model
 use Rattle.mono_model.specs.Sleeps.{Sleeps, Arming, without_sleep}
 use Rattle.mono_model.proofs.TableOf.{table_of-set}
 use Rattle.mono_wheel.specs.Model.{Wheel, Timed, timed_at, is_reserved, Precedes, KeepsOrder}
-use Rattle.mono_time.specs.Acts as machine
+use Rattle.mono_model.specs.SleepActs as machine
 use Rattle.mono_time.specs.Entries.{kept_in, tick_in, owner_of}
 use Rattle.mono_time.specs.Keeping.{Holds, kept_at, kept_under}
 use Rattle.mono_time.specs.Stands.{Standing, seen}
 use Rattle.mono_time.specs.Turning.{Out}
 use Rattle.mono_time.specs.declared.entry.Entry.{Entry}
-use Rattle.mono_time.specs.declared.error.Error.{Error}
+use Rattle.mono_model.specs.declared.error.Error.{Error}
 use Rattle.mono_time.proofs.Counting.{count_of-gone}
 use Rattle.mono_time.proofs.Holding.{some-same, none-some, given_inside, kept_of-ticks}
 use Rattle.mono_time.proofs.Standing.{same_length, sleep_there}

@@ -8,7 +8,7 @@ use Rattle.mono_model.specs.Sleeps as model
 use Rattle.mono_model.specs.Sleeps.{Sleeps, Arming, with_sleep, armed_anew, armed_later, armed_above, after_arming, woken_by_arming}
 use Rattle.mono_wheel.specs.Model.{Wheel, Timed, timed_at, Changed}
 use Rattle.mono_time.specs.Sleeps.{armed, elapsed, at_tick, waker_of}
-use Rattle.mono_time.specs.Acts as machine
+use Rattle.mono_model.specs.SleepActs as machine
 use Rattle.mono_time.specs.Entries.{kept_in, tick_in, waker_in_state}
 use Rattle.mono_time.specs.Keeping.{Holds, ArmedAnew, Rearmed}
 use Rattle.mono_time.specs.Stands.{Standing, seen}
@@ -16,7 +16,7 @@ use Rattle.mono_time.specs.Turning.{ResetEntry, PutAt}
 use Rattle.mono_time.specs.declared.entry.Entry.{Entry}
 use Rattle.mono_time.specs.declared.entry.State.{State}
 use Rattle.mono_time.specs.declared.entry.State.TheVariants.{Fresh, Armed, Elapsed}
-use Rattle.mono_time.specs.declared.error.Error.{Error}
+use Rattle.mono_model.specs.declared.error.Error.{Error}
 use Rattle.mono_time.proofs.Standing.{sleep_there}
 use Rattle.mono_time.proofs.Turned.{Turned, turned-reset}
 use Rattle.mono_time.proofs.Machine.{stands-unarmed, stands-moved, stands-anew, stands-extended}

@@ -6,11 +6,11 @@ use Rattle.mono_model.specs.Poll.{call_of}
 use Rattle.mono_model.specs.declared.poll.Poll.{Poll}
 use Rattle.mono_time.specs.Instants.{nanos_of}
 use Rattle.mono_time.specs.Sleeps.{SleepTable, Added, poll_answer, polled, removed}
-use Rattle.mono_time.specs.declared.error.Error.{Error}
-use Rattle.mono_time.specs.declared.error.Error.TheVariants.{Invalid}
-use Rattle.mono_time.specs.declared.error.SleepError.{SleepError}
-use Rattle.mono_time.specs.declared.error.SleepError.TheVariants.{Timer}
-use Rattle.mono_time.specs.declared.sleeping.Sleep.{Sleep}
+use Rattle.mono_model.specs.declared.error.Error.{Error}
+use Rattle.mono_model.specs.declared.error.Error.TheVariants.{Invalid}
+use Rattle.mono_model.specs.declared.error.SleepError.{SleepError}
+use Rattle.mono_model.specs.declared.error.SleepError.TheVariants.{Timer}
+use Rattle.mono_time.specs.declared.sleeps.Sleep.{Sleep}
 
 -- a sleep was made for this deadline with the next number, or was refused
 abbrev pub SleepMade : SleepTable → ℕ → Result Sleep SleepError → SleepTable → Type 0

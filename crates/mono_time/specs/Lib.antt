@@ -1,5 +1,4 @@
 pub mod Instants
-pub mod Texts
 pub mod Sleeps
 pub mod Futures
 pub mod Entries
@@ -7,8 +6,6 @@ pub mod Keeping
 pub mod Registered
 pub mod Turning
 pub mod Timers
-pub mod Firing
-pub mod Acts
 pub mod Stands
 pub mod Missed
 pub mod Ticking

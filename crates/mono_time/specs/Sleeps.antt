@@ -2,12 +2,12 @@
 use Rattle.std.specs.Prelude.{◌≡◌, ◌<◌, ◌≤◌, ℕ, max, ⊤, Bool, true, false, if◌then◌else◌, [], Option, Some, None, Result, Ok, Err, nat_le, count_by}
 use Rattle.mono_model.specs.Ticks.{up, down}
 use Rattle.mono_model.specs.Table.{Table, value_at, next_number, is_full, with_next, with_value, without}
+use Rattle.mono_model.specs.SleepAnswers.{poll_of}
 use Rattle.mono_model.specs.declared.poll.Poll.{Poll}
-use Rattle.mono_model.specs.declared.poll.Poll.TheVariants.{Ready, Pending}
-use Rattle.mono_time.specs.declared.error.Error.{Error}
-use Rattle.mono_time.specs.declared.error.Error.TheVariants.{Shutdown, AtCapacity, Invalid}
-use Rattle.mono_time.specs.declared.error.SleepError.{SleepError}
-use Rattle.mono_time.specs.declared.error.SleepError.TheVariants.{Memory, Timer}
+use Rattle.mono_model.specs.declared.error.Error.{Error}
+use Rattle.mono_model.specs.declared.error.Error.TheVariants.{Shutdown, AtCapacity, Invalid}
+use Rattle.mono_model.specs.declared.error.SleepError.{SleepError}
+use Rattle.mono_model.specs.declared.error.SleepError.TheVariants.{Memory, Timer}
 
 -- A sleep for a tick that was never polled or reset, one that is armed at a tick with the task that polled it last, or
 -- one that has elapsed. Only an armed sleep has a waker.
@@ -76,9 +76,6 @@ is_ready_at greatest (fresh tick) = nat_le tick greatest
 is_ready_at greatest (armed tick waker) = false
 is_ready_at greatest elapsed = true
 
-abbrev pub poll_of : Bool → Poll ⊤
-poll_of is_ready = if is_ready then Ready tt else Pending
-
 abbrev pub poll_answer : SleepTable → ℕ → Result (Poll ⊤) Error
 poll_answer sleeps s = of_live (value_at sleeps.table s) (λ kept. poll_of (is_ready_at sleeps.greatest kept))
 
@@ -113,15 +110,6 @@ is_elapsed elapsed = true
 
 abbrev pub elapsed_answer : SleepTable → ℕ → Result Bool Error
 elapsed_answer sleeps s = of_live (value_at sleeps.table s) is_elapsed
-
--- an answer without the waker that it hands out, and that waker alone
-abbrev pub without_waker : Result (Option ℕ) Error → Result ⊤ Error
-without_waker (Ok waker) = Ok tt
-without_waker (Err error) = Err error
-
-abbrev pub waker_in : Result (Option ℕ) Error → Option ℕ
-waker_in (Ok waker) = waker
-waker_in (Err error) = None
 
 -- The clock shows n: the greatest tick is the greater of itself and that of n.
 abbrev pub at_clock : SleepTable → ℕ → SleepTable

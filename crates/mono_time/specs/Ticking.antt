@@ -7,13 +7,13 @@ use Rattle.mono_model.specs.declared.poll.Poll.{Poll}
 use Rattle.mono_model.specs.declared.poll.Poll.TheVariants.{Ready, Pending}
 use Rattle.mono_time.specs.Instants.{nanos_of}
 use Rattle.mono_time.specs.Sleeps.{SleepTable, Added, poll_answer, polled, reset}
-use Rattle.mono_time.specs.declared.error.Error.{Error}
-use Rattle.mono_time.specs.declared.error.Error.TheVariants.{Invalid}
-use Rattle.mono_time.specs.declared.error.SleepError.{SleepError}
+use Rattle.mono_model.specs.declared.error.Error.{Error}
+use Rattle.mono_model.specs.declared.error.Error.TheVariants.{Invalid}
+use Rattle.mono_model.specs.declared.error.SleepError.{SleepError}
 use Rattle.mono_time.specs.declared.instant.Instant.{Instant}
 use Rattle.mono_time.specs.Missed.{next_deadline}
 use Rattle.mono_time.specs.declared.missed.MissedTickBehavior.TheVariants.{Burst}
-use Rattle.mono_time.specs.declared.ticking.Interval.{Interval}
+use Rattle.mono_time.specs.declared.intervals.Interval.{Interval}
 
 -- an interval was made, whose delay is a sleep with the next number for this start, or was refused
 abbrev pub IntervalMade : SleepTable → ℕ → ℕ → Result Interval SleepError → SleepTable → Type 0

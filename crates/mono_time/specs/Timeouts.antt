@@ -6,13 +6,13 @@ use Rattle.mono_model.specs.declared.poll.Poll.TheVariants.{Ready, Pending}
 use Rattle.mono_task.specs.Members.{FutureOf}
 use Rattle.mono_time.specs.Sleeps.{SleepTable}
 use Rattle.mono_time.specs.Futures.{SleepPolls, SleepCancels}
-use Rattle.mono_time.specs.declared.deadlines.Timeout.{Timeout}
-use Rattle.mono_time.specs.declared.deadlines.TimeoutRefused.{TimeoutRefused}
-use Rattle.mono_time.specs.declared.error.Error.{Error}
-use Rattle.mono_time.specs.declared.error.SleepError.{SleepError}
+use Rattle.mono_time.specs.declared.timeouts.Timeout.{Timeout}
+use Rattle.mono_time.specs.declared.timeouts.TimeoutRefused.{TimeoutRefused}
+use Rattle.mono_model.specs.declared.error.Error.{Error}
+use Rattle.mono_model.specs.declared.error.SleepError.{SleepError}
 use Rattle.mono_time.specs.declared.error.TimeoutError.{TimeoutError}
 use Rattle.mono_time.specs.declared.error.TimeoutError.TheVariants.{Elapsed, Timer}
-use Rattle.mono_time.specs.declared.sleeping.Sleep.{Sleep}
+use Rattle.mono_time.specs.declared.sleeps.Sleep.{Sleep}
 
 -- the delay that was made, or why there is none
 abbrev pub delay_of : {T : Type 0} → Result (Timeout T) (TimeoutRefused T) → Result Sleep SleepError

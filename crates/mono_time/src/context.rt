@@ -3,11 +3,12 @@ ghost use Rattle.std.specs.Prelude.{◌≡◌, ℕ, Bool, true, Result};
 ghost use Rattle.mono_model.specs.Tasks.{woken_if_any};
 ghost use Rattle.mono_model.specs.declared.Woke.{Woke};
 ghost use Rattle.mono_model.specs.declared.task_error.TaskError.{TaskError};
-ghost use Rattle.mono_time.specs.Sleeps.{SleepTable, Added, poll_answer, polled, reset_answer, reset, remove_answer, removed, elapsed_answer, without_waker, waker_in};
-ghost use Rattle.mono_time.specs.declared.error.SleepError.TheVariants.{Memory};
+ghost use Rattle.mono_time.specs.Sleeps.{SleepTable, Added, poll_answer, polled, reset_answer, reset, remove_answer, removed, elapsed_answer};
+ghost use Rattle.mono_model.specs.SleepAnswers.{without_waker, waker_in};
+ghost use Rattle.mono_model.specs.declared.error.SleepError.TheVariants.{Memory};
 
-use crate::error::{Error, SleepError};
 use crate::instant::Instant;
+use crate::{Error, SleepError};
 use mono_task::{Context, Poll};
 use std::alloc::Global;
 

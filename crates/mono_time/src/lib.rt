@@ -2,35 +2,34 @@
 #![tactic(auto)]
 
 mod arming;
+mod constructors;
 mod context;
-mod deadlines;
 #[cfg(test)]
 mod desk;
 mod entry;
 mod error;
 mod instant;
+mod intervals;
 pub mod laws;
-mod limiting;
-mod making;
 mod missed;
-mod sleeping;
+mod sleeps;
 #[cfg(test)]
 mod tests;
-mod ticking;
 #[cfg(test)]
 mod ticks_tests;
+mod timeouts;
 mod timers;
 #[cfg(test)]
 mod timers_tests;
 mod turning;
 
+pub use constructors::{interval, interval_at, sleep, sleep_until, timeout, timeout_at};
 pub use context::TimeContext;
-pub use deadlines::{Timeout, TimeoutRefused};
-pub use error::{Elapsed, Error, SleepError, TimeoutError};
+pub use error::{Elapsed, TimeoutError};
 pub use instant::Instant;
-pub use limiting::{timeout, timeout_at};
-pub use making::{interval, interval_at, sleep, sleep_until};
+pub use intervals::Interval;
 pub use missed::MissedTickBehavior;
-pub use sleeping::Sleep;
-pub use ticking::Interval;
+pub use mono_model::{Error, SleepError};
+pub use sleeps::Sleep;
+pub use timeouts::{Timeout, TimeoutRefused};
 pub use timers::Timers;

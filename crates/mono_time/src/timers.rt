@@ -4,13 +4,13 @@ ghost use Rattle.mono_model.specs.Ticks.{up, down};
 ghost use Rattle.mono_model.specs.Table.{value_at, is_full};
 ghost use Rattle.mono_wheel.specs.Model.{timed_at, is_reserved};
 ghost use Rattle.mono_time.specs.Keeping.{Holds};
-ghost use Rattle.mono_time.specs.Sleeps.{poll_of};
+ghost use Rattle.mono_model.specs.SleepAnswers.{poll_of};
 
 use crate::arming::{put_in, put_later};
 use crate::entry::{Entry, State, make_key};
-use crate::error::{Error, SleepError};
 use crate::instant::Instant;
 use crate::turning::{elapse, poll_entry, reset_entry, take_out};
+use crate::{Error, SleepError};
 use mono_model::Poll;
 use mono_wheel::laws::slots_start_ahead;
 use mono_wheel::{Steps, Wheel};
@@ -66,7 +66,7 @@ impl Timers {
     ghost use Rattle.mono_model.specs.Sleeps as model;
     ghost use Rattle.mono_time.specs.Instants.{nanos_of};
     ghost use Rattle.mono_time.specs.Sleeps.{no_sleeps, Added, poll_answer, polled, reset_answer, reset, remove_answer, removed, elapsed_answer, at_clock, fired, IsNoneArmedUpTo, IsFiredFirst, armed_count, armed};
-    ghost use Rattle.mono_time.specs.Acts as machine;
+    ghost use Rattle.mono_model.specs.SleepActs as machine;
     ghost use Rattle.mono_time.specs.Timers.{sleeps_of, elapsed_tick, registered_of, credit_left};
     ghost use Rattle.mono_time.specs.Registered.{RegistersOnly, polled_registered, reset_registered, moved_registered, NextExpiration};
     ghost use Rattle.mono_time.specs.Stands.{StandsForSleeps};

@@ -1,6 +1,6 @@
 use Rattle.std.proofs.Common.{◌≡◌, ◌+◌, ◌-◌, ◌*◌, ◌<◌, ℕ, suc, sym, subst, ap, ◌∙◌, arith, [], ◌∷◌}
-use Rattle.mono_rt.specs.declared.events.Event.TheVariants as event
-use Rattle.mono_rt.specs.declared.events.End.TheVariants as end
+use Rattle.mono_machine.specs.declared.events.Event.TheVariants as event
+use Rattle.mono_machine.specs.declared.events.End.TheVariants as end
 use Rattle.mono_combine.specs.Random.{seeded, drawn, after_draw}
 use Rattle.mono_load.specs.Load.{Goes, GoesOn, sleep_turn, sleepers, clocks, endings}
 use Rattle.mono_load.proofs.Going.{first_then, stay, one_less, none_left, summed}

@@ -6,7 +6,7 @@ use Rattle.mono_model.proofs.TableOf.{length-table_of}
 use Rattle.mono_time.specs.Instants.{nanos_of}
 use Rattle.mono_time.specs.Sleeps.{with_table, added, fresh}
 use Rattle.mono_time.specs.Keeping.{Holds, kept_at}
-use Rattle.mono_time.specs.Acts as machine
+use Rattle.mono_model.specs.SleepActs as machine
 use Rattle.mono_time.specs.Stands.{Standing}
 use Rattle.mono_time.specs.Timers.{sleeps_of}
 use Rattle.mono_time.specs.declared.entry.State.TheVariants.{Fresh}

@@ -3,12 +3,12 @@ use Rattle.std.specs.Prelude.{slice_get, Option, count_by}
 use Rattle.std.proofs.lemmas.Option.{slice_get_read}
 use Rattle.mono_model.specs.Ticks.{down}
 use Rattle.mono_model.specs.Table.{value_at, with_value}
-use Rattle.mono_time.specs.Firing.{IsFirstDue}
+use Rattle.mono_model.specs.Firing.{IsFirstDue}
 use Rattle.mono_wheel.specs.Model.{CameOut, NothingDue}
 use Rattle.mono_time.specs.Instants.{nanos_of}
 use Rattle.mono_time.specs.Sleeps.{armed, elapsed, Kept, is_armed, IsFiredFirst, fired, at_clock}
 use Rattle.mono_time.specs.Timers.{sleeps_of}
-use Rattle.mono_time.specs.Acts as machine
+use Rattle.mono_model.specs.SleepActs as machine
 use Rattle.mono_time.specs.Stands.{Standing}
 use Rattle.mono_time.specs.Keeping.{kept_at}
 use Rattle.mono_time.specs.Registered.{registered_at, moved_registered}

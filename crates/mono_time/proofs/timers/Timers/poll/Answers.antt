@@ -2,7 +2,7 @@ use Rattle.std.proofs.Common.{rules, ◌≡◌, ◌<◌, Some, refl, ap, sym, �
 use Rattle.std.specs.Prelude.{slice_get}
 use Rattle.std.proofs.lemmas.Option.{slice_get_read}
 use Rattle.mono_model.specs.Table.{value_at}
-use Rattle.mono_time.specs.Sleeps.{poll_of}
+use Rattle.mono_model.specs.SleepAnswers.{poll_of}
 use Rattle.mono_wheel.specs.Model.{timed_at}
 use Rattle.mono_time.specs.Registered.{registered_in, registered_under, registered_at, polled_registered}
 use Rattle.mono_time.proofs.Registering.{registers, polled-at}

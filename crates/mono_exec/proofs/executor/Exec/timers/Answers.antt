@@ -1,0 +1,12 @@
+use Rattle.std.proofs.Common.{sym}
+use Rattle.mono_exec.proofs.Timing.{none_armed}
+use Rattle.mono_exec.proofs.executor.Exec.timers.Goals as goal
+
+pub returns-clause-sleeps : goal.returns-clause-sleeps
+returns-clause-sleeps c = λ m st. st.matches.sleeps.keeps.stands
+
+pub returns-clause-greatest : goal.returns-clause-greatest
+returns-clause-greatest c = λ m st. sym st.matches.sleeps.keeps.stands.same_greatest
+
+pub returns-clause-rests : goal.returns-clause-rests
+returns-clause-rests c = λ m st. (none_armed c.args.self.now.parts.timers _ m.sleeps st.matches.sleeps.keeps.stands st.valid.sleeps, st.matches.sleeps.has_gone)

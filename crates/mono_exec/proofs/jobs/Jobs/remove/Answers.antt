@@ -1,0 +1,7 @@
+use Rattle.std.proofs.Common.{None}
+use Rattle.std.proofs.lemmas.List.{map-set}
+use Rattle.mono_exec.specs.JobTable.{place_of}
+use Rattle.mono_exec.proofs.jobs.Jobs.remove.Goals as goal
+
+pub returns : goal.returns
+returns c = rw (← c.self.view_is, map-set place_of c.self.inside.places.items c.args.j None)

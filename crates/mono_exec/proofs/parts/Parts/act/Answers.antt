@@ -1,0 +1,30 @@
+use Rattle.std.proofs.Common.{◌∙◌, ap}
+use Rattle.mono_model.specs.Tasks.{woken}
+use Rattle.mono_model.specs.Joins.{join_dropped}
+use Rattle.mono_model.specs.SleepActs as sleep
+use Rattle.mono_time.specs.Sleeps.{removed}
+use Rattle.mono_time.specs.Timers.{sleeps_of}
+use Rattle.mono_machine.specs.SleepCalls.{gone_reply, elapsed_reply}
+use Rattle.mono_machine.proofs.Known.{alike_woken, alike_dropped}
+use Rattle.mono_exec.proofs.Matching.{changed}
+use Rattle.mono_exec.proofs.Timing.{other_timers, rests, alike_removed}
+use Rattle.mono_exec.proofs.parts.Parts.act.Goals as goal
+
+pub returns-in-Wake-clause-matches : goal.returns-in-Wake-clause-matches
+returns-in-Wake-clause-matches c = λ m st. rw c.in-Wake.is (changed c.args.self.now m c.wake.new.self (λ x. woken x c.in-Wake.t) st c.wake.ensures.after (alike_woken m.tasks c.in-Wake.t))
+
+pub returns-in-DropSleep-clause-reply : goal.returns-in-DropSleep-clause-reply
+returns-in-DropSleep-clause-reply c = λ m st. rw c.in-DropSleep.is (c.gone_reply.ensures ∙ ap gone_reply (c.remove.ensures.stands m.sleeps st.sleeps.keeps.stands).0)
+
+pub returns-in-DropSleep-clause-matches : goal.returns-in-DropSleep-clause-matches
+returns-in-DropSleep-clause-matches c = λ m st.
+    let old = c.args.self.now.timers in
+    let s = c.in-DropSleep.s in
+    rw c.in-DropSleep.is (other_timers c.args.self.now m c.remove.new.self (sleep.removed m.sleeps s) st
+    (rests old c.remove.new.self m.sleeps (sleep.removed m.sleeps s) (removed (sleeps_of old) s) st.sleeps c.remove.ensures.sleeps (alike_removed (sleeps_of old) s) c.remove.ensures.elapsed (c.remove.ensures.stands m.sleeps st.sleeps.keeps.stands).1))
+
+pub returns-in-SleepElapsed-clause-reply : goal.returns-in-SleepElapsed-clause-reply
+returns-in-SleepElapsed-clause-reply c = λ m st. rw c.in-SleepElapsed.is (c.elapsed_reply.ensures ∙ ap elapsed_reply (c.is_elapsed.ensures.stands m.sleeps st.sleeps.keeps.stands))
+
+pub returns-in-DropJoin-clause-matches : goal.returns-in-DropJoin-clause-matches
+returns-in-DropJoin-clause-matches c = λ m st. rw c.in-DropJoin.is (changed c.args.self.now m c.drop_join.new.self (λ x. join_dropped x c.in-DropJoin.t) st c.drop_join.ensures.after (alike_dropped m.tasks c.in-DropJoin.t))

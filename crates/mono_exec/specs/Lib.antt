@@ -1,0 +1,3 @@
+pub mod JobTable
+pub mod Matches
+pub mod Stands

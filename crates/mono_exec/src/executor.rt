@@ -1,0 +1,114 @@
+// The executor.
+ghost use Rattle.std.specs.Prelude.{◌≡◌, IfOk, None};
+ghost use Rattle.mono_machine.specs.Machine.{Machine, start_machine};
+ghost use Rattle.mono_machine.specs.Steps.{Step, Run};
+
+use crate::parts::Parts;
+use crate::{Blocking, Event, Limits, List, Reply, Report};
+use mono_time::Timers;
+use std::alloc::{AllocError, Global};
+use std::mem;
+
+/// An executor: tasks with their queue, jobs, sleeps, and the inbox of wakes from other threads.
+///
+/// It stands for the plain machine. `Stands` says for which machines one stands; each event leads from any machine for
+/// which it stood to one for which it stands, by a step of that machine.
+#[derive(Drop)]
+pub struct Exec {
+    parts: Parts,
+    ghost rest: { parts.tasks.turn ≡ None },
+}
+
+impl Exec {
+    ghost use Rattle.mono_time.specs.Sleeps.{IsNoneArmedUpTo};
+    ghost use Rattle.mono_time.specs.Stands.{StandsForSleeps};
+    ghost use Rattle.mono_time.specs.Timers.{sleeps_of, elapsed_tick};
+    ghost use Rattle.mono_exec.specs.Stands.{Stands};
+
+    /// An executor with no task, no job, no sleep, an empty inbox and a clock at 0: it stands for the start machine with
+    /// these limits and this strategy.
+    pub fn new(alloc: Global, limits: Limits, blocking: Blocking) -> Result<Exec, AllocError>
+        ensures { IfOk result (λ exec. Stands exec (start_machine limits blocking)) }
+    {
+        let parts = Parts::new(alloc, limits, blocking)?;
+        Ok(Exec { parts })
+    }
+
+    /// Takes one event and answers its report.
+    ///
+    /// From each machine for which the executor stood, the machine may take this event with this report, and the executor
+    /// stands for the machine that is then left (`Step`). So an event is refused exactly where the machine refuses it,
+    /// and a refused one changes nothing. The only error is want of memory; the executor is given up after it.
+    pub fn apply(&mut self, alloc: Global, event: &Event) -> Result<Report, AllocError>
+        ensures { IfOk result (λ report. (m : Machine) → Stands self.old m → (new : Machine) × Step m event.now report new × Stands self.new new) }
+    {
+        let mut spare = List::new(alloc);
+        self.apply_reusing(alloc, event, &mut spare)
+    }
+
+    /// As `apply`, by the same step of the machine (`Step`).
+    ///
+    /// The spare list is used for the replies of a turn, so that the list of an earlier report can serve again. Nothing
+    /// else is done with it.
+    pub fn apply_reusing(
+        &mut self,
+        alloc: Global,
+        event: &Event,
+        spare: &mut List<Reply>,
+    ) -> Result<Report, AllocError>
+        ensures { IfOk result (λ report. (m : Machine) → Stands self.old m → (new : Machine) × Step m event.now report new × Stands self.new new) }
+    {
+        match event {
+            Event::Act(act) => {
+                let reply = self.parts.act(alloc, *act)?;
+                Ok(Report::Reply(reply))
+            }
+            Event::Turn(steps, end) => {
+                let replies = mem::replace(spare, List::new(alloc));
+                let report = self.parts.turn(alloc, replies, steps.as_slice(), *end)?;
+                Ok(report)
+            }
+            Event::Clock(n) => {
+                let report = self.parts.clock(alloc, *n)?;
+                Ok(report)
+            }
+            Event::Remote(t) => Ok(self.parts.remote(*t)),
+            Event::Drain => {
+                let report = self.parts.drain(alloc)?;
+                Ok(report)
+            }
+        }
+    }
+
+    /// The table of sleeps, which stands for the machine's sleeps (`sleeps`) with its greatest tick (`greatest`).
+    ///
+    /// No clock step is under way (`rests`). So the table's next expiration is None exactly where no sleep is armed, and
+    /// else above the greatest tick and not above the least armed tick.
+    pub fn timers(&self) -> &Timers
+        ensures sleeps { (m : Machine) → Stands self.now m → StandsForSleeps result.now m.sleeps }
+        ensures greatest { (m : Machine) → Stands self.now m → (sleeps_of result.now).greatest ≡ m.sleeps.greatest }
+        ensures rests { (m : Machine) → Stands self.now m → IsNoneArmedUpTo (sleeps_of result.now) × (elapsed_tick result.now ≡ (sleeps_of result.now).greatest) }
+    {
+        &self.parts.timers
+    }
+}
+
+/// Takes all events in order, from a new executor, and answers one report for each.
+///
+/// The reports are those of a run of the plain machine from its start (`Run`). The only error is want of memory.
+pub fn replay(
+    alloc: Global,
+    limits: Limits,
+    blocking: Blocking,
+    events: &Vec<Event>,
+) -> Result<Vec<Report>, AllocError>
+    ensures { IfOk result (λ reports. (new : Machine) × Run (start_machine limits blocking) events.now.items reports.items new) }
+{
+    let mut exec = Exec::new(alloc, limits, blocking)?;
+    let mut reports = Vec::new(alloc);
+    for event in events {
+        let report = exec.apply(alloc, event)?;
+        reports.push(report)?;
+    }
+    Ok(reports)
+}

@@ -1,0 +1,81 @@
+// Sleeps that are made and that are reset.
+ghost use Rattle.std.specs.Prelude.{◌≡◌, ◌≤◌, IfOk, OnOk};
+ghost use Rattle.mono_model.specs.Ticks.{up, max_nanos};
+ghost use Rattle.mono_model.specs.Tasks.{woken_if_any};
+ghost use Rattle.mono_task.specs.Schedule as schedule;
+ghost use Rattle.mono_machine.specs.Machine.{Machine};
+ghost use Rattle.mono_machine.specs.Acts.{act_outcome};
+ghost use Rattle.mono_machine.specs.SleepCalls.{reset_reply};
+ghost use Rattle.mono_exec.specs.Matches.{Matches};
+ghost use Rattle.mono_machine.specs.declared.events.Act.{Act};
+
+use crate::parts::Parts;
+use crate::{Refusal, Reply};
+use mono_task::Tasks;
+use mono_time::{Instant, SleepError};
+use std::alloc::{AllocError, Global};
+
+/// Wakes a waker, if there is one.
+pub fn wake_if_any<O: Drop>(tasks: &mut Tasks<O>, waker: Option<u64>)
+    ensures { tasks.new ≡ schedule.with_tasks tasks.old (woken_if_any tasks.old.tasks waker) }
+{
+    if let Some(t) = waker {
+        let _ = tasks.wake(t);
+    }
+}
+
+/// The reply to the reset of a sleep to a deadline.
+pub fn reset_reply(n: u128, greatest: u64) -> Reply
+    requires { n ≤ max_nanos }
+    ensures { result ≡ reset_reply greatest (up n) }
+{
+    if ((n + 999999) / 1000000) as u64 <= greatest {
+        Reply::Elapsed
+    } else {
+        Reply::Armed
+    }
+}
+
+impl Parts {
+    /// A sleep is made.
+    pub fn new_sleep(&mut self, alloc: Global, n: u128) -> Result<Reply, AllocError>
+        ensures reply { IfOk result (λ r. (m : Machine) → Matches self.old m → r ≡ (act_outcome (Act.NewSleep n) m).reply) }
+        ensures matches { OnOk result ((m : Machine) → Matches self.old m → Matches self.new (act_outcome (Act.NewSleep n) m).machine) }
+        ensures turn { self.new.tasks.turn ≡ self.old.tasks.turn }
+    {
+        match Instant::from_nanos(n) {
+            None => {
+                if self.timers.is_full() {
+                    return Ok(Reply::Refused(Refusal::AtCapacity));
+                }
+                Ok(Reply::Refused(Refusal::Invalid))
+            }
+            Some(deadline) => match self.timers.add(alloc, deadline) {
+                Ok(s) => Ok(Reply::Sleep(s)),
+                Err(SleepError::Timer(_)) => Ok(Reply::Refused(Refusal::AtCapacity)),
+                Err(SleepError::Memory) => Err(AllocError),
+            },
+        }
+    }
+
+    /// A sleep is armed at another deadline. Where it elapses at once, its waker is woken.
+    pub fn reset(&mut self, s: u64, n: u128) -> Reply
+        ensures reply { (m : Machine) → Matches self.old m → result ≡ (act_outcome (Act.Reset s n) m).reply }
+        ensures matches { (m : Machine) → Matches self.old m → Matches self.new (act_outcome (Act.Reset s n) m).machine }
+        ensures turn { self.new.tasks.turn ≡ self.old.tasks.turn }
+    {
+        match Instant::from_nanos(n) {
+            None => match self.timers.is_elapsed(s) {
+                Err(_) => Reply::Refused(Refusal::NoTimer),
+                Ok(_) => Reply::Refused(Refusal::Invalid),
+            },
+            Some(deadline) => match self.timers.reset(s, deadline) {
+                Err(_) => Reply::Refused(Refusal::NoTimer),
+                Ok(waker) => {
+                    wake_if_any(&mut self.tasks, waker);
+                    reset_reply(n, self.timers.greatest())
+                }
+            },
+        }
+    }
+}

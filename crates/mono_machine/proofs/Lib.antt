@@ -1,0 +1,14 @@
+pub mod Worked
+pub mod Computing
+pub mod ValidParts
+pub mod Known
+pub mod Running
+pub mod OneMachine
+pub mod ValidJobs
+pub mod ValidJoins
+pub mod ValidActs
+pub mod ValidSteps
+pub mod Finished
+pub mod Awaiting
+pub mod Spending
+pub mod Handouts

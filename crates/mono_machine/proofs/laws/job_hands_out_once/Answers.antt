@@ -1,0 +1,5 @@
+use Rattle.mono_machine.proofs.Handouts.{job_once}
+use Rattle.mono_machine.proofs.laws.job_hands_out_once.Goals as goal
+
+pub returns : goal.returns
+returns c = job_once

@@ -1,0 +1,5 @@
+use Rattle.mono_machine.proofs.Awaiting.{none_lost}
+use Rattle.mono_machine.proofs.laws.none_is_lost.Goals as goal
+
+pub returns : goal.returns
+returns c = none_lost

@@ -1,0 +1,5 @@
+use Rattle.mono_machine.proofs.ValidSteps.{start_is_valid}
+use Rattle.mono_machine.proofs.laws.starts_valid.Goals as goal
+
+pub returns : goal.returns
+returns c = start_is_valid

@@ -1,0 +1,5 @@
+use Rattle.mono_machine.proofs.ValidSteps.{step_is_valid}
+use Rattle.mono_machine.proofs.laws.stays_valid.Goals as goal
+
+pub returns : goal.returns
+returns c = step_is_valid

@@ -1,0 +1,5 @@
+use Rattle.mono_machine.proofs.Worked as row
+use Rattle.mono_machine.proofs.rows.moved_earlier_is_last.Goals as goal
+
+pub returns : goal.returns
+returns c = row.moved_earlier_is_last

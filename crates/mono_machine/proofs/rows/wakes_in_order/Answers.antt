@@ -1,0 +1,5 @@
+use Rattle.mono_machine.proofs.Worked as row
+use Rattle.mono_machine.proofs.rows.wakes_in_order.Goals as goal
+
+pub returns : goal.returns
+returns c = row.wakes_in_order

@@ -1,0 +1,10 @@
+pub mod Machine
+pub mod JobCalls
+pub mod JoinCalls
+pub mod SleepCalls
+pub mod Acts
+pub mod Turns
+pub mod Steps
+pub mod Worked
+pub mod History
+pub mod Handouts

@@ -1,0 +1,64 @@
+// Laws of the machine.
+ghost use Rattle.std.specs.Prelude.{◌≡◌, ◌<◌, ◌≤◌, ℕ, true, false, List, Some};
+ghost use Rattle.mono_model.specs.Ticks.{down};
+ghost use Rattle.mono_model.specs.Table.{value_at, next_number};
+ghost use Rattle.mono_model.specs.Sleeps.{Arming, armed};
+ghost use Rattle.mono_machine.specs.Machine.{Machine, start_machine, IsValid};
+ghost use Rattle.mono_machine.specs.Steps.{Step, Run, has_finished};
+ghost use Rattle.mono_machine.specs.Handouts.{is_on_task, is_on_job, handed_in};
+ghost use Rattle.mono_machine.specs.History.{has_turn_of, is_awaiting, tells_wake};
+ghost use Rattle.mono_machine.specs.declared.events.Limits.{Limits};
+ghost use Rattle.mono_machine.specs.declared.events.Blocking.{Blocking};
+ghost use Rattle.mono_machine.specs.declared.events.Event.{Event};
+ghost use Rattle.mono_machine.specs.declared.events.Report.{Report};
+ghost use Rattle.mono_machine.specs.declared.events.Event.TheVariants as event;
+ghost use Rattle.mono_machine.specs.declared.events.Report.TheVariants as report;
+
+/// The report of an event leaves one machine.
+pub fn one_machine()
+    ensures { (old : Machine) (event : Event) (answer : Report) (new other : Machine) → Step old event answer new → Step old event answer other → new ≡ other }
+{}
+
+/// A machine in which nothing was done yet is valid.
+pub fn starts_valid()
+    ensures { (limits : Limits) (strategy : Blocking) → IsValid (start_machine limits strategy) }
+{}
+
+/// Each step from a valid machine leaves a valid machine.
+pub fn stays_valid()
+    ensures { (old : Machine) (event : Event) (answer : Report) (new : Machine) → IsValid old → Step old event answer new → IsValid new }
+{}
+
+/// After a clock step each armed sleep has a tick above that of the clock.
+pub fn none_is_late()
+    ensures { (old : Machine) (n : ℕ) (fired : List ℕ) (new : Machine) → IsValid old → Step old (event.Clock n) (report.Fired fired) new →
+        (s : ℕ) (a : Arming) → value_at new.sleeps.table s ≡ Some (armed a) → down n < a.tick }
+{}
+
+/// A task that has finished is the task of no turn any more.
+pub fn finished_has_no_turn()
+    ensures { (events : List Event) (answers : List Report) (old new : Machine) (t : ℕ) → IsValid old → t < next_number old.tasks.table → has_finished (value_at old.tasks.table t) ≡ true → Run old events answers new → has_turn_of t answers ≡ false }
+{}
+
+/// A task that is queued or waits in the inbox still is or does after any run in which it had no turn and did not finish.
+pub fn none_is_lost()
+    ensures { (events : List Event) (answers : List Report) (old new : Machine) (t : ℕ) → IsValid old → Run old events answers new → is_awaiting t old ≡ true →
+        has_turn_of t answers ≡ false → has_finished (value_at new.tasks.table t) ≡ false → is_awaiting t new ≡ true }
+{}
+
+/// A task that was woken or noted, that was listed or drained, that a sleep woke or a task that finished, is queued or
+/// waits in the inbox after any run in which it had no turn and did not finish.
+pub fn wakes_are_kept()
+    ensures { (woken : Event) (told : Report) (events : List Event) (answers : List Report) (old mid new : Machine) (t : ℕ) → IsValid old → Step old woken told mid → tells_wake t old woken told ≡ true →
+        Run mid events answers new → has_turn_of t answers ≡ false → has_finished (value_at new.tasks.table t) ≡ false → is_awaiting t new ≡ true }
+{}
+
+/// The output of a task comes out at most once: by a poll of its handle, or by the drop of it.
+pub fn task_hands_out_once()
+    ensures { (events : List Event) (answers : List Report) (old new : Machine) (t : ℕ) → IsValid old → Run old events answers new → handed_in (is_on_task t) events answers ≤ 1 }
+{}
+
+/// The output of a job comes out at most once: by a poll of its handle, or by the drop of it.
+pub fn job_hands_out_once()
+    ensures { (events : List Event) (answers : List Report) (old new : Machine) (j : ℕ) → IsValid old → Run old events answers new → handed_in (is_on_job j) events answers ≤ 1 }
+{}

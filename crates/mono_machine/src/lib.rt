@@ -1,0 +1,11 @@
+//! The plain machine: its events and reports, and what each event may answer and leave.
+#![tactic(auto)]
+
+mod events;
+pub mod laws;
+mod lists;
+pub mod rows;
+
+pub use events::{Act, Blocking, End, Event, How, Limits, Query, Refusal, Reply, Report, TurnStep};
+pub use lists::List;
+pub use mono_model::{Ended, MAX_NANOS, Woke};

@@ -1,5 +1,0 @@
-use Rattle.mono_rt.proofs.Handouts.{job_once}
-use Rattle.mono_rt.proofs.laws.job_hands_out_once.Goals as goal
-
-pub returns : goal.returns
-returns c = job_once

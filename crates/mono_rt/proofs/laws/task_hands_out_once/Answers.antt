@@ -1,5 +1,0 @@
-use Rattle.mono_rt.proofs.Handouts.{task_once}
-use Rattle.mono_rt.proofs.laws.task_hands_out_once.Goals as goal
-
-pub returns : goal.returns
-returns c = task_once

@@ -1,5 +1,0 @@
-use Rattle.mono_rt.proofs.Worked as row
-use Rattle.mono_rt.proofs.rows.deadline_is_now.Goals as goal
-
-pub returns : goal.returns
-returns c = row.deadline_is_now

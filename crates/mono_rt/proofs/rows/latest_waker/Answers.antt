@@ -1,5 +1,0 @@
-use Rattle.mono_rt.proofs.Worked as row
-use Rattle.mono_rt.proofs.rows.latest_waker.Goals as goal
-
-pub returns : goal.returns
-returns c = row.latest_waker

@@ -1,5 +1,0 @@
-use Rattle.mono_rt.proofs.Worked as row
-use Rattle.mono_rt.proofs.rows.on_a_thread.Goals as goal
-
-pub returns : goal.returns
-returns c = row.on_a_thread

@@ -1,5 +1,0 @@
-use Rattle.mono_rt.proofs.Worked as row
-use Rattle.mono_rt.proofs.rows.two_causes.Goals as goal
-
-pub returns : goal.returns
-returns c = row.two_causes

@@ -1,0 +1,101 @@
+// A future that has to be ready before a deadline.
+ghost use Rattle.std.specs.Prelude.{◌≡◌};
+ghost use Rattle.mono_time.specs.Futures.{SleepCancels};
+ghost use Rattle.std.specs.Borrow.{sem};
+ghost use Rattle.mono_time.specs.Lending.{LendsValue};
+ghost use Rattle.mono_time.specs.Timeouts.{TimeoutPolls, TimeoutCancels};
+
+use crate::SleepError;
+use crate::context::TimeContext;
+use crate::error::{Elapsed, TimeoutError};
+use crate::sleeps::Sleep;
+use mono_model::{Host, Poll};
+use mono_task::TaskFuture;
+use std::alloc::Global;
+
+/// A future with a deadline. Its value is polled first and wins; a timeout is spent where its value is.
+///
+/// After an Ok answer the delay is gone; after an Err it stays until `cancel` or [`Timeout::into_inner`].
+#[derive(Drop)]
+pub struct Timeout<T> {
+    pub(crate) value: T,
+    pub(crate) delay: Sleep,
+}
+
+/// The future, back from a timeout that was refused, and why.
+#[derive(Drop)]
+pub struct TimeoutRefused<T> {
+    /// Why no delay was made.
+    pub cause: SleepError,
+    /// The future that was handed in.
+    pub future: T,
+}
+
+impl<T> Timeout<T> {
+    /// The future.
+    pub fn get_ref(&self) -> &T
+        ensures { result.now ≡ self.now.value }
+    {
+        &self.value
+    }
+
+    /// The future, to be changed. The delay stays.
+    pub fn get_mut(&mut self) -> &mut T
+        ensures* writes_back { sem 𝓛 (LendsValue T.row self.entry result) }
+        ensures value { result.now ≡ self.old.value }
+    {
+        &mut self.value
+    }
+
+    /// The future alone. The delay is given up.
+    pub fn into_inner<C: TimeContext>(self, cx: &mut C) -> T
+        ensures value { result ≡ self.value }
+        ensures delay { SleepCancels C.sleeps C.work C.reaches self.delay cx.old cx.new }
+        ensures reached { C.reaches cx.old cx.new }
+    {
+        let Timeout { value, delay } = self;
+        delay.cancel(cx);
+        value
+    }
+}
+
+impl<C: TimeContext, T: TaskFuture<C>> TaskFuture<C> for Timeout<T> {
+    type Output = Result<T::Output, TimeoutError>;
+
+    ghost is_spent = { λ f. T.is_spent f.value };
+
+    ghost can_poll = { λ f. T.can_poll f.value };
+
+    ghost polls = { TimeoutPolls T.TaskFuture C.number C.sleeps C.work C.reaches };
+
+    ghost cancels = { TimeoutCancels T.TaskFuture C.sleeps C.work C.reaches };
+
+    fn spent(&self) -> bool {
+        self.value.spent()
+    }
+
+    fn poll<R: Host>(
+        &mut self,
+        rt: &R,
+        alloc: Global,
+        cx: &mut C,
+    ) -> Poll<Result<T::Output, TimeoutError>> {
+        match self.value.poll(rt, alloc, cx) {
+            Poll::Ready(value) => {
+                let _ = cx.drop_sleep(self.delay.number);
+                Poll::Ready(Ok(value))
+            }
+            Poll::Pending => match self.delay.poll(rt, alloc, cx) {
+                Poll::Ready(Ok(())) => Poll::Ready(Err(TimeoutError::Elapsed(Elapsed))),
+                Poll::Ready(Err(error)) => Poll::Ready(Err(TimeoutError::Timer(error))),
+                Poll::Pending => Poll::Pending,
+            },
+        }
+    }
+
+    fn cancel(self, cx: &mut C) {
+        let Timeout { value, delay } = self;
+        value.cancel(cx);
+        delay.cancel(cx);
+    }
+}
