@@ -12,3 +12,4 @@ pub mod Finished
 pub mod Awaiting
 pub mod Spending
 pub mod Handouts
+pub mod Fairness

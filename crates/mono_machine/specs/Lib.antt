@@ -8,3 +8,4 @@ pub mod Steps
 pub mod Worked
 pub mod History
 pub mod Handouts
+pub mod Fairness

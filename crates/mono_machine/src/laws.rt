@@ -1,11 +1,12 @@
 // Laws of the machine.
-ghost use Rattle.std.specs.Prelude.{◌≡◌, ◌<◌, ◌≤◌, ℕ, true, false, List, Some};
+ghost use Rattle.std.specs.Prelude.{◌≡◌, ◌<◌, ◌≤◌, ℕ, true, false, List, Some, length, slice_get};
 ghost use Rattle.mono_model.specs.Ticks.{down};
 ghost use Rattle.mono_model.specs.Table.{value_at, next_number};
 ghost use Rattle.mono_model.specs.Sleeps.{Arming, armed};
 ghost use Rattle.mono_machine.specs.Machine.{Machine, start_machine, IsValid};
 ghost use Rattle.mono_machine.specs.Steps.{Step, Run, has_finished};
 ghost use Rattle.mono_machine.specs.Handouts.{is_on_task, is_on_job, handed_in};
+ghost use Rattle.mono_machine.specs.Fairness.{turns_of};
 ghost use Rattle.mono_machine.specs.History.{has_turn_of, is_awaiting, tells_wake};
 ghost use Rattle.mono_machine.specs.declared.events.Limits.{Limits};
 ghost use Rattle.mono_machine.specs.declared.events.Blocking.{Blocking};
@@ -61,4 +62,11 @@ pub fn task_hands_out_once()
 /// The output of a job comes out at most once: by a poll of its handle, or by the drop of it.
 pub fn job_hands_out_once()
     ensures { (events : List Event) (answers : List Report) (old new : Machine) (j : ℕ) → IsValid old → Run old events answers new → handed_in (is_on_job j) events answers ≤ 1 }
+{}
+
+/// Tasks are served in the order of the queue: a task that stands at place p of it, counted from 0, has the turn of the
+/// (p + 1)th turn event that follows, if the run has so many, whatever the other tasks do.
+pub fn served_in_order()
+    ensures { (events : List Event) (answers : List Report) (old new : Machine) (p t : ℕ) → Run old events answers new → slice_get old.tasks.queue p ≡ Some t →
+        p < length (turns_of events answers) → slice_get (turns_of events answers) p ≡ Some (Some t) }
 {}
