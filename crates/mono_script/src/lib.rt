@@ -19,7 +19,6 @@ pub use command::Command;
 pub use ends::Status;
 pub use laws::one_answer;
 pub use memory::{MemSink, MemSource};
-pub use mono_blocking::{NoSpawner, ThreadSpawner};
 pub use plain::{PlainSink, PlainSource};
 pub use printer::report_line;
 pub use reader::Reader;

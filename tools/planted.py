@@ -1,0 +1,119 @@
+#!/usr/bin/env python3
+"""Tries the wrong bodies of crates/NAME/planted on a copy of the repository, outside the gate.
+
+usage: tools/planted.py [CRATE ..]
+
+Each planted/*.edit has the form of a must-fail edit. For each a row is printed: the crate, the body, and what refuses it:
+"clause" with the prover's words, "proof's text" where only a name that the edit took away is missed, "test" where the
+prover lets it through and a test fails, "bad edit" where it does not apply or compile, or "GOT THROUGH".
+"""
+import os
+import re
+import shutil
+import subprocess
+import sys
+import tempfile
+
+TOP = os.path.dirname(os.path.dirname(os.path.abspath(__file__)))
+LINE = re.compile(r"^rt: must-fail (\w+)/([\w-]+)\.edit: (.*)$")
+
+
+def crates(names):
+    have = sorted(
+        name for name in os.listdir(os.path.join(TOP, "crates"))
+        if os.path.isdir(os.path.join(TOP, "crates", name, "planted"))
+    )
+    unknown = [name for name in names if name not in have]
+    if unknown:
+        sys.exit("no planted bodies in: " + " ".join(unknown))
+    return names or have
+
+
+def copy_of_the_repository(folder):
+    copy = os.path.join(folder, "copy")
+    leave = shutil.ignore_patterns("out", ".git", "bin")
+    shutil.copytree(TOP, copy, ignore=leave)
+    subprocess.run(["git", "init", "-q", copy], check=True)
+    return copy
+
+
+def plant(copy, crate):
+    folder = os.path.join(copy, "crates", crate)
+    shutil.rmtree(os.path.join(folder, "must-fail"), ignore_errors=True)
+    shutil.copytree(os.path.join(folder, "planted"), os.path.join(folder, "must-fail"))
+
+
+def verdict(text):
+    if text.startswith("refused"):
+        if "took away" in text or "names what" in text or "form of" in text:
+            return "proof's text", text
+        return "clause", text.split("note: ", 1)[-1]
+    if "BAD EDIT" in text:
+        return "bad edit", text
+    return "", text
+
+
+def apply(folder, edit):
+    """Applies an edit to the sources of the copy; gives what has to be put back."""
+    before = {}
+    file = old = None
+    with open(edit, encoding="utf-8") as lines:
+        for line in lines:
+            word, _, rest = line.rstrip("\n").partition(": ")
+            if word == "file":
+                file = os.path.join(folder, rest)
+                with open(file, encoding="utf-8") as text:
+                    before.setdefault(file, text.read())
+            elif word == "old":
+                old = rest
+            elif word == "new":
+                with open(file, encoding="utf-8") as text:
+                    now = text.read()
+                with open(file, "w", encoding="utf-8") as text:
+                    text.write(now.replace(old, rest, 1))
+    return before
+
+
+def fails_a_test(copy, crate, edit):
+    folder = os.path.join(copy, "crates", crate)
+    before = apply(folder, edit)
+    run = subprocess.run(
+        ["rt", "try", "--test"], cwd=folder, stdout=subprocess.DEVNULL, stderr=subprocess.DEVNULL, timeout=600
+    )
+    for file, text in before.items():
+        with open(file, "w", encoding="utf-8") as out:
+            out.write(text)
+    return run.returncode not in (0, 2)
+
+
+def try_crate(copy, crate):
+    plant(copy, crate)
+    subprocess.run(["rt", "check"], cwd=os.path.join(copy, "crates", crate), stdout=subprocess.DEVNULL)
+    run = subprocess.run(["rt", "must-fail", crate], cwd=copy, stdout=subprocess.PIPE, stderr=subprocess.STDOUT, text=True)
+    told = {}
+    for line in run.stdout.splitlines():
+        found = LINE.match(line)
+        if found and found.group(1) == crate:
+            told[found.group(2)] = found.group(3)
+    through = 0
+    for name in sorted(os.listdir(os.path.join(copy, "crates", crate, "planted"))):
+        body = name[: -len(".edit")]
+        kind, text = verdict(told.get(body, "not tried"))
+        if not kind:
+            edit = os.path.join(copy, "crates", crate, "planted", name)
+            kind = "test" if fails_a_test(copy, crate, edit) else "GOT THROUGH"
+        through += kind == "GOT THROUGH"
+        print(f"{crate:14} {body:45} {kind:13} {text[:160]}", flush=True)
+    return through
+
+
+def main():
+    with tempfile.TemporaryDirectory() as folder:
+        copy = copy_of_the_repository(folder)
+        through = sum(try_crate(copy, crate) for crate in crates(sys.argv[1:]))
+    print(f"{through} got through")
+    return 1 if through else 0
+
+
+if __name__ == "__main__":
+    sys.exit(main())
