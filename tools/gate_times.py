@@ -9,6 +9,7 @@ import collections
 import os
 import subprocess
 import sys
+import tempfile
 import time
 
 TOP = os.path.dirname(os.path.dirname(os.path.abspath(__file__)))
@@ -69,14 +70,14 @@ def look(root, used, kinds):
 
 def main():
     begin = time.time()
-    run = subprocess.Popen(["rt", "ci", *(sys.argv[1:] or ["--anew"])], cwd=TOP, stdout=subprocess.PIPE, text=True)
     used, kinds = {}, {}
-    os.set_blocking(run.stdout.fileno(), False)
-    last = ""
-    while run.poll() is None:
-        look(run.pid, used, kinds)
-        last = (run.stdout.read() or "").strip().rpartition("\n")[2] or last
-        time.sleep(0.5)
+    with tempfile.TemporaryFile("w+", encoding="utf-8") as log:
+        run = subprocess.Popen(["rt", "ci", *(sys.argv[1:] or ["--anew"])], cwd=TOP, stdout=log, stderr=log)
+        while run.poll() is None:
+            look(run.pid, used, kinds)
+            time.sleep(0.5)
+        log.seek(0)
+        last = log.read().strip().rpartition("\n")[2]
     table = collections.defaultdict(collections.Counter)
     for pid, amount in used.items():
         crate, kind = kinds[pid]
