@@ -5,7 +5,7 @@ ghost use Rattle.mono_machine.specs.declared.events.Limits.{Limits};
 ghost use Rattle.mono_machine.specs.declared.events.Blocking.{Blocking};
 ghost use Rattle.mono_script.specs.declared.command.Command.TheVariants as command;
 ghost use Rattle.mono_script.specs.Command.{IsCommand, IsNoCommand};
-ghost use Rattle.mono_script.specs.Lines.{lines, AreEventLines};
+ghost use Rattle.mono_text.specs.Lines.{lines, AreEventLines};
 ghost use Rattle.mono_script.specs.Ending.{max_input};
 
 use mono_script::{PlainSink, PlainSource, program};

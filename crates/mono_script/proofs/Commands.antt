@@ -6,11 +6,12 @@ use Rattle.std.specs.Fmt.{decimal}
 use Rattle.mono_machine.specs.declared.events.Limits.{Limits}
 use Rattle.mono_machine.specs.declared.events.Blocking.{Blocking}
 use Rattle.mono_machine.specs.declared.events.Blocking.TheVariants as blocking
-use Rattle.mono_script.specs.Reading.{Read, number_at}
+use Rattle.mono_text.specs.Reading.{Read, number_at}
 use Rattle.mono_script.specs.declared.command.Command.{Command}
 use Rattle.mono_script.specs.declared.command.Command.TheVariants as command
-use Rattle.mono_script.specs.Command.{strategy_text, command_words, FitLimits, FitsCommand, AreLimits, AreLoad, IsCommand, IsNoReplay, IsNoLoad, IsNoCommand}
-use Rattle.mono_script.proofs.Digits.{digits_found, digits_again}
+use Rattle.mono_script.specs.Command.{strategy_text, command_words, FitsCommand, AreLimits, AreLoad, IsCommand, IsNoReplay, IsNoLoad, IsNoCommand}
+use Rattle.mono_text.specs.Written.{FitLimits}
+use Rattle.mono_text.proofs.Digits.{digits_found, digits_again}
 
 pub if_none : {A P : Type 0} (o : Option A) → P → IfNone o P
 if_none None p = p

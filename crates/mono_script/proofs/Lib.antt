@@ -1,9 +1,3 @@
 pub mod Statuses
 pub mod Commands
-pub mod Outside
 pub mod Replaying
-pub mod Listing
-pub mod Spelled
-pub mod Parts
-pub mod Words
-pub mod Digits

@@ -26,8 +26,8 @@ use Rattle.mono_exec.specs.declared.executor.Exec.{Exec}
 use Rattle.mono_machine.specs.Machine.{Machine, start_machine}
 use Rattle.mono_machine.specs.Steps.{Step, Run}
 use Rattle.mono_exec.specs.Stands.{Stands}
-use Rattle.mono_script.specs.Written.{how_text, act_text, step_text, end_text, parts_text, event_text, FitsAct, FitsStep, FitsEnd, FitSteps, FitsEvent, report_line}
-use Rattle.mono_script.specs.Lines.{AreLines, IsFirstWrong, Line, onto_first, lines, IsEventLine, AreEventLines, IsFirstBad, BeginsWith, BeginsWithNone}
+use Rattle.mono_text.specs.Written.{how_text, act_text, step_text, end_text, parts_text, event_text, FitsAct, FitsStep, FitsEnd, FitSteps, FitsEvent, report_line}
+use Rattle.mono_text.specs.Lines.{AreLines, IsFirstWrong, Line, onto_first, lines, IsEventLine, AreEventLines, IsFirstBad, BeginsWith, BeginsWithNone}
 use Rattle.mono_script.specs.Answers.{IsReplayed, Answers}
 
 -- ---- the text of an event has no line feed

@@ -2,8 +2,8 @@
 use Rattle.std.proofs.Common.{◌≡◌, ◌≢◌, ◌↔◌, ◌⊎◌, ℕ, ◌<◌, ◌≤◌, Bool, true, false, List, Option, Some, length, refl, sym, ap, subst, ◌∙◌, arith, inl, inr}
 use Rattle.mono_script.specs.declared.command.Command.{Command}
 use Rattle.mono_script.specs.declared.command.Command.TheVariants as command
-use Rattle.mono_script.specs.Lines.{lines}
-use Rattle.mono_script.specs.Outside.{HasReadAll, IsLongerThan}
+use Rattle.mono_text.specs.Lines.{lines}
+use Rattle.mono_text.specs.Outside.{HasReadAll, IsLongerThan}
 use Rattle.mono_script.specs.Ending.{Meaning, Ends, HasInput, IsInput, HasAnswered, NamesBadLine, IsCutShort, IsRead, IsAnswered, status_code, max_input}
 use Rattle.mono_script.specs.Meanings.{meaning}
 use Rattle.mono_script.specs.declared.ends.Status.{Status}

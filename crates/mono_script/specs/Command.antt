@@ -16,11 +16,6 @@ command_words (command.Replay limits strategy) =
     codes "replay" ∷ strategy_text strategy ∷ decimal limits.tasks ∷ decimal limits.jobs ∷ decimal limits.sleeps ∷ []
 command_words (command.Load seed count) = codes "load" ∷ decimal seed ∷ decimal count ∷ []
 
-pub record FitLimits (limits : Limits) : Type 0 where
-  pub tasks : limits.tasks < 2 ^ 64
-  pub jobs : limits.jobs < 2 ^ 64
-  pub sleeps : limits.sleeps < 2 ^ 64
-
 -- the numbers are within their bounds
 abbrev pub FitsCommand : Command → Type 0
 FitsCommand (command.Replay limits strategy) = FitLimits limits

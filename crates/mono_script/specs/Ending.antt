@@ -1,7 +1,7 @@
 -- How a command ends. Of the source, left is what it had left before and rest what it has left afterwards; of the
 -- sink, before and after are what was written before and afterwards.
 use Rattle.std.specs.Prelude.{◌≡◌, ◌≢◌, ℕ, ◌≤◌, ◌⊎◌, Bool, true, false, List, [], ◌∷◌, ◌++◌, length, Option, Some, codes, decimal}
-use Rattle.mono_script.specs.Outside.{HasReadAll, IsLongerThan, HasWritten, HasWrittenPrefix}
+use Rattle.mono_text.specs.Outside.{HasReadAll, IsLongerThan, HasWritten, HasWrittenPrefix}
 use Rattle.mono_script.specs.declared.ends.Status.{Status}
 use Rattle.mono_script.specs.declared.ends.Status.TheVariants as status
 

@@ -1,8 +1,3 @@
-pub mod Written
-pub mod Lines
-pub mod Reading
-pub mod Outside
-pub mod Memory
 pub mod Answers
 pub mod Command
 pub mod Ending

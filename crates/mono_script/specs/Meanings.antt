@@ -10,7 +10,7 @@ use Rattle.mono_script.specs.declared.ends.Status.TheVariants as status
 use Rattle.mono_load.specs.Load.{IsSummary}
 use Rattle.mono_load.specs.declared.loads.Summary.{Summary}
 use Rattle.mono_script.specs.Ending.{Meaning}
-use Rattle.mono_script.specs.Lines.{lines, AreEventLines, IsFirstBad}
+use Rattle.mono_text.specs.Lines.{lines, AreEventLines, IsFirstBad}
 use Rattle.mono_script.specs.Answers.{IsReplayed}
 
 -- a replay: event lines in, and a line for each report of a run

@@ -2,7 +2,7 @@
 ghost use Rattle.std.specs.Prelude.{◌≡◌, ◌∷◌, [], List, ℕ, IfSome, IfNone, map, string_bytes};
 ghost use Rattle.mono_script.specs.Command.{AreLimits, AreLoad, IsCommand, IsNoReplay, IsNoLoad, IsNoCommand, strategy_text};
 
-use crate::reader::whole_number;
+use mono_text::whole_number;
 use mono_exec::{Blocking, Limits};
 
 /// What the words ask for.

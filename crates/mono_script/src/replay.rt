@@ -7,8 +7,7 @@ ghost use Rattle.mono_script.specs.Ending.{IsOutput};
 ghost use Rattle.mono_script.specs.Meanings.{replaying};
 
 use crate::ends::{Output, Status, bad_line};
-use crate::printer::report_line;
-use crate::reader::Reader;
+use mono_text::{Reader, report_line};
 use mono_exec::{Blocking, Event, Exec, Limits, List, Reply, Report, TurnStep};
 use std::alloc::{AllocError, Global};
 

@@ -1,18 +1,17 @@
 // The top call: words, source and sink to a status.
 ghost use Rattle.std.specs.Prelude.{◌≡◌, ◌≢◌, ◌≤◌, ◌<◌, ◌↔◌, ◌⊎◌, true, false, List, ℕ, Some, length, IfOk, OnOk, IsErrOf, map, string_bytes};
-ghost use Rattle.mono_script.specs.Outside.{HasRisen, IsLongerThan};
+ghost use Rattle.mono_text.specs.Outside.{HasRisen, IsLongerThan};
 ghost use Rattle.mono_script.specs.Command.{FitsCommand, IsCommand, IsNoCommand};
 ghost use Rattle.mono_script.specs.Ending.{HasInput, IsInput, HasAnswered, NamesBadLine, IsCutShort, IsRead, IsOutput, IsAnswered, Ends, IsWritten, status_code, max_input};
 ghost use Rattle.mono_script.specs.Meanings.{meaning};
 ghost use Rattle.mono_script.specs.declared.ends.Status.TheVariants as status;
-ghost use Rattle.mono_script.specs.declared.source.InputError.TheVariants as input_error;
+ghost use Rattle.mono_text.specs.declared.source.InputError.TheVariants as input_error;
 
 use crate::command::{Command, read_command};
 use crate::ends::{Output, Status};
 use crate::load_line::output_of_load;
 use crate::replay::output_of_replay;
-use crate::sink::{Sink, write_all};
-use crate::source::{InputError, Source, read_all};
+use mono_text::{InputError, Sink, Source, read_all, write_all};
 use std::alloc::{AllocError, Global};
 
 // What the command is to write for the input.

@@ -2,7 +2,7 @@
 use Rattle.std.proofs.Common.{◌≡◌, ℕ, zero, suc, ◌+◌, ◌-◌, ◌<◌, ◌≤◌, ◌⊎◌, List, [], ◌∷◌, ◌++◌, length, take, drop, refl, sym, ap, subst, ◌∙◌, arith, append_assoc, inl, inr}
 use Rattle.std.proofs.lemmas.List.{take-append-drop}
 use Rattle.std.proofs.lemmas.Bool.{cases_lt}
-use Rattle.mono_script.specs.Lines.{Line}
+use Rattle.mono_text.specs.Lines.{Line}
 use Rattle.mono_scripts.specs.Beginnings.{Begins, IsFirstOut, wrong, missing}
 
 -- the front of what is in the form is a beginning

@@ -4,8 +4,8 @@ use Rattle.std.proofs.lemmas.List.{append-nil, map-append, take-append-le}
 use Rattle.std.proofs.lemmas.Grind.{flat_map-append}
 use Rattle.std.proofs.Math.Seq.{take-append_seam, take-append-add}
 use Rattle.mono_machine.specs.declared.events.Limits.{Limits}
-use Rattle.mono_script.specs.Command.{FitLimits}
-use Rattle.mono_script.specs.Lines.{Line, lines}
+use Rattle.mono_text.specs.Written.{FitLimits}
+use Rattle.mono_text.specs.Lines.{Line, lines}
 use Rattle.mono_scripts.specs.Beginnings.{Begins, IsFirstOut, wrong}
 use Rattle.mono_scripts.specs.Script.{Kind, Script, MayStand, AllMayStand, IsSoundKind, AreSoundKinds, IsSound}
 use Rattle.mono_scripts.specs.Following.{MayFollow, done_text, front_texts}

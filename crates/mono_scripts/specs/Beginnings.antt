@@ -1,6 +1,6 @@
 -- A form of lines, and the first line at which an input leaves it.
 use Rattle.std.specs.Prelude.{◌≡◌, ◌⊎◌, ℕ, ◌+◌, ◌-◌, ◌≤◌, List, ◌++◌, length, take}
-use Rattle.mono_script.specs.Lines.{Line}
+use Rattle.mono_text.specs.Lines.{Line}
 
 -- The lines can be gone on with to some that are in the form.
 abbrev pub Begins : (List Line → Type 0) → List Line → Type 0

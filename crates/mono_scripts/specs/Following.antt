@@ -1,7 +1,7 @@
 -- What may stand next in a script.
 use Rattle.std.specs.Prelude.{◌≡◌, ◌<◌, ℕ, ◌^◌, List, ◌∷◌, ◌++◌, length, map, flat_map, codes, decimal}
 use Rattle.mono_machine.specs.declared.events.Limits.{Limits}
-use Rattle.mono_script.specs.Lines.{Line}
+use Rattle.mono_text.specs.Lines.{Line}
 use Rattle.mono_scripts.specs.Script.{Kind, MayStand}
 use Rattle.mono_scripts.specs.Written.{body_text, kind_texts, limits_text, ended}
 use Rattle.mono_scripts.specs.declared.scripts.BodyLine.{BodyLine}

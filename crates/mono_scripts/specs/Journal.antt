@@ -1,6 +1,6 @@
 -- How a journal is written, and what a run of a script answers.
 use Rattle.std.specs.Prelude.{◌≡◌, ℕ, ◌<◌, ◌≤◌, ◌^◌, List, [], ◌∷◌, ◌++◌, flat_map, Option, Some, None, codes, decimal}
-use Rattle.mono_script.specs.Written.{event_text, report_text}
+use Rattle.mono_text.specs.Written.{event_text, report_text}
 use Rattle.mono_scripts.specs.Driven.{Entry, ran, now, park}
 
 abbrev pub entry_text : Entry → List ℕ

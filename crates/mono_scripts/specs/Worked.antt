@@ -11,7 +11,7 @@ use Rattle.mono_machine.specs.declared.events.Event.TheVariants as event
 use Rattle.mono_machine.specs.declared.events.Reply.{Reply}
 use Rattle.mono_machine.specs.declared.events.Reply.TheVariants as reply
 use Rattle.mono_machine.specs.declared.events.Report.TheVariants as report
-use Rattle.mono_script.specs.Lines.{lines}
+use Rattle.mono_text.specs.Lines.{lines}
 use Rattle.mono_scripts.specs.Script.{Kind, Script}
 use Rattle.mono_scripts.specs.Written.{Spells, IsFirstBad, ended, script_texts}
 use Rattle.mono_scripts.specs.Driven.{Entry, ran, now, park, Driven}

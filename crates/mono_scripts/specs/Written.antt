@@ -1,7 +1,7 @@
 -- How scripts are written, which lines are a script, and which line of others is the first bad one.
 use Rattle.std.specs.Prelude.{◌≡◌, ℕ, ◌+◌, ◌&&◌, ◌==◌, Bool, true, false, if◌then◌else◌, List, [], ◌∷◌, ◌++◌, length, map, flat_map, codes, decimal}
 use Rattle.mono_machine.specs.declared.events.Limits.{Limits}
-use Rattle.mono_script.specs.Lines.{Line, lines}
+use Rattle.mono_text.specs.Lines.{Line, lines}
 use Rattle.mono_scripts.specs.Beginnings.{IsFirstOut}
 use Rattle.mono_scripts.specs.Script.{Kind, Script, IsSound}
 use Rattle.mono_scripts.specs.declared.scripts.BodyLine.{BodyLine}

@@ -1,8 +1,8 @@
 // Facts about the definitions alone.
 ghost use Rattle.std.specs.Prelude.{◌≡◌, ◌<◌, ◌≤◌, ◌+◌, ◌++◌, ◌∷◌, [], List, ℕ, length, map};
 ghost use Rattle.mono_machine.specs.declared.events.Limits.{Limits};
-ghost use Rattle.mono_script.specs.Command.{FitLimits};
-ghost use Rattle.mono_script.specs.Lines.{Line, lines};
+ghost use Rattle.mono_text.specs.Written.{FitLimits};
+ghost use Rattle.mono_text.specs.Lines.{Line, lines};
 ghost use Rattle.mono_scripts.specs.declared.scripts.BodyLine.{BodyLine};
 ghost use Rattle.mono_scripts.specs.Following.{MayFollow, front_texts};
 ghost use Rattle.mono_scripts.specs.Script.{Kind, Script, AreSoundKinds, AllMayStand};

@@ -1,4 +1,4 @@
-use Rattle.mono_script.specs.Lines.{lines}
+use Rattle.mono_text.specs.Lines.{lines}
 use Rattle.mono_scripts.specs.Written.{IsScript, task_lines}
 use Rattle.mono_scripts.proofs.Beginnings.{not_out}
 use Rattle.mono_scripts.proofs.laws.a_script_has_no_bad_line.Goals as goal

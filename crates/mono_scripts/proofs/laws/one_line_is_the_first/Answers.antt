@@ -1,4 +1,4 @@
-use Rattle.mono_script.specs.Lines.{lines}
+use Rattle.mono_text.specs.Lines.{lines}
 use Rattle.mono_scripts.specs.Written.{IsScript, task_lines}
 use Rattle.mono_scripts.proofs.Beginnings.{once}
 use Rattle.mono_scripts.proofs.laws.one_line_is_the_first.Goals as goal

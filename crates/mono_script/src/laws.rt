@@ -1,9 +1,0 @@
-// Facts about the definitions alone.
-ghost use Rattle.std.specs.Prelude.{List, ℕ};
-ghost use Rattle.mono_machine.specs.declared.events.Event.{Event};
-ghost use Rattle.mono_script.specs.Lines.{Line, AreEventLines, IsFirstBad};
-
-/// Lines that all say events have no first bad one.
-pub fn one_answer()
-    ensures { (events : List Event) (all : List Line) (n : ℕ) → AreEventLines events all → IsFirstBad all n → ⊥ }
-{}

@@ -1,0 +1,6 @@
+pub mod Outside
+pub mod Listing
+pub mod Spelled
+pub mod Parts
+pub mod Words
+pub mod Digits

@@ -1,0 +1,7 @@
+use Rattle.std.proofs.Common.{◌≡◌, ◌^◌, ◌<◌, drop}
+use Rattle.mono_text.specs.Reading.{digits_from}
+use Rattle.mono_text.proofs.reader.Reader.nanos.Given as goal
+
+-- no digit is lost, and only the first of all could be a zero that leads
+abbrev pub invariant-digits : goal.invariant-digits
+invariant-digits l = (digits_from (2 ^ 128) 0 0 l.text ≡ digits_from (2 ^ 128) l.value l.i (drop l.i l.text)) × (0 < l.i → 0 < l.value)

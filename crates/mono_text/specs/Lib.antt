@@ -1,0 +1,5 @@
+pub mod Written
+pub mod Lines
+pub mod Reading
+pub mod Outside
+pub mod Memory

@@ -1,0 +1,22 @@
+//! Event lines in, report lines out, and the sources and sinks of their bytes.
+#![tactic(auto)]
+
+pub mod laws;
+mod memory;
+mod plain;
+mod printer;
+mod reader;
+mod sink;
+mod source;
+mod standard;
+
+pub use memory::{MemSink, MemSource};
+pub use plain::{PlainSink, PlainSource};
+pub use printer::report_line;
+pub use reader::{Reader, whole_number};
+pub use sink::{Sink, SinkFault, write_all};
+pub use source::{InputError, MAX_INPUT, Source, SourceFault, read_all};
+pub use standard::{StdinSource, StdoutSink};
+
+#[cfg(test)]
+mod tests;

@@ -1,0 +1,103 @@
+// Where the input comes from.
+ghost use Rattle.std.specs.Prelude.{◌≡◌, ℕ, ◌+◌, ◌<◌, ◌≤◌, ◌⊎◌, Option, Some, None, List, [], length, take, drop, IfOk, IfErr, OnErr, OnOk, IsErrOf, vec_len};
+ghost use Rattle.mono_text.specs.Outside.{HasCause, HasRisen, Reads, HasRead, HasReadAll, IsLongerThan};
+
+use std::alloc::{AllocError, Global};
+
+/// A read that failed. No byte was moved, and the source's count of faults rose.
+#[derive(Clone, Copy, Debug, PartialEq, Eq)]
+pub struct SourceFault;
+
+/// Where the input comes from.
+///
+/// A source has a count of faults, and may tell which bytes it has left.
+pub trait Source {
+    /// How often a read has failed, which never falls. A count of 2^64 - 1 counts as risen.
+    ghost faults: { Self → ℕ };
+
+    /// The bytes that are left, where the source tells them.
+    ghost left: { Self → Option (List ℕ) };
+
+    /// Puts the next bytes at the front of the buffer and answers how many. 0 for a buffer that isn't empty is the end
+    /// of the input. It fails only where the count of faults rose in this call, which else stays (`cause`), and then no
+    /// byte has moved (`none`).
+    fn read(&mut self, buffer: &mut [u8]) -> Result<usize, SourceFault>
+        ensures within { IfOk result (λ n. n ≤ length buffer.old) }
+        ensures bytes { IfOk result (λ n. Reads (left self.old) (left self.new) buffer.new n) }
+        ensures none { OnErr result (left self.new ≡ left self.old) }
+        ensures cause { HasCause (faults self.old) (faults self.new) result };
+}
+
+/// The most bytes that an input may have, 2^24.
+pub const MAX_INPUT: usize = 16777216;
+
+const BLOCK: usize = 65536;
+
+/// Why there is no input: no memory, a read that failed, or more bytes than an input may have.
+#[derive(Clone, Copy, Debug, PartialEq, Eq)]
+pub enum InputError {
+    Memory,
+    Fault,
+    TooLong,
+}
+
+impl From<AllocError> for InputError {
+    ghost from_gives = { λ _ e. e ≡ InputError.Memory };
+
+    ghost use Rattle.mono_text.specs.declared.source.InputError.TheVariants as InputError;
+
+    fn from(_: AllocError) -> Self {
+        InputError::Memory
+    }
+}
+
+// A block of zeros. Its length is all that is told, so that no proof computes the block.
+fn zeros(alloc: Global, len: usize) -> Result<Vec<u8>, AllocError>
+    ensures { IfOk result (λ block. length block.items ≡ len) }
+{
+    vec![in alloc; 0u8; len]
+}
+
+#[inline(always)]
+fn front_of(block: &[u8], n: usize) -> &[u8]
+    requires { n ≤ length block.now }
+    ensures { result.now ≡ take n block.now }
+{
+    &block[..n]
+}
+
+// Reads through the block to the end of the input, or past the most bytes that it may have.
+fn fill<S: Source>(source: &mut S, block: &mut [u8], bytes: &mut Vec<u8>) -> Result<(), InputError>
+    requires some { 0 < length block.old }
+    requires empty { bytes.old.items ≡ [] }
+    ensures ok { OnOk result (HasReadAll (S.left source.old) bytes.new.items (S.left source.new) × (vec_len bytes.new ≤ 16777216)) }
+    ensures long { IsErrOf result InputError.TooLong → IsLongerThan 16777216 (S.left source.old) }
+    ensures fault { IsErrOf result InputError.Fault → HasRisen (S.faults source.old) (S.faults source.new) }
+    ensures later { S.faults source.old ≤ S.faults source.new }
+    ensures stays { (IsErrOf result InputError.Fault → ⊥) → S.faults source.new ≡ S.faults source.old }
+{
+    while bytes.len() <= MAX_INPUT {
+        let Ok(n) = source.read(block) else {
+            return Err(InputError::Fault);
+        };
+        if n == 0 {
+            return Ok(());
+        }
+        bytes.extend_from_slice(front_of(block, n))?;
+    }
+    Err(InputError::TooLong)
+}
+
+/// All bytes that the source has left, read by blocks of 64 KiB, at most 2^24 bytes.
+pub fn read_all<S: Source>(alloc: Global, source: &mut S) -> Result<Vec<u8>, InputError>
+    ensures ok { IfOk result (λ bytes. HasReadAll (S.left source.old) bytes.items (S.left source.new) × (vec_len bytes ≤ 16777216)) }
+    ensures long { IsErrOf result InputError.TooLong → IsLongerThan 16777216 (S.left source.old) }
+    ensures fault { IsErrOf result InputError.Fault → HasRisen (S.faults source.old) (S.faults source.new) }
+    ensures later { S.faults source.old ≤ S.faults source.new }
+    ensures stays { (IsErrOf result InputError.Fault → ⊥) → S.faults source.new ≡ S.faults source.old }
+{
+    let mut block = zeros(alloc, BLOCK)?;
+    let mut bytes = Vec::new(alloc);
+    fill(source, &mut block, &mut bytes)?;
+    Ok(bytes)
+}
