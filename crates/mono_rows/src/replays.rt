@@ -2,7 +2,7 @@
 use crate::running::{PLAIN, Row, replayed, run};
 use std::alloc::AllocError;
 
-fn rows() -> [Row; 18] {
+fn rows() -> [Row; 19] {
     [
         // no input
         replayed(b"".as_slice(), b"".as_slice()),
@@ -19,6 +19,11 @@ fn rows() -> [Row; 18] {
         // two sleeps far apart
         replayed(
             b"spawn\nturn; sleep 68719476736000000; sleep 1073741824000000; poll 0; poll 1; pending\nclock 1073741824000000\nelapsed 0\n".as_slice(),
+            b"task 0\nturn 0; sleep 0; sleep 1; pending; pending; idle\nfired 1\nno\n".as_slice(),
+        ),
+        // two sleeps far apart, of which the farther one stands in the slot that holds the current tick
+        replayed(
+            b"spawn\nturn; sleep 4398046511104000000; sleep 68719476736000000; poll 0; poll 1; pending\nclock 68719476736000000\nelapsed 0\n".as_slice(),
             b"task 0\nturn 0; sleep 0; sleep 1; pending; pending; idle\nfired 1\nno\n".as_slice(),
         ),
         // ties

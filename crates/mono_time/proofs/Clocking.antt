@@ -10,7 +10,7 @@ use Rattle.mono_model.specs.Sleeps as model
 use Rattle.mono_model.specs.Sleeps.{Sleeps, Arming, with_greatest, with_sleep, IsDueSleep, MayPrecede}
 use Rattle.mono_model.specs.Firing.{IsFirstDue, IsNoneDue}
 use Rattle.mono_model.proofs.TableOf.{table_of-same, value_at-table_of, length-table_of}
-use Rattle.mono_wheel.specs.Start.{start}
+use Rattle.mono_wheel.specs.Start.{start, top_level}
 use Rattle.mono_wheel.specs.Model.{Wheel, Timed, timed_at, timed_after, CameOut, NothingDue}
 use Rattle.mono_time.specs.Sleeps.{Kept, armed, elapsed}
 use Rattle.mono_model.specs.SleepActs as machine
@@ -46,14 +46,14 @@ moved-tick false timed = refl
 
 after-tick : (old new : ℕ) (timed : Option Timed) → tick_in (timed_after old new timed) ≡ tick_in timed
 after-tick old new None = refl
-after-tick old new (Some timed) = moved-tick (nat_le (start 5 old timed.registered) new) timed
+after-tick old new (Some timed) = moved-tick (nat_le (start top_level old timed.registered) new) timed
 
 after-some : (old new : ℕ) (timed : Option Timed) → is_some (timed_after old new timed) ≡ is_some timed
 after-some old new None = refl
 after-some old new (Some timed) = refl
 
 after-both : (old new tick : ℕ) → timed_after old new (Some record { tick = tick; registered = tick }) ≡ Some record { tick = tick; registered = tick }
-after-both old new tick = ap Some (cond-same (nat_le (start 5 old tick) new))
+after-both old new tick = ap Some (cond-same (nat_le (start top_level old tick) new))
   where
     cond-same : (b : Bool) → cond b (both tick) (both tick) ≡ both tick
     cond-same true = refl

@@ -4,7 +4,7 @@ use Rattle.std.specs.Prelude.{Option, slice_get, is_some, nat_le}
 use Rattle.std.proofs.lemmas.Bool.{le-leb, lt-leb, cases_eq, cases_lt}
 use Rattle.std.proofs.lemmas.List.{get_or-set_other, get_or-set_same, get_or_append_left, get_or_push, get_or_past, length_push}
 use Rattle.mono_model.specs.Table.{Table, value_at}
-use Rattle.mono_wheel.specs.Start.{start}
+use Rattle.mono_wheel.specs.Start.{start, top_level}
 use Rattle.mono_wheel.specs.Model.{Wheel, Timed, timed_at, timed_after, Changed, CameOut}
 use Rattle.mono_time.specs.Sleeps.{armed}
 use Rattle.mono_time.specs.Entries.{is_armed_state, kept_in, kept_of, tick_in, is_armed_entry, owner_of}
@@ -131,7 +131,7 @@ module _ (wheel : Wheel) (keys : Table ℕ) (entries : List Entry) (greatest liv
     where
       by : (state : State) → true ≡ is_armed_state state → registered_in (timed_after wheel.elapsed now (Some t)) ≡ moved_registered wheel.elapsed now (Some (kept_in (Some t) state)) (Some t.registered)
       by (Fresh tick) armed_is = absurd (cc)
-      by (Armed waker) armed_is = moved-in wheel.elapsed now t.tick t.registered (nat_le (start 5 wheel.elapsed t.registered) now)
+      by (Armed waker) armed_is = moved-in wheel.elapsed now t.tick t.registered (nat_le (start top_level wheel.elapsed t.registered) now)
       by Elapsed armed_is = absurd (cc)
 
   pub registered-moved : (left : Wheel) (q : ℕ) → ((j : ℕ) → value_at keys q ≡ Some j → timed_at left j ≡ timed_after wheel.elapsed now (timed_at wheel j))

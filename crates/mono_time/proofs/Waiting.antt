@@ -2,7 +2,7 @@
 use Rattle.std.proofs.Common.{◌≡◌, ◌<◌, ◌≤◌, inl, inr, ℕ, true, false, Bool, List, Some, None, refl, ap, sym, subst, ◌∙◌, arith}
 use Rattle.std.specs.Prelude.{Option, slice_get, is_some, IfSome}
 use Rattle.mono_model.specs.Table.{Table, value_at}
-use Rattle.mono_wheel.specs.Start.{start}
+use Rattle.mono_wheel.specs.Start.{start, top_level}
 use Rattle.mono_wheel.specs.Model.{Wheel, Timed, timed_at, NextTick, IsPending, AllFit, Fits}
 use Rattle.mono_time.specs.Sleeps.{SleepTable, armed}
 use Rattle.mono_time.specs.Entries.{is_armed_state, kept_in, tick_in, owner_of}
@@ -79,7 +79,7 @@ module _ (wheel : Wheel) (keys : Table ℕ) (entries : List Entry) (greatest liv
             is_there = ap (registered_under wheel) there.1 ∙ ap registered_in first.is;
             is_start = first.here;
             is_least = λ other later is. let key = registered_key other later is in
-                subst (λ r. next ≤ start 5 wheel.elapsed r) key.1.2 (first.least key.0 key.1.0 key.1.1);
+                subst (λ r. next ≤ start top_level wheel.elapsed r) key.1.2 (first.least key.0 key.1.0 key.1.1);
           },
         )
 
@@ -91,11 +91,11 @@ module _ (wheel : Wheel) (keys : Table ℕ) (entries : List Entry) (greatest liv
         let there = in_wheel pending.0 pending.1.0 pending.1.1 in
         absurd (omega (arith, rest, pending.1.2, above there.0 pending.1.0.tick there.2.0 there.2.1))
     next-ahead (Some next) (inr (none, first)) fits rest above starts within = (
-      omega (arith, first.here, rest, starts 5 wheel.elapsed first.timed.registered),
+      omega (arith, first.here, rest, starts top_level wheel.elapsed first.timed.registered),
       λ s tick waker is. let key = armed_in s tick waker is in
           not_above key.0 key.2.0 tick key.2.1 key.2.2 (above s tick waker is) (subst (Fits wheel.elapsed) key.2.1 (fits key.0)),
     )
       where
         not_above : (j : ℕ) (timed : Timed) (tick : ℕ) → timed_at wheel j ≡ Some timed → timed.tick ≡ tick → greatest < tick → Fits wheel.elapsed (Some timed) → next ≤ tick
         not_above j timed tick is same late (inl now) = absurd (omega (arith, now.1, same, late, rest))
-        not_above j timed tick is same late (inr ahead) = omega (arith, first.least j timed is, within 5 wheel.elapsed timed.registered ahead.0, ahead.1, same)
+        not_above j timed tick is same late (inr ahead) = omega (arith, first.least j timed is, within top_level wheel.elapsed timed.registered ahead.0, ahead.1, same)

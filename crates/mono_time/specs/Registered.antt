@@ -2,7 +2,7 @@
 -- an earlier tick than its own, until the clock comes to the start of that slot.
 use Rattle.std.specs.Prelude.{◌≡◌, ◌≢◌, ◌≤◌, ◌⊎◌, ℕ, if◌then◌else◌, Option, Some, None, nat_le}
 use Rattle.mono_model.specs.Table.{Table, value_at}
-use Rattle.mono_wheel.specs.Start.{start}
+use Rattle.mono_wheel.specs.Start.{start, top_level}
 use Rattle.mono_wheel.specs.Model.{Wheel, Timed, timed_at}
 use Rattle.mono_time.specs.Sleeps.{Kept, SleepTable, fresh, armed, elapsed}
 
@@ -45,7 +45,7 @@ reset_registered greatest tick (Some elapsed) registered = anew_above greatest t
 -- after the wheel went on from one tick to another: a sleep is registered at its own tick where the start of the slot was
 -- passed or reached
 abbrev pub moved_registered : ℕ → ℕ → Option Kept → Option ℕ → Option ℕ
-moved_registered old new (Some (armed tick waker)) (Some registered) = Some (if nat_le (start 5 old registered) new then tick else registered)
+moved_registered old new (Some (armed tick waker)) (Some registered) = Some (if nat_le (start top_level old registered) new then tick else registered)
 moved_registered old new (Some (armed tick waker)) None = None
 moved_registered old new (Some (fresh tick)) registered = registered
 moved_registered old new (Some elapsed) registered = registered
@@ -56,8 +56,8 @@ pub record FirstSlot (reached : ℕ) (registered : ℕ → Option ℕ) (next : �
   pub sleep : ℕ
   pub tick : ℕ
   pub is_there : registered sleep ≡ Some tick
-  pub is_start : next ≡ start 5 reached tick
-  pub is_least : (other later : ℕ) → registered other ≡ Some later → next ≤ start 5 reached later
+  pub is_start : next ≡ start top_level reached tick
+  pub is_least : (other later : ℕ) → registered other ≡ Some later → next ≤ start top_level reached later
 
 -- a sleep is armed at the tick up to which the wheel has gone
 abbrev pub IsOnePending : ℕ → SleepTable → Type 0

@@ -131,8 +131,8 @@ fn passes<L: Ledger>(alloc: Global, steps: &mut Steps<L>) -> Result<bool, Fail> 
 
 // Of two sleeps that are far apart the nearer one fires first.
 fn far_apart<L: Ledger>(alloc: Global, steps: &mut Steps<L>) -> Result<bool, Fail> {
-    let near = at_millis(0x4000_0000);
-    let mut timers = two_armed(alloc, at_millis(0x10_0000_0000), near)?;
+    let near = at_millis(0x10_0000_0000);
+    let mut timers = two_armed(alloc, at_millis(0x400_0000_0000), near)?;
     let fired = timers.clock(near, steps);
     let none = timers.clock(near, steps);
     Ok(fired == Some((1, Some(4))) && none == None && timers.is_elapsed(0) == Ok(false))

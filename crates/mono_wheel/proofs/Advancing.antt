@@ -1,7 +1,7 @@
 -- The clock of a wheel goes on.
 use Rattle.std.proofs.Common.{arith, ◌≡◌, ◌≢◌, ℕ, ◌+◌, ◌*◌, ◌<◌, ◌≤◌, inl, inr, length, true, false, nat_le, List, [], ◌∷◌, map, Option, Some, None, set, ap, refl, sym, ◌∙◌, subst, length-set}
 use Rattle.std.proofs.lemmas.Bool.Decides.{leb_tells, eqb_tells}
-use Rattle.mono_wheel.specs.Start.{far_digit, slot_of, start}
+use Rattle.mono_wheel.specs.Start.{far_digit, slot_of, start, top_level, slot_count, pending_list, taken_list}
 use Rattle.mono_wheel.specs.Lists.{Lists, IsIn, with_list, list_at, is_node}
 use Rattle.mono_wheel.specs.Model.{Timed, Wheel, Precedes, StandsBehind, Fits, timed_at, moved, timed_after}
 use Rattle.mono_wheel.specs.Held.{place_of, place_in, timed_of, timed_in, StandsIn, Held, Settling, Settled, anew, IsNextSlot, Advanced}
@@ -14,10 +14,10 @@ use Rattle.mono_wheel.proofs.Searching.{stands-timed, ahead-in}
 use Rattle.mono_wheel.proofs.Ranks.{start-place, place-start}
 
 -- while the clock has not come to the start of its slot a tick stays in it
-pub place-same : (elapsed later tick : ℕ) → elapsed < tick → elapsed ≤ later → later < start 5 elapsed tick → place_in later tick ≡ place_in elapsed tick
+pub place-same : (elapsed later tick : ℕ) → elapsed < tick → elapsed ≤ later → later < start top_level elapsed tick → place_in later tick ≡ place_in elapsed tick
 place-same elapsed later tick b l h =
-    let s : start 5 elapsed tick ≤ tick = start-le 5 elapsed tick b in
-    let k : far_digit 5 later tick ≡ far_digit 5 elapsed tick = level-same 5 elapsed later tick b l h in
+    let s : start top_level elapsed tick ≤ tick = start-le top_level elapsed tick b in
+    let k : far_digit top_level later tick ≡ far_digit top_level elapsed tick = level-same top_level elapsed later tick b l h in
     place-ahead later tick (λ e. omega (arith, s, h, e)) ∙ ap (λ z. z * 64 + slot_of z tick) k ∙ sym (place-ahead elapsed tick (λ e. omega (arith, b, e)))
 
 pub no-slots : (elapsed : ℕ) (entries : List Entry) → ((key : ℕ) → (timed : Timed) → timed_in entries key ≡ Some timed → timed.tick ≢ elapsed) → (fits : (key : ℕ) → Fits elapsed (timed_in entries key)) →
@@ -34,29 +34,29 @@ le-yes a b h = elim (leb_tells a b) [ inl t ↦ t.0 | inr t ↦ absurd (let l = 
 le-not : (a b : ℕ) → b < a → nat_le a b ≡ false
 le-not a b h = elim (leb_tells a b) [ inl t ↦ absurd (let l = t.1 in omega (arith, l, h)) | inr t ↦ t.0 ]
 
-pub moved-stays : (old new : ℕ) (timed : Timed) → new < start 5 old timed.registered → moved old new timed ≡ timed
-moved-stays old new timed h = rw (le-not (start 5 old timed.registered) new h) refl
+pub moved-stays : (old new : ℕ) (timed : Timed) → new < start top_level old timed.registered → moved old new timed ≡ timed
+moved-stays old new timed h = rw (le-not (start top_level old timed.registered) new h) refl
 
-pub moved-anew : (old new : ℕ) (timed : Timed) → start 5 old timed.registered ≤ new → moved old new timed ≡ record { tick = timed.tick; registered = timed.tick }
-moved-anew old new timed h = rw (le-yes (start 5 old timed.registered) new h) refl
+pub moved-anew : (old new : ℕ) (timed : Timed) → start top_level old timed.registered ≤ new → moved old new timed ≡ record { tick = timed.tick; registered = timed.tick }
+moved-anew old new timed h = rw (le-yes (start top_level old timed.registered) new h) refl
 
 empty-of : (xs : List ℕ) → ((k : ℕ) → IsIn k xs → ⊥) → xs ≡ []
 empty-of [] h = refl
 empty-of (x ∷ xs) h = absurd (h x (inl refl))
 
-pub taken-empty : (elapsed : ℕ) (entries : List Entry) (links : Lists) → Held elapsed entries links → list_at links 385 ≡ []
-taken-empty elapsed entries links h = empty-of (list_at links 385) (λ k i.
-    let t = stands-timed elapsed 385 (timed_in entries k) (h.within k 385 i) in
+pub taken-empty : (elapsed : ℕ) (entries : List Entry) (links : Lists) → Held elapsed entries links → list_at links taken_list ≡ []
+taken-empty elapsed entries links h = empty-of (list_at links taken_list) (λ k i.
+    let t = stands-timed elapsed taken_list (timed_in entries k) (h.within k taken_list i) in
     let b = place_in-below elapsed t.0.registered in let e = t.2 in omega (arith, b, e))
 
-pub pending-empty : (elapsed : ℕ) (entries : List Entry) (links : Lists) → Held elapsed entries links → ((key : ℕ) (timed : Timed) → timed_in entries key ≡ Some timed → timed.tick ≢ elapsed) → list_at links 384 ≡ []
-pending-empty elapsed entries links h none = empty-of (list_at links 384) (λ k i.
-    let t = stands-pending elapsed (timed_in entries k) (h.within k 384 i) (h.fits k) in none k t.0 t.1 t.2)
+pub pending-empty : (elapsed : ℕ) (entries : List Entry) (links : Lists) → Held elapsed entries links → ((key : ℕ) (timed : Timed) → timed_in entries key ≡ Some timed → timed.tick ≢ elapsed) → list_at links pending_list ≡ []
+pending-empty elapsed entries links h none = empty-of (list_at links pending_list) (λ k i.
+    let t = stands-pending elapsed (timed_in entries k) (h.within k pending_list i) (h.fits k) in none k t.0 t.1 t.2)
 
 -- Nothing is pending, and the clock goes on to a tick before the start of each slot that has a key.
 module _ (elapsed later : ℕ) (entries : List Entry) (links : Lists) (h : Held elapsed entries links) (le : elapsed ≤ later)
     (none : (key : ℕ) (timed : Timed) → timed_in entries key ≡ Some timed → timed.tick ≢ elapsed)
-    (before : (key : ℕ) (timed : Timed) → timed_in entries key ≡ Some timed → elapsed < timed.registered → later < start 5 elapsed timed.registered) where
+    (before : (key : ℕ) (timed : Timed) → timed_in entries key ≡ Some timed → elapsed < timed.registered → later < start top_level elapsed timed.registered) where
   ahead : (key : ℕ) (timed : Timed) → timed_in entries key ≡ Some timed → (elapsed < timed.registered) × (timed.registered ≤ timed.tick)
   ahead = no-slots elapsed entries none h.fits
 
@@ -75,7 +75,7 @@ module _ (elapsed later : ℕ) (entries : List Entry) (links : Lists) (h : Held 
   fits-still key None is = tt
   fits-still key (Some timed) is =
       let a = (ahead key timed is).0 in let b = (ahead key timed is).1 in
-      let s = start-le 5 elapsed timed.registered a in let l = before key timed is a in
+      let s = start-le top_level elapsed timed.registered a in let l = before key timed is a in
       inr (omega (arith, s, l), b)
 
   pub later-held : Held later entries links
@@ -105,43 +105,43 @@ module _ (elapsed later : ℕ) (entries : List Entry) (links : Lists) (h : Held 
       (key : ℕ) (timed : Timed) → timed_at v key ≡ Some timed → later < timed.tick
   later-passed v seen = subst (λ u. (key : ℕ) (timed : Timed) → timed_at u key ≡ Some timed → later < timed.tick) seen (λ key timed is.
       let a = (ahead key timed is).0 in let b = (ahead key timed is).1 in
-      let s = start-le 5 elapsed timed.registered a in let l = before key timed is a in
+      let s = start-le top_level elapsed timed.registered a in let l = before key timed is a in
       omega (arith, b, s, l))
 
 -- Nothing is pending, and the clock comes to the first start of a slot that has a key, whose list is taken.
 module _ (elapsed begin list : ℕ) (entries : List Entry) (links taken : Lists) (h : Held elapsed entries links) (slot : IsNextSlot elapsed entries list begin)
     (none : (key : ℕ) (timed : Timed) → timed_in entries key ≡ Some timed → timed.tick ≢ elapsed)
-    (take : taken ≡ with_list (with_list links list []) 385 (list_at links list)) where
+    (take : taken ≡ with_list (with_list links list []) taken_list (list_at links list)) where
   pub begin-above : elapsed < begin
-  begin-above = let a = start-above 5 elapsed slot.timed.registered in let e = slot.begins in omega (arith, a, e)
+  begin-above = let a = start-above top_level elapsed slot.timed.registered in let e = slot.begins in omega (arith, a, e)
 
-  pub list-below : list < 384
+  pub list-below : list < slot_count
   list-below = let b = place_of-below elapsed slot.timed.registered in let e = slot.place in omega (arith, b, e)
 
-  pub list-apart : list ≢ 385
+  pub list-apart : list ≢ taken_list
   list-apart e = let b = list-below in omega (arith, b, e)
 
   ticks : (key : ℕ) (timed : Timed) → timed_in entries key ≡ Some timed → (elapsed < timed.registered) × (timed.registered ≤ timed.tick)
   ticks = no-slots elapsed entries none h.fits
 
-  pub at_taken : list_at taken 385 ≡ list_at links list
-  at_taken = ap (λ w. list_at w 385) take ∙ list-same (with_list links list []) 385 (list_at links list) (let n = h.lists in let e : length (set links.lists list []) ≡ length links.lists = length-set links.lists list [] in omega (arith, n, e))
+  pub at_taken : list_at taken taken_list ≡ list_at links list
+  at_taken = ap (λ w. list_at w taken_list) take ∙ list-same (with_list links list []) taken_list (list_at links list) (let n = h.lists in let e : length (set links.lists list []) ≡ length links.lists = length-set links.lists list [] in omega (arith, n, e))
 
   at_list : list_at taken list ≡ []
-  at_list = ap (λ w. list_at w list) take ∙ list-other (with_list links list []) 385 list (list_at links list) list-apart ∙ list-same links list [] (let n = h.lists in let b = list-below in omega (arith, n, b))
+  at_list = ap (λ w. list_at w list) take ∙ list-other (with_list links list []) taken_list list (list_at links list) list-apart ∙ list-same links list [] (let n = h.lists in let b = list-below in omega (arith, n, b))
 
-  at_other : (l : ℕ) → l ≢ 385 → l ≢ list → list_at taken l ≡ list_at links l
-  at_other l ne nl = ap (λ w. list_at w l) take ∙ list-other (with_list links list []) 385 l (list_at links list) ne ∙ list-other links list l [] nl
+  at_other : (l : ℕ) → l ≢ taken_list → l ≢ list → list_at taken l ≡ list_at links l
+  at_other l ne nl = ap (λ w. list_at w l) take ∙ list-other (with_list links list []) taken_list l (list_at links list) ne ∙ list-other links list l [] nl
 
   -- the slot of a key is this one, or starts later
-  pub in-slot : (key : ℕ) (timed : Timed) → timed_in entries key ≡ Some timed → place_of elapsed timed.registered ≡ list → start 5 elapsed timed.registered ≡ begin
+  pub in-slot : (key : ℕ) (timed : Timed) → timed_in entries key ≡ Some timed → place_of elapsed timed.registered ≡ list → start top_level elapsed timed.registered ≡ begin
   in-slot key timed is e = place-start elapsed timed.registered slot.timed.registered (e ∙ slot.place) ∙ sym slot.begins
 
-  pub not-slot : (key : ℕ) (timed : Timed) → timed_in entries key ≡ Some timed → place_of elapsed timed.registered ≢ list → begin < start 5 elapsed timed.registered
+  pub not-slot : (key : ℕ) (timed : Timed) → timed_in entries key ≡ Some timed → place_of elapsed timed.registered ≢ list → begin < start top_level elapsed timed.registered
   not-slot key timed is ne =
       let a = (ticks key timed is).0 in
       let l = slot.least key timed is a in
-      let apart : start 5 elapsed timed.registered ≢ begin = λ e. ne (start-place elapsed timed.registered slot.timed.registered a slot.ahead (e ∙ slot.begins) ∙ sym slot.place) in
+      let apart : start top_level elapsed timed.registered ≢ begin = λ e. ne (start-place elapsed timed.registered slot.timed.registered a slot.ahead (e ∙ slot.begins) ∙ sym slot.place) in
       omega (arith, l, apart)
 
   pub slot-in : (key : ℕ) (timed : Timed) → timed_in entries key ≡ Some timed → place_of elapsed timed.registered ≡ list → IsIn key (list_at links list)
@@ -155,7 +155,7 @@ module _ (elapsed begin list : ℕ) (entries : List Entry) (links taken : Lists)
   place-still : (key : ℕ) (timed : Timed) → timed_in entries key ≡ Some timed → place_of elapsed timed.registered ≢ list → place_in begin timed.registered ≡ place_in elapsed timed.registered
   place-still key timed is ne = let a = begin-above in place-same elapsed begin timed.registered (ticks key timed is).0 (omega (arith, a)) (not-slot key timed is ne)
 
-  within-taken : (key l : ℕ) (o : Option Timed) → timed_in entries key ≡ o → l ≢ 385 → IsIn key (list_at taken l) → StandsIn begin l o
+  within-taken : (key l : ℕ) (o : Option Timed) → timed_in entries key ≡ o → l ≢ taken_list → IsIn key (list_at taken l) → StandsIn begin l o
   within-taken key l None is ne i = elim (eqb_tells l list) [
     | inl e ↦ subst (λ zs. IsIn key zs) (ap (list_at taken) e.1 ∙ at_list) i
     | inr e ↦ subst (StandsIn elapsed l) is (h.within key l (subst (λ zs. IsIn key zs) (at_other l ne e.1) i))
@@ -168,7 +168,7 @@ module _ (elapsed begin list : ℕ) (entries : List Entry) (links taken : Lists)
         s ∙ sym (place-still key timed is (λ f. e.1 (sym (in-place key l timed is old) ∙ f)))
   ]
 
-  found-taken : (key l : ℕ) (o : Option Timed) → timed_in entries key ≡ o → (IsIn key (list_at taken 385) → ⊥) → StandsIn begin l o → IsIn key (list_at taken l)
+  found-taken : (key l : ℕ) (o : Option Timed) → timed_in entries key ≡ o → (IsIn key (list_at taken taken_list) → ⊥) → StandsIn begin l o → IsIn key (list_at taken l)
   found-taken key l None is out s = absurd s
   found-taken key l (Some timed) is out s =
       let ne : place_of elapsed timed.registered ≢ list = λ e. out (subst (λ zs. IsIn key zs) (sym at_taken) (slot-in key timed is e)) in
@@ -178,12 +178,12 @@ module _ (elapsed begin list : ℕ) (entries : List Entry) (links taken : Lists)
       let b = place_in-below elapsed timed.registered in
       subst (λ zs. IsIn key zs) (sym (at_other l (λ e. omega (arith, b, old, e)) nl)) i
 
-  fits-taken : (key : ℕ) (o : Option Timed) → timed_in entries key ≡ o → (IsIn key (list_at taken 385) → ⊥) → Fits begin o
+  fits-taken : (key : ℕ) (o : Option Timed) → timed_in entries key ≡ o → (IsIn key (list_at taken taken_list) → ⊥) → Fits begin o
   fits-taken key None is out = tt
   fits-taken key (Some timed) is out =
       let ne : place_of elapsed timed.registered ≢ list = λ e. out (subst (λ zs. IsIn key zs) (sym at_taken) (slot-in key timed is e)) in
       let a = (ticks key timed is).0 in
-      let s = start-le 5 elapsed timed.registered a in
+      let s = start-le top_level elapsed timed.registered a in
       let l = not-slot key timed is ne in
       inr (omega (arith, s, l), (ticks key timed is).1)
 
@@ -191,13 +191,13 @@ module _ (elapsed begin list : ℕ) (entries : List Entry) (links taken : Lists)
   waits-taken key None is i = absurd (subst (StandsIn elapsed list) is (h.within key list i))
   waits-taken key (Some timed) is i =
       let a = (ticks key timed is).0 in let b = (ticks key timed is).1 in
-      let s = start-le 5 elapsed timed.registered a in
+      let s = start-le top_level elapsed timed.registered a in
       let e = in-slot key timed is (in-place key list timed is i) in
       (timed, refl, omega (arith, b, s, e))
 
   pub slot-settling : Settling begin entries taken
   slot-settling = record {
-    lists = ap (λ w. length w.lists) take ∙ length-set (set links.lists list []) 385 (list_at links list) ∙ length-set links.lists list [] ∙ h.lists;
+    lists = ap (λ w. length w.lists) take ∙ length-set (set links.lists list []) taken_list (list_at links list) ∙ length-set links.lists list [] ∙ h.lists;
     within = λ k l ne i. within-taken k l (timed_in entries k) refl ne i;
     found = λ k l out s. found-taken k l (timed_in entries k) refl out s;
     fits = λ k out. fits-taken k (timed_in entries k) refl out;
@@ -206,7 +206,7 @@ module _ (elapsed begin list : ℕ) (entries : List Entry) (links taken : Lists)
   }
 
   module _ (entries2 : List Entry) (links2 : Lists) (h2 : Held begin entries2 links2) (d : Settled entries entries2 taken links2) where
-    gone : (k : ℕ) → IsIn k (list_at links2 385) → ⊥
+    gone : (k : ℕ) → IsIn k (list_at links2 taken_list) → ⊥
     gone k i = subst (λ zs. IsIn k zs) (taken-empty begin entries2 links2 h2) i
 
     pub ticks-after : (key : ℕ) (o : Option Timed) → timed_in entries key ≡ o → timed_in entries2 key ≡ timed_after elapsed begin o
@@ -224,8 +224,8 @@ module _ (elapsed begin list : ℕ) (entries : List Entry) (links taken : Lists)
         let settled : (l : ℕ) → StandsBehind (list_at taken l) a b → (m : ℕ) × StandsBehind (list_at links2 m) a b =
         λ l t. elim (d.order a b l t same) [ inl u ↦ u | inr u ↦ absurd (gone b u.2) ] in
         elim (eqb_tells line list) [
-          | inl e ↦ settled 385 (subst (λ zs. StandsBehind zs a b) (sym at_taken) (subst (λ z. StandsBehind (list_at links z) a b) e.1 s))
-          | inr e ↦ elim (eqb_tells line 385) [
+          | inl e ↦ settled taken_list (subst (λ zs. StandsBehind zs a b) (sym at_taken) (subst (λ z. StandsBehind (list_at links z) a b) e.1 s))
+          | inr e ↦ elim (eqb_tells line taken_list) [
             | inl f ↦ absurd (subst (λ zs. StandsBehind zs a b) (ap (list_at links) f.1 ∙ taken-empty elapsed entries links h) s)
             | inr f ↦ settled line (subst (λ zs. StandsBehind zs a b) (sym (at_other line f.1 e.1)) s)
           ]

@@ -2,7 +2,7 @@
 use Rattle.std.proofs.Common.{arith, ◌≡◌, ◌≢◌, zero, suc, ℕ, ◌+◌, ◌-◌, ◌<◌, ◌≤◌, ◌⊎◌, inl, inr, length, Bool, true, false, ◌==◌, nat_lt, if◌then◌else◌, List, [], ◌∷◌, ◌++◌, map, Option, Some, None, get_or, set, ap, refl, sym, ◌∙◌, subst, eq-eqb, get_or-set_other}
 use Rattle.std.proofs.lemmas.Bool.Decides.{eqb_tells}
 use Rattle.std.proofs.lemmas.List.{map-set, length-map}
-use Rattle.mono_wheel.specs.Start.{start, takes_from}
+use Rattle.mono_wheel.specs.Start.{start, takes_from, top_level, pending_list, taken_list}
 use Rattle.mono_wheel.specs.Lists.{Lists, IsIn, with_list, list_at}
 use Rattle.mono_wheel.specs.Rings.{Distinct}
 use Rattle.mono_wheel.specs.Model.{Timed, Wheel, Fits, moved, timed_after}
@@ -69,30 +69,30 @@ credit-fall e s p [] (y ∷ ps) none h = let a : 0 ≡ takes s y + bit (p None) 
 credit-fall e s p (x ∷ os) [] none h = let a : takes e x ≡ 0 + bit (p x) = h 0 in let r = credit-fall e s p os [] none (λ k. h (suc k)) in omega (arith, a, r)
 credit-fall e s p (x ∷ os) (y ∷ ps) none h = let a : takes e x ≡ takes s y + bit (p x) = h 0 in let r = credit-fall e s p os ps none (λ k. h (suc k)) in omega (arith, a, r)
 
-takes-ahead : (e : ℕ) (timed : Timed) → e < timed.tick → takes e (Some timed) ≡ takes_from (timed.tick - e) 5 e timed.registered timed.tick
+takes-ahead : (e : ℕ) (timed : Timed) → e < timed.tick → takes e (Some timed) ≡ takes_from (timed.tick - e) top_level e timed.registered timed.tick
 takes-ahead e timed b = rw (eqb-no timed.tick e (λ f. omega (arith, b, f))) refl
 
 takes-now : (e : ℕ) (timed : Timed) → timed.tick ≡ e → takes e (Some timed) ≡ 0
 takes-now e timed f = rw (eq-eqb timed.tick e f) refl
 
 -- an entry that is taken, and one that is not
-pub takes-taken : (e s : ℕ) (timed : Timed) → e < timed.registered → timed.registered ≤ timed.tick → start 5 e timed.registered ≡ s → takes e (Some timed) ≡ takes s (Some record { tick = timed.tick; registered = timed.tick }) + 1
+pub takes-taken : (e s : ℕ) (timed : Timed) → e < timed.registered → timed.registered ≤ timed.tick → start top_level e timed.registered ≡ s → takes e (Some timed) ≡ takes s (Some record { tick = timed.tick; registered = timed.tick }) + 1
 takes-taken e s timed a b is =
-    let le : start 5 e timed.registered ≤ timed.registered = start-le 5 e timed.registered a in
-    takes-ahead e timed (omega (arith, a, b)) ∙ takes-once 5 e timed.registered timed.tick a b
-    ∙ ap (λ z. if nat_lt z timed.tick then suc (takes_from (timed.tick - z) 5 z timed.tick timed.tick) else 1) is
+    let le : start top_level e timed.registered ≤ timed.registered = start-le top_level e timed.registered a in
+    takes-ahead e timed (omega (arith, a, b)) ∙ takes-once top_level e timed.registered timed.tick a b
+    ∙ ap (λ z. if nat_lt z timed.tick then suc (takes_from (timed.tick - z) top_level z timed.tick timed.tick) else 1) is
     ∙ elim (ltb_tells s timed.tick) [
       | inl h ↦ let f = takes-ahead s record { tick = timed.tick; registered = timed.tick } h.1 in rw h.0 (omega (arith, f))
       | inr h ↦ let f = takes-now s record { tick = timed.tick; registered = timed.tick } (let g = h.1 in omega (arith, g, le, is, b)) in rw h.0 (omega (arith, f))
     ]
 
-pub takes-still : (e s : ℕ) (timed : Timed) → e < timed.registered → timed.registered ≤ timed.tick → e ≤ s → s < start 5 e timed.registered → takes e (Some timed) ≡ takes s (Some timed)
+pub takes-still : (e s : ℕ) (timed : Timed) → e < timed.registered → timed.registered ≤ timed.tick → e ≤ s → s < start top_level e timed.registered → takes e (Some timed) ≡ takes s (Some timed)
 takes-still e s timed a b l h =
-    let le : start 5 e timed.registered ≤ timed.registered = start-le 5 e timed.registered a in
+    let le : start top_level e timed.registered ≤ timed.registered = start-le top_level e timed.registered a in
     let ahead : s < timed.registered = omega (arith, le, h) in
-    takes-ahead e timed (omega (arith, a, b)) ∙ takes-once 5 e timed.registered timed.tick a b
-    ∙ ap (λ z. if nat_lt z timed.tick then suc (takes_from (timed.tick - z) 5 z timed.tick timed.tick) else 1) (sym (start-same 5 e s timed.registered a l h))
-    ∙ sym (takes-ahead s timed (omega (arith, ahead, b)) ∙ takes-once 5 s timed.registered timed.tick ahead b)
+    takes-ahead e timed (omega (arith, a, b)) ∙ takes-once top_level e timed.registered timed.tick a b
+    ∙ ap (λ z. if nat_lt z timed.tick then suc (takes_from (timed.tick - z) top_level z timed.tick timed.tick) else 1) (sym (start-same top_level e s timed.registered a l h))
+    ∙ sym (takes-ahead s timed (omega (arith, ahead, b)) ∙ takes-once top_level s timed.registered timed.tick ahead b)
 
 abbrev is_placed : ℕ → ℕ → Option Timed → Bool
 is_placed elapsed list None = false
@@ -101,7 +101,7 @@ is_placed elapsed list (Some timed) = place_of elapsed timed.registered == list
 -- the clock goes on before the start of each slot that has a key
 pub credit-later : (elapsed later : ℕ) (entries : List Entry) → elapsed ≤ later → ((key : ℕ) → Fits elapsed (timed_in entries key)) →
     ((key : ℕ) (timed : Timed) → timed_in entries key ≡ Some timed → timed.tick ≢ elapsed) →
-    ((key : ℕ) (timed : Timed) → timed_in entries key ≡ Some timed → elapsed < timed.registered → later < start 5 elapsed timed.registered) →
+    ((key : ℕ) (timed : Timed) → timed_in entries key ≡ Some timed → elapsed < timed.registered → later < start top_level elapsed timed.registered) →
     credit_of elapsed (map timed_of entries) ≡ credit_of later (map timed_of entries)
 unfolding bit
 credit-later elapsed later entries le fits none before =
@@ -120,7 +120,7 @@ credit-later elapsed later entries le fits none before =
 -- the clock comes to the first start of a slot that has a key, whose list is taken
 module _ (elapsed begin list : ℕ) (entries : List Entry) (links taken : Lists) (h : Held elapsed entries links) (slot : IsNextSlot elapsed entries list begin)
     (none : (key : ℕ) (timed : Timed) → timed_in entries key ≡ Some timed → timed.tick ≢ elapsed)
-    (take : taken ≡ with_list (with_list links list []) 385 (list_at links list))
+    (take : taken ≡ with_list (with_list links list []) taken_list (list_at links list))
     (entries2 : List Entry) (links2 : Lists) (h2 : Held begin entries2 links2) (d : Settled entries entries2 taken links2) (distinct : Distinct (list_at links list)) where
   placed : (k : ℕ) (o : Option Timed) → timed_in entries k ≡ o → is_placed elapsed list o ≡ true → IsIn k (list_at links list)
   placed k None is t = absurd (false-true t)
@@ -161,7 +161,7 @@ module _ (elapsed begin list : ℕ) (entries : List Entry) (links taken : Lists)
       (count-list (is_placed elapsed list) (list_at links list) (map timed_of entries) refl distinct (λ k i. is-placed k (timed_in entries k) refl i) (λ k t. placed k (timed_in entries k) refl t))
 
 -- a pending key is no longer taken from a slot
-pub due-credit : (elapsed : ℕ) (entries : List Entry) (links : Lists) (key : ℕ) (front : List ℕ) (x : Entry) → Held elapsed entries links → list_at links 384 ≡ front ++ key ∷ [] → x.is_in ≡ false →
+pub due-credit : (elapsed : ℕ) (entries : List Entry) (links : Lists) (key : ℕ) (front : List ℕ) (x : Entry) → Held elapsed entries links → list_at links pending_list ≡ front ++ key ∷ [] → x.is_in ≡ false →
     credit_of elapsed (map timed_of (set entries key x)) ≡ credit_of elapsed (map timed_of entries)
 due-credit elapsed entries links key front x h is out =
     let stands = due-stands elapsed entries links key front h is in

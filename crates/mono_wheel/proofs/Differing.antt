@@ -7,7 +7,7 @@ use Rattle.std.proofs.Math.Pow.{pow_mono}
 use Rattle.std.proofs.Math.Nat.{div-lt_iff_lt-mul, div-eq_of_lt, pow-succ'}
 use Rattle.std.specs.Int.Bits.{bit_and, bit_or, bit_xor, xor_self, xor_add_and, or_zero_r}
 use Rattle.std.specs.Int.Count.{count_leading_zeros}
-use Rattle.mono_wheel.specs.Start.{above, far_digit, differing, IsLevel}
+use Rattle.mono_wheel.specs.Start.{above, far_digit, differing, IsLevel, level_count, top_level, reach}
 
 -- 64 ^ k as a power of 2
 pub pow_64 : (k : ℕ) → 64 ^ k ≡ 2 ^ (6 * k)
@@ -84,39 +84,39 @@ place_below bit k m l h = elim (cases_lt bit k) [
 ]
 
 -- what the rule gives is the digit
-pub rule-digit : (elapsed tick level : ℕ) → IsLevel elapsed tick level → level ≡ far_digit 5 elapsed tick
+pub rule-digit : (elapsed tick level : ℕ) → IsLevel elapsed tick level → level ≡ far_digit top_level elapsed tick
 rule-digit elapsed tick level rule =
-    let d : ℕ = far_digit 5 elapsed tick in
-    let b : Bounds 5 elapsed tick (far_digit 5 elapsed tick) = bounds 5 elapsed tick in
-    let most : far_digit 5 elapsed tick ≤ 5 = b.most in
-    elim (cases_lt (differing elapsed tick) (2 ^ 36 - 1)) [
+    let d : ℕ = far_digit top_level elapsed tick in
+    let b : Bounds top_level elapsed tick (far_digit top_level elapsed tick) = bounds top_level elapsed tick in
+    let most : far_digit top_level elapsed tick ≤ top_level = b.most in
+    elim (cases_lt (differing elapsed tick) (reach - 1)) [
       | inl near ↦
           let found = rule.near near in
-          let low : (0 < far_digit 5 elapsed tick) → 6 * far_digit 5 elapsed tick < found.0 + 1 = λ z. place_below (6 * far_digit 5 elapsed tick) (found.0 + 1) (differing elapsed tick) (subst (λ p. p ≤ differing elapsed tick) (pow_64 (far_digit 5 elapsed tick)) (b.low z)) found.2 in
-          let high : (far_digit 5 elapsed tick < 5) → found.0 < 6 * suc (far_digit 5 elapsed tick) = λ z. place_below found.0 (6 * suc (far_digit 5 elapsed tick)) (differing elapsed tick) found.1 (subst (λ p. differing elapsed tick < p) (pow_64 (suc (far_digit 5 elapsed tick))) (b.high z)) in
-          let top : found.0 < 36 = place_below found.0 36 (differing elapsed tick) found.1 (omega (arith, near)) in
+          let low : (0 < far_digit top_level elapsed tick) → 6 * far_digit top_level elapsed tick < found.0 + 1 = λ z. place_below (6 * far_digit top_level elapsed tick) (found.0 + 1) (differing elapsed tick) (subst (λ p. p ≤ differing elapsed tick) (pow_64 (far_digit top_level elapsed tick)) (b.low z)) found.2 in
+          let high : (far_digit top_level elapsed tick < top_level) → found.0 < 6 * suc (far_digit top_level elapsed tick) = λ z. place_below found.0 (6 * suc (far_digit top_level elapsed tick)) (differing elapsed tick) found.1 (subst (λ p. differing elapsed tick < p) (pow_64 (suc (far_digit top_level elapsed tick))) (b.high z)) in
+          let top : found.0 < 6 * level_count = place_below found.0 (6 * level_count) (differing elapsed tick) found.1 (omega (arith, near)) in
           let is : level ≡ found.0 / 6 = found.3 in
-          elim (cases_lt (far_digit 5 elapsed tick) 5) [
+          elim (cases_lt (far_digit top_level elapsed tick) top_level) [
             | inl below ↦
                 let h = high below in
-                elim (cases_lt 0 (far_digit 5 elapsed tick)) [ inl above ↦ let l = low above in omega (arith, h, l, is) | inr none ↦ omega (arith, h, none, is) ]
+                elim (cases_lt 0 (far_digit top_level elapsed tick)) [ inl above ↦ let l = low above in omega (arith, h, l, is) | inr none ↦ omega (arith, h, none, is) ]
             | inr at ↦ let l = low (omega (arith, at)) in omega (arith, l, at, most, top, is)
           ]
       | inr far ↦
-          let is : level ≡ 5 = rule.far far in
-          elim (cases_lt (far_digit 5 elapsed tick) 5) [
+          let is : level ≡ top_level = rule.far far in
+          elim (cases_lt (far_digit top_level elapsed tick) top_level) [
             | inl below ↦
-                let h : differing elapsed tick < 2 ^ (6 * suc (far_digit 5 elapsed tick)) = subst (λ p. differing elapsed tick < p) (pow_64 (suc (far_digit 5 elapsed tick))) (b.high below) in
-                let p : 2 ^ (6 * suc (far_digit 5 elapsed tick)) ≤ 2 ^ 30 = pow_mono {i = 6 * suc (far_digit 5 elapsed tick)} {j = 30} (omega (arith, below)) in
+                let h : differing elapsed tick < 2 ^ (6 * suc (far_digit top_level elapsed tick)) = subst (λ p. differing elapsed tick < p) (pow_64 (suc (far_digit top_level elapsed tick))) (b.high below) in
+                let p : 2 ^ (6 * suc (far_digit top_level elapsed tick)) ≤ 2 ^ (6 * top_level) = pow_mono {i = 6 * suc (far_digit top_level elapsed tick)} {j = 6 * top_level} (omega (arith, below)) in
                 absurd (omega (arith, h, p, far))
             | inr at ↦ omega (arith, at, is, most)
           ]
     ]
 
-pub rule-far : (elapsed tick : ℕ) → 2 ^ 36 - 1 ≤ differing elapsed tick → IsLevel elapsed tick 5
+pub rule-far : (elapsed tick : ℕ) → reach - 1 ≤ differing elapsed tick → IsLevel elapsed tick top_level
 rule-far elapsed tick far = record { far = λ _. refl; near = λ near. absurd (omega (arith, far, near)) }
 
-pub rule-near : (elapsed tick : ℕ) → differing elapsed tick < 2 ^ 36 - 1 → (count_leading_zeros 64 (differing elapsed tick) ≤ 63) × IsLevel elapsed tick ((63 - count_leading_zeros 64 (differing elapsed tick)) / 6)
+pub rule-near : (elapsed tick : ℕ) → differing elapsed tick < reach - 1 → (count_leading_zeros 64 (differing elapsed tick) ≤ 63) × IsLevel elapsed tick ((63 - count_leading_zeros 64 (differing elapsed tick)) / 6)
 rule-near elapsed tick near =
     let some : 63 ≤ differing elapsed tick = le_or_r (bit_xor elapsed tick) 63 in
     let found = leading_top 64 (differing elapsed tick) (omega (arith, some)) (omega (arith, near)) in

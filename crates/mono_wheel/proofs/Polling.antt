@@ -1,7 +1,7 @@
 -- What a poll and a look ahead owe.
 use Rattle.std.proofs.Common.{arith, ◌≡◌, ◌≢◌, ℕ, ◌<◌, ◌≤◌, ◌⊎◌, inl, inr, Bool, nat_le, List, [], ◌∷◌, ◌++◌, map, Option, Some, None, ap, refl, sym, ◌∙◌, subst, if◌then◌else◌}
 use Rattle.std.proofs.lemmas.Bool.{cases_lt}
-use Rattle.mono_wheel.specs.Start.{start}
+use Rattle.mono_wheel.specs.Start.{start, top_level, pending_list}
 use Rattle.mono_wheel.specs.Lists.{Lists, IsIn, list_at}
 use Rattle.mono_wheel.specs.Model.{Timed, Wheel, AllFit, Fits, IsPending, FirstStart, NothingDue, CameOut, timed_at, moved, timed_after}
 use Rattle.mono_wheel.specs.Held.{timed_of, timed_in, Held, StandsIn, IsNextSlot, Advanced, DueTaken}
@@ -21,18 +21,18 @@ none-pending elapsed entries nodes lines v seen none key timed is e =
 -- the pending list tells who is pending
 module _ (elapsed : ℕ) (entries : List Entry) (links : Lists) (v : Wheel) (h : Held elapsed entries links)
     (seen : let w : Wheel = record { elapsed = elapsed; entries = map timed_of entries; reserved = links.nodes; lines = links.lists } in w ≡ v) where
-  pub some-pending : (key : ℕ) (front : List ℕ) → list_at links 384 ≡ front ++ key ∷ [] → ((k : ℕ) × IsPending v k) × (elapsed ≡ v.elapsed)
+  pub some-pending : (key : ℕ) (front : List ℕ) → list_at links pending_list ≡ front ++ key ∷ [] → ((k : ℕ) × IsPending v k) × (elapsed ≡ v.elapsed)
   some-pending key front is =
-      (subst (λ u. (k : ℕ) × IsPending u k) seen (key, stands-pending elapsed (timed_in entries key) (h.within key 384 (last-in (list_at links 384) key (front, is))) (h.fits key)), ap (λ u. u.elapsed) seen)
+      (subst (λ u. (k : ℕ) × IsPending u k) seen (key, stands-pending elapsed (timed_in entries key) (h.within key pending_list (last-in (list_at links pending_list) key (front, is))) (h.fits key)), ap (λ u. u.elapsed) seen)
 
-  pub empty-none : list_at links 384 ≡ [] → (key : ℕ) (timed : Timed) → timed_in entries key ≡ Some timed → timed.tick ≢ elapsed
+  pub empty-none : list_at links pending_list ≡ [] → (key : ℕ) (timed : Timed) → timed_in entries key ≡ Some timed → timed.tick ≢ elapsed
   empty-none empty key timed is e = pend (subst (Fits elapsed) is (h.fits key))
     where
       pend : Fits elapsed (Some timed) → ⊥
-      pend (inl f) = subst (λ zs. IsIn key zs) empty (h.found key 384 (subst (StandsIn elapsed 384) (sym is) (sym (place-pending elapsed timed.registered f.0))))
+      pend (inl f) = subst (λ zs. IsIn key zs) empty (h.found key pending_list (subst (StandsIn elapsed pending_list) (sym is) (sym (place-pending elapsed timed.registered f.0))))
       pend (inr f) = let a = f.0 in let b = f.1 in omega (arith, a, b, e)
 
-  pub next-start : (list begin : ℕ) → list_at links 384 ≡ [] → IsNextSlot elapsed entries list begin → ((key : ℕ) → IsPending v key → ⊥) × FirstStart v begin
+  pub next-start : (list begin : ℕ) → list_at links pending_list ≡ [] → IsNextSlot elapsed entries list begin → ((key : ℕ) → IsPending v key → ⊥) × FirstStart v begin
   next-start list begin empty slot =
       let none = empty-none empty in
       subst (λ u. ((key : ℕ) → IsPending u key → ⊥) × FirstStart u begin) seen (
@@ -52,7 +52,7 @@ Since old new = (old ≡ new) ⊎ Advanced old new
 
 after-self : (elapsed : ℕ) (o : Option Timed) → o ≡ timed_after elapsed elapsed o
 after-self elapsed None = refl
-after-self elapsed (Some timed) = ap Some (sym (moved-stays elapsed elapsed timed (start-above 5 elapsed timed.registered)))
+after-self elapsed (Some timed) = ap Some (sym (moved-stays elapsed elapsed timed (start-above top_level elapsed timed.registered)))
 
 stood-still : (w : Wheel) → AllFit w → Advanced w w
 stood-still w fits = record {
@@ -69,7 +69,7 @@ since-advanced old new fits (inr a) = a
 
 -- the ticks after two steps of the clock are those after both
 moved-twice : (e f g : ℕ) (timed : Timed) → ((timed.registered ≡ e) × (timed.tick ≡ e)) ⊎ ((e < timed.registered) × (timed.registered ≤ timed.tick)) → e ≤ f → f ≤ g → moved f g (moved e f timed) ≡ moved e g timed
-moved-twice e f g timed fits l m = elim (cases_lt f (start 5 e timed.registered)) [
+moved-twice e f g timed fits l m = elim (cases_lt f (start top_level e timed.registered)) [
   | inl b ↦ ap (moved f g) (moved-stays e f timed b) ∙ elim fits [
     | inl p ↦ pending p.0 p.1
     | inr a ↦ same a.0 b
@@ -78,13 +78,13 @@ moved-twice e f g timed fits l m = elim (cases_lt f (start 5 e timed.registered)
 ]
   where
     settled : moved f g record { tick = timed.tick; registered = timed.tick } ≡ record { tick = timed.tick; registered = timed.tick }
-    settled = elim (cases_lt g (start 5 f timed.tick)) [
+    settled = elim (cases_lt g (start top_level f timed.tick)) [
       | inl c ↦ moved-stays f g record { tick = timed.tick; registered = timed.tick } c
       | inr c ↦ moved-anew f g record { tick = timed.tick; registered = timed.tick } c
     ]
 
     whole : timed.registered ≡ timed.tick → (x y : ℕ) → moved x y timed ≡ timed
-    whole p x y = elim (cases_lt y (start 5 x timed.registered)) [
+    whole p x y = elim (cases_lt y (start top_level x timed.registered)) [
       | inl c ↦ moved-stays x y timed c
       | inr c ↦ moved-anew x y timed c ∙ (λ i. record { tick = timed.tick; registered = sym p i })
     ]
@@ -92,8 +92,8 @@ moved-twice e f g timed fits l m = elim (cases_lt f (start 5 e timed.registered)
     pending : timed.registered ≡ e → timed.tick ≡ e → moved f g timed ≡ moved e g timed
     pending p q = whole (p ∙ sym q) f g ∙ sym (whole (p ∙ sym q) e g)
 
-    same : e < timed.registered → f < start 5 e timed.registered → moved f g timed ≡ moved e g timed
-    same a b = ap (λ s. if nat_le s g then record { tick = timed.tick; registered = timed.tick } else timed) (start-same 5 e f timed.registered a l b)
+    same : e < timed.registered → f < start top_level e timed.registered → moved f g timed ≡ moved e g timed
+    same a b = ap (λ s. if nat_le s g then record { tick = timed.tick; registered = timed.tick } else timed) (start-same top_level e f timed.registered a l b)
 
 after-twice : (e f g : ℕ) (o : Option Timed) → Fits e o → e ≤ f → f ≤ g → timed_after f g (timed_after e f o) ≡ timed_after e g o
 after-twice e f g None fits l m = refl
@@ -114,7 +114,7 @@ since-twice a b c (inr p) q = advanced-twice a b c p q
 
 -- a true tick stays
 moved-tick : (e f : ℕ) (timed : Timed) → (moved e f timed).tick ≡ timed.tick
-moved-tick e f timed = elim (cases_lt f (start 5 e timed.registered)) [
+moved-tick e f timed = elim (cases_lt f (start top_level e timed.registered)) [
   | inl c ↦ ap (λ t. t.tick) (moved-stays e f timed c)
   | inr c ↦ ap (λ t. t.tick) (moved-anew e f timed c)
 ]

@@ -2,7 +2,7 @@
 use Rattle.std.proofs.Common.{arith, ◌≡◌, ℕ, ◌+◌, ◌-◌, ◌*◌, ◌^◌, ◌/◌, ◌%◌, ◌<◌, ◌≤◌, inl, inr, ap, sym, ◌∙◌, subst}
 use Rattle.std.proofs.lemmas.Bool.{cases_lt}
 use Rattle.std.proofs.Math.Nat.{mod-lt}
-use Rattle.mono_wheel.specs.Start.{above, far_digit, slot_of, start}
+use Rattle.mono_wheel.specs.Start.{above, far_digit, slot_of, start, top_level, slot_count}
 use Rattle.mono_wheel.specs.Held.{place_of, ranked}
 use Rattle.mono_wheel.proofs.Starts.{pow-pos, spread-out, next_turn-turns, start-levels}
 use Rattle.mono_wheel.proofs.Places.{far_digit-le}
@@ -12,7 +12,7 @@ abbrev pub offset : ℕ → ℕ → ℕ
 offset now goal = (goal + 63 - now) % 64
 
 abbrev pub rank_of : ℕ → ℕ → ℕ
-rank_of elapsed tick = far_digit 5 elapsed tick * 64 + offset (slot_of (far_digit 5 elapsed tick) elapsed) (slot_of (far_digit 5 elapsed tick) tick)
+rank_of elapsed tick = far_digit top_level elapsed tick * 64 + offset (slot_of (far_digit top_level elapsed tick) elapsed) (slot_of (far_digit top_level elapsed tick) tick)
 
 offset-back : (now goal : ℕ) → now < 64 → goal < 64 → (now + 1 + offset now goal) % 64 ≡ goal
 offset-back now goal a b = omega (arith, a, b)
@@ -34,13 +34,13 @@ offset-low now goal = mod-lt (goal + 63 - now) (omega arith)
 
 pub rank-place : (elapsed tick : ℕ) → ranked elapsed (rank_of elapsed tick) ≡ place_of elapsed tick
 rank-place elapsed tick =
-    ranked-parts elapsed (far_digit 5 elapsed tick) _ (offset-low _ _)
-    ∙ ap (λ z. far_digit 5 elapsed tick * 64 + z) (offset-back (slot_of (far_digit 5 elapsed tick) elapsed) (slot_of (far_digit 5 elapsed tick) tick) (slot-low _ _) (slot-low _ _))
+    ranked-parts elapsed (far_digit top_level elapsed tick) _ (offset-low _ _)
+    ∙ ap (λ z. far_digit top_level elapsed tick * 64 + z) (offset-back (slot_of (far_digit top_level elapsed tick) elapsed) (slot_of (far_digit top_level elapsed tick) tick) (slot-low _ _) (slot-low _ _))
 
-pub rank-below : (elapsed tick : ℕ) → rank_of elapsed tick < 384
+pub rank-below : (elapsed tick : ℕ) → rank_of elapsed tick < slot_count
 rank-below elapsed tick =
-    let a : far_digit 5 elapsed tick ≤ 5 = far_digit-le 5 elapsed tick in
-    let b : offset (slot_of (far_digit 5 elapsed tick) elapsed) (slot_of (far_digit 5 elapsed tick) tick) < 64 = offset-low _ _ in
+    let a : far_digit top_level elapsed tick ≤ top_level = far_digit-le top_level elapsed tick in
+    let b : offset (slot_of (far_digit top_level elapsed tick) elapsed) (slot_of (far_digit top_level elapsed tick) tick) < 64 = offset-low _ _ in
     omega (arith, a, b)
 
 turn-one : (n o p m : ℕ) → m < 64 → o < 64 → p < 64 → (m + 1 + o) % 64 ≡ (m + 1 + p) % 64 → o ≡ p
@@ -74,8 +74,8 @@ ranked-one elapsed r q e =
 abbrev turn_start : ℕ → ℕ → ℕ → ℕ
 turn_start elapsed k o = (above k elapsed + 1 + o) * 64 ^ k
 
-start-turn : (elapsed tick : ℕ) → start 5 elapsed tick ≡ turn_start elapsed (far_digit 5 elapsed tick) (offset (slot_of (far_digit 5 elapsed tick) elapsed) (slot_of (far_digit 5 elapsed tick) tick))
-start-turn elapsed tick = ap (λ z. z * 64 ^ far_digit 5 elapsed tick) (next_turn-turns (above (far_digit 5 elapsed tick) elapsed) (above (far_digit 5 elapsed tick) tick))
+start-turn : (elapsed tick : ℕ) → start top_level elapsed tick ≡ turn_start elapsed (far_digit top_level elapsed tick) (offset (slot_of (far_digit top_level elapsed tick) elapsed) (slot_of (far_digit top_level elapsed tick) tick))
+start-turn elapsed tick = ap (λ z. z * 64 ^ far_digit top_level elapsed tick) (next_turn-turns (above (far_digit top_level elapsed tick) elapsed) (above (far_digit top_level elapsed tick) tick))
 
 more-turns : (x n o p : ℕ) → 0 < n → o < p → (x + 1 + o) * n < (x + 1 + p) * n
 more-turns x n o p z l =
@@ -86,37 +86,37 @@ more-turns x n o p z l =
 turn-level : (elapsed j k o p : ℕ) → j ≡ k → o < p → turn_start elapsed j o < turn_start elapsed k p
 turn-level elapsed j k o p e l = subst (λ z. turn_start elapsed j o < turn_start elapsed z p) e (more-turns (above j elapsed) (64 ^ j) o p (pow-pos j) l)
 
-pub rank-less : (elapsed a b : ℕ) → elapsed < a → elapsed < b → rank_of elapsed a < rank_of elapsed b → start 5 elapsed a < start 5 elapsed b
+pub rank-less : (elapsed a b : ℕ) → elapsed < a → elapsed < b → rank_of elapsed a < rank_of elapsed b → start top_level elapsed a < start top_level elapsed b
 rank-less elapsed a b x y l =
-    let s : offset (slot_of (far_digit 5 elapsed a) elapsed) (slot_of (far_digit 5 elapsed a) a) < 64 = offset-low _ _ in
-    let t : offset (slot_of (far_digit 5 elapsed b) elapsed) (slot_of (far_digit 5 elapsed b) b) < 64 = offset-low _ _ in
-    elim (cases_lt (far_digit 5 elapsed a) (far_digit 5 elapsed b)) [
-      | inl g ↦ start-levels 5 elapsed a b x y g
+    let s : offset (slot_of (far_digit top_level elapsed a) elapsed) (slot_of (far_digit top_level elapsed a) a) < 64 = offset-low _ _ in
+    let t : offset (slot_of (far_digit top_level elapsed b) elapsed) (slot_of (far_digit top_level elapsed b) b) < 64 = offset-low _ _ in
+    elim (cases_lt (far_digit top_level elapsed a) (far_digit top_level elapsed b)) [
+      | inl g ↦ start-levels top_level elapsed a b x y g
       | inr g ↦
-          let e : far_digit 5 elapsed a ≡ far_digit 5 elapsed b = omega (arith, g, s, t, l) in
-          let m : offset (slot_of (far_digit 5 elapsed a) elapsed) (slot_of (far_digit 5 elapsed a) a) < offset (slot_of (far_digit 5 elapsed b) elapsed) (slot_of (far_digit 5 elapsed b) b) = omega (arith, e, l) in
-          let r = turn-level elapsed (far_digit 5 elapsed a) (far_digit 5 elapsed b) _ _ e m in
+          let e : far_digit top_level elapsed a ≡ far_digit top_level elapsed b = omega (arith, g, s, t, l) in
+          let m : offset (slot_of (far_digit top_level elapsed a) elapsed) (slot_of (far_digit top_level elapsed a) a) < offset (slot_of (far_digit top_level elapsed b) elapsed) (slot_of (far_digit top_level elapsed b) b) = omega (arith, e, l) in
+          let r = turn-level elapsed (far_digit top_level elapsed a) (far_digit top_level elapsed b) _ _ e m in
           let p = start-turn elapsed a in
           let q = start-turn elapsed b in
           omega (arith, p, q, r)
     ]
 
-pub rank-same : (elapsed a b : ℕ) → rank_of elapsed a ≡ rank_of elapsed b → start 5 elapsed a ≡ start 5 elapsed b
+pub rank-same : (elapsed a b : ℕ) → rank_of elapsed a ≡ rank_of elapsed b → start top_level elapsed a ≡ start top_level elapsed b
 rank-same elapsed a b e =
-    let s : offset (slot_of (far_digit 5 elapsed a) elapsed) (slot_of (far_digit 5 elapsed a) a) < 64 = offset-low _ _ in
-    let t : offset (slot_of (far_digit 5 elapsed b) elapsed) (slot_of (far_digit 5 elapsed b) b) < 64 = offset-low _ _ in
-    let k = parts-level (far_digit 5 elapsed a) (far_digit 5 elapsed b) _ _ s t e in
-    let o = parts-slot (far_digit 5 elapsed a) (far_digit 5 elapsed b) _ _ s t e in
-    start-turn elapsed a ∙ ap (λ z. turn_start elapsed z (offset (slot_of (far_digit 5 elapsed a) elapsed) (slot_of (far_digit 5 elapsed a) a))) k ∙ ap (λ z. turn_start elapsed (far_digit 5 elapsed b) z) o ∙ sym (start-turn elapsed b)
+    let s : offset (slot_of (far_digit top_level elapsed a) elapsed) (slot_of (far_digit top_level elapsed a) a) < 64 = offset-low _ _ in
+    let t : offset (slot_of (far_digit top_level elapsed b) elapsed) (slot_of (far_digit top_level elapsed b) b) < 64 = offset-low _ _ in
+    let k = parts-level (far_digit top_level elapsed a) (far_digit top_level elapsed b) _ _ s t e in
+    let o = parts-slot (far_digit top_level elapsed a) (far_digit top_level elapsed b) _ _ s t e in
+    start-turn elapsed a ∙ ap (λ z. turn_start elapsed z (offset (slot_of (far_digit top_level elapsed a) elapsed) (slot_of (far_digit top_level elapsed a) a))) k ∙ ap (λ z. turn_start elapsed (far_digit top_level elapsed b) z) o ∙ sym (start-turn elapsed b)
 
-pub rank-le : (elapsed a b : ℕ) → elapsed < a → elapsed < b → rank_of elapsed a ≤ rank_of elapsed b → start 5 elapsed a ≤ start 5 elapsed b
+pub rank-le : (elapsed a b : ℕ) → elapsed < a → elapsed < b → rank_of elapsed a ≤ rank_of elapsed b → start top_level elapsed a ≤ start top_level elapsed b
 rank-le elapsed a b x y l = elim (cases_lt (rank_of elapsed a) (rank_of elapsed b)) [
   | inl g ↦ let r = rank-less elapsed a b x y g in omega (arith, r)
   | inr g ↦ let r = rank-same elapsed a b (omega (arith, l, g)) in omega (arith, r)
 ]
 
 -- slots that start together are one
-pub start-place : (elapsed a b : ℕ) → elapsed < a → elapsed < b → start 5 elapsed a ≡ start 5 elapsed b → place_of elapsed a ≡ place_of elapsed b
+pub start-place : (elapsed a b : ℕ) → elapsed < a → elapsed < b → start top_level elapsed a ≡ start top_level elapsed b → place_of elapsed a ≡ place_of elapsed b
 start-place elapsed a b x y e = elim (cases_lt (rank_of elapsed a) (rank_of elapsed b)) [
   | inl g ↦ absurd (let r = rank-less elapsed a b x y g in omega (arith, r, e))
   | inr g ↦ elim (cases_lt (rank_of elapsed b) (rank_of elapsed a)) [
@@ -125,5 +125,5 @@ start-place elapsed a b x y e = elim (cases_lt (rank_of elapsed a) (rank_of elap
   ]
 ]
 
-pub place-start : (elapsed a b : ℕ) → place_of elapsed a ≡ place_of elapsed b → start 5 elapsed a ≡ start 5 elapsed b
+pub place-start : (elapsed a b : ℕ) → place_of elapsed a ≡ place_of elapsed b → start top_level elapsed a ≡ start top_level elapsed b
 place-start elapsed a b e = rank-same elapsed a b (ranked-one elapsed (rank_of elapsed a) (rank_of elapsed b) (rank-place elapsed a ∙ e ∙ sym (rank-place elapsed b)))

@@ -2,7 +2,7 @@
 use Rattle.std.proofs.Common.{arith, ◌≡◌, ◌≢◌, ℕ, ◌+◌, ◌/◌, ◌%◌, ◌<◌, ◌≤◌, inl, inr, length, List, [], ◌∷◌, ◌++◌, Option, Some, None, get_or, ap, refl, sym, ◌∙◌, subst}
 use Rattle.std.proofs.lemmas.Bool.{cases_lt}
 use Rattle.std.proofs.Math.Nat.{mod-lt}
-use Rattle.mono_wheel.specs.Start.{start, slot_of}
+use Rattle.mono_wheel.specs.Start.{start, slot_of, top_level, slot_count}
 use Rattle.mono_wheel.specs.Lists.{Lists, IsIn, list_at}
 use Rattle.mono_wheel.specs.Model.{Timed, Fits}
 use Rattle.mono_wheel.specs.Held.{place_of, place_in, ranked, timed_in, StandsIn, Held, IsNextSlot, NoSlots}
@@ -22,18 +22,18 @@ pub ahead-in : (elapsed : ℕ) (entries : List Entry) (links : Lists) (key : ℕ
 ahead-in elapsed entries links key timed h is ahead =
     h.found key (place_of elapsed timed.registered) (subst (StandsIn elapsed (place_of elapsed timed.registered)) (sym is) (sym (place-ahead elapsed timed.registered (λ e. omega (arith, ahead, e)))))
 
-pub slots-none : (elapsed : ℕ) (entries : List Entry) (links : Lists) → Held elapsed entries links → ((rank : ℕ) → rank < 384 → list_at links (ranked elapsed rank) ≡ []) → NoSlots elapsed entries
+pub slots-none : (elapsed : ℕ) (entries : List Entry) (links : Lists) → Held elapsed entries links → ((rank : ℕ) → rank < slot_count → list_at links (ranked elapsed rank) ≡ []) → NoSlots elapsed entries
 slots-none elapsed entries links h none key timed is ahead =
     subst (λ zs. IsIn key zs) (ap (list_at links) (sym (rank-place elapsed timed.registered)) ∙ none (rank_of elapsed timed.registered) (rank-below elapsed timed.registered)) (ahead-in elapsed entries links key timed h is ahead)
 
-pub ranked-below : (elapsed rank : ℕ) → rank < 384 → ranked elapsed rank < 384
+pub ranked-below : (elapsed rank : ℕ) → rank < slot_count → ranked elapsed rank < slot_count
 ranked-below elapsed rank b = let m : (slot_of (rank / 64) elapsed + 1 + rank % 64) % 64 < 64 = mod-lt _ (omega arith) in omega (arith, b, m)
 
 fits-ahead : (elapsed : ℕ) (timed : Timed) → timed.registered ≢ elapsed → Fits elapsed (Some timed) → elapsed < timed.registered
 fits-ahead elapsed timed ne (inl h) = absurd (ne h.0)
 fits-ahead elapsed timed ne (inr h) = h.0
 
-module _ (elapsed : ℕ) (entries : List Entry) (links : Lists) (rank list key : ℕ) (front : List ℕ) (h : Held elapsed entries links) (low : rank < 384) (is : list ≡ ranked elapsed rank)
+module _ (elapsed : ℕ) (entries : List Entry) (links : Lists) (rank list key : ℕ) (front : List ℕ) (h : Held elapsed entries links) (low : rank < slot_count) (is : list ≡ ranked elapsed rank)
     (before : (r : ℕ) → r < rank → list_at links (ranked elapsed r) ≡ []) (last : list_at links list ≡ front ++ key ∷ []) where
   stands : StandsIn elapsed list (timed_in entries key)
   stands = h.within key list (last-in (list_at links list) key (front, last))
@@ -44,14 +44,14 @@ module _ (elapsed : ℕ) (entries : List Entry) (links : Lists) (rank list key :
   pub found-ahead : (timed : Timed) → timed_in entries key ≡ Some timed → (elapsed < timed.registered) × (list ≡ place_of elapsed timed.registered)
   found-ahead timed t =
       let place : list ≡ place_in elapsed timed.registered = subst (StandsIn elapsed list) t stands in
-      let b : ranked elapsed rank < 384 = ranked-below elapsed rank low in
+      let b : ranked elapsed rank < slot_count = ranked-below elapsed rank low in
       let ne : timed.registered ≢ elapsed = λ e. let p = place-pending elapsed timed.registered e in omega (arith, p, place, is, b) in
       (fits-ahead elapsed timed ne (subst (Fits elapsed) t (h.fits key)), place ∙ place-ahead elapsed timed.registered ne)
 
   pub found-entry : (x : Entry) → x ≡ get_or entries key x → timed_in entries key ≡ Some record { tick = x.tick; registered = x.registered }
   found-entry x e = entry-in entries key x found-below e (stands-some elapsed list (timed_in entries key) stands)
 
-  pub found-next : (x : Entry) (begin : ℕ) → x ≡ get_or entries key x → begin ≡ start 5 elapsed x.registered → IsNextSlot elapsed entries list begin
+  pub found-next : (x : Entry) (begin : ℕ) → x ≡ get_or entries key x → begin ≡ start top_level elapsed x.registered → IsNextSlot elapsed entries list begin
   found-next x begin e b =
       let t = found-entry x e in
       let a = found-ahead record { tick = x.tick; registered = x.registered } t in

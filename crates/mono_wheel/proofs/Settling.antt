@@ -11,6 +11,7 @@ use Rattle.mono_wheel.proofs.Places.{place_in-below}
 use Rattle.mono_wheel.proofs.Keys.{timed-here, timed-other, entry-in, entry-inside, entry-below}
 use Rattle.mono_wheel.proofs.Order.{behind-last}
 use Rattle.mono_wheel.proofs.Holding.{list-same, list-other}
+use Rattle.mono_wheel.specs.Start.{taken_list, list_count}
 
 in-last : (front : List ℕ) (key a : ℕ) → IsIn a (front ++ key ∷ []) → (IsIn a front) ⊎ (a ≡ key)
 in-last [] key a (inl e) = inr e
@@ -29,9 +30,9 @@ fits-anew elapsed tick le = elim (eqb_tells tick elapsed) [
 
 -- `first`, `start` are the entries and lists before all keys of the slot; `entries`, `links` before this one; `popped` without it; `entries2`, `links2` after it
 module _ (elapsed : ℕ) (first entries entries2 : List Entry) (start links popped links2 : Lists) (key : ℕ) (front : List ℕ)
-    (s : Settling elapsed entries links) (d : Settled first entries start links) (is : list_at links 385 ≡ front ++ key ∷ []) (out : popped ≡ with_list links 385 front) (loose : IsLoose popped key) where
-  waiting : IsIn key (list_at links 385)
-  waiting = last-in (list_at links 385) key (front, is)
+    (s : Settling elapsed entries links) (d : Settled first entries start links) (is : list_at links taken_list ≡ front ++ key ∷ []) (out : popped ≡ with_list links taken_list front) (loose : IsLoose popped key) where
+  waiting : IsIn key (list_at links taken_list)
+  waiting = last-in (list_at links taken_list) key (front, is)
 
   waits : (timed : Timed) × (timed_in entries key ≡ Some timed) × (elapsed ≤ timed.tick)
   waits = s.waits key waiting
@@ -42,41 +43,41 @@ module _ (elapsed : ℕ) (first entries entries2 : List Entry) (start links popp
   pub step-below : key < length entries
   step-below = entry-below entries key some
 
-  low : 385 < length links.lists
+  low : taken_list < length links.lists
   low = let n = s.lists in omega (arith, n)
 
-  pub step-lists : length popped.lists ≡ 386
-  step-lists = ap (λ w. length w.lists) out ∙ length-set links.lists 385 front ∙ s.lists
+  pub step-lists : length popped.lists ≡ list_count
+  step-lists = ap (λ w. length w.lists) out ∙ length-set links.lists taken_list front ∙ s.lists
 
-  popped-here : list_at popped 385 ≡ front
-  popped-here = ap (λ w. list_at w 385) out ∙ list-same links 385 front low
+  popped-here : list_at popped taken_list ≡ front
+  popped-here = ap (λ w. list_at w taken_list) out ∙ list-same links taken_list front low
 
-  popped-other : (l : ℕ) → l ≢ 385 → list_at popped l ≡ list_at links l
-  popped-other l ne = ap (λ w. list_at w l) out ∙ list-other links 385 l front ne
+  popped-other : (l : ℕ) → l ≢ taken_list → list_at popped l ≡ list_at links l
+  popped-other l ne = ap (λ w. list_at w l) out ∙ list-other links taken_list l front ne
 
   apart : IsIn key front → ⊥
-  apart i = loose.in_none 385 (subst (λ zs. IsIn key zs) (sym popped-here) i)
+  apart i = loose.in_none taken_list (subst (λ zs. IsIn key zs) (sym popped-here) i)
 
-  nowhere : (k l : ℕ) → l ≢ 385 → IsIn k (list_at links l) → k ≢ key
+  nowhere : (k l : ℕ) → l ≢ taken_list → IsIn k (list_at links l) → k ≢ key
   nowhere k l ne i e = loose.in_none l (subst (λ z. IsIn z (list_at popped l)) e (subst (λ zs. IsIn k zs) (sym (popped-other l ne)) i))
 
-  front-waits : (k : ℕ) → IsIn k front → IsIn k (list_at links 385)
+  front-waits : (k : ℕ) → IsIn k front → IsIn k (list_at links taken_list)
   front-waits k i = subst (λ zs. IsIn k zs) (sym is) (is_in-front k front (key ∷ []) i)
 
   front-apart : (k : ℕ) → IsIn k front → k ≢ key
   front-apart k i e = apart (subst (λ z. IsIn z front) e i)
 
-  not-waits : (k : ℕ) → k ≢ key → (IsIn k front → ⊥) → IsIn k (list_at links 385) → ⊥
+  not-waits : (k : ℕ) → k ≢ key → (IsIn k front → ⊥) → IsIn k (list_at links taken_list) → ⊥
   not-waits k ne gone i = elim (in-last front key k (subst (λ zs. IsIn k zs) is i)) [ inl j ↦ gone j | inr e ↦ ne e ]
 
   module _ (r : Registered elapsed entries entries2 popped links2 key) where
     place : ℕ
     place = place_in elapsed r.entry.tick
 
-    place-low : place_in elapsed r.entry.tick < 385
+    place-low : place_in elapsed r.entry.tick < taken_list
     place-low = place_in-below elapsed r.entry.tick
 
-    place-not : place_in elapsed r.entry.tick ≢ 385
+    place-not : place_in elapsed r.entry.tick ≢ taken_list
     place-not e = let b = place-low in omega (arith, b, e)
 
     timed : timed_in entries key ≡ Some record { tick = r.entry.tick; registered = r.entry.registered }
@@ -95,8 +96,8 @@ module _ (elapsed : ℕ) (first entries entries2 : List Entry) (start links popp
         let f : waits.0 ≡ record { tick = r.entry.tick; registered = r.entry.registered } = cc in
         subst (λ t. elapsed ≤ t.tick) f waits.2
 
-    pub taken : list_at links2 385 ≡ front
-    taken = ap (λ w. list_at w 385) r.links_are ∙ list-other popped (place_in elapsed r.entry.tick) 385 _ (λ e. place-not (sym e)) ∙ popped-here
+    pub taken : list_at links2 taken_list ≡ front
+    taken = ap (λ w. list_at w taken_list) r.links_are ∙ list-other popped (place_in elapsed r.entry.tick) taken_list _ (λ e. place-not (sym e)) ∙ popped-here
 
     pushed : list_at links2 (place_in elapsed r.entry.tick) ≡ key ∷ list_at links (place_in elapsed r.entry.tick)
     pushed =
@@ -104,11 +105,11 @@ module _ (elapsed : ℕ) (first entries entries2 : List Entry) (start links popp
         ∙ list-same popped (place_in elapsed r.entry.tick) _ (let n = step-lists in let b = place-low in omega (arith, n, b))
         ∙ ap (λ zs. key ∷ zs) (popped-other (place_in elapsed r.entry.tick) place-not)
 
-    elsewhere : (l : ℕ) → l ≢ 385 → l ≢ place_in elapsed r.entry.tick → list_at links2 l ≡ list_at links l
+    elsewhere : (l : ℕ) → l ≢ taken_list → l ≢ place_in elapsed r.entry.tick → list_at links2 l ≡ list_at links l
     elsewhere l ne np = ap (λ w. list_at w l) r.links_are ∙ list-other popped (place_in elapsed r.entry.tick) l _ np ∙ popped-other l ne
 
     -- who stands in a list that is not the waiting one
-    came : (k l : ℕ) → l ≢ 385 → IsIn k (list_at links2 l) → ((k ≡ key) × (l ≡ place_in elapsed r.entry.tick)) ⊎ (IsIn k (list_at links l))
+    came : (k l : ℕ) → l ≢ taken_list → IsIn k (list_at links2 l) → ((k ≡ key) × (l ≡ place_in elapsed r.entry.tick)) ⊎ (IsIn k (list_at links l))
     came k l ne i = elim (eqb_tells l (place_in elapsed r.entry.tick)) [
       | inl e ↦ elim (subst (λ zs. IsIn k zs) (ap (list_at links2) e.1 ∙ pushed) i) [
         | inl f ↦ inl (f, e.1)
@@ -117,13 +118,13 @@ module _ (elapsed : ℕ) (first entries entries2 : List Entry) (start links popp
       | inr e ↦ inr (subst (λ zs. IsIn k zs) (elsewhere l ne e.1) i)
     ]
 
-    stays : (k l : ℕ) → l ≢ 385 → IsIn k (list_at links l) → IsIn k (list_at links2 l)
+    stays : (k l : ℕ) → l ≢ taken_list → IsIn k (list_at links l) → IsIn k (list_at links2 l)
     stays k l ne i = elim (eqb_tells l (place_in elapsed r.entry.tick)) [
       | inl e ↦ subst (λ zs. IsIn k zs) (sym (ap (list_at links2) e.1 ∙ pushed)) (inr (subst (λ z. IsIn k (list_at links z)) e.1 i))
       | inr e ↦ subst (λ zs. IsIn k zs) (sym (elsewhere l ne e.1)) i
     ]
 
-    keeps : (a b l : ℕ) → l ≢ 385 → StandsBehind (list_at links l) a b → StandsBehind (list_at links2 l) a b
+    keeps : (a b l : ℕ) → l ≢ taken_list → StandsBehind (list_at links l) a b → StandsBehind (list_at links2 l) a b
     keeps a b l ne h = elim (eqb_tells l (place_in elapsed r.entry.tick)) [
       | inl e ↦ subst (λ zs. StandsBehind zs a b) (sym (ap (list_at links2) e.1 ∙ pushed)) (inr (subst (λ z. StandsBehind (list_at links z) a b) e.1 h))
       | inr e ↦ subst (λ zs. StandsBehind zs a b) (sym (elsewhere l ne e.1)) h
@@ -161,11 +162,11 @@ module _ (elapsed : ℕ) (first entries entries2 : List Entry) (start links popp
     }
 
     order-step : (a b : ℕ) → timed_in first a ≡ timed_in first b → Leads start links a b → Leads start links2 a b
-    order-step a b same (inl t) = elim (eqb_tells t.0 385) [
+    order-step a b same (inl t) = elim (eqb_tells t.0 taken_list) [
       | inl e ↦ elim (behind-last front key a b (subst (λ zs. StandsBehind zs a b) (ap (list_at links) e.1 ∙ is) t.1)) [
-        | inl h ↦ inl (385, subst (λ zs. StandsBehind zs a b) (sym taken) h)
+        | inl h ↦ inl (taken_list, subst (λ zs. StandsBehind zs a b) (sym taken) h)
         | inr h ↦ inr (
-          subst (λ z. IsIn z (list_at start 385)) (sym h.0) (d.waits key waiting).0,
+          subst (λ z. IsIn z (list_at start taken_list)) (sym h.0) (d.waits key waiting).0,
           (λ i. apart (subst (λ z. IsIn z front) h.0 (subst (λ zs. IsIn a zs) taken i))),
           subst (λ zs. IsIn b zs) (sym taken) h.1,
         )
@@ -193,7 +194,7 @@ module _ (elapsed : ℕ) (first entries entries2 : List Entry) (start links popp
             ap (timed_in entries2) e.1 ∙ here ∙ sym (ap anew (ap (timed_in first) e.1 ∙ old))
         | inr e ↦ other k e.1 ∙ d.done k i (not-waits k e.1 (λ j. gone (subst (λ zs. IsIn k zs) (sym taken) j)))
       ];
-      others = λ k gone. other k (λ e. gone (subst (λ z. IsIn z (list_at start 385)) (sym e) (d.waits key waiting).0)) ∙ d.others k gone;
+      others = λ k gone. other k (λ e. gone (subst (λ z. IsIn z (list_at start taken_list)) (sym e) (d.waits key waiting).0)) ∙ d.others k gone;
       order = λ a b line h same. order-step a b same (d.order a b line h same);
       nodes = ap (λ w. w.nodes) r.links_are ∙ ap (λ w. w.nodes) out ∙ d.nodes;
     }
@@ -207,9 +208,9 @@ settled-start entries links = record {
   nodes = refl;
 }
 
-pub settling-end : (elapsed : ℕ) (entries : List Entry) (links : Lists) → Settling elapsed entries links → list_at links 385 ≡ [] → Held elapsed entries links
+pub settling-end : (elapsed : ℕ) (entries : List Entry) (links : Lists) → Settling elapsed entries links → list_at links taken_list ≡ [] → Held elapsed entries links
 settling-end elapsed entries links s empty =
-    let none : (k : ℕ) → IsIn k (list_at links 385) → ⊥ = λ k i. subst (λ zs. IsIn k zs) empty i in
+    let none : (k : ℕ) → IsIn k (list_at links taken_list) → ⊥ = λ k i. subst (λ zs. IsIn k zs) empty i in
     record {
       lists = s.lists;
       within = λ k l i. s.within k l (λ e. none k (subst (λ z. IsIn k (list_at links z)) e i)) i;

@@ -1,6 +1,7 @@
--- The bits that say of each slot of a wheel whether its list has a node: six numbers, a level each, with one bit for each slot.
+-- The bits that say of each slot of a wheel whether its list has a node: one number a level, with one bit for each slot.
 use Rattle.std.specs.Prelude.{◌≡◌, ◌≢◌, ℕ, ◌+◌, ◌*◌, ◌/◌, ◌%◌, ◌<◌, ◌↔◌, List, [], length, Option, Some, None, slice_index_or}
 use Rattle.std.specs.Int.{bit_at}
+use Rattle.mono_wheel.specs.Start.{list_count, slot_count}
 use Rattle.mono_wheel.specs.Lists.{Lists, list_at}
 
 -- the bit of the slot whose list this is, 0 or 1
@@ -9,7 +10,7 @@ occupied_bit levels list = bit_at (slice_index_or levels (list / 64) 0) (list % 
 
 -- only the bit of this slot may be another
 abbrev pub KeepsOthers : List ℕ → List ℕ → ℕ → Type 0
-KeepsOthers old new list = (other : ℕ) → other < 384 → other ≢ list → occupied_bit new other ≡ occupied_bit old other
+KeepsOthers old new list = (other : ℕ) → other < slot_count → other ≢ list → occupied_bit new other ≡ occupied_bit old other
 
 -- the first slot of a level with its bit set, from the one after this slot on, with this slot last
 abbrev pub IsFirstAfter : List ℕ → ℕ → ℕ → Option ℕ → Type 0
@@ -20,5 +21,5 @@ IsFirstAfter levels level slot (Some found) =
 
 -- there are the lists of a wheel, and the bit of a slot is 0 exactly where its list is empty
 pub record Marks (levels : List ℕ) (links : Lists) : Type 0 where
-  pub lists : length links.lists ≡ 386
-  pub exact : (list : ℕ) → list < 384 → (occupied_bit levels list ≡ 0) ↔ (list_at links list ≡ [])
+  pub lists : length links.lists ≡ list_count
+  pub exact : (list : ℕ) → list < slot_count → (occupied_bit levels list ≡ 0) ↔ (list_at links list ≡ [])

@@ -1,12 +1,16 @@
 -- How often the keys of a wheel are still taken from a slot.
-use Rattle.std.specs.Prelude.{◌≡◌, ℕ, ◌+◌, ◌-◌, ◌==◌, if◌then◌else◌, List, [], ◌∷◌, Option, Some, None}
-use Rattle.mono_wheel.specs.Start.{takes_from}
+use Rattle.std.specs.Prelude.{◌≡◌, ℕ, ◌+◌, ◌-◌, ◌/◌, ◌==◌, if◌then◌else◌, List, [], ◌∷◌, Option, Some, None}
+use Rattle.mono_wheel.specs.Start.{takes_from, level_count, top_level, reach}
 use Rattle.mono_wheel.specs.Model.{Timed, Wheel, timed_at}
+
+-- how often a key is taken from a slot at most that is registered this far ahead
+abbrev pub most_takes : ℕ → ℕ
+most_takes distance = level_count + distance / reach
 
 -- how often the key is still taken from a slot
 abbrev pub takes : ℕ → Option Timed → ℕ
 takes elapsed None = 0
-takes elapsed (Some timed) = if timed.tick == elapsed then 0 else takes_from (timed.tick - elapsed) 5 elapsed timed.registered timed.tick
+takes elapsed (Some timed) = if timed.tick == elapsed then 0 else takes_from (timed.tick - elapsed) top_level elapsed timed.registered timed.tick
 
 abbrev pub credit_of : ℕ → List (Option Timed) → ℕ
 credit_of elapsed [] = 0

@@ -1,17 +1,17 @@
 -- Where the lists of a wheel hold its keys, and what is true while the keys of one slot are registered anew.
 use Rattle.std.specs.Prelude.{◌≡◌, ◌≢◌, ℕ, ◌+◌, ◌*◌, ◌/◌, ◌%◌, ◌<◌, ◌≤◌, ◌⊎◌, true, ◌==◌, if◌then◌else◌, List, [], ◌∷◌, length, map, Option, Some, None, slice_index_or, slice_set}
-use Rattle.mono_wheel.specs.Start.{far_digit, slot_of, start}
+use Rattle.mono_wheel.specs.Start.{far_digit, slot_of, start, top_level, slot_count, pending_list, taken_list, list_count}
 use Rattle.mono_wheel.specs.Lists.{Lists, IsIn, list_at, is_node, with_list}
 use Rattle.mono_wheel.specs.Model.{Timed, Fits, StandsBehind, timed_after, IsPending, Precedes, Wheel, AllFit, timed_at}
 use Rattle.mono_wheel.specs.declared.entry.Entry.{Entry}
 
 -- the list of the slot of a tick ahead, at its level
 abbrev pub place_of : ℕ → ℕ → ℕ
-place_of elapsed registered = far_digit 5 elapsed registered * 64 + slot_of (far_digit 5 elapsed registered) registered
+place_of elapsed registered = far_digit top_level elapsed registered * 64 + slot_of (far_digit top_level elapsed registered) registered
 
 -- the list in which a key stands: that of its slot, or the pending list
 abbrev pub place_in : ℕ → ℕ → ℕ
-place_in elapsed registered = if registered == elapsed then 384 else place_of elapsed registered
+place_in elapsed registered = if registered == elapsed then pending_list else place_of elapsed registered
 
 -- the lists of slots in the order in which the slots start
 abbrev pub ranked : ℕ → ℕ → ℕ
@@ -19,9 +19,9 @@ ranked elapsed rank = rank / 64 * 64 + (slot_of (rank / 64) elapsed + 1 + rank %
 
 -- the first list of a slot, in that order, that is not empty
 abbrev pub IsFirstOccupied : ℕ → Lists → Option ℕ → Type 0
-IsFirstOccupied elapsed links None = (rank : ℕ) → rank < 384 → list_at links (ranked elapsed rank) ≡ []
+IsFirstOccupied elapsed links None = (rank : ℕ) → rank < slot_count → list_at links (ranked elapsed rank) ≡ []
 IsFirstOccupied elapsed links (Some list) =
-    (rank : ℕ) × (rank < 384) × (list ≡ ranked elapsed rank) × (list_at links list ≢ []) × ((before : ℕ) → before < rank → list_at links (ranked elapsed before) ≡ [])
+    (rank : ℕ) × (rank < slot_count) × (list ≡ ranked elapsed rank) × (list_at links list ≢ []) × ((before : ℕ) → before < rank → list_at links (ranked elapsed before) ≡ [])
 
 abbrev pub timed_of : Entry → Option Timed
 timed_of entry = if entry.is_in then Some record { tick = entry.tick; registered = entry.registered } else None
@@ -36,7 +36,7 @@ StandsIn elapsed list (Some timed) = list ≡ place_in elapsed timed.registered
 
 -- the lists hold exactly the keys that are in, each where its ticks say
 pub record Held (elapsed : ℕ) (entries : List Entry) (links : Lists) : Type 0 where
-  pub lists : length links.lists ≡ 386
+  pub lists : length links.lists ≡ list_count
   pub within : (key list : ℕ) → IsIn key (list_at links list) → StandsIn elapsed list (timed_in entries key)
   pub found : (key list : ℕ) → StandsIn elapsed list (timed_in entries key) → IsIn key (list_at links list)
   pub fits : (key : ℕ) → Fits elapsed (timed_in entries key)
@@ -49,8 +49,8 @@ pub record IsNextSlot (elapsed : ℕ) (entries : List Entry) (list begin : ℕ) 
   pub is : timed_in entries key ≡ Some timed
   pub ahead : elapsed < timed.registered
   pub place : list ≡ place_of elapsed timed.registered
-  pub begins : begin ≡ start 5 elapsed timed.registered
-  pub least : (other : ℕ) (ticks : Timed) → timed_in entries other ≡ Some ticks → elapsed < ticks.registered → begin ≤ start 5 elapsed ticks.registered
+  pub begins : begin ≡ start top_level elapsed timed.registered
+  pub least : (other : ℕ) (ticks : Timed) → timed_in entries other ≡ Some ticks → elapsed < ticks.registered → begin ≤ start top_level elapsed ticks.registered
 
 -- no key stands in a slot
 abbrev pub NoSlots : ℕ → List Entry → Type 0
@@ -58,15 +58,15 @@ NoSlots elapsed entries = (key : ℕ) (timed : Timed) → timed_in entries key �
 
 -- no slot that has a key starts at this tick or before
 abbrev pub NoSlotBy : ℕ → ℕ → List Entry → Type 0
-NoSlotBy elapsed now entries = (key : ℕ) (timed : Timed) → timed_in entries key ≡ Some timed → elapsed < timed.registered → now < start 5 elapsed timed.registered
+NoSlotBy elapsed now entries = (key : ℕ) (timed : Timed) → timed_in entries key ≡ Some timed → elapsed < timed.registered → now < start top_level elapsed timed.registered
 
--- As Held, while the keys of the list 385 still wait to be registered at their true ticks, and all others stand as of this tick.
+-- As Held, while the keys of the taken list still wait to be registered at their true ticks, and all others stand as of this tick.
 pub record Settling (elapsed : ℕ) (entries : List Entry) (links : Lists) : Type 0 where
-  pub lists : length links.lists ≡ 386
-  pub within : (key list : ℕ) → list ≢ 385 → IsIn key (list_at links list) → StandsIn elapsed list (timed_in entries key)
-  pub found : (key list : ℕ) → (IsIn key (list_at links 385) → ⊥) → StandsIn elapsed list (timed_in entries key) → IsIn key (list_at links list)
-  pub fits : (key : ℕ) → (IsIn key (list_at links 385) → ⊥) → Fits elapsed (timed_in entries key)
-  pub waits : (key : ℕ) → IsIn key (list_at links 385) → (timed : Timed) × (timed_in entries key ≡ Some timed) × (elapsed ≤ timed.tick)
+  pub lists : length links.lists ≡ list_count
+  pub within : (key list : ℕ) → list ≢ taken_list → IsIn key (list_at links list) → StandsIn elapsed list (timed_in entries key)
+  pub found : (key list : ℕ) → (IsIn key (list_at links taken_list) → ⊥) → StandsIn elapsed list (timed_in entries key) → IsIn key (list_at links list)
+  pub fits : (key : ℕ) → (IsIn key (list_at links taken_list) → ⊥) → Fits elapsed (timed_in entries key)
+  pub waits : (key : ℕ) → IsIn key (list_at links taken_list) → (timed : Timed) × (timed_in entries key ≡ Some timed) × (elapsed ≤ timed.tick)
   pub room : (key : ℕ) → is_node links key ≡ true → key < length entries
 
 -- the ticks of a key after it was registered at its true tick
@@ -78,15 +78,15 @@ anew (Some timed) = Some record { tick = timed.tick; registered = timed.tick }
 abbrev pub Leads : Lists → Lists → ℕ → ℕ → Type 0
 Leads links links2 a b =
     ((line : ℕ) × StandsBehind (list_at links2 line) a b)
-    ⊎ (IsIn a (list_at links 385) × (IsIn a (list_at links2 385) → ⊥) × IsIn b (list_at links2 385))
+    ⊎ (IsIn a (list_at links taken_list) × (IsIn a (list_at links2 taken_list) → ⊥) × IsIn b (list_at links2 taken_list))
 
 -- how far the registration of the keys that wait has come since these entries and lists
 pub record Settled (entries entries2 : List Entry) (links links2 : Lists) : Type 0 where
   -- who waits did so before, and has its ticks still
-  pub waits : (key : ℕ) → IsIn key (list_at links2 385) → IsIn key (list_at links 385) × (timed_in entries2 key ≡ timed_in entries key)
+  pub waits : (key : ℕ) → IsIn key (list_at links2 taken_list) → IsIn key (list_at links taken_list) × (timed_in entries2 key ≡ timed_in entries key)
   -- who waited and does no more is registered at its true tick
-  pub done : (key : ℕ) → IsIn key (list_at links 385) → (IsIn key (list_at links2 385) → ⊥) → timed_in entries2 key ≡ anew (timed_in entries key)
-  pub others : (key : ℕ) → (IsIn key (list_at links 385) → ⊥) → timed_in entries2 key ≡ timed_in entries key
+  pub done : (key : ℕ) → IsIn key (list_at links taken_list) → (IsIn key (list_at links2 taken_list) → ⊥) → timed_in entries2 key ≡ anew (timed_in entries key)
+  pub others : (key : ℕ) → (IsIn key (list_at links taken_list) → ⊥) → timed_in entries2 key ≡ timed_in entries key
   pub order : (a b line : ℕ) → StandsBehind (list_at links line) a b → timed_in entries a ≡ timed_in entries b → Leads links links2 a b
   pub nodes : links2.nodes ≡ links.nodes
 

@@ -1,22 +1,27 @@
 //! The level of a tick.
 ghost use Rattle.std.specs.Prelude.{◌≡◌};
-ghost use Rattle.mono_wheel.specs.Start.{far_digit, IsLevel};
+ghost use Rattle.mono_wheel.specs.Start.{far_digit, IsLevel, top_level};
+
+/// How many levels there are.
+pub const LEVELS: usize = 7;
+
+const TOP: usize = LEVELS - 1;
 
 // From here on the bits that differ call for the top level.
-const FAR: u64 = (1 << 36) - 1;
+const FAR: u64 = (1 << (LEVELS * 6)) - 1;
 
-/// The level, 0 to 5, at which a tick is registered while the wheel stands at `elapsed`.
+/// The level, 0 to 6, at which a tick is registered while the wheel stands at `elapsed`.
 ///
-/// It is the highest digit to the base 64 in which the two ticks differ, and 5 where that digit is a
+/// It is the highest digit to the base 64 in which the two ticks differ, and 6 where that digit is a
 /// higher one (clause `digit`). In bits, it is a sixth of the place of the highest bit in which they
 /// differ (clause `rule`).
 pub fn level_for(elapsed: u64, when: u64) -> usize
-    ensures digit { result ≡ far_digit 5 elapsed when }
+    ensures digit { result ≡ far_digit top_level elapsed when }
     ensures rule { IsLevel elapsed when result }
 {
     let differing = (elapsed ^ when) | 63;
     if differing >= FAR {
-        return 5;
+        return TOP;
     }
     (63 - differing.leading_zeros()) as usize / 6
 }

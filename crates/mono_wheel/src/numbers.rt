@@ -1,15 +1,15 @@
 //! Slots by numbers: in which list the slot of a tick is, and where it starts.
 ghost use Rattle.std.specs.Prelude.{◌≡◌, ℕ, ◌+◌, ◌<◌, ◌≤◌, ◌^◌};
-ghost use Rattle.mono_wheel.specs.Start.{next_turn, slot_of, start};
+ghost use Rattle.mono_wheel.specs.Start.{next_turn, slot_of, start, level_count, top_level};
 ghost use Rattle.mono_wheel.specs.Held.{place_of, place_in};
 
-use crate::level::level_for;
+use crate::level::{LEVELS, level_for};
 
 /// How many slots there are, whose lists come first.
-pub const SLOTS: usize = 384;
+pub const SLOTS: usize = LEVELS * 64;
 
 /// The pending list, after the slots.
-pub const PENDING: usize = 384;
+pub const PENDING: usize = SLOTS;
 
 /// The list of the slot of a tick that lies ahead.
 pub fn place(elapsed: u64, when: u64) -> usize
@@ -32,7 +32,7 @@ pub fn standing(elapsed: u64, registered: u64) -> usize
 
 /// The slot of a tick at a level.
 pub fn slot_at(level: usize, tick: u64) -> usize
-    requires { level < 6 }
+    requires { level < level_count }
     ensures value { result ≡ slot_of level tick }
     ensures below { result < 64 }
 {
@@ -50,7 +50,7 @@ fn turn_above(now: u64, goal: u64) -> u64
 
 // How many ticks a slot of a level covers.
 fn slot_size(level: usize) -> u64
-    requires { level < 6 }
+    requires { level < level_count }
     ensures value { result ≡ 64 ^ level }
     ensures some { 0 < result }
 {
@@ -60,7 +60,7 @@ fn slot_size(level: usize) -> u64
 /// Where the slot of a tick that lies ahead starts.
 pub fn slot_start(elapsed: u64, when: u64) -> u64
     requires { elapsed < when }
-    ensures { result ≡ start 5 elapsed when }
+    ensures { result ≡ start top_level elapsed when }
 {
     let size = slot_size(level_for(elapsed, when));
     turn_above(elapsed / size, when / size) * size

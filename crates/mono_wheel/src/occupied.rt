@@ -1,36 +1,41 @@
 //! For each slot of a wheel a bit, which says whether its list has a node.
 ghost use Rattle.std.specs.Prelude.{◌≡◌, ℕ, ◌*◌, ◌+◌, ◌<◌};
 ghost use Rattle.mono_wheel.specs.Bits.{occupied_bit, KeepsOthers, IsFirstAfter};
+ghost use Rattle.mono_wheel.specs.Start.{level_count, slot_count};
 
+use crate::level::LEVELS;
 use std::marker::Model;
 
-/// One bit for each of the 384 slots: bit `s` of level `l` is that of list `l * 64 + s`.
+/// One bit for each of the slots: bit `s` of level `l` is that of list `l * 64 + s`.
 #[derive(Drop)]
 pub struct Occupied {
-    levels: [u64; 6],
+    levels: [u64; LEVELS],
 }
 
 impl Model for Occupied {
     ghost use Rattle.std.specs.Prelude.{◌≡◌, ℕ, List, length};
+    ghost use Rattle.mono_wheel.specs.Start.{level_count};
 
     ghost Value = { List ℕ };
 
     ghost view = { λ a. a.levels };
 
-    ghost invariant = { λ a. length a.levels ≡ 6 };
+    ghost invariant = { λ a. length a.levels ≡ level_count };
 }
 
 impl Occupied {
     /// No slot has a node.
     pub fn new() -> Occupied
-        ensures { (list : ℕ) → list < 384 → occupied_bit result list ≡ 0 }
+        ensures { (list : ℕ) → list < slot_count → occupied_bit result list ≡ 0 }
     {
-        Occupied { levels: [0; 6] }
+        Occupied {
+            levels: [0; LEVELS],
+        }
     }
 
     /// Sets the bit of a slot.
     pub fn mark(&mut self, list: usize)
-        requires { list < 384 }
+        requires { list < slot_count }
         ensures here { occupied_bit self.new list ≡ 1 }
         ensures others { KeepsOthers self.old self.new list }
     {
@@ -39,7 +44,7 @@ impl Occupied {
 
     /// Takes the bit of a slot away.
     pub fn clear(&mut self, list: usize)
-        requires { list < 384 }
+        requires { list < slot_count }
         ensures here { occupied_bit self.new list ≡ 0 }
         ensures others { KeepsOthers self.old self.new list }
     {
@@ -48,7 +53,7 @@ impl Occupied {
 
     /// The first slot of a level whose bit is set, from the one after this slot on, this slot last.
     pub fn first_after(&self, level: usize, slot: usize) -> Option<usize>
-        requires level { level < 6 }
+        requires level { level < level_count }
         requires slot { slot < 64 }
         ensures { IsFirstAfter self.now level slot result }
     {

@@ -2,6 +2,7 @@
 ghost use Rattle.std.specs.Prelude.{◌≡◌, ℕ, ◌+◌, ◌<◌, length};
 ghost use Rattle.mono_wheel.specs.Lists.{IsLoose, list_at};
 ghost use Rattle.mono_wheel.specs.Held.{Held, Registered, Settling, Settled};
+ghost use Rattle.mono_wheel.specs.Start.{taken_list};
 
 use crate::Steps;
 use crate::entry::Entry;
@@ -31,7 +32,7 @@ pub fn settle<L: Ledger>(
     requires { Settling elapsed entries.old.items links.old }
     ensures held { Held elapsed entries.new.items links.new }
     ensures settled { Settled entries.old.items entries.new.items links.old links.new }
-    ensures steps { steps.new ≡ steps.old + length (list_at links.old 385) }
+    ensures steps { steps.new ≡ steps.old + length (list_at links.old taken_list) }
 {
     while let Some(key) = links.pop_taken(steps) {
         register(elapsed, entries, links, key);

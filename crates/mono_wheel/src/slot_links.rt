@@ -3,8 +3,10 @@ ghost use Rattle.std.specs.Prelude.{◌≡◌, ◌≢◌, ℕ, ◌+◌, ◌<◌,
 ghost use Rattle.mono_wheel.specs.Rings.{Distinct};
 ghost use Rattle.mono_wheel.specs.Lists.{list_at, IsIn, IsLoose, is_node, with_list, without, IsLast, PoppedBack, Added, Freed};
 ghost use Rattle.mono_wheel.specs.Held.{IsFirstOccupied};
+ghost use Rattle.mono_wheel.specs.Start.{slot_count, taken_list, list_count};
 
-use crate::numbers::{SLOTS, slot_at};
+use crate::level::LEVELS;
+use crate::numbers::{PENDING, SLOTS, slot_at};
 use crate::occupied::Occupied;
 use crate::{Links, Steps};
 use std::alloc::{AllocError, Global};
@@ -12,13 +14,13 @@ use std::marker::Model;
 use std::sync::ledger::Ledger;
 
 /// The list of the keys that wait to be registered anew.
-pub const TAKEN: usize = 385;
+pub const TAKEN: usize = PENDING + 1;
 
 // How many lists there are: the slots, the pending list, the taken list.
-const LISTS: usize = 386;
+const LISTS: usize = TAKEN + 1;
 
 /// The lists of a wheel: one for each slot, the pending list, the taken list. A bit for each slot
-/// says whether its list has a node, so that the next slot is found in six looks. A contract sees
+/// says whether its list has a node, so that the next slot is found in one look a level. A contract sees
 /// the lists alone.
 #[derive(Drop)]
 pub struct SlotLinks {
@@ -40,7 +42,7 @@ impl Model for SlotLinks {
 impl SlotLinks {
     /// Empty lists, and no node.
     pub fn new(alloc: Global) -> Result<SlotLinks, AllocError>
-        ensures lists { IfOk result (λ links. links.lists ≡ replicate 386 []) }
+        ensures lists { IfOk result (λ links. links.lists ≡ replicate list_count []) }
         ensures nodes { IfOk result (λ links. (node : ℕ) → is_node links node ≡ false) }
     {
         let links = Links::new(alloc, LISTS)?;
@@ -61,7 +63,7 @@ impl SlotLinks {
 
     /// The last node of the list, or None exactly where it is empty.
     pub fn last(&self, list: usize) -> Option<usize>
-        requires { list < 386 }
+        requires { list < list_count }
         ensures { IsLast (list_at self.now list) result }
     {
         self.links.last(list)
@@ -72,7 +74,7 @@ impl SlotLinks {
     pub fn first_occupied(&self, elapsed: u64) -> Option<usize>
         ensures { IsFirstOccupied elapsed self.now result }
     {
-        for level in 0..6 {
+        for level in 0..LEVELS {
             if let Some(slot) = self.occupied.first_after(level, slot_at(level, elapsed)) {
                 return Some(level * 64 + slot);
             }
@@ -82,7 +84,7 @@ impl SlotLinks {
 
     /// Puts a node that is in no list before the first.
     pub fn push_front(&mut self, list: usize, node: usize)
-        requires list { list < 386 }
+        requires list { list < list_count }
         requires loose { IsLoose self.old node }
         ensures { self.new ≡ with_list self.old list (node ∷ list_at self.old list) }
     {
@@ -94,7 +96,7 @@ impl SlotLinks {
 
     /// Takes a node out of its list; the order of the others stays.
     pub fn remove(&mut self, list: usize, node: usize)
-        requires list { list < 386 }
+        requires list { list < list_count }
         requires within { IsIn node (list_at self.old list) }
         ensures without { self.new ≡ with_list self.old list (without node (list_at self.old list)) }
         ensures gone { IsIn node (list_at self.new list) → ⊥ }
@@ -110,7 +112,7 @@ impl SlotLinks {
     /// Takes the last node of the taken list out, as one step, or answers None exactly where that
     /// list is empty, as no step.
     pub fn pop_taken<L: Ledger>(&mut self, steps: &mut Steps<L>) -> Option<usize>
-        ensures popped { PoppedBack self.old self.new 385 result }
+        ensures popped { PoppedBack self.old self.new taken_list result }
         ensures loose { IfSome result (λ node. IsLoose self.new node) }
         ensures steps { steps.new ≡ steps.old + (if is_some result then 1 else 0) }
     {
@@ -119,9 +121,9 @@ impl SlotLinks {
 
     /// Moves the whole list of a slot to the taken list, which is empty, in the time of an exchange.
     pub fn take(&mut self, slot: usize)
-        requires slot { slot < 384 }
-        requires empty { list_at self.old 385 ≡ [] }
-        ensures { self.new ≡ with_list (with_list self.old slot []) 385 (list_at self.old slot) }
+        requires slot { slot < slot_count }
+        requires empty { list_at self.old taken_list ≡ [] }
+        ensures { self.new ≡ with_list (with_list self.old slot []) taken_list (list_at self.old slot) }
     {
         self.links.take(slot, TAKEN);
         self.occupied.clear(slot);

@@ -28,7 +28,8 @@ fn next_ticks<L: Ledger>(alloc: Global, steps: &mut Steps<L>) -> Result<bool, Al
             && next_after(alloc, steps, 64, 100)? == Some(100)
             && next_after(alloc, steps, 0, 0x4000_0000)? == Some(0x4000_0000)
             && next_after(alloc, steps, 0, 0x10_0000_0000)? == Some(0x10_0000_0000)
-            && next_after(alloc, steps, 5, 0x10_8000_0000)? == Some(0x8000_0000),
+            && next_after(alloc, steps, 5, 0x10_8000_0000)? == Some(0x10_0000_0000)
+            && next_after(alloc, steps, 5, 0x420_0000_0000)? == Some(0x20_0000_0000),
     )
 }
 
@@ -64,17 +65,17 @@ fn far_keys<L: Ledger>(alloc: Global, steps: &mut Steps<L>) -> Result<bool, Allo
     let far = wheel.reserve_entry(alloc)?;
     let near = wheel.reserve_entry(alloc)?;
     let gone = wheel.reserve_entry(alloc)?;
-    if wheel.insert(far, 0x10_0000_0000).is_err()
-        || wheel.insert(near, 0x4000_0000).is_err()
+    if wheel.insert(far, 0x400_0000_0000).is_err()
+        || wheel.insert(near, 0x10_0000_0000).is_err()
         || wheel.insert(gone, 5).is_err()
     {
         return Ok(false);
     }
     wheel.remove(gone);
     wheel.free_entry(gone);
-    let none = wheel.poll(0x3fff_ffff, steps);
-    let first = wheel.poll(0x4000_0000, steps);
-    let second = wheel.poll(0x10_0000_0000, steps);
+    let none = wheel.poll(0xf_ffff_ffff, steps);
+    let first = wheel.poll(0x10_0000_0000, steps);
+    let second = wheel.poll(0x400_0000_0000, steps);
     Ok(
         none == None
             && first == Some(near)

@@ -2,4 +2,4 @@ use Rattle.mono_wheel.proofs.Shifting.{shift-slot}
 use Rattle.mono_wheel.proofs.numbers.slot_at.Goals as goal
 
 pub returns-clause-value : goal.returns-clause-value
-returns-clause-value c = shift-slot c.args.level c.args.tick c.requires
+returns-clause-value c = shift-slot c.args.level c.args.tick

@@ -2,13 +2,14 @@ use Rattle.std.proofs.Common.{◌≡◌, ◌+◌, length}
 use Rattle.mono_wheel.specs.Lists.{list_at}
 use Rattle.mono_wheel.specs.Held.{Settling, Settled}
 use Rattle.mono_wheel.proofs.settle.settle.Given as goal
+use Rattle.mono_wheel.specs.Start.{taken_list}
 
 abbrev pub invariant-loop-key : goal.invariant-loop-key
 invariant-loop-key g l = record {
   settling : Settling l.elapsed l.entries.items l.links;
   settled : Settled l.fn.entries.items l.entries.items l.fn.links l.links;
-  counted : l.steps + length (list_at l.links 385) ≡ l.fn.steps + length (list_at l.fn.links 385);
+  counted : l.steps + length (list_at l.links taken_list) ≡ l.fn.steps + length (list_at l.fn.links taken_list);
 }
 
 abbrev pub decreases-loop-key : goal.decreases-loop-key
-decreases-loop-key g l = length (list_at l.links 385)
+decreases-loop-key g l = length (list_at l.links taken_list)

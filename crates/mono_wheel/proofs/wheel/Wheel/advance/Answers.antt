@@ -6,6 +6,7 @@ use Rattle.mono_wheel.proofs.Crediting.{credit-slot, credit-later}
 use Rattle.mono_wheel.proofs.Advancing.{at_taken, taken-empty, slot-settling, slot-advanced, begin-above, later-held, later-advanced, later-passed}
 use Rattle.mono_wheel.proofs.Polling.{none-pending}
 use Rattle.mono_wheel.proofs.wheel.Wheel.advance.Goals as goal
+use Rattle.mono_wheel.specs.Start.{taken_list}
 
 pub take-requires-clause-empty : goal.take-requires-clause-empty
 take-requires-clause-empty g c = taken-empty c.self.inside.elapsed c.self.inside.entries.items c.self.inside.links c.self.invariant
@@ -54,7 +55,7 @@ returns-in-Some-clause-steps g c =
     let none = none-pending c.self.inside.elapsed c.self.inside.entries.items c.self.inside.links.nodes c.self.inside.links.lists c.args.self.now c.self.view_is c.requires.none in
     let fall = credit-slot c.self.inside.elapsed c.in-Some.slot.start c.in-Some.slot.list c.self.inside.entries.items c.self.inside.links c.take.new.self c.self.invariant c.in-Some.ensures.0 none c.take.ensures
     c.settle.new.entries.items c.settle.new.links c.settle.ensures.held c.settle.ensures.settled (c.lists_are_disjoint.ensures.once c.in-Some.slot.list) in
-    let taken : length (list_at c.take.new.self 385) ≡ length (list_at c.self.inside.links c.in-Some.slot.list) =
+    let taken : length (list_at c.take.new.self taken_list) ≡ length (list_at c.self.inside.links c.in-Some.slot.list) =
     ap length (at_taken c.self.inside.elapsed c.in-Some.slot.start c.in-Some.slot.list c.self.inside.entries.items c.self.inside.links c.take.new.self c.self.invariant c.in-Some.ensures.0 none c.take.ensures) in
     let steps = c.settle.ensures.steps in
     subst (λ w. c.settle.new.steps + credit_of c.in-Some.slot.start (map timed_of c.settle.new.entries.items) ≡ c.args.steps.now + credit_of w.elapsed w.entries) c.self.view_is (omega (arith, fall, taken, steps))

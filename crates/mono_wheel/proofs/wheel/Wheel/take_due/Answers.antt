@@ -6,6 +6,7 @@ use Rattle.mono_wheel.specs.Lists.{list_at}
 use Rattle.mono_wheel.proofs.Calls.{last-in}
 use Rattle.mono_wheel.proofs.Due.{due-below, due-held, due-taken}
 use Rattle.mono_wheel.proofs.wheel.Wheel.take_due.Goals as goal
+use Rattle.mono_wheel.specs.Start.{pending_list}
 
 pub index_mut-requires : goal.index_mut-requires
 index_mut-requires c =
@@ -13,7 +14,7 @@ index_mut-requires c =
     omega (arith, b)
 
 pub remove-requires-clause-within : goal.remove-requires-clause-within
-remove-requires-clause-within c = last-in (list_at c.self.inside.links 384) c.in_ok-key.key c.in_ok-key.ensures
+remove-requires-clause-within c = last-in (list_at c.self.inside.links pending_list) c.in_ok-key.key c.in_ok-key.ensures
 
 pub invariant_of-self : goal.invariant_of-self
 invariant_of-self c =
