@@ -214,8 +214,8 @@ served_in_order (event.Act a ∷ events) (answer ∷ answers) old new p t (mid, 
     served_in_order events answers mid new p t run (subst (λ x. slice_get x.tasks.queue p ≡ Some t) (sym is.1) (act_stands p t old stands a)) inside
 served_in_order (event.Turn steps e ∷ events) (answer ∷ answers) old new p t (mid, is, run) stands inside =
     turn_serves events answers t old steps e answer
-        (λ q behind fewer. served_in_order events answers mid new q t run (subst (λ x. slice_get x.tasks.queue q ≡ Some t) (sym is.1) behind) fewer)
-        old.tasks.queue p refl is.0 stands inside
+    (λ q behind fewer. served_in_order events answers mid new q t run (subst (λ x. slice_get x.tasks.queue q ≡ Some t) (sym is.1) behind) fewer)
+    old.tasks.queue p refl is.0 stands inside
 served_in_order (event.Clock n ∷ events) (answer ∷ answers) old new p t (mid, is, run) stands inside =
     served_in_order events answers mid new p t run (clock_stands p t old n answer mid stands is) inside
 served_in_order (event.Remote u ∷ events) (answer ∷ answers) old new p t (mid, is, run) stands inside =

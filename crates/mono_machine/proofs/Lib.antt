@@ -13,3 +13,4 @@ pub mod Awaiting
 pub mod Spending
 pub mod Handouts
 pub mod Fairness
+pub mod Causes

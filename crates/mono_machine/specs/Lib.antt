@@ -9,3 +9,4 @@ pub mod Worked
 pub mod History
 pub mod Handouts
 pub mod Fairness
+pub mod Causes

@@ -6,8 +6,10 @@ ghost use Rattle.mono_model.specs.Sleeps.{Arming, armed};
 ghost use Rattle.mono_machine.specs.Machine.{Machine, start_machine, IsValid};
 ghost use Rattle.mono_machine.specs.Steps.{Step, Run, has_finished};
 ghost use Rattle.mono_machine.specs.Handouts.{is_on_task, is_on_job, handed_in};
+ghost use Rattle.mono_model.specs.Valid.{of_task, is_queued};
+ghost use Rattle.mono_machine.specs.Causes.{is_cause, RunWithoutCause};
 ghost use Rattle.mono_machine.specs.Fairness.{turns_of};
-ghost use Rattle.mono_machine.specs.History.{has_turn_of, is_awaiting, tells_wake};
+ghost use Rattle.mono_machine.specs.History.{has_turn_of, is_turn_of, is_awaiting, tells_wake};
 ghost use Rattle.mono_machine.specs.declared.events.Limits.{Limits};
 ghost use Rattle.mono_machine.specs.declared.events.Blocking.{Blocking};
 ghost use Rattle.mono_machine.specs.declared.events.Event.{Event};
@@ -69,4 +71,17 @@ pub fn job_hands_out_once()
 pub fn served_in_order()
     ensures { (events : List Event) (answers : List Report) (old new : Machine) (p t : ℕ) → Run old events answers new → slice_get old.tasks.queue p ≡ Some t →
         p < length (turns_of events answers) → slice_get (turns_of events answers) p ≡ Some (Some t) }
+{}
+
+/// No turn without a cause: a task that is not queued has no turn in a run in which nothing made it, woke it so that it
+/// was queued or noted, or drained it.
+pub fn no_turn_without_cause()
+    ensures { (events : List Event) (answers : List Report) (old new : Machine) (t : ℕ) → IsValid old → of_task is_queued (value_at old.tasks.table t) ≡ false →
+        RunWithoutCause t old events answers new → has_turn_of t answers ≡ false }
+{}
+
+/// A turn uses its cause up: after a turn of its own in which nothing woke it a task is not queued.
+pub fn turn_uses_its_cause_up()
+    ensures { (old : Machine) (e : Event) (answer : Report) (mid : Machine) (t : ℕ) → Step old e answer mid → is_turn_of t answer ≡ true → is_cause t old e answer ≡ false →
+        of_task is_queued (value_at mid.tasks.table t) ≡ false }
 {}

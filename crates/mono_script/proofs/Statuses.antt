@@ -8,7 +8,7 @@ use Rattle.mono_script.specs.Ending.{Meaning, Ends, HasInput, IsInput, HasAnswer
 use Rattle.mono_script.specs.Meanings.{meaning}
 use Rattle.mono_script.specs.declared.ends.Status.{Status}
 use Rattle.mono_script.specs.declared.ends.Status.TheVariants as status
-use Rattle.mono_script.proofs.Replaying.{not_both}
+use Rattle.mono_text.proofs.Lined.{not_both}
 
 -- ---- each command: what is owed of its meaning
 

@@ -2,8 +2,8 @@
 ghost use Rattle.std.specs.Prelude.{◌≡◌, ◌∷◌, [], List, ℕ, IfSome, IfNone, map, string_bytes};
 ghost use Rattle.mono_script.specs.Command.{AreLimits, AreLoad, IsCommand, IsNoReplay, IsNoLoad, IsNoCommand, strategy_text};
 
-use mono_text::whole_number;
 use mono_exec::{Blocking, Limits};
+use mono_text::whole_number;
 
 /// What the words ask for.
 #[derive(Clone, Copy)]

@@ -7,8 +7,8 @@ ghost use Rattle.mono_script.specs.Ending.{IsOutput};
 ghost use Rattle.mono_script.specs.Meanings.{replaying};
 
 use crate::ends::{Output, Status, bad_line};
-use mono_text::{Reader, report_line};
 use mono_exec::{Blocking, Event, Exec, Limits, List, Reply, Report, TurnStep};
+use mono_text::{Reader, report_line};
 use std::alloc::{AllocError, Global};
 
 /// What an input is answered: the number of the first line that says no event, counted from 1, or the lines of the

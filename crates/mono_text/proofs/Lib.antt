@@ -4,3 +4,5 @@ pub mod Spelled
 pub mod Parts
 pub mod Words
 pub mod Digits
+pub mod Lined
+pub mod Numbers

@@ -1,13 +1,11 @@
 -- What is read is spelled so, and what is spelled so is read.
-use Rattle.std.proofs.Common.{◌≡◌, ℕ, zero, suc, ◌+◌, ◌^◌, ◌<◌, ◌≤◌, ◌++◌, List, [], ◌∷◌, length, Some, None, Option, Bool, true, false, ◌⊎◌, if◌then◌else◌, refl, sym, ap, subst, ◌∙◌, arith, inl, inr, append_assoc, length-append, codes, slice_index, ◌==◌, lit≤, lit<, IfOk, IfSome, IfNone, Result, Ok, Err}
-use Rattle.std.proofs.lemmas.Bool.{cases_Bool}
+use Rattle.std.proofs.Common.{◌≡◌, ℕ, zero, suc, ◌^◌, ◌<◌, ◌≤◌, ◌++◌, List, [], ◌∷◌, length, Some, None, Option, Bool, true, false, ◌⊎◌, if◌then◌else◌, refl, sym, ap, subst, ◌∙◌, arith, inl, inr, append_assoc, length-append, codes, slice_index, ◌==◌, lit≤, lit<, IfOk, IfSome, IfNone, Result, Ok, Err}
 use Rattle.std.proofs.lemmas.List.{append-nil}
 use Rattle.std.specs.Fmt.{decimal}
 use Rattle.mono_machine.specs.declared.events.Act.{Act}
 use Rattle.mono_machine.specs.declared.events.Act.TheVariants as act
 use Rattle.mono_machine.specs.declared.events.How.{How}
 use Rattle.mono_machine.specs.declared.events.How.TheVariants as how
-use Rattle.mono_machine.specs.declared.events.Query.{Query}
 use Rattle.mono_machine.specs.declared.events.Query.TheVariants as query
 use Rattle.mono_machine.specs.declared.events.TurnStep.{TurnStep}
 use Rattle.mono_machine.specs.declared.events.TurnStep.TheVariants as step
@@ -17,7 +15,7 @@ use Rattle.mono_machine.specs.declared.events.Event.{Event}
 use Rattle.mono_machine.specs.declared.events.Event.TheVariants as event
 use Rattle.mono_text.specs.Written.{how_text, act_text, step_text, end_text, parts_text, event_text, FitsAct, FitsStep, FitsEnd, FitSteps, FitsEvent}
 use Rattle.mono_text.specs.Lines.{BeginsWith, BeginsWithNone}
-use Rattle.mono_text.specs.Reading.{Gives, GivesIf, Read, when, mapped, then_read, ends_or, word_at, digits_from, s_act_at, drop_at, reset_at, how_at, job_act_at, other_act_at, act_at, job_step_at, number_at, nanos_at, step_at, end_at, parts_at, event_at, line_at}
+use Rattle.mono_text.specs.Reading.{GivesIf, Read, when, mapped, then_read, ends_or, word_at, digits_from, s_act_at, drop_at, reset_at, how_at, job_act_at, other_act_at, act_at, job_step_at, number_at, nanos_at, step_at, end_at, parts_at, event_at, line_at}
 use Rattle.mono_text.proofs.Words.{word_is}
 use Rattle.mono_text.proofs.Digits.{digits_found, digits_again, starts_digit}
 

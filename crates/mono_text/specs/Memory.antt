@@ -1,5 +1,5 @@
 -- Bytes in memory that are read or written, where the calls that are listed fail.
-use Rattle.std.specs.Prelude.{◌≡◌, ℕ, ◌+◌, ◌-◌, ◌^◌, ◌<◌, ◌≤◌, ◌⊎◌, min, List, [], ◌++◌, length, take, drop, Contains, Result, Ok, Err}
+use Rattle.std.specs.Prelude.{◌≡◌, ℕ, ◌+◌, ◌-◌, ◌^◌, ◌<◌, ◌⊎◌, min, List, [], ◌++◌, length, take, drop, Contains, Result, Ok, Err}
 
 -- What is left, which calls fail, how many calls came and how many failed; both counts end at 2 ^ 64 - 1.
 pub record Feed : Type 0 where

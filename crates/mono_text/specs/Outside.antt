@@ -1,5 +1,5 @@
 -- The outside: where bytes come from and go to, and how often that failed.
-use Rattle.std.specs.Prelude.{◌≡◌, ℕ, ◌+◌, ◌-◌, ◌^◌, ◌<◌, ◌≤◌, ◌⊎◌, List, [], ◌++◌, length, take, drop, Option, Some, None, Result, Ok, Err}
+use Rattle.std.specs.Prelude.{◌≡◌, ℕ, ◌-◌, ◌^◌, ◌<◌, ◌≤◌, ◌⊎◌, List, [], ◌++◌, length, take, drop, Option, Some, None, Result, Ok, Err}
 
 -- The count of faults is higher than before; one that cannot rise counts as risen.
 abbrev pub HasRisen : ℕ → ℕ → Type 0

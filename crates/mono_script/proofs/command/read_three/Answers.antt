@@ -1,4 +1,5 @@
-use Rattle.mono_script.proofs.Commands.{none_so, not_load}
+use Rattle.mono_script.proofs.Commands.{not_load}
+use Rattle.mono_text.proofs.Numbers.{none_so}
 use Rattle.mono_script.proofs.command.read_three.Goals as goal
 
 pub returns-clause-none : goal.returns-clause-none

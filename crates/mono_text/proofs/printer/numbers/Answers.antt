@@ -1,4 +1,4 @@
-use Rattle.std.proofs.Common.{◌≡◌, ◌++◌, get_or, rules, arith}
+use Rattle.std.proofs.Common.{◌≡◌, ◌++◌, get_or, rules}
 use Rattle.mono_text.specs.Written.{number_part}
 use Rattle.mono_text.proofs.Listing.{item_written, all_written}
 use Rattle.mono_text.proofs.printer.numbers.Goals as goal

@@ -1,4 +1,4 @@
-use Rattle.std.proofs.Common.{length, arith, refl, ◌∙◌, slice_index}
+use Rattle.std.proofs.Common.{arith, refl, ◌∙◌}
 use Rattle.std.proofs.lemmas.Bool.{ne_eqb}
 use Rattle.mono_text.proofs.Words.{word_short, word_goes_on, word_ends, word_through}
 use Rattle.mono_text.proofs.reader.begins_with.Goals as goal

@@ -1,5 +1,5 @@
 use Rattle.std.proofs.Common.{arith}
-use Rattle.std.proofs.Common.{length-drop, ◌≤◌, ◌+◌, ◌∙◌, length, drop, ap}
+use Rattle.std.proofs.Common.{length-drop, ◌≤◌, ◌∙◌, length, drop}
 use Rattle.mono_text.proofs.Outside.{write_on}
 use Rattle.mono_text.proofs.sink.write_all.Goals as goal
 

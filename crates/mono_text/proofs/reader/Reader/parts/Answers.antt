@@ -1,5 +1,5 @@
-use Rattle.std.proofs.Common.{rules, ◌≡◌, ◌-◌, ◌<◌, Some, None, length, codes, ◌∙◌, arith, sym}
-use Rattle.mono_text.specs.Reading.{word_at, end_at, step_at}
+use Rattle.std.proofs.Common.{rules, ◌≡◌, Some, None, codes, ◌∙◌, arith, sym}
+use Rattle.mono_text.specs.Reading.{word_at, step_at}
 use Rattle.mono_text.proofs.Parts.{parts-none_left, parts-no_break, parts-end, parts-bad_end, parts-no_step, parts-next}
 use Rattle.mono_text.proofs.reader.Reader.parts.Goals as goal
 

@@ -1,0 +1,5 @@
+use Rattle.mono_machine.proofs.Causes.{turn_uses_its_cause_up}
+use Rattle.mono_machine.proofs.laws.turn_uses_its_cause_up.Goals as goal
+
+pub returns : goal.returns
+returns c = turn_uses_its_cause_up
