@@ -5,14 +5,14 @@ use Rattle.std.proofs.lemmas.List.{map-set, length-map}
 use Rattle.mono_wheel.specs.Start.{start, takes_from, top_level, pending_list, taken_list}
 use Rattle.mono_wheel.specs.Lists.{Lists, IsIn, with_list, list_at}
 use Rattle.mono_wheel.specs.Rings.{Distinct}
-use Rattle.mono_wheel.specs.Model.{Timed, Wheel, Fits, moved, timed_after}
-use Rattle.mono_wheel.specs.Credit.{takes, credit_of, CreditFollows}
+use Rattle.mono_wheel.specs.Model.{Timed, Wheel, Fits, AllFit, Extended, timed_at, moved, timed_after}
+use Rattle.mono_wheel.specs.Credit.{takes, credit_of, credit, most_takes, reset_raise, CreditFollows}
 use Rattle.mono_wheel.specs.Held.{place_of, timed_of, timed_in, StandsIn, Held, IsNextSlot, Settled}
 use Rattle.mono_wheel.specs.declared.entry.Entry.{Entry}
 use Rattle.mono_wheel.proofs.Keys.{timed-here}
 use Rattle.mono_wheel.proofs.Due.{due-stands, due-below, stands-pending}
 use Rattle.mono_wheel.proofs.Standing.{false-true}
-use Rattle.mono_wheel.proofs.Starts.{start-le, start-same, takes-once, eqb-no, ltb_tells}
+use Rattle.mono_wheel.proofs.Starts.{start-le, start-same, takes-once, takes-bound, takes-later, eqb-no, ltb_tells}
 use Rattle.mono_wheel.proofs.Advancing.{no-slots, moved-stays, moved-anew, ticks-after, in-slot, not-slot, slot-in, in-place, begin-above}
 
 -- one key has other ticks
@@ -183,3 +183,65 @@ credit-entry elapsed entries nodes nodes2 lines lines2 v key x seen low =
     let here = ap (takes elapsed) (timed-here entries key x low) in
     let wrote = ap (credit_of elapsed) (map-set timed_of entries key x) in
     subst (λ u. CreditFollows u (record { elapsed = elapsed; entries = map timed_of (set entries key x); reserved = nodes2; lines = lines2 }) key) seen (omega (arith, r, here, wrote))
+
+-- ---- what a call adds to the credit
+credit-none : (e : ℕ) (os : List (Option Timed)) → ((k : ℕ) → get_or os k None ≡ None) → credit_of e os ≡ 0
+credit-none e [] h = refl
+credit-none e (o ∷ os) h = let f : takes e o ≡ 0 = ap (takes e) (h 0) in let r = credit-none e os (λ k. h (suc k)) in omega (arith, f, r)
+
+pub credit-same : (e : ℕ) (os ps : List (Option Timed)) → ((k : ℕ) → get_or os k None ≡ get_or ps k None) → credit_of e os ≡ credit_of e ps
+credit-same e [] ps h = sym (credit-none e ps (λ k. sym (h k)))
+credit-same e (o ∷ os) [] h = credit-none e (o ∷ os) h
+credit-same e (o ∷ os) (p ∷ ps) h = let f : takes e o ≡ takes e p = ap (takes e) (h 0) in let r = credit-same e os ps (λ k. h (suc k)) in omega (arith, f, r)
+
+-- a key at its registered tick, and one whose tick was moved
+pub takes-new : (e tick : ℕ) → e < tick → takes e (Some record { tick = tick; registered = tick }) ≤ most_takes (tick - e)
+takes-new e tick ahead = let f = takes-ahead e record { tick = tick; registered = tick } ahead in let l = takes-bound top_level (tick - e) e tick ahead in omega (arith, f, l)
+
+takes-reset : (e registered tick later : ℕ) → e < registered → registered ≤ tick → tick ≤ later → takes e (Some record { tick = later; registered = registered }) ≤ takes e (Some record { tick = tick; registered = registered }) + most_takes (later - e)
+takes-reset e registered tick later a b l =
+    let f = takes-ahead e record { tick = later; registered = registered } (omega (arith, a, b, l)) in
+    let g = takes-ahead e record { tick = tick; registered = registered } (omega (arith, a, b)) in
+    let m = takes-later e registered tick later a b l in
+    omega (arith, f, g, m)
+
+pub raise-inserted : (old : Wheel) (after key tick : ℕ) (o : Option Timed) → after + takes old.elapsed (timed_at old key) ≡ credit old + takes old.elapsed o → o ≡ Some record { tick = tick; registered = tick } → old.elapsed < tick →
+    after ≤ credit old + most_takes (tick - old.elapsed)
+raise-inserted old after key tick o c is ahead =
+    let f : takes old.elapsed o ≡ takes old.elapsed (Some record { tick = tick; registered = tick }) = ap (takes old.elapsed) is in
+    let l = takes-new old.elapsed tick ahead in
+    omega (arith, c, f, l)
+
+pub raise-removed : (old : Wheel) (after key : ℕ) (o : Option Timed) → after + takes old.elapsed (timed_at old key) ≡ credit old + takes old.elapsed o → o ≡ None → after ≤ credit old
+raise-removed old after key o c is = let f : takes old.elapsed o ≡ 0 = ap (takes old.elapsed) is in omega (arith, c, f)
+
+pub raise-reset : (old new : Wheel) (key tick : ℕ) (answer : Bool) → AllFit old → Extended old new key tick answer → CreditFollows old new key → credit new ≤ credit old + reset_raise old.elapsed (timed_at old key) tick
+raise-reset old new key tick false fits (same, refused) c = let e : credit new ≡ credit old = ap credit same in omega (arith, e)
+raise-reset old new key tick true fits (timed, is, ahead, later, changed) c = by (subst (Fits old.elapsed) is (fits key))
+  where
+    before : takes old.elapsed (timed_at old key) ≡ takes old.elapsed (Some timed)
+    before = ap (takes old.elapsed) is
+
+    after : takes old.elapsed (timed_at new key) ≡ takes old.elapsed (Some record { tick = tick; registered = timed.registered })
+    after = ap (takes old.elapsed) changed.here
+
+    by : Fits old.elapsed (Some timed) → credit new ≤ credit old + reset_raise old.elapsed (timed_at old key) tick
+    by (inl now) = absurd (ahead now.1)
+    by (inr fit) = subst (λ o. credit new ≤ credit old + reset_raise old.elapsed o tick) (sym is) (elim (eqb_tells timed.tick tick) [
+      | inl e ↦
+          let s : takes old.elapsed (Some timed) ≡ takes old.elapsed (Some record { tick = tick; registered = timed.registered }) = ap (λ t. takes old.elapsed (Some record { tick = t; registered = timed.registered })) e.1 in
+          rw e.0 (omega (arith, c, before, after, s))
+      | inr e ↦ let m = takes-reset old.elapsed timed.registered timed.tick tick fit.0 fit.1 later in rw e.0 (omega (arith, c, before, after, m))
+    ])
+
+-- a key that stands alone in a slot that starts at its tick is taken once
+pub takes-at-once : (tick : ℕ) → 0 < tick → start top_level 0 tick ≡ tick → takes 0 (Some record { tick = tick; registered = tick }) ≡ 1
+takes-at-once tick ahead starts =
+    takes-ahead 0 record { tick = tick; registered = tick } ahead ∙ takes-once top_level 0 tick tick ahead (omega arith)
+    ∙ elim (ltb_tells (start top_level 0 tick) tick) [
+      | inl h ↦ absurd (let l = h.1 in omega (arith, l, starts))
+      | inr h ↦ rw h.0 refl
+    ]
+
+pub credit-empty : (wheel : Wheel) → ((k : ℕ) → timed_at wheel k ≡ None) → credit wheel ≡ 0
+credit-empty wheel none = credit-none wheel.elapsed wheel.entries none

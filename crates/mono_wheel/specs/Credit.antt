@@ -20,6 +20,11 @@ credit_of elapsed (entry ∷ rest) = takes elapsed entry + credit_of elapsed res
 abbrev pub credit : Wheel → ℕ
 credit wheel = credit_of wheel.elapsed wheel.entries
 
+-- by how much a reset of a key that has these ticks may raise the credit: not at all where the tick is equal
+abbrev pub reset_raise : ℕ → Option Timed → ℕ → ℕ
+reset_raise elapsed None tick = 0
+reset_raise elapsed (Some timed) tick = if timed.tick == tick then 0 else most_takes (tick - elapsed)
+
 -- the credit changed by that of this key alone
 abbrev pub CreditFollows : Wheel → Wheel → ℕ → Type 0
 CreditFollows old new key = credit new + takes old.elapsed (timed_at old key) ≡ credit old + takes old.elapsed (timed_at new key)

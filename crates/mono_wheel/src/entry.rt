@@ -1,5 +1,5 @@
 //! What a wheel knows of each key.
-ghost use Rattle.std.specs.Prelude.{◌≡◌, ℕ, ◌<◌, ◌≤◌, length, OnOk};
+ghost use Rattle.std.specs.Prelude.{◌≡◌, ℕ, ◌<◌, ◌≤◌, length, is_some, OnOk};
 ghost use Rattle.mono_wheel.specs.Held.{timed_in};
 
 use std::alloc::AllocError;
@@ -11,6 +11,16 @@ pub struct Entry {
     // The tick that gives the slot.
     pub registered: u64,
     pub is_in: bool,
+}
+
+/// Whether a key is in.
+pub fn is_in(entries: &Vec<Entry>, key: usize) -> bool
+    ensures { result ≡ is_some (timed_in entries.now.items key) }
+{
+    if key >= entries.len() {
+        return false;
+    }
+    entries[key].is_in
 }
 
 /// Makes an entry for a key, which is not in where it is new.

@@ -82,6 +82,13 @@ impl SlotLinks {
         None
     }
 
+    /// Whether this is a known node.
+    pub fn is_node(&self, node: usize) -> bool
+        ensures { result ≡ is_node self.now node }
+    {
+        self.links.is_node(node)
+    }
+
     /// Puts a node that is in no list before the first.
     pub fn push_front(&mut self, list: usize, node: usize)
         requires list { list < list_count }

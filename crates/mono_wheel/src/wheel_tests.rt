@@ -1,6 +1,7 @@
 //! The calls of a wheel, call by call.
 ghost use Rattle.std.specs.Prelude.{◌≡◌, ◌<◌, ◌^◌};
 
+use crate::laws::{WheelCall, far_key, run_calls};
 use crate::{InsertError, Steps, Wheel};
 use std::alloc::{AllocError, Global};
 use std::marker::Brand;
@@ -84,6 +85,28 @@ fn far_keys<L: Ledger>(alloc: Global, steps: &mut Steps<L>) -> Result<bool, Allo
     )
 }
 
+// A key that comes out far ahead in one step, and calls in turn up to one whose condition does not hold.
+fn in_turn<L: Ledger>(alloc: Global, steps: &mut Steps<L>) -> Result<bool, AllocError> {
+    let mut wheel = Wheel::new(alloc)?;
+    let key = far_key(alloc, &mut wheel, steps)?;
+    let now = wheel.elapsed();
+    let mut calls = Vec::new(alloc);
+    calls.push(WheelCall::Insert(key, 6 << 36))?;
+    calls.push(WheelCall::Extend(key, 7 << 36))?;
+    calls.push(WheelCall::Poll(6 << 36))?;
+    let all = run_calls(&mut wheel, &calls, steps);
+    let then = wheel.elapsed();
+    calls.push(WheelCall::Remove(key))?;
+    let none = run_calls(&mut wheel, &calls, steps);
+    Ok(
+        now == 5 << 36
+            && all
+            && then == 6 << 36
+            && !none
+            && wheel.next_expiration_time() == Some(7 << 36),
+    )
+}
+
 fn wheel_calls<L: Ledger>(alloc: Global, blank: Blank) -> Result<bool, AllocError>
     requires { (blank.name ≡ L.name) × (blank.parts ≡ L.parts) × (0 < L.parts) }
 {
@@ -91,7 +114,8 @@ fn wheel_calls<L: Ledger>(alloc: Global, blank: Blank) -> Result<bool, AllocErro
     Ok(
         next_ticks(alloc, &mut steps)?
             && one_key(alloc, &mut steps)?
-            && far_keys(alloc, &mut steps)?,
+            && far_keys(alloc, &mut steps)?
+            && in_turn(alloc, &mut steps)?,
     )
 }
 
