@@ -1,5 +1,6 @@
 pub mod Forgotten
-pub mod Lists
+pub mod Counting
+pub mod Counted
 pub mod Stays
 pub mod Wakes
 pub mod Places

@@ -1,85 +1,95 @@
 -- A wake, on the places of the table.
-use Rattle.std.proofs.Common.{◌≡◌, ◌<◌, ◌+◌, ℕ, true, false, List, [], ◌∷◌, ◌++◌, map, length, set, Some, Option, refl, ap, sym, subst, ◌∙◌, inl, inr, arith}
-use Rattle.std.specs.Prelude.{slice_set}
-use Rattle.std.proofs.lemmas.List.{map-set, length-append}
-use Rattle.mono_model.specs.Table.{count_of}
+use Rattle.std.proofs.Common.{◌≡◌, ◌<◌, ℕ, List, [], ◌∷◌, ◌++◌, map, length, set, Option, refl, ap, sym, ◌∙◌}
+use Rattle.std.specs.Prelude.{slice_set, is_some}
+use Rattle.std.proofs.lemmas.List.{map-set}
 use Rattle.mono_model.specs.Tasks as model
-use Rattle.mono_model.specs.Valid.{times, once_if}
-use Rattle.mono_model.proofs.Counts.{times-push, one_time, no_time}
-use Rattle.mono_wheel.specs.Lists.{Lists, list_at, is_node, with_list, IsIn, IsLoose}
 use Rattle.mono_task.specs.declared.entries.Entry.{Entry}
 use Rattle.mono_task.specs.declared.entries.Entry.TheVariants.{Gone, Taken, Done, Idle, Queued, Running, Noted}
 use Rattle.mono_task.specs.declared.entries.Waking.TheVariants as waking
-use Rattle.mono_task.specs.Entries.{task_of, node_of, woken_entry, waking_of, seated, is_queued, is_running}
-use Rattle.mono_task.specs.Standing.{entry_at, owner_of, numbers_of, tasks_of, Stands}
-use Rattle.mono_task.proofs.Lists.{in-pushed, map-pushed, only_list, still_one, loose}
-use Rattle.mono_task.proofs.Stays.{value_at-entries, same_tasks, same_count, not_queued, owned, stays, stays_alone}
+use Rattle.mono_task.specs.Entries.{task_of, woken_entry, waking_of, is_queued, is_running, is_unfinished}
+use Rattle.mono_task.specs.Standing.{entry_at, tasks_of, Keeps}
+use Rattle.mono_task.proofs.Counted.{value_at-entries, set_same}
+use Rattle.mono_task.proofs.Stays.{same_tasks, stays_alone, stays_queued, keeps_counts, room_for}
 
-module _ {O : Type 0} (links : Lists) (owners : List ℕ) (entries : List (Entry O)) (turn : Option ℕ) (t : ℕ) (stands : Stands links owners entries turn) where
-  -- the node of an idle task may go into the queue
-  pub idle_loose : (e : Entry O) (node : ℕ) → entry_at entries t ≡ e → waking.Queues node ≡ waking_of e → IsLoose links node
-  idle_loose (Idle seat) node at is =
-      let same : node ≡ seat.node = cc in
-      let its = owned links owners entries turn t seat.node stands (ap node_of at) in
-      rw same (loose links seat.node stands.one_list its.0 (not_queued links owners entries turn t seat.node stands its.2 (ap is_queued at)))
-  idle_loose Gone node at is = cc
-  idle_loose Taken node at is = cc
-  idle_loose (Done output) node at is = cc
-  idle_loose (Queued seat) node at is = cc
-  idle_loose (Running seat) node at is = cc
-  idle_loose (Noted seat) node at is = cc
+woken_stays : {O : Type 0} (e : Entry O) → waking.Nothing ≡ waking_of e → woken_entry e ≡ e
+woken_stays Gone nothing = refl
+woken_stays Taken nothing = refl
+woken_stays (Done output) nothing = refl
+woken_stays (Queued h) nothing = refl
+woken_stays (Idle h) nothing = cc
+woken_stays (Running h) nothing = cc
+woken_stays (Noted h) nothing = cc
 
-  module _ (limit : ℕ) (after : Lists) (inside : t < length entries) where
-    -- an idle task, whose node goes to the queue's back
-    pub idle_queues : (e new : Entry O) (node : ℕ) → entry_at entries t ≡ e → new ≡ woken_entry e → waking.Queues node ≡ waking_of e → after ≡ with_list links 0 (list_at links 0 ++ node ∷ [])
-        → Stands after owners (slice_set entries t new) turn × (length (list_at after 0) ≡ length (list_at links 0) + 1)
-        × (count_of (map task_of (slice_set entries t new)) ≡ count_of (map task_of entries))
-        × (tasks_of after owners (slice_set entries t new) limit ≡ model.woken (tasks_of links owners entries limit) t)
-    idle_queues (Idle seat) new node at is queues then_after =
-        let same : node ≡ seat.node = cc in
-        let its = owned links owners entries turn t seat.node stands (ap node_of at) in
-        let list : list_at after 0 ≡ list_at links 0 ++ seat.node ∷ [] = ap (λ l. list_at l 0) then_after ∙ only_list links.lists (list_at links 0 ++ node ∷ []) stands.one_list ∙ ap (λ n. list_at links 0 ++ n ∷ []) same in
-        let numbers : numbers_of after owners ≡ numbers_of links owners ++ t ∷ [] =
-        ap (map (owner_of owners)) list ∙ map-pushed (owner_of owners) (list_at links 0) seat.node ∙ ap (λ x. numbers_of links owners ++ x ∷ []) its.2 in
-        let none : times (numbers_of links owners) t ≡ 0 = stands.queued t ∙ ap (λ e. once_if (is_queued e)) at in (
-          stays links after owners entries turn turn t new stands
-              (ap (λ l. length l.lists) then_after ∙ still_one links.lists _ stands.one_list)
-              (λ n. ap (λ l. is_node l n) then_after)
-              (λ n in_it. elim (in-pushed (list_at links 0) n seat.node (subst (λ l. IsIn n l) list in_it)) [ inl before ↦ inl before | inr last ↦ inr (ap node_of at ∙ ap Some (sym last)) ])
-              inside (ap node_of is ∙ sym (ap node_of at))
-              (λ q apart. ap (λ l. times l q) numbers ∙ times-push (numbers_of links owners) t q ∙ omega (arith, no_time t q (λ e. apart (sym e))))
-              (ap (λ l. times l t) numbers ∙ times-push (numbers_of links owners) t t ∙ omega (arith, none, one_time t, ap (λ e. once_if (is_queued e)) is))
-              (λ q apart. refl) (ap is_running is ∙ sym (ap is_running at) ∙ stands.runs t),
-          ap length list ∙ length-append (list_at links 0) (seat.node ∷ []),
-          same_count entries t new (seated model.idle seat) (seated model.queued seat) (ap task_of at) (ap task_of is),
-          same_tasks _ _ _ _ limit numbers (map-set task_of entries t new ∙ ap (λ e. set (map task_of entries) t (task_of e)) is)
-              ∙ sym (ap (λ v. model.woken_value v (tasks_of links owners entries limit) t) (value_at-entries entries t ∙ ap task_of at)),
+woken_alone : {O : Type 0} (e : Entry O) → waking.Nothing ≡ waking_of e → (tasks : model.Tasks O) (t : ℕ) → model.woken_value (task_of e) tasks t ≡ tasks
+woken_alone Gone nothing tasks t = refl
+woken_alone Taken nothing tasks t = refl
+woken_alone (Done output) nothing tasks t = refl
+woken_alone (Queued h) nothing tasks t = refl
+woken_alone (Idle h) nothing tasks t = cc
+woken_alone (Running h) nothing tasks t = cc
+woken_alone (Noted h) nothing tasks t = cc
+
+module _ {O : Type 0} (queue : List ℕ) (room : ℕ) (entries : List (Entry O)) (unfinished live : ℕ) (turn : Option ℕ) (t : ℕ) (keeps : Keeps queue room entries unfinished live turn) where
+  -- an idle task has room in the queue
+  pub idle_room : (e : Entry O) → entry_at entries t ≡ e → waking.Queues ≡ waking_of e → length queue < room
+  idle_room (Idle h) at is = room_for queue room entries unfinished live turn t keeps (ap is_queued at) (ap is_unfinished at)
+  idle_room Gone at is = cc
+  idle_room Taken at is = cc
+  idle_room (Done output) at is = cc
+  idle_room (Queued h) at is = cc
+  idle_room (Running h) at is = cc
+  idle_room (Noted h) at is = cc
+
+  module _ (limit : ℕ) (inside : t < length entries) where
+    -- an idle task goes to the queue's back
+    pub idle_queues : (e new : Entry O) → entry_at entries t ≡ e → new ≡ woken_entry e → waking.Queues ≡ waking_of e
+        → Keeps (queue ++ t ∷ []) room (slice_set entries t new) unfinished live turn
+        × (tasks_of (queue ++ t ∷ []) (slice_set entries t new) limit ≡ model.woken (tasks_of queue entries limit) t)
+    idle_queues (Idle h) new at is queues =
+        let runs = ap is_running is ∙ sym (ap is_running at) ∙ keeps.stands.runs t in
+        let stands = stays_queued queue entries turn turn t new keeps.stands inside (λ q apart. refl) runs (ap is_queued at) (ap is_queued is) in (
+          keeps_counts queue entries turn turn t new keeps.stands inside (λ q apart. refl) runs (queue ++ t ∷ []) room unfinished live keeps stands
+              (ap is_unfinished is ∙ sym (ap is_unfinished at)) (ap (λ x. is_some (task_of x)) is ∙ sym (ap (λ x. is_some (task_of x)) at)),
+          same_tasks _ _ _ _ limit refl (map-set task_of entries t new ∙ ap (λ x. set (map task_of entries) t (task_of x)) is)
+              ∙ sym (ap (λ v. model.woken_value v (tasks_of queue entries limit) t) (value_at-entries entries t ∙ ap task_of at)),
         )
-    idle_queues Gone new node at is queues then_after = cc
-    idle_queues Taken new node at is queues then_after = cc
-    idle_queues (Done output) new node at is queues then_after = cc
-    idle_queues (Queued seat) new node at is queues then_after = cc
-    idle_queues (Running seat) new node at is queues then_after = cc
-    idle_queues (Noted seat) new node at is queues then_after = cc
+    idle_queues Gone new at is queues = cc
+    idle_queues Taken new at is queues = cc
+    idle_queues (Done output) new at is queues = cc
+    idle_queues (Queued h) new at is queues = cc
+    idle_queues (Running h) new at is queues = cc
+    idle_queues (Noted h) new at is queues = cc
 
-    -- a running task, which is noted
+    -- a running task is noted
     pub running_notes : (e new : Entry O) → entry_at entries t ≡ e → new ≡ woken_entry e → waking.Notes ≡ waking_of e
-        → Stands links owners (slice_set entries t new) turn × (count_of (map task_of (slice_set entries t new)) ≡ count_of (map task_of entries))
-        × (tasks_of links owners (slice_set entries t new) limit ≡ model.woken (tasks_of links owners entries limit) t)
-    running_notes (Running seat) new at is notes = (
-      stays_alone links owners entries turn t new stands inside (ap node_of is ∙ sym (ap node_of at)) (ap is_queued is ∙ sym (ap is_queued at)) (ap is_running is ∙ sym (ap is_running at)),
-      same_count entries t new (seated (model.running false) seat) (seated (model.running true) seat) (ap task_of at) (ap task_of is),
-      same_tasks _ _ _ _ limit refl (map-set task_of entries t new ∙ ap (λ e. set (map task_of entries) t (task_of e)) is)
-          ∙ sym (ap (λ v. model.woken_value v (tasks_of links owners entries limit) t) (value_at-entries entries t ∙ ap task_of at)),
-    )
-    running_notes (Noted seat) new at is notes = (
-      stays_alone links owners entries turn t new stands inside (ap node_of is ∙ sym (ap node_of at)) (ap is_queued is ∙ sym (ap is_queued at)) (ap is_running is ∙ sym (ap is_running at)),
-      same_count entries t new (seated (model.running true) seat) (seated (model.running true) seat) (ap task_of at) (ap task_of is),
-      same_tasks _ _ _ _ limit refl (map-set task_of entries t new ∙ ap (λ e. set (map task_of entries) t (task_of e)) is)
-          ∙ sym (ap (λ v. model.woken_value v (tasks_of links owners entries limit) t) (value_at-entries entries t ∙ ap task_of at)),
-    )
+        → Keeps queue room (slice_set entries t new) unfinished live turn
+        × (tasks_of queue (slice_set entries t new) limit ≡ model.woken (tasks_of queue entries limit) t)
+    running_notes (Running h) new at is notes =
+        let runs = ap is_running is ∙ sym (ap is_running at) ∙ keeps.stands.runs t in
+        let stands = stays_alone queue entries turn turn t new keeps.stands inside (λ q apart. refl) runs (ap is_queued is ∙ sym (ap is_queued at)) in (
+          keeps_counts queue entries turn turn t new keeps.stands inside (λ q apart. refl) runs queue room unfinished live keeps stands
+              (ap is_unfinished is ∙ sym (ap is_unfinished at)) (ap (λ x. is_some (task_of x)) is ∙ sym (ap (λ x. is_some (task_of x)) at)),
+          same_tasks _ _ _ _ limit refl (map-set task_of entries t new ∙ ap (λ x. set (map task_of entries) t (task_of x)) is)
+              ∙ sym (ap (λ v. model.woken_value v (tasks_of queue entries limit) t) (value_at-entries entries t ∙ ap task_of at)),
+        )
+    running_notes (Noted h) new at is notes =
+        let runs = ap is_running is ∙ sym (ap is_running at) ∙ keeps.stands.runs t in
+        let stands = stays_alone queue entries turn turn t new keeps.stands inside (λ q apart. refl) runs (ap is_queued is ∙ sym (ap is_queued at)) in (
+          keeps_counts queue entries turn turn t new keeps.stands inside (λ q apart. refl) runs queue room unfinished live keeps stands
+              (ap is_unfinished is ∙ sym (ap is_unfinished at)) (ap (λ x. is_some (task_of x)) is ∙ sym (ap (λ x. is_some (task_of x)) at)),
+          same_tasks _ _ _ _ limit refl (map-set task_of entries t new ∙ ap (λ x. set (map task_of entries) t (task_of x)) is)
+              ∙ sym (ap (λ v. model.woken_value v (tasks_of queue entries limit) t) (value_at-entries entries t ∙ ap task_of at)),
+        )
     running_notes Gone new at is notes = cc
     running_notes Taken new at is notes = cc
     running_notes (Done output) new at is notes = cc
-    running_notes (Idle seat) new at is notes = cc
-    running_notes (Queued seat) new at is notes = cc
+    running_notes (Idle h) new at is notes = cc
+    running_notes (Queued h) new at is notes = cc
+
+    -- any other stays as it is
+    pub nothing_stays : (e new : Entry O) → entry_at entries t ≡ e → new ≡ woken_entry e → waking.Nothing ≡ waking_of e
+        → Keeps queue room (slice_set entries t new) unfinished live turn
+        × (tasks_of queue (slice_set entries t new) limit ≡ model.woken (tasks_of queue entries limit) t)
+    nothing_stays e new at is nothing =
+        let same : slice_set entries t new ≡ entries = set_same entries t new Gone inside (at ∙ sym (is ∙ woken_stays e nothing)) in
+        rw same (keeps, sym (ap (λ v. model.woken_value v (tasks_of queue entries limit) t) (value_at-entries entries t ∙ ap task_of at) ∙ woken_alone e nothing (tasks_of queue entries limit) t))

@@ -2,8 +2,9 @@
 ghost use Rattle.std.specs.Prelude.{◌≡◌, true, Ok};
 ghost use Rattle.mono_model.specs.Joins.{kept_value, join_value, drop_value, finished_value};
 ghost use Rattle.mono_task.specs.Work.{has_output};
-ghost use Rattle.mono_task.specs.Entries.{task_of, seat_of, is_over, woken_entry, waking_of, begun_entry, paused_entry, pausing_of, completed_entry, joined_entry, dropped_entry, awaited, wait_answer, let_go, let_go_answer};
+ghost use Rattle.mono_task.specs.Entries.{task_of, handle_of, is_over, is_noted, woken_entry, waking_of, begun_entry, paused_entry, completed_entry, joined_entry, dropped_entry, awaited_by, wait_answer, let_go_answer};
 ghost use Rattle.mono_task.specs.declared.entries.Entry.TheVariants.{Gone, Taken};
+ghost use Rattle.mono_task.specs.declared.entries.Handle.TheVariants.{Dropped};
 
 use mono_model::{Poll, TaskError};
 use std::mem;
@@ -16,55 +17,48 @@ pub enum Handle {
     Awaited(u64),
 }
 
-/// The node of a task that has not finished, by which it stands in the queue, and its handle.
-#[derive(Clone, Copy, Drop)]
-pub struct Seat {
-    pub node: usize,
-    pub handle: Handle,
-}
-
 /// The place of a number that was given out. A task that has finished is here only while its handle is kept.
 #[derive(Drop)]
 pub enum Entry<O> {
     Gone,
     Taken,
     Done(O),
-    Idle(Seat),
-    Queued(Seat),
-    Running(Seat),
-    Noted(Seat),
+    Idle(Handle),
+    Queued(Handle),
+    Running(Handle),
+    Noted(Handle),
 }
 
-/// What a wake of a task asks for: that its node goes into the queue, or nothing.
+/// What a wake of a task asks for: that the task goes into the queue, or nothing.
 #[derive(Clone, Copy, Drop)]
 pub enum Waking {
-    Queues(usize),
+    Queues,
     Notes,
     Nothing,
 }
 
-impl Seat {
+impl Handle {
     /// Another task waits for the output, in the place of any other, unless the handle is dropped.
     fn wait<O>(&mut self, by: u64) -> Result<Poll<O>, TaskError>
-        ensures seat { self.new ≡ awaited self.old by }
+        ensures handle { self.new ≡ awaited_by self.old by }
         ensures answer { result ≡ wait_answer self.old }
     {
-        if let Handle::Dropped = self.handle {
+        if let Handle::Dropped = *self {
             return Err(TaskError::NoHandle);
         }
-        self.handle = Handle::Awaited(by);
+        *self = Handle::Awaited(by);
         Ok(Poll::Pending)
     }
 
     /// The handle is dropped.
     fn let_go<O>(&mut self) -> Result<Option<O>, TaskError>
-        ensures seat { self.new ≡ let_go self.old }
+        ensures handle { self.new ≡ Dropped }
         ensures answer { result ≡ let_go_answer self.old }
     {
-        if let Handle::Dropped = self.handle {
+        if let Handle::Dropped = *self {
             return Err(TaskError::NoHandle);
         }
-        self.handle = Handle::Dropped;
+        *self = Handle::Dropped;
         Ok(None)
     }
 }
@@ -76,12 +70,12 @@ impl<O: Drop> Entry<O> {
         ensures waking { result ≡ waking_of self.old }
     {
         match *self {
-            Entry::Idle(seat) => {
-                *self = Entry::Queued(seat);
-                Waking::Queues(seat.node)
+            Entry::Idle(handle) => {
+                *self = Entry::Queued(handle);
+                Waking::Queues
             }
-            Entry::Running(seat) | Entry::Noted(seat) => {
-                *self = Entry::Noted(seat);
+            Entry::Running(handle) | Entry::Noted(handle) => {
+                *self = Entry::Noted(handle);
                 Waking::Notes
             }
             _ => Waking::Nothing,
@@ -92,44 +86,46 @@ impl<O: Drop> Entry<O> {
     pub fn begin(&mut self)
         ensures { self.new ≡ begun_entry self.old }
     {
-        if let Entry::Queued(seat) = *self {
-            *self = Entry::Running(seat);
+        if let Entry::Queued(handle) = *self {
+            *self = Entry::Running(handle);
         }
     }
 
-    /// The turn of the task ends pending. The node of a task that was woken meanwhile goes into the queue again.
-    pub fn pause(&mut self) -> Option<usize>
+    /// The turn of the task ends pending. True for a task that was woken meanwhile, which goes into the queue again.
+    pub fn pause(&mut self) -> bool
         ensures entry { self.new ≡ paused_entry self.old }
-        ensures node { result ≡ pausing_of self.old }
+        ensures noted { result ≡ is_noted self.old }
     {
         match *self {
-            Entry::Running(seat) => {
-                *self = Entry::Idle(seat);
-                None
+            Entry::Running(handle) => {
+                *self = Entry::Idle(handle);
+                false
             }
-            Entry::Noted(seat) => {
-                *self = Entry::Queued(seat);
-                Some(seat.node)
+            Entry::Noted(handle) => {
+                *self = Entry::Queued(handle);
+                true
             }
-            _ => None,
+            _ => false,
         }
     }
 
-    /// The task finishes with this output, which is kept for a handle that is kept. Gives the seat back.
-    pub fn complete(&mut self, output: O) -> Option<Seat>
+    /// The task finishes with this output, which is kept for a handle that is kept. Gives the handle back.
+    pub fn complete(&mut self, output: O) -> Option<Handle>
         ensures entry { self.new ≡ completed_entry self.old output }
-        ensures seat { result ≡ seat_of self.old }
+        ensures handle { result ≡ handle_of self.old }
     {
-        let seat = match *self {
-            Entry::Idle(seat) | Entry::Queued(seat) | Entry::Running(seat) | Entry::Noted(seat) =>
-                seat,
+        let handle = match *self {
+            Entry::Idle(handle)
+            | Entry::Queued(handle)
+            | Entry::Running(handle)
+            | Entry::Noted(handle) => handle,
             _ => return None,
         };
-        match seat.handle {
+        match handle {
             Handle::Dropped => *self = Entry::Gone,
             Handle::Kept | Handle::Awaited(_) => *self = Entry::Done(output),
         }
-        Some(seat)
+        Some(handle)
     }
 
     /// Whether the task has finished and its handle is kept.
@@ -166,10 +162,10 @@ impl<O: Drop> Entry<O> {
             Entry::Gone => Err(TaskError::NoHandle),
             Entry::Taken => Err(TaskError::Taken),
             Entry::Done(_) => self.take(),
-            Entry::Idle(seat) => seat.wait(by),
-            Entry::Queued(seat) => seat.wait(by),
-            Entry::Running(seat) => seat.wait(by),
-            Entry::Noted(seat) => seat.wait(by),
+            Entry::Idle(handle) => handle.wait(by),
+            Entry::Queued(handle) => handle.wait(by),
+            Entry::Running(handle) => handle.wait(by),
+            Entry::Noted(handle) => handle.wait(by),
         }
     }
 
@@ -193,10 +189,10 @@ impl<O: Drop> Entry<O> {
         match self {
             Entry::Gone => Err(TaskError::NoHandle),
             Entry::Taken | Entry::Done(_) => Ok(self.end()),
-            Entry::Idle(seat) => seat.let_go(),
-            Entry::Queued(seat) => seat.let_go(),
-            Entry::Running(seat) => seat.let_go(),
-            Entry::Noted(seat) => seat.let_go(),
+            Entry::Idle(handle) => handle.let_go(),
+            Entry::Queued(handle) => handle.let_go(),
+            Entry::Running(handle) => handle.let_go(),
+            Entry::Noted(handle) => handle.let_go(),
         }
     }
 
@@ -219,11 +215,13 @@ impl<O: Drop> Entry<O> {
         match self {
             Entry::Gone => Err(TaskError::NoHandle),
             Entry::Taken | Entry::Done(_) => Ok(true),
-            Entry::Idle(seat) | Entry::Queued(seat) | Entry::Running(seat) | Entry::Noted(seat) =>
-                match seat.handle {
-                    Handle::Dropped => Err(TaskError::NoHandle),
-                    Handle::Kept | Handle::Awaited(_) => Ok(false),
-                },
+            Entry::Idle(handle)
+            | Entry::Queued(handle)
+            | Entry::Running(handle)
+            | Entry::Noted(handle) => match handle {
+                Handle::Dropped => Err(TaskError::NoHandle),
+                Handle::Kept | Handle::Awaited(_) => Ok(false),
+            },
         }
     }
 }

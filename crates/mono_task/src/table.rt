@@ -1,23 +1,24 @@
 // The table of tasks, and the queue of those that run next.
-ghost use Rattle.std.specs.Prelude.{◌≡◌, ◌<◌, ◌≤◌, ◌↔◌, ℕ, ◌+◌, ◌≢◌, true, false, List, [], ◌∷◌, ◌++◌, length, IfOk, OnOk, OnErr, Some, None, Err, is_some, slice_index};
+ghost use Rattle.std.specs.Prelude.{◌≡◌, ◌<◌, ◌≤◌, ◌↔◌, true, length, IfOk, OnOk, OnErr, None, Err, is_some, vec_len, vec_capacity};
+ghost use Rattle.std.specs.VecDeque.{deque_len, deque_capacity};
 ghost use Rattle.mono_model.specs.Table.{value_at, next_number, is_full};
 ghost use Rattle.mono_model.specs.Tasks.{spawned, woken};
 ghost use Rattle.mono_model.specs.Joins.{wake_answer, join_answer, joined, drop_answer, join_dropped, finished_answer};
 ghost use Rattle.mono_task.specs.Schedule.{no_schedule, with_tasks, begin_answer, after_begin, end_answer, after_end};
-ghost use Rattle.mono_task.specs.Standing.{owner_of};
 ghost use Rattle.mono_task.specs.Work.{has_output};
 ghost use Rattle.mono_task.specs.Finishing.{Finishes};
 ghost use Rattle.mono_model.specs.declared.poll.Poll.TheVariants.{Ready, Pending};
 ghost use Rattle.mono_task.specs.declared.error.SpawnTask.TheVariants.{AtCapacity};
-ghost use Rattle.mono_task.specs.declared.entries.Entry.TheVariants.{Queued};
-ghost use Rattle.mono_task.specs.declared.entries.Handle.TheVariants.{Kept};
 
-use crate::entries::{Entry, Handle, Seat, Waking};
+use crate::entries::{Entry, Handle, Waking};
 use crate::error::SpawnTask;
 use mono_model::{Ended, Poll, TaskError, Woke};
-use mono_wheel::Links;
 use std::alloc::{AllocError, Global};
+use std::collections::VecDeque;
 use std::marker::Model;
+
+/// The room that is made for the first task.
+const LEAST_ROOM: usize = 4;
 
 /// The tasks of an executor, by their numbers, and the queue of those that run next.
 ///
@@ -25,14 +26,12 @@ use std::marker::Model;
 /// that is neither, only its number's place is left.
 #[derive(Drop)]
 pub struct Tasks<O> {
-    // Its one list has the nodes of the queued tasks, the front first.
-    queue: Links,
-    // At each node, the number of its task.
-    owners: Vec<u64>,
+    // The numbers of the queued tasks, the front first, with room for each task that has not finished.
+    queue: VecDeque<u64>,
     // At each number that was given out, its task.
     entries: Vec<Entry<O>>,
-    // How many tasks are queued, and how many are live.
-    queued: usize,
+    // How many tasks have not finished, and how many are live.
+    unfinished: usize,
     live: u64,
     limit: u64,
     turns: u64,
@@ -40,15 +39,16 @@ pub struct Tasks<O> {
 }
 
 impl<O> Model for Tasks<O> {
+    ghost use Rattle.std.specs.VecDeque.{deque_capacity};
     ghost use Rattle.mono_task.specs.Schedule.{Schedule};
 
     ghost Value = { Schedule O };
 
     ghost use Rattle.mono_task.specs.Standing.{tasks_of, Keeps};
 
-    ghost view = { λ a. record { tasks = tasks_of a.queue a.owners.items a.entries.items a.limit; turns = a.turns; turn = a.running } };
+    ghost view = { λ a. record { tasks = tasks_of a.queue.items a.entries.items a.limit; turns = a.turns; turn = a.running } };
 
-    ghost invariant = { λ a. Keeps a.queue a.owners.items a.entries.items a.queued a.live a.running };
+    ghost invariant = { λ a. Keeps a.queue.items (deque_capacity a.queue) a.entries.items a.unfinished a.live a.running };
 }
 
 impl<O> Tasks<O> {
@@ -56,12 +56,10 @@ impl<O> Tasks<O> {
     pub fn new(alloc: Global, limit: u64) -> Result<Tasks<O>, AllocError>
         ensures { IfOk result (λ tasks. tasks ≡ no_schedule limit) }
     {
-        let queue = Links::new(alloc, 1)?;
         Ok(Tasks {
-            queue,
-            owners: Vec::new(alloc),
+            queue: VecDeque::new(alloc),
             entries: Vec::new(alloc),
-            queued: 0,
+            unfinished: 0,
             live: 0,
             limit,
             turns: 0,
@@ -73,7 +71,7 @@ impl<O> Tasks<O> {
     pub fn queue_len(&self) -> usize
         ensures { result ≡ length self.now.tasks.queue }
     {
-        self.queued
+        self.queue.len()
     }
 
     /// How many turns have begun. It stands still at 2^64 - 1.
@@ -84,38 +82,38 @@ impl<O> Tasks<O> {
     }
 }
 
-// A place for the next number, whose task is queued and has this node.
-fn enter<O: Drop>(
-    owners: &mut Vec<u64>,
-    entries: &mut Vec<Entry<O>>,
-    node: usize,
-) -> Result<(), AllocError>
-    ensures longer { length owners.old.items ≤ length owners.new.items }
-    ensures others { (other : ℕ) → other ≢ node → owner_of owners.new.items other ≡ owner_of owners.old.items other }
-    ensures within { OnOk result (node < length owners.new.items) }
-    ensures owner { OnOk result (owner_of owners.new.items node ≡ length entries.old.items) }
-    ensures entered { OnOk result (entries.new.items ≡ entries.old.items ++ Queued (record { node = node; handle = Kept }) ∷ []) }
-    ensures refused { OnErr result (entries.new.items ≡ entries.old.items) }
+// Makes the queue's room more than so many tasks, of which the queued ones are some. What is too little at least
+// doubles, so that a task costs the same however many there are.
+fn make_room(queue: &mut VecDeque<u64>, tasks: usize) -> Result<(), AllocError>
+    requires { deque_len queue.old ≤ tasks }
+    ensures items { queue.new.items ≡ queue.old.items }
+    ensures capacity { deque_capacity queue.old ≤ deque_capacity queue.new }
+    ensures room { OnOk result (tasks < deque_capacity queue.new) }
 {
-    grow(owners, node)?;
-    owners[node] = entries.len() as u64;
-    entries.push(Entry::Queued(Seat {
-        node,
-        handle: Handle::Kept,
-    }))?;
-    Ok(())
+    if tasks < queue.capacity() {
+        return Ok(());
+    }
+    let Some(more) = (tasks - queue.len()).checked_add(tasks.max(LEAST_ROOM)) else {
+        return Err(AllocError);
+    };
+    queue.reserve(more)
 }
 
-// A place for the owner of this node.
-fn grow(owners: &mut Vec<u64>, node: usize) -> Result<(), AllocError>
-    ensures longer { length owners.old.items ≤ length owners.new.items }
-    ensures within { OnOk result (node < length owners.new.items) }
-    ensures kept { (other : ℕ) → owner_of owners.new.items other ≡ owner_of owners.old.items other }
+// Makes room in the queue for one more than so many tasks, and a place for the next number.
+fn make_places<O>(
+    queue: &mut VecDeque<u64>,
+    entries: &mut Vec<Entry<O>>,
+    tasks: usize,
+) -> Result<(), AllocError>
+    requires { deque_len queue.old ≤ tasks }
+    ensures queued { queue.new.items ≡ queue.old.items }
+    ensures capacity { deque_capacity queue.old ≤ deque_capacity queue.new }
+    ensures entered { entries.new.items ≡ entries.old.items }
+    ensures room { OnOk result (tasks < deque_capacity queue.new) }
+    ensures place { OnOk result (vec_len entries.new < vec_capacity entries.new) }
 {
-    while owners.len() <= node {
-        owners.push(0)?;
-    }
-    Ok(())
+    make_room(queue, tasks)?;
+    entries.reserve(1)
 }
 
 impl<O: Drop> Tasks<O> {
@@ -123,7 +121,7 @@ impl<O: Drop> Tasks<O> {
     ///
     /// Refused with `AtCapacity` exactly where the live tasks are at the limit or the next number is 2^64 - 1 (`full`),
     /// and else with `Memory` where there was none. A refusal leaves all as it was (`refused`).
-    pub fn spawn(&mut self, alloc: Global) -> Result<u64, SpawnTask>
+    pub fn spawn(&mut self, _alloc: Global) -> Result<u64, SpawnTask>
         ensures full { (result ≡ Err AtCapacity) ↔ (is_full self.old.tasks.table self.old.tasks.limit ≡ true) }
         ensures number { IfOk result (λ number. number ≡ next_number self.old.tasks.table) }
         ensures after { OnOk result (self.new ≡ with_tasks self.old (spawned self.old.tasks)) }
@@ -133,21 +131,15 @@ impl<O: Drop> Tasks<O> {
         if self.live >= self.limit || number == u64::MAX {
             return Err(SpawnTask::AtCapacity);
         }
-        if self.queue.reserve(alloc, 1).is_err() {
-            return Err(SpawnTask::Memory);
-        }
-        let node = self.queue.add_node();
-        match enter(&mut self.owners, &mut self.entries, node) {
+        match make_places(&mut self.queue, &mut self.entries, self.unfinished) {
             Ok(()) => {
-                self.queue.push_back(0, node);
-                self.queued += 1;
+                self.entries.push_reserved(Entry::Queued(Handle::Kept));
+                self.queue.push_back_reserved(number);
+                self.unfinished += 1;
                 self.live += 1;
                 Ok(number)
             }
-            Err(_) => {
-                self.queue.free_node(node);
-                Err(SpawnTask::Memory)
-            }
+            Err(_) => Err(SpawnTask::Memory),
         }
     }
 
@@ -165,9 +157,8 @@ impl<O: Drop> Tasks<O> {
         }
         let entry = &mut self.entries[at];
         match entry.wake() {
-            Waking::Queues(node) => {
-                self.queue.push_back(0, node);
-                self.queued += 1;
+            Waking::Queues => {
+                self.queue.push_back_reserved(task);
                 Ok(Woke::Queued)
             }
             Waking::Notes => Ok(Woke::Noted),
@@ -183,13 +174,11 @@ impl<O: Drop> Tasks<O> {
         ensures answer { result ≡ begin_answer self.old }
         ensures after { self.new ≡ after_begin self.old }
     {
-        let node = match self.queue.pop_front(0) {
+        let task = match self.queue.pop_front() {
             None => return Err(TaskError::Idle),
-            Some(node) => node,
+            Some(task) => task,
         };
-        let task = self.owners[node];
         self.entries[task as usize].begin();
-        self.queued -= 1;
         self.turns = self.turns.saturating_add(1);
         self.running = Some(task);
         Ok(task)
@@ -222,14 +211,11 @@ impl<O: Drop> Tasks<O> {
             None => unreachable!(),
         };
         self.running = None;
-        match self.entries[task as usize].pause() {
-            Some(node) => {
-                self.queue.push_back(0, node);
-                self.queued += 1;
-                Ended::Again
-            }
-            None => Ended::Idle,
+        if self.entries[task as usize].pause() {
+            self.queue.push_back_reserved(task);
+            return Ended::Again;
         }
+        Ended::Idle
     }
 
     // The turn that runs ends with an output.
@@ -248,7 +234,7 @@ impl<O: Drop> Tasks<O> {
         }
     }
 
-    // The task whose turn runs is done, or gone where its handle is dropped. Its node is given back, and so is its handle.
+    // The task whose turn runs is done, or gone where its handle is dropped. Its handle is given back.
     fn finish(&mut self, output: O) -> Handle
         requires { is_some self.old.turn ≡ true }
         ensures { Finishes self.old self.new output result }
@@ -258,12 +244,12 @@ impl<O: Drop> Tasks<O> {
             None => unreachable!(),
         };
         self.running = None;
-        let seat = match self.entries[task as usize].complete(output) {
-            Some(seat) => seat,
+        let handle = match self.entries[task as usize].complete(output) {
+            Some(handle) => handle,
             None => unreachable!(),
         };
-        self.queue.free_node(seat.node);
-        match seat.handle {
+        self.unfinished -= 1;
+        match handle {
             Handle::Dropped => {
                 self.live -= 1;
                 Handle::Dropped

@@ -1,5 +1,5 @@
 // The table of tasks call by call, and two futures over a small context.
-ghost use Rattle.std.specs.Prelude.{◌≡◌, ◌≤◌, ◌+◌, ◌==◌, true, refl};
+ghost use Rattle.std.specs.Prelude.{◌≡◌, ◌≤◌, ◌+◌, ◌==◌, true, None, refl};
 ghost use Rattle.std.proofs.Common.{◌∙◌};
 ghost use Rattle.mono_model.specs.Ticks.{max_nanos};
 ghost use Rattle.mono_model.specs.Tasks.{woken};
@@ -156,6 +156,52 @@ fn one_task(alloc: Global) -> Result<bool, SpawnTask> {
 #[test]
 fn table(rt: HostRuntime) {
     assert_eq!(rt; one_task(rt.alloc()), Ok(true));
+}
+
+// As many turns as that, each of the next number and pending; where it is asked for, each task wakes itself meanwhile.
+fn turns_in_order(tasks: &mut Tasks<u64>, count: u64, again: bool) -> bool
+    requires { tasks.old.turn ≡ None }
+    ensures { tasks.new.turn ≡ None }
+{
+    let mut in_order = true;
+    for number in 0..count {
+        let task = match tasks.begin_turn() {
+            Ok(task) => task,
+            Err(_) => return false,
+        };
+        in_order = in_order && task == number;
+        if again {
+            let _ = tasks.wake(task);
+        }
+        tasks.end_turn(Poll::Pending);
+    }
+    in_order
+}
+
+/// Three hundred tasks, which wake themselves in their turns, so that the queue goes round, and which are woken again.
+fn many_tasks(alloc: Global) -> Result<bool, SpawnTask> {
+    let mut tasks: Tasks<u64> = Tasks::new(alloc, 300).map_err(|_| SpawnTask::Memory)?;
+    for number in 0..300u64 {
+        if tasks.spawn(alloc)? != number {
+            return Ok(false);
+        }
+    }
+    let first = turns_in_order(&mut tasks, 300, true);
+    let second = turns_in_order(&mut tasks, 300, false);
+    let idle = tasks.queue_len();
+    for number in 0..300u64 {
+        if tasks.wake(number) != Ok(Woke::Queued) || tasks.wake(number) != Ok(Woke::Nothing) {
+            return Ok(false);
+        }
+    }
+    let queued = tasks.queue_len();
+    let third = turns_in_order(&mut tasks, 300, false);
+    Ok(first && second && third && idle == 0 && queued == 300)
+}
+
+#[test]
+fn many(rt: HostRuntime) {
+    assert_eq!(rt; many_tasks(rt.alloc()), Ok(true));
 }
 
 /// A future that makes calls of its own, and the handle of a task that ends, both over the small context.
