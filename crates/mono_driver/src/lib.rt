@@ -1,0 +1,21 @@
+//! Clocks, and the drivers on which a runtime waits: one that never waits, one that parks its thread, and one that marks a
+//! runtime with timers.
+#![tactic(auto)]
+
+mod clock;
+mod driver;
+mod lists;
+mod moments;
+mod steps;
+#[cfg(test)]
+mod tests;
+mod threads;
+mod timed;
+
+pub use clock::Clock;
+pub use driver::{Driver, DriverFault};
+pub use lists::ListClock;
+pub use mono_time::Instant;
+pub use steps::StepDriver;
+pub use threads::ThreadDriver;
+pub use timed::TimeDriver;

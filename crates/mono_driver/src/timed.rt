@@ -1,0 +1,67 @@
+// The mark of a runtime with timers.
+ghost use Rattle.std.specs.Prelude.{◌≡◌};
+
+use crate::clock::Clock;
+use crate::driver::{Driver, DriverFault};
+use mono_model::Host;
+use mono_time::Instant;
+use std::alloc::AllocError;
+use std::time::Duration;
+
+/// Passes all calls on to its driver, and tells what that tells. It marks a runtime with timers.
+#[derive(Drop)]
+pub struct TimeDriver<D> {
+    driver: D,
+}
+
+impl<D: Driver> TimeDriver<D> {
+    /// The same driver, with timers.
+    pub fn new(driver: D) -> TimeDriver<D>
+        ensures { result.driver ≡ driver }
+    {
+        TimeDriver { driver }
+    }
+
+    /// The driver without the mark.
+    pub fn into_inner(self) -> D
+        ensures { result ≡ self.driver }
+    {
+        self.driver
+    }
+}
+
+impl<D: Driver> Clock for TimeDriver<D> {
+    ghost readings = { λ marked. D.readings marked.driver };
+
+    ghost time = { λ marked. D.time marked.driver };
+
+    ghost faults = { λ marked. D.faults marked.driver };
+
+    ghost parks = { λ marked. D.parks marked.driver };
+
+    ghost can_fail = { λ marked. D.can_fail marked.driver };
+
+    fn now(&mut self) -> Instant {
+        self.driver.now()
+    }
+}
+
+impl<D: Driver> Driver for TimeDriver<D> {
+    type Unpark = D::Unpark;
+
+    fn submit<R: Host>(&mut self, rt: &R) -> Result<(), DriverFault> {
+        self.driver.submit(rt)
+    }
+
+    fn park<R: Host>(&mut self, rt: &R) -> Result<(), DriverFault> {
+        self.driver.park(rt)
+    }
+
+    fn park_timeout<R: Host>(&mut self, rt: &R, longest: Duration) -> Result<(), DriverFault> {
+        self.driver.park_timeout(rt, longest)
+    }
+
+    fn unpark(&self) -> Result<D::Unpark, AllocError> {
+        self.driver.unpark()
+    }
+}

@@ -1,0 +1,16 @@
+//! The blocking jobs of a runtime: the table of those whose handles are kept, who runs them, and their handles.
+#![tactic(auto)]
+
+mod ends;
+mod handles;
+mod pool;
+mod refusals;
+mod table;
+#[cfg(test)]
+mod tests;
+
+pub use ends::{Answered, End, PolledJob};
+pub use handles::JobHandle;
+pub use pool::{Blockings, OutputOf};
+pub use refusals::{PollJob, SpawnError};
+pub use table::JobTable;

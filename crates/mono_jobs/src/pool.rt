@@ -1,0 +1,151 @@
+// Who runs the blocking jobs, and the table of those jobs.
+ghost use Rattle.std.specs.Prelude.{◌≡◌, ◌≤◌, ◌⊎◌, IsNone, IfSome, Some, None};
+ghost use Rattle.mono_model.specs.Jobs.{no_jobs};
+ghost use Rattle.mono_machine.specs.JobCalls.{poll_answer, job_polled, drop_answer, job_dropped, finished_answer};
+ghost use Rattle.mono_machine.specs.declared.events.Blocking.TheVariants as blocking;
+ghost use Rattle.mono_jobs.specs.Asking.{IsEnd, after_end, polled_reply, dropped_reply, finished_reply, used, left, PollShown, DropShown, FinishShown};
+ghost use Rattle.mono_jobs.specs.Spawning.{Spawned, strategy_of, refusals_of};
+
+use crate::ends::{Answered, PolledJob};
+use crate::handles::JobHandle;
+use crate::refusals::SpawnError;
+use crate::table::JobTable;
+use mono_blocking::{
+    BlockingHandle, BlockingStrategy, BlockingTask, Job, JobWaker, JoinError, Outcome,
+    ScheduleError, ThreadPool,
+};
+use mono_model::Host;
+use std::alloc::Global;
+use std::marker::Model;
+
+/// What a job of the pool gives.
+pub type OutputOf<P: ThreadPool> = <P::Job as Job>::Output;
+
+/// Who runs the jobs, and the jobs whose handles are kept.
+#[derive(Drop)]
+pub struct Blockings<P: ThreadPool> {
+    pool: BlockingHandle<P>,
+    jobs: JobTable<P::Job>,
+}
+
+impl<P: ThreadPool> Model for Blockings<P> {
+    ghost use Rattle.mono_jobs.specs.Spawning.{Seen, strategy_of, refusals_of};
+
+    ghost Value = { Seen };
+
+    ghost view = { λ a. record { table = a.jobs; strategy = strategy_of a.pool; refusals = refusals_of P.refusals a.pool } };
+}
+
+impl<P: ThreadPool + Drop> Blockings<P> {
+    /// No job, and who runs the jobs; at most so many are kept at once.
+    pub fn new(alloc: Global, pool: BlockingHandle<P>, limit: u64) -> Blockings<P>
+        ensures jobs { result.table.jobs ≡ no_jobs limit }
+        ensures strategy { result.strategy ≡ strategy_of pool }
+        ensures refusals { result.refusals ≡ refusals_of P.refusals pool }
+    {
+        Blockings {
+            pool,
+            jobs: JobTable::new(alloc, limit),
+        }
+    }
+
+    /// Hands a job to the pool, or runs it in this call without a word where the strategy is to run it on the caller; the
+    /// output then stands in the table. `spawned` says what each answer means: AtCapacity comes before NoPool, the pool is
+    /// asked only after both, and its refusal comes only where its count of refusals rose; the job is cancelled then. In
+    /// all other refusals the same job comes back. A refusal leaves the jobs as they were.
+    pub fn spawn<R: Host>(
+        &mut self,
+        rt: &R,
+        alloc: Global,
+        job: P::Job,
+    ) -> Result<JobHandle, SpawnError<P::Job>>
+        ensures spawned { Spawned P.Job.output_number job result self.old self.new }
+        ensures strategy { self.new.strategy ≡ self.old.strategy }
+        ensures later { self.old.refusals ≤ self.new.refusals }
+    {
+        if self.jobs.is_full() {
+            return Err(SpawnError::AtCapacity(job));
+        }
+        match &mut self.pool {
+            BlockingHandle::Empty(BlockingStrategy::Panic) => Err(SpawnError::NoPool(job)),
+            BlockingHandle::Empty(BlockingStrategy::ExecuteLocal) => {
+                if self.jobs.reserve().is_err() {
+                    return Err(SpawnError::Memory(job));
+                }
+                let number = job.number();
+                Ok(JobHandle::of_job(self.jobs.keep(number, job.run())))
+            }
+            BlockingHandle::Attached(pool) => {
+                if self.jobs.reserve().is_err() {
+                    return Err(SpawnError::Memory(job));
+                }
+                let number = job.number();
+                match BlockingTask::new(alloc, job) {
+                    Err(job) => Err(SpawnError::Memory(job)),
+                    Ok((task, joiner)) => match pool.schedule_task(rt, alloc, task) {
+                        Ok(()) => Ok(JobHandle::of_job(self.jobs.start(number, joiner))),
+                        Err(ScheduleError::Memory(task)) => {
+                            let (job, _spent) = task.cancel(rt);
+                            Err(SpawnError::Memory(job))
+                        }
+                        Err(ScheduleError::Refused(task)) => {
+                            drop(task.cancel(rt));
+                            Err(SpawnError::PoolFault)
+                        }
+                    },
+                }
+            }
+        }
+    }
+
+    /// A poll of a job's handle: as `JobTable::poll`. The pool is not asked.
+    pub fn poll(&mut self, j: u64, waker: JobWaker<<P::Job as Job>::Unpark>) -> PolledJob<P::Job>
+        ensures end { IsEnd result.end self.old.table.jobs j }
+        ensures answer { polled_reply P.Job.Output.output_number result.answer ≡ poll_answer (after_end result.end self.old.table.jobs j) j }
+        ensures jobs { self.new.table.jobs ≡ job_polled (after_end result.end self.old.table.jobs j) j waker }
+        ensures shown { PollShown P.Job.Output.output_number self.old.table j waker result.answer (used result.joiner) self.new.table }
+        ensures strategy { self.new.strategy ≡ self.old.strategy }
+        ensures refusals { self.new.refusals ≡ self.old.refusals }
+    {
+        self.jobs.poll(j, waker)
+    }
+
+    /// Drops the handle of a job: as `JobTable::drop_handle`. The pool is not asked.
+    pub fn drop_handle(
+        &mut self,
+        j: u64,
+    ) -> Answered<P::Job, Option<Result<OutputOf<P>, JoinError>>>
+        ensures end { IsEnd result.end self.old.table.jobs j }
+        ensures answer { dropped_reply P.Job.Output.output_number result.answer ≡ drop_answer (after_end result.end self.old.table.jobs j) j }
+        ensures jobs { self.new.table.jobs ≡ job_dropped (after_end result.end self.old.table.jobs j) j }
+        ensures shown { DropShown P.Job.Output.output_number self.old.table j result.answer (left result.seat) }
+        ensures strategy { self.new.strategy ≡ self.old.strategy }
+        ensures refusals { self.new.refusals ≡ self.old.refusals }
+    {
+        self.jobs.drop_handle(j)
+    }
+
+    /// Whether a job has ended: as `JobTable::has_ended`. The pool is not asked.
+    pub fn has_ended(&mut self, j: u64) -> Answered<P::Job, bool>
+        ensures end { IsEnd result.end self.old.table.jobs j }
+        ensures answer { finished_reply result.answer ≡ finished_answer (after_end result.end self.old.table.jobs j) j }
+        ensures jobs { self.new.table.jobs ≡ after_end result.end self.old.table.jobs j }
+        ensures shown { FinishShown P.Job.Output.output_number self.old.table j result.answer (left result.seat) self.new.table }
+        ensures strategy { self.new.strategy ≡ self.old.strategy }
+        ensures refusals { self.new.refusals ≡ self.old.refusals }
+    {
+        self.jobs.has_ended(j)
+    }
+
+    /// The attached pool; None exactly where none is attached.
+    pub fn into_pool(self) -> Option<P>
+        ensures some { IfSome result (λ pool. (self.strategy ≡ blocking.Attached) × (self.refusals ≡ P.refusals pool)) }
+        ensures none { IsNone result → (self.strategy ≡ blocking.Panic) ⊎ (self.strategy ≡ blocking.ExecuteLocal) }
+    {
+        let Blockings { pool, jobs: _ } = self;
+        match pool {
+            BlockingHandle::Attached(pool) => Some(pool),
+            BlockingHandle::Empty(_) => None,
+        }
+    }
+}

@@ -1,0 +1,319 @@
+// Jobs whose handles are kept, with the joiners of those that run and the outputs of those that have ended.
+ghost use Rattle.std.specs.Prelude.{◌≡◌, ◌<◌, IfOk, OnOk, is_some, true, false, None, Ok, Err, Some, []};
+ghost use Rattle.mono_model.specs.Table.{value_at, next_number, is_full};
+ghost use Rattle.mono_model.specs.Jobs.{no_jobs, running, ended_ok};
+ghost use Rattle.mono_joinword.specs.Ends.{joiner_view};
+ghost use Rattle.mono_joinword.specs.Views.{fresh};
+ghost use Rattle.mono_machine.specs.JobCalls.{with_next_job, with_job, without_job, kept_job, poll_answer, job_polled, drop_answer, job_dropped, finished_answer};
+ghost use Rattle.mono_jobs.specs.JobTable.{HasPlace, job_of, joiner_of, found_of, IsSound};
+ghost use Rattle.mono_jobs.specs.Asking.{IsEnd, after_end, polled_reply, dropped_reply, finished_reply, joiner_at, used, left, PollShown, DropShown, FinishShown};
+
+use crate::ends::{Answered, End, PolledJob, how_of};
+use mono_blocking::{Job, JobJoiner, JobWaker, JoinError};
+use mono_joinword::{Cancelled, Wakes};
+use mono_machine::Refusal;
+use mono_model::Poll;
+use std::alloc::{AllocError, Global};
+use std::marker::Model;
+use std::mem;
+
+/// A job whose handle is kept: it runs, and a task may wait for it; or it has ended; or its output was taken.
+#[derive(Drop)]
+pub enum Place<J: Job> {
+    /// It runs: the number of its output, its joiner, and the task that waits for it.
+    Running(u64, JobJoiner<J>, Option<u64>),
+    /// It has ended with this output, or was canceled.
+    Ended(u64, Result<J::Output, JoinError>),
+    /// Its output was taken.
+    Taken,
+}
+
+/// The jobs by their numbers, and how many there may be.
+#[derive(Drop)]
+pub struct JobTable<J: Job> {
+    places: Vec<Option<Place<J>>>,
+    kept: u64,
+    limit: u64,
+}
+
+impl<J: Job> Model for JobTable<J> {
+    ghost use Rattle.std.specs.Prelude.{◌≡◌, vec_capacity};
+    ghost use Rattle.mono_model.specs.Table.{count_of};
+    ghost use Rattle.mono_jobs.specs.JobTable.{Seen};
+
+    ghost Value = { Seen };
+
+    ghost use Rattle.mono_jobs.specs.JobTable.{jobs_of, joiners_of, AreSound};
+
+    ghost view = { λ a. record { jobs = jobs_of a.places.items a.limit; joiners = joiners_of a.places.items; room = vec_capacity a.places } };
+
+    ghost invariant = { λ a. (a.kept ≡ count_of a.places.items) × AreSound J.Output.output_number a.places.items };
+}
+
+impl<J: Job> JobTable<J> {
+    /// No job.
+    pub fn new(alloc: Global, limit: u64) -> JobTable<J>
+        ensures { result.jobs ≡ no_jobs limit }
+    {
+        JobTable {
+            places: Vec::new(alloc),
+            kept: 0,
+            limit,
+        }
+    }
+
+    /// Whether no further job may be made.
+    pub fn is_full(&self) -> bool
+        ensures { result ≡ is_full self.now.jobs.table self.now.jobs.limit }
+    {
+        self.kept >= self.limit || self.places.len() as u64 == u64::MAX
+    }
+
+    /// Room for one more.
+    pub fn reserve(&mut self) -> Result<(), AllocError>
+        ensures place { OnOk result (HasPlace self.new) }
+        ensures jobs { self.new.jobs ≡ self.old.jobs }
+    {
+        self.places.reserve(1)
+    }
+
+    /// One more job, which runs elsewhere, with the number of its output.
+    pub fn start(&mut self, number: u64, joiner: JobJoiner<J>) -> u64
+        requires place { HasPlace self.old }
+        requires fresh { joiner_view joiner ≡ fresh number }
+        ensures number { result ≡ next_number self.old.jobs.table }
+        ensures jobs { self.new.jobs ≡ with_next_job self.old.jobs (running number None) }
+    {
+        self.add(Place::Running(number, joiner, None))
+    }
+
+    /// One more job, which has run here.
+    pub fn keep(&mut self, number: u64, output: J::Output) -> u64
+        requires place { HasPlace self.old }
+        requires same { J.Output.output_number output ≡ number }
+        ensures number { result ≡ next_number self.old.jobs.table }
+        ensures jobs { self.new.jobs ≡ with_next_job self.old.jobs (ended_ok number) }
+    {
+        self.add(Place::Ended(number, Ok(output)))
+    }
+
+    /// One more job.
+    fn add(&mut self, place: Place<J>) -> u64
+        requires place { HasPlace self.old }
+        requires sound { IsSound J.Output.output_number place }
+        ensures number { result ≡ next_number self.old.jobs.table }
+        ensures jobs { self.new.jobs ≡ with_next_job self.old.jobs (job_of place) }
+    {
+        let j = self.places.len() as u64;
+        self.places.push_reserved(Some(place));
+        self.kept += 1;
+        j
+    }
+
+    /// Takes a job whose handle is kept out of the table.
+    fn take(&mut self, j: u64) -> Result<Place<J>, Refusal>
+        ensures found { found_of result ≡ kept_job self.old.jobs j }
+        ensures jobs { self.new.jobs ≡ job_dropped self.old.jobs j }
+        ensures sound { IfOk result (IsSound J.Output.output_number) }
+        ensures joiner { IfOk result (λ place. joiner_at self.old j ≡ joiner_of place) }
+    {
+        match self.places.get(j as usize) {
+            None => Err(Refusal::NoTask),
+            Some(None) => Err(Refusal::NoHandle),
+            Some(Some(_)) => Ok(self.remove(j)),
+        }
+    }
+
+    /// Takes a job out.
+    fn remove(&mut self, j: u64) -> Place<J>
+        requires kept { is_some (value_at self.old.jobs.table j) ≡ true }
+        requires inside { j < next_number self.old.jobs.table }
+        ensures found { value_at self.old.jobs.table j ≡ Some (job_of result) }
+        ensures jobs { self.new.jobs ≡ without_job self.old.jobs j }
+        ensures sound { IsSound J.Output.output_number result }
+        ensures joiner { joiner_at self.old j ≡ joiner_of result }
+    {
+        match mem::replace(&mut self.places[j as usize], None) {
+            None => unreachable!(),
+            Some(place) => {
+                self.kept -= 1;
+                place
+            }
+        }
+    }
+
+    /// Puts a job that was taken out back to its place.
+    fn put(&mut self, j: u64, place: Place<J>)
+        requires issued { j < next_number self.old.jobs.table }
+        requires gone { value_at self.old.jobs.table j ≡ None }
+        requires sound { IsSound J.Output.output_number place }
+        ensures jobs { self.new.jobs ≡ with_job self.old.jobs j (job_of place) }
+        ensures joiner { joiner_at self.new j ≡ joiner_of place }
+    {
+        let gone = mem::replace(&mut self.places[j as usize], Some(place));
+        drop(gone);
+        self.kept += 1;
+    }
+
+    /// A poll of a job's handle with a waker, whose task waits for the job from then on where it runs. `end` is the job's
+    /// end where this call saw it; `answer` and `jobs` are the machine's after it. `shown` says which answers come from a
+    /// poll of the joiner in this call.
+    pub fn poll(&mut self, j: u64, waker: JobWaker<J::Unpark>) -> PolledJob<J>
+        ensures end { IsEnd result.end self.old.jobs j }
+        ensures answer { polled_reply J.Output.output_number result.answer ≡ poll_answer (after_end result.end self.old.jobs j) j }
+        ensures jobs { self.new.jobs ≡ job_polled (after_end result.end self.old.jobs j) j waker }
+        ensures shown { PollShown J.Output.output_number self.old j waker result.answer (used result.joiner) self.new }
+    {
+        match self.take(j) {
+            Err(refusal) => PolledJob {
+                end: None,
+                answer: Err(refusal),
+                joiner: None,
+            },
+            Ok(Place::Taken) => {
+                self.put(j, Place::Taken);
+                PolledJob {
+                    end: None,
+                    answer: Err(Refusal::Taken),
+                    joiner: None,
+                }
+            }
+            Ok(Place::Ended(_number, output)) => {
+                self.put(j, Place::Taken);
+                PolledJob {
+                    end: None,
+                    answer: Ok(Poll::Ready(output)),
+                    joiner: None,
+                }
+            }
+            Ok(Place::Running(number, joiner, waiter)) => {
+                let mut joiner = joiner;
+                let by = waker.number();
+                match joiner.poll(waker) {
+                    Poll::Pending => {
+                        self.put(j, Place::Running(number, joiner, Some(by)));
+                        PolledJob {
+                            end: None,
+                            answer: Ok(Poll::Pending),
+                            joiner: None,
+                        }
+                    }
+                    Poll::Ready(output) => {
+                        self.put(j, Place::Taken);
+                        let how = how_of(&output);
+                        PolledJob {
+                            end: Some(End { how, waiter }),
+                            answer: Ok(Poll::Ready(output)),
+                            joiner: Some(joiner),
+                        }
+                    }
+                }
+            }
+        }
+    }
+
+    /// Drops the handle of a job. `end` is the job's end where this call saw it; `answer` and `jobs` are the machine's
+    /// after it. `shown` says that no output of a job that had not ended means that the joiner's one step found it so.
+    pub fn drop_handle(&mut self, j: u64) -> Answered<J, Option<Result<J::Output, JoinError>>>
+        ensures end { IsEnd result.end self.old.jobs j }
+        ensures answer { dropped_reply J.Output.output_number result.answer ≡ drop_answer (after_end result.end self.old.jobs j) j }
+        ensures jobs { self.new.jobs ≡ job_dropped (after_end result.end self.old.jobs j) j }
+        ensures shown { DropShown J.Output.output_number self.old j result.answer (left result.seat) }
+    {
+        match self.take(j) {
+            Err(refusal) => Answered {
+                end: None,
+                answer: Err(refusal),
+                seat: None,
+            },
+            Ok(Place::Taken) => Answered {
+                end: None,
+                answer: Ok(None),
+                seat: None,
+            },
+            Ok(Place::Ended(_number, output)) => Answered {
+                end: None,
+                answer: Ok(Some(output)),
+                seat: None,
+            },
+            Ok(Place::Running(_number, joiner, waiter)) => {
+                let Cancelled { output, seat } = joiner.cancel_with_seat();
+                let seat = Some(seat);
+                match output {
+                    None => Answered {
+                        end: None,
+                        answer: Ok(None),
+                        seat,
+                    },
+                    Some(output) => {
+                        let how = how_of(&output);
+                        Answered {
+                            end: Some(End { how, waiter }),
+                            answer: Ok(Some(output)),
+                            seat,
+                        }
+                    }
+                }
+            }
+        }
+    }
+
+    /// Whether a job has ended. `end` is its end where this call saw it, and then its output is kept here; `answer` and
+    /// `jobs` are the machine's after it. `shown` says that No, and Yes for a job that had not ended, come from a load of
+    /// the joiner's in this call.
+    pub fn has_ended(&mut self, j: u64) -> Answered<J, bool>
+        ensures end { IsEnd result.end self.old.jobs j }
+        ensures answer { finished_reply result.answer ≡ finished_answer (after_end result.end self.old.jobs j) j }
+        ensures jobs { self.new.jobs ≡ after_end result.end self.old.jobs j }
+        ensures shown { FinishShown J.Output.output_number self.old j result.answer (left result.seat) self.new }
+    {
+        match self.take(j) {
+            Err(refusal) => Answered {
+                end: None,
+                answer: Err(refusal),
+                seat: None,
+            },
+            Ok(Place::Taken) => {
+                self.put(j, Place::Taken);
+                Answered {
+                    end: None,
+                    answer: Ok(true),
+                    seat: None,
+                }
+            }
+            Ok(Place::Ended(number, output)) => {
+                self.put(j, Place::Ended(number, output));
+                Answered {
+                    end: None,
+                    answer: Ok(true),
+                    seat: None,
+                }
+            }
+            Ok(Place::Running(number, joiner, waiter)) => {
+                let mut joiner = joiner;
+                if !joiner.is_finished() {
+                    self.put(j, Place::Running(number, joiner, waiter));
+                    return Answered {
+                        end: None,
+                        answer: Ok(false),
+                        seat: None,
+                    };
+                }
+                let Cancelled { output, seat } = joiner.cancel_with_seat();
+                let seat = Some(seat);
+                match output {
+                    None => unreachable!(),
+                    Some(output) => {
+                        let how = how_of(&output);
+                        self.put(j, Place::Ended(number, output));
+                        Answered {
+                            end: Some(End { how, waiter }),
+                            answer: Ok(true),
+                            seat,
+                        }
+                    }
+                }
+            }
+        }
+    }
+}
