@@ -1,0 +1,10 @@
+pub mod Filling
+pub mod Taking
+pub mod Stores
+pub mod Sleeping
+pub mod Ending
+pub mod Clocking
+pub mod Rate
+pub mod Waiting
+pub mod Validity
+pub mod Worked

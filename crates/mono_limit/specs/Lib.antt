@@ -1,0 +1,14 @@
+pub mod Buckets
+pub mod Stored
+pub mod Delays
+pub mod Schedules
+pub mod Holding
+pub mod Retries
+pub mod Memory
+pub mod Limiter
+pub mod Calls
+pub mod Answers
+pub mod Steps
+pub mod Limits
+pub mod Laws
+pub mod Worked

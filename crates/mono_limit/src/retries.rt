@@ -1,0 +1,176 @@
+// The retries that live, and when their waits end.
+ghost use Rattle.std.specs.Prelude.{◌≡◌, ◌<◌, ◌≤◌, ◌+◌, ◌*◌, ◌-◌, ◌++◌, ◌^◌, ℕ, [], List, None, Some, IfOk, OnOk, OnErr, max, vec_len, vec_capacity};
+ghost use Rattle.mono_model.specs.Table.{value_at, next_number, with_next, with_value, without, count_of, is_full};
+ghost use Rattle.mono_model.specs.Ticks.{down};
+ghost use Rattle.mono_model.specs.Due.{ListsDue};
+ghost use Rattle.mono_time.specs.Instants.{nanos_of};
+ghost use Rattle.mono_time.specs.Timers.{sleeps_of, credit_left};
+ghost use Rattle.mono_limit.specs.Schedules.{IsSound, failed_until, ended_row, EndsWaits};
+ghost use Rattle.mono_limit.specs.Holding.{Holds};
+
+use crate::schedules::Schedule;
+use mono_time::{Instant, Timers};
+use mono_wheel::Steps;
+use std::alloc::{AllocError, Global};
+use std::sync::ledger::Ledger;
+
+/// The retries by their numbers. A retry has the sleep of its number, which is armed while it waits.
+#[derive(Drop)]
+pub(crate) struct Retries {
+    pub(crate) rows: Vec<Option<Schedule>>,
+    pub(crate) timers: Timers,
+    pub(crate) live: u64,
+    pub(crate) most: u64,
+    pub ghost holds: { Holds rows.items (sleeps_of timers) live },
+}
+
+/// The retry of a number, while it lives.
+pub(crate) fn row_at(rows: &Vec<Option<Schedule>>, retry: u64) -> Option<Schedule>
+    ensures { result ≡ value_at rows.now.items retry }
+{
+    let at = retry as usize;
+    if at >= rows.len() {
+        return None;
+    }
+    rows[at]
+}
+
+/// The moment at which a tick begins.
+fn instant_of(tick: u64) -> Instant
+    requires { tick < 2 ^ 63 }
+    ensures { nanos_of result ≡ tick * 1000000 }
+{
+    match Instant::from_nanos(u128::from(tick) * 1000000) {
+        Some(instant) => instant,
+        None => unreachable!(),
+    }
+}
+
+/// The wait of a retry has ended.
+fn end_wait(rows: &mut Vec<Option<Schedule>>, retry: u64)
+    ensures { rows.new.items ≡ ended_row (value_at rows.old.items retry) rows.old.items retry }
+{
+    let at = retry as usize;
+    if at >= rows.len() {
+        return;
+    }
+    if let Some(schedule) = rows[at] {
+        rows[at] = Some(Schedule {
+            waits_for: None,
+            ..schedule
+        });
+    }
+}
+
+impl Retries {
+    ghost use Rattle.mono_limit.specs.Retries.{greatest_of};
+
+    /// No retries, of which at most so many may live at a time.
+    pub(crate) fn new(alloc: Global, most: u64) -> Result<Retries, AllocError>
+        ensures rows { IfOk result (λ retries. retries.rows.items ≡ []) }
+        ensures greatest { IfOk result (λ retries. greatest_of retries ≡ 0) }
+        ensures most { IfOk result (λ retries. retries.most ≡ most) }
+    {
+        let timers = Timers::new(alloc, u64::MAX, true)?;
+        Ok(Retries {
+            rows: Vec::new(alloc),
+            timers,
+            live: 0,
+            most,
+        })
+    }
+
+    /// The greatest tick of the clock so far.
+    pub(crate) fn greatest(&self) -> u64
+        ensures { result ≡ greatest_of self.now }
+    {
+        self.timers.greatest()
+    }
+
+    /// Whether no further retry is given out.
+    pub(crate) fn is_full(&self) -> bool
+        ensures { result ≡ is_full self.now.rows.items self.now.most }
+    {
+        self.live >= self.most
+    }
+
+    /// How many retries live.
+    pub(crate) fn live(&self) -> usize
+        ensures { result ≡ count_of self.now.rows.items }
+    {
+        self.live as usize
+    }
+
+    /// A further retry, with the next number. Without memory nothing changes.
+    pub(crate) fn add(&mut self, alloc: Global, schedule: Schedule) -> Result<u64, AllocError>
+        requires sound { IsSound schedule }
+        requires fresh { schedule.waits_for ≡ None }
+        ensures number { IfOk result (λ r. r ≡ next_number self.old.rows.items) }
+        ensures rows { OnOk result (self.new.rows.items ≡ with_next self.old.rows.items schedule) }
+        ensures refused { OnErr result (self.new.rows.items ≡ self.old.rows.items) }
+        ensures greatest { greatest_of self.new ≡ greatest_of self.old }
+        ensures most { self.new.most ≡ self.old.most }
+    {
+        self.rows.reserve(1)?;
+        match self.timers.add(alloc, instant_of(0)) {
+            Ok(retry) => {
+                self.rows.push_reserved(Some(schedule));
+                self.live += 1;
+                Ok(retry)
+            }
+            Err(_) => Err(AllocError),
+        }
+    }
+
+    /// A live retry has failed once more, and waits for a tick above the greatest.
+    pub(crate) fn wait(&mut self, retry: u64, schedule: Schedule, tick: u64)
+        requires lives { value_at self.old.rows.items retry ≡ Some schedule }
+        requires goes_on { schedule.failures + 1 < schedule.most }
+        requires later { greatest_of self.old < tick }
+        requires in_range { tick < 2 ^ 63 }
+        ensures rows { self.new.rows.items ≡ with_value self.old.rows.items retry (failed_until schedule (schedule.failures + 1) tick) }
+        ensures greatest { greatest_of self.new ≡ greatest_of self.old }
+        ensures most { self.new.most ≡ self.old.most }
+    {
+        let failures = schedule.failures + 1;
+        let waits_for = Some(tick);
+        let _ = self.timers.reset(retry, instant_of(tick));
+        self.rows[retry as usize] = Some(Schedule {
+            failures,
+            waits_for,
+            ..schedule
+        });
+    }
+
+    /// A live retry is gone.
+    pub(crate) fn remove(&mut self, retry: u64, schedule: Schedule)
+        requires lives { value_at self.old.rows.items retry ≡ Some schedule }
+        ensures rows { self.new.rows.items ≡ without self.old.rows.items retry }
+        ensures greatest { greatest_of self.new ≡ greatest_of self.old }
+        ensures most { self.new.most ≡ self.old.most }
+    {
+        let _ = &schedule;
+        let _ = self.timers.remove(retry);
+        self.rows[retry as usize] = None;
+        self.live -= 1;
+    }
+
+    /// The clock shows a moment: appends the retries whose wait ends, in ascending ticks.
+    pub(crate) fn clock<L: Ledger>(
+        &mut self,
+        now: Instant,
+        due: &mut Vec<u64>,
+        steps: &mut Steps<L>,
+    )
+        requires room { vec_len due.old + count_of self.old.rows.items ≤ vec_capacity due.old }
+        ensures due { EndsWaits self.old.rows.items (max (greatest_of self.old) (down (nanos_of now))) due.old.items due.new.items self.new.rows.items }
+        ensures greatest { greatest_of self.new ≡ max (greatest_of self.old) (down (nanos_of now)) }
+        ensures most { self.new.most ≡ self.old.most }
+        ensures steps { steps.new + credit_left self.new.timers ≡ steps.old + credit_left self.old.timers }
+    {
+        while let Some((retry, _)) = self.timers.clock(now, steps) {
+            end_wait(&mut self.rows, retry);
+            due.push_reserved(retry);
+        }
+    }
+}

@@ -1,0 +1,54 @@
+// How often a retry failed, and when its next attempt is.
+ghost use Rattle.std.specs.Prelude.{◌≡◌, ◌<◌, ◌≤◌};
+ghost use Rattle.mono_limit.specs.Delays.{delay};
+ghost use Rattle.mono_limit.specs.Schedules.{IsSound};
+ghost use Rattle.mono_limit.specs.Limiter.{next_of};
+
+use crate::{LimitError, Next};
+
+/// No retry waits for a later tick.
+const LAST_TICK: u128 = (1 << 63) - 1;
+
+/// How often a retry failed, how often it may, and the tick for which it waits. Its delays are from the base to the cap.
+#[derive(Clone, Copy)]
+pub(crate) struct Schedule {
+    pub(crate) base: u64,
+    pub(crate) cap: u64,
+    pub(crate) most: u32,
+    pub(crate) failures: u32,
+    pub(crate) waits_for: Option<u64>,
+}
+
+/// How many ticks it is from the failure k, counted from 1, to the next attempt: twice as many each time, up to the cap.
+pub(crate) fn delay(base: u64, cap: u64, k: u32) -> u64
+    requires has_base { 0 < base }
+    requires counted { 0 < k }
+    ensures { result ≡ delay base cap k }
+{
+    if k > 64 {
+        return cap;
+    }
+    let doubled = u128::from(base) << (k - 1);
+    doubled.min(u128::from(cap)) as u64
+}
+
+impl Schedule {
+    /// What follows on a failure at the greatest tick.
+    pub(crate) fn next(&self, greatest: u64) -> Result<Next, LimitError>
+        requires { IsSound self.now }
+        ensures { result ≡ next_of self.now greatest }
+    {
+        if self.waits_for.is_some() {
+            return Err(LimitError::Waiting);
+        }
+        let k = self.failures + 1;
+        if k == self.most {
+            return Ok(Next::GaveUp);
+        }
+        let tick = u128::from(greatest) + u128::from(delay(self.base, self.cap, k));
+        if tick > LAST_TICK {
+            return Err(LimitError::Invalid);
+        }
+        Ok(Next::Again(tick as u64))
+    }
+}
