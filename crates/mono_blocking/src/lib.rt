@@ -3,15 +3,11 @@
 #![tactic(auto)]
 
 mod pool;
-#[cfg(test)]
-mod pool_tests;
 mod queue;
 mod spawner;
 mod spawners;
 mod strategy;
 mod task;
-#[cfg(test)]
-mod tests;
 mod worker;
 
 pub use mono_joinword::{JoinError, Outcome};

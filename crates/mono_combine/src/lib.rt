@@ -5,8 +5,6 @@
 #![tactic(auto)]
 
 mod branch;
-#[cfg(test)]
-mod example;
 mod join_list;
 mod joins;
 mod list;
@@ -18,8 +16,6 @@ mod row;
 mod select;
 mod select_list;
 mod start;
-#[cfg(test)]
-mod tests;
 mod try_join_list;
 mod try_joins;
 mod try_list;

@@ -23,5 +23,3 @@ pub use waker::{NoUnpark, RemoteWaker, Unpark};
 
 #[cfg(test)]
 mod recorded_tests;
-#[cfg(test)]
-mod tests;

@@ -8,8 +8,6 @@ mod begun;
 mod by_hand;
 mod composed;
 pub mod laws;
-#[cfg(test)]
-mod tests;
 
 pub use begun::begin;
 pub use by_hand::Countdown;

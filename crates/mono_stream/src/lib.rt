@@ -9,8 +9,6 @@ mod iterate;
 mod mapped;
 mod of_iterator;
 mod streams;
-#[cfg(test)]
-mod tests;
 
 pub use chained::Then;
 pub use extend::StreamExt;

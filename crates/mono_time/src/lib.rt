@@ -4,8 +4,6 @@
 mod arming;
 mod constructors;
 mod context;
-#[cfg(test)]
-mod desk;
 mod entry;
 mod error;
 mod instant;
@@ -13,14 +11,8 @@ mod intervals;
 pub mod laws;
 mod missed;
 mod sleeps;
-#[cfg(test)]
-mod tests;
-#[cfg(test)]
-mod ticks_tests;
 mod timeouts;
 mod timers;
-#[cfg(test)]
-mod timers_tests;
 mod turning;
 
 pub use constructors::{interval, interval_at, sleep, sleep_until, timeout, timeout_at};

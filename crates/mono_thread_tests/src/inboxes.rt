@@ -1,0 +1,362 @@
+// Each public call on its happy path, and threads that wake and park.
+use mono_inbox::*;
+use mono_model::Host;
+use std::alloc::{AllocError, Global};
+use std::sync::Arc;
+use std::sync::atomic::{AtomicU64, Ordering};
+use std::test::Fail;
+use std::thread;
+use std::thread::JoinHandle;
+use std::time::Duration;
+
+const THREADS: u64 = 4;
+
+const TASKS: usize = 8;
+
+const ROUNDS: u64 = 500;
+
+/// All that waits in the state, in order.
+fn drained(alloc: Global, state: &mut InboxState) -> Result<Vec<u64>, AllocError> {
+    let mut tasks = Vec::new(alloc);
+    tasks.reserve(state.waiting())?;
+    state.drain(&mut tasks);
+    Ok(tasks)
+}
+
+#[test]
+fn a_state_lists_known_tasks_once(rt: HostRuntime) -> Result<(), Fail> {
+    let alloc = rt.alloc();
+    let mut state = InboxState::new(alloc, 0)?;
+    state.know(alloc, 3)?;
+    assert!(rt; state.put(3));
+    assert!(rt; !state.put(3));
+    assert!(rt; !state.put(9));
+    assert_eq!(rt; drained(alloc, &mut state)?.as_slice(), [3].as_slice());
+    state.retire(3);
+    assert!(rt; !state.put(3));
+    assert_eq!(rt; state.waiting(), 0);
+    Ok(())
+}
+
+#[test]
+fn a_retired_task_waits_until_the_drain(rt: HostRuntime) -> Result<(), Fail> {
+    let alloc = rt.alloc();
+    let mut state = InboxState::new(alloc, 2)?;
+    state.know(alloc, 7)?;
+    state.know(alloc, 1)?;
+    assert!(rt; state.put(7));
+    assert!(rt; state.put(1));
+    state.retire(7);
+    state.know(alloc, 7)?;
+    assert!(rt; !state.put(7));
+    state.retire(1);
+    assert_eq!(rt; state.waiting(), 2);
+    assert_eq!(rt; state.drain_one(), Some(7));
+    assert_eq!(rt; state.drain_one(), Some(1));
+    assert_eq!(rt; state.drain_one(), None);
+    assert!(rt; state.put(7));
+    assert!(rt; !state.put(1));
+    assert!(rt; state.know(alloc, u64::MAX).is_err());
+    assert_eq!(rt; drained(alloc, &mut state)?.as_slice(), [7].as_slice());
+    Ok(())
+}
+
+#[test]
+fn an_inbox_drains_in_order(rt: HostRuntime) -> Result<(), Fail> {
+    let alloc = rt.alloc();
+    let inbox = Inbox::new(alloc, 16, NoUnpark)?;
+    let third = inbox.waker(&rt, alloc, 3)?;
+    let fifth = inbox.waker(&rt, alloc, 5)?;
+    assert_eq!(rt; fifth.task(), 5);
+    assert!(rt; fifth.wake(&rt));
+    let third_again = third.clone()?;
+    assert!(rt; third.wake(&rt));
+    assert!(rt; !third_again.wake(&rt));
+    let mut tasks = Vec::new(alloc);
+    inbox.drain(&rt, alloc, &mut tasks)?;
+    assert_eq!(rt; tasks.as_slice(), [5, 3].as_slice());
+    inbox.retire(&rt, 3);
+    assert!(rt; !third.wake(&rt));
+    assert!(rt; fifth.wake(&rt));
+    inbox.drain(&rt, alloc, &mut tasks)?;
+    assert_eq!(rt; tasks.as_slice(), [5, 3, 5].as_slice());
+    Ok(())
+}
+
+#[test]
+fn a_registry_counts_from_sixteen(rt: HostRuntime) -> Result<(), Fail> {
+    let alloc = rt.alloc();
+    let registry = Registry::new(alloc);
+    let first = Arc::new(alloc, Inbox::new(alloc, 0, NoUnpark)?)?;
+    let second = Arc::new(alloc, Inbox::new(alloc, 0, NoUnpark)?)?;
+    let waker = first.waker(&rt, alloc, 2)?;
+    assert_eq!(rt; registry.register(&rt, alloc, first)?, 16);
+    assert_eq!(rt; registry.register(&rt, alloc, second)?, 17);
+    let found = registry.get(&rt, 16)?.ok_or("an inbox")?;
+    assert!(rt; waker.wake(&rt));
+    let mut tasks = Vec::new(alloc);
+    found.drain(&rt, alloc, &mut tasks)?;
+    assert_eq!(rt; tasks.as_slice(), [2].as_slice());
+    assert!(rt; registry.unregister(&rt, 16));
+    assert!(rt; registry.get(&rt, 16)?.is_none());
+    assert!(rt; !registry.unregister(&rt, 16));
+    let third = Arc::new(alloc, Inbox::new(alloc, 0, NoUnpark)?)?;
+    assert_eq!(rt; registry.register(&rt, alloc, third)?, 18);
+    Ok(())
+}
+
+#[test]
+fn a_token_is_taken_once(rt: HostRuntime) -> Result<(), Fail> {
+    let mut token = Token::new();
+    assert!(rt; !token.take());
+    token.set();
+    token.set();
+    assert!(rt; token.take());
+    assert!(rt; !token.take());
+    Ok(())
+}
+
+#[test]
+fn a_park_takes_the_token(rt: HostRuntime) -> Result<(), Fail> {
+    let parker = Parker::new(rt.alloc())?;
+    let handle = parker.handle()?;
+    handle.unpark(&rt);
+    parker.park(&rt);
+    handle.clone()?.unpark(&rt);
+    parker.park_timeout(&rt, Duration::from_secs(3600));
+    parker.park_timeout(&rt, Duration::from_millis(1));
+    Ok(())
+}
+
+#[test]
+fn a_park_ends_by_another_thread(rt: HostRuntime) -> Result<(), Fail> {
+    let parker = Parker::new(rt.alloc())?;
+    let early = parker.handle()?;
+    thread::spawn(&rt, move || early.unpark(&rt))
+        .ok()
+        .ok_or("a thread")?
+        .join(&rt);
+    parker.park(&rt);
+    let late = parker.handle()?;
+    let other = thread::spawn(&rt, move || {
+        thread::sleep(&rt, Duration::from_millis(30));
+        late.unpark(&rt);
+    })
+    .ok()
+    .ok_or("a thread")?;
+    parker.park(&rt);
+    other.join(&rt);
+    Ok(())
+}
+
+/// Wakes each task many times, and answers how many wakes were listed.
+fn wake_often<R: Host>(rt: &R, wakers: &Vec<RemoteWaker<UnparkHandle>>) -> u64 {
+    let mut listed = 0u64;
+    for _ in 0..ROUNDS {
+        for waker in wakers {
+            if waker.wake(rt) {
+                listed = listed.wrapping_add(1);
+            }
+        }
+    }
+    listed
+}
+
+/// Counts each task of one drain. False where one stands there twice, or was never woken.
+fn count_drained(tasks: &[u64], counts: &mut [u64; TASKS]) -> bool {
+    let mut seen = [false; TASKS];
+    for task in tasks {
+        let place = *task as usize;
+        if place >= TASKS || seen[place] {
+            return false;
+        }
+        seen[place] = true;
+        counts[place] = counts[place].wrapping_add(1);
+    }
+    true
+}
+
+/// A thread that wakes all tasks, and then tells that it has finished.
+fn start_waking<R: Host + Copy + Send + 'static>(
+    rt: R,
+    wakers: Vec<RemoteWaker<UnparkHandle>>,
+    finished: Arc<AtomicU64, Global>,
+    handle: UnparkHandle,
+) -> Option<JoinHandle<u64>> {
+    thread::spawn(&rt, move || {
+        let listed = wake_often(&rt, &wakers);
+        finished.fetch_add(1, Ordering::SeqCst);
+        handle.unpark(&rt);
+        listed
+    })
+    .ok()
+}
+
+#[test]
+fn four_threads_wake_eight_tasks(rt: HostRuntime) -> Result<(), Fail> {
+    let alloc = rt.alloc();
+    let parker = Parker::new(alloc)?;
+    let inbox = Inbox::new(alloc, 0, parker.handle()?)?;
+    let mut wakers = Vec::new(alloc);
+    for task in 0..TASKS {
+        wakers.push(inbox.waker(&rt, alloc, task as u64)?)?;
+    }
+    let finished = Arc::new(alloc, AtomicU64::new(0))?;
+    let mut threads = Vec::new(alloc);
+    for _ in 0..THREADS {
+        let thread = start_waking(
+            rt,
+            wakers.clone()?,
+            Arc::try_clone(&finished)?,
+            parker.handle()?,
+        );
+        threads.push(thread.ok_or("a thread")?)?;
+    }
+    let mut counts = [0u64; TASKS];
+    let mut tasks = Vec::new(alloc);
+    for _ in rt.forever() {
+        let is_last = finished.load(Ordering::SeqCst) == THREADS;
+        inbox.drain(&rt, alloc, &mut tasks)?;
+        assert!(rt; count_drained(tasks.as_slice(), &mut counts));
+        tasks.clear();
+        if is_last {
+            break;
+        }
+        parker.park(&rt);
+    }
+    let mut listed = 0u64;
+    for thread in threads {
+        listed = listed.wrapping_add(thread.join(&rt));
+    }
+    inbox.drain(&rt, alloc, &mut tasks)?;
+    assert!(rt; tasks.is_empty());
+    let mut drained = 0u64;
+    for count in counts {
+        assert!(rt; count > 0);
+        drained = drained.wrapping_add(count);
+    }
+    assert_eq!(rt; drained, listed);
+    Ok(())
+}
+
+/// Whether a park sees the flag that another thread sets before it unparks.
+fn parks_for_the_flag<R: Host + Copy + Send + 'static>(
+    rt: R,
+    alloc: Global,
+    parker: &Parker,
+    is_limited: bool,
+) -> Result<bool, Fail> {
+    let flag = Arc::new(alloc, AtomicU64::new(0))?;
+    let theirs = Arc::try_clone(&flag)?;
+    let handle = parker.handle()?;
+    let other = thread::spawn(&rt, move || {
+        thread::sleep(&rt, Duration::from_millis(30));
+        theirs.store(1, Ordering::SeqCst);
+        handle.unpark(&rt);
+    })
+    .ok()
+    .ok_or("a thread")?;
+    if is_limited {
+        parker.park_timeout(&rt, Duration::from_secs(3600));
+    } else {
+        parker.park(&rt);
+    }
+    let was_set = flag.load(Ordering::SeqCst) == 1;
+    other.join(&rt);
+    Ok(was_set)
+}
+
+#[test]
+fn a_park_that_returns_took_the_token(rt: HostRuntime) -> Result<(), Fail> {
+    let alloc = rt.alloc();
+    let parker = Parker::new(alloc)?;
+    parker.handle()?.unpark(&rt);
+    parker.park(&rt);
+    for is_limited in [false, true, false] {
+        assert!(rt; parks_for_the_flag(rt, alloc, &parker, is_limited)?);
+    }
+    Ok(())
+}
+
+/// Unparks the thread that drains, and waits until that has drained.
+#[derive(Drop)]
+struct UnparksAndWaits {
+    drainer: UnparkHandle,
+    drained: Arc<Parker, Global>,
+}
+
+impl Clone for UnparksAndWaits {
+    fn clone(&self) -> Result<UnparksAndWaits, AllocError> {
+        Ok(UnparksAndWaits {
+            drainer: self.drainer.clone()?,
+            drained: Arc::try_clone(&self.drained)?,
+        })
+    }
+}
+
+impl Unpark for UnparksAndWaits {
+    fn unpark<R: Host>(&self, rt: &R) {
+        self.drainer.unpark(rt);
+        self.drained.park(rt);
+    }
+}
+
+#[test]
+fn a_wake_is_listed_before_it_unparks(rt: HostRuntime) -> Result<(), Fail> {
+    let alloc = rt.alloc();
+    let parker = Parker::new(alloc)?;
+    let drained = Arc::new(alloc, Parker::new(alloc)?)?;
+    let unpark = UnparksAndWaits {
+        drainer: parker.handle()?,
+        drained: Arc::try_clone(&drained)?,
+    };
+    let inbox = Inbox::new(alloc, 0, unpark)?;
+    let waker = inbox.waker(&rt, alloc, 3)?;
+    let other = thread::spawn(&rt, move || waker.wake(&rt))
+        .ok()
+        .ok_or("a thread")?;
+    parker.park(&rt);
+    let mut tasks = Vec::new(alloc);
+    inbox.drain(&rt, alloc, &mut tasks)?;
+    drained.handle()?.unpark(&rt);
+    assert!(rt; other.join(&rt));
+    assert_eq!(rt; tasks.as_slice(), [3].as_slice());
+    Ok(())
+}
+
+/// More tasks than an inbox makes room for at once.
+const MANY: u64 = 300;
+
+#[test]
+fn a_drain_takes_all(rt: HostRuntime) -> Result<(), Fail> {
+    let alloc = rt.alloc();
+    let inbox = Inbox::new(alloc, 0, NoUnpark)?;
+    for task in 0..MANY {
+        assert!(rt; inbox.waker(&rt, alloc, task)?.wake(&rt));
+    }
+    let mut tasks = Vec::new(alloc);
+    inbox.drain(&rt, alloc, &mut tasks)?;
+    assert_eq!(rt; tasks.len() as u64, MANY);
+    Ok(())
+}
+
+#[test]
+fn a_registry_tells_numbers_apart(rt: HostRuntime) -> Result<(), Fail> {
+    let alloc = rt.alloc();
+    let registry = Registry::new(alloc);
+    let first = Arc::new(alloc, Inbox::new(alloc, 0, NoUnpark)?)?;
+    let second = Arc::new(alloc, Inbox::new(alloc, 0, NoUnpark)?)?;
+    let waker = second.waker(&rt, alloc, 2)?;
+    assert_eq!(rt; registry.register(&rt, alloc, first)?, 16);
+    assert_eq!(rt; registry.register(&rt, alloc, second)?, 17);
+    assert!(rt; waker.wake(&rt));
+    let found = registry.get(&rt, 17)?.ok_or("an inbox")?;
+    let mut tasks = Vec::new(alloc);
+    found.drain(&rt, alloc, &mut tasks)?;
+    assert_eq!(rt; tasks.as_slice(), [2].as_slice());
+    assert!(rt; registry.unregister(&rt, 17));
+    assert!(rt; registry.get(&rt, 17)?.is_none());
+    assert!(rt; registry.get(&rt, 16)?.is_some());
+    assert_eq!(rt; registry.register(&rt, alloc, found)?, 18);
+    Ok(())
+}
