@@ -1,0 +1,14 @@
+pub mod Letters
+pub mod Lateness
+pub mod Timing
+pub mod Worked
+pub mod Alarming
+pub mod Tying
+pub mod Counting
+pub mod Calling
+pub mod Timed
+pub mod Turns
+pub mod Spawning
+pub mod Listing
+pub mod Ringing
+pub mod Ending

@@ -1,0 +1,94 @@
+-- What a spawn answers and leaves.
+use Rattle.std.proofs.Common.{◌≡◌, ◌<◌, ◌≤◌, ◌^◌, ◌-◌, ℕ, ◌+◌, true, false, Bool, cond, List, [], ◌∷◌, ◌++◌, length, Some, None, Option, refl, ap, sym, subst, ◌∙◌, arith, ne_eqb}
+use Rattle.std.specs.Prelude.{◌==◌, ◌||◌, Ok, Err, IsOk}
+use Rattle.std.specs.Option.{option_map}
+use Rattle.std.proofs.lemmas.Bool.{le-leb, lt-leb}
+use Rattle.std.proofs.lemmas.List.{map-append, length-map}
+use Rattle.mono_model.specs.Table.{count_of, is_full, with_next, next_number}
+use Rattle.mono_actor.specs.Actors.{Actor, idle, with_table, if_granted, spawn_answer, spawned}
+use Rattle.mono_actor.specs.Steps.{waiting_in}
+use Rattle.mono_actor.specs.Standing.{is_queued}
+use Rattle.mono_actor.specs.Places.{actor_of, table_of}
+use Rattle.mono_actor.specs.Alarms.{Added, Stays}
+use Rattle.mono_actor.specs.Keeping.{Holds}
+use Rattle.mono_actor.specs.declared.alarms.Alarms.{Alarms}
+use Rattle.mono_actor.specs.declared.answers.ActorError.TheVariants.{AtCapacity}
+use Rattle.mono_actor.specs.declared.places.Place.{Place}
+use Rattle.mono_actor.proofs.Tying.{ties-same, ties-added}
+use Rattle.mono_actor.proofs.Counting.{live-count, counts-added}
+use Rattle.mono_actor.proofs.Timing.{spawned_stands}
+use Rattle.mono_actor.proofs.Calling.{view, stands-of, lines-of}
+
+or_false : (a b : Bool) → a ≡ false → b ≡ false → (a || b) ≡ false
+or_false a b at_a at_b = ap (λ x. x || b) at_a ∙ at_b
+
+module _ {M : Type 0} (places : List (Option (Place M))) (alarms : Alarms) (queue : List ℕ) (turn : Option ℕ) (greatest live letters cap : ℕ) (holds : Holds places alarms queue turn greatest live letters cap)
+    (most_actors most_messages : ℕ) where
+  abbrev newcomer : Actor M
+  newcomer = record { mode = idle None; mailbox = []; timeout = 0 }
+
+  count : live ≡ count_of (table_of places)
+  count = holds.counts.live_is ∙ live-count (table_of places)
+
+  pub live-is : live ≡ count_of (table_of places)
+  live-is = count
+
+  pub full : most_actors ≤ live → is_full (table_of places) most_actors ≡ true
+  full most = ap (λ b. b || (next_number (table_of places) == 2 ^ 64 - 1)) (le-leb most_actors (count_of (table_of places)) (omega (arith, most, count)))
+
+  pub full-not : live < most_actors → length places < 2 ^ 63 → is_full (table_of places) most_actors ≡ false
+  full-not room small =
+      or_false _ _ (lt-leb most_actors (count_of (table_of places)) (omega (arith, room, count)))
+      (ne_eqb (length (table_of places)) (2 ^ 64 - 1) (λ e. omega (arith, e, small, length-map places (option_map actor_of))))
+
+  pub refused-answer : most_actors ≤ live → Err AtCapacity ≡ spawn_answer (view places queue turn greatest most_actors most_messages)
+  refused-answer most = sym (ap (λ b. cond b (Err AtCapacity) (Ok (next_number (table_of places)))) (full most))
+
+  granted-answer : live < most_actors → length places < 2 ^ 63 → spawn_answer (view places queue turn greatest most_actors most_messages) ≡ Ok (next_number (table_of places))
+  granted-answer room small = ap (λ b. cond b (Err AtCapacity) (Ok (next_number (table_of places)))) (full-not room small)
+
+  pub number-answer : live < most_actors → length places < 2 ^ 63 → (n : ℕ) → n ≡ length places → Ok n ≡ spawn_answer (view places queue turn greatest most_actors most_messages)
+  number-answer room small n is = ap Ok (is ∙ sym (length-map places (option_map actor_of))) ∙ sym (granted-answer room small)
+
+  pub is-granted : live < most_actors → length places < 2 ^ 63 → IsOk (spawn_answer (view places queue turn greatest most_actors most_messages))
+  is-granted room small = subst (λ r. IsOk r) (sym (granted-answer room small)) refl
+
+  pub stays-hold : (alarms2 : Alarms) (cap2 : ℕ) → Stays alarms alarms2 → cap ≤ cap2 → Holds places alarms2 queue turn greatest live letters cap2
+  stays-hold alarms2 cap2 stays grown = record {
+    ties = ties-same places alarms alarms2 holds.ties stays.ticks stays.known stays.numbers;
+    lines = holds.lines;
+    counts = holds.counts;
+    elapsed = omega (arith, holds.elapsed, stays.elapsed);
+    below = holds.below;
+    fits = omega (arith, holds.fits, grown);
+  }
+
+  pub room-holds : (cap2 : ℕ) → cap ≤ cap2 → Holds places alarms queue turn greatest live letters cap2
+  room-holds cap2 grown = record {
+    ties = holds.ties;
+    lines = holds.lines;
+    counts = holds.counts;
+    elapsed = holds.elapsed;
+    below = holds.below;
+    fits = omega (arith, holds.fits, grown);
+  }
+
+  module _ (q : Place M) (actor : actor_of q ≡ record { mode = idle None; mailbox = []; timeout = 0 }) where
+    new-view : view (places ++ Some q ∷ []) queue turn greatest most_actors most_messages ≡ with_table (view places queue turn greatest most_actors most_messages) (with_next (table_of places) newcomer)
+    new-view = ap (with_table (view places queue turn greatest most_actors most_messages)) (map-append (option_map actor_of) places (Some q ∷ []) ∙ ap (λ x. table_of places ++ Some x ∷ []) actor)
+
+    pub entered-after : live < most_actors → length places < 2 ^ 63 → view (places ++ Some q ∷ []) queue turn greatest most_actors most_messages ≡ spawned (view places queue turn greatest most_actors most_messages)
+    entered-after room small =
+        new-view
+        ∙ sym (ap (λ r. if_granted r (view places queue turn greatest most_actors most_messages) (with_table (view places queue turn greatest most_actors most_messages) (with_next (table_of places) newcomer))) (granted-answer room small))
+
+    pub entered-holds : (alarms2 : Alarms) (cap2 : ℕ) → Added alarms alarms2 (length places) q.alarm → live < cap2 → Holds (places ++ Some q ∷ []) alarms2 queue turn greatest (live + 1) letters cap2
+    entered-holds alarms2 cap2 added fits = record {
+      ties = ties-added places alarms alarms2 q holds.ties (ap (λ (x : Actor M). waiting_in x.mode) actor) added;
+      lines = lines-of (places ++ Some q ∷ []) queue turn greatest most_actors most_messages _ true new-view
+          (spawned_stands (Ok 0) (view places queue turn greatest most_actors most_messages) 0 true newcomer refl (stands-of places queue turn greatest most_actors most_messages holds.lines));
+      counts = counts-added places queue live letters q holds.counts (ap (λ (x : Actor M). x.mailbox) actor) (ap (λ (x : Actor M). is_queued x.mode) actor);
+      elapsed = omega (arith, holds.elapsed, added.elapsed);
+      below = holds.below;
+      fits = omega (arith, fits);
+    }

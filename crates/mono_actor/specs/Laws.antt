@@ -1,0 +1,77 @@
+-- What an actor got, of what was sent to it, and when it got a timeout.
+use Rattle.std.specs.Prelude.{◌≡◌, ◌<◌, ℕ, Bool, true, false, ◌==◌, if◌then◌else◌, List, [], ◌∷◌, ◌++◌, filter, IfSome}
+use Rattle.mono_model.specs.Inbox.{is_waiting}
+use Rattle.mono_actor.specs.Actors.{Actors, no_actors}
+use Rattle.mono_actor.specs.declared.mailboxes.Letter.{Letter}
+use Rattle.mono_actor.specs.Calls.{Call}
+use Rattle.mono_actor.specs.Calls as call
+use Rattle.mono_actor.specs.Answers.{Answer}
+use Rattle.mono_actor.specs.Answers as answer
+use Rattle.mono_actor.specs.Steps.{waiting_at, Step, Run}
+use Rattle.mono_actor.specs.declared.answers.Got.{Got}
+use Rattle.mono_actor.specs.declared.answers.Got.TheVariants as got
+
+module _ {M : Type 0} where
+  -- what was sent to an actor, in order: by one call, and by many
+  abbrev pub sent_by : ℕ → Call M → Answer M → List (Letter M)
+  sent_by a (call.Send from to message) (answer.Posted what) = if to == a then record { sender = from; message = message } ∷ [] else []
+  sent_by a c told = []
+
+  abbrev pub sent_to : ℕ → List (Call M) → List (Answer M) → List (Letter M)
+  sent_to a [] answers = []
+  sent_to a (c ∷ calls) [] = []
+  sent_to a (c ∷ calls) (told ∷ answers) = sent_by a c told ++ sent_to a calls answers
+
+  -- what an actor got as messages, in order
+  abbrev pub letters_in : Got M → List (Letter M)
+  letters_in (got.Message from message) = record { sender = from; message = message } ∷ []
+  letters_in got.Timeout = []
+
+  abbrev pub got_by_one : ℕ → Answer M → List (Letter M)
+  got_by_one a (answer.Turn me what) = if me == a then letters_in what else []
+  got_by_one a told = []
+
+  abbrev pub got_by : ℕ → List (Answer M) → List (Letter M)
+  got_by a [] = []
+  got_by a (told ∷ answers) = got_by_one a told ++ got_by a answers
+
+  abbrev pub IsPrefix : List (Letter M) → List (Letter M) → Type 0
+  IsPrefix front whole = (rest : List (Letter M)) × (whole ≡ front ++ rest)
+
+  -- those of one sender alone
+  abbrev pub of_sender : ℕ → List (Letter M) → List (Letter M)
+  of_sender from letters = filter (λ letter. letter.sender == from) letters
+
+  -- whether a clock step listed the actor since its last turn
+  abbrev pub due_after : ℕ → Bool → Answer M → Bool
+  due_after a was (answer.Turn me what) = if me == a then false else was
+  due_after a was (answer.Due due) = if is_waiting due a then true else was
+  due_after a was told = was
+
+  abbrev pub was_due : ℕ → Bool → List (Answer M) → Bool
+  was_due a was [] = was
+  was_due a was (told ∷ answers) = was_due a (due_after a was told) answers
+
+  -- how many messages to an actor wait for it by the calls and answers: all that was sent less all that it got
+  abbrev pub IsEmptyFor : ℕ → List (Call M) → List (Answer M) → Type 0
+  IsEmptyFor a calls answers = sent_to a calls answers ≡ got_by a answers
+
+-- What an actor got is a prefix of what was sent to it, and so of each sender's messages.
+abbrev pub GotInOrder : Type 0 → Type 0
+GotInOrder M = (calls : List (Call M)) (answers : List (Answer M)) (most_actors most_messages : ℕ) (new : Actors M) (a : ℕ) →
+    Run (no_actors most_actors most_messages) calls answers new → IsPrefix (got_by a answers) (sent_to a calls answers)
+
+abbrev pub GotInOrderOfEach : Type 0 → Type 0
+GotInOrderOfEach M = (calls : List (Call M)) (answers : List (Answer M)) (most_actors most_messages : ℕ) (new : Actors M) (a from : ℕ) →
+    Run (no_actors most_actors most_messages) calls answers new → IsPrefix (of_sender from (got_by a answers)) (of_sender from (sent_to a calls answers))
+
+-- A timeout comes only where all that was sent to the actor was got by it, and a clock step has listed the actor since its
+-- last turn. What a clock step lists are actors that wait for a tick which has come.
+abbrev pub TimeoutsAreDue : Type 0 → Type 0
+TimeoutsAreDue M = (calls : List (Call M)) (answers : List (Answer M)) (most_actors most_messages : ℕ) (old new : Actors M) (a : ℕ) →
+    Run (no_actors most_actors most_messages) calls answers old → Step old call.Begin (answer.Turn a got.Timeout) new → IsEmptyFor a calls answers × (was_due a false answers ≡ true)
+
+-- Between any two calls no actor waits for a tick that has come. So it is listed in the first clock step that comes to it.
+abbrev pub NoneIsEverLate : Type 0 → Type 0
+NoneIsEverLate M = (calls : List (Call M)) (answers : List (Answer M)) (most_actors most_messages : ℕ) (new : Actors M) (a : ℕ) →
+    Run (no_actors most_actors most_messages) calls answers new → IfSome (waiting_at new a) (λ tick. new.greatest < tick)

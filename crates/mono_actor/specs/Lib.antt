@@ -1,0 +1,13 @@
+pub mod Actors
+pub mod Calls
+pub mod Answers
+pub mod Steps
+pub mod Laws
+pub mod Worked
+pub mod Standing
+pub mod Places
+pub mod Keys
+pub mod Alarms
+pub mod Keeping
+pub mod Callers
+pub mod Clocking

@@ -1,0 +1,79 @@
+-- What a place says of its actor, and what each call makes of it.
+use Rattle.std.specs.Prelude.{◌≡◌, ℕ, ◌==◌, if◌then◌else◌, List, length, map, Option, Some}
+use Rattle.std.specs.Option.{option_map}
+use Rattle.mono_model.specs.Table.{Table}
+use Rattle.mono_actor.specs.Actors.{Mode, idle, queued, running, Actor, in_mode, is_idle, mode_with, wait_from, with_letter, rest_of}
+use Rattle.mono_actor.specs.declared.answers.Got.{Got}
+use Rattle.mono_actor.specs.declared.answers.Got.TheVariants as got
+use Rattle.mono_actor.specs.declared.mailboxes.Letter.{Letter}
+use Rattle.mono_actor.specs.declared.places.Mode as declared
+use Rattle.mono_actor.specs.declared.places.Mode.TheVariants as place
+use Rattle.mono_actor.specs.declared.places.Receipt.{Receipt}
+use Rattle.mono_actor.specs.declared.places.Receipt.TheVariants as receipt
+use Rattle.mono_actor.specs.declared.places.Timing.{Timing}
+use Rattle.mono_actor.specs.declared.places.Timing.TheVariants as timing
+use Rattle.mono_actor.specs.declared.places.Rest.{Rest}
+use Rattle.mono_actor.specs.declared.places.Rest.TheVariants as rest
+use Rattle.mono_actor.specs.declared.places.Place.{Place}
+
+abbrev pub mode_of : declared.Mode → Mode
+mode_of (place.Idle waits_for) = idle waits_for
+mode_of place.Queued = queued
+mode_of place.Running = running
+
+-- what a message asks for, by the receiver's mode and key
+abbrev pub receipt_in : ℕ → declared.Mode → Receipt
+receipt_in alarm (place.Idle waits_for) = receipt.Queues alarm waits_for
+receipt_in alarm place.Queued = receipt.Waits
+receipt_in alarm place.Running = receipt.Waits
+
+-- what a new timeout asks for
+abbrev pub timing_in : ℕ → ℕ → ℕ → declared.Mode → Timing
+timing_in now timeout alarm (place.Idle waits_for) = timing.Rearms alarm waits_for (wait_from now timeout)
+timing_in now timeout alarm place.Queued = timing.Keeps
+timing_in now timeout alarm place.Running = timing.Keeps
+
+module _ {M : Type 0} where
+  abbrev pub actor_of : Place M → Actor M
+  actor_of place = record { mode = mode_of place.mode; mailbox = place.mailbox; timeout = place.timeout }
+
+  abbrev pub table_of : List (Option (Place M)) → Table (Actor M)
+  table_of places = map (option_map actor_of) places
+
+  -- The actor at a number is another one, and has its key still.
+  pub record Becomes (change : Actor M → Actor M) (old new : Option (Place M)) : Type 0 where
+    pub before : Place M
+    pub after : Place M
+    pub was : old ≡ Some before
+    pub is : new ≡ Some after
+    pub alarm : after.alarm ≡ before.alarm
+    pub actor : actor_of after ≡ change (actor_of before)
+
+  abbrev pub receipt_of : Place M → Receipt
+  receipt_of place = receipt_in place.alarm place.mode
+
+  abbrev pub timing_of : ℕ → ℕ → Place M → Timing
+  timing_of now timeout place = timing_in now timeout place.alarm place.mode
+
+  -- what the end of a turn asks for
+  abbrev pub rest_of_turn : ℕ → Place M → Rest
+  rest_of_turn now place = if length place.mailbox == 0 then rest.Waits place.alarm (wait_from now place.timeout) else rest.Again
+
+  -- how many messages a turn begins with
+  abbrev pub taken_by : Got M → ℕ
+  taken_by (got.Message sender message) = 1
+  taken_by got.Timeout = 0
+
+  -- with a message more, an idle one being queued
+  abbrev pub delivered : Letter M → Actor M → Actor M
+  delivered letter actor = if is_idle actor.mode then in_mode (with_letter actor letter.sender letter.message) queued else with_letter actor letter.sender letter.message
+
+  abbrev pub timed_actor : ℕ → ℕ → Actor M → Actor M
+  timed_actor now timeout actor = record { mode = mode_with now timeout actor.mode; mailbox = actor.mailbox; timeout = timeout }
+
+  abbrev pub begun_actor : Actor M → Actor M
+  begun_actor actor = record { mode = running; mailbox = rest_of actor.mailbox; timeout = actor.timeout }
+
+  -- after its turn it is queued again where it has messages, and else idle
+  abbrev pub rested : ℕ → Actor M → Actor M
+  rested now actor = if length actor.mailbox == 0 then in_mode actor (idle (wait_from now actor.timeout)) else in_mode actor queued

@@ -1,0 +1,15 @@
+//! Actors with mailboxes, whose turns come one after another, and their receive timeouts.
+#![tactic(auto)]
+
+mod alarms;
+mod answers;
+pub mod laws;
+mod mailboxes;
+mod places;
+pub mod rows;
+mod table;
+#[cfg(test)]
+mod tests;
+
+pub use answers::{ActorError, After, Got, SendRefused, Sent};
+pub use table::Actors;

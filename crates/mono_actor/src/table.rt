@@ -1,0 +1,319 @@
+// Actors by their numbers, and the queue of those that run next.
+ghost use Rattle.std.specs.Prelude.{◌≡◌, ◌<◌, ◌≤◌, ℕ, ◌+◌, true, None, Some, IfOk, OnOk, IfErr, OnErr, IfSome, is_some, vec_len, vec_capacity};
+ghost use Rattle.std.specs.VecDeque.{deque_capacity};
+ghost use Rattle.mono_model.specs.Table.{value_at, count_of};
+ghost use Rattle.mono_actor.specs.Keeping.{Holds};
+
+use crate::alarms::Alarms;
+use crate::answers::{ActorError, After, Got, SendRefused, Sent};
+use crate::mailboxes::Letter;
+use crate::places::{
+    Place, Receipt, Rest, Timing, begin_turn, clock_tick, end_turn, is_there, new_place, receive,
+    ring, set_timeout, take_away, taken,
+};
+use mono_time::Instant;
+use mono_wheel::Steps;
+use std::alloc::{AllocError, Global};
+use std::collections::VecDeque;
+use std::sync::ledger::Ledger;
+
+/// Actors with mailboxes, whose turns come one after another, and their receive timeouts.
+///
+/// An actor is idle, queued or running. What an actor does in its turn is any code between [`Actors::begin`] and
+/// [`Actors::end`]. Numbers count from 0 and are never given twice. Timeouts are in milliseconds of the clock of
+/// [`Actors::clock`]. Only `new`, `spawn` and `send` take memory; an actor without messages takes that of its place.
+#[derive(Drop)]
+pub struct Actors<M> {
+    // by number, what is kept of the actor while it is live
+    places: Vec<Option<Place<M>>>,
+    queue: VecDeque<u64>,
+    alarms: Alarms,
+    turn: Option<u64>,
+    // the greatest tick of the clock so far
+    greatest: u64,
+    most_actors: u64,
+    most_messages: u64,
+    live: u64,
+    letters: u64,
+    pub ghost holds: { Holds places.items alarms queue.items turn greatest live letters (deque_capacity queue) },
+}
+
+impl<M> Actors<M> {
+    ghost use Rattle.mono_actor.specs.Actors.{no_actors, if_granted, spawn_answer, spawned, send_answer, sent, sent_in, received_value, timeout_answer, timed, begin_answer, begun};
+    ghost use Rattle.mono_actor.specs.Callers.{OrLacksMemory, actors_of, without_message};
+
+    /// No actor, with room for so many live ones and so many messages in all mailboxes.
+    pub fn new(alloc: Global, actors: u64, messages: u64) -> Result<Actors<M>, AllocError>
+        ensures { IfOk result (λ a. actors_of a ≡ no_actors actors messages) }
+    {
+        let alarms = Alarms::new(alloc)?;
+        Ok(Actors {
+            places: Vec::new(alloc),
+            queue: VecDeque::new(alloc),
+            alarms,
+            turn: None,
+            greatest: 0,
+            most_actors: actors,
+            most_messages: messages,
+            live: 0,
+            letters: 0,
+        })
+    }
+
+    /// How many actors are live.
+    pub fn live(&self) -> usize
+        ensures { result ≡ count_of (actors_of self.now).table }
+    {
+        self.live as usize
+    }
+
+    /// Whether a turn runs.
+    pub fn is_running(&self) -> bool
+        ensures { result ≡ is_some (actors_of self.now).turn }
+    {
+        self.turn.is_some()
+    }
+
+    /// A new actor, with the next number. It is idle, its mailbox is empty, and it has no timeout.
+    ///
+    /// Refused at capacity exactly where the live actors are at the limit or the next number is 2^64 - 1, and else for want of
+    /// memory (`answer`). A refusal changes nothing (`after`).
+    pub fn spawn(&mut self, alloc: Global) -> Result<u64, ActorError>
+        ensures answer { OrLacksMemory (spawn_answer (actors_of self.old)) result }
+        ensures after { actors_of self.new ≡ if_granted result (actors_of self.old) (spawned (actors_of self.old)) }
+    {
+        if self.live >= self.most_actors {
+            return Err(ActorError::AtCapacity);
+        }
+        let number = self.places.len() as u64;
+        match self.enter(alloc) {
+            Ok(()) => Ok(number),
+            Err(_) => Err(ActorError::Memory),
+        }
+    }
+
+    // A place for a new actor.
+    fn enter(&mut self, alloc: Global) -> Result<(), AllocError>
+        requires { self.old.live < self.old.most_actors }
+        ensures entered { OnOk result (actors_of self.new ≡ spawned (actors_of self.old)) }
+        ensures refused { OnErr result (actors_of self.new ≡ actors_of self.old) }
+    {
+        self.queue
+            .reserve(self.live as usize + 1 - self.queue.len())?;
+        self.places.reserve(1)?;
+        match self.alarms.add(alloc, self.places.len() as u64) {
+            Ok(alarm) => {
+                self.places.push_reserved(Some(new_place(alloc, alarm)));
+                self.live += 1;
+                Ok(())
+            }
+            Err(error) => Err(error),
+        }
+    }
+
+    /// Sends a message: it comes into the mailbox of its receiver, last, with its sender. Queued exactly where the receiver
+    /// was idle; it is then queued last, and waits for no tick.
+    ///
+    /// Refused at capacity exactly where the messages in all mailboxes are at the limit, then as no actor exactly where the
+    /// sender or the receiver is not live, and else for want of memory (`answer`). A refusal changes nothing (`after`) and
+    /// hands the message back (`back`).
+    pub fn send(&mut self, from: u64, to: u64, message: M) -> Result<Sent, SendRefused<M>>
+        ensures answer { OrLacksMemory (send_answer (actors_of self.old) from to) (without_message result) }
+        ensures after { actors_of self.new ≡ if_granted (without_message result) (actors_of self.old) (sent (actors_of self.old) from to message) }
+        ensures back { IfErr result (λ refused. refused.message ≡ message) }
+    {
+        if self.letters >= self.most_messages {
+            return Err(SendRefused {
+                cause: ActorError::AtCapacity,
+                message,
+            });
+        }
+        if !is_there(&self.places, from) || !is_there(&self.places, to) {
+            return Err(SendRefused {
+                cause: ActorError::NoActor,
+                message,
+            });
+        }
+        let letter = Letter {
+            sender: from,
+            message,
+        };
+        match self.deliver(to, letter) {
+            Ok(what) => Ok(what),
+            Err(back) => Err(SendRefused {
+                cause: ActorError::Memory,
+                message: back.message,
+            }),
+        }
+    }
+
+    // A message comes to an actor.
+    fn deliver(&mut self, to: u64, letter: Letter<M>) -> Result<Sent, Letter<M>>
+        requires there { is_some (value_at self.old.places.items to) ≡ true }
+        requires room { self.old.letters < self.old.most_messages }
+        ensures told { IfOk result (λ what. IfSome (value_at (actors_of self.old).table to) (λ actor. what ≡ sent_in actor.mode)) }
+        ensures after { OnOk result (actors_of self.new ≡ received_value (value_at (actors_of self.old).table to) (actors_of self.old) letter.sender to letter.message) }
+        ensures refused { IfErr result (λ back. (back ≡ letter) × (actors_of self.new ≡ actors_of self.old)) }
+    {
+        let place = &mut self.places[to as usize];
+        let receipt = receive(place, letter)?;
+        self.letters += 1;
+        match receipt {
+            Receipt::Queues(alarm, tick) => {
+                self.alarms.clear(alarm, tick);
+                self.queue.push_back_reserved(to);
+                Ok(Sent::Queued)
+            }
+            Receipt::Waits => Ok(Sent::Waits),
+        }
+    }
+
+    /// Sets the receive timeout of an actor to so many milliseconds, or to none with 0. An idle actor waits anew from now.
+    ///
+    /// Refused as no actor exactly where no live actor has the number; then nothing changes.
+    pub fn timeout(&mut self, actor: u64, ms: u64) -> Result<(), ActorError>
+        ensures answer { result ≡ timeout_answer (actors_of self.old) actor }
+        ensures after { actors_of self.new ≡ timed (actors_of self.old) actor ms }
+    {
+        if !is_there(&self.places, actor) {
+            return Err(ActorError::NoActor);
+        }
+        let place = &mut self.places[actor as usize];
+        match set_timeout(place, self.greatest, ms) {
+            Timing::Rearms(alarm, from, to) => {
+                self.alarms.clear(alarm, from);
+                self.alarms.set(alarm, to);
+            }
+            Timing::Keeps => {}
+        }
+        Ok(())
+    }
+
+    /// Begins the turn of the queue's front, which gets the first message of its mailbox, or a timeout exactly where its
+    /// mailbox is empty. No turn may run already.
+    ///
+    /// Refused as idle exactly where the queue is empty; then nothing changes.
+    pub fn begin(&mut self) -> Result<(u64, Got<M>), ActorError>
+        requires { (actors_of self.old).turn ≡ None }
+        ensures answer { result ≡ begin_answer (actors_of self.old) }
+        ensures after { actors_of self.new ≡ begun (actors_of self.old) }
+    {
+        let front = match self.queue.pop_front() {
+            None => return Err(ActorError::Idle),
+            Some(front) => front,
+        };
+        let place = &mut self.places[front as usize];
+        let got = begin_turn(place);
+        self.letters -= taken(&got);
+        self.turn = Some(front);
+        Ok((front, got))
+    }
+}
+
+impl<M: Drop> Actors<M> {
+    ghost use Rattle.std.specs.Prelude.{false};
+    ghost use Rattle.mono_actor.specs.Actors.{end_answer, ended, ended_value, with_table};
+    ghost use Rattle.mono_actor.specs.Standing.{is_running, of_actor};
+    ghost use Rattle.mono_model.specs.Table.{without};
+    ghost use Rattle.mono_actor.specs.Callers.{actors_of};
+
+    /// Ends the turn that runs, which one has to. With `stop` the actor and its mailbox are gone (`Stopped`). Else it is queued
+    /// last where its mailbox is not empty (`Again`), and is else idle, and waits for its timeout from now on (`Idle`).
+    pub fn end(&mut self, stop: bool) -> After
+        requires { is_some (actors_of self.old).turn ≡ true }
+        ensures answer { (me : ℕ) → (actors_of self.old).turn ≡ Some me → result ≡ end_answer stop (value_at (actors_of self.old).table me) }
+        ensures after { (me : ℕ) → (actors_of self.old).turn ≡ Some me → actors_of self.new ≡ ended stop (actors_of self.old) me }
+    {
+        let me = match self.turn {
+            Some(me) => me,
+            None => unreachable!(),
+        };
+        self.turn = None;
+        if stop {
+            self.stop(me);
+            return After::Stopped;
+        }
+        self.rest(me)
+    }
+
+    // The actor that ran is gone.
+    fn stop(&mut self, me: u64)
+        requires runs { of_actor is_running (value_at (actors_of self.old).table me) ≡ true }
+        requires over { (actors_of self.old).turn ≡ None }
+        ensures { actors_of self.new ≡ with_table (actors_of self.old) (without (actors_of self.old).table me) }
+    {
+        let place = &mut self.places[me as usize];
+        let gone = take_away(place);
+        self.alarms.free(gone.alarm);
+        self.letters -= gone.letters;
+        self.live -= 1;
+    }
+
+    // The actor that ran goes on.
+    fn rest(&mut self, me: u64) -> After
+        requires runs { of_actor is_running (value_at (actors_of self.old).table me) ≡ true }
+        requires over { (actors_of self.old).turn ≡ None }
+        ensures answer { result ≡ end_answer false (value_at (actors_of self.old).table me) }
+        ensures after { actors_of self.new ≡ ended_value false (value_at (actors_of self.old).table me) (actors_of self.old) me }
+    {
+        let place = &mut self.places[me as usize];
+        match end_turn(place, self.greatest) {
+            Rest::Again => {
+                self.queue.push_back_reserved(me);
+                After::Again
+            }
+            Rest::Waits(alarm, tick) => {
+                self.alarms.set(alarm, tick);
+                After::Idle
+            }
+        }
+    }
+}
+
+impl<M> Actors<M> {
+    ghost use Rattle.std.specs.Prelude.{MatchOption, OnSome};
+    ghost use Rattle.mono_time.specs.Instants.{nanos_of};
+    ghost use Rattle.mono_actor.specs.Clocking.{IsNoneDue, RingsFirst, RingsAll, waiting_count};
+    ghost use Rattle.mono_actor.specs.Callers.{actors_of, credit_left, ListsAndQueues};
+
+    /// The clock shows `now`: the greatest tick becomes the greater of itself and the reading's tick, rounded down. The actors
+    /// whose wait has come are queued, in ascending ticks, and their numbers are appended to `due` in that order (`queued`).
+    /// `due` has to have room for all live actors, and no turn may run. The steps are exactly the fall of the wheel's credit.
+    pub fn clock<L: Ledger>(&mut self, now: Instant, due: &mut Vec<u64>, steps: &mut Steps<L>)
+        requires over { (actors_of self.old).turn ≡ None }
+        requires room { vec_len due.old + count_of (actors_of self.old).table ≤ vec_capacity due.old }
+        ensures queued { ListsAndQueues (actors_of self.old) (nanos_of now) due.old.items due.new.items (actors_of self.new) }
+        ensures capacity { vec_capacity due.new ≡ vec_capacity due.old }
+        ensures steps { steps.new + credit_left self.new ≡ steps.old + credit_left self.old }
+    {
+        self.greatest = self.greatest.max(clock_tick(now));
+        self.ring_all(due, steps);
+    }
+
+    // Queues all actors whose wait has come.
+    fn ring_all<L: Ledger>(&mut self, due: &mut Vec<u64>, steps: &mut Steps<L>)
+        requires over { (actors_of self.old).turn ≡ None }
+        requires room { vec_len due.old + waiting_count (actors_of self.old) ≤ vec_capacity due.old }
+        ensures rings { RingsAll (actors_of self.old) due.old.items due.new.items (actors_of self.new) }
+        ensures capacity { vec_capacity due.new ≡ vec_capacity due.old }
+        ensures steps { steps.new + credit_left self.new ≡ steps.old + credit_left self.old }
+    {
+        while let Some(actor) = self.ring_first(steps) {
+            due.push_reserved(actor);
+        }
+    }
+
+    // Queues the first actor whose wait has come.
+    fn ring_first<L: Ledger>(&mut self, steps: &mut Steps<L>) -> Option<u64>
+        requires { (actors_of self.old).turn ≡ None }
+        ensures rings { MatchOption result (IsNoneDue (actors_of self.old) × (actors_of self.new ≡ actors_of self.old)) (RingsFirst (actors_of self.old) (actors_of self.new)) }
+        ensures fewer { OnSome result (waiting_count (actors_of self.new) + 1 ≡ waiting_count (actors_of self.old)) }
+        ensures steps { steps.new + credit_left self.new ≡ steps.old + credit_left self.old }
+    {
+        let actor = self.alarms.poll(self.greatest, steps)?;
+        let place = &mut self.places[actor as usize];
+        ring(place);
+        self.queue.push_back_reserved(actor);
+        Some(actor)
+    }
+}
