@@ -14,3 +14,5 @@ pub mod Spending
 pub mod Handouts
 pub mod Fairness
 pub mod Causes
+pub mod Draining
+pub mod EndingAlone

@@ -10,3 +10,5 @@ pub mod History
 pub mod Handouts
 pub mod Fairness
 pub mod Causes
+pub mod Remotes
+pub mod Endings

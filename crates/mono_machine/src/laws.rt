@@ -1,8 +1,10 @@
 // Laws of the machine.
-ghost use Rattle.std.specs.Prelude.{◌≡◌, ◌<◌, ◌≤◌, ℕ, true, false, List, Some, length, slice_get};
+ghost use Rattle.std.specs.Prelude.{◌≡◌, ◌≢◌, ◌<◌, ◌≤◌, ℕ, true, false, List, [], Option, Some, length, slice_get};
+ghost use Rattle.std.specs.List.{AllPairs};
 ghost use Rattle.mono_model.specs.Ticks.{down};
 ghost use Rattle.mono_model.specs.Table.{value_at, next_number};
 ghost use Rattle.mono_model.specs.Sleeps.{Arming, armed};
+ghost use Rattle.mono_model.specs.Jobs.{running};
 ghost use Rattle.mono_machine.specs.Machine.{Machine, start_machine, IsValid};
 ghost use Rattle.mono_machine.specs.Steps.{Step, Run, has_finished};
 ghost use Rattle.mono_machine.specs.Handouts.{is_on_task, is_on_job, handed_in};
@@ -10,6 +12,10 @@ ghost use Rattle.mono_model.specs.Valid.{of_task, is_queued};
 ghost use Rattle.mono_machine.specs.Causes.{is_cause, RunWithoutCause};
 ghost use Rattle.mono_machine.specs.Fairness.{turns_of};
 ghost use Rattle.mono_machine.specs.History.{has_turn_of, is_turn_of, is_awaiting, tells_wake};
+ghost use Rattle.mono_machine.specs.Remotes.{wakes_and_drain, told_and_drained, after_wakes};
+ghost use Rattle.mono_machine.specs.Endings.{EndsAlone};
+ghost use Rattle.mono_machine.specs.declared.events.How.{How};
+ghost use Rattle.mono_machine.specs.declared.events.Act.TheVariants as act;
 ghost use Rattle.mono_machine.specs.declared.events.Limits.{Limits};
 ghost use Rattle.mono_machine.specs.declared.events.Blocking.{Blocking};
 ghost use Rattle.mono_machine.specs.declared.events.Event.{Event};
@@ -84,4 +90,17 @@ pub fn no_turn_without_cause()
 pub fn turn_uses_its_cause_up()
     ensures { (old : Machine) (e : Event) (answer : Report) (mid : Machine) (t : ℕ) → Step old e answer mid → is_turn_of t answer ≡ true → is_cause t old e answer ≡ false →
         of_task is_queued (value_at mid.tasks.table t) ≡ false }
+{}
+
+/// From a machine whose inbox is empty, wakes from outside for the tasks of a list without doubles and then a drain are a
+/// run. It ends in that machine with each task of the list that was given out and is unfinished woken, in the list's
+/// order, and the drain lists exactly these.
+pub fn wakes_and_a_drain_are_a_run()
+    ensures { (old : Machine) (ts : List ℕ) → old.inbox ≡ [] → AllPairs (λ s t. s ≢ t) ts → Run old (wakes_and_drain ts) (told_and_drained old ts) (after_wakes old ts) }
+{}
+
+/// The end of a job that is kept and runs answers its waiter, and changes that job alone.
+pub fn an_end_changes_its_job_alone()
+    ensures { (old : Machine) (j output : ℕ) (waiter : Option ℕ) (how : How) (answer : Report) (new : Machine) → value_at old.jobs.table j ≡ Some (running output waiter) →
+        Step old (event.Act (act.JobEnd j how)) answer new → EndsAlone old j output waiter how answer new }
 {}
