@@ -7,14 +7,15 @@ use Rattle.mono_model.specs.Table.{Table, value_at}
 use Rattle.mono_model.specs.Sleeps as model
 use Rattle.mono_model.specs.Sleeps.{Sleeps, Arming, with_sleep, armed_anew}
 use Rattle.mono_model.specs.declared.poll.Poll.{Poll}
-use Rattle.mono_wheel.specs.Model.{Wheel, timed_at}
+use Rattle.mono_wheel.specs.Model.{Wheel, Timed, timed_at}
 use Rattle.mono_time.specs.Sleeps.{fresh, armed, elapsed, polled_kept, at_tick}
 use Rattle.mono_model.specs.SleepAnswers.{poll_of}
 use Rattle.mono_model.specs.SleepActs as machine
 use Rattle.mono_time.specs.Entries.{kept_in}
 use Rattle.mono_time.specs.Keeping.{Holds, ArmedAnew}
 use Rattle.mono_time.specs.Stands.{Standing, seen}
-use Rattle.mono_time.specs.Turning.{PolledEntry}
+use Rattle.mono_time.specs.Turning.{PolledEntry, entry_raise}
+use Rattle.mono_time.specs.Timers.{poll_raise}
 use Rattle.mono_time.specs.declared.entry.Entry.{Entry}
 use Rattle.mono_time.specs.declared.entry.State.{State}
 use Rattle.mono_time.specs.declared.entry.State.TheVariants.{Fresh, Armed, Elapsed}
@@ -23,6 +24,12 @@ use Rattle.mono_time.proofs.Standing.{sleep_there}
 use Rattle.mono_time.proofs.Turned.{Turned, turned-polled}
 use Rattle.mono_time.proofs.Machine.{stands-unarmed, stands-anew, stands-same, with_same}
 use Rattle.mono_time.proofs.Writing.{is_in-entry, kept-there}
+
+-- a poll may raise the credit by as much as its state says
+pub poll-raise : (reached : ℕ) (timed : Option Timed) (state : State) → poll_raise reached (Some (kept_in timed state)) ≡ entry_raise reached state
+poll-raise reached timed (Fresh tick) = refl
+poll-raise reached timed (Armed waker) = refl
+poll-raise reached timed Elapsed = refl
 
 abbrev pub answered : Poll ⊤ → Result (Poll ⊤) Error
 answered p = Ok p

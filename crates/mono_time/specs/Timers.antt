@@ -1,8 +1,8 @@
 -- A table of timers as a table of sleeps.
-use Rattle.std.specs.Prelude.{ℕ, Option, length}
+use Rattle.std.specs.Prelude.{ℕ, ◌-◌, Option, Some, None, length}
 use Rattle.mono_model.specs.Table.{table_of}
-use Rattle.mono_wheel.specs.Credit.{credit}
-use Rattle.mono_time.specs.Sleeps.{SleepTable}
+use Rattle.mono_wheel.specs.Credit.{credit, most_takes}
+use Rattle.mono_time.specs.Sleeps.{Kept, SleepTable, fresh, armed, elapsed}
 use Rattle.mono_time.specs.Keeping.{kept_at}
 use Rattle.mono_time.specs.Registered.{registered_at}
 use Rattle.mono_time.specs.declared.timers.Timers.{Timers}
@@ -23,6 +23,13 @@ elapsed_tick timers = timers.wheel.elapsed
 abbrev pub registered_of : Timers → ℕ → Option ℕ
 registered_of timers s = registered_at timers.wheel timers.keys.items s
 
--- how many steps the wheel has still to take for what is armed
+-- how many steps the wheel has still to take at most for what is armed
 abbrev pub credit_left : Timers → ℕ
 credit_left timers = credit timers.wheel
+
+-- by how much a poll of what is kept may raise that: a fresh sleep is armed
+abbrev pub poll_raise : ℕ → Option Kept → ℕ
+poll_raise reached None = 0
+poll_raise reached (Some (fresh tick)) = most_takes (tick - reached)
+poll_raise reached (Some (armed tick waker)) = 0
+poll_raise reached (Some elapsed) = 0

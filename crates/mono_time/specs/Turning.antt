@@ -1,6 +1,7 @@
 -- What a call does to the sleep at a key, and to the wheel.
-use Rattle.std.specs.Prelude.{◌≡◌, ◌≢◌, ◌<◌, ◌≤◌, ◌⊎◌, ℕ, Bool, true, false, Option, Some, None}
+use Rattle.std.specs.Prelude.{◌≡◌, ◌≢◌, ◌<◌, ◌≤◌, ◌-◌, ◌⊎◌, ℕ, Bool, true, false, Option, Some, None}
 use Rattle.mono_wheel.specs.Model.{Wheel, timed_at}
+use Rattle.mono_wheel.specs.Credit.{most_takes}
 use Rattle.mono_time.specs.Entries.{waker_in_state}
 use Rattle.mono_time.specs.Keeping.{KeepsBut, ArmedAnew, Rearmed}
 use Rattle.mono_time.specs.declared.entry.State.{State}
@@ -20,6 +21,12 @@ PolledEntry old new key greatest by (Fresh tick) left is_ready =
     ⊎ ((greatest < tick) × ArmedAnew old new key tick × (left ≡ Armed (Some by)) × (is_ready ≡ false))
 PolledEntry old new key greatest by (Armed waker) left is_ready = (new ≡ old) × (left ≡ Armed (Some by)) × (is_ready ≡ false)
 PolledEntry old new key greatest by Elapsed left is_ready = (new ≡ old) × (left ≡ Elapsed) × (is_ready ≡ true)
+
+-- by how much a poll may raise the wheel's credit: a fresh sleep is armed
+abbrev pub entry_raise : ℕ → State → ℕ
+entry_raise reached (Fresh tick) = most_takes (tick - reached)
+entry_raise reached (Armed waker) = 0
+entry_raise reached Elapsed = 0
 
 -- armed at a tick above the greatest: an armed sleep keeps its waker
 abbrev pub PutAt : Wheel → Wheel → ℕ → ℕ → State → State → Type 0

@@ -1,6 +1,7 @@
 // How a key of the wheel is armed.
-ghost use Rattle.std.specs.Prelude.{◌≡◌, ◌≢◌, ◌<◌, ◌≤◌, ◌^◌, true, false, None};
+ghost use Rattle.std.specs.Prelude.{◌≡◌, ◌≢◌, ◌<◌, ◌≤◌, ◌+◌, ◌-◌, ◌^◌, true, false, None};
 ghost use Rattle.mono_wheel.specs.Model.{timed_at, is_reserved};
+ghost use Rattle.mono_wheel.specs.Credit.{credit, most_takes};
 ghost use Rattle.mono_time.specs.Keeping.{ArmedAnew, Rearmed};
 
 use mono_wheel::Wheel;
@@ -11,7 +12,8 @@ pub(crate) fn put_in(wheel: &mut Wheel, key: usize, tick: u64)
     requires out { timed_at wheel.old key ≡ None }
     requires above { wheel.old.elapsed < tick }
     requires range { tick < 2 ^ 63 }
-    ensures { ArmedAnew wheel.old wheel.new key tick }
+    ensures armed { ArmedAnew wheel.old wheel.new key tick }
+    ensures raise { credit wheel.new ≤ credit wheel.old + most_takes (tick - wheel.old.elapsed) }
 {
     let put = wheel.insert(key, tick);
     prove!(put.is_ok());
@@ -24,7 +26,8 @@ pub(crate) fn put_later(wheel: &mut Wheel, key: usize, tick: u64)
     requires within { timed_at wheel.old key ≢ None }
     requires above { wheel.old.elapsed < tick }
     requires range { tick < 2 ^ 63 }
-    ensures { Rearmed wheel.old wheel.new key tick }
+    ensures armed { Rearmed wheel.old wheel.new key tick }
+    ensures raise { credit wheel.new ≤ credit wheel.old + most_takes (tick - wheel.old.elapsed) }
 {
     if !wheel.extend(key, tick) {
         wheel.remove(key);

@@ -1,5 +1,6 @@
 // What the timers keep of a live sleep, at its key in the wheel.
 ghost use Rattle.std.specs.Prelude.{◌≡◌, ◌<◌, ℕ, [], ◌∷◌, ◌++◌, OnOk, OnErr, IfOk, Some, length, slice_get};
+ghost use Rattle.mono_wheel.specs.Credit.{credit};
 ghost use Rattle.mono_time.specs.Entries.{is_armed_state, is_elapsed_state, waker_in_state};
 ghost use Rattle.mono_time.specs.Keeping.{EntriesStay, KeyMade, NoKeyMade};
 
@@ -96,6 +97,7 @@ pub(crate) fn make_key(
     entries: &mut Vec<Entry>,
 ) -> Result<usize, AllocError>
     ensures made { IfOk result (λ key. KeyMade wheel.old wheel.new keys.old.items keys.new.items entries.old.items entries.new.items key) }
+    ensures credit { credit wheel.new ≡ credit wheel.old }
     ensures refused { OnErr result (NoKeyMade wheel.old wheel.new keys.old.items keys.new.items entries.old.items entries.new.items) }
 {
     let key = wheel.reserve_entry(alloc)?;

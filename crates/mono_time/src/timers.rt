@@ -1,5 +1,5 @@
 // The table of sleeps over the wheel.
-ghost use Rattle.std.specs.Prelude.{◌≡◌, ◌<◌, ◌≤◌, ◌+◌, ◌^◌, ℕ, max, true, Option, None, Some, IfOk, IfNone, IfSome, OnSome, OnErr, MatchOption, is_some, slice_get};
+ghost use Rattle.std.specs.Prelude.{◌≡◌, ◌<◌, ◌≤◌, ◌+◌, ◌-◌, ◌^◌, ℕ, max, true, Option, None, Some, IfOk, IfNone, IfSome, OnSome, OnErr, MatchOption, is_some, slice_get};
 ghost use Rattle.mono_model.specs.Ticks.{up, down};
 ghost use Rattle.mono_model.specs.Table.{value_at, is_full};
 ghost use Rattle.mono_wheel.specs.Model.{timed_at, is_reserved};
@@ -67,7 +67,8 @@ impl Timers {
     ghost use Rattle.mono_time.specs.Instants.{nanos_of};
     ghost use Rattle.mono_time.specs.Sleeps.{no_sleeps, Added, poll_answer, polled, reset_answer, reset, remove_answer, removed, elapsed_answer, at_clock, fired, IsNoneArmedUpTo, IsFiredFirst, armed_count, armed};
     ghost use Rattle.mono_model.specs.SleepActs as machine;
-    ghost use Rattle.mono_time.specs.Timers.{sleeps_of, elapsed_tick, registered_of, credit_left};
+    ghost use Rattle.mono_time.specs.Timers.{sleeps_of, elapsed_tick, registered_of, credit_left, poll_raise};
+    ghost use Rattle.mono_wheel.specs.Credit.{most_takes};
     ghost use Rattle.mono_time.specs.Registered.{RegistersOnly, polled_registered, reset_registered, moved_registered, NextExpiration};
     ghost use Rattle.mono_time.specs.Stands.{StandsForSleeps};
 
@@ -76,6 +77,8 @@ impl Timers {
         ensures sleeps { IfOk result (λ timers. sleeps_of timers ≡ no_sleeps limit enabled) }
         ensures elapsed { IfOk result (λ timers. elapsed_tick timers ≡ 0) }
         ensures stands { IfOk result (λ timers. StandsForSleeps timers (model.no_sleeps limit)) }
+        // what the wheel under it has to do
+        ensures credit { IfOk result (λ timers. credit_left timers ≡ 0) }
     {
         let wheel = Wheel::new(alloc)?;
         Ok(Timers {
@@ -106,6 +109,8 @@ impl Timers {
         ensures elapsed { elapsed_tick self.new ≡ elapsed_tick self.old }
         ensures registered { (s : ℕ) → registered_of self.new s ≡ registered_of self.old s }
         ensures stands { (m : Sleeps) → StandsForSleeps self.old m → machine.Adds (sleeps_of self.old).is_enabled m (nanos_of deadline) result (StandsForSleeps self.new) }
+        // what the wheel under it has to do
+        ensures credit { credit_left self.new ≡ credit_left self.old }
     {
         if !self.is_enabled {
             return Err(SleepError::Timer(Error::Shutdown));
@@ -133,6 +138,8 @@ impl Timers {
         ensures elapsed { elapsed_tick self.new ≡ elapsed_tick self.old }
         ensures registered { RegistersOnly (registered_of self.old) (registered_of self.new) sleep (polled_registered (sleeps_of self.old).greatest (value_at (sleeps_of self.old).table sleep) (registered_of self.old sleep)) }
         ensures stands { (m : Sleeps) → StandsForSleeps self.old m → (result ≡ machine.poll_answer m sleep) × StandsForSleeps self.new (machine.polled m sleep by) }
+        // what the wheel under it has to do
+        ensures raise { credit_left self.new ≤ credit_left self.old + poll_raise (elapsed_tick self.old) (value_at (sleeps_of self.old).table sleep) }
     {
         match key_at(&self.keys, sleep) {
             None => Err(Error::Shutdown),
@@ -152,6 +159,8 @@ impl Timers {
         ensures elapsed { elapsed_tick self.new ≡ elapsed_tick self.old }
         ensures registered { IsNoneArmedUpTo (sleeps_of self.old) → RegistersOnly (registered_of self.old) (registered_of self.new) sleep (reset_registered (sleeps_of self.old).greatest (up (nanos_of deadline)) (value_at (sleeps_of self.old).table sleep) (registered_of self.old sleep)) }
         ensures stands { (m : Sleeps) → StandsForSleeps self.old m → (result ≡ machine.reset_answer m sleep (nanos_of deadline)) × StandsForSleeps self.new (machine.reset m sleep (nanos_of deadline)) }
+        // what the wheel under it has to do
+        ensures raise { credit_left self.new ≤ credit_left self.old + most_takes (up (nanos_of deadline) - elapsed_tick self.old) }
     {
         match key_at(&self.keys, sleep) {
             None => Err(Error::Shutdown),
@@ -171,6 +180,8 @@ impl Timers {
         ensures elapsed { elapsed_tick self.new ≡ elapsed_tick self.old }
         ensures registered { RegistersOnly (registered_of self.old) (registered_of self.new) sleep None }
         ensures stands { (m : Sleeps) → StandsForSleeps self.old m → (result ≡ machine.remove_answer m sleep) × StandsForSleeps self.new (machine.removed m sleep) }
+        // what the wheel under it has to do
+        ensures raise { credit_left self.new ≤ credit_left self.old }
     {
         match key_at(&self.keys, sleep) {
             None => Err(Error::Shutdown),

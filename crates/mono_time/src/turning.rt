@@ -1,9 +1,10 @@
 // What a call does to the sleep at a key.
-ghost use Rattle.std.specs.Prelude.{◌≡◌, ◌<◌, ◌≤◌, ◌^◌, true, is_some};
+ghost use Rattle.std.specs.Prelude.{◌≡◌, ◌<◌, ◌≤◌, ◌+◌, ◌-◌, ◌^◌, true, is_some};
 ghost use Rattle.mono_wheel.specs.Model.{timed_at, is_reserved};
+ghost use Rattle.mono_wheel.specs.Credit.{credit, most_takes};
 ghost use Rattle.mono_time.specs.declared.entry.State.TheVariants.{Elapsed};
 ghost use Rattle.mono_time.specs.Entries.{is_armed_state, waker_in_state, fresh_tick};
-ghost use Rattle.mono_time.specs.Turning.{Out, PolledEntry, ResetEntry};
+ghost use Rattle.mono_time.specs.Turning.{Out, entry_raise, PolledEntry, ResetEntry};
 
 use crate::arming::{put_in, put_later};
 use crate::entry::{Entry, State};
@@ -22,6 +23,7 @@ pub(crate) fn poll_entry(
     requires fresh { fresh_tick entry.old.state < 2 ^ 63 }
     requires elapsed { wheel.old.elapsed ≤ greatest }
     ensures sleep { entry.new.sleep ≡ entry.old.sleep }
+    ensures raise { credit wheel.new ≤ credit wheel.old + entry_raise wheel.old.elapsed entry.old.state }
     ensures polled { PolledEntry wheel.old wheel.new key greatest by entry.old.state entry.new.state result }
 {
     match entry.state {
@@ -45,7 +47,8 @@ pub(crate) fn poll_entry(
 /// Takes a key out of the wheel, where it is in.
 pub(crate) fn take_out(wheel: &mut Wheel, key: usize, is_armed: bool)
     requires { is_some (timed_at wheel.old key) ≡ is_armed }
-    ensures { Out wheel.old wheel.new key }
+    ensures out { Out wheel.old wheel.new key }
+    ensures raise { credit wheel.new ≤ credit wheel.old }
 {
     if is_armed {
         wheel.remove(key);
@@ -75,6 +78,7 @@ pub(crate) fn reset_entry(
     requires range { tick < 2 ^ 63 }
     requires elapsed { wheel.old.elapsed ≤ greatest }
     ensures sleep { entry.new.sleep ≡ entry.old.sleep }
+    ensures raise { credit wheel.new ≤ credit wheel.old + most_takes (tick - wheel.old.elapsed) }
     ensures reset { ResetEntry wheel.old wheel.new key greatest tick entry.old.state entry.new.state result }
 {
     if tick <= greatest {

@@ -1,4 +1,4 @@
-use Rattle.std.proofs.Common.{rules, ◌≡◌, ◌<◌, Some, refl, ap, sym, ◌∙◌, length}
+use Rattle.std.proofs.Common.{rules, arith, ◌≡◌, ◌<◌, Some, refl, ap, sym, ◌∙◌, length}
 use Rattle.std.specs.Prelude.{slice_get}
 use Rattle.std.proofs.lemmas.Option.{slice_get_read}
 use Rattle.mono_model.specs.Table.{value_at}
@@ -9,7 +9,9 @@ use Rattle.mono_time.proofs.Registering.{registers, polled-at}
 use Rattle.mono_time.proofs.Standing.{none_there}
 use Rattle.mono_time.proofs.Turned.{turned-polled}
 use Rattle.mono_time.proofs.Writing.{key_inside, is_in-entry, fresh_below-entry, holds-turned, table-turned, table-there, none-there, table_kept}
-use Rattle.mono_time.proofs.Polling.{machine-polled, answered}
+use Rattle.mono_time.specs.Timers.{poll_raise}
+use Rattle.mono_time.specs.Turning.{entry_raise}
+use Rattle.mono_time.proofs.Polling.{machine-polled, answered, poll-raise}
 use Rattle.mono_time.proofs.timers.Timers.poll.Goals as goal
 
 pub index_mut-entry-requires : goal.index_mut-entry-requires
@@ -112,3 +114,15 @@ returns-in-Some-clause-registered c =
     registers t.wheel c.poll_entry-is_ready.new.wheel t.keys.items t.entries.items t.greatest t.live t.holds s k at turned.0.others (polled_registered t.greatest (value_at table s) (registered_at t.wheel t.keys.items s))
     (here ∙ ap (λ v. polled_registered t.greatest v (registered_in (timed_at t.wheel k))) (sym (table-there t.wheel t.keys.items t.entries.items t.greatest t.live t.holds s k e at was))
     ∙ ap (polled_registered t.greatest (value_at table s)) (sym (ap (registered_under t.wheel) at)))
+
+pub returns-in-Some-clause-raise : goal.returns-in-Some-clause-raise
+returns-in-Some-clause-raise c =
+    let t = c.args.self.now in
+    let s = c.args.sleep in
+    let k = c.in-Some.key in
+    let at : value_at t.keys.items s ≡ Some k = sym c.in-Some.ensures in
+    let e = c.index_mut-entry.result.now in
+    let was : slice_get t.entries.items k ≡ Some e = slice_get_read t.entries.items _ k e refl (key_inside t.wheel t.keys.items t.entries.items t.greatest t.live t.holds s k at) c.index_mut-entry.ensures.value in
+    let there = table-there t.wheel t.keys.items t.entries.items t.greatest t.live t.holds s k e at was in
+    let same : poll_raise t.wheel.elapsed (value_at (table_kept t.wheel t.keys.items t.entries.items) s) ≡ entry_raise t.wheel.elapsed e.state = ap (poll_raise t.wheel.elapsed) there ∙ poll-raise t.wheel.elapsed (timed_at t.wheel k) e.state in
+    omega (arith, c.poll_entry-is_ready.ensures.raise, same)

@@ -33,7 +33,7 @@ invariant_of-self c =
     let e = c.index.result.now in
     let was : slice_get t.entries.items k ≡ Some e = slice_get_read t.entries.items _ k e refl (key_inside t.wheel t.keys.items t.entries.items t.greatest t.live t.holds s k at) c.index.ensures in
     let count : t.live - 1 + 1 ≡ t.live = omega (arith, t.holds.live_count, count_of-gone t.keys.items s k at) in
-    record { holds = holds-removed t.wheel c.take_out.new.wheel c.free_entry.new.self t.keys.items t.entries.items t.greatest t.live t.holds s k at c.take_out.ensures c.free_entry.ensures.entries c.free_entry.ensures.elapsed c.free_entry.ensures.others (t.live - 1) count c.free_entry.ensures.gone }
+    record { holds = holds-removed t.wheel c.take_out.new.wheel c.free_entry.new.self t.keys.items t.entries.items t.greatest t.live t.holds s k at c.take_out.ensures.out c.free_entry.ensures.entries c.free_entry.ensures.elapsed c.free_entry.ensures.others (t.live - 1) count c.free_entry.ensures.gone }
 
 pub returns-in-None-clause-answer : goal.returns-in-None-clause-answer
 returns-in-None-clause-answer c = let t = c.args.self.now in rw (none-there t.wheel t.keys.items t.entries.items c.args.sleep (sym c.in-None.ensures)) refl
@@ -62,7 +62,7 @@ returns-in-Some-clause-sleeps c =
     let at : value_at t.keys.items s ≡ Some k = sym c.in-Some.ensures in
     let e = c.index.result.now in
     let was : slice_get t.entries.items k ≡ Some e = slice_get_read t.entries.items _ k e refl (key_inside t.wheel t.keys.items t.entries.items t.greatest t.live t.holds s k at) c.index.ensures in
-    rw (table-there t.wheel t.keys.items t.entries.items t.greatest t.live t.holds s k e at was, table-removed t.wheel c.take_out.new.wheel c.free_entry.new.self t.keys.items t.entries.items t.greatest t.live t.holds s k at c.take_out.ensures c.free_entry.ensures.entries c.free_entry.ensures.elapsed c.free_entry.ensures.others) refl
+    rw (table-there t.wheel t.keys.items t.entries.items t.greatest t.live t.holds s k e at was, table-removed t.wheel c.take_out.new.wheel c.free_entry.new.self t.keys.items t.entries.items t.greatest t.live t.holds s k at c.take_out.ensures.out c.free_entry.ensures.entries c.free_entry.ensures.elapsed c.free_entry.ensures.others) refl
 
 pub returns-in-Some-clause-stands : goal.returns-in-Some-clause-stands
 returns-in-Some-clause-stands c = λ m st.
@@ -72,4 +72,4 @@ returns-in-Some-clause-stands c = λ m st.
     let at : value_at t.keys.items s ≡ Some k = sym c.in-Some.ensures in
     let e = c.index.result.now in
     let was : slice_get t.entries.items k ≡ Some e = slice_get_read t.entries.items _ k e refl (key_inside t.wheel t.keys.items t.entries.items t.greatest t.live t.holds s k at) c.index.ensures in
-    machine-removed t.wheel c.take_out.new.wheel c.free_entry.new.self t.keys.items t.entries.items t.greatest t.live t.holds s k at c.take_out.ensures c.free_entry.ensures.entries c.free_entry.ensures.elapsed c.free_entry.ensures.others t.limit m st c.free_entry.ensures.order e was
+    machine-removed t.wheel c.take_out.new.wheel c.free_entry.new.self t.keys.items t.entries.items t.greatest t.live t.holds s k at c.take_out.ensures.out c.free_entry.ensures.entries c.free_entry.ensures.elapsed c.free_entry.ensures.others t.limit m st c.free_entry.ensures.order e was
