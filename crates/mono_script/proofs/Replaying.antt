@@ -29,7 +29,7 @@ use Rattle.mono_exec.specs.Stands.{Stands}
 use Rattle.mono_text.specs.Written.{how_text, act_text, step_text, end_text, parts_text, event_text, FitsAct, FitsStep, FitsEnd, FitSteps, FitsEvent, report_line}
 use Rattle.mono_text.specs.Lines.{AreLines, IsFirstWrong, Line, onto_first, lines, IsEventLine, AreEventLines, IsFirstBad, BeginsWith, BeginsWithNone}
 use Rattle.mono_script.specs.Answers.{IsReplayed, Answers}
-use Rattle.mono_text.proofs.Lined.{no_event, each_more, lines_front, line_in, no_feed_event, first_line}
+use Rattle.mono_text.proofs.Lined.{ended, no_event, each_more, lines_front, no_feed_event, first_line}
 
 run_more : (start : Machine) (events : List Event) (reports : List Report) (mid : Machine) (e : Event) (r : Report) (new : Machine)
     → Run start events reports mid → Step mid e r new → Run start (events ++ e ∷ []) (reports ++ r ∷ []) new

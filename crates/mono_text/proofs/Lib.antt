@@ -6,3 +6,4 @@ pub mod Words
 pub mod Digits
 pub mod Lined
 pub mod Numbers
+pub mod Serving

@@ -83,7 +83,7 @@ no_feed_event event.Drain f = (refl, (refl, (refl, (refl, (refl, tt)))))
 
 -- ---- lines
 
-pub ended : List ℕ → Line
+unfoldable pub ended : List ℕ → Line
 ended text = record { bytes = text; is_ended = true }
 
 pub lines_front : (text rest : List ℕ) → NoFeed text → lines (text ++ 10 ∷ rest) ≡ ended text ∷ lines rest

@@ -3,3 +3,4 @@ pub mod Lines
 pub mod Reading
 pub mod Outside
 pub mod Memory
+pub mod Serving

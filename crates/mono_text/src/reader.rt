@@ -107,9 +107,9 @@ impl<'a> Reader<'a> {
         }
     }
 
-    // Goes past the word, where the rest begins with it.
+    /// Goes past the word, where the rest begins with it; else nothing changes.
     #[inline(always)]
-    fn take(&mut self, word: &[u8]) -> bool
+    pub fn take(&mut self, word: &[u8]) -> bool
         ensures found { word_at word.now self.old.rest.now ≡ (if result then Some self.new.rest.now else None) }
         ensures kept { (if result then self.old.rest.now else self.new.rest.now) ≡ self.old.rest.now }
     {
@@ -134,9 +134,9 @@ impl<'a> Reader<'a> {
         Some(value)
     }
 
-    // The number below 2^64 that stands here, in decimal without sign and leading zeros, and goes past it.
-    // By `long_number` where it begins with a zero or is long.
-    fn number(&mut self) -> Option<u64>
+    /// The number below 2^64 that stands here, in decimal without sign and leading zeros, and goes past it. None where
+    /// none stands here; what is left then is not told.
+    pub fn number(&mut self) -> Option<u64>
         ensures { Gives result self.new.rest.now (number_at self.old.rest.now) }
     {
         let text = self.rest;
@@ -157,8 +157,8 @@ impl<'a> Reader<'a> {
         self.end(text, text.len(), value)
     }
 
-    // As `number`, below 2^128.
-    fn nanos(&mut self) -> Option<u128>
+    /// As [`Reader::number`], below 2^128.
+    pub fn nanos(&mut self) -> Option<u128>
         ensures { Gives result self.new.rest.now (nanos_at self.old.rest.now) }
     {
         let text = self.rest;
