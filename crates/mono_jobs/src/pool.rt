@@ -1,10 +1,10 @@
 // Who runs the blocking jobs, and the table of those jobs.
-ghost use Rattle.std.specs.Prelude.{◌≡◌, ◌≤◌, ◌⊎◌, IsNone, IfSome, Some, None};
+ghost use Rattle.std.specs.Prelude.{◌≡◌, ◌≤◌, IfSome, IfNone};
 ghost use Rattle.mono_model.specs.Jobs.{no_jobs};
 ghost use Rattle.mono_machine.specs.JobCalls.{poll_answer, job_polled, drop_answer, job_dropped, finished_answer};
-ghost use Rattle.mono_machine.specs.declared.events.Blocking.TheVariants as blocking;
+ghost use Rattle.mono_blocking.specs.declared.strategy.BlockingHandle.TheVariants.{Attached};
 ghost use Rattle.mono_jobs.specs.Asking.{IsEnd, after_end, polled_reply, dropped_reply, finished_reply, used, left, PollShown, DropShown, FinishShown};
-ghost use Rattle.mono_jobs.specs.Spawning.{Spawned, strategy_of, refusals_of};
+ghost use Rattle.mono_jobs.specs.Spawning.{Spawned, strategy_of, refusals_of, IsApart};
 
 use crate::ends::{Answered, PolledJob};
 use crate::handles::JobHandle;
@@ -29,19 +29,18 @@ pub struct Blockings<P: ThreadPool> {
 }
 
 impl<P: ThreadPool> Model for Blockings<P> {
-    ghost use Rattle.mono_jobs.specs.Spawning.{Seen, strategy_of, refusals_of};
+    ghost use Rattle.mono_jobs.specs.Spawning.{Seen};
 
-    ghost Value = { Seen };
+    ghost Value = { Seen P };
 
-    ghost view = { λ a. record { table = a.jobs; strategy = strategy_of a.pool; refusals = refusals_of P.refusals a.pool } };
+    ghost view = { λ a. record { table = a.jobs; pool = a.pool } };
 }
 
 impl<P: ThreadPool + Drop> Blockings<P> {
     /// No job, and who runs the jobs; at most so many are kept at once.
     pub fn new(alloc: Global, pool: BlockingHandle<P>, limit: u64) -> Blockings<P>
         ensures jobs { result.table.jobs ≡ no_jobs limit }
-        ensures strategy { result.strategy ≡ strategy_of pool }
-        ensures refusals { result.refusals ≡ refusals_of P.refusals pool }
+        ensures pool { result.pool ≡ pool }
     {
         Blockings {
             pool,
@@ -59,9 +58,9 @@ impl<P: ThreadPool + Drop> Blockings<P> {
         alloc: Global,
         job: P::Job,
     ) -> Result<JobHandle, SpawnError<P::Job>>
-        ensures spawned { Spawned P.Job.output_number job result self.old self.new }
-        ensures strategy { self.new.strategy ≡ self.old.strategy }
-        ensures later { self.old.refusals ≤ self.new.refusals }
+        ensures spawned { Spawned P.Job.output_number job result (strategy_of self.old.pool) (refusals_of P.refusals self.old.pool) (refusals_of P.refusals self.new.pool) self.old.table.jobs self.new.table.jobs }
+        ensures strategy { strategy_of self.new.pool ≡ strategy_of self.old.pool }
+        ensures later { refusals_of P.refusals self.old.pool ≤ refusals_of P.refusals self.new.pool }
     {
         if self.jobs.is_full() {
             return Err(SpawnError::AtCapacity(job));
@@ -104,8 +103,7 @@ impl<P: ThreadPool + Drop> Blockings<P> {
         ensures answer { polled_reply P.Job.Output.output_number result.answer ≡ poll_answer (after_end result.end self.old.table.jobs j) j }
         ensures jobs { self.new.table.jobs ≡ job_polled (after_end result.end self.old.table.jobs j) j waker }
         ensures shown { PollShown P.Job.Output.output_number self.old.table j waker result.answer (used result.joiner) self.new.table }
-        ensures strategy { self.new.strategy ≡ self.old.strategy }
-        ensures refusals { self.new.refusals ≡ self.old.refusals }
+        ensures pool { self.new.pool ≡ self.old.pool }
     {
         self.jobs.poll(j, waker)
     }
@@ -119,8 +117,7 @@ impl<P: ThreadPool + Drop> Blockings<P> {
         ensures answer { dropped_reply P.Job.Output.output_number result.answer ≡ drop_answer (after_end result.end self.old.table.jobs j) j }
         ensures jobs { self.new.table.jobs ≡ job_dropped (after_end result.end self.old.table.jobs j) j }
         ensures shown { DropShown P.Job.Output.output_number self.old.table j result.answer (left result.seat) }
-        ensures strategy { self.new.strategy ≡ self.old.strategy }
-        ensures refusals { self.new.refusals ≡ self.old.refusals }
+        ensures pool { self.new.pool ≡ self.old.pool }
     {
         self.jobs.drop_handle(j)
     }
@@ -131,16 +128,15 @@ impl<P: ThreadPool + Drop> Blockings<P> {
         ensures answer { finished_reply result.answer ≡ finished_answer (after_end result.end self.old.table.jobs j) j }
         ensures jobs { self.new.table.jobs ≡ after_end result.end self.old.table.jobs j }
         ensures shown { FinishShown P.Job.Output.output_number self.old.table j result.answer (left result.seat) self.new.table }
-        ensures strategy { self.new.strategy ≡ self.old.strategy }
-        ensures refusals { self.new.refusals ≡ self.old.refusals }
+        ensures pool { self.new.pool ≡ self.old.pool }
     {
         self.jobs.has_ended(j)
     }
 
     /// The attached pool; None exactly where none is attached.
     pub fn into_pool(self) -> Option<P>
-        ensures some { IfSome result (λ pool. (self.strategy ≡ blocking.Attached) × (self.refusals ≡ P.refusals pool)) }
-        ensures none { IsNone result → (self.strategy ≡ blocking.Panic) ⊎ (self.strategy ≡ blocking.ExecuteLocal) }
+        ensures some { IfSome result (λ pool. self.pool ≡ Attached pool) }
+        ensures none { IfNone result (IsApart self.pool) }
     {
         let Blockings { pool, jobs: _ } = self;
         match pool {
