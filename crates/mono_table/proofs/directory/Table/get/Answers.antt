@@ -1,0 +1,14 @@
+use Rattle.std.proofs.Common.{ap, ◌∙◌, arith}
+use Rattle.mono_model.specs.Table.{value_at}
+use Rattle.mono_table.proofs.Laying.{get_reads, look_past, child_inside}
+use Rattle.mono_table.proofs.directory.Table.get.Goals as goal
+
+pub returns-then-number-self : goal.returns-then-number-self
+returns-then-number-self g c =
+    look_past 65536 (omega arith) c.self.inside.parts.items c.self.inside.parts.cap c.self.inside.len c.self.inside.live c.self.invariant c.args.number (omega arith)
+    ∙ ap (λ table. value_at table c.args.number) c.self.view_is
+
+pub returns : goal.returns
+returns g c =
+    c.get.ensures ∙ get_reads 65536 (omega arith) c.self.inside.parts.items c.self.inside.parts.cap c.self.inside.len c.self.inside.live c.self.invariant c.args.number (omega arith) c.index.result.now c.index.ensures
+    ∙ ap (λ table. value_at table c.args.number) c.self.view_is

@@ -1,0 +1,17 @@
+use Rattle.std.proofs.Common.{ap, ◌∙◌, arith, length}
+use Rattle.mono_model.specs.Table.{with_next}
+use Rattle.mono_table.proofs.Laying.{length_is, pushes, refuses}
+use Rattle.mono_table.proofs.parts.Part.push.Goals as goal
+
+pub overflow_add-self : goal.overflow_add-self
+overflow_add-self g c =
+    omega (arith, length_is 256 (omega arith) c.self.inside.pages.items c.self.inside.pages.cap c.self.inside.len c.self.inside.live c.self.invariant, ap length c.self.view_is, c.requires)
+
+pub invariant_of-self-2 : goal.invariant_of-self-2
+invariant_of-self-2 g c =
+    (pushes 256 (omega arith) c.self.inside.pages.items c.self.inside.pages.cap c.self.inside.len c.self.inside.live c.self.invariant c.open_page.new.pages.items c.open_page.new.pages.cap c.open_page.ensures.same c.open_page.ensures.longer c.open_page.ensures.no_more c.in_ok-open_page.ensures.inside c.index_mut.result.now c.push.new.self c.index_mut.ensures.value c.args.value c.in_ok-push.ensures.after).0
+
+pub returns-clause-after : goal.returns-clause-after
+returns-clause-after g c =
+    (pushes 256 (omega arith) c.self.inside.pages.items c.self.inside.pages.cap c.self.inside.len c.self.inside.live c.self.invariant c.open_page.new.pages.items c.open_page.new.pages.cap c.open_page.ensures.same c.open_page.ensures.longer c.open_page.ensures.no_more c.in_ok-open_page.ensures.inside c.index_mut.result.now c.push.new.self c.index_mut.ensures.value c.args.value c.in_ok-push.ensures.after).1
+    ∙ ap (λ table. with_next table c.args.value) c.self.view_is

@@ -1,0 +1,10 @@
+//! Tables by number whose memory follows what lives: a number costs nothing once all that was given out near it is gone.
+#![tactic(auto)]
+
+mod directory;
+mod pages;
+mod parts;
+#[cfg(test)]
+mod tests;
+
+pub use directory::Table;
