@@ -1,0 +1,9 @@
+pub mod Closing
+pub mod Told
+pub mod Standing
+pub mod Worked
+pub mod Chains
+pub mod Keeping
+pub mod Entering
+pub mod Timed
+pub mod Turns

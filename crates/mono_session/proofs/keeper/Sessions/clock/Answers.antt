@@ -1,0 +1,76 @@
+use Rattle.std.proofs.Common.{◌≡◌, ℕ, List, [], ◌∷◌, ◌++◌, refl, sym, ap, subst, ◌∙◌, append_assoc, append-nil}
+use Rattle.mono_time.specs.Instants.{nanos_of}
+use Rattle.mono_time.specs.Sleeps.{at_clock, fired, removed, IsFiredFirst, IsNoneArmedUpTo}
+use Rattle.mono_time.specs.Timers.{sleeps_of}
+use Rattle.mono_session.specs.Keeper.{Keeper, with_greatest, without_session}
+use Rattle.mono_session.specs.Answers as answer
+use Rattle.mono_session.specs.Steps.{greatest_at, without_all}
+use Rattle.mono_session.specs.Stands.{Matches, Beside}
+use Rattle.mono_session.specs.declared.keeper.Sessions.{Sessions}
+use Rattle.mono_session.proofs.Closing.{all_greatest, clock_timely}
+use Rattle.mono_session.proofs.Timed.{sleep_closed}
+use Rattle.mono_session.proofs.Turns.{CloseInTurn, IsFirst, first_due, none_due, due_inside, due_open, all-push, clock-again, beside_clock, lists_due}
+use Rattle.mono_session.proofs.keeper.Sessions.clock.Goals as goal
+
+pub loop-session-init : goal.loop-session-init
+loop-session-init g c = record { room = c.requires; turns = λ k st. ([], k, st.matches, refl, sym (append-nil c.args.closed.now.items), λ more turn. turn) }
+
+pub loop-session-preserved : goal.loop-session-preserved
+loop-session-preserved g c = record {
+  room = c.close_due.ensures.room;
+  turns = λ k st.
+      let n = nanos_of c.args.now in
+      let s = c.in-Some.session in
+      let waker = c.in-Some.field-0-1 in
+      let at : Sessions = record { timers = c.loop-session.self.timers; limits = c.loop-session.self.limits; entries = c.loop-session.self.entries; most_entries = c.loop-session.self.most_entries } in
+      let mid_code : Sessions = record { timers = c.clock.new.self; limits = c.loop-session.self.limits; entries = c.loop-session.self.entries; most_entries = c.loop-session.self.most_entries } in
+      let was = c.loop-session.invariant.turns k st in
+      let due : List ℕ = was.0 in
+      let before : Keeper = was.1 in
+      let tick : ℕ = greatest_at k n in
+      let start : Keeper = with_greatest k tick in
+      let mid : Keeper = with_greatest before (greatest_at before n) in
+      let same : mid ≡ without_all start due = was.3 in
+      let told : IsFiredFirst (at_clock (sleeps_of at.timers) n) s waker × (sleeps_of c.clock.new.self ≡ fired (at_clock (sleeps_of at.timers) n) s) = c.in-Some.ensures.some in
+      let first : IsFirst mid.sessions mid.greatest s = first_due mid s waker (subst (λ x. IsFiredFirst (at_clock x n) s waker) was.2.sleeps told.0) in
+      let beside : Beside mid_code mid = beside_clock at mid_code before (greatest_at before n) refl refl refl was.2.beside in
+      let here : IsFirst (without_all start due).sessions tick s = subst (λ t. IsFirst (without_all start due).sessions t s) (all_greatest start due) (subst (λ (x : Keeper). IsFirst x.sessions x.greatest s) same first) in (
+        due ++ s ∷ [],
+        without_session mid s,
+        record {
+          sleeps = c.close_due.ensures.sleeps ∙ ap (λ x. removed x s) (told.1 ∙ ap (λ x. fired (at_clock x n) s) was.2.sleeps) ∙ sleep_closed mid s (due_inside mid mid.greatest s first);
+          beside = c.close_due.ensures.beside mid beside;
+        },
+        clock-again before n s ∙ ap (λ x. without_session x s) same ∙ sym (all-push start due s),
+        c.close_due.ensures.listed mid beside (due_open mid mid.greatest s first) ∙ ap (λ xs. xs ++ s ∷ []) was.4 ∙ append_assoc c.args.closed.now.items due (s ∷ []),
+        λ more turn.
+            subst (CloseInTurn k.sessions tick) (sym (append_assoc due (s ∷ []) more))
+            (was.5 (s ∷ more) (here, subst (λ (x : Keeper). CloseInTurn x.sessions tick more) (all-push start due s) turn)),
+      );
+}
+
+pub returns : goal.returns
+returns g c = λ k st.
+    let n = nanos_of c.args.now in
+    let at : Sessions = record { timers = c.loop-session.self.timers; limits = c.loop-session.self.limits; entries = c.loop-session.self.entries; most_entries = c.loop-session.self.most_entries } in
+    let new : Sessions = record { timers = c.clock.new.self; limits = c.loop-session.self.limits; entries = c.loop-session.self.entries; most_entries = c.loop-session.self.most_entries } in
+    let was = c.loop-session.invariant.turns k st in
+    let due : List ℕ = was.0 in
+    let before : Keeper = was.1 in
+    let tick : ℕ = greatest_at k n in
+    let start : Keeper = with_greatest k tick in
+    let mid : Keeper = with_greatest before (greatest_at before n) in
+    let same : mid ≡ without_all start due = was.3 in
+    let told : IsNoneArmedUpTo (at_clock (sleeps_of at.timers) n) × (sleeps_of c.clock.new.self ≡ at_clock (sleeps_of at.timers) n) = c.in_default.ensures.none in
+    let left : CloseInTurn mid.sessions mid.greatest [] = none_due mid (subst (λ x. IsNoneArmedUpTo (at_clock x n)) was.2.sleeps told.0) in
+    let none : CloseInTurn (without_all start due).sessions tick [] = subst (λ t. CloseInTurn (without_all start due).sessions t []) (all_greatest start due) (subst (λ (x : Keeper). CloseInTurn x.sessions x.greatest []) same left) in
+    let lists = lists_due k.sessions tick due (subst (CloseInTurn k.sessions tick) (append-nil due) (was.5 [] none)) in
+    let matches : Matches new mid = record { sleeps = told.1 ∙ ap (λ x. at_clock x n) was.2.sleeps; beside = beside_clock at new before (greatest_at before n) refl refl refl was.2.beside } in (
+      due,
+      was.4,
+      lists,
+      record {
+        matches = subst (Matches new) same matches;
+        timely = clock_timely k (without_all start due) n (answer.Closed due) st.timely (c.args.now.in_range, lists, refl);
+      },
+    )

@@ -1,0 +1,12 @@
+pub mod Keeper
+pub mod Calls
+pub mod Answers
+pub mod Steps
+pub mod Laws
+pub mod Worked
+pub mod Links
+pub mod Queues
+pub mod Entered
+pub mod Memory
+pub mod Sleeping
+pub mod Stands

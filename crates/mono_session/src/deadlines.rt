@@ -1,0 +1,34 @@
+// Sleeps for the ticks at which sessions are closed.
+ghost use Rattle.std.specs.Prelude.{◌≡◌, ◌+◌, IfSome, IsSome, is_some, not, nat_lt};
+ghost use Rattle.mono_model.specs.Ticks.{up};
+ghost use Rattle.mono_time.specs.Instants.{nanos_of};
+ghost use Rattle.mono_time.specs.Timers.{sleeps_of};
+ghost use Rattle.mono_session.specs.Keeper.{last_tick};
+ghost use Rattle.mono_session.specs.Sleeping.{Arms};
+
+use mono_time::{Instant, SleepError, Timers};
+use std::alloc::Global;
+
+// No tick is above it.
+const LAST_TICK: u64 = 9223372036854775807;
+
+/// The deadline so many ticks after one, or None exactly where its tick would be above 2^63 - 1.
+pub fn deadline_after(tick: u64, limit: u64) -> Option<Instant>
+    ensures variant { is_some result ≡ not (nat_lt last_tick (tick + limit)) }
+    ensures some { IfSome result (λ deadline. up (nanos_of deadline) ≡ tick + limit) }
+{
+    let sum = tick.saturating_add(limit);
+    if sum > LAST_TICK {
+        return None;
+    }
+    Instant::from_nanos(sum as u128 * 1000000)
+}
+
+/// A new sleep that is armed for a deadline and wakes nobody. The answer is its number, or the timers' refusal.
+pub fn add_armed(timers: &mut Timers, alloc: Global, deadline: Instant) -> Result<u64, SleepError>
+    ensures { Arms (sleeps_of timers.old) (up (nanos_of deadline)) result (sleeps_of timers.new) }
+{
+    let sleep = timers.add(alloc, deadline)?;
+    let _ = timers.reset(sleep, deadline);
+    Ok(sleep)
+}

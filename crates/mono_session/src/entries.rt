@@ -1,0 +1,84 @@
+// The entries of sessions in the queues of keys.
+ghost use Rattle.std.specs.Prelude.{◌≡◌, ◌++◌, ◌∷◌, [], ℕ, List, Option, true, false, not, ◌==◌, filter, length, OnOk, IsTrue, ◌↔◌};
+ghost use Rattle.mono_session.specs.Keeper.{Entry, queue_in, first_of, stands_in, is_entry};
+ghost use Rattle.mono_session.specs.Entered.{Entered, HasPlace};
+
+use crate::queues::Queues;
+use std::alloc::{AllocError, Global};
+
+/// Which sessions stand in the queue of each key, and for each session in which queues it stands.
+#[derive(Drop)]
+pub struct Entries {
+    // by key, the sessions
+    queues: Queues,
+    // by session, the keys
+    keys: Queues,
+}
+
+impl Entries {
+    /// No entries.
+    pub fn new(alloc: Global) -> Entries
+        ensures { Entered result [] }
+    {
+        Entries {
+            queues: Queues::new(alloc),
+            keys: Queues::new(alloc),
+        }
+    }
+
+    /// Makes room for one more entry. Refused only for want of memory; all entries stay in either case.
+    pub fn reserve(&mut self) -> Result<(), AllocError>
+        ensures room { OnOk result (HasPlace self.new) }
+        ensures kept { (entries : List Entry) → Entered self.old entries → Entered self.new entries }
+    {
+        self.queues.reserve()?;
+        self.keys.reserve()
+    }
+
+    /// How many entries there are.
+    pub fn len(&self) -> usize
+        ensures { (entries : List Entry) → Entered self.now entries → result ≡ length entries }
+    {
+        self.queues.len()
+    }
+
+    /// Whether the session stands in the queue of the key.
+    pub fn contains(&self, session: u64, key: u64) -> bool
+        ensures { (entries : List Entry) → Entered self.now entries → result ≡ stands_in entries session key }
+    {
+        self.queues.contains(key, session)
+    }
+
+    /// The first session in the queue of the key.
+    pub fn owner(&self, key: u64) -> Option<u64>
+        ensures { (entries : List Entry) → Entered self.now entries → result ≡ first_of (queue_in entries key) }
+    {
+        self.queues.first(key)
+    }
+
+    /// A session that does not stand in the queue of the key comes into it, last. It takes no memory: there is room.
+    pub fn enter(&mut self, session: u64, key: u64)
+        requires { HasPlace self.old }
+        ensures { (entries : List Entry) → Entered self.old entries → stands_in entries session key ≡ false → Entered self.new (entries ++ record { session = session; key = key } ∷ []) }
+    {
+        self.queues.push_back(key, session);
+        self.keys.push_back(session, key);
+    }
+
+    /// A session that stands in the queue of the key leaves it.
+    pub fn leave(&mut self, session: u64, key: u64)
+        ensures { (entries : List Entry) → Entered self.old entries → stands_in entries session key ≡ true → Entered self.new (filter (λ entry. not (is_entry session key entry)) entries) }
+    {
+        self.queues.remove(key, session);
+        self.keys.remove(session, key);
+    }
+
+    /// A session leaves all queues in which it stands.
+    pub fn leave_all(&mut self, session: u64)
+        ensures { (entries : List Entry) → Entered self.old entries → Entered self.new (filter (λ entry. not (entry.session == session)) entries) }
+    {
+        while let Some(key) = self.keys.pop_first(session) {
+            self.queues.remove(key, session);
+        }
+    }
+}

@@ -1,0 +1,35 @@
+// Why a call on sessions is refused.
+ghost use Rattle.std.specs.Prelude.{◌≡◌};
+
+use std::alloc::AllocError;
+
+/// Why a call on the sessions was refused. It changed nothing then.
+///
+/// Where several causes hold, the one that stands first here counts, but that want of memory comes last.
+#[derive(Clone, Copy, Debug, PartialEq, Eq)]
+pub enum SessionError {
+    /// There was no memory.
+    Memory,
+    /// There is no place for a further session, or for a further entry in a queue.
+    AtCapacity,
+    /// The session would be closed at a tick above 2^63 - 1.
+    Invalid,
+    /// No open session has the number.
+    NoSession,
+    /// A session was to be opened for no time.
+    ZeroLimit,
+    /// The session stands in the key's queue already.
+    Doubled,
+    /// The session does not stand in the key's queue.
+    NotIn,
+}
+
+impl From<AllocError> for SessionError {
+    ghost from_gives = { λ _ e. e ≡ Why.Memory };
+
+    ghost use Rattle.mono_session.specs.declared.error.SessionError.TheVariants as Why;
+
+    fn from(_: AllocError) -> Self {
+        SessionError::Memory
+    }
+}

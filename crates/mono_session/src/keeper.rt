@@ -1,0 +1,214 @@
+// The sessions, over timers and queues.
+ghost use Rattle.std.specs.Prelude.{◌≡◌, ◌≤◌, ◌+◌, ◌++◌, ◌∷◌, [], ℕ, List, true, false, if◌then◌else◌, IfOk, vec_len, vec_capacity};
+ghost use Rattle.mono_model.specs.Due.{ListsDue};
+ghost use Rattle.mono_model.specs.Table.{count_of};
+ghost use Rattle.mono_time.specs.Instants.{nanos_of};
+ghost use Rattle.mono_time.specs.Sleeps.{removed};
+ghost use Rattle.mono_time.specs.Timers.{sleeps_of};
+ghost use Rattle.mono_session.specs.Keeper.{Keeper, no_sessions, is_open, open_answer, opened, beat_answer, beaten, close_answer, closed, acquire_answer, acquired, release_answer, released, owner_answer, with_greatest, without_session};
+ghost use Rattle.mono_session.specs.Memory.{OrLacksMemory};
+ghost use Rattle.mono_session.specs.Steps.{closing_value, greatest_at, without_all};
+ghost use Rattle.mono_session.specs.Stands.{StandsFor, Beside, open_count};
+ghost use Rattle.mono_session.specs.declared.error.SessionError.TheVariants as error;
+
+use crate::SessionError;
+use crate::deadlines::{add_armed, deadline_after};
+use crate::entries::Entries;
+use mono_time::{Instant, Timers};
+use mono_wheel::Steps;
+use std::alloc::{AllocError, Global};
+use std::collections::HashMap;
+use std::sync::ledger::Ledger;
+
+/// Sessions that are kept open by beats, and the queues of keys in which they stand.
+///
+/// A session stays open for its limit, in milliseconds, after its last beat; then the clock closes it, and it leaves all
+/// queues. The first in the queue of a key owns the key.
+///
+/// A session's number is that of its sleep, so it is never given twice. A beat is noted at the sleep and moves nothing. No
+/// call does work that grows with the sessions, the keys or the entries that it does not touch, but for a look-up in a map.
+#[derive(Drop)]
+pub struct Sessions {
+    timers: Timers,
+    // for how many ticks each open session stays open after a beat
+    limits: HashMap<u64, u64>,
+    entries: Entries,
+    most_entries: u64,
+}
+
+// One more number, for which there is room.
+fn put(numbers: &mut Vec<u64>, number: u64)
+    requires { vec_len numbers.old + 1 ≤ vec_capacity numbers.old }
+    ensures items { numbers.new.items ≡ numbers.old.items ++ number ∷ [] }
+    ensures len { vec_len numbers.new ≡ vec_len numbers.old + 1 }
+    ensures capacity { vec_capacity numbers.old ≤ vec_capacity numbers.new }
+{
+    if numbers.push(number).is_err() {
+        unreachable!();
+    }
+}
+
+impl Sessions {
+    /// No sessions, of which at most `sessions` may be open, with at most `entries` entries in all queues.
+    pub fn new(alloc: Global, sessions: u64, entries: u64) -> Result<Sessions, AllocError>
+        ensures { IfOk result (λ made. StandsFor made (no_sessions sessions entries)) }
+    {
+        let timers = Timers::new(alloc, sessions, true)?;
+        Ok(Sessions {
+            timers,
+            limits: HashMap::new(alloc),
+            entries: Entries::new(alloc),
+            most_entries: entries,
+        })
+    }
+
+    /// Opens a session with the next number. It stays open for `limit_ms` milliseconds, from 1 on, after its last beat,
+    /// which is now: the greatest tick of the clock so far.
+    ///
+    /// Refused at capacity exactly where the open sessions are at the limit or the next number is 2^64 - 1, then as invalid
+    /// exactly where it would be closed at a tick above 2^63 - 1, then for a limit of zero. Want of memory comes last. No
+    /// refusal changes anything.
+    pub fn open(&mut self, alloc: Global, limit_ms: u64) -> Result<u64, SessionError>
+        ensures { (k : Keeper) → StandsFor self.old k → OrLacksMemory error.Memory (open_answer k limit_ms) k (opened k limit_ms) (StandsFor self.new) result }
+    {
+        if self.timers.is_full() {
+            return Err(SessionError::AtCapacity);
+        }
+        let Some(deadline) = deadline_after(self.timers.greatest(), limit_ms) else {
+            return Err(SessionError::Invalid);
+        };
+        if limit_ms == 0 {
+            return Err(SessionError::ZeroLimit);
+        }
+        if self.limits.reserve(1).is_err() {
+            return Err(SessionError::Memory);
+        }
+        match add_armed(&mut self.timers, alloc, deadline) {
+            Err(_) => Err(SessionError::Memory),
+            Ok(session) => {
+                let _ = self.limits.insert(session, limit_ms);
+                Ok(session)
+            }
+        }
+    }
+
+    /// The last beat of a session is now, the greatest tick of the clock so far.
+    ///
+    /// Refused as invalid exactly where it is open and would be closed at a tick above 2^63 - 1, and exactly where it is not
+    /// open.
+    pub fn beat(&mut self, session: u64) -> Result<(), SessionError>
+        ensures { (k : Keeper) → StandsFor self.old k → (result ≡ beat_answer k session) × StandsFor self.new (beaten k session) }
+    {
+        let Some(limit) = self.limits.get(&session).copied() else {
+            return Err(SessionError::NoSession);
+        };
+        let Some(deadline) = deadline_after(self.timers.greatest(), limit) else {
+            return Err(SessionError::Invalid);
+        };
+        let _ = self.timers.reset(session, deadline);
+        Ok(())
+    }
+
+    /// Closes a session: it leaves all queues. Refused exactly where it is not open.
+    pub fn close(&mut self, session: u64) -> Result<(), SessionError>
+        ensures { (k : Keeper) → StandsFor self.old k → (result ≡ close_answer k session) × StandsFor self.new (closed k session) }
+    {
+        if !self.limits.contains_key(&session) {
+            return Err(SessionError::NoSession);
+        }
+        self.forget(session);
+        Ok(())
+    }
+
+    // The session is not open any more. The answer says whether it was.
+    fn forget(&mut self, session: u64) -> bool
+        ensures was { (k : Keeper) → Beside self.old k → result ≡ is_open k session }
+        ensures sleeps { sleeps_of self.new.timers ≡ removed (sleeps_of self.old.timers) session }
+        ensures beside { (k : Keeper) → Beside self.old k → Beside self.new (without_session k session) }
+        ensures count { open_count self.new + (if result then 1 else 0) ≡ open_count self.old }
+    {
+        let _ = self.timers.remove(session);
+        self.entries.leave_all(session);
+        self.limits.remove(&session).is_some()
+    }
+
+    /// A session comes into the queue of a key, last. The answer says whether it is the first there.
+    ///
+    /// Refused at capacity exactly where the entries of all queues are at the limit, then exactly where it is not open, then
+    /// as doubled exactly where it stands there already. Want of memory comes last. No refusal changes anything.
+    pub fn acquire(&mut self, _alloc: Global, session: u64, key: u64) -> Result<bool, SessionError>
+        ensures { (k : Keeper) → StandsFor self.old k → OrLacksMemory error.Memory (acquire_answer k session key) k (acquired k session key) (StandsFor self.new) result }
+    {
+        if self.entries.len() as u64 >= self.most_entries {
+            return Err(SessionError::AtCapacity);
+        }
+        if !self.limits.contains_key(&session) {
+            return Err(SessionError::NoSession);
+        }
+        if self.entries.contains(session, key) {
+            return Err(SessionError::Doubled);
+        }
+        if self.entries.reserve().is_err() {
+            return Err(SessionError::Memory);
+        }
+        let is_first = self.entries.owner(key).is_none();
+        self.entries.enter(session, key);
+        Ok(is_first)
+    }
+
+    /// A session leaves the queue of a key. Refused exactly where it is not open, then exactly where it does not stand there.
+    pub fn release(&mut self, session: u64, key: u64) -> Result<(), SessionError>
+        ensures { (k : Keeper) → StandsFor self.old k → (result ≡ release_answer k session key) × StandsFor self.new (released k session key) }
+    {
+        if !self.limits.contains_key(&session) {
+            return Err(SessionError::NoSession);
+        }
+        if !self.entries.contains(session, key) {
+            return Err(SessionError::NotIn);
+        }
+        self.entries.leave(session, key);
+        Ok(())
+    }
+
+    /// Who owns a key: the session that has stood longest in its queue. None exactly where the queue is empty.
+    pub fn owner(&self, key: u64) -> Option<u64>
+        ensures { (k : Keeper) → StandsFor self.now k → result ≡ owner_answer k key }
+    {
+        self.entries.owner(key)
+    }
+
+    /// How many sessions are open.
+    pub fn open_len(&self) -> usize
+        ensures open { (k : Keeper) → StandsFor self.now k → result ≡ count_of k.sessions }
+        ensures count { result ≡ open_count self.now }
+    {
+        self.limits.len()
+    }
+
+    /// The clock shows an instant: the greatest tick becomes the greater of itself and the instant's, rounded down. The open
+    /// sessions whose last beat plus limit is not above it are closed, and leave all queues, whose order stays.
+    ///
+    /// Their numbers are appended to `closed`, which has room for all that are open, in the order of the ticks at which they
+    /// are closed; in any order within one tick.
+    pub fn clock<L: Ledger>(&mut self, now: Instant, closed: &mut Vec<u64>, steps: &mut Steps<L>)
+        requires { vec_len closed.old + open_count self.old ≤ vec_capacity closed.old }
+        ensures { (k : Keeper) → StandsFor self.old k → (due : List ℕ) × (closed.new.items ≡ closed.old.items ++ due) × ListsDue closing_value k.sessions (greatest_at k (nanos_of now)) due × StandsFor self.new (without_all (with_greatest k (greatest_at k (nanos_of now))) due) }
+    {
+        while let Some((session, _)) = self.timers.clock(now, steps) {
+            self.close_due(session, closed);
+        }
+    }
+
+    // A session whose time has come is closed and listed, if it was open.
+    fn close_due(&mut self, session: u64, closed: &mut Vec<u64>)
+        requires { vec_len closed.old + open_count self.old ≤ vec_capacity closed.old }
+        ensures room { vec_len closed.new + open_count self.new ≤ vec_capacity closed.new }
+        ensures listed { (k : Keeper) → Beside self.old k → is_open k session ≡ true → closed.new.items ≡ closed.old.items ++ session ∷ [] }
+        ensures sleeps { sleeps_of self.new.timers ≡ removed (sleeps_of self.old.timers) session }
+        ensures beside { (k : Keeper) → Beside self.old k → Beside self.new (without_session k session) }
+    {
+        if self.forget(session) {
+            put(closed, session);
+        }
+    }
+}

@@ -1,0 +1,18 @@
+//! Sessions that are kept open by beats, and the queues of keys in which they stand.
+#![tactic(auto)]
+
+mod deadlines;
+mod entries;
+mod error;
+mod keeper;
+mod laws;
+mod places;
+mod queues;
+mod rows;
+
+pub use error::SessionError;
+pub use keeper::Sessions;
+pub use laws::{
+    closes_in_time, none_closes_twice, none_is_ever_late, only_open_stand, queues_are_told,
+};
+pub use rows::{closed_owns_not, kept_open, next_owns};
