@@ -9,6 +9,8 @@ mod laws;
 mod places;
 mod queues;
 mod rows;
+#[cfg(test)]
+mod tests;
 
 pub use error::SessionError;
 pub use keeper::Sessions;
