@@ -1,0 +1,6 @@
+-- The machine that a trace stands for.
+use Rattle.mono_machine.specs.Machine.{Machine}
+use Rattle.mono_trace.specs.declared.traces.Trace.{Trace}
+
+abbrev pub machine_of : Trace → Machine
+machine_of trace = trace.parts.now

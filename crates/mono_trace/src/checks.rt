@@ -1,0 +1,32 @@
+// The check of a whole list of events with their reports.
+ghost use Rattle.std.specs.Prelude.{◌≡◌, ◌<◌, ◌^◌, length, IfOk};
+ghost use Rattle.mono_trace.specs.Verdicts.{Checked};
+
+use crate::{Trace, Verdict};
+use mono_machine::{Blocking, Event, Limits, Report};
+use std::alloc::{AllocError, Global};
+
+/// Whether the reports are those of a run of the events, from the start machine with these limits and this strategy.
+///
+/// Yes exactly where they are; No with a place exactly where the pairs before that place are those of a run and the pair
+/// at the place is no step from where that run ends (`Checked`; by the law `one_verdict` no other verdict is right). There
+/// are as many reports as events, below 2^63. The only error is want of memory.
+pub fn check(
+    alloc: Global,
+    limits: Limits,
+    blocking: Blocking,
+    events: &Vec<Event>,
+    reports: &Vec<Report>,
+) -> Result<Verdict, AllocError>
+    requires same_length { length events.now.items ≡ length reports.now.items }
+    requires not_too_long { length events.now.items < 2 ^ 63 }
+    ensures { IfOk result (λ verdict. Checked limits blocking events.now.items reports.now.items verdict) }
+{
+    let mut trace = Trace::new(alloc, limits, blocking);
+    for i in 0..events.len() {
+        if !trace.step(alloc, &events[i], &reports[i])? {
+            return Ok(Verdict::No(i as u64));
+        }
+    }
+    Ok(Verdict::Yes)
+}

@@ -1,0 +1,223 @@
+// The parts of a trace, and the acts and polls on them.
+ghost use Rattle.std.specs.Prelude.{◌≡◌, ◌<◌, ◌-◌, ◌^◌, ◌∷◌, [], List, ℕ, IfOk, OnOk, MatchOption, is_some, true};
+ghost use Rattle.mono_model.specs.Table.{value_at};
+ghost use Rattle.mono_machine.specs.Machine.{start_machine};
+ghost use Rattle.mono_machine.specs.Acts.{act_outcome, query_outcome, step_outcome};
+ghost use Rattle.mono_machine.specs.Turns.{after_begin, end_answer, after_end};
+ghost use Rattle.mono_machine.specs.Steps.{after_fire, at_clock};
+ghost use Rattle.mono_trace.specs.Versions.{kept, changed};
+
+use crate::jobs::Jobs;
+use crate::sleeps::Sleeps;
+use crate::tasks::Tasks;
+use mono_machine::{Act, Blocking, End, Ended, Limits, MAX_NANOS, Query, Refusal, Reply, TurnStep};
+use std::alloc::{AllocError, Global};
+use std::marker::Model;
+
+/// The tasks, the jobs, the sleeps and the inbox of a trace.
+///
+/// Contracts see a machine, as it is and as it was when its changes were last kept. The inbox is not taken back.
+#[derive(Drop)]
+pub struct Parts {
+    pub tasks: Tasks,
+    pub jobs: Jobs,
+    pub sleeps: Sleeps,
+    pub inbox: Vec<u64>,
+    pub blocking: Blocking,
+}
+
+impl Model for Parts {
+    ghost use Rattle.mono_machine.specs.Machine.{Machine};
+    ghost use Rattle.mono_trace.specs.Versions.{Versions};
+    ghost use Rattle.mono_trace.specs.Told.{machine_in};
+
+    ghost Value = { Versions Machine };
+
+    ghost view = { λ a. record { now = machine_in a.tasks.now a.jobs.now a.sleeps.now a.inbox.items a.blocking; before = machine_in a.tasks.before a.jobs.before a.sleeps.before a.inbox.items a.blocking } };
+}
+
+impl Parts {
+    /// Those of the start machine.
+    pub fn new(alloc: Global, limits: Limits, blocking: Blocking) -> Parts
+        ensures { result ≡ kept (start_machine limits blocking) }
+    {
+        Parts {
+            tasks: Tasks::new(alloc, limits.tasks),
+            jobs: Jobs::new(alloc, limits.jobs),
+            sleeps: Sleeps::new(alloc, limits.sleeps),
+            inbox: Vec::new(alloc),
+            blocking,
+        }
+    }
+
+    /// A task is made.
+    fn spawn(&mut self) -> Result<Reply, AllocError>
+        ensures reply { IfOk result (λ r. r ≡ (act_outcome Act.Spawn self.old.now).reply) }
+        ensures machine { OnOk result (self.new ≡ changed self.old (act_outcome Act.Spawn self.old.now).machine) }
+    {
+        if self.tasks.is_full() {
+            return Ok(Reply::Refused(Refusal::AtCapacity));
+        }
+        let t = self.tasks.spawn()?;
+        Ok(Reply::Task(t))
+    }
+
+    /// A job is made, by the strategy.
+    fn block(&mut self, output: u64) -> Result<Reply, AllocError>
+        ensures reply { IfOk result (λ r. r ≡ (act_outcome (Act.Block output) self.old.now).reply) }
+        ensures machine { OnOk result (self.new ≡ changed self.old (act_outcome (Act.Block output) self.old.now).machine) }
+    {
+        if self.jobs.is_full() {
+            return Ok(Reply::Refused(Refusal::AtCapacity));
+        }
+        match self.blocking {
+            Blocking::Attached => {
+                let j = self.jobs.start(output)?;
+                Ok(Reply::Job(j))
+            }
+            Blocking::ExecuteLocal => {
+                let j = self.jobs.run(output)?;
+                Ok(Reply::Job(j))
+            }
+            Blocking::Panic => Ok(Reply::Refused(Refusal::NoPool)),
+        }
+    }
+
+    /// A sleep is made.
+    fn new_sleep(&mut self, n: u128) -> Result<Reply, AllocError>
+        ensures reply { IfOk result (λ r. r ≡ (act_outcome (Act.NewSleep n) self.old.now).reply) }
+        ensures machine { OnOk result (self.new ≡ changed self.old (act_outcome (Act.NewSleep n) self.old.now).machine) }
+    {
+        if self.sleeps.is_full() {
+            return Ok(Reply::Refused(Refusal::AtCapacity));
+        }
+        if n > MAX_NANOS {
+            return Ok(Reply::Refused(Refusal::Invalid));
+        }
+        let s = self.sleeps.add(n)?;
+        Ok(Reply::Sleep(s))
+    }
+
+    /// A sleep is armed at another deadline. Where it elapses at once, its waker is woken.
+    fn reset(&mut self, s: u64, n: u128) -> Result<Reply, AllocError>
+        requires { self.old.now.sleeps.arm_count < 2 ^ 128 - 1 }
+        ensures reply { IfOk result (λ r. r ≡ (act_outcome (Act.Reset s n) self.old.now).reply) }
+        ensures machine { OnOk result (self.new ≡ changed self.old (act_outcome (Act.Reset s n) self.old.now).machine) }
+    {
+        if self.sleeps.get(s).is_none() {
+            return Ok(Reply::Refused(Refusal::NoTimer));
+        }
+        if n > MAX_NANOS {
+            return Ok(Reply::Refused(Refusal::Invalid));
+        }
+        let reply = self.sleeps.reset_reply(n);
+        let waker = self.sleeps.reset(s, n)?;
+        self.tasks.wake_if_any(waker)?;
+        Ok(reply)
+    }
+
+    /// An act is answered as the machine answers it, and leaves the machine's outcome.
+    pub fn act(&mut self, act: Act) -> Result<Reply, AllocError>
+        requires { self.old.now.sleeps.arm_count < 2 ^ 128 - 1 }
+        ensures reply { IfOk result (λ r. r ≡ (act_outcome act self.old.now).reply) }
+        ensures machine { OnOk result (self.new ≡ changed self.old (act_outcome act self.old.now).machine) }
+    {
+        match act {
+            Act::Spawn => self.spawn(),
+            Act::Wake(t) => self.tasks.wake_by_number(t),
+            Act::NewSleep(n) => self.new_sleep(n),
+            Act::Reset(s, n) => self.reset(s, n),
+            Act::DropSleep(s) => self.sleeps.remove(s),
+            Act::SleepElapsed(s) => Ok(self.sleeps.elapsed(s)),
+            Act::DropJoin(t) => self.tasks.drop_join(t),
+            Act::Block(output) => self.block(output),
+            Act::DropJob(j) => self.jobs.drop_handle(j),
+            Act::Finished(t) => Ok(self.tasks.finished(t)),
+            Act::JobFinished(j) => Ok(self.jobs.has_ended(j)),
+            Act::JobEnd(j, how) => self.jobs.end(j, how),
+        }
+    }
+
+    /// A poll by the running task.
+    fn query(&mut self, me: u64, query: Query) -> Result<Reply, AllocError>
+        requires { self.old.now.sleeps.arm_count < 2 ^ 128 - 1 }
+        ensures reply { IfOk result (λ r. r ≡ (query_outcome me query self.old.now).reply) }
+        ensures machine { OnOk result (self.new ≡ changed self.old (query_outcome me query self.old.now).machine) }
+    {
+        match query {
+            Query::Sleep(s) => self.sleeps.poll(s, me),
+            Query::Join(t) => self.tasks.join(t, me),
+            Query::Job(j) => self.jobs.poll(j, me),
+        }
+    }
+
+    /// One step of a turn.
+    pub fn step(&mut self, me: u64, step: TurnStep) -> Result<Reply, AllocError>
+        requires { self.old.now.sleeps.arm_count < 2 ^ 128 - 1 }
+        ensures reply { IfOk result (λ r. r ≡ (step_outcome me step self.old.now).reply) }
+        ensures machine { OnOk result (self.new ≡ changed self.old (step_outcome me step self.old.now).machine) }
+    {
+        match step {
+            TurnStep::Act(act) => self.act(act),
+            TurnStep::Query(query) => self.query(me, query),
+        }
+    }
+
+    /// A turn begins: the front of the queue runs.
+    pub fn begin(&mut self) -> Result<Option<u64>, AllocError>
+        ensures { IfOk result (λ r. MatchOption r ((self.old.now.tasks.queue ≡ []) × (self.new ≡ self.old)) (λ t. (rest : List ℕ) × (self.old.now.tasks.queue ≡ t ∷ rest) × (self.new ≡ changed self.old (after_begin t rest self.old.now)))) }
+    {
+        match self.tasks.begin()? {
+            None => Ok(None),
+            Some(t) => Ok(Some(t)),
+        }
+    }
+
+    /// The turn of a task ends.
+    pub fn end(&mut self, me: u64, end: End) -> Result<Ended, AllocError>
+        ensures ended { IfOk result (λ e. e ≡ end_answer end me self.old.now) }
+        ensures machine { OnOk result (self.new ≡ changed self.old (after_end end me self.old.now)) }
+    {
+        match end {
+            End::Pending => self.tasks.pause(me),
+            End::Ready(output) => self.tasks.complete(me, output),
+        }
+    }
+
+    /// The clock shows so many nanoseconds. Nothing fires yet.
+    pub fn at_clock(&mut self, n: u128)
+        ensures { self.new ≡ changed self.old (at_clock self.old.now n) }
+    {
+        self.sleeps.at_clock(n);
+    }
+
+    /// A sleep fires: it has elapsed, and its waker is woken.
+    pub fn fire(&mut self, s: u64) -> Result<(), AllocError>
+        requires { is_some (value_at self.old.now.sleeps.table s) ≡ true }
+        ensures { OnOk result (self.new ≡ changed self.old (after_fire self.old.now s)) }
+    {
+        let waker = self.sleeps.waker_at(s);
+        self.sleeps.fire(s)?;
+        self.tasks.wake_if_any(waker)?;
+        Ok(())
+    }
+
+    /// Keeps all changes, so that they are not taken back any more.
+    pub fn keep(&mut self)
+        ensures { self.new ≡ kept self.old.now }
+    {
+        self.tasks.keep();
+        self.jobs.keep();
+        self.sleeps.keep();
+    }
+
+    /// Takes back all changes since they were last kept.
+    pub fn take_back(&mut self) -> Result<(), AllocError>
+        ensures { OnOk result (self.new ≡ kept self.old.before) }
+    {
+        self.tasks.take_back()?;
+        self.jobs.take_back();
+        self.sleeps.take_back();
+        Ok(())
+    }
+}

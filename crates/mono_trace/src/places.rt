@@ -1,0 +1,160 @@
+// A table by number whose changes can be taken back.
+ghost use Rattle.std.specs.Prelude.{◌≡◌, [], Some, OnOk, is_some, true, List};
+ghost use Rattle.mono_model.specs.Table.{value_at, next_number, is_issued, with_next, with_value, without, count_of};
+ghost use Rattle.mono_trace.specs.Versions.{kept, changed, undone};
+
+use std::alloc::{AllocError, AllocFailed, Global};
+use std::marker::Model;
+
+/// One change of a table: a number was given out, or a number had this value.
+#[derive(Clone, Copy, Debug, PartialEq, Eq, Drop)]
+pub enum Change<V> {
+    Added,
+    Had(u64, V),
+}
+
+/// A table by number: what each number has that was given out, or none once it is gone.
+///
+/// Contracts see the table as it is and as it was when its changes were last kept.
+#[derive(Drop)]
+pub struct Places<V> {
+    items: Vec<Option<V>>,
+    live: u64,
+    live_before: u64,
+    changes: Vec<Change<V>>,
+}
+
+impl<V> Model for Places<V> {
+    ghost use Rattle.std.specs.Prelude.{◌≡◌, List, Option};
+    ghost use Rattle.mono_model.specs.Table.{count_of};
+    ghost use Rattle.mono_trace.specs.Versions.{Versions, undone};
+
+    ghost Value = { Versions (List (Option V)) };
+
+    ghost view = { λ a. record { now = a.items.items; before = undone a.changes.items a.items.items } };
+
+    ghost invariant = { λ a. (a.live ≡ count_of a.items.items) × (a.live_before ≡ count_of (undone a.changes.items a.items.items)) };
+}
+
+/// Takes back all changes, the last first.
+#[tactic(auto, using(crate::proofs::Undoing::undone_last, crate::proofs::Undoing::undone_past))]
+fn take_back<V: Copy + Drop>(items: &mut Vec<Option<V>>, changes: &mut Vec<Change<V>>)
+    ensures items { items.new.items ≡ undone changes.old.items items.old.items }
+    ensures changes { changes.new.items ≡ [] }
+{
+    while let Some(change) = changes.pop() {
+        match change {
+            Change::Added => {
+                items.pop();
+            }
+            Change::Had(number, value) => {
+                if (number as usize) < items.len() {
+                    items[number as usize] = Some(value);
+                }
+            }
+        }
+    }
+}
+
+impl<V: Copy + Drop> Places<V> {
+    /// No number was given out.
+    pub fn new(alloc: Global) -> Places<V>
+        ensures { result ≡ kept [] }
+    {
+        Places {
+            items: Vec::new(alloc),
+            live: 0,
+            live_before: 0,
+            changes: Vec::new(alloc),
+        }
+    }
+
+    /// The number that is given out next.
+    pub fn next_number(&self) -> u64
+        ensures { result ≡ next_number self.now.now }
+    {
+        self.items.len() as u64
+    }
+
+    /// How many numbers have a value.
+    pub fn live(&self) -> u64
+        ensures { result ≡ count_of self.now.now }
+    {
+        self.live
+    }
+
+    /// Whether this number was given out.
+    pub fn is_issued(&self, number: u64) -> bool
+        ensures { result ≡ is_issued self.now.now number }
+    {
+        number < self.items.len() as u64
+    }
+
+    /// What a number has. None if it was never given out, or is gone.
+    pub fn get(&self, number: u64) -> Option<V>
+        ensures { result ≡ value_at self.now.now number }
+    {
+        match self.items.get(number as usize) {
+            None => None,
+            Some(place) => *place,
+        }
+    }
+
+    /// Gives out the next number, with this value.
+    pub fn push(&mut self, value: V) -> Result<(), AllocError>
+        ensures { OnOk result (self.new ≡ changed self.old (with_next self.old.now value)) }
+    {
+        self.items.push(Some(value))?;
+        match self.changes.push(Change::Added) {
+            Ok(_) => {
+                self.live += 1;
+                Ok(())
+            }
+            Err(_) => {
+                self.items.pop();
+                Err(AllocError)
+            }
+        }
+    }
+
+    /// A number that has a value gets another.
+    pub fn set(&mut self, number: u64, value: V) -> Result<(), AllocError>
+        requires { is_some (value_at self.old.now number) ≡ true }
+        ensures { OnOk result (self.new ≡ changed self.old (with_value self.old.now number value)) }
+    {
+        if let Some(old) = self.get(number) {
+            self.changes.push(Change::Had(number, old))?;
+            self.items[number as usize] = Some(value);
+        }
+        Ok(())
+    }
+
+    /// A number that has a value is gone.
+    pub fn remove(&mut self, number: u64) -> Result<(), AllocError>
+        requires { is_some (value_at self.old.now number) ≡ true }
+        ensures { OnOk result (self.new ≡ changed self.old (without self.old.now number)) }
+    {
+        if let Some(old) = self.get(number) {
+            self.changes.push(Change::Had(number, old))?;
+            self.items[number as usize] = None;
+            self.live -= 1;
+        }
+        Ok(())
+    }
+
+    /// Keeps all changes, so that they are not taken back any more.
+    pub fn keep(&mut self)
+        ensures { self.new ≡ kept self.old.now }
+    {
+        self.changes.clear();
+        self.live_before = self.live;
+    }
+
+    /// Takes back all changes since they were last kept.
+    pub fn take_back(&mut self)
+        ensures { self.new ≡ kept self.old.before }
+    {
+        take_back(&mut self.items, &mut self.changes);
+        self.live = self.live_before;
+    }
+}

@@ -1,0 +1,338 @@
+// Sleeps, with changes that can be taken back.
+ghost use Rattle.std.specs.Prelude.{◌≡◌, ◌<◌, ◌≤◌, ◌+◌, ◌-◌, ◌^◌, OnOk, IfOk, is_some, true, None, MatchBool};
+ghost use Rattle.mono_model.specs.Ticks.{up, down};
+ghost use Rattle.mono_model.specs.Table.{value_at, next_number, is_full};
+ghost use Rattle.mono_model.specs.Sleeps as model;
+ghost use Rattle.mono_model.specs.SleepActs as sleep;
+ghost use Rattle.mono_model.specs.Firing.{IsNoneDue};
+ghost use Rattle.mono_model.specs.SleepAnswers.{waker_in};
+ghost use Rattle.mono_machine.specs.SleepCalls.{poll_reply, gone_reply, elapsed_reply, reset_reply};
+ghost use Rattle.mono_trace.specs.Versions.{kept, changed};
+ghost use Rattle.mono_trace.specs.Tables.{sleep_of, sleep_place};
+
+use crate::places::Places;
+use mono_machine::{Refusal, Reply};
+use std::alloc::{AllocError, Global};
+use std::marker::Model;
+
+/// Where a sleep is armed: the tick, the number of its arming, whether it was moved to a later tick since, and the task
+/// that polled it last.
+#[derive(Clone, Copy, Debug, PartialEq, Eq)]
+pub struct Arming {
+    pub tick: u128,
+    pub arm: u128,
+    pub is_moved: bool,
+    pub waker: Option<u64>,
+}
+
+/// A sleep that was never polled, with its deadline, one that is armed, or one that has elapsed.
+#[derive(Clone, Copy, Debug, PartialEq, Eq)]
+pub enum Sleep {
+    Fresh(u128),
+    Armed(Arming),
+    Elapsed,
+}
+
+/// The sleeps by number, the greatest tick of the clock so far, how often a sleep was armed, and how many there may be.
+///
+/// Contracts see the sleeps of the machine, as they are and as they were when their changes were last kept.
+#[derive(Drop)]
+pub struct Sleeps {
+    places: Places<Sleep>,
+    greatest: u128,
+    greatest_before: u128,
+    arms: u128,
+    arms_before: u128,
+    limit: u64,
+}
+
+impl Model for Sleeps {
+    ghost use Rattle.mono_model.specs.Sleeps as model;
+    ghost use Rattle.mono_trace.specs.Versions.{Versions};
+    ghost use Rattle.mono_trace.specs.Tables.{sleeps_of};
+
+    ghost Value = { Versions model.Sleeps };
+
+    ghost view = { λ a. record { now = sleeps_of a.places.now a.greatest a.arms a.limit; before = sleeps_of a.places.before a.greatest_before a.arms_before a.limit } };
+}
+
+/// The tick of a deadline, in nanoseconds: rounded up.
+pub fn tick_of(nanos: u128) -> u128
+    ensures { result ≡ up nanos }
+{
+    let tick = nanos / 1000000;
+    if nanos % 1000000 == 0 { tick } else { tick + 1 }
+}
+
+impl Sleeps {
+    /// No sleep, and a clock at 0.
+    pub fn new(alloc: Global, limit: u64) -> Sleeps
+        ensures { result ≡ kept (model.no_sleeps limit) }
+    {
+        Sleeps {
+            places: Places::new(alloc),
+            greatest: 0,
+            greatest_before: 0,
+            arms: 0,
+            arms_before: 0,
+            limit,
+        }
+    }
+
+    /// How often a sleep was armed.
+    pub fn arms(&self) -> u128
+        ensures { result ≡ self.now.now.arm_count }
+    {
+        self.arms
+    }
+
+    /// The greatest tick of the clock so far.
+    pub fn greatest(&self) -> u128
+        ensures { result ≡ self.now.now.greatest }
+    {
+        self.greatest
+    }
+
+    /// Whether no further sleep may be made.
+    pub fn is_full(&self) -> bool
+        ensures { result ≡ is_full self.now.now.table self.now.now.limit }
+    {
+        self.places.live() >= self.limit || self.places.next_number() == u64::MAX
+    }
+
+    /// What a number has.
+    pub fn get(&self, s: u64) -> Option<Sleep>
+        ensures { sleep_place result ≡ value_at self.now.now.table s }
+    {
+        self.places.get(s)
+    }
+
+    /// One more sleep, with the next number, which is the answer. It was not polled yet.
+    pub fn add(&mut self, nanos: u128) -> Result<u64, AllocError>
+        ensures number { IfOk result (λ s. s ≡ next_number self.old.now.table) }
+        ensures sleeps { OnOk result (self.new ≡ changed self.old (sleep.added self.old.now nanos)) }
+    {
+        let s = self.places.next_number();
+        self.places.push(Sleep::Fresh(nanos))?;
+        Ok(s)
+    }
+
+    /// Writes what has become of a sleep.
+    fn set(&mut self, s: u64, value: Sleep) -> Result<(), AllocError>
+        requires { is_some (value_at self.old.now.table s) ≡ true }
+        ensures { OnOk result (self.new ≡ changed self.old (model.with_sleep self.old.now s (sleep_of value))) }
+    {
+        self.places.set(s, value)?;
+        Ok(())
+    }
+
+    /// A sleep is gone.
+    fn discard(&mut self, s: u64) -> Result<(), AllocError>
+        requires { is_some (value_at self.old.now.table s) ≡ true }
+        ensures { OnOk result (self.new ≡ changed self.old (model.without_sleep self.old.now s)) }
+    {
+        self.places.remove(s)?;
+        Ok(())
+    }
+
+    /// Arms a sleep, as the last so far.
+    fn arm(&mut self, s: u64, tick: u128, waker: Option<u64>) -> Result<(), AllocError>
+        requires is_there { is_some (value_at self.old.now.table s) ≡ true }
+        requires has_number { self.old.now.arm_count < 2 ^ 128 - 1 }
+        ensures { OnOk result (self.new ≡ changed self.old (model.armed_anew self.old.now s tick waker)) }
+    {
+        let arm = self.arms;
+        self.set(
+            s,
+            Sleep::Armed(Arming {
+                tick,
+                arm,
+                is_moved: false,
+                waker,
+            }),
+        )?;
+        self.arms = arm + 1;
+        Ok(())
+    }
+
+    /// A poll of a sleep by a task.
+    pub fn poll(&mut self, s: u64, by: u64) -> Result<Reply, AllocError>
+        requires { self.old.now.arm_count < 2 ^ 128 - 1 }
+        ensures reply { IfOk result (λ r. r ≡ poll_reply (sleep.poll_answer self.old.now s)) }
+        ensures sleeps { OnOk result (self.new ≡ changed self.old (sleep.polled self.old.now s by)) }
+    {
+        match self.get(s) {
+            None => Ok(Reply::Refused(Refusal::NoTimer)),
+            Some(Sleep::Elapsed) => Ok(Reply::Ready),
+            Some(Sleep::Armed(arming)) => {
+                self.set(
+                    s,
+                    Sleep::Armed(Arming {
+                        waker: Some(by),
+                        ..arming
+                    }),
+                )?;
+                Ok(Reply::Pending)
+            }
+            Some(Sleep::Fresh(nanos)) => {
+                let tick = tick_of(nanos);
+                if tick <= self.greatest {
+                    self.set(s, Sleep::Elapsed)?;
+                    Ok(Reply::Ready)
+                } else {
+                    self.arm(s, tick, Some(by))?;
+                    Ok(Reply::Pending)
+                }
+            }
+        }
+    }
+
+    /// The sleep is armed at a tick that has not come.
+    fn arm_above(&mut self, s: u64, value: Sleep, tick: u128) -> Result<(), AllocError>
+        requires is_there { is_some (value_at self.old.now.table s) ≡ true }
+        requires has_number { self.old.now.arm_count < 2 ^ 128 - 1 }
+        ensures { OnOk result (self.new ≡ changed self.old (model.armed_above (sleep_of value) self.old.now s tick)) }
+    {
+        match value {
+            Sleep::Fresh(_) | Sleep::Elapsed => self.arm(s, tick, None),
+            Sleep::Armed(arming) => {
+                if arming.tick <= tick {
+                    self.set(
+                        s,
+                        Sleep::Armed(Arming {
+                            tick,
+                            is_moved: arming.is_moved || arming.tick < tick,
+                            ..arming
+                        }),
+                    )
+                } else {
+                    self.arm(s, tick, arming.waker)
+                }
+            }
+        }
+    }
+
+    /// Arms a sleep at another deadline. The answer is the waker that is to be woken, where it elapses at once.
+    pub fn reset(&mut self, s: u64, nanos: u128) -> Result<Option<u64>, AllocError>
+        requires { self.old.now.arm_count < 2 ^ 128 - 1 }
+        ensures waker { IfOk result (λ w. w ≡ waker_in (sleep.reset_answer self.old.now s nanos)) }
+        ensures sleeps { OnOk result (self.new ≡ changed self.old (sleep.reset self.old.now s nanos)) }
+    {
+        let tick = tick_of(nanos);
+        match self.get(s) {
+            None => Ok(None),
+            Some(value) => {
+                if tick <= self.greatest {
+                    self.set(s, Sleep::Elapsed)?;
+                    Ok(waker_of(value))
+                } else {
+                    self.arm_above(s, value, tick)?;
+                    Ok(None)
+                }
+            }
+        }
+    }
+
+    /// The reply to the reset of a sleep that is there.
+    pub fn reset_reply(&self, nanos: u128) -> Reply
+        ensures { result ≡ reset_reply self.now.now.greatest (up nanos) }
+    {
+        if tick_of(nanos) <= self.greatest {
+            Reply::Elapsed
+        } else {
+            Reply::Armed
+        }
+    }
+
+    /// Drops a sleep.
+    pub fn remove(&mut self, s: u64) -> Result<Reply, AllocError>
+        ensures reply { IfOk result (λ r. r ≡ gone_reply (sleep.remove_answer self.old.now s)) }
+        ensures sleeps { OnOk result (self.new ≡ changed self.old (sleep.removed self.old.now s)) }
+    {
+        match self.get(s) {
+            None => Ok(Reply::Refused(Refusal::NoTimer)),
+            Some(_) => {
+                self.discard(s)?;
+                Ok(Reply::Dropped(None))
+            }
+        }
+    }
+
+    /// Whether a sleep has elapsed.
+    pub fn elapsed(&self, s: u64) -> Reply
+        ensures { result ≡ elapsed_reply (sleep.elapsed_answer self.now.now s) }
+    {
+        match self.get(s) {
+            None => Reply::Refused(Refusal::NoTimer),
+            Some(Sleep::Elapsed) => Reply::Yes,
+            Some(Sleep::Fresh(_)) | Some(Sleep::Armed(_)) => Reply::No,
+        }
+    }
+
+    /// Whether no sleep is due.
+    pub fn is_none_due(&self) -> bool
+        ensures { MatchBool result (IsNoneDue self.now.now.table self.now.now.greatest) (IsNoneDue self.now.now.table self.now.now.greatest → ⊥) }
+    {
+        for s in 0..self.places.next_number() {
+            if let Some(Sleep::Armed(arming)) = self.get(s) {
+                if arming.tick <= self.greatest {
+                    return false;
+                }
+            }
+        }
+        true
+    }
+
+    /// The clock shows so many nanoseconds.
+    pub fn at_clock(&mut self, nanos: u128)
+        ensures { self.new ≡ changed self.old (sleep.at_clock self.old.now nanos) }
+    {
+        self.greatest = self.greatest.max(nanos / 1000000);
+    }
+
+    /// The waker of a sleep, if it has one.
+    pub fn waker_at(&self, s: u64) -> Option<u64>
+        ensures { result ≡ sleep.waker_at self.now.now s }
+    {
+        match self.get(s) {
+            None => None,
+            Some(value) => waker_of(value),
+        }
+    }
+
+    /// A sleep fires.
+    pub fn fire(&mut self, s: u64) -> Result<(), AllocError>
+        requires { is_some (value_at self.old.now.table s) ≡ true }
+        ensures { OnOk result (self.new ≡ changed self.old (sleep.fired self.old.now s)) }
+    {
+        self.set(s, Sleep::Elapsed)
+    }
+
+    /// Keeps all changes, so that they are not taken back any more.
+    pub fn keep(&mut self)
+        ensures { self.new ≡ kept self.old.now }
+    {
+        self.places.keep();
+        self.greatest_before = self.greatest;
+        self.arms_before = self.arms;
+    }
+
+    /// Takes back all changes since they were last kept.
+    pub fn take_back(&mut self)
+        ensures { self.new ≡ kept self.old.before }
+    {
+        self.places.take_back();
+        self.greatest = self.greatest_before;
+        self.arms = self.arms_before;
+    }
+}
+
+/// The waker of a sleep. Only an armed one has any.
+pub fn waker_of(value: Sleep) -> Option<u64>
+    ensures { result ≡ model.waker_of (sleep_of value) }
+{
+    match value {
+        Sleep::Armed(arming) => arming.waker,
+        Sleep::Fresh(_) | Sleep::Elapsed => None,
+    }
+}
