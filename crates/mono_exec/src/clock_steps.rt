@@ -1,9 +1,10 @@
 // A clock step, at which the sleeps that are due fire.
-ghost use Rattle.std.specs.Prelude.{◌≡◌, ◌<◌, ◌++◌, ◌∷◌, [], IfOk, OnOk};
+ghost use Rattle.std.specs.Prelude.{◌≡◌, ◌<◌, ◌≤◌, ◌+◌, ◌++◌, ◌∷◌, [], IfOk, OnErr, vec_len, vec_capacity};
 ghost use Rattle.mono_model.specs.Sleeps.{Sleeps};
 ghost use Rattle.mono_model.specs.SleepActs as sleep;
 ghost use Rattle.mono_model.specs.Firing.{FireInTurn};
 ghost use Rattle.mono_time.specs.Instants.{nanos_of};
+ghost use Rattle.mono_time.specs.Sleeps.{armed_count};
 ghost use Rattle.mono_time.specs.Timers.{sleeps_of, elapsed_tick};
 ghost use Rattle.mono_machine.specs.Machine.{Machine};
 ghost use Rattle.mono_machine.specs.Steps.{ClockStep, at_clock, after_fires, all_fired, with_first, wakers_of};
@@ -15,89 +16,111 @@ use crate::{List, Refusal, Reply, Report};
 use mono_task::Tasks;
 use mono_time::{Instant, Timers};
 use mono_wheel::Steps;
-use std::alloc::{AllocError, AllocFailed, Global};
+use std::alloc::{AllocError, Global};
 use std::marker::Brand;
 use std::sync::ledger::{Blank, Ledger};
 
 /// The sleeps that fired, in order, and the wakers of those that had one.
 #[derive(Drop)]
 pub struct Due {
-    pub fired: List<u64>,
+    pub fired: Vec<u64>,
     pub wakers: Vec<u64>,
 }
 
 impl Due {
-    /// One more sleep has fired. Its waker, if there is one, comes behind the others.
-    fn put(&mut self, s: u64, waker: Option<u64>) -> Result<(), AllocError>
-        ensures fired { OnOk result (self.new.fired ≡ self.old.fired ++ s ∷ []) }
-        ensures wakers { OnOk result (self.new.wakers.items ≡ self.old.wakers.items ++ with_first waker []) }
+    /// No sleep yet, and room for all that a clock step may fire, so that the step itself takes no memory.
+    pub fn with_room(alloc: Global, timers: &Timers) -> Result<Due, AllocError>
+        ensures fired { IfOk result (λ due. (due.fired.items ≡ []) × (armed_count (sleeps_of timers.now) + vec_len due.fired ≤ vec_capacity due.fired)) }
+        ensures wakers { IfOk result (λ due. (due.wakers.items ≡ []) × (armed_count (sleeps_of timers.now) + vec_len due.wakers ≤ vec_capacity due.wakers)) }
     {
-        self.fired.push(s)?;
+        let live = timers.live() as usize;
+        Ok(Due {
+            fired: Vec::with_capacity(alloc, live)?,
+            wakers: Vec::with_capacity(alloc, live)?,
+        })
+    }
+
+    /// One more sleep has fired. Its waker, if there is one, comes behind the others.
+    fn put(&mut self, s: u64, waker: Option<u64>)
+        requires room { (vec_len self.old.fired < vec_capacity self.old.fired) × (vec_len self.old.wakers < vec_capacity self.old.wakers) }
+        ensures fired { self.new.fired.items ≡ self.old.fired.items ++ s ∷ [] }
+        ensures wakers { self.new.wakers.items ≡ self.old.wakers.items ++ with_first waker [] }
+        ensures capacities { (vec_capacity self.new.fired ≡ vec_capacity self.old.fired) × (vec_capacity self.new.wakers ≡ vec_capacity self.old.wakers) }
+        ensures longer { (vec_len self.new.fired ≡ vec_len self.old.fired + 1) × (vec_len self.new.wakers ≤ vec_len self.old.wakers + 1) }
+    {
+        self.fired.push_reserved(s);
         if let Some(t) = waker {
-            self.wakers.push(t)?;
+            self.wakers.push_reserved(t);
         }
-        Ok(())
+    }
+
+    /// The sleeps that fired, in as much memory as they need.
+    pub fn into_fired(self) -> List<u64>
+        ensures { result ≡ self.fired.items }
+    {
+        let mut fired = self.fired;
+        fired.shrink_to_fit();
+        List::from(fired)
     }
 }
 
-/// Takes all sleeps that are due, one after another. Nobody is woken yet.
-pub fn take_due<L: Ledger>(
-    timers: &mut Timers,
-    alloc: Global,
-    now: Instant,
-    blank: Blank,
-) -> Result<Due, AllocError>
-    requires { (blank.name ≡ L.name) × (blank.parts ≡ L.parts) × (0 < L.parts) }
-    ensures fires { IfOk result (λ due. (sleeps : Sleeps) → Keeps timers.old sleeps → Keeps timers.new (all_fired (sleep.at_clock sleeps (nanos_of now)) due.fired) × FireInTurn (sleep.at_clock sleeps (nanos_of now)).table (sleep.at_clock sleeps (nanos_of now)).greatest due.fired) }
-    ensures wakers { IfOk result (λ due. (sleeps : Sleeps) → Keeps timers.old sleeps → due.wakers.items ≡ wakers_of (sleep.at_clock sleeps (nanos_of now)) due.fired) }
-    ensures has_gone { IfOk result (λ due. elapsed_tick timers.new ≡ (sleeps_of timers.new).greatest) }
+/// Takes all sleeps that are due, one after another, into lists that have the room. Nobody is woken yet, and no memory is
+/// taken.
+pub fn take_due<L: Ledger>(timers: &mut Timers, now: Instant, blank: Blank, room: Due) -> Due
+    requires ledger { (blank.name ≡ L.name) × (blank.parts ≡ L.parts) × (0 < L.parts) }
+    requires fired { (room.fired.items ≡ []) × (armed_count (sleeps_of timers.old) + vec_len room.fired ≤ vec_capacity room.fired) }
+    requires wakers { (room.wakers.items ≡ []) × (armed_count (sleeps_of timers.old) + vec_len room.wakers ≤ vec_capacity room.wakers) }
+    ensures fires { (sleeps : Sleeps) → Keeps timers.old sleeps → Keeps timers.new (all_fired (sleep.at_clock sleeps (nanos_of now)) result.fired.items) × FireInTurn (sleep.at_clock sleeps (nanos_of now)).table (sleep.at_clock sleeps (nanos_of now)).greatest result.fired.items }
+    ensures wakers { (sleeps : Sleeps) → Keeps timers.old sleeps → result.wakers.items ≡ wakers_of (sleep.at_clock sleeps (nanos_of now)) result.fired.items }
+    ensures has_gone { elapsed_tick timers.new ≡ (sleeps_of timers.new).greatest }
 {
     let mut steps: Steps<L> = Steps::new(blank);
-    let mut due = Due {
-        fired: List::new(alloc),
-        wakers: Vec::new(alloc),
-    };
+    let mut due = room;
     while let Some((s, waker)) = timers.clock(now, &mut steps) {
-        due.put(s, waker)?;
+        due.put(s, waker);
     }
-    Ok(due)
+    due
 }
 
 /// All sleeps that are due fire, one after another, and then their wakers are woken in the same order.
 fn fire_all<L: Ledger>(
     timers: &mut Timers,
     tasks: &mut Tasks<u64>,
-    alloc: Global,
     now: Instant,
     blank: Blank,
-) -> Result<List<u64>, AllocError>
-    requires { (blank.name ≡ L.name) × (blank.parts ≡ L.parts) × (0 < L.parts) }
-    ensures fires { IfOk result (λ fired. (m : Machine) → MatchesInStep timers.old tasks.old m → MatchesInStep timers.new tasks.new (after_fires (at_clock m (nanos_of now)) fired) × FireInTurn (at_clock m (nanos_of now)).sleeps.table (at_clock m (nanos_of now)).sleeps.greatest fired) }
-    ensures has_gone { IfOk result (λ fired. elapsed_tick timers.new ≡ (sleeps_of timers.new).greatest) }
+    room: Due,
+) -> List<u64>
+    requires ledger { (blank.name ≡ L.name) × (blank.parts ≡ L.parts) × (0 < L.parts) }
+    requires fired { (room.fired.items ≡ []) × (armed_count (sleeps_of timers.old) + vec_len room.fired ≤ vec_capacity room.fired) }
+    requires wakers { (room.wakers.items ≡ []) × (armed_count (sleeps_of timers.old) + vec_len room.wakers ≤ vec_capacity room.wakers) }
+    ensures fires { (m : Machine) → MatchesInStep timers.old tasks.old m → MatchesInStep timers.new tasks.new (after_fires (at_clock m (nanos_of now)) result) × FireInTurn (at_clock m (nanos_of now)).sleeps.table (at_clock m (nanos_of now)).sleeps.greatest result }
+    ensures has_gone { elapsed_tick timers.new ≡ (sleeps_of timers.new).greatest }
     ensures turn { tasks.new.turn ≡ tasks.old.turn }
 {
-    let Due { fired, wakers } = take_due::<L>(timers, alloc, now, blank)?;
-    wake_all(tasks, &wakers);
-    Ok(fired)
+    let due = take_due::<L>(timers, now, blank, room);
+    wake_all(tasks, &due.wakers);
+    due.into_fired()
 }
 
 impl Parts {
-    /// The clock shows so many nanoseconds.
+    /// The clock shows so many nanoseconds. Where memory is refused nothing changes (`memory`), since the room for all that
+    /// may fire is made first.
     pub fn clock(&mut self, alloc: Global, n: u128) -> Result<Report, AllocError>
         ensures steps { IfOk result (λ r. (m : Machine) → Matches self.old m → (new : Machine) × ClockStep m n r new × Matches self.new new) }
         ensures turn { self.new.tasks.turn ≡ self.old.tasks.turn }
+        ensures memory { OnErr result (self.new ≡ self.old) }
     {
         match Instant::from_nanos(n) {
             None => Ok(Report::Reply(Reply::Refused(Refusal::Invalid))),
             Some(now) => {
-                let blank = Blank::new(1);
+                let room = Due::with_room(alloc, &self.timers)?;
                 let fired = fire_all::<Brand>(
                     &mut self.timers,
                     &mut self.tasks,
-                    alloc,
                     now,
-                    blank,
-                )?;
+                    Blank::new(1),
+                    room,
+                );
                 Ok(Report::Fired(fired))
             }
         }

@@ -1,7 +1,7 @@
 // One place of the table of tasks, and what each call makes of it.
 ghost use Rattle.std.specs.Prelude.{◌≡◌, true, Ok};
 ghost use Rattle.mono_model.specs.Joins.{kept_value, join_value, drop_value, finished_value};
-ghost use Rattle.mono_task.specs.Work.{has_output};
+ghost use Rattle.mono_task.specs.Work.{has_output, has_finished};
 ghost use Rattle.mono_task.specs.Entries.{task_of, handle_of, is_over, is_noted, woken_entry, waking_of, begun_entry, paused_entry, completed_entry, joined_entry, dropped_entry, awaited_by, wait_answer, let_go_answer};
 ghost use Rattle.mono_task.specs.declared.entries.Entry.TheVariants.{Gone, Taken};
 ghost use Rattle.mono_task.specs.declared.entries.Handle.TheVariants.{Dropped};
@@ -150,6 +150,16 @@ impl<O: Drop> Entry<O> {
             | Entry::Queued(_)
             | Entry::Running(_)
             | Entry::Noted(_) => false,
+        }
+    }
+
+    /// Whether the task has finished, whatever its handle.
+    pub fn has_finished(&self) -> bool
+        ensures { result ≡ has_finished (task_of self.now) }
+    {
+        match self {
+            Entry::Gone | Entry::Taken | Entry::Done(_) => true,
+            Entry::Idle(_) | Entry::Queued(_) | Entry::Running(_) | Entry::Noted(_) => false,
         }
     }
 

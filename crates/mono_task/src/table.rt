@@ -5,7 +5,7 @@ ghost use Rattle.mono_model.specs.Table.{value_at, next_number, is_full};
 ghost use Rattle.mono_model.specs.Tasks.{spawned, woken};
 ghost use Rattle.mono_model.specs.Joins.{wake_answer, join_answer, joined, drop_answer, join_dropped, finished_answer};
 ghost use Rattle.mono_task.specs.Schedule.{no_schedule, with_tasks, begin_answer, after_begin, end_answer, after_end};
-ghost use Rattle.mono_task.specs.Work.{has_output};
+ghost use Rattle.mono_task.specs.Work.{has_output, over_answer};
 ghost use Rattle.mono_task.specs.Finishing.{Finishes};
 ghost use Rattle.mono_model.specs.declared.poll.Poll.TheVariants.{Ready, Pending};
 ghost use Rattle.mono_task.specs.declared.error.SpawnTask.TheVariants.{AtCapacity};
@@ -303,6 +303,18 @@ impl<O: Drop> Tasks<O> {
             return false;
         }
         self.entries[at].has_output()
+    }
+
+    /// Whether a task has finished, whatever its handle. Refused with `NoTask` exactly where the number was never given
+    /// out.
+    pub fn has_finished(&self, task: u64) -> Result<bool, TaskError>
+        ensures { result ≡ over_answer self.now.tasks task }
+    {
+        let at = task as usize;
+        if at >= self.entries.len() {
+            return Err(TaskError::NoTask);
+        }
+        Ok(self.entries[at].has_finished())
     }
 
     /// Whether a task has finished. Refused as `drop_join` is.

@@ -57,6 +57,10 @@ module _ (wheel : Wheel) (keys : Table ℕ) (entries : List Entry) (greatest liv
   pub full-kept : (limit : ℕ) → is_full (table_kept wheel keys entries) limit ≡ nat_le limit live
   full-kept limit = full-by (table_kept wheel keys entries) limit (length-table_of (kept_at wheel keys entries) (length keys)) value-kept
 
+  -- as many live as there are
+  pub live-kept : count_of (table_kept wheel keys entries) ≡ live
+  live-kept = count_of-same (table_kept wheel keys entries) keys (length-table_of (kept_at wheel keys entries) (length keys)) value-kept ∙ sym holds.live_count
+
   is_some-seen : (v : Option model.Sleep) → is_some v ≡ is_some (option_map seen v)
   is_some-seen None = refl
   is_some-seen (Some sleep) = refl

@@ -1,9 +1,9 @@
 -- How many sleeps live.
-use Rattle.std.proofs.Common.{◌≡◌, ◌<◌, ℕ, ◌+◌, zero, suc, true, false, Bool, cond, [], ◌∷◌, length, set, Some, None, refl, ap, sym, ◌∙◌, arith}
+use Rattle.std.proofs.Common.{◌≡◌, ◌<◌, ◌≤◌, ℕ, ◌+◌, zero, suc, true, false, Bool, cond, [], ◌∷◌, length, set, Some, None, refl, ap, sym, ◌∙◌, arith}
 use Rattle.std.specs.Prelude.{Option, is_some, count_by}
 use Rattle.std.proofs.lemmas.List.Recursion.{is_count_by}
 use Rattle.mono_model.specs.Table.{Table, value_at, count_of, without}
-use Rattle.mono_time.specs.Sleeps.{Kept, armed, elapsed, is_armed}
+use Rattle.mono_time.specs.Sleeps.{Kept, fresh, armed, elapsed, is_armed}
 use Rattle.mono_model.proofs.Counts.{counted, counted-count_of}
 
 counted-same : {V W : Type 0} (xs : Table V) (ys : Table W) → length xs ≡ length ys → ((k : ℕ) → is_some (value_at xs k) ≡ is_some (value_at ys k)) → counted xs ≡ counted ys
@@ -52,3 +52,19 @@ pub fewer_armed : (xs : Table Kept) (s tick : ℕ) (waker : Option ℕ) → valu
 fewer_armed xs s tick waker at =
     let counts : (ys : Table Kept) → armed_counted ys ≡ count_by is_armed ys = is_count_by armed_counted is_armed refl (λ x ys. refl) in
     omega (arith, fewer_counted xs s tick waker at, counts xs, counts (set xs s (Some elapsed)))
+
+no_more : (v : Option Kept) (n m : ℕ) → n ≤ m → cond (is_armed v) (1 + n) n ≤ cond (is_some v) (1 + m) m
+no_more None n m below = below
+no_more (Some (fresh tick)) n m below = omega (arith, below)
+no_more (Some (armed tick waker)) n m below = omega (arith, below)
+no_more (Some elapsed) n m below = omega (arith, below)
+
+no_more_counted : (xs : Table Kept) → armed_counted xs ≤ counted xs
+no_more_counted [] = omega arith
+no_more_counted (x ∷ xs) = no_more x _ _ (no_more_counted xs)
+
+-- no more sleeps are armed than there are
+pub armed_live : (xs : Table Kept) → count_by is_armed xs ≤ count_of xs
+armed_live xs =
+    let counts : (ys : Table Kept) → armed_counted ys ≡ count_by is_armed ys = is_count_by armed_counted is_armed refl (λ x ys. refl) in
+    omega (arith, no_more_counted xs, counts xs, counted-count_of xs)

@@ -1,7 +1,7 @@
 // The table of sleeps over the wheel.
 ghost use Rattle.std.specs.Prelude.{◌≡◌, ◌<◌, ◌≤◌, ◌+◌, ◌-◌, ◌^◌, ℕ, max, true, Option, None, Some, IfOk, IfNone, IfSome, OnSome, OnErr, MatchOption, is_some, slice_get};
 ghost use Rattle.mono_model.specs.Ticks.{up, down};
-ghost use Rattle.mono_model.specs.Table.{value_at, is_full};
+ghost use Rattle.mono_model.specs.Table.{value_at, count_of, is_full};
 ghost use Rattle.mono_wheel.specs.Model.{timed_at, is_reserved};
 ghost use Rattle.mono_time.specs.Keeping.{Holds};
 ghost use Rattle.mono_model.specs.SleepAnswers.{poll_of};
@@ -98,6 +98,14 @@ impl Timers {
         ensures stands { (m : Sleeps) → StandsForSleeps self.now m → result ≡ is_full m.table m.limit }
     {
         self.live >= self.limit
+    }
+
+    /// How many sleeps live (`live`). No more than these are armed (`armed`).
+    pub fn live(&self) -> u64
+        ensures live { result ≡ count_of (sleeps_of self.now).table }
+        ensures armed { armed_count (sleeps_of self.now) ≤ result }
+    {
+        self.live
     }
 
     /// A fresh sleep for a deadline, with the next number. It counts as live until it is removed.

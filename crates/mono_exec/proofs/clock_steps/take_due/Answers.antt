@@ -1,4 +1,4 @@
-use Rattle.std.proofs.Common.{◌≡◌, sym, ◌∙◌, ap, subst, ◌++◌, ◌∷◌, [], append_assoc, append-nil}
+use Rattle.std.proofs.Common.{◌≡◌, sym, ◌∙◌, ap, subst, ◌++◌, ◌∷◌, [], append_assoc, append-nil, arith}
 use Rattle.mono_model.specs.Sleeps.{Sleeps}
 use Rattle.mono_model.specs.SleepActs as sleep
 use Rattle.mono_model.specs.Firing.{FireInTurn, IsFirstDue, IsNoneDue}
@@ -10,33 +10,43 @@ use Rattle.mono_exec.proofs.Firing.{fired-push, wakers-push, same_clock, keeps_n
 use Rattle.mono_exec.proofs.clock_steps.take_due.Goals as goal
 
 pub loop-s-preserved : goal.loop-s-preserved
-loop-s-preserved g c = λ sleeps st.
-    let n = nanos_of c.args.now in
-    let old = sleep.at_clock sleeps n in
-    let fired = c.loop-s.due.fired in
-    let s = c.in-Some.s in
-    let waker = c.in-Some.waker in
-    let before = c.loop-s.invariant sleeps st in
-    let fires : (m : Sleeps) → StandsForSleeps c.loop-s.timers m → IsFirstDue (sleep.at_clock m n).table (sleep.at_clock m n).greatest s × (waker ≡ sleep.waker_at (sleep.at_clock m n) s) × StandsForSleeps c.clock.new.self (sleep.fired (sleep.at_clock m n) s) = c.in-Some.ensures.stands in
-    let next = fires before.0 before.1.stands in
-    let one : all_fired old c.put.new.self.fired ≡ sleep.fired (all_fired old fired) s = ap (all_fired old) c.in_ok-put.ensures.fired ∙ fired-push old fired s in
-    let here : sleep.fired (sleep.at_clock before.0 n) s ≡ all_fired old c.put.new.self.fired = ap (λ x. sleep.fired x s) before.2 ∙ sym one in (
-      sleep.fired (sleep.at_clock before.0 n) s,
-      keeps_some c.loop-s.timers c.clock.new.self before.0 n s before.1 c.in-Some.ensures.some.1 next.2,
-      same_clock before.0 n s ∙ here,
-      c.in_ok-put.ensures.wakers ∙ ap (λ xs. xs ++ with_first waker []) before.3 ∙ ap (λ w. wakers_of old fired ++ with_first w []) (next.1 ∙ ap (λ x. sleep.waker_at x s) before.2) ∙ sym (ap (wakers_of old) c.in_ok-put.ensures.fired ∙ wakers-push old fired s),
-      λ more turn.
-          let first : IsFirstDue (all_fired old fired).table (all_fired old fired).greatest s = subst (λ x. IsFirstDue x.table x.greatest s) before.2 next.0 in
-          let behind : FireInTurn old.table old.greatest (fired ++ s ∷ more) = before.4 (s ∷ more) (first, subst (λ x. FireInTurn x.table x.greatest more) one turn) in
-          subst (FireInTurn old.table old.greatest) (sym (ap (λ xs. xs ++ more) c.in_ok-put.ensures.fired ∙ append_assoc fired (s ∷ []) more)) behind,
-    )
+loop-s-preserved g c = (
+  omega (arith, c.loop-s.invariant.0, c.in-Some.ensures.fewer, c.put.ensures.longer.0, c.put.ensures.capacities.0),
+  omega (arith, c.loop-s.invariant.1, c.in-Some.ensures.fewer, c.put.ensures.longer.1, c.put.ensures.capacities.1),
+  λ sleeps st.
+      let n = nanos_of c.args.now in
+      let old = sleep.at_clock sleeps n in
+      let fired = c.loop-s.due.fired.items in
+      let s = c.in-Some.s in
+      let waker = c.in-Some.waker in
+      let before = c.loop-s.invariant.2 sleeps st in
+      let fires : (m : Sleeps) → StandsForSleeps c.loop-s.timers m → IsFirstDue (sleep.at_clock m n).table (sleep.at_clock m n).greatest s × (waker ≡ sleep.waker_at (sleep.at_clock m n) s) × StandsForSleeps c.clock.new.self (sleep.fired (sleep.at_clock m n) s) = c.in-Some.ensures.stands in
+      let next = fires before.0 before.1.stands in
+      let one : all_fired old c.put.new.self.fired.items ≡ sleep.fired (all_fired old fired) s = ap (all_fired old) c.put.ensures.fired ∙ fired-push old fired s in
+      let here : sleep.fired (sleep.at_clock before.0 n) s ≡ all_fired old c.put.new.self.fired.items = ap (λ x. sleep.fired x s) before.2 ∙ sym one in (
+        sleep.fired (sleep.at_clock before.0 n) s,
+        keeps_some c.loop-s.timers c.clock.new.self before.0 n s before.1 c.in-Some.ensures.some.1 next.2,
+        same_clock before.0 n s ∙ here,
+        c.put.ensures.wakers ∙ ap (λ xs. xs ++ with_first waker []) before.3 ∙ ap (λ w. wakers_of old fired ++ with_first w []) (next.1 ∙ ap (λ x. sleep.waker_at x s) before.2) ∙ sym (ap (wakers_of old) c.put.ensures.fired ∙ wakers-push old fired s),
+        λ more turn.
+            let first : IsFirstDue (all_fired old fired).table (all_fired old fired).greatest s = subst (λ x. IsFirstDue x.table x.greatest s) before.2 next.0 in
+            let behind : FireInTurn old.table old.greatest (fired ++ s ∷ more) = before.4 (s ∷ more) (first, subst (λ x. FireInTurn x.table x.greatest more) one turn) in
+            subst (FireInTurn old.table old.greatest) (sym (ap (λ xs. xs ++ more) c.put.ensures.fired ∙ append_assoc fired (s ∷ []) more)) behind,
+      ),
+)
+
+pub put-requires : goal.put-requires
+put-requires g c = record { room = (omega (arith, c.loop-s.invariant.0, c.in-Some.ensures.fewer), omega (arith, c.loop-s.invariant.1, c.in-Some.ensures.fewer)) }
+
+pub returns-clause-wakers : goal.returns-clause-wakers
+returns-clause-wakers g c = λ sleeps st. (c.loop-s.invariant.2 sleeps st).3
 
 pub returns-clause-fires : goal.returns-clause-fires
 returns-clause-fires g c = λ sleeps st.
     let n = nanos_of c.args.now in
     let old = sleep.at_clock sleeps n in
-    let fired = c.loop-s.due.fired in
-    let before = c.loop-s.invariant sleeps st in
+    let fired = c.loop-s.due.fired.items in
+    let before = c.loop-s.invariant.2 sleeps st in
     let fires : (m : Sleeps) → StandsForSleeps c.loop-s.timers m → IsNoneDue (sleep.at_clock m n).table (sleep.at_clock m n).greatest × StandsForSleeps c.clock.new.self (sleep.at_clock m n) = c.in_default.ensures.stands in
     let last = fires before.0 before.1.stands in (
       subst (Keeps c.clock.new.self) before.2 (keeps_none c.loop-s.timers c.clock.new.self before.0 n before.1 c.in_default.ensures.none.1 last.1),
