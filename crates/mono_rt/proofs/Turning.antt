@@ -1,0 +1,131 @@
+-- A turn of a future is a turn of the machine.
+use Rattle.std.proofs.Common.{◌≡◌, ℕ, true, false, Bool, List, ◌∷◌, ◌++◌, Some, None, Option, ap, sym, subst, ◌∙◌}
+use Rattle.mono_model.specs.Table.{value_at}
+use Rattle.mono_model.specs.Tasks.{begun, paused_value, pause_answer, completed_value, complete_answer}
+use Rattle.mono_model.specs.declared.Ended.{Ended}
+use Rattle.mono_model.specs.declared.poll.Poll.{Poll}
+use Rattle.mono_model.specs.declared.poll.Poll.TheVariants.{Ready, Pending}
+use Rattle.mono_task.specs.Members.{FutureOf}
+use Rattle.mono_task.specs.Schedule.{Schedule}
+use Rattle.mono_task.specs.Schedule as schedule
+use Rattle.mono_time.specs.declared.instant.Instant.{Instant}
+use Rattle.mono_machine.specs.Machine.{Machine}
+use Rattle.mono_machine.specs.Turns.{replies_of, after_steps, after_begin, end_answer, after_end, turn_report_for, after_turn_for}
+use Rattle.mono_machine.specs.declared.events.End.{End}
+use Rattle.mono_machine.specs.declared.events.End.TheVariants as end
+use Rattle.mono_machine.specs.declared.events.Report.TheVariants as report
+use Rattle.mono_exec.proofs.Matching.{front_is}
+use Rattle.mono_rt.specs.Numbered.{numbered, end_of}
+use Rattle.mono_rt.specs.Record.{Record, no_acts}
+use Rattle.mono_rt.specs.Stands.{Matches}
+use Rattle.mono_rt.specs.Reached.{Leads, leads_itself, leads_on, Reaches}
+use Rattle.mono_rt.specs.Turns.{BeginsParts, EndsParts, Pauses, AfterPoll, UnlessSpent, Runs, IsTurnOf}
+use Rattle.mono_rt.specs.declared.parts.Parts.{Parts}
+use Rattle.mono_rt.specs.declared.contexts.Cx.{Cx}
+use Rattle.mono_rt.proofs.Numbering.{numbered-begun, numbered-paused, numbered-completed, pause_answer-numbered, complete_answer-numbered}
+use Rattle.mono_rt.proofs.Calling.{other_tasks}
+
+module _ {O : Type 0} (number : O → ℕ) where
+  -- the front runs
+  pub begun_matches : (c d : Parts O) (t : ℕ) (now : Instant) (acts : Record) (m : Machine) (rest : List ℕ) → BeginsParts t now acts c d → m.tasks.queue ≡ t ∷ rest → Matches number c m → Matches number d (after_begin t rest m)
+  begun_matches c d t now acts m rest b queue st =
+      let mine : c.tasks.tasks.queue ≡ t ∷ rest = ap (λ x. x.queue) st.tasks ∙ queue in
+      let tasks : d.tasks.tasks ≡ begun c.tasks.tasks t rest = ap (λ x. x.tasks) b.tasks ∙ ap (λ q. (schedule.begun_by q c.tasks).tasks) mine in
+      other_tasks number c d m (begun m.tasks t rest) st (ap (numbered number) tasks ∙ numbered-begun number c.tasks.tasks t rest ∙ ap (λ x. begun x t rest) st.tasks) b.timers b.has_timers b.strategy
+
+  pub begun_turn : (c d : Parts O) (t : ℕ) (now : Instant) (acts : Record) → BeginsParts t now acts c d → d.tasks.turn ≡ Some t
+  begun_turn c d t now acts b =
+      let front = front_is c.tasks.tasks.queue t b.front in
+      ap (λ x. x.turn) b.tasks ∙ ap (λ q. (schedule.begun_by q c.tasks).turn) front.1
+
+  -- the turn ends
+  after_poll : (s : Schedule O) (me : ℕ) (answer : Poll O) → s.turn ≡ Some me → schedule.after_end s answer ≡ schedule.ended_by (Some me) s answer
+  after_poll s me answer turn = ap (λ x. schedule.ended_by x s answer) turn
+
+  told_poll : (s : Schedule O) (me : ℕ) (answer : Poll O) → s.turn ≡ Some me → schedule.end_answer s answer ≡ schedule.end_by (Some me) s answer
+  told_poll s me answer turn = ap (λ x. schedule.end_by x s answer) turn
+
+  pub ended_matches : (answer : Poll O) (ended : Ended) (c d : Parts O) (me : ℕ) (m : Machine) → EndsParts answer ended c d → c.tasks.turn ≡ Some me → Matches number c m → Matches number d (after_end (end_of number answer) me m)
+  ended_matches Pending ended c d me m e turn st =
+      other_tasks number c d m (paused_value (value_at m.tasks.table me) m.tasks me) st
+      (ap (λ x. numbered number x.tasks) (e.tasks ∙ after_poll c.tasks me Pending turn) ∙ numbered-paused number c.tasks.tasks me ∙ ap (λ x. paused_value (value_at x.table me) x me) st.tasks) e.timers e.has_timers e.strategy
+  ended_matches (Ready output) ended c d me m e turn st =
+      other_tasks number c d m (completed_value (value_at m.tasks.table me) m.tasks me (number output)) st
+      (ap (λ x. numbered number x.tasks) (e.tasks ∙ after_poll c.tasks me (Ready output) turn) ∙ numbered-completed number c.tasks.tasks me output ∙ ap (λ x. completed_value (value_at x.table me) x me (number output)) st.tasks) e.timers e.has_timers e.strategy
+
+  pub ended_told : (answer : Poll O) (ended : Ended) (c d : Parts O) (me : ℕ) (m : Machine) → EndsParts answer ended c d → c.tasks.turn ≡ Some me → Matches number c m → ended ≡ end_answer (end_of number answer) me m
+  ended_told Pending ended c d me m e turn st = e.told ∙ told_poll c.tasks me Pending turn ∙ sym (pause_answer-numbered number c.tasks.tasks me) ∙ ap (λ x. pause_answer (value_at x.table me)) st.tasks
+  ended_told (Ready output) ended c d me m e turn st = e.told ∙ told_poll c.tasks me (Ready output) turn ∙ sym (complete_answer-numbered number c.tasks.tasks me) ∙ ap (λ x. complete_answer (value_at x.table me)) st.tasks
+
+  pub ended_turn : (answer : Poll O) (ended : Ended) (c d : Parts O) (me : ℕ) → EndsParts answer ended c d → c.tasks.turn ≡ Some me → d.tasks.turn ≡ None
+  ended_turn answer ended c d me e turn = ap (λ x. x.turn) (e.tasks ∙ after_poll c.tasks me answer turn)
+
+  -- a turn that began, went on by acts, and ended
+  pub is_turn : (c b x d : Parts O) (t : ℕ) (now : Instant) (answer : Poll O) (ended : Ended) (m : Machine) → BeginsParts t now no_acts c b → Leads number b x → EndsParts answer ended x d → Matches number c m → IsTurnOf number t (end_of number answer) ended c d m
+  is_turn c b x d t now answer ended m begins leads ends st =
+      let front = front_is c.tasks.tasks.queue t begins.front in
+      let rest = front.0 in
+      let queue : m.tasks.queue ≡ t ∷ rest = sym (ap (λ y. y.queue) st.tasks) ∙ front.1 in
+      let begun : Matches number b (after_begin t rest m) = begun_matches c b t now no_acts m rest begins queue st in
+      let turn : x.tasks.turn ≡ Some t = leads.same_turn ∙ begun_turn c b t now no_acts begins in
+      let steps = leads.steps in
+      let mid : Matches number x (after_steps t steps (after_begin t rest m)) = subst (λ me. Matches number x (after_steps me steps (after_begin t rest m))) begins.me (leads.leads (after_begin t rest m) begun) in
+      let e = end_of number answer in
+      let left : Matches number d (after_end e t (after_steps t steps (after_begin t rest m))) = ended_matches answer ended x d t _ ends turn mid in
+      record {
+        steps = steps;
+        matches = subst (λ q. Matches number d (after_turn_for q steps e m)) (sym queue) left;
+        kept = λ unfull.
+            let open_x : x.acts.is_full ≡ false = sym (ap (λ y. y.is_full) ends.acts) ∙ unfull in
+            let kept = leads.kept open_x in
+            let answers : x.acts.replies ≡ b.acts.replies ++ replies_of b.me steps (after_begin t rest m) = leads.answers (after_begin t rest m) begun open_x in
+            let replies : replies_of t steps (after_begin t rest m) ≡ d.acts.replies =
+            sym (ap (λ y. y.replies) ends.acts ∙ answers ∙ ap (λ y. y.replies ++ replies_of b.me steps (after_begin t rest m)) begins.acts_are ∙ ap (λ me. replies_of me steps (after_begin t rest m)) begins.me) in (
+              ap (λ y. y.steps) ends.acts ∙ kept.1 ∙ ap (λ y. y.steps ++ steps) begins.acts_are,
+              ap (λ q. turn_report_for q steps e m) queue ∙ ap (λ rs. report.Turn t rs (end_answer e t (after_steps t steps (after_begin t rest m)))) replies ∙ ap (λ y. report.Turn t d.acts.replies y) (sym (ended_told answer ended x d t _ ends turn mid)),
+            );
+      }
+
+module _ {F O P U J A V : Type 0} (number : O → ℕ) (future : FutureOf F (Cx F O P U J A V) O) where
+  by_rest : (c b x d : Cx F O P U J A V) (t : ℕ) (now : Instant) (answer : Poll O) (g : F) (ended : Ended) (m : Machine) → BeginsParts t now no_acts c.parts b.parts → Reaches number b x → AfterPoll number future answer t g ended x d → Matches number c.parts m
+      → IsTurnOf number t (end_of number answer) ended c.parts d.parts m
+  by_rest c b x d t now Pending g ended m begins reached rest st = is_turn number c.parts b.parts x.parts d.parts t now Pending ended m begins reached.parts rest.parts st
+  by_rest c b x d t now (Ready output) g ended m begins reached (e, cancels, on, completes) st =
+      is_turn number c.parts b.parts e.parts d.parts t now (Ready output) ended m begins (leads_on number b.parts x.parts e.parts reached.parts on.parts) completes.parts st
+
+  by_pause : (c b d : Cx F O P U J A V) (t : ℕ) (now : Instant) (f : Option F) (e : End) (ended : Ended) (m : Machine) → BeginsParts t now no_acts c.parts b.parts → e ≡ end.Pending → Pauses t f ended b d → Matches number c.parts m → IsTurnOf number t e ended c.parts d.parts m
+  by_pause c b d t now f e ended m begins is pauses st = subst (λ x. IsTurnOf number t x ended c.parts d.parts m) (sym is) (is_turn number c.parts b.parts b.parts d.parts t now Pending ended m begins (leads_itself number b.parts) pauses.parts st)
+
+  by_spent : (s : Bool) (c b d : Cx F O P U J A V) (t : ℕ) (now : Instant) (f : F) (e : End) (ended : Ended) (m : Machine) → BeginsParts t now no_acts c.parts b.parts → UnlessSpent number future s t f e ended b d → Matches number c.parts m → IsTurnOf number t e ended c.parts d.parts m
+  by_spent true c b d t now f e ended m begins runs st = by_pause c b d t now (Some f) e ended m begins runs.0 runs.1 st
+  by_spent false c b d t now f e ended m begins runs st = subst (λ x. IsTurnOf number t x ended c.parts d.parts m) (sym runs.is_end) (by_rest c b runs.middle d t now runs.answer runs.left ended m begins runs.reached runs.rest st)
+
+  pub turn_is : (f : Option F) (c b d : Cx F O P U J A V) (t : ℕ) (now : Instant) (e : End) (ended : Ended) (m : Machine) → BeginsParts t now no_acts c.parts b.parts → Runs number future f t e ended b d → Matches number c.parts m → IsTurnOf number t e ended c.parts d.parts m
+  turn_is None c b d t now e ended m begins runs st = by_pause c b d t now None e ended m begins runs.0 runs.1 st
+  turn_is (Some f) c b d t now e ended m begins runs st = by_spent (future.is_spent f) c b d t now f e ended m begins runs st
+
+  -- no turn runs afterwards
+  rest_after : (answer : Poll O) (b x d : Cx F O P U J A V) (t : ℕ) (g : F) (ended : Ended) → b.parts.tasks.turn ≡ Some t → Reaches number b x → AfterPoll number future answer t g ended x d → d.parts.tasks.turn ≡ None
+  rest_after Pending b x d t g ended turn reached rest = ended_turn number Pending ended x.parts d.parts t rest.parts (reached.parts.same_turn ∙ turn)
+  rest_after (Ready output) b x d t g ended turn reached (e, cancels, on, completes) = ended_turn number (Ready output) ended e.parts d.parts t completes.parts (on.parts.same_turn ∙ reached.parts.same_turn ∙ turn)
+
+  spent_after : (s : Bool) (b d : Cx F O P U J A V) (t : ℕ) (f : F) (e : End) (ended : Ended) → b.parts.tasks.turn ≡ Some t → UnlessSpent number future s t f e ended b d → d.parts.tasks.turn ≡ None
+  spent_after true b d t f e ended turn runs = ended_turn number Pending ended b.parts d.parts t runs.1.parts turn
+  spent_after false b d t f e ended turn runs = rest_after runs.answer b runs.middle d t runs.left ended turn runs.reached runs.rest
+
+  pub rests_after : (f : Option F) (b d : Cx F O P U J A V) (t : ℕ) (e : End) (ended : Ended) → b.parts.tasks.turn ≡ Some t → Runs number future f t e ended b d → d.parts.tasks.turn ≡ None
+  rests_after None b d t e ended turn runs = ended_turn number Pending ended b.parts d.parts t runs.1.parts turn
+  rests_after (Some f) b d t e ended turn runs = spent_after (future.is_spent f) b d t f e ended turn runs
+
+  -- whether there are timers stays
+  timers_after : (answer : Poll O) (b x d : Cx F O P U J A V) (t : ℕ) (g : F) (ended : Ended) → Reaches number b x → AfterPoll number future answer t g ended x d → d.parts.has_timers ≡ b.parts.has_timers
+  timers_after Pending b x d t g ended reached rest = rest.parts.has_timers ∙ reached.parts.same_timers
+  timers_after (Ready output) b x d t g ended reached (e, cancels, on, completes) = completes.parts.has_timers ∙ on.parts.same_timers ∙ reached.parts.same_timers
+
+  spent_timers : (s : Bool) (b d : Cx F O P U J A V) (t : ℕ) (f : F) (e : End) (ended : Ended) → UnlessSpent number future s t f e ended b d → d.parts.has_timers ≡ b.parts.has_timers
+  spent_timers true b d t f e ended runs = runs.1.parts.has_timers
+  spent_timers false b d t f e ended runs = timers_after runs.answer b runs.middle d t runs.left ended runs.reached runs.rest
+
+  pub same_has_timers : (f : Option F) (b d : Cx F O P U J A V) (t : ℕ) (e : End) (ended : Ended) → Runs number future f t e ended b d → d.parts.has_timers ≡ b.parts.has_timers
+  same_has_timers None b d t e ended runs = runs.1.parts.has_timers
+  same_has_timers (Some f) b d t e ended runs = spent_timers (future.is_spent f) b d t f e ended runs

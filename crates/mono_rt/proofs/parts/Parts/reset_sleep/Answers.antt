@@ -1,0 +1,34 @@
+use Rattle.std.proofs.Common.{◌≡◌, refl, ap, sym, ◌∙◌, subst, Ok}
+use Rattle.mono_model.specs.Ticks.{up}
+use Rattle.mono_model.specs.SleepActs as sleep
+use Rattle.mono_time.specs.Instants.{nanos_of}
+use Rattle.mono_time.specs.Timers.{sleeps_of}
+use Rattle.mono_machine.specs.Machine.{Machine}
+use Rattle.mono_machine.specs.Acts.{act_outcome}
+use Rattle.mono_machine.specs.Acts.{reset as resetting}
+use Rattle.mono_machine.specs.SleepCalls.{reset_reply}
+use Rattle.mono_machine.specs.declared.events.Act.TheVariants as act
+use Rattle.mono_exec.proofs.Timing.{alike_reset}
+use Rattle.mono_rt.specs.Stands.{Matches}
+use Rattle.mono_rt.specs.Reached.{by_act}
+use Rattle.mono_rt.proofs.Calling.{with_all, gone_on, reset_is, reset_left}
+use Rattle.mono_rt.proofs.parts.Parts.reset_sleep.Goals as goal
+
+pub returns-in-Ok-clause-leads : goal.returns-in-Ok-clause-leads
+returns-in-Ok-clause-leads g c =
+    let number = g.O.Outcome.output_number in
+    let old = c.args.self.now in
+    let s = c.args.sleep in
+    let n = c.as_nanos-nanos.result in
+    let now = nanos_of c.args.deadline in
+    let waker = c.in-Ok.waker in
+    let is : n ≡ now = c.as_nanos-nanos.ensures in
+    let answer : (m : Machine) → Matches number old m → Ok waker ≡ sleep.reset_answer m.sleeps s now = λ m st. sym c.in-Ok.is ∙ (c.reset.ensures.stands m.sleeps st.sleeps).0 in
+    let outcome : (m : Machine) → Matches number old m → act_outcome (act.Reset s n) m ≡ resetting s now m =
+    λ m st. ap (λ k. act_outcome (act.Reset s k) m) is ∙ reset_is number m s now waker c.args.deadline.in_range (answer m st) in
+    let alike = alike_reset (sleeps_of old.timers) s now in
+    let d = with_all number old c.wake_if_any.new.tasks c.reset.new.self c.note-in-Ok.new.self in
+    by_act number old d _ _ c.note-in-Ok.ensures
+    (λ m st. c.reset_reply-reply.ensures ∙ ap (λ x. reset_reply x (up n)) (c.greatest.ensures ∙ ap (λ x. x.greatest) c.reset.ensures.sleeps ∙ alike.greatest ∙ sym st.sleeps.same_greatest) ∙ ap (λ k. reset_reply m.sleeps.greatest (up k)) is ∙ sym (ap (λ o. o.reply) (outcome m st)))
+    (λ m st. subst (λ o. Matches number d o.machine) (sym (outcome m st)) (reset_left number m s now waker old d st c.wake_if_any.ensures (c.reset.ensures.stands m.sleeps st.sleeps).1 (gone_on number old.timers c.reset.new.self _ st.has_gone c.reset.ensures.sleeps alike c.reset.ensures.elapsed) (ap (λ x. x.is_enabled) c.reset.ensures.sleeps ∙ alike.is_enabled) refl refl (answer m st)))
+    refl refl (ap (λ x. x.turn) c.wake_if_any.ensures) (ap (λ x. x.turns) c.wake_if_any.ensures) refl refl

@@ -1,0 +1,29 @@
+use Rattle.std.proofs.Common.{refl, ap, ◌∙◌}
+use Rattle.mono_model.specs.Tasks.{all_woken}
+use Rattle.mono_time.specs.Instants.{nanos_of}
+use Rattle.mono_task.specs.Schedule as schedule
+use Rattle.mono_machine.specs.declared.events.Event.TheVariants as event
+use Rattle.mono_machine.specs.declared.events.Report.TheVariants as report
+use Rattle.mono_rt.specs.declared.journals.Entry.TheVariants.{Ran}
+use Rattle.mono_rt.specs.Journals.{pushed}
+use Rattle.mono_rt.specs.Rounds.{IsClock}
+use Rattle.mono_rt.proofs.Going.{goes_of, does_stay, does_clock}
+use Rattle.mono_rt.proofs.Doing.{stay_on, does_more}
+use Rattle.mono_rt.proofs.runtimes.Runtime.clock_step.Goals as goal
+
+pub returns-clause-clocked : goal.returns-clause-clocked
+returns-clause-clocked g c =
+    let number = g.O.Outcome.output_number in
+    let old = c.args.self.now in
+    let opened = c.open_clock.new.self in
+    let due = c.take_due-due.result in
+    let tasks = c.wake_all.ensures in
+    stay_on number IsClock old.cx.parts opened.cx.parts _ old.journal opened.journal c.push.new.self
+    (does_stay number old.cx.parts opened.cx.parts old.journal opened.journal (ap (λ x. x.parts.tasks) c.open_clock.ensures.same) (ap (λ x. x.parts.timers) c.open_clock.ensures.same) (ap (λ x. x.parts.has_timers) c.open_clock.ensures.same) (ap (λ x. x.parts.strategy) c.open_clock.ensures.same) c.open_clock.ensures.entries c.open_clock.ensures.full)
+    (does_more number _ IsClock opened.cx.parts _ opened.journal c.push.new.self (λ m new xs zs stm stn is. (c.as_nanos-nanos.result, (due.fired.items, is))) (does_clock number opened.cx.parts _ opened.journal c.push.new.self c.as_nanos-nanos.result (nanos_of c.in-Some.now) due.fired.items due.wakers.items c.as_nanos-nanos.ensures c.in-Some.now.in_range
+    (c.push.ensures.entries ∙ ap (λ f. pushed opened.journal (Ran (event.Clock c.as_nanos-nanos.result) (report.Fired f))) c.into_fired.ensures) c.push.ensures.full
+    (ap (λ x. x.parts.has_timers) c.open_clock.ensures.same ∙ c.requires) c.take_due-due.ensures.fires c.take_due-due.ensures.wakers c.take_due-due.ensures.has_gone
+    (tasks ∙ ap (λ ws. schedule.with_tasks opened.cx.parts.tasks (all_woken opened.cx.parts.tasks.tasks ws)) c.deref.ensures.value) refl refl))
+
+pub returns-clause-goes : goal.returns-clause-goes
+returns-clause-goes g c = goes_of g.O.Outcome.output_number IsClock c.args.self.now.cx.parts _ c.args.self.now.journal c.push.new.self (returns-clause-clocked g c)

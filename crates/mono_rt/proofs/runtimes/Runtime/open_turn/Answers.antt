@@ -1,0 +1,21 @@
+use Rattle.std.proofs.Common.{refl, [], ◌∷◌, ◌∙◌, sym}
+use Rattle.mono_rt.specs.Journals.{IsReading}
+use Rattle.mono_rt.specs.declared.journals.Entry.TheVariants.{Now}
+use Rattle.mono_rt.proofs.Going.{goes_of, does_stay, does_past, pushed_open}
+use Rattle.mono_rt.proofs.Doing.{stay_on}
+use Rattle.mono_rt.proofs.runtimes.Runtime.open_turn.Goals as goal
+
+pub returns-in-Ok-with_room-clause-reading : goal.returns-in-Ok-with_room-clause-reading
+returns-in-Ok-with_room-clause-reading g c =
+    let number = g.O.Outcome.output_number in
+    let parts = c.args.self.now.cx.parts in
+    let n = c.as_nanos.result in
+    stay_on number IsReading parts parts parts c.args.self.now.journal c.reserve.new.self c.push.new.self
+    (does_stay number parts parts c.args.self.now.journal c.reserve.new.self refl refl refl refl c.reserve.ensures.entries c.reserve.ensures.full)
+    (does_past number IsReading parts c.reserve.new.self c.push.new.self (Now n ∷ []) (λ unfull. c.push.ensures.entries ∙ pushed_open c.reserve.new.self (Now n) (sym c.push.ensures.full ∙ unfull)) c.push.ensures.full (λ m. refl) (λ m rest. (n, (refl, refl))))
+
+pub returns-in-Ok-with_room-clause-goes : goal.returns-in-Ok-with_room-clause-goes
+returns-in-Ok-with_room-clause-goes g c = goes_of g.O.Outcome.output_number IsReading c.args.self.now.cx.parts c.args.self.now.cx.parts c.args.self.now.journal c.push.new.self (returns-in-Ok-with_room-clause-reading g c)
+
+pub returns-in-Ok-with_room-clause-place : goal.returns-in-Ok-with_room-clause-place
+returns-in-Ok-with_room-clause-place g c = c.push.ensures.room 1 c.in-Ok.ensures.room

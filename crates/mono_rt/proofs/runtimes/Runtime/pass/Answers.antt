@@ -1,0 +1,24 @@
+use Rattle.std.proofs.Common.{◌≡◌, cond, ℕ, ◌-◌, arith, ap, ◌∙◌, sym}
+use Rattle.mono_rt.proofs.Doing.{does_pass, pass_breaks}
+use Rattle.mono_rt.proofs.runtimes.Runtime.pass.Goals as goal
+
+no_cost : (u k : ℕ) → 0 ≡ k → u ≡ u - k
+no_cost u k is = omega (arith, is)
+
+pub returns-in-Err-clause-passes : goal.returns-in-Err-clause-passes
+returns-in-Err-clause-passes g c =
+    pass_breaks g.O.Outcome.output_number c.in-Err.error c.args.self.now.cx.parts.has_timers c.args.units c.args.self.now.cx.parts c.pause.new.self.cx.parts c.args.self.now.journal c.pause.new.self.journal
+    (rw c.in-Err.is at c.pause.ensures.breaks) (rw c.in-Err.is at c.pause.ensures.pauses)
+
+pub returns-in-Ok-clause-passes : goal.returns-in-Ok-clause-passes
+returns-in-Ok-clause-passes g c =
+    does_pass g.O.Outcome.output_number c.args.self.now.cx.parts.has_timers c.args.units (c.args.units - 1) c.in-Ok.left c.args.self.now.cx.parts c.pause.new.self.cx.parts c.round.new.self.cx.parts c.args.self.now.journal c.pause.new.self.journal c.round.new.self.journal
+    (ap (λ x. c.args.units - x) (ap (λ b. cond b 1 0) (sym c.in-Ok-true.field-0-test) ∙ rw c.in-Ok-true.is at c.pause.ensures.spent)) (rw c.in-Ok-true.is at c.pause.ensures.pauses) c.in-Ok.ensures.round
+
+pub returns-in-Ok-round-clause-passes : goal.returns-in-Ok-round-clause-passes
+returns-in-Ok-round-clause-passes g c =
+    does_pass g.O.Outcome.output_number c.args.self.now.cx.parts.has_timers c.args.units c.args.units c.in-Ok-round.left c.args.self.now.cx.parts c.pause.new.self.cx.parts c.round-in-Ok-false.new.self.cx.parts c.args.self.now.journal c.pause.new.self.journal c.round-in-Ok-false.new.self.journal
+    (no_cost c.args.units _ (ap (λ b. cond b 1 0) (sym c.in-Ok-false.field-0-test) ∙ rw c.in-Ok-false.is at c.pause.ensures.spent)) (rw c.in-Ok-false.is at c.pause.ensures.pauses) c.in-Ok-round.ensures.round
+
+pub returns-in-Ok-round-clause-fewer : goal.returns-in-Ok-round-clause-fewer
+returns-in-Ok-round-clause-fewer g c = c.in-Ok-round.ensures.fewer ((rw c.in-Ok-false.is at c.pause.ensures.queued) c.in-Ok-false.field-0-test) c.requires.some_left

@@ -1,0 +1,39 @@
+use Rattle.std.proofs.Common.{inl, inr, ◌≡◌, ◌+◌, ◌-◌, ℕ, arith, refl, ap, sym, ◌∙◌}
+use Rattle.mono_rt.proofs.Going.{goes_on, goes_nowhere}
+use Rattle.mono_rt.proofs.Doing.{turns_more, no_turns, does_round, most_is, no_queue}
+use Rattle.mono_rt.proofs.runtimes.Runtime.round.Goals as goal
+
+never : (n : ℕ) → n + 1 ≡ 0 → ⊥
+never n e = omega (arith, e)
+
+pub returns-in_err-turn-clause-goes : goal.returns-in_err-turn-clause-goes
+returns-in_err-turn-clause-goes g c =
+    goes_on g.O.Outcome.output_number c.args.self.now.cx.parts c.loop-done.self.cx.parts c.turn.new.self.cx.parts c.args.self.now.journal c.loop-done.self.journal c.turn.new.self.journal c.loop-done.invariant.0 c.turn.ensures.goes
+
+pub loop-done-preserved : goal.loop-done-preserved
+loop-done-preserved g c = (
+  goes_on g.O.Outcome.output_number c.args.self.now.cx.parts c.loop-done.self.cx.parts c.turn.new.self.cx.parts c.args.self.now.journal c.loop-done.self.journal c.turn.new.self.journal c.loop-done.invariant.0 c.turn.ensures.goes,
+  c.turn.ensures.rests,
+  λ e. absurd (never c.loop-done.done e),
+  turns_more g.O.Outcome.output_number c.loop-done.done c.args.self.now.cx.parts c.loop-done.self.cx.parts c.turn.new.self.cx.parts c.args.self.now.journal c.loop-done.self.journal c.turn.new.self.journal c.loop-done.invariant.3 c.in_ok-turn.ensures.turned,
+  c.turn.ensures.has_timers ∙ c.loop-done.invariant.4,
+)
+
+pub loop-done-init : goal.loop-done-init
+loop-done-init g c =
+    let parts = c.args.self.now.cx.parts in
+    let journal = c.args.self.now.journal in
+    (goes_nowhere g.O.Outcome.output_number parts parts journal journal refl refl refl refl refl refl, c.requires.rests, λ e. refl, no_turns g.O.Outcome.output_number parts journal, refl)
+
+pub returns-then-queue_len-eq0-clause-round : goal.returns-then-queue_len-eq0-clause-round
+returns-then-queue_len-eq0-clause-round g c =
+    let most = most_is _ _ _ _ _ c.args.units c.ranges.units.fits c.queue_len-queued.ensures c.saturating_mul.ensures c.saturating_add.ensures c.min-most.ensures in
+    does_round g.O.Outcome.output_number c.loop-done.done c.args.units _ c.args.self.now.cx.parts c.loop-done.self.cx.parts c.args.self.now.journal c.loop-done.self.journal c.loop-done.invariant.3
+    (omega (arith, most, c.loop-done.auto.done-end)) (inl (no_queue _ _ c.queue_len.ensures c.if-queue_len-eq0.true)) refl
+
+pub returns-clause-round : goal.returns-clause-round
+returns-clause-round g c =
+    let most = most_is _ _ _ _ _ c.args.units c.ranges.units.fits c.queue_len-queued.ensures c.saturating_mul.ensures c.saturating_add.ensures c.min-most.ensures in
+    let done : c.loop-done.done ≡ c.min-most.result = omega (arith, c.loop-done.auto.done-end, c.loop-done-test.false) in
+    does_round g.O.Outcome.output_number c.loop-done.done c.args.units _ c.args.self.now.cx.parts c.loop-done.self.cx.parts c.args.self.now.journal c.loop-done.self.journal c.loop-done.invariant.3
+    (omega (arith, most, done)) (inr (done ∙ most)) (ap (λ x. c.args.units - x) (sym done))

@@ -1,0 +1,11 @@
+use Rattle.std.proofs.Common.{◌≡◌, None}
+use Rattle.mono_rt.specs.Journals.{Goes, Does}
+use Rattle.mono_rt.specs.Rounds.{Turns}
+use Rattle.mono_rt.proofs.runtimes.Runtime.round.Given as goal
+
+-- what was done so far is in the journal
+abbrev pub invariant-loop-done : goal.invariant-loop-done
+invariant-loop-done g l = Goes g.O.Outcome.output_number l.initial.self.cx.parts l.self.cx.parts l.initial.self.journal l.self.journal × (l.self.cx.parts.tasks.turn ≡ None)
+    × (l.done ≡ 0 → l.self.cx.parts.tasks.tasks.queue ≡ l.initial.self.cx.parts.tasks.tasks.queue)
+    × Does g.O.Outcome.output_number (Turns l.done) l.initial.self.cx.parts l.self.cx.parts l.initial.self.journal l.self.journal
+    × (l.self.cx.parts.has_timers ≡ l.initial.self.cx.parts.has_timers)

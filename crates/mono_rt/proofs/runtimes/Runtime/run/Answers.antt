@@ -1,0 +1,44 @@
+use Rattle.std.proofs.Common.{◌≡◌, true, false, Bool, arith, ◌∙◌, sym}
+use Rattle.mono_rt.proofs.Doing.{does_first, passes_more, ends_done, ends_turns, ends_by}
+use Rattle.mono_rt.proofs.runtimes.Runtime.run.Goals.{then-loop-units-test+else-not-has_output, else-loop-units-test}
+use Rattle.mono_rt.proofs.runtimes.Runtime.run.Goals as goal
+
+both : (b : Bool) → true ≡ b → false ≡ b → ⊥
+both b p q = true-false (p ∙ sym q)
+  where
+    true-false : true ≡ false → ⊥
+    true-false e = cc
+
+pub loop-units-init : goal.loop-units-init
+loop-units-init g c = (
+  does_first g.O.Outcome.output_number c.args.self.now.cx.parts.has_timers c.args.main c.args.turns c.in-Ok.left c.args.self.now.cx.parts c.round.new.self.cx.parts c.args.self.now.journal c.round.new.self.journal c.in-Ok.ensures.round,
+  c.round.ensures.rests,
+  c.round.ensures.has_timers,
+)
+
+pub loop-units-preserved : goal.loop-units-preserved
+loop-units-preserved g c = (
+  passes_more g.O.Outcome.output_number c.args.self.now.cx.parts.has_timers c.loop-units.self.cx.parts.has_timers c.args.main c.args.turns c.loop-units.units c.in-Ok-pass.left c.args.self.now.cx.parts c.loop-units.self.cx.parts c.pass.new.self.cx.parts c.args.self.now.journal c.loop-units.self.journal c.pass.new.self.journal
+      c.loop-units.invariant.2 (sym c.if-not-has_output.ensures) (omega (arith, c.loop-units-test.true)) c.loop-units.invariant.0 (rw c.in-Ok-pass.is at c.pass.ensures.passes),
+  c.pass.ensures.rests,
+  c.pass.ensures.has_timers ∙ c.loop-units.invariant.2,
+)
+
+pub returns-in-Err-pass-clause-ends : goal.returns-in-Err-pass-clause-ends
+returns-in-Err-pass-clause-ends g c =
+    ends_by g.O.Outcome.output_number c.in-Err-pass.error c.args.self.now.cx.parts.has_timers c.loop-units.self.cx.parts.has_timers c.args.main c.args.turns c.loop-units.units c.args.self.now.cx.parts c.loop-units.self.cx.parts c.pass.new.self.cx.parts c.args.self.now.journal c.loop-units.self.journal c.pass.new.self.journal
+    c.loop-units.invariant.2 (sym c.if-not-has_output.ensures) (omega (arith, c.loop-units-test.true)) c.loop-units.invariant.0 (rw c.in-Err-pass.is at c.pass.ensures.passes)
+
+pub returns-then-has_output-clause-ends : goal.returns-then-has_output-clause-ends
+returns-then-has_output-clause-ends g c =
+    ends_done g.O.Outcome.output_number c.args.self.now.cx.parts.has_timers c.args.main c.args.turns c.loop-units.units c.args.self.now.cx.parts c.loop-units.self.cx.parts c.args.self.now.journal c.loop-units.self.journal
+    (sym c.if-has_output.ensures) c.loop-units.invariant.0
+
+pub returns-else-has_output-clause-ends : goal.returns-else-has_output-clause-ends
+returns-else-has_output-clause-ends g c =
+    ends_turns g.O.Outcome.output_number c.args.self.now.cx.parts.has_timers c.args.main c.args.turns c.loop-units.units c.args.self.now.cx.parts c.loop-units.self.cx.parts c.args.self.now.journal c.loop-units.self.journal
+    (elim c.loop-units-test.branch [
+      | then-loop-units-test+else-not-has_output w ↦ absurd (both _ w.if-not-has_output.ensures c.if-has_output.ensures)
+      | else-loop-units-test w ↦ omega (arith, w.loop-units-test.false)
+    ])
+    (sym c.if-has_output.ensures) c.loop-units.invariant.0

@@ -1,0 +1,40 @@
+use Rattle.std.proofs.Common.{◌≡◌, ℕ, Bool, true, false, refl, ap, ◌∙◌, Ok, Err}
+use Rattle.std.specs.Prelude.{Result}
+use Rattle.mono_task.specs.declared.error.SpawnTask.{SpawnTask}
+use Rattle.mono_task.specs.declared.error.SpawnTask.TheVariants.{AtCapacity}
+use Rattle.mono_rt.proofs.Going.{goes_of, does_spawn, does_full}
+use Rattle.mono_rt.specs.Rounds.{IsSpawn, IsRefused}
+use Rattle.mono_rt.proofs.Doing.{stay_on}
+use Rattle.mono_rt.proofs.runtimes.Runtime.start_main.Goals as goal
+
+not_both : (r : Result ℕ SpawnTask) (t : ℕ) → r ≡ Ok t → r ≡ Err AtCapacity → ⊥
+not_both r t p q = cc
+
+not_true : (b : Bool) → (b ≡ true → ⊥) → b ≡ false
+not_true true f = absurd (f refl)
+not_true false f = refl
+
+abbrev failed : SpawnTask → Result ℕ SpawnTask
+failed e = Err e
+
+pub returns-in-Ok-clause-spawned : goal.returns-in-Ok-clause-spawned
+returns-in-Ok-clause-spawned g c =
+    let number = g.O.Outcome.output_number in
+    let opened = c.open_spawn.new.self in
+    stay_on number (IsSpawn c.in-Ok.t) c.args.self.now.cx.parts opened.cx.parts _ c.args.self.now.journal opened.journal c.push.new.self c.open_spawn.ensures.stays
+    (does_spawn number opened.cx.parts _ opened.journal c.push.new.self c.in-Ok.t c.push.ensures.entries c.push.ensures.full
+    (not_true _ (λ e. not_both c.spawn.result c.in-Ok.t c.in-Ok.is (c.spawn.ensures.full.1 e))) c.in-Ok.ensures.number c.in-Ok.ensures.after refl refl refl)
+
+pub returns-in-Ok-clause-goes : goal.returns-in-Ok-clause-goes
+returns-in-Ok-clause-goes g c = goes_of g.O.Outcome.output_number (IsSpawn c.in-Ok.t) c.args.self.now.cx.parts _ c.args.self.now.journal c.push.new.self (returns-in-Ok-clause-spawned g c)
+
+pub returns-in-Err-AtCapacity-clause-refused : goal.returns-in-Err-AtCapacity-clause-refused
+returns-in-Err-AtCapacity-clause-refused g c =
+    let number = g.O.Outcome.output_number in
+    let opened = c.open_spawn.new.self in
+    stay_on number IsRefused c.args.self.now.cx.parts opened.cx.parts _ c.args.self.now.journal opened.journal c.push-in-Err-AtCapacity.new.self c.open_spawn.ensures.stays
+    (does_full number opened.cx.parts _ opened.journal c.push-in-Err-AtCapacity.new.self c.push-in-Err-AtCapacity.ensures.entries c.push-in-Err-AtCapacity.ensures.full
+    (c.spawn.ensures.full.0 (c.in-Err-AtCapacity.is ∙ ap failed c.in-Err-AtCapacity.field-0-is)) (rw c.in-Err-AtCapacity.is at c.spawn.ensures.refused) refl refl refl)
+
+pub returns-in-Err-AtCapacity-clause-goes : goal.returns-in-Err-AtCapacity-clause-goes
+returns-in-Err-AtCapacity-clause-goes g c = goes_of g.O.Outcome.output_number IsRefused c.args.self.now.cx.parts _ c.args.self.now.journal c.push-in-Err-AtCapacity.new.self (returns-in-Err-AtCapacity-clause-refused g c)

@@ -1,0 +1,28 @@
+use Rattle.std.proofs.Common.{◌≡◌, true, false, ap, ◌∙◌, sym, subst}
+use Rattle.mono_rt.specs.Journals.{Does}
+use Rattle.mono_rt.specs.Rounds.{Parks}
+use Rattle.mono_rt.proofs.Doing.{does_parks, does_clocked}
+use Rattle.mono_rt.proofs.runtimes.Runtime.wait.Goals as goal
+
+pub returns-else-self-clause-parks : goal.returns-else-self-clause-parks
+returns-else-self-clause-parks g c =
+    let number = g.O.Outcome.output_number in
+    let old = c.args.self.now in
+    let parked = c.park.new.self in
+    let drained = c.drain.new.self in
+    let none : old.cx.parts.has_timers ≡ false = sym (c.drain.ensures.has_timers ∙ ap (λ x. x.parts.has_timers) c.park.ensures.same) ∙ c.if-self.false in
+    subst (λ h. Does number (Parks h) old.cx.parts drained.cx.parts old.journal drained.journal) (sym none)
+    (does_parks number old.cx.parts parked.cx.parts drained.cx.parts old.journal parked.journal drained.journal c.in-Ok.ensures.parked c.in-Ok-drain.ensures.drained)
+
+pub returns-in-Ok-clock_step-clause-parks : goal.returns-in-Ok-clock_step-clause-parks
+returns-in-Ok-clock_step-clause-parks g c =
+    let number = g.O.Outcome.output_number in
+    let old = c.args.self.now in
+    let parked = c.park.new.self in
+    let drained = c.drain.new.self in
+    let left = c.clock_step.new.self in
+    let timers : old.cx.parts.has_timers ≡ true = sym (c.drain.ensures.has_timers ∙ ap (λ x. x.parts.has_timers) c.park.ensures.same) ∙ c.if-self.true in
+    subst (λ h. Does number (Parks h) old.cx.parts left.cx.parts old.journal left.journal) (sym timers)
+    (does_clocked number old.cx.parts drained.cx.parts left.cx.parts old.journal drained.journal left.journal
+    (does_parks number old.cx.parts parked.cx.parts drained.cx.parts old.journal parked.journal drained.journal c.in-Ok.ensures.parked c.in-Ok-drain.ensures.drained)
+    c.in-Ok-clock_step.ensures.clocked)

@@ -1,0 +1,37 @@
+use Rattle.std.proofs.Common.{◌≤◌, ◌++◌, length, sym, subst, ap, ◌∙◌}
+use Rattle.mono_model.specs.Tasks.{all_woken}
+use Rattle.mono_task.specs.Schedule as schedule
+use Rattle.mono_rt.specs.Drains.{remotes, listed, drain_of}
+use Rattle.mono_rt.specs.Journals.{pushed}
+use Rattle.mono_rt.specs.Rounds.{Drained}
+use Rattle.mono_rt.proofs.Doing.{does_drain}
+use Rattle.mono_rt.proofs.Draining.{longer}
+use Rattle.mono_rt.proofs.Going.{goes_of}
+use Rattle.mono_rt.proofs.runtimes.Runtime.wake_taken.Goals as goal
+
+pub returns-in-Some-clause-drained : goal.returns-in-Some-clause-drained
+returns-in-Some-clause-drained g c =
+    let old = c.args.self.now in
+    let opened = c.open_drain.new.self in
+    let told = c.tell_remotes.new.self in
+    let open_is = c.open_drain.ensures in
+    let tell_is = c.tell_remotes.ensures in
+    let taken = c.args.taken.now in
+    let woken = c.tell_remotes.new.into.items in
+    does_drain g.O.Outcome.output_number old.cx.parts _ old.journal told.journal c.push.new.self taken woken c.requires
+    (λ unfull. tell_is.entries unfull ∙ ap (λ xs. xs ++ remotes opened.cx.parts.tasks.tasks taken) open_is.entries ∙ ap (λ x. old.journal.entries.items ++ remotes x.parts.tasks.tasks taken) open_is.same)
+    (tell_is.full ∙ open_is.full)
+    (tell_is.listed ∙ ap (λ xs. xs ++ listed opened.cx.parts.tasks.tasks taken) c.in-Some.ensures.empty ∙ ap (λ x. listed x.parts.tasks.tasks taken) open_is.same)
+    (c.push.ensures.entries ∙ ap (λ xs. pushed told.journal (drain_of xs)) c.from.ensures) c.push.ensures.full
+    (c.wake_all.ensures ∙ ap (λ ws. schedule.with_tasks told.cx.parts.tasks (all_woken told.cx.parts.tasks.tasks ws)) c.deref.ensures.value ∙ ap (λ x. schedule.with_tasks x.parts.tasks (all_woken x.parts.tasks.tasks woken)) (tell_is.same ∙ open_is.same))
+    (ap (λ x. x.parts.timers) (tell_is.same ∙ open_is.same)) (ap (λ x. x.parts.has_timers) (tell_is.same ∙ open_is.same)) (ap (λ x. x.parts.strategy) (tell_is.same ∙ open_is.same))
+
+pub returns-in-Some-clause-goes : goal.returns-in-Some-clause-goes
+returns-in-Some-clause-goes g c = goes_of g.O.Outcome.output_number Drained c.args.self.now.cx.parts _ c.args.self.now.journal c.push.new.self (returns-in-Some-clause-drained g c)
+
+pub returns-in-Some-clause-longer : goal.returns-in-Some-clause-longer
+returns-in-Some-clause-longer g c =
+    let old = c.args.self.now in
+    let told = c.tell_remotes.new.self in
+    subst (λ x. length x.parts.tasks.tasks.queue ≤ length c.wake_all.new.tasks.tasks.queue) (c.tell_remotes.ensures.same ∙ c.open_drain.ensures.same)
+    (subst (λ x. length told.cx.parts.tasks.tasks.queue ≤ length x.tasks.queue) (sym c.wake_all.ensures) (longer told.cx.parts.tasks.tasks c.deref.result.now))

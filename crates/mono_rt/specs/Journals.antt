@@ -1,0 +1,74 @@
+-- What a journal says of the machine.
+use Rattle.std.specs.Prelude.{◌≡◌, ◌≤◌, ℕ, false, List, [], ◌∷◌, ◌++◌, ◌+◌, length, vec_capacity, if◌then◌else◌}
+use Rattle.mono_machine.specs.Machine.{Machine}
+use Rattle.mono_machine.specs.Steps.{Step}
+use Rattle.mono_machine.specs.declared.events.Event.{Event}
+use Rattle.mono_machine.specs.declared.events.Report.{Report}
+use Rattle.mono_rt.specs.Stands.{Matches}
+use Rattle.mono_rt.specs.declared.parts.Parts.{Parts}
+use Rattle.mono_rt.specs.declared.journals.Entry.{Entry}
+use Rattle.mono_rt.specs.declared.journals.Entry.TheVariants.{Ran, Now, Park}
+use Rattle.mono_rt.specs.declared.journals.Journal.{Journal}
+
+-- the events that were done, and their reports
+abbrev pub events_in : List Entry → List Event
+events_in [] = []
+events_in (Ran event report ∷ part) = event ∷ events_in part
+events_in (Now n ∷ part) = events_in part
+events_in (Park v ∷ part) = events_in part
+
+abbrev pub reports_in : List Entry → List Report
+reports_in [] = []
+reports_in (Ran event report ∷ part) = report ∷ reports_in part
+reports_in (Now n ∷ part) = reports_in part
+reports_in (Park v ∷ part) = reports_in part
+
+-- these entries lead the machine on: each event that was done is a step
+abbrev pub Follows : Machine → List Entry → Machine → Type 0
+Follows old [] new = new ≡ old
+Follows old (Ran event report ∷ part) new = (mid : Machine) × Step old event report mid × Follows mid part new
+Follows old (Now n ∷ part) new = Follows old part new
+Follows old (Park v ∷ part) new = Follows old part new
+
+-- From each machine for which the parts stood, what the journal grew by is a run to one for which they stand, unless the
+-- journal is full.
+pub record Went {O : Type 0} (number : O → ℕ) (c d : Parts O) (j k : Journal) (old : Machine) : Type 0 where
+  pub part : List Entry
+  pub new : Machine
+  pub grew : k.entries.items ≡ j.entries.items ++ part
+  pub follows : Follows old part new
+  pub matches : Matches number d new
+
+pub record Goes {O : Type 0} (number : O → ℕ) (c d : Parts O) (j k : Journal) : Type 0 where
+  pub opens : k.is_full ≡ false → j.is_full ≡ false
+  pub went : (old : Machine) → Matches number c old → k.is_full ≡ false → Went number c d j k old
+
+-- The same, and what was done stands in a relation: from the machine before with the part and any entries after it, to the
+-- machine after with these.
+pub record Did {O : Type 0} (number : O → ℕ) (R : Machine → List Entry → Machine → List Entry → Type 0) (c d : Parts O) (j k : Journal) (old : Machine) : Type 0 where
+  pub went : Went number c d j k old
+  pub is : (rest : List Entry) → R old (went.part ++ rest) went.new rest
+
+pub record Does {O : Type 0} (number : O → ℕ) (R : Machine → List Entry → Machine → List Entry → Type 0) (c d : Parts O) (j k : Journal) : Type 0 where
+  pub opens : k.is_full ≡ false → j.is_full ≡ false
+  pub did : (old : Machine) → Matches number c old → k.is_full ≡ false → Did number R c d j k old
+
+-- nothing was done
+abbrev pub Stays : Machine → List Entry → Machine → List Entry → Type 0
+Stays old part new rest = (part ≡ rest) × (new ≡ old)
+
+-- one event
+abbrev pub IsStep : Event → Report → Machine → List Entry → Machine → List Entry → Type 0
+IsStep event report old part new rest = (part ≡ Ran event report ∷ rest) × Step old event report new
+
+-- the clock was read
+abbrev pub IsReading : Machine → List Entry → Machine → List Entry → Type 0
+IsReading old part new rest = (n : ℕ) × ((part ≡ Now n ∷ rest) × (new ≡ old))
+
+-- one more entry, unless the journal is full
+abbrev pub pushed : Journal → Entry → List Entry
+pushed j entry = if j.is_full then j.entries.items else j.entries.items ++ entry ∷ []
+
+-- there is room for so many entries
+abbrev pub HasPlaces : Journal → ℕ → Type 0
+HasPlaces j n = length j.entries.items + n ≤ vec_capacity j.entries

@@ -1,0 +1,11 @@
+pub mod Numbered
+pub mod Record
+pub mod Stands
+pub mod Reached
+pub mod Turns
+pub mod Driving
+pub mod Journals
+pub mod Blocked
+pub mod Drains
+pub mod Rounds
+pub mod Texts

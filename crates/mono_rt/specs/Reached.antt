@@ -1,0 +1,149 @@
+-- Parts, and a context, that were reached from others by calls of the running task.
+use Rattle.std.specs.Prelude.{◌≡◌, ℕ, Bool, true, false, ◌||◌, nat_le, List, [], ◌∷◌, ◌++◌, length, Option, Some, ◌≤◌, refl}
+use Rattle.std.proofs.Common.{sym, ◌∙◌, ap, subst, cond, append_assoc, append-nil, arith}
+use Rattle.std.proofs.Math.Nat.{le_refl}
+use Rattle.mono_model.specs.Table.{value_at}
+use Rattle.mono_rt.specs.declared.contexts.Cx.{Cx}
+use Rattle.mono_machine.specs.Acts.{step_outcome}
+use Rattle.mono_machine.specs.declared.events.Reply.{Reply}
+use Rattle.mono_rt.specs.Record.{Record, room, noted, filled, with_act}
+use Rattle.mono_machine.specs.Machine.{Machine}
+use Rattle.mono_machine.specs.Turns.{replies_of, after_steps}
+use Rattle.mono_machine.specs.declared.events.TurnStep.{TurnStep}
+use Rattle.mono_rt.specs.Stands.{Matches}
+use Rattle.mono_rt.specs.declared.parts.Parts.{Parts}
+
+-- A list of acts leads each machine for which the parts stood to one for which they stand. While the record of the turn is
+-- not full, it grew by these acts and by the machine's replies to them.
+pub record Leads {O : Type 0} (number : O → ℕ) (c d : Parts O) : Type 0 where
+  pub steps : List TurnStep
+  pub leads : (m : Machine) → Matches number c m → Matches number d (after_steps c.me steps m)
+  pub kept : d.acts.is_full ≡ false → (c.acts.is_full ≡ false) × (d.acts.steps ≡ c.acts.steps ++ steps)
+  pub answers : (m : Machine) → Matches number c m → d.acts.is_full ≡ false → d.acts.replies ≡ c.acts.replies ++ replies_of c.me steps m
+  pub same_me : d.me ≡ c.me
+  pub same_now : d.now ≡ c.now
+  pub same_turn : d.tasks.turn ≡ c.tasks.turn
+  pub same_turns : d.tasks.turns ≡ c.tasks.turns
+  pub same_timers : d.has_timers ≡ c.has_timers
+  pub memory : c.is_out_of_memory ≡ true → d.is_out_of_memory ≡ true
+
+pub after_steps-append : (me : ℕ) (xs ys : List TurnStep) (m : Machine) → after_steps me (xs ++ ys) m ≡ after_steps me ys (after_steps me xs m)
+after_steps-append me [] ys m = refl
+after_steps-append me (x ∷ xs) ys m = after_steps-append me xs ys (step_outcome me x m).machine
+
+pub replies_of-append : (me : ℕ) (xs ys : List TurnStep) (m : Machine) → replies_of me (xs ++ ys) m ≡ replies_of me xs m ++ replies_of me ys (after_steps me xs m)
+replies_of-append me [] ys m = refl
+replies_of-append me (x ∷ xs) ys m = ap (λ rs. (step_outcome me x m).reply ∷ rs) (replies_of-append me xs ys (step_outcome me x m).machine)
+
+-- an act that did not fill the record is its last
+true-false : true ≡ false → ⊥
+true-false e = cc
+
+unfilled_by : (b full : Bool) (acts : Record) (step : TurnStep) (reply : Reply) → (b || nat_le room (length acts.steps)) ≡ full → acts.is_full ≡ b → (cond full (filled acts) (with_act acts step reply)).is_full ≡ false
+    → (acts.is_full ≡ false) × ((cond full (filled acts) (with_act acts step reply)).steps ≡ acts.steps ++ step ∷ []) × ((cond full (filled acts) (with_act acts step reply)).replies ≡ acts.replies ++ reply ∷ [])
+unfilled_by b true acts step reply is was left = absurd (true-false left)
+unfilled_by true false acts step reply is was left = absurd (true-false is)
+unfilled_by false false acts step reply is was left = (was, refl, refl)
+
+pub unfilled : (acts : Record) (step : TurnStep) (reply : Reply) → (noted acts step reply).is_full ≡ false
+    → (acts.is_full ≡ false) × ((noted acts step reply).steps ≡ acts.steps ++ step ∷ []) × ((noted acts step reply).replies ≡ acts.replies ++ reply ∷ [])
+unfilled acts step reply left = unfilled_by acts.is_full _ acts step reply refl refl left
+
+module _ {O : Type 0} (number : O → ℕ) where
+  pub leads_itself : (c : Parts O) → Leads number c c
+  leads_itself c = record {
+    steps = [];
+    leads = λ m st. st;
+    kept = λ left. (left, sym (append-nil c.acts.steps));
+    answers = λ m st left. sym (append-nil c.acts.replies);
+    same_me = refl;
+    same_now = refl;
+    same_turn = refl;
+    same_turns = refl;
+    same_timers = refl;
+    memory = λ h. h;
+  }
+
+  pub leads_on : (a b c : Parts O) → Leads number a b → Leads number b c → Leads number a c
+  leads_on a b c p q = record {
+    steps = p.steps ++ q.steps;
+    leads = λ m st. subst (Matches number c) (ap (λ me. after_steps me q.steps (after_steps a.me p.steps m)) p.same_me ∙ sym (after_steps-append a.me p.steps q.steps m)) (q.leads (after_steps a.me p.steps m) (p.leads m st));
+    kept = λ left. ((p.kept (q.kept left).0).0, (q.kept left).1 ∙ ap (λ xs. xs ++ q.steps) (p.kept (q.kept left).0).1 ∙ append_assoc a.acts.steps p.steps q.steps);
+    answers = λ m st left.
+        let mid : Machine = after_steps a.me p.steps m in
+        let first : List Reply = replies_of a.me p.steps m in
+        let told : c.acts.replies ≡ b.acts.replies ++ replies_of b.me q.steps mid = q.answers mid (p.leads m st) left in
+        let before : b.acts.replies ≡ a.acts.replies ++ first = p.answers m st (q.kept left).0 in
+        let both : replies_of a.me (p.steps ++ q.steps) m ≡ first ++ replies_of a.me q.steps mid = replies_of-append a.me p.steps q.steps m in
+        told ∙ ap (λ xs. xs ++ replies_of b.me q.steps mid) before ∙ ap (λ me. (a.acts.replies ++ first) ++ replies_of me q.steps mid) p.same_me
+        ∙ append_assoc a.acts.replies first (replies_of a.me q.steps mid) ∙ ap (λ rs. a.acts.replies ++ rs) (sym both);
+    same_me = q.same_me ∙ p.same_me;
+    same_now = q.same_now ∙ p.same_now;
+    same_turn = q.same_turn ∙ p.same_turn;
+    same_turns = q.same_turns ∙ p.same_turns;
+    same_timers = q.same_timers ∙ p.same_timers;
+    memory = λ h. q.memory (p.memory h);
+  }
+
+  -- one act
+  pub by_act : (c d : Parts O) (step : TurnStep) (reply : Reply) → d.acts ≡ noted c.acts step reply
+      → ((m : Machine) → Matches number c m → reply ≡ (step_outcome c.me step m).reply)
+      → ((m : Machine) → Matches number c m → Matches number d (step_outcome c.me step m).machine)
+      → d.me ≡ c.me → d.now ≡ c.now → d.tasks.turn ≡ c.tasks.turn → d.tasks.turns ≡ c.tasks.turns → d.has_timers ≡ c.has_timers → d.is_out_of_memory ≡ c.is_out_of_memory → Leads number c d
+  by_act c d step reply is answer left me now turn turns timers memory = record {
+    steps = step ∷ [];
+    leads = left;
+    kept = λ unfull. ((unfilled c.acts step reply (sym (ap (λ x. x.is_full) is) ∙ unfull)).0, ap (λ x. x.steps) is ∙ (unfilled c.acts step reply (sym (ap (λ x. x.is_full) is) ∙ unfull)).1);
+    answers = λ m st unfull. ap (λ x. x.replies) is ∙ (unfilled c.acts step reply (sym (ap (λ x. x.is_full) is) ∙ unfull)).2 ∙ ap (λ r. c.acts.replies ++ r ∷ []) (answer m st);
+    same_me = me;
+    same_now = now;
+    same_turn = turn;
+    same_turns = turns;
+    same_timers = timers;
+    memory = λ h. memory ∙ h;
+  }
+
+  -- a call that changed nothing of the machine and was not kept
+  pub by_nothing : (c d : Parts O) → d.acts ≡ c.acts → ((m : Machine) → Matches number c m → Matches number d m)
+      → d.me ≡ c.me → d.now ≡ c.now → d.tasks.turn ≡ c.tasks.turn → d.tasks.turns ≡ c.tasks.turns → d.has_timers ≡ c.has_timers → (c.is_out_of_memory ≡ true → d.is_out_of_memory ≡ true) → Leads number c d
+  by_nothing c d is left me now turn turns timers memory = record {
+    steps = [];
+    leads = left;
+    kept = λ unfull. (sym (ap (λ x. x.is_full) is) ∙ unfull, ap (λ x. x.steps) is ∙ sym (append-nil c.acts.steps));
+    answers = λ m st unfull. ap (λ x. x.replies) is ∙ sym (append-nil c.acts.replies);
+    same_me = me;
+    same_now = now;
+    same_turn = turn;
+    same_turns = turns;
+    same_timers = timers;
+    memory = memory;
+  }
+
+-- Each future in the table stays. Nothing else is said of the futures.
+abbrev pub KeepsFutures : {F : Type 0} → List (Option F) → List (Option F) → Type 0
+KeepsFutures {F} old new = (t : ℕ) (f : F) → value_at old t ≡ Some f → value_at new t ≡ Some f
+
+module _ {F O P U J A V : Type 0} (number : O → ℕ) where
+  -- calls of the running task lead from the one context to the other
+  pub record Reaches (c d : Cx F O P U J A V) : Type 0 where
+    pub parts : Leads number c.parts d.parts
+    pub keeps : KeepsFutures c.futures.items d.futures.items
+    pub grows : length c.futures.items ≤ length d.futures.items
+
+  pub reaches_itself : (c : Cx F O P U J A V) → Reaches c c
+  reaches_itself c = record { parts = leads_itself number c.parts; keeps = λ t f h. h; grows = le_refl _ }
+
+  pub reaches_on : (a b c : Cx F O P U J A V) → Reaches a b → Reaches b c → Reaches a c
+  reaches_on a b c p q = record {
+    parts = leads_on number a.parts b.parts c.parts p.parts q.parts;
+    keeps = λ t f h. q.keeps t f (p.keeps t f h);
+    grows = omega (arith, p.grows, q.grows);
+  }
+
+  -- a call on the parts alone
+  pub by_parts : (c d : Cx F O P U J A V) → Leads number c.parts d.parts → d.futures.items ≡ c.futures.items → Reaches c d
+  by_parts c d parts same = record {
+    parts = parts;
+    keeps = λ t f h. ap (λ v. value_at v t) same ∙ h;
+    grows = rw same (le_refl _);
+  }

@@ -1,0 +1,301 @@
+// Rounds of turns, waits on the driver, and the main task.
+ghost use Rattle.std.specs.Prelude.{◌≡◌, ◌<◌, ◌≤◌, None, false, length, vec_len, vec_capacity, IfOk, OnOk, IfErr, IsSome, true, if◌then◌else◌};
+ghost use Rattle.mono_rt.specs.Journals.{Goes, Does, Stays, HasPlaces};
+ghost use Rattle.mono_rt.specs.Rounds.{IsPark, Parks, Pause, Round, PassEnds, Ends, IsBreak, IsSpawn, IsRefused, IsDrop, Blocked, cost};
+ghost use Rattle.mono_rt.specs.Blocked.{UnlessMemory, OnCapacity};
+
+use crate::calls::drop_reply_of;
+use crate::contexts::Cx;
+use crate::drivers::Driver;
+use crate::errors::RunError;
+use crate::journals::Entry;
+use crate::runtimes::Runtime;
+use mono_blocking::ThreadPool;
+use mono_exec::{Act, Event, Refusal, Reply, Report};
+use mono_joinword::Outcome;
+use mono_model::Host;
+use mono_task::{SpawnTask, TaskFuture};
+use mono_time::Instant;
+use std::alloc::Global;
+use std::time::Duration;
+
+impl<F: Drop, O: Outcome + Drop, D: Driver, P: ThreadPool + Drop> Runtime<F, O, D, P> {
+    /// How long the driver is parked, in milliseconds.
+    fn wait_from(&self, now: Instant) -> Option<u64> {
+        if !self.cx.parts.has_timers {
+            return None;
+        }
+        match self.cx.parts.timers.next_expiration_time() {
+            None => None,
+            Some(tick) => Some(tick.saturating_sub((now.as_nanos() / 1000000) as u64)),
+        }
+    }
+
+    /// Parks the driver, for so many milliseconds at most. The answer tells whether it failed.
+    fn park_driver<R: Host>(&mut self, rt: &R, wait: Option<u64>) -> bool
+        ensures cx { self.new.cx ≡ self.old.cx }
+        ensures journal { self.new.journal ≡ self.old.journal }
+    {
+        let parked = match wait {
+            Some(ticks) => self.driver.park_timeout(rt, Duration::from_millis(ticks)),
+            None => self.driver.park(rt),
+        };
+        parked.is_err()
+    }
+
+    /// The clock is read, and the driver is parked. The answer tells whether it failed.
+    fn park<R: Host>(&mut self, rt: &R) -> Result<bool, RunError>
+        ensures goes { Goes O.output_number self.old.cx.parts self.new.cx.parts self.old.journal self.new.journal }
+        ensures parked { OnOk result (Does O.output_number IsPark self.old.cx.parts self.new.cx.parts self.old.journal self.new.journal) }
+        ensures same { self.new.cx ≡ self.old.cx }
+    {
+        match self.journal.reserve(2) {
+            Err(_) => Err(RunError::Memory),
+            Ok(()) => {
+                let now = self.driver.now();
+                self.journal.push(Entry::Now(now.as_nanos()));
+                let wait = self.wait_from(now);
+                self.journal.push(Entry::Park(wait));
+                let failed = self.park_driver(rt, wait);
+                Ok(failed)
+            }
+        }
+    }
+
+    /// The queue is empty: the driver is parked, the inbox is drained, and with timers a clock step is done. The answer tells
+    /// whether the park failed.
+    fn wait<R: Host>(&mut self, rt: &R, alloc: Global) -> Result<bool, RunError>
+        ensures parks { OnOk result (Does O.output_number (Parks self.old.cx.parts.has_timers) self.old.cx.parts self.new.cx.parts self.old.journal self.new.journal) }
+        ensures has_timers { self.new.cx.parts.has_timers ≡ self.old.cx.parts.has_timers }
+        ensures turn { self.new.cx.parts.tasks.turn ≡ self.old.cx.parts.tasks.turn }
+    {
+        match self.park(rt) {
+            Err(_) => Err(RunError::Memory),
+            Ok(failed) => match self.drain(rt, alloc) {
+                Err(_) => Err(RunError::Memory),
+                Ok(()) => {
+                    if self.cx.parts.has_timers {
+                        match self.clock_step(alloc) {
+                            Err(_) => Err(RunError::Memory),
+                            Ok(()) => Ok(failed),
+                        }
+                    } else {
+                        Ok(failed)
+                    }
+                }
+            },
+        }
+    }
+
+    /// Between two rounds. The answer tells whether a unit is spent: the queue was empty and still is.
+    fn pause<R: Host>(&mut self, rt: &R, alloc: Global) -> Result<bool, RunError>
+        ensures pauses { UnlessMemory result (Does O.output_number (Pause self.old.cx.parts.has_timers) self.old.cx.parts self.new.cx.parts self.old.journal self.new.journal) }
+        ensures spent { IfOk result (λ spent. (if spent then 1 else 0) ≡ cost self.old.cx.parts.tasks.tasks.queue self.new.cx.parts.tasks.tasks.queue) }
+        ensures has_timers { self.new.cx.parts.has_timers ≡ self.old.cx.parts.has_timers }
+        ensures queued { IfOk result (λ spent. spent ≡ false → 0 < length self.new.cx.parts.tasks.tasks.queue) }
+        ensures breaks { IfErr result IsBreak }
+        ensures turn { self.new.cx.parts.tasks.turn ≡ self.old.cx.parts.tasks.turn }
+    {
+        if self.cx.parts.tasks.queue_len() > 0 {
+            let handed = self.driver.submit(rt);
+            return match self.drain(rt, alloc) {
+                Err(_) => Err(RunError::Memory),
+                Ok(()) => match handed {
+                    Ok(()) => Ok(false),
+                    Err(_) => Err(RunError::Driver),
+                },
+            };
+        }
+        match self.wait(rt, alloc) {
+            Err(_) => Err(RunError::Memory),
+            Ok(true) => Err(RunError::Driver),
+            Ok(false) => Ok(self.cx.parts.tasks.queue_len() == 0),
+        }
+    }
+}
+
+impl<F: Drop, O: Outcome + Drop, D: Driver, P: ThreadPool + Drop> Runtime<F, O, D, P> {
+    /// The main task is made.
+    fn start_main(&mut self, alloc: Global, future: F) -> Result<u64, RunError>
+        ensures goes { Goes O.output_number self.old.cx.parts self.new.cx.parts self.old.journal self.new.journal }
+        ensures spawned { IfOk result (λ t. Does O.output_number (IsSpawn t) self.old.cx.parts self.new.cx.parts self.old.journal self.new.journal) }
+        ensures refused { IfErr result (λ error. OnCapacity error (Does O.output_number IsRefused self.old.cx.parts self.new.cx.parts self.old.journal self.new.journal)) }
+        ensures has_timers { self.new.cx.parts.has_timers ≡ self.old.cx.parts.has_timers }
+        ensures turn { self.new.cx.parts.tasks.turn ≡ self.old.cx.parts.tasks.turn }
+    {
+        match self.open_spawn() {
+            None => Err(RunError::Memory),
+            Some(()) => match self.cx.parts.tasks.spawn(alloc) {
+                Ok(t) => {
+                    self.cx.futures.push_reserved(Some(future));
+                    self.journal.push(Entry::Ran(
+                        Event::Act(Act::Spawn),
+                        Report::Reply(Reply::Task(t)),
+                    ));
+                    Ok(t)
+                }
+                Err(SpawnTask::AtCapacity) => {
+                    self.journal.push(Entry::Ran(
+                        Event::Act(Act::Spawn),
+                        Report::Reply(Reply::Refused(Refusal::AtCapacity)),
+                    ));
+                    Err(RunError::AtCapacity)
+                }
+                Err(SpawnTask::Memory) => Err(RunError::Memory),
+            },
+        }
+    }
+
+    /// Room for the main task's future and for its entry.
+    fn open_spawn(&mut self) -> Option<()>
+        ensures place { IsSome result → HasPlaces self.new.journal 1 }
+        ensures future { IsSome result → vec_len self.new.cx.futures < vec_capacity self.new.cx.futures }
+        ensures stays { Does O.output_number Stays self.old.cx.parts self.new.cx.parts self.old.journal self.new.journal }
+        ensures goes { Goes O.output_number self.old.cx.parts self.new.cx.parts self.old.journal self.new.journal }
+        ensures same { self.new.cx.parts ≡ self.old.cx.parts }
+    {
+        match self.journal.reserve(1) {
+            Err(_) => None,
+            Ok(()) => match self.cx.futures.reserve(1) {
+                Err(_) => None,
+                Ok(()) => Some(()),
+            },
+        }
+    }
+
+    /// The handle of the main task is dropped.
+    fn end_main(&mut self, main: u64) -> Result<Option<O>, RunError>
+        ensures dropped { OnOk result (Does O.output_number (IsDrop main) self.old.cx.parts self.new.cx.parts self.old.journal self.new.journal) }
+        ensures turn { self.new.cx.parts.tasks.turn ≡ self.old.cx.parts.tasks.turn }
+    {
+        match self.journal.reserve(1) {
+            Err(_) => Err(RunError::Memory),
+            Ok(()) => {
+                let answer = self.cx.parts.tasks.drop_join(main);
+                let reply = drop_reply_of(&answer);
+                self.journal.push(Entry::Ran(
+                    Event::Act(Act::DropJoin(main)),
+                    Report::Reply(reply),
+                ));
+                match answer {
+                    Ok(output) => Ok(output),
+                    Err(_) => Ok(None),
+                }
+            }
+        }
+    }
+}
+
+impl<F, O, D, P> Runtime<F, O, D, P>
+where
+    F: TaskFuture<Cx<F, O, P, D::Unpark>, Output = O> + Drop,
+    O: Outcome + Drop,
+    D: Driver,
+    P: ThreadPool + Drop,
+{
+    /// At most 2q + 1 turns of queued tasks, q being the queue's length now, while units are left. Answers the units that
+    /// are left.
+    fn round<R: Host>(&mut self, rt: &R, alloc: Global, units: u64) -> Result<u64, RunError>
+        requires callable { (f : F) → F.can_poll f }
+        requires rests { self.old.cx.parts.tasks.turn ≡ None }
+        ensures goes { Goes O.output_number self.old.cx.parts self.new.cx.parts self.old.journal self.new.journal }
+        ensures has_timers { self.new.cx.parts.has_timers ≡ self.old.cx.parts.has_timers }
+        ensures rests { self.new.cx.parts.tasks.turn ≡ None }
+        ensures left { IfOk result (λ left. left ≤ units) }
+        ensures round { IfOk result (λ left. Does O.output_number (Round units left) self.old.cx.parts self.new.cx.parts self.old.journal self.new.journal) }
+        ensures fewer { IfOk result (λ left. 0 < length self.old.cx.parts.tasks.tasks.queue → 0 < units → left < units) }
+    {
+        let queued = self.cx.parts.tasks.queue_len() as u64;
+        let most = queued.saturating_mul(2).saturating_add(1).min(units);
+        for done in 0..most {
+            if self.cx.parts.tasks.queue_len() == 0 {
+                return Ok(units - done);
+            }
+            self.turn(rt, alloc)?;
+        }
+        Ok(units - most)
+    }
+
+    /// A pause and a round. Answers the units that are left, which are fewer.
+    fn pass<R: Host>(&mut self, rt: &R, alloc: Global, units: u64) -> Result<u64, RunError>
+        requires callable { (f : F) → F.can_poll f }
+        requires rests { self.old.cx.parts.tasks.turn ≡ None }
+        requires some_left { 0 < units }
+        ensures passes { UnlessMemory result (Does O.output_number (PassEnds self.old.cx.parts.has_timers units result) self.old.cx.parts self.new.cx.parts self.old.journal self.new.journal) }
+        ensures has_timers { self.new.cx.parts.has_timers ≡ self.old.cx.parts.has_timers }
+        ensures rests { self.new.cx.parts.tasks.turn ≡ None }
+        ensures fewer { IfOk result (λ left. left < units) }
+    {
+        match self.pause(rt, alloc) {
+            Err(error) => Err(error),
+            Ok(true) => match self.round(rt, alloc, units - 1) {
+                Err(_) => Err(RunError::Memory),
+                Ok(left) => Ok(left),
+            },
+            Ok(false) => match self.round(rt, alloc, units) {
+                Err(_) => Err(RunError::Memory),
+                Ok(left) => Ok(left),
+            },
+        }
+    }
+
+    /// Rounds and waits until the main task has its output. It ends since each pass spends a unit.
+    fn run<R: Host>(&mut self, rt: &R, alloc: Global, main: u64, turns: u64) -> Result<(), RunError>
+        requires callable { (f : F) → F.can_poll f }
+        requires rests { self.old.cx.parts.tasks.turn ≡ None }
+        ensures ends { UnlessMemory result (Does O.output_number (Ends self.old.cx.parts.has_timers main turns result) self.old.cx.parts self.new.cx.parts self.old.journal self.new.journal) }
+        ensures has_timers { self.new.cx.parts.has_timers ≡ self.old.cx.parts.has_timers }
+        ensures rests { self.new.cx.parts.tasks.turn ≡ None }
+    {
+        let mut units = match self.round(rt, alloc, turns) {
+            Ok(left) => left,
+            Err(_) => return Err(RunError::Memory),
+        };
+        while units > 0 && !self.cx.parts.tasks.has_output(main) {
+            match self.pass(rt, alloc, units) {
+                Ok(left) => units = left,
+                Err(error) => return Err(error),
+            }
+        }
+        if self.cx.parts.tasks.has_output(main) {
+            Ok(())
+        } else {
+            Err(RunError::Turns)
+        }
+    }
+
+    /// Runs the future as the main task until it is ready, with so many units: each turn costs one, and each wait after
+    /// which no task is queued.
+    ///
+    /// From each machine for which the parts stood, the journal grew by what `Blocked` tells of the answer, which is a run of
+    /// the machine, but where it is full or memory was refused (`blocked`).
+    pub fn block_on<R: Host>(
+        &mut self,
+        rt: &R,
+        alloc: Global,
+        future: F,
+        turns: u64,
+    ) -> Result<O, RunError>
+        requires callable { (f : F) → F.can_poll f }
+        requires rests { self.old.cx.parts.tasks.turn ≡ None }
+        ensures blocked { UnlessMemory result (Does O.output_number (Blocked self.old.cx.parts.has_timers turns result) self.old.cx.parts self.new.cx.parts self.old.journal self.new.journal) }
+        ensures rests { self.new.cx.parts.tasks.turn ≡ None }
+    {
+        match self.start_main(alloc, future) {
+            Err(error) => Err(error),
+            Ok(main) => {
+                let answer = self.run(rt, alloc, main, turns);
+                match self.end_main(main) {
+                    Err(_) => Err(RunError::Memory),
+                    Ok(output) => match answer {
+                        Err(error) => Err(error),
+                        Ok(()) => match output {
+                            Some(output) => Ok(output),
+                            None => Err(RunError::Memory),
+                        },
+                    },
+                }
+            }
+        }
+    }
+}

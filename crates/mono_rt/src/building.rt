@@ -1,0 +1,93 @@
+// How a runtime is made.
+ghost use Rattle.std.specs.Prelude.{◌≡◌, IfOk, None, []};
+ghost use Rattle.mono_machine.specs.Machine.{start_machine};
+ghost use Rattle.mono_rt.specs.Stands.{Matches};
+
+use crate::acts::Acts;
+use crate::contexts::Cx;
+use crate::drivers::Driver;
+use crate::journals::Journal;
+use crate::parts::Parts;
+use crate::runtimes::Runtime;
+use mono_blocking::{BlockingHandle, ThreadPool};
+use mono_exec::{Blocking, Limits};
+use mono_inbox::Inbox;
+use mono_joinword::Outcome;
+use mono_task::Tasks;
+use mono_time::{Instant, Timers};
+use std::alloc::{AllocError, Global};
+
+impl<O: Outcome + Drop> Parts<O> {
+    /// No task and no sleep.
+    fn new(
+        alloc: Global,
+        limits: Limits,
+        strategy: Blocking,
+        has_timers: bool,
+        now: Instant,
+    ) -> Result<Parts<O>, AllocError>
+        ensures stands { IfOk result (λ parts. Matches O.output_number parts (start_machine limits strategy)) }
+        ensures timers { IfOk result (λ parts. parts.has_timers ≡ has_timers) }
+        ensures rests { IfOk result (λ parts. parts.tasks.turn ≡ None) }
+    {
+        let tasks = Tasks::new(alloc, limits.tasks)?;
+        let timers = Timers::new(alloc, limits.sleeps, has_timers)?;
+        Ok(Parts {
+            tasks,
+            timers,
+            has_timers,
+            strategy,
+            acts: Acts::keeping_none(alloc),
+            me: 0,
+            now,
+            is_out_of_memory: false,
+        })
+    }
+}
+
+impl<F: Drop, O: Outcome + Drop, D: Driver, P: ThreadPool + Drop> Runtime<F, O, D, P> {
+    /// A runtime with a journal. It stands for the start machine.
+    pub fn new(
+        alloc: Global,
+        driver: D,
+        pool: BlockingHandle<P>,
+        limits: Limits,
+        strategy: Blocking,
+        has_timers: bool,
+        start: Instant,
+    ) -> Result<Runtime<F, O, D, P>, AllocError>
+        ensures stands { IfOk result (λ runtime. Matches O.output_number runtime.cx.parts (start_machine limits strategy)) }
+        ensures timers { IfOk result (λ runtime. runtime.cx.parts.has_timers ≡ has_timers) }
+        ensures rests { IfOk result (λ runtime. runtime.cx.parts.tasks.turn ≡ None) }
+        ensures journal { IfOk result (λ runtime. runtime.journal.entries.items ≡ []) }
+    {
+        let unpark = driver.unpark()?;
+        let inbox = Inbox::new(alloc, 1024, unpark)?;
+        let parts = Parts::new(alloc, limits, strategy, has_timers, start)?;
+        let cx = Cx {
+            parts,
+            futures: Vec::new(alloc),
+            blocking: pool,
+            inbox,
+        };
+        Ok(Runtime {
+            cx,
+            driver,
+            journal: Journal::new(alloc, false),
+        })
+    }
+
+    /// What it did.
+    pub fn journal(&self) -> &Journal
+        ensures { result.now ≡ self.now.journal }
+    {
+        &self.journal
+    }
+
+    /// Gives the runtime up, and keeps what it did.
+    pub(crate) fn into_journal(self) -> Journal
+        ensures { result ≡ self.journal }
+    {
+        self.journal
+    }
+}

@@ -1,0 +1,143 @@
+// The executor as a running task sees it.
+ghost use Rattle.std.proofs.Common.{ap};
+ghost use Rattle.std.specs.Prelude.{refl, ◌≡◌, ◌++◌, ◌∷◌, [], Option, Some, None, IfOk, OnOk, IfErr, OnErr};
+ghost use Rattle.mono_model.specs.Table.{next_number};
+ghost use Rattle.mono_model.specs.Tasks.{woken, spawned};
+ghost use Rattle.mono_task.specs.Schedule as schedule;
+ghost use Rattle.mono_task.specs.Work.{without_outputs};
+ghost use Rattle.mono_time.specs.Instants.{nanos_of};
+ghost use Rattle.mono_time.specs.Timers.{sleeps_of};
+ghost use Rattle.mono_rt.specs.Reached.{Reaches, reaches_itself, reaches_on};
+
+use crate::parts::Parts;
+use mono_blocking::{BlockingHandle, ThreadPool};
+use mono_inbox::{Inbox, Unpark};
+use mono_joinword::Outcome;
+use mono_task::{Context, JoinContext, JoinHandle, Poll, SpawnTask, TaskError, Woke};
+use mono_time::{Error, Instant, SleepError, TimeContext};
+use std::alloc::Global;
+
+/// The executor as a running task sees it: its tasks, sleeps and futures.
+#[derive(Drop)]
+pub struct Cx<F, O, P: ThreadPool, U: Unpark> {
+    pub(crate) parts: Parts<O>,
+    pub(crate) futures: Vec<Option<F>>,
+    pub(crate) blocking: BlockingHandle<P>,
+    pub(crate) inbox: Inbox<U>,
+}
+
+/// A future that was not spawned. It comes back.
+#[derive(Drop)]
+pub enum SpawnRefused<F> {
+    /// There was no memory for its task.
+    Memory(F),
+    /// As many tasks live as the limit allows, or the numbers are used up.
+    AtCapacity(F),
+}
+
+impl<F: Drop, O: Outcome + Drop, P: ThreadPool + Drop, U: Unpark> Cx<F, O, P, U> {
+    /// Makes a task of this future, which is queued last. The future is put into the table under the task's number.
+    pub fn spawn(&mut self, alloc: Global, future: F) -> Result<JoinHandle<O>, SpawnRefused<F>>
+        ensures number { IfOk result (λ handle. handle ≡ next_number self.old.parts.tasks.tasks.table) }
+        ensures tasks { OnOk result (self.new.parts.tasks.tasks ≡ spawned self.old.parts.tasks.tasks) }
+        ensures futures { OnOk result (self.new.futures.items ≡ self.old.futures.items ++ Some future ∷ []) }
+        ensures refused { OnErr result (self.new.parts.tasks ≡ self.old.parts.tasks) }
+        ensures reached { Reaches O.output_number self.old self.new }
+    {
+        if self.futures.reserve(1).is_err() {
+            self.parts.is_out_of_memory = true;
+            return Err(SpawnRefused::Memory(future));
+        }
+        match self.parts.spawn(alloc) {
+            Ok(t) => {
+                self.futures.push_reserved(Some(future));
+                Ok(JoinHandle::of_task(t))
+            }
+            Err(SpawnTask::AtCapacity) => Err(SpawnRefused::AtCapacity(future)),
+            Err(SpawnTask::Memory) => Err(SpawnRefused::Memory(future)),
+        }
+    }
+}
+
+impl<F: Drop, O: Outcome + Drop, P: ThreadPool + Drop, U: Unpark> Context for Cx<F, O, P, U> {
+    ghost number = { λ c. c.parts.me };
+
+    ghost nanos = { λ c. nanos_of c.parts.now };
+
+    ghost is_out_of_memory = { λ c. c.parts.is_out_of_memory };
+
+    ghost work = { λ c. without_outputs c.parts.tasks.tasks };
+
+    ghost reaches = { Reaches O.output_number };
+
+    ghost wakes = { λ c t r d. (d.parts.tasks.tasks ≡ woken c.parts.tasks.tasks t) × (d.parts.timers ≡ c.parts.timers) };
+
+    fn me(&self) -> u64 {
+        self.parts.me
+    }
+
+    fn now(&self) -> u128 {
+        self.parts.now.as_nanos()
+    }
+
+    fn wake(&mut self, task: u64) -> Result<Woke, TaskError> {
+        self.parts.wake(task)
+    }
+
+    ghost reaches_itself = { reaches_itself O.output_number };
+
+    ghost reaches_on = { reaches_on O.output_number };
+
+    ghost same_number = { λ a b r. r.parts.same_me };
+
+    ghost same_nanos = { λ a b r. ap nanos_of r.parts.same_now };
+
+    ghost stays_out_of_memory = { λ a b r. r.parts.memory };
+}
+
+impl<F: Drop, O: Outcome + Drop, P: ThreadPool + Drop, U: Unpark> JoinContext<O>
+    for Cx<F, O, P, U> {
+    ghost tasks = { λ c. c.parts.tasks.tasks };
+
+    fn poll_join(&mut self, task: u64) -> Result<Poll<O>, TaskError> {
+        self.parts.poll_join(task)
+    }
+
+    fn drop_join(&mut self, task: u64) -> Result<Option<O>, TaskError> {
+        self.parts.drop_join(task)
+    }
+
+    fn is_finished(&self, task: u64) -> Result<bool, TaskError> {
+        self.parts.tasks.is_finished(task)
+    }
+
+    ghost same_work = { λ c. refl };
+
+    ghost wakes_tasks = { λ c d t r w. w.0 };
+}
+
+impl<F: Drop, O: Outcome + Drop, P: ThreadPool + Drop, U: Unpark> TimeContext for Cx<F, O, P, U> {
+    ghost sleeps = { λ c. sleeps_of c.parts.timers };
+
+    fn add_sleep(&mut self, alloc: Global, deadline: Instant) -> Result<u64, SleepError> {
+        self.parts.add_sleep(alloc, deadline)
+    }
+
+    fn poll_sleep(&mut self, sleep: u64) -> Result<Poll<()>, Error> {
+        self.parts.poll_sleep(sleep)
+    }
+
+    fn reset_sleep(&mut self, sleep: u64, deadline: Instant) -> Result<(), Error> {
+        self.parts.reset_sleep(sleep, deadline)
+    }
+
+    fn drop_sleep(&mut self, sleep: u64) -> Result<(), Error> {
+        self.parts.drop_sleep(sleep)
+    }
+
+    fn sleep_elapsed(&self, sleep: u64) -> Result<bool, Error> {
+        self.parts.timers.is_elapsed(sleep)
+    }
+
+    ghost wakes_no_sleep = { λ c d t r w. ap sleeps_of w.1 };
+}

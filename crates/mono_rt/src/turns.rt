@@ -1,0 +1,121 @@
+// A turn of the task at the queue's front.
+ghost use Rattle.std.specs.Prelude.{◌≡◌, ◌<◌, None, Some, true, length, IfSome, IfNone, is_some};
+ghost use Rattle.mono_model.specs.Table.{value_at};
+ghost use Rattle.mono_machine.specs.Machine.{Machine};
+ghost use Rattle.mono_rt.specs.Record.{no_acts};
+ghost use Rattle.mono_rt.specs.Stands.{Matches};
+ghost use Rattle.mono_rt.specs.Turns.{Begins, Pauses, Completes, Runs, Turn, IsTurnOf};
+
+use crate::acts::Acts;
+use crate::contexts::Cx;
+use mono_blocking::ThreadPool;
+use mono_exec::{End, Ended};
+use mono_inbox::Unpark;
+use mono_joinword::Outcome;
+use mono_model::Host;
+use mono_task::{Poll, TaskFuture};
+use mono_time::Instant;
+use std::alloc::Global;
+use std::mem;
+
+impl<F: Drop, O: Outcome + Drop, P: ThreadPool + Drop, U: Unpark> Cx<F, O, P, U> {
+    /// The queue's front runs, at this reading of the clock, and its future is taken out of the table.
+    fn begin_turn(&mut self, now: Instant, acts: Acts) -> (u64, Option<F>)
+        requires rests { self.old.parts.tasks.turn ≡ None }
+        requires queued { 0 < length self.old.parts.tasks.tasks.queue }
+        ensures begins { Begins result.0 now acts self.old self.new }
+        ensures future { result.1 ≡ value_at self.old.futures.items result.0 }
+    {
+        let Ok(task) = self.parts.tasks.begin_turn() else {
+            unreachable!()
+        };
+        self.parts.me = task;
+        self.parts.now = now;
+        self.parts.acts = acts;
+        let at = task as usize;
+        if at >= self.futures.len() {
+            return (task, None);
+        }
+        let future = mem::replace(&mut self.futures[at], None);
+        (task, future)
+    }
+
+    /// The turn that runs ends pending, and the future goes back to the table.
+    fn pause_turn(&mut self, task: u64, future: Option<F>) -> Ended
+        requires { is_some self.old.parts.tasks.turn ≡ true }
+        ensures { Pauses task future result self.old self.new }
+    {
+        let ended = self.parts.tasks.end_turn(Poll::Pending);
+        let at = task as usize;
+        if at < self.futures.len() {
+            self.futures[at] = future;
+        }
+        ended
+    }
+
+    /// The turn that runs ends ready.
+    fn complete_turn(&mut self, output: O) -> Ended
+        requires { is_some self.old.parts.tasks.turn ≡ true }
+        ensures { Completes output result self.old self.new }
+    {
+        self.parts.tasks.end_turn(Poll::Ready(output))
+    }
+}
+
+impl<F, O, P, U> Cx<F, O, P, U>
+where
+    F: TaskFuture<Cx<F, O, P, U>, Output = O> + Drop,
+    O: Outcome + Drop,
+    P: ThreadPool + Drop,
+    U: Unpark,
+{
+    /// The turn of the task that has begun, with the future that it had in the table.
+    fn run_turn<R: Host>(
+        &mut self,
+        rt: &R,
+        alloc: Global,
+        task: u64,
+        taken: Option<F>,
+    ) -> (End, Ended)
+        requires callable { (f : F) → F.can_poll f }
+        requires runs { self.old.parts.tasks.turn ≡ Some task }
+        ensures { Runs O.output_number F.TaskFuture taken task result.0 result.1 self.old self.new }
+    {
+        let Some(mut future) = taken else {
+            return (End::Pending, self.pause_turn(task, None));
+        };
+        if future.spent() {
+            return (End::Pending, self.pause_turn(task, Some(future)));
+        }
+        match future.poll(rt, alloc, self) {
+            Poll::Ready(output) => {
+                future.cancel(self);
+                let number = output.number();
+                (End::Ready(number), self.complete_turn(output))
+            }
+            Poll::Pending => (End::Pending, self.pause_turn(task, Some(future))),
+        }
+    }
+
+    /// One turn of the task at the queue's front.
+    pub(crate) fn turn<R: Host>(
+        &mut self,
+        rt: &R,
+        alloc: Global,
+        now: Instant,
+        acts: Acts,
+    ) -> (u64, End, Ended)
+        requires callable { (f : F) → F.can_poll f }
+        requires rests { self.old.parts.tasks.turn ≡ None }
+        requires queued { 0 < length self.old.parts.tasks.tasks.queue }
+        requires empty { acts ≡ no_acts }
+        ensures turn { Turn O.output_number F.TaskFuture result.0 now acts result.1 result.2 self.old self.new }
+        ensures is { (m : Machine) → Matches O.output_number self.old.parts m → IsTurnOf O.output_number result.0 result.1 result.2 self.old.parts self.new.parts m }
+        ensures has_timers { self.new.parts.has_timers ≡ self.old.parts.has_timers }
+        ensures rests { self.new.parts.tasks.turn ≡ None }
+    {
+        let (task, taken) = self.begin_turn(now, acts);
+        let (end, ended) = self.run_turn(rt, alloc, task, taken);
+        (task, end, ended)
+    }
+}
