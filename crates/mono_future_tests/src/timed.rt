@@ -138,6 +138,21 @@ fn far_apart<L: Ledger>(alloc: Global, steps: &mut Steps<L>) -> Result<bool, Fai
     Ok(fired == Some((1, Some(4))) && none == None && timers.is_elapsed(0) == Ok(false))
 }
 
+// A whole clock step at once, behind what the list has.
+fn at_once<L: Ledger>(alloc: Global, steps: &mut Steps<L>) -> Result<bool, Fail> {
+    let mut timers = two_armed(alloc, at_millis(90), at_millis(80))?;
+    let mut fired = Vec::new(alloc);
+    fired.push((7, None))?;
+    timers.fire_all(at_millis(85), &mut fired)?;
+    timers.fire_all(at_millis(90), &mut fired)?;
+    let none = timers.clock(at_millis(90), steps);
+    Ok(
+        fired.as_slice() == [(7, None), (1, Some(4)), (0, Some(3))].as_slice()
+            && timers.live() == 2
+            && none == None,
+    )
+}
+
 fn clock_steps<L: Ledger>(alloc: Global, blank: Blank) -> Result<bool, Fail>
     requires { (blank.name ≡ L.name) × (blank.parts ≡ L.parts) × (0 < L.parts) }
 {
@@ -146,7 +161,8 @@ fn clock_steps<L: Ledger>(alloc: Global, blank: Blank) -> Result<bool, Fail>
         ties(alloc, &mut steps)?
             && moves(alloc, &mut steps)?
             && passes(alloc, &mut steps)?
-            && far_apart(alloc, &mut steps)?,
+            && far_apart(alloc, &mut steps)?
+            && at_once(alloc, &mut steps)?,
     )
 }
 

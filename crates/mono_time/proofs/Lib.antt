@@ -16,3 +16,4 @@ pub mod Adding
 pub mod Registering
 pub mod Waiting
 pub mod Resting
+pub mod Expiring

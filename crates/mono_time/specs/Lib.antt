@@ -7,6 +7,7 @@ pub mod Registered
 pub mod Turning
 pub mod Timers
 pub mod Stands
+pub mod Firing
 pub mod Missed
 pub mod Ticking
 pub mod Timeouts

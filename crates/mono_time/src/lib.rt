@@ -6,6 +6,7 @@ mod constructors;
 mod context;
 mod entry;
 mod error;
+mod firing;
 mod instant;
 mod intervals;
 pub mod laws;

@@ -1,0 +1,16 @@
+use Rattle.std.proofs.Common.{arith}
+use Rattle.mono_time.specs.Instants.{nanos_of}
+use Rattle.mono_time.proofs.Expiring.{one-more, all-fired}
+use Rattle.mono_time.proofs.firing.fire_each.Goals as goal
+
+pub loop-one-preserved : goal.loop-one-preserved
+loop-one-preserved g c = (
+  one-more c.args.timers.now c.loop-one.timers c.clock.new.self (nanos_of c.args.now) c.args.fired.now.items c.loop-one.fired.items c.loop-one.invariant.0
+      c.in-Some.one c.push_reserved.new.self.items c.push_reserved.ensures.items c.in-Some.ensures.some.0 c.in-Some.ensures.some.1 c.in-Some.ensures.stands,
+  omega (arith, c.loop-one.invariant.1, c.push_reserved.ensures.len, c.push_reserved.ensures.capacity, c.in-Some.ensures.fewer),
+)
+
+pub returns-clause-fires : goal.returns-clause-fires
+returns-clause-fires g c =
+    all-fired c.args.timers.now c.loop-one.timers c.clock.new.self (nanos_of c.args.now) c.args.fired.now.items c.loop-one.fired.items c.loop-one.invariant.0
+    c.in_default.ensures.none.0 c.in_default.ensures.none.1 c.in_default.ensures.stands

@@ -1,0 +1,51 @@
+// A whole clock step, for callers who do not count its steps.
+ghost use Rattle.std.specs.Prelude.{◌≡◌, ◌<◌, ◌≤◌, ◌+◌, OnOk, OnErr, vec_len, vec_capacity};
+ghost use Rattle.mono_time.specs.Instants.{nanos_of};
+ghost use Rattle.mono_time.specs.Sleeps.{armed_count};
+ghost use Rattle.mono_time.specs.Timers.{sleeps_of, elapsed_tick};
+ghost use Rattle.mono_time.specs.Firing.{FiredAll};
+
+use crate::{Instant, Timers};
+use mono_wheel::Steps;
+use std::alloc::AllocError;
+use std::marker::Brand;
+use std::sync::ledger::{Blank, Ledger};
+
+// Lets all sleeps fire that are due. There is room for them.
+fn fire_each<L: Ledger>(
+    timers: &mut Timers,
+    now: Instant,
+    fired: &mut Vec<(u64, Option<u64>)>,
+    blank: Blank,
+)
+    requires ledger { (blank.name ≡ L.name) × (blank.parts ≡ L.parts) × (0 < L.parts) }
+    requires room { vec_len fired.old + armed_count (sleeps_of timers.old) ≤ vec_capacity fired.old }
+    ensures fires { FiredAll timers.old timers.new (nanos_of now) fired.old.items fired.new.items }
+    ensures has_gone { elapsed_tick timers.new ≡ (sleeps_of timers.new).greatest }
+{
+    let mut steps: Steps<L> = Steps::new(blank);
+    while let Some(one) = timers.clock(now, &mut steps) {
+        fired.push_reserved(one);
+    }
+}
+
+impl Timers {
+    /// Lets all sleeps fire that are due at a reading, as [`Timers::clock`] does one by one, and puts their numbers and
+    /// wakers behind what the list has, in the order in which they fired (`fires`).
+    ///
+    /// Room for all live sleeps is made first. Where there is no memory for it nothing has changed (`refused`), so no fired
+    /// number is ever lost. The steps are not counted.
+    pub fn fire_all(
+        &mut self,
+        now: Instant,
+        fired: &mut Vec<(u64, Option<u64>)>,
+    ) -> Result<(), AllocError>
+        ensures fires { OnOk result (FiredAll self.old self.new (nanos_of now) fired.old.items fired.new.items) }
+        ensures elapsed { OnOk result (elapsed_tick self.new ≡ (sleeps_of self.new).greatest) }
+        ensures refused { OnErr result ((self.new ≡ self.old) × (fired.new.items ≡ fired.old.items)) }
+    {
+        fired.reserve(self.live() as usize)?;
+        fire_each::<Brand>(self, now, fired, Blank::new(1));
+        Ok(())
+    }
+}
