@@ -143,8 +143,8 @@ fn at_once<L: Ledger>(alloc: Global, steps: &mut Steps<L>) -> Result<bool, Fail>
     let mut timers = two_armed(alloc, at_millis(90), at_millis(80))?;
     let mut fired = Vec::new(alloc);
     fired.push((7, None))?;
-    timers.fire_all(at_millis(85), &mut fired)?;
-    timers.fire_all(at_millis(90), &mut fired)?;
+    timers.fire_all(alloc, at_millis(85), &mut fired)?;
+    timers.fire_all(alloc, at_millis(90), &mut fired)?;
     let none = timers.clock(at_millis(90), steps);
     Ok(
         fired.as_slice() == [(7, None), (1, Some(4)), (0, Some(3))].as_slice()

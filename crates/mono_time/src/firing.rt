@@ -7,7 +7,7 @@ ghost use Rattle.mono_time.specs.Firing.{FiredAll};
 
 use crate::{Instant, Timers};
 use mono_wheel::Steps;
-use std::alloc::AllocError;
+use std::alloc::{AllocError, Global};
 use std::marker::Brand;
 use std::sync::ledger::{Blank, Ledger};
 
@@ -37,6 +37,7 @@ impl Timers {
     /// number is ever lost. The steps are not counted.
     pub fn fire_all(
         &mut self,
+        _alloc: Global,
         now: Instant,
         fired: &mut Vec<(u64, Option<u64>)>,
     ) -> Result<(), AllocError>
