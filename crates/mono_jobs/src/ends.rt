@@ -1,5 +1,5 @@
 // What a call on a job saw of its word.
-ghost use Rattle.std.specs.Prelude.{◌≡◌};
+ghost use Rattle.std.specs.Prelude.{◌≡◌, None};
 ghost use Rattle.mono_jobs.specs.Asking.{how_of};
 
 use mono_blocking::{Job, JobJoiner, JobWaker};
@@ -46,5 +46,31 @@ pub(crate) fn how_of<A>(output: &Result<A, JoinError>) -> How
     match output {
         Ok(_) => How::Ran,
         Err(_) => How::Canceled,
+    }
+}
+
+impl<J: Job> PolledJob<J> {
+    /// An answer of the table alone.
+    pub(crate) fn told(answer: Result<Poll<Result<J::Output, JoinError>>, Refusal>) -> PolledJob<J>
+        ensures { result ≡ record { end = None; answer = answer; joiner = None } }
+    {
+        PolledJob {
+            end: None,
+            answer,
+            joiner: None,
+        }
+    }
+}
+
+impl<J: Job, A: Drop> Answered<J, A> {
+    /// An answer of the table alone.
+    pub(crate) fn told(answer: Result<A, Refusal>) -> Answered<J, A>
+        ensures { result ≡ record { end = None; answer = answer; seat = None } }
+    {
+        Answered {
+            end: None,
+            answer,
+            seat: None,
+        }
     }
 }

@@ -165,26 +165,14 @@ impl<J: Job> JobTable<J> {
         ensures shown { PollShown J.Output.output_number self.old j waker result.answer (used result.joiner) self.new }
     {
         match self.take(j) {
-            Err(refusal) => PolledJob {
-                end: None,
-                answer: Err(refusal),
-                joiner: None,
-            },
+            Err(refusal) => PolledJob::told(Err(refusal)),
             Ok(Place::Taken) => {
                 self.put(j, Place::Taken);
-                PolledJob {
-                    end: None,
-                    answer: Err(Refusal::Taken),
-                    joiner: None,
-                }
+                PolledJob::told(Err(Refusal::Taken))
             }
             Ok(Place::Ended(_number, output)) => {
                 self.put(j, Place::Taken);
-                PolledJob {
-                    end: None,
-                    answer: Ok(Poll::Ready(output)),
-                    joiner: None,
-                }
+                PolledJob::told(Ok(Poll::Ready(output)))
             }
             Ok(Place::Running(number, joiner, waiter)) => {
                 let mut joiner = joiner;
@@ -192,11 +180,7 @@ impl<J: Job> JobTable<J> {
                 match joiner.poll(waker) {
                     Poll::Pending => {
                         self.put(j, Place::Running(number, joiner, Some(by)));
-                        PolledJob {
-                            end: None,
-                            answer: Ok(Poll::Pending),
-                            joiner: None,
-                        }
+                        PolledJob::told(Ok(Poll::Pending))
                     }
                     Poll::Ready(output) => {
                         self.put(j, Place::Taken);
@@ -221,21 +205,9 @@ impl<J: Job> JobTable<J> {
         ensures shown { DropShown J.Output.output_number self.old j result.answer (left result.seat) }
     {
         match self.take(j) {
-            Err(refusal) => Answered {
-                end: None,
-                answer: Err(refusal),
-                seat: None,
-            },
-            Ok(Place::Taken) => Answered {
-                end: None,
-                answer: Ok(None),
-                seat: None,
-            },
-            Ok(Place::Ended(_number, output)) => Answered {
-                end: None,
-                answer: Ok(Some(output)),
-                seat: None,
-            },
+            Err(refusal) => Answered::told(Err(refusal)),
+            Ok(Place::Taken) => Answered::told(Ok(None)),
+            Ok(Place::Ended(_number, output)) => Answered::told(Ok(Some(output))),
             Ok(Place::Running(_number, joiner, waiter)) => {
                 let Cancelled { output, seat } = joiner.cancel_with_seat();
                 let seat = Some(seat);
@@ -268,36 +240,20 @@ impl<J: Job> JobTable<J> {
         ensures shown { FinishShown J.Output.output_number self.old j result.answer (left result.seat) self.new }
     {
         match self.take(j) {
-            Err(refusal) => Answered {
-                end: None,
-                answer: Err(refusal),
-                seat: None,
-            },
+            Err(refusal) => Answered::told(Err(refusal)),
             Ok(Place::Taken) => {
                 self.put(j, Place::Taken);
-                Answered {
-                    end: None,
-                    answer: Ok(true),
-                    seat: None,
-                }
+                Answered::told(Ok(true))
             }
             Ok(Place::Ended(number, output)) => {
                 self.put(j, Place::Ended(number, output));
-                Answered {
-                    end: None,
-                    answer: Ok(true),
-                    seat: None,
-                }
+                Answered::told(Ok(true))
             }
             Ok(Place::Running(number, joiner, waiter)) => {
                 let mut joiner = joiner;
                 if !joiner.is_finished() {
                     self.put(j, Place::Running(number, joiner, waiter));
-                    return Answered {
-                        end: None,
-                        answer: Ok(false),
-                        seat: None,
-                    };
+                    return Answered::told(Ok(false));
                 }
                 let Cancelled { output, seat } = joiner.cancel_with_seat();
                 let seat = Some(seat);
