@@ -2,25 +2,33 @@
 ghost use Rattle.std.specs.Prelude.{◌≡◌};
 
 use std::alloc::AllocError;
+use thiserror::Error;
 
 /// Why a call on the sessions was refused. It changed nothing then.
 ///
 /// Where several causes hold, the one that stands first here counts, but that want of memory comes last.
-#[derive(Clone, Copy, Debug, PartialEq, Eq)]
+#[derive(Clone, Copy, Debug, PartialEq, Eq, Error)]
 pub enum SessionError {
     /// There was no memory.
+    #[error("out of memory")]
     Memory,
     /// There is no place for a further session, or for a further entry in a queue.
+    #[error("no place for another session or entry")]
     AtCapacity,
     /// The session would be closed at a tick above 2^63 - 1.
+    #[error("the session would be closed past the last tick")]
     Invalid,
     /// No open session has the number.
+    #[error("there is no open session of this number")]
     NoSession,
     /// A session was to be opened for no time.
+    #[error("a session cannot be open for no time")]
     ZeroLimit,
     /// The session stands in the key's queue already.
+    #[error("the session stands in the queue already")]
     Doubled,
     /// The session does not stand in the key's queue.
+    #[error("the session does not stand in the queue")]
     NotIn,
 }
 

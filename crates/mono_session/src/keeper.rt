@@ -80,9 +80,7 @@ impl Sessions {
         if limit_ms == 0 {
             return Err(SessionError::ZeroLimit);
         }
-        if self.limits.reserve(1).is_err() {
-            return Err(SessionError::Memory);
-        }
+        self.limits.reserve(1)?;
         match add_armed(&mut self.timers, alloc, deadline) {
             Err(_) => Err(SessionError::Memory),
             Ok(session) => {
@@ -148,9 +146,7 @@ impl Sessions {
         if self.entries.contains(session, key) {
             return Err(SessionError::Doubled);
         }
-        if self.entries.reserve().is_err() {
-            return Err(SessionError::Memory);
-        }
+        self.entries.reserve()?;
         let is_first = self.entries.owner(key).is_none();
         self.entries.enter(session, key);
         Ok(is_first)

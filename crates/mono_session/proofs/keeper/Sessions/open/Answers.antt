@@ -1,13 +1,16 @@
-use Rattle.std.proofs.Common.{◌+◌, Some, cond, sym, ◌∙◌, ap, refl, arith}
-use Rattle.std.specs.Prelude.{nat_eq, ◌≤◌, IsOk}
+use Rattle.std.proofs.Common.{◌≡◌, ◌+◌, Some, cond, sym, ◌∙◌, ap, subst, refl, arith, rules}
+use Rattle.std.specs.Prelude.{Err, nat_eq, ◌≤◌, IsOk}
 use Rattle.std.specs.HashMap.{get, spare, hash_map_len}
 use Rattle.mono_model.specs.Ticks.{up}
 use Rattle.mono_time.specs.Instants.{nanos_of}
 use Rattle.mono_time.specs.Timers.{sleeps_of}
+use Rattle.mono_session.specs.Keeper.{open_answer, opened}
+use Rattle.mono_session.specs.Memory.{OrLacksMemory}
+use Rattle.mono_session.specs.Stands.{StandsFor}
 use Rattle.mono_session.specs.declared.keeper.Sessions.{Sessions}
-use Rattle.mono_session.specs.declared.error.SessionError.TheVariants.{AtCapacity, Invalid, ZeroLimit}
+use Rattle.mono_session.specs.declared.error.SessionError.TheVariants.{Memory, AtCapacity, Invalid, ZeroLimit}
 use Rattle.mono_session.proofs.Keeping.{on_ok}
-use Rattle.mono_session.proofs.Timed.{opens, open_refused, open_lacks, open-full, open-late, open-none, open-ok, in_time, too_late, greatest_told, full_told, zero-tells, nonzero-tells, stands_alike, unchanged_by, ok_unless, one_more}
+use Rattle.mono_session.proofs.Timed.{opens, open_refused, open_lacks, open-full, open-late, open-none, open-ok, in_time, too_late, greatest_told, full_told, zero-tells, nonzero-tells, stands_alike, unchanged_by, one_more}
 use Rattle.mono_session.proofs.keeper.Sessions.open.Goals as goal
 
 pub returns-then-is_full : goal.returns-then-is_full
@@ -26,15 +29,19 @@ returns-then-limit_ms-eq0 c = λ k stands.
     open_refused c.args.self.now k c.args.limit_ms ZeroLimit (open-none k c.args.limit_ms (sym (full_told c.args.self.now k c.is_full.result c.is_full.ensures.full stands) ∙ c.if-is_full.false)
     (in_time c.deadline_after.result c.in-Some.deadline k.greatest c.greatest.result c.args.limit_ms c.deadline_after.ensures.variant c.in-Some.is g) (zero-tells c.args.limit_ms c.if-limit_ms-eq0.true)) stands
 
-pub returns-then-is_err : goal.returns-then-is_err
-returns-then-is_err c = λ k stands.
+pub returns-in_err-reserve : goal.returns-in_err-reserve
+returns-in_err-reserve c = λ k stands.
     let old = c.args.self.now in
+    let limit = c.args.limit_ms in
     let g = greatest_told old k c.greatest.result c.greatest.ensures stands in
-    open_lacks (record { timers = old.timers; limits = c.reserve.new.self; entries = old.entries; most_entries = old.most_entries }) k c.args.limit_ms
-    (open-ok k c.args.limit_ms (sym (full_told old k c.is_full.result c.is_full.ensures.full stands) ∙ c.if-is_full.false)
-    (in_time c.deadline_after.result c.in-Some.deadline k.greatest c.greatest.result c.args.limit_ms c.deadline_after.ensures.variant c.in-Some.is g)
-    (nonzero-tells c.args.limit_ms c.if-limit_ms-eq0.false))
-    (stands_alike old (record { timers = old.timers; limits = c.reserve.new.self; entries = old.entries; most_entries = old.most_entries }) k refl (λ q. c.reserve.ensures.entries.2 q) c.reserve.ensures.entries.1 refl refl stands)
+    let new : Sessions = record { timers = old.timers; limits = c.reserve.new.self; entries = old.entries; most_entries = old.most_entries } in
+    let is : c.from_residual.result ≡ Err Memory = search rules in
+    subst (OrLacksMemory Memory (open_answer k limit) k (opened k limit) (StandsFor new)) (sym is)
+    (open_lacks new k limit
+    (open-ok k limit (sym (full_told old k c.is_full.result c.is_full.ensures.full stands) ∙ c.if-is_full.false)
+    (in_time c.deadline_after.result c.in-Some.deadline k.greatest c.greatest.result limit c.deadline_after.ensures.variant c.in-Some.is g)
+    (nonzero-tells limit c.if-limit_ms-eq0.false))
+    (stands_alike old new k refl (λ q. c.reserve.ensures.entries.2 q) c.reserve.ensures.entries.1 refl refl stands))
 
 pub returns-in-Err : goal.returns-in-Err
 returns-in-Err c = λ k stands.
@@ -55,7 +62,7 @@ returns-in-Ok c = λ k stands.
     let limit = c.args.limit_ms in
     let session = c.in-Ok.session in
     let new : Sessions = record { timers = c.add_armed.new.timers; limits = c.insert.new.self; entries = old.entries; most_entries = old.most_entries } in
-    let room : 1 ≤ spare c.reserve.new.self = on_ok c.reserve.result _ (ok_unless c.reserve.result (sym c.is_err.ensures.value ∙ c.if-is_err.false)) c.reserve.ensures.ok in
+    let room : 1 ≤ spare c.reserve.new.self = c.in_ok-reserve.ensures.ok in
     let ok : IsOk c.insert.result = c.insert.ensures.succeeds (omega (arith, room)) in
     let updates = on_ok c.insert.result _ ok c.insert.ensures.updates in
     opens old new k limit session (up (nanos_of c.in-Some.deadline)) stands
