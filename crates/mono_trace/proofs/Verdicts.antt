@@ -1,5 +1,5 @@
 -- There is one verdict.
-use Rattle.std.proofs.Common.{◌≡◌, refl, ap, subst, ℕ, ◌+◌, zero, suc, List, [], ◌∷◌, sym, arith}
+use Rattle.std.proofs.Common.{◌≡◌, refl, ap, subst, ℕ, ◌+◌, zero, suc, List, [], ◌∷◌, length, sym, arith}
 use Rattle.mono_machine.specs.Machine.{Machine}
 use Rattle.mono_machine.specs.Steps.{Run}
 use Rattle.mono_machine.specs.declared.events.Event.{Event}
@@ -88,3 +88,10 @@ pub passed_all : (start m : Machine) (events : List Event) (answers : List Repor
     → ((v : Verdict) → IsVerdict m left told v → IsVerdict start events answers (later i v)) → IsVerdict start events answers Yes
 passed_all start m events answers i left told left_is told_is so_far =
     so_far Yes (subst (λ xs. IsVerdict m xs told Yes) (sym left_is) (subst (λ xs. IsVerdict m [] xs Yes) (sym told_is) (m, refl)))
+
+-- ---- a run has a report for each event
+pub run_length : (events : List Event) (answers : List Report) (old new : Machine) → Run old events answers new → length events ≡ length answers
+run_length [] [] old new run = refl
+run_length [] (a ∷ answers) old new run = absurd run
+run_length (e ∷ events) [] old new run = absurd run
+run_length (e ∷ events) (a ∷ answers) old new (mid, step, run) = omega (arith, run_length events answers mid new run)
