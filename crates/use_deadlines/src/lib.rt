@@ -1,5 +1,6 @@
 //! Session deadlines over the timers of the executor.
 #![tactic(auto)]
+
 ghost use Rattle.std.specs.Prelude.{◌≡◌, ℕ, true, Option, IfOk, IfSome, IfNone, OnErr, OnOk, ◌<◌};
 ghost use Rattle.mono_model.specs.Ticks.{up};
 ghost use Rattle.mono_time.specs.Instants.{nanos_of};
@@ -63,7 +64,12 @@ impl Sessions {
     }
 
     // Takes all sessions that are due, without giving their numbers back yet.
-    fn take_due<L: Ledger>(&mut self, now: Instant, into: &mut Vec<u64>, blank: Blank) -> Result<(), AllocError>
+    fn take_due<L: Ledger>(
+        &mut self,
+        now: Instant,
+        into: &mut Vec<u64>,
+        blank: Blank,
+    ) -> Result<(), AllocError>
         requires { (blank.name ≡ L.name) × (blank.parts ≡ L.parts) × (0 < L.parts) }
         ensures none { OnOk result (IsNoneArmedUpTo (sleeps_of self.new.timers)) }
     {
@@ -85,6 +91,35 @@ impl Sessions {
         for session in into.iter().skip(first) {
             let _ = self.timers.remove(*session);
         }
+        Ok(())
+    }
+}
+
+#[cfg(test)]
+mod tests {
+    use super::*;
+    use std::test::Fail;
+
+    fn at_millis(millis: u64) -> Result<Instant, Fail> {
+        Ok(Instant::from_nanos(u128::from(millis) * 1000000).ok_or("an instant")?)
+    }
+
+    #[test]
+    fn sessions_expire_in_order(rt: HostRuntime) -> Result<(), Fail> {
+        let alloc = rt.alloc();
+        let mut sessions = Sessions::new(alloc, 8)?;
+        let first = sessions.open(alloc, at_millis(20)?);
+        let second = sessions.open(alloc, at_millis(10)?);
+        assert!(rt; first == Ok(0) && second == Ok(1));
+        let mut gone = Vec::new(alloc);
+        sessions.expire_all(at_millis(9)?, &mut gone)?;
+        assert!(rt; gone.is_empty());
+        assert!(rt; sessions.touch(0, at_millis(30)?).is_ok());
+        sessions.expire_all(at_millis(20)?, &mut gone)?;
+        assert_eq!(rt; gone.as_slice(), [1].as_slice());
+        assert!(rt; sessions.touch(1, at_millis(40)?).is_err());
+        sessions.expire_all(at_millis(30)?, &mut gone)?;
+        assert_eq!(rt; gone.as_slice(), [1, 0].as_slice());
         Ok(())
     }
 }

@@ -1,5 +1,6 @@
 //! A future that waits for a sleep so many times, and its poll under a timeout.
 #![tactic(auto)]
+
 ghost use Rattle.std.specs.Prelude.{◌≡◌, ◌≢◌, true, false, Ok};
 ghost use Rattle.mono_model.specs.declared.poll.Poll.TheVariants.{Ready, Pending};
 ghost use Rattle.mono_time.specs.Futures.{SleepCancels};
