@@ -7,4 +7,5 @@ pub mod Clocking
 pub mod Rate
 pub mod Waiting
 pub mod Validity
+pub mod Stepping
 pub mod Worked

@@ -12,3 +12,6 @@ pub mod Steps
 pub mod Limits
 pub mod Laws
 pub mod Worked
+pub mod Stages
+pub mod Retrying
+pub mod Made

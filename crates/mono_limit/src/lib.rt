@@ -1,16 +1,22 @@
 //! Buckets that fill with tokens tick by tick, and retries that wait longer and longer.
 #![tactic(auto)]
 
+mod attempts;
 mod buckets;
 pub mod laws;
 mod limiter;
 mod retries;
+#[cfg(test)]
+mod retry_tests;
+mod rounds;
 mod rows;
 mod schedules;
 #[cfg(test)]
 mod tests;
 
+pub use attempts::{Retry, RetryRefused};
 pub use limiter::Limiter;
+use mono_model::Error;
 pub use rows::{fills, gives_up};
 
 /// Why a call on the limiter was refused. It changed nothing then.
@@ -54,4 +60,15 @@ pub enum Next {
     Again(u64),
     /// No further attempt. The retry is gone.
     GaveUp,
+}
+
+/// Why a retry gave no value.
+#[derive(Clone, Copy, Debug, PartialEq, Eq)]
+pub enum RetryError<E> {
+    /// The last attempt failed.
+    Last(E),
+    /// An attempt failed, and the next one would be past the last instant.
+    Far(E),
+    /// The sleep between two attempts was refused.
+    Timer(Error),
 }

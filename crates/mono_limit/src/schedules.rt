@@ -21,14 +21,14 @@ pub(crate) struct Schedule {
 
 /// How many ticks it is from the failure k, counted from 1, to the next attempt: twice as many each time, up to the cap.
 pub(crate) fn delay(base: u64, cap: u64, k: u32) -> u64
-    requires has_base { 0 < base }
-    requires counted { 0 < k }
+    requires { 0 < base }
     ensures { result ≡ delay base cap k }
 {
-    if k > 64 {
+    let doublings = k.saturating_sub(1);
+    if doublings >= 64 {
         return cap;
     }
-    let doubled = u128::from(base) << (k - 1);
+    let doubled = u128::from(base) << doublings;
     doubled.min(u128::from(cap)) as u64
 }
 

@@ -1,0 +1,165 @@
+// A future that makes one attempt after another.
+ghost use Rattle.std.specs.Prelude.{◌≡◌, ◌<◌, ◌≤◌, ◌+◌, ◌*◌, ◌^◌, true, false, None, IfOk, IfErr, IfNone};
+ghost use Rattle.mono_time.specs.Futures.{SleepMade};
+ghost use Rattle.mono_limit.specs.Made.{sleep_in};
+ghost use Rattle.mono_limit.specs.Stages.{is_over};
+ghost use Rattle.mono_limit.specs.Retrying.{MakesLive, MayGoOn, RetryPolls, RetryCancels, AttemptCancels, new_retry_of};
+ghost use Rattle.mono_model.specs.declared.error.SleepError.TheVariants.{Memory};
+
+use crate::RetryError;
+use crate::schedules::delay;
+use mono_model::{Host, Poll, SleepError};
+use mono_task::TaskFuture;
+use mono_time::{Instant, Sleep, TimeContext, sleep_until};
+use std::alloc::Global;
+
+/// What a retry does next: it makes an attempt, goes on with one, or rests; or it has answered for good.
+#[derive(Drop)]
+pub(crate) enum Stage<F> {
+    Due,
+    Trying(F),
+    Resting,
+    Over,
+}
+
+/// A future that makes one attempt after another, each a future of a closure's, until one is ready with Ok.
+///
+/// Attempts are counted from 1. After the failure k the next attempt is made once as many milliseconds have gone as the lesser of the cap
+/// and the base times 2^(k-1). The last attempt's failure is the answer.
+#[derive(Drop)]
+pub struct Retry<G, F> {
+    pub(crate) make: G,
+    pub(crate) stage: Stage<F>,
+    // the number of the attempts that were made, and of those that may follow
+    pub(crate) tried: u64,
+    pub(crate) left: u64,
+    pub(crate) sleep: Sleep,
+    pub(crate) base: u64,
+    pub(crate) cap: u64,
+}
+
+/// The closure, back from a retry that was refused, and why.
+#[derive(Drop)]
+pub struct RetryRefused<G> {
+    /// Why no sleep was made.
+    pub cause: SleepError,
+    /// The closure that was handed in.
+    pub make: G,
+}
+
+impl<G, F> Retry<G, F> {
+    /// A retry whose first attempt is made at its first poll, of at most so many attempts. The base is not 0, the cap not below
+    /// it, there is an attempt and there are fewer than 2^32, and no attempt that the closure makes is spent.
+    ///
+    /// Refused as the context refuses a further sleep for now (`made`, `memory`), and then the closure comes back (`handed_back`).
+    pub fn new<C, X, E>(
+        alloc: Global,
+        cx: &mut C,
+        make: G,
+        base_ms: u64,
+        cap_ms: u64,
+        most: u64,
+    ) -> Result<Retry<G, F>, RetryRefused<G>>
+    where
+        C: TimeContext,
+        F: TaskFuture<C, Output = Result<X, E>>,
+        G: FnMut(u64) -> F,
+        requires base { 0 < base_ms }
+        requires cap { base_ms ≤ cap_ms }
+        requires some { 0 < most }
+        requires in_range { most < 2 ^ 32 }
+        requires live { MakesLive G.FnMut F.TaskFuture }
+        ensures made { SleepMade (C.sleeps cx.old) (C.nanos cx.old) (sleep_in result) (C.sleeps cx.new) }
+        ensures retry { IfOk result (λ retry. retry ≡ new_retry_of make base_ms cap_ms most retry.sleep) }
+        ensures callable { IfOk result (MayGoOn G.FnMut F.TaskFuture) }
+        ensures handed_back { IfErr result (λ refused. refused.make ≡ make) }
+        ensures memory { sleep_in result ≡ Err Memory → C.is_out_of_memory cx.new ≡ true }
+        ensures work { C.work cx.new ≡ C.work cx.old }
+        ensures reached { C.reaches cx.old cx.new }
+    {
+        let now = Instant::now(cx);
+        match sleep_until(alloc, cx, now) {
+            Ok(sleep) => Ok(Retry {
+                make,
+                stage: Stage::Due,
+                tried: 0,
+                left: most,
+                sleep,
+                base: base_ms,
+                cap: cap_ms,
+            }),
+            Err(cause) => Err(RetryRefused { cause, make }),
+        }
+    }
+}
+
+// The attempt that is under way is given up, if there is one.
+fn give_up<C: TimeContext, F: TaskFuture<C>>(stage: Stage<F>, cx: &mut C)
+    ensures cancelled { AttemptCancels F.TaskFuture stage cx.old cx.new }
+    ensures reached { C.reaches cx.old cx.new }
+{
+    if let Stage::Trying(attempt) = stage {
+        attempt.cancel(cx);
+    }
+}
+
+impl<F> Stage<F> {
+    fn is_over(&self) -> bool
+        ensures { result ≡ is_over self.now }
+    {
+        match self {
+            Stage::Due | Stage::Trying(_) | Stage::Resting => false,
+            Stage::Over => true,
+        }
+    }
+}
+
+impl<C, G, F, X, E> TaskFuture<C> for Retry<G, F>
+where
+    C: TimeContext,
+    X: Drop,
+    E: Drop,
+    F: TaskFuture<C, Output = Result<X, E>>,
+    G: FnMut(u64) -> F + Drop,
+{
+    type Output = Result<X, RetryError<E>>;
+
+    ghost is_spent = { λ r. is_over r.stage };
+
+    ghost can_poll = { MayGoOn G.FnMut F.TaskFuture };
+
+    ghost polls = { RetryPolls G.FnMut F.TaskFuture C.number C.nanos C.sleeps C.work C.reaches };
+
+    ghost cancels = { RetryCancels F.TaskFuture C.sleeps C.work C.reaches };
+
+    fn spent(&self) -> bool {
+        self.stage.is_over()
+    }
+
+    fn poll<R: Host>(
+        &mut self,
+        rt: &R,
+        alloc: Global,
+        cx: &mut C,
+    ) -> Poll<Result<X, RetryError<E>>> {
+        loop {
+            if let Some(answer) = self.step(rt, alloc, cx) {
+                return answer;
+            }
+        }
+    }
+
+    fn cancel(self, cx: &mut C) {
+        let Retry {
+            make: _,
+            stage,
+            tried: _,
+            left: _,
+            sleep,
+            base: _,
+            cap: _,
+        } = self;
+        give_up(stage, cx);
+        sleep.cancel(cx);
+    }
+}
