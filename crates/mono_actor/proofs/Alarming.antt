@@ -2,7 +2,7 @@
 use Rattle.std.proofs.Common.{◌≡◌, inl, inr, ℕ, true, false, Bool, cond, Some, None, Option, refl, ap, ◌∙◌, arith}
 use Rattle.std.specs.Prelude.{slice_index_or, nat_le}
 use Rattle.std.proofs.lemmas.Bool.{cases_lt}
-use Rattle.mono_wheel.specs.Start.{start}
+use Rattle.mono_wheel.specs.Start.{start, top_level}
 use Rattle.mono_wheel.specs.Model.{Timed, timed_at, timed_after, NothingDue, CameOut}
 use Rattle.mono_actor.specs.Keys.{tick_in, number_in}
 use Rattle.mono_actor.specs.Alarms.{NoneRings, Rings}
@@ -17,7 +17,7 @@ same-some x y e = cc
 -- the clock goes on, and each tick stays
 after-tick : (old new : ℕ) (t : Option Timed) → tick_in (timed_after old new t) ≡ tick_in t
 after-tick old new None = refl
-after-tick old new (Some t) = by (nat_le (start 5 old t.registered) new)
+after-tick old new (Some t) = by (nat_le (start top_level old t.registered) new)
   where
     by : (b : Bool) → tick_in (Some (cond b (record { tick = t.tick; registered = t.tick }) t)) ≡ Some t.tick
     by true = refl
