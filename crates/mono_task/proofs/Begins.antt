@@ -1,5 +1,5 @@
 -- The beginning of a turn, on the places of the table.
-use Rattle.std.proofs.Common.{◌≡◌, ◌<◌, ◌+◌, ℕ, List, ◌∷◌, map, length, set, get_or, Some, None, Option, refl, ap, sym, ◌∙◌, inl, inr, arith, eq-eqb, ne_eqb}
+use Rattle.std.proofs.Common.{◌≡◌, ◌<◌, ◌+◌, ℕ, true, List, ◌∷◌, map, length, set, Some, None, Option, refl, ap, sym, ◌∙◌, inl, inr, arith, eq-eqb, ne_eqb}
 use Rattle.std.specs.Prelude.{slice_set, is_some}
 use Rattle.std.proofs.lemmas.List.{map-set, get_or_past}
 use Rattle.std.proofs.lemmas.Bool.{cases_lt}
@@ -12,7 +12,7 @@ use Rattle.mono_task.specs.declared.entries.Handle.{Handle}
 use Rattle.mono_task.specs.Entries.{task_of, begun_entry, is_queued, is_running, is_unfinished}
 use Rattle.mono_task.specs.Standing.{entry_at, tasks_of, has_turn, Keeps}
 use Rattle.mono_task.proofs.Counted.{value_at-entries}
-use Rattle.mono_task.proofs.Stays.{entry_is, same_tasks, stays, keeps_counts}
+use Rattle.mono_task.proofs.Stays.{same_tasks, stays, keeps_counts}
 
 module _ {O : Type 0} (queue : List ℕ) (room : ℕ) (entries : List (Entry O)) (unfinished live : ℕ) (turn : Option ℕ) (t : ℕ) (rest : List ℕ)
     (keeps : Keeps queue room entries unfinished live turn) (no_turn : turn ≡ None) (front : queue ≡ t ∷ rest) where
@@ -52,10 +52,14 @@ module _ {O : Type 0} (queue : List ℕ) (room : ℕ) (entries : List (Entry O))
             ∙ sym (ap (λ v. model.begun_value v (record { queue = rest; table = map task_of entries; limit = limit }) t) (value_at-entries entries t ∙ ap task_of at)),
       )
 
-  pub begins : (limit : ℕ) (e new : Entry O) → e ≡ get_or entries t e → new ≡ begun_entry e
+  pub begin_queued : is_queued (entry_at entries t) ≡ true
+  unfolding its
+  begin_queued = ap is_queued (its (entry_at entries t) often).1
+
+  pub begins : (limit : ℕ) (e new : Entry O) → entry_at entries t ≡ e → new ≡ begun_entry e
       → Keeps rest room (slice_set entries t new) unfinished live (Some t)
       × (tasks_of rest (slice_set entries t new) limit ≡ model.begun (tasks_of queue entries limit) t rest)
   unfolding its
-  begins limit e new e_is is =
+  begins limit e new at is =
       let found = its (entry_at entries t) often in
-      begins_as limit found.0 new found.1 (is ∙ ap begun_entry (sym (entry_is entries t e begin_inside e_is) ∙ found.1))
+      begins_as limit found.0 new found.1 (is ∙ ap begun_entry (sym at ∙ found.1))

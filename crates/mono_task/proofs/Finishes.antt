@@ -103,10 +103,10 @@ module _ {O : Type 0} (queue : List ℕ) (room : ℕ) (entries : List (Entry O))
   finishes_as handle.Kept then = same_tasks _ _ _ _ limit refl (table_of_new ∙ ap (λ x. set (map task_of entries) t (task_of x)) then)
   finishes_as (handle.Awaited by) then = same_tasks _ _ _ _ limit refl (table_of_new ∙ ap (λ x. set (map task_of entries) t (task_of x)) then)
 
-  -- without a handle it is live no longer
-  pub one_live : h ≡ handle.Dropped → 1 ≤ live
-  one_live dropped = omega (arith, keeps.live_is, one_less (ap task_of (new_is ∙ ap (λ x. finished_entry x output) dropped)))
+  pub is_gone : h ≡ handle.Dropped → new ≡ Gone
+  is_gone dropped = new_is ∙ ap (λ x. finished_entry x output) dropped
 
+  -- without a handle it is live no longer
   pub gone_keeps : h ≡ handle.Dropped → Keeps queue room (slice_set entries t new) (unfinished - 1) (live - 1) None
   gone_keeps dropped = record {
     stands = stands;

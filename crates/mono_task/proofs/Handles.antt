@@ -1,5 +1,5 @@
 -- A poll and a drop of a handle, on the places of the table.
-use Rattle.std.proofs.Common.{◌≡◌, ◌<◌, ◌≤◌, ◌+◌, ◌-◌, ℕ, true, false, List, map, length, set, Some, None, Option, refl, ap, sym, ◌∙◌, arith}
+use Rattle.std.proofs.Common.{◌≡◌, ◌<◌, ◌+◌, ◌-◌, ℕ, true, false, List, map, length, set, Some, None, Option, refl, ap, sym, ◌∙◌, arith}
 use Rattle.std.specs.Prelude.{slice_set, is_some}
 use Rattle.std.proofs.lemmas.List.{map-set, length-map}
 use Rattle.mono_model.specs.Table.{Table, value_at, count_of}
@@ -91,6 +91,15 @@ drop_gone (Queued h) over = cc
 drop_gone (Running h) over = cc
 drop_gone (Noted h) over = cc
 
+pub over_gone : {O : Type 0} (e : Entry O) → is_over e ≡ true → dropped_entry e ≡ Gone
+over_gone Gone over = refl
+over_gone Taken over = refl
+over_gone (Done output) over = refl
+over_gone (Idle h) over = cc
+over_gone (Queued h) over = cc
+over_gone (Running h) over = cc
+over_gone (Noted h) over = cc
+
 drop_some : {O : Type 0} (e : Entry O) → is_over e ≡ false → is_some (task_of (dropped_entry e)) ≡ is_some (task_of e)
 drop_some Gone over = refl
 drop_some Taken over = cc
@@ -178,9 +187,6 @@ module _ {O : Type 0} (queue : List ℕ) (room : ℕ) (entries : List (Entry O))
         ∙ join_as queue (map task_of entries) limit t table_inside e by value_is ∙ sym (ap (λ k. joined_value k before t by) kept_is),
   )
 
-  pub some_live : is_over e ≡ true → 1 ≤ live
-  some_live over = omega (arith, keeps.live_is, count_of-gone (map task_of entries) t (ap is_some value_is ∙ (drop_gone e over).1))
-
   module _ (is : new ≡ dropped_entry e) where
     pub drops : tasks_of queue (slice_set entries t new) limit ≡ join_dropped before t
     drops =
@@ -198,3 +204,12 @@ module _ {O : Type 0} (queue : List ℕ) (room : ℕ) (entries : List (Entry O))
     pub lasting_keeps : is_over e ≡ false → Keeps queue room (slice_set entries t new) unfinished live turn
     lasting_keeps lasts = left_as (dropped_entry e) is (drop_queued e) (drop_running e) (drop_lasts e) live
         (keeps.live_is ∙ sym (ap count_of (written (dropped_entry e) is) ∙ count_of-same (map task_of entries) t (task_of (dropped_entry e)) (drop_some e lasts ∙ sym (ap is_some value_is))))
+
+-- a handle of a task that is gone
+pub joined_gone : {O : Type 0} (queue : List ℕ) (entries : List (Entry O)) (limit t : ℕ) → t < length entries → entry_at entries t ≡ Gone
+    → (by : ℕ) → tasks_of queue entries limit ≡ joined (tasks_of queue entries limit) t by
+joined_gone queue entries limit t inside at by = sym (ap (λ k. joined_value k (tasks_of queue entries limit) t by) (kept_at queue entries limit t inside ∙ ap (λ x. kept_value (task_of x)) at))
+
+pub dropped_gone : {O : Type 0} (queue : List ℕ) (entries : List (Entry O)) (limit t : ℕ) → t < length entries → entry_at entries t ≡ Gone
+    → tasks_of queue entries limit ≡ join_dropped (tasks_of queue entries limit) t
+dropped_gone queue entries limit t inside at = sym (ap (λ k. dropped_value k (tasks_of queue entries limit) t) (kept_at queue entries limit t inside ∙ ap (λ x. kept_value (task_of x)) at))

@@ -9,3 +9,4 @@ pub mod Ends
 pub mod Finishes
 pub mod Handles
 pub mod Spawns
+pub mod Tabled

@@ -28,7 +28,7 @@ inside_of entries t runs = elim (cases_lt t (length entries)) [
 pub no_turn : (turn : Option ℕ) (t q : ℕ) → turn ≡ Some t → q ≢ t → false ≡ has_turn turn q
 no_turn turn t q turns apart = sym (ap (λ v. has_turn v q) turns ∙ ne_eqb t q (λ e. apart (sym e)))
 
-lt_true : (t n : ℕ) → t < n → nat_lt t n ≡ true
+pub lt_true : (t n : ℕ) → t < n → nat_lt t n ≡ true
 lt_true t n below = grind (arith, below)
 
 -- what is asked of a place, as what is asked of the tasks

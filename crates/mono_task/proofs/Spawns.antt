@@ -1,7 +1,7 @@
 -- A spawn, on the places of the table: one more place, whose task is queued last.
 use Rattle.std.proofs.Common.{◌≡◌, ◌≢◌, ◌<◌, ◌+◌, ℕ, zero, suc, true, List, [], ◌∷◌, ◌++◌, map, length, None, Option, refl, ap, sym, ◌∙◌, inl, inr, arith}
 use Rattle.std.proofs.lemmas.Bool.{cases_eq}
-use Rattle.std.proofs.lemmas.List.{get_or_past, length-append}
+use Rattle.std.proofs.lemmas.List.{get_or_past, length-append, length-map}
 use Rattle.mono_model.specs.Tasks as model
 use Rattle.mono_model.specs.Table.{count_of}
 use Rattle.mono_model.specs.Valid.{once_if}
@@ -10,8 +10,9 @@ use Rattle.mono_task.specs.declared.entries.Entry.{Entry}
 use Rattle.mono_task.specs.declared.entries.Entry.TheVariants.{Gone, Queued}
 use Rattle.mono_task.specs.declared.entries.Handle.TheVariants.{Kept}
 use Rattle.mono_task.specs.Entries.{task_of, is_queued, is_running, is_unfinished}
-use Rattle.mono_task.specs.Standing.{entry_at, Stands, Keeps}
+use Rattle.mono_task.specs.Standing.{entry_at, tasks_of, Stands, Keeps}
 use Rattle.mono_task.proofs.Counting.{count_where-push}
+use Rattle.mono_task.proofs.Stays.{same_tasks}
 
 entry_before : {O : Type 0} (entries : List (Entry O)) (e : Entry O) (q : ℕ) → q ≢ length entries → entry_at (entries ++ e ∷ []) q ≡ entry_at entries q
 entry_before [] e zero apart = absurd (apart refl)
@@ -58,3 +59,6 @@ module _ {O : Type 0} (queue : List ℕ) (room : ℕ) (entries : List (Entry O))
     live_is = ap (λ n. n + 1) keeps.live_is ∙ sym (ap count_of (map_last entries new) ∙ count_of-with_next (map task_of entries) (record { phase = model.queued; is_kept = true; waiter = None }));
     sure = omega (arith, sure);
   }
+
+  pub spawns_as : (limit : ℕ) → tasks_of (queue ++ next ∷ []) (entries ++ new ∷ []) limit ≡ model.spawned (tasks_of queue entries limit)
+  spawns_as limit = same_tasks _ _ _ _ limit (ap (λ x. queue ++ x ∷ []) (sym (length-map entries task_of))) (map_last entries new)

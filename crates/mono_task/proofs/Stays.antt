@@ -1,5 +1,5 @@
 -- What holds of places and of the queue stays, where one place is written.
-use Rattle.std.proofs.Common.{◌≡◌, ◌≢◌, ◌<◌, ◌≤◌, ◌+◌, ℕ, zero, suc, true, false, List, [], ◌∷◌, ◌++◌, map, length, get_or, Option, refl, ap, sym, ◌∙◌, inl, inr, arith}
+use Rattle.std.proofs.Common.{◌≡◌, ◌≢◌, ◌<◌, ◌≤◌, ◌+◌, ℕ, true, false, List, [], ◌∷◌, ◌++◌, map, length, Option, refl, ap, sym, ◌∙◌, inl, inr, arith}
 use Rattle.std.specs.Prelude.{slice_set, is_some}
 use Rattle.std.proofs.lemmas.Bool.{cases_eq}
 use Rattle.std.proofs.lemmas.List.{map-set, get_or-set_same, get_or-set_other, length-append}
@@ -20,12 +20,6 @@ the_tasks queue table limit = record { queue = queue; table = table; limit = lim
 pub same_tasks : {O : Type 0} (queue queue' : List ℕ) (table table' : Table (Task O)) (limit : ℕ) → queue ≡ queue' → table ≡ table'
     → the_tasks queue table limit ≡ the_tasks queue' table' limit
 same_tasks queue queue' table table' limit e1 e2 = rw (e1, e2) refl
-
--- a place that is read by its number
-pub entry_is : {O : Type 0} (entries : List (Entry O)) (t : ℕ) (e : Entry O) → t < length entries → e ≡ get_or entries t e → entry_at entries t ≡ e
-entry_is [] t e inside is = absurd (omega (arith, inside))
-entry_is (x ∷ xs) zero e inside is = sym is
-entry_is (x ∷ xs) (suc t) e inside is = entry_is xs t e (omega (arith, inside)) is
 
 -- the queue has no more than the tasks that have not finished
 pub queue_fits : {O : Type 0} (queue : List ℕ) (room : ℕ) (entries : List (Entry O)) (unfinished live : ℕ) (turn : Option ℕ) → Keeps queue room entries unfinished live turn

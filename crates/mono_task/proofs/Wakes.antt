@@ -1,15 +1,54 @@
 -- A wake, on the places of the table.
-use Rattle.std.proofs.Common.{◌≡◌, ◌<◌, ℕ, List, [], ◌∷◌, ◌++◌, map, length, set, Option, refl, ap, sym, ◌∙◌}
-use Rattle.std.specs.Prelude.{slice_set, is_some}
-use Rattle.std.proofs.lemmas.List.{map-set}
+use Rattle.std.proofs.Common.{◌≡◌, ◌<◌, ℕ, List, [], ◌∷◌, ◌++◌, map, length, set, cond, Ok, Err, Option, refl, ap, sym, ◌∙◌}
+use Rattle.std.specs.Prelude.{slice_set, is_some, nat_lt}
+use Rattle.std.proofs.lemmas.List.{map-set, length-map}
 use Rattle.mono_model.specs.Tasks as model
+use Rattle.mono_model.specs.Table.{value_at}
+use Rattle.mono_model.specs.Joins.{wake_answer}
+use Rattle.mono_model.specs.declared.Woke.TheVariants as woke
+use Rattle.mono_model.specs.declared.task_error.TaskError.TheVariants.{NoTask}
 use Rattle.mono_task.specs.declared.entries.Entry.{Entry}
 use Rattle.mono_task.specs.declared.entries.Entry.TheVariants.{Gone, Taken, Done, Idle, Queued, Running, Noted}
 use Rattle.mono_task.specs.declared.entries.Waking.TheVariants as waking
 use Rattle.mono_task.specs.Entries.{task_of, woken_entry, waking_of, is_queued, is_running, is_unfinished}
 use Rattle.mono_task.specs.Standing.{entry_at, tasks_of, Keeps}
 use Rattle.mono_task.proofs.Counted.{value_at-entries, set_same}
+use Rattle.mono_task.proofs.Places.{lt_true}
 use Rattle.mono_task.proofs.Stays.{same_tasks, stays_alone, stays_queued, keeps_counts, room_for}
+
+-- what a wake answers, where the number was given out
+pub wake_at : {O : Type 0} (queue : List ℕ) (entries : List (Entry O)) (limit t : ℕ) → t < length entries
+    → wake_answer (tasks_of queue entries limit) t ≡ Ok (model.woke_value (task_of (entry_at entries t)))
+wake_at queue entries limit t inside =
+    ap (λ b. cond b (Ok (model.woke_value (value_at (map task_of entries) t))) (Err NoTask)) (ap (λ n. nat_lt t n) (length-map entries task_of) ∙ lt_true t (length entries) inside)
+    ∙ ap (λ v. Ok (model.woke_value v)) (value_at-entries entries t)
+
+pub woke_queued : {O : Type 0} (e : Entry O) → waking.Queues ≡ waking_of e → model.woke_value (task_of e) ≡ woke.Queued
+woke_queued (Idle h) is = refl
+woke_queued Gone is = cc
+woke_queued Taken is = cc
+woke_queued (Done output) is = cc
+woke_queued (Queued h) is = cc
+woke_queued (Running h) is = cc
+woke_queued (Noted h) is = cc
+
+pub woke_noted : {O : Type 0} (e : Entry O) → waking.Notes ≡ waking_of e → model.woke_value (task_of e) ≡ woke.Noted
+woke_noted (Running h) is = refl
+woke_noted (Noted h) is = refl
+woke_noted Gone is = cc
+woke_noted Taken is = cc
+woke_noted (Done output) is = cc
+woke_noted (Queued h) is = cc
+woke_noted (Idle h) is = cc
+
+pub woke_nothing : {O : Type 0} (e : Entry O) → waking.Nothing ≡ waking_of e → model.woke_value (task_of e) ≡ woke.Nothing
+woke_nothing Gone is = refl
+woke_nothing Taken is = refl
+woke_nothing (Done output) is = refl
+woke_nothing (Queued h) is = refl
+woke_nothing (Idle h) is = cc
+woke_nothing (Running h) is = cc
+woke_nothing (Noted h) is = cc
 
 woken_stays : {O : Type 0} (e : Entry O) → waking.Nothing ≡ waking_of e → woken_entry e ≡ e
 woken_stays Gone nothing = refl
@@ -93,3 +132,7 @@ module _ {O : Type 0} (queue : List ℕ) (room : ℕ) (entries : List (Entry O))
     nothing_stays e new at is nothing =
         let same : slice_set entries t new ≡ entries = set_same entries t new Gone inside (at ∙ sym (is ∙ woken_stays e nothing)) in
         rw same (keeps, sym (ap (λ v. model.woken_value v (tasks_of queue entries limit) t) (value_at-entries entries t ∙ ap task_of at) ∙ woken_alone e nothing (tasks_of queue entries limit) t))
+
+    -- the wake of a task that is gone leaves all as it is
+    pub gone_stays : entry_at entries t ≡ Gone → tasks_of queue entries limit ≡ model.woken (tasks_of queue entries limit) t
+    gone_stays at = sym (ap (λ v. model.woken_value v (tasks_of queue entries limit) t) (value_at-entries entries t ∙ ap task_of at))

@@ -1,6 +1,6 @@
 -- What holds between the places of the table and the queue.
 use Rattle.std.specs.Prelude.{◌≡◌, ◌≤◌, ◌==◌, ◌+◌, ℕ, Bool, false, List, [], ◌∷◌, map, length, slice_index_or, Option, Some, None}
-use Rattle.mono_model.specs.Table.{count_of}
+use Rattle.mono_model.specs.Table.{Table, count_of}
 use Rattle.mono_model.specs.Tasks.{Tasks}
 use Rattle.mono_model.specs.Valid.{times, once_if}
 use Rattle.mono_task.specs.declared.entries.Entry.{Entry}
@@ -9,6 +9,14 @@ use Rattle.mono_task.specs.Entries.{task_of, is_queued, is_running, is_unfinishe
 
 abbrev pub entry_at : {O : Type 0} → List (Entry O) → ℕ → Entry O
 entry_at entries t = slice_index_or entries t Gone
+
+-- what stands at a number: the task, or that it is gone
+abbrev pub entry_of : {O : Type 0} → Option (Entry O) → Entry O
+entry_of None = Gone
+entry_of (Some entry) = entry
+
+abbrev pub entries_of : {O : Type 0} → Table (Entry O) → List (Entry O)
+entries_of places = map entry_of places
 
 abbrev pub tasks_of : {O : Type 0} → List ℕ → List (Entry O) → ℕ → Tasks O
 tasks_of queue entries limit = record { queue = queue; table = map task_of entries; limit = limit }

@@ -1,7 +1,7 @@
 // The table of tasks, and the queue of those that run next.
-ghost use Rattle.std.specs.Prelude.{◌≡◌, ◌<◌, ◌≤◌, ◌↔◌, true, length, IfOk, OnOk, OnErr, None, Err, is_some, vec_len, vec_capacity};
+ghost use Rattle.std.specs.Prelude.{◌≡◌, ◌<◌, ◌≤◌, ◌↔◌, true, length, IfOk, OnOk, OnErr, None, Err, is_some, ◌-◌, ◌^◌};
 ghost use Rattle.std.specs.VecDeque.{deque_len, deque_capacity};
-ghost use Rattle.mono_model.specs.Table.{value_at, next_number, is_full};
+ghost use Rattle.mono_model.specs.Table.{value_at, next_number, with_next, is_full};
 ghost use Rattle.mono_model.specs.Tasks.{spawned, woken};
 ghost use Rattle.mono_model.specs.Joins.{wake_answer, join_answer, joined, drop_answer, join_dropped, finished_answer};
 ghost use Rattle.mono_task.specs.Schedule.{no_schedule, with_tasks, begin_answer, after_begin, end_answer, after_end};
@@ -9,10 +9,13 @@ ghost use Rattle.mono_task.specs.Work.{has_output, over_answer};
 ghost use Rattle.mono_task.specs.Finishing.{Finishes};
 ghost use Rattle.mono_model.specs.declared.poll.Poll.TheVariants.{Ready, Pending};
 ghost use Rattle.mono_task.specs.declared.error.SpawnTask.TheVariants.{AtCapacity};
+ghost use Rattle.mono_task.specs.declared.entries.Entry.TheVariants.{Queued};
+ghost use Rattle.mono_task.specs.declared.entries.Handle.TheVariants.{Kept};
 
 use crate::entries::{Entry, Handle, Waking};
 use crate::error::SpawnTask;
 use mono_model::{Ended, Poll, TaskError, Woke};
+use mono_table::Table;
 use std::alloc::{AllocError, Global};
 use std::collections::VecDeque;
 use std::marker::Model;
@@ -23,16 +26,15 @@ const LEAST_ROOM: usize = 4;
 /// The tasks of an executor, by their numbers, and the queue of those that run next.
 ///
 /// Numbers count from 0 and are never given twice. A task is live while it has not finished or its handle is kept; of one
-/// that is neither, only its number's place is left.
+/// that is neither, nothing is left.
 #[derive(Drop)]
 pub struct Tasks<O> {
     // The numbers of the queued tasks, the front first, with room for each task that has not finished.
     queue: VecDeque<u64>,
-    // At each number that was given out, its task.
-    entries: Vec<Entry<O>>,
-    // How many tasks have not finished, and how many are live.
+    // At each number that was given out, its task, or nothing once it is gone.
+    entries: Table<Entry<O>>,
+    // How many tasks have not finished.
     unfinished: usize,
-    live: u64,
     limit: u64,
     turns: u64,
     running: Option<u64>,
@@ -40,15 +42,16 @@ pub struct Tasks<O> {
 
 impl<O> Model for Tasks<O> {
     ghost use Rattle.std.specs.VecDeque.{deque_capacity};
+    ghost use Rattle.mono_model.specs.Table.{count_of};
     ghost use Rattle.mono_task.specs.Schedule.{Schedule};
 
     ghost Value = { Schedule O };
 
-    ghost use Rattle.mono_task.specs.Standing.{tasks_of, Keeps};
+    ghost use Rattle.mono_task.specs.Standing.{entries_of, tasks_of, Keeps};
 
-    ghost view = { λ a. record { tasks = tasks_of a.queue.items a.entries.items a.limit; turns = a.turns; turn = a.running } };
+    ghost view = { λ a. record { tasks = tasks_of a.queue.items (entries_of a.entries) a.limit; turns = a.turns; turn = a.running } };
 
-    ghost invariant = { λ a. Keeps a.queue.items (deque_capacity a.queue) a.entries.items a.unfinished a.live a.running };
+    ghost invariant = { λ a. Keeps a.queue.items (deque_capacity a.queue) (entries_of a.entries) a.unfinished (count_of a.entries) a.running };
 }
 
 impl<O> Tasks<O> {
@@ -58,9 +61,8 @@ impl<O> Tasks<O> {
     {
         Ok(Tasks {
             queue: VecDeque::new(alloc),
-            entries: Vec::new(alloc),
+            entries: Table::new(alloc),
             unfinished: 0,
-            live: 0,
             limit,
             turns: 0,
             running: None,
@@ -99,21 +101,23 @@ fn make_room(queue: &mut VecDeque<u64>, tasks: usize) -> Result<(), AllocError>
     queue.reserve(more)
 }
 
-// Makes room in the queue for one more than so many tasks, and a place for the next number.
-fn make_places<O>(
+// Makes room in the queue for one more than so many tasks, and gives the next number out, whose task is queued.
+fn enter<O: Drop>(
+    alloc: Global,
     queue: &mut VecDeque<u64>,
-    entries: &mut Vec<Entry<O>>,
+    entries: &mut Table<Entry<O>>,
     tasks: usize,
 ) -> Result<(), AllocError>
-    requires { deque_len queue.old ≤ tasks }
+    requires few { deque_len queue.old ≤ tasks }
+    requires next { next_number entries.old < 2 ^ 64 - 1 }
     ensures queued { queue.new.items ≡ queue.old.items }
     ensures capacity { deque_capacity queue.old ≤ deque_capacity queue.new }
-    ensures entered { entries.new.items ≡ entries.old.items }
     ensures room { OnOk result (tasks < deque_capacity queue.new) }
-    ensures place { OnOk result (vec_len entries.new < vec_capacity entries.new) }
+    ensures entered { OnOk result (entries.new ≡ with_next entries.old (Queued Kept)) }
+    ensures refused { OnErr result (entries.new ≡ entries.old) }
 {
     make_room(queue, tasks)?;
-    entries.reserve(1)
+    entries.push(alloc, Entry::Queued(Handle::Kept))
 }
 
 impl<O: Drop> Tasks<O> {
@@ -121,22 +125,20 @@ impl<O: Drop> Tasks<O> {
     ///
     /// Refused with `AtCapacity` exactly where the live tasks are at the limit or the next number is 2^64 - 1 (`full`),
     /// and else with `Memory` where there was none. A refusal leaves all as it was (`refused`).
-    pub fn spawn(&mut self, _alloc: Global) -> Result<u64, SpawnTask>
+    pub fn spawn(&mut self, alloc: Global) -> Result<u64, SpawnTask>
         ensures full { (result ≡ Err AtCapacity) ↔ (is_full self.old.tasks.table self.old.tasks.limit ≡ true) }
         ensures number { IfOk result (λ number. number ≡ next_number self.old.tasks.table) }
         ensures after { OnOk result (self.new ≡ with_tasks self.old (spawned self.old.tasks)) }
         ensures refused { OnErr result (self.new ≡ self.old) }
     {
-        let number = self.entries.len() as u64;
-        if self.live >= self.limit || number == u64::MAX {
+        let number = self.entries.len();
+        if self.entries.count() >= self.limit || number == u64::MAX {
             return Err(SpawnTask::AtCapacity);
         }
-        match make_places(&mut self.queue, &mut self.entries, self.unfinished) {
+        match enter(alloc, &mut self.queue, &mut self.entries, self.unfinished) {
             Ok(()) => {
-                self.entries.push_reserved(Entry::Queued(Handle::Kept));
                 self.queue.push_back_reserved(number);
                 self.unfinished += 1;
-                self.live += 1;
                 Ok(number)
             }
             Err(_) => Err(SpawnTask::Memory),
@@ -151,11 +153,13 @@ impl<O: Drop> Tasks<O> {
         ensures answer { result ≡ wake_answer self.old.tasks task }
         ensures after { self.new ≡ with_tasks self.old (woken self.old.tasks task) }
     {
-        let at = task as usize;
-        if at >= self.entries.len() {
+        if task >= self.entries.len() {
             return Err(TaskError::NoTask);
         }
-        let entry = &mut self.entries[at];
+        if self.entries.get(task).is_none() {
+            return Ok(Woke::Nothing);
+        }
+        let entry = self.entries.value_mut(task);
         match entry.wake() {
             Waking::Queues => {
                 self.queue.push_back_reserved(task);
@@ -178,7 +182,7 @@ impl<O: Drop> Tasks<O> {
             None => return Err(TaskError::Idle),
             Some(task) => task,
         };
-        self.entries[task as usize].begin();
+        self.entries.value_mut(task).begin();
         self.turns = self.turns.saturating_add(1);
         self.running = Some(task);
         Ok(task)
@@ -211,7 +215,7 @@ impl<O: Drop> Tasks<O> {
             None => unreachable!(),
         };
         self.running = None;
-        if self.entries[task as usize].pause() {
+        if self.entries.value_mut(task).pause() {
             self.queue.push_back_reserved(task);
             return Ended::Again;
         }
@@ -244,14 +248,14 @@ impl<O: Drop> Tasks<O> {
             None => unreachable!(),
         };
         self.running = None;
-        let handle = match self.entries[task as usize].complete(output) {
+        let handle = match self.entries.value_mut(task).complete(output) {
             Some(handle) => handle,
             None => unreachable!(),
         };
         self.unfinished -= 1;
         match handle {
             Handle::Dropped => {
-                self.live -= 1;
+                self.entries.remove(task);
                 Handle::Dropped
             }
             Handle::Kept => Handle::Kept,
@@ -267,11 +271,14 @@ impl<O: Drop> Tasks<O> {
         ensures answer { result ≡ join_answer self.old.tasks task }
         ensures after { self.new ≡ with_tasks self.old (joined self.old.tasks task by) }
     {
-        let at = task as usize;
-        if at >= self.entries.len() {
+        if task >= self.entries.len() {
             return Err(TaskError::NoTask);
         }
-        self.entries[at].join(by)
+        if self.entries.get(task).is_none() {
+            return Err(TaskError::NoHandle);
+        }
+        let entry = self.entries.value_mut(task);
+        entry.join(by)
     }
 
     /// Drops the handle of a task, and gives back an output that nobody took. A task that has not finished runs on.
@@ -282,14 +289,17 @@ impl<O: Drop> Tasks<O> {
         ensures answer { result ≡ drop_answer self.old.tasks task }
         ensures after { self.new ≡ with_tasks self.old (join_dropped self.old.tasks task) }
     {
-        let at = task as usize;
-        if at >= self.entries.len() {
+        if task >= self.entries.len() {
             return Err(TaskError::NoTask);
         }
-        let entry = &mut self.entries[at];
+        if self.entries.get(task).is_none() {
+            return Err(TaskError::NoHandle);
+        }
+        let entry = self.entries.value_mut(task);
         if entry.is_over() {
-            self.live -= 1;
-            return entry.drop_join();
+            let output = entry.drop_join();
+            self.entries.remove(task);
+            return output;
         }
         entry.drop_join()
     }
@@ -298,11 +308,10 @@ impl<O: Drop> Tasks<O> {
     pub fn has_output(&self, task: u64) -> bool
         ensures { result ≡ has_output (value_at self.now.tasks.table task) }
     {
-        let at = task as usize;
-        if at >= self.entries.len() {
-            return false;
+        match self.entries.get(task) {
+            None => false,
+            Some(entry) => entry.has_output(),
         }
-        self.entries[at].has_output()
     }
 
     /// Whether a task has finished, whatever its handle. Refused with `NoTask` exactly where the number was never given
@@ -321,10 +330,12 @@ impl<O: Drop> Tasks<O> {
     pub fn is_finished(&self, task: u64) -> Result<bool, TaskError>
         ensures { result ≡ finished_answer self.now.tasks task }
     {
-        let at = task as usize;
-        if at >= self.entries.len() {
+        if task >= self.entries.len() {
             return Err(TaskError::NoTask);
         }
-        self.entries[at].is_finished()
+        match self.entries.get(task) {
+            None => Err(TaskError::NoHandle),
+            Some(entry) => entry.is_finished(),
+        }
     }
 }

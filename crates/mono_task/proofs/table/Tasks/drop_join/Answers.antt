@@ -1,29 +1,73 @@
-use Rattle.std.proofs.Common.{ap, sym, ◌∙◌, arith}
-use Rattle.mono_task.proofs.Stays.{entry_is}
-use Rattle.mono_task.proofs.Handles.{some_live, drops, over_keeps, lasting_keeps}
+use Rattle.std.proofs.Common.{rules, ◌≡◌, None, ap, sym, ◌∙◌, arith}
+use Rattle.std.specs.Prelude.{is_some}
+use Rattle.mono_model.specs.Table.{value_at, count_of}
+use Rattle.mono_model.specs.Joins.{drop_value, kept_value}
+use Rattle.mono_task.specs.Entries.{task_of}
+use Rattle.mono_task.specs.Standing.{entries_of}
+use Rattle.mono_task.proofs.Tabled.{length_of, found, absent, inside, written, still_there, as_many, erased, one_less}
+use Rattle.mono_task.proofs.Places.{kept_at}
+use Rattle.mono_task.proofs.Handles.{drops, over_gone, over_keeps, lasting_keeps, dropped_gone}
 use Rattle.mono_task.proofs.table.Tasks.drop_join.Goals as goal
 
-pub overflow_sub-self : goal.overflow_sub-self
-overflow_sub-self g c =
-    let at = entry_is c.self.inside.entries.items c.args.task c.index_mut-entry.result.now (omega arith) c.index_mut-entry.ensures.value in
-    some_live c.self.inside.queue.items _ c.self.inside.entries.items c.self.inside.unfinished c.self.inside.live c.self.inside.running c.args.task c.self.invariant c.self.inside.limit (omega arith) c.index_mut-entry.result.now c.index_mut-entry.result.now at (sym c.is_over.ensures ∙ c.if-is_over.true)
+pub remove-requires : goal.remove-requires
+remove-requires g c =
+    let there = ap is_some c.value_mut-entry.ensures.value in
+    let at = found c.self.inside.entries c.args.task c.value_mut-entry.result.now c.value_mut-entry.ensures.value in
+    let within = inside c.self.inside.entries c.args.task there in
+    still_there c.self.inside.entries c.args.task there c.drop_join-output.new.self
 
 pub invariant_of-self : goal.invariant_of-self
 invariant_of-self g c =
-    let at = entry_is c.self.inside.entries.items c.args.task c.index_mut-entry.result.now (omega arith) c.index_mut-entry.ensures.value in
-    over_keeps c.self.inside.queue.items _ c.self.inside.entries.items c.self.inside.unfinished c.self.inside.live c.self.inside.running c.args.task c.self.invariant c.self.inside.limit (omega arith) c.index_mut-entry.result.now c.drop_join.new.self at c.drop_join.ensures.entry (sym c.is_over.ensures ∙ c.if-is_over.true)
+    let there = ap is_some c.value_mut-entry.ensures.value in
+    let at = found c.self.inside.entries c.args.task c.value_mut-entry.result.now c.value_mut-entry.ensures.value in
+    let within = inside c.self.inside.entries c.args.task there in
+    rw (c.remove.ensures, erased c.self.inside.entries c.args.task there c.drop_join-output.new.self (c.drop_join-output.ensures.entry ∙ over_gone c.value_mut-entry.result.now (sym c.is_over.ensures ∙ c.if-is_over.true)), one_less c.self.inside.entries c.args.task there c.drop_join-output.new.self) (over_keeps c.self.inside.queue.items _ (entries_of c.self.inside.entries) c.self.inside.unfinished (count_of c.self.inside.entries) c.self.inside.running c.args.task c.self.invariant c.self.inside.limit within c.value_mut-entry.result.now c.drop_join-output.new.self at c.drop_join-output.ensures.entry (sym c.is_over.ensures ∙ c.if-is_over.true))
+
+pub returns-then-is_over-clause-answer : goal.returns-then-is_over-clause-answer
+returns-then-is_over-clause-answer g c =
+    let there = ap is_some c.value_mut-entry.ensures.value in
+    let at = found c.self.inside.entries c.args.task c.value_mut-entry.result.now c.value_mut-entry.ensures.value in
+    let within = inside c.self.inside.entries c.args.task there in
+    rw (← c.self.view_is) (c.drop_join-output.ensures.answer ∙ ap drop_value (sym (kept_at c.self.inside.queue.items (entries_of c.self.inside.entries) c.self.inside.limit c.args.task within ∙ ap (λ e. kept_value (task_of e)) at)))
 
 pub returns-then-is_over-clause-after : goal.returns-then-is_over-clause-after
 returns-then-is_over-clause-after g c =
-    let at = entry_is c.self.inside.entries.items c.args.task c.index_mut-entry.result.now (omega arith) c.index_mut-entry.ensures.value in
-    rw (← c.self.view_is) (ap (λ tasks. record { tasks = tasks; turns = c.self.inside.turns; turn = c.self.inside.running }) (drops c.self.inside.queue.items _ c.self.inside.entries.items c.self.inside.unfinished c.self.inside.live c.self.inside.running c.args.task c.self.invariant c.self.inside.limit (omega arith) c.index_mut-entry.result.now c.drop_join.new.self at c.drop_join.ensures.entry))
+    let there = ap is_some c.value_mut-entry.ensures.value in
+    let at = found c.self.inside.entries c.args.task c.value_mut-entry.result.now c.value_mut-entry.ensures.value in
+    let within = inside c.self.inside.entries c.args.task there in
+    rw (← c.self.view_is, c.remove.ensures, erased c.self.inside.entries c.args.task there c.drop_join-output.new.self (c.drop_join-output.ensures.entry ∙ over_gone c.value_mut-entry.result.now (sym c.is_over.ensures ∙ c.if-is_over.true))) (ap (λ tasks. record { tasks = tasks; turns = c.self.inside.turns; turn = c.self.inside.running }) (drops c.self.inside.queue.items _ (entries_of c.self.inside.entries) c.self.inside.unfinished (count_of c.self.inside.entries) c.self.inside.running c.args.task c.self.invariant c.self.inside.limit within c.value_mut-entry.result.now c.drop_join-output.new.self at c.drop_join-output.ensures.entry))
 
 pub invariant_of-self-2 : goal.invariant_of-self-2
 invariant_of-self-2 g c =
-    let at = entry_is c.self.inside.entries.items c.args.task c.index_mut-entry.result.now (omega arith) c.index_mut-entry.ensures.value in
-    lasting_keeps c.self.inside.queue.items _ c.self.inside.entries.items c.self.inside.unfinished c.self.inside.live c.self.inside.running c.args.task c.self.invariant c.self.inside.limit (omega arith) c.index_mut-entry.result.now c.drop_join-2.new.self at c.drop_join-2.ensures.entry (sym c.is_over.ensures ∙ c.if-is_over.false)
+    let there = ap is_some c.value_mut-entry.ensures.value in
+    let at = found c.self.inside.entries c.args.task c.value_mut-entry.result.now c.value_mut-entry.ensures.value in
+    let within = inside c.self.inside.entries c.args.task there in
+    rw (written c.self.inside.entries c.args.task there c.drop_join.new.self, as_many c.self.inside.entries c.args.task there c.drop_join.new.self) (lasting_keeps c.self.inside.queue.items _ (entries_of c.self.inside.entries) c.self.inside.unfinished (count_of c.self.inside.entries) c.self.inside.running c.args.task c.self.invariant c.self.inside.limit within c.value_mut-entry.result.now c.drop_join.new.self at c.drop_join.ensures.entry (sym c.is_over.ensures ∙ c.if-is_over.false))
+
+pub returns-clause-answer : goal.returns-clause-answer
+returns-clause-answer g c =
+    let there = ap is_some c.value_mut-entry.ensures.value in
+    let at = found c.self.inside.entries c.args.task c.value_mut-entry.result.now c.value_mut-entry.ensures.value in
+    let within = inside c.self.inside.entries c.args.task there in
+    rw (← c.self.view_is) (c.drop_join.ensures.answer ∙ ap drop_value (sym (kept_at c.self.inside.queue.items (entries_of c.self.inside.entries) c.self.inside.limit c.args.task within ∙ ap (λ e. kept_value (task_of e)) at)))
 
 pub returns-clause-after : goal.returns-clause-after
 returns-clause-after g c =
-    let at = entry_is c.self.inside.entries.items c.args.task c.index_mut-entry.result.now (omega arith) c.index_mut-entry.ensures.value in
-    rw (← c.self.view_is) (ap (λ tasks. record { tasks = tasks; turns = c.self.inside.turns; turn = c.self.inside.running }) (drops c.self.inside.queue.items _ c.self.inside.entries.items c.self.inside.unfinished c.self.inside.live c.self.inside.running c.args.task c.self.invariant c.self.inside.limit (omega arith) c.index_mut-entry.result.now c.drop_join-2.new.self at c.drop_join-2.ensures.entry))
+    let there = ap is_some c.value_mut-entry.ensures.value in
+    let at = found c.self.inside.entries c.args.task c.value_mut-entry.result.now c.value_mut-entry.ensures.value in
+    let within = inside c.self.inside.entries c.args.task there in
+    rw (← c.self.view_is, written c.self.inside.entries c.args.task there c.drop_join.new.self) (ap (λ tasks. record { tasks = tasks; turns = c.self.inside.turns; turn = c.self.inside.running }) (drops c.self.inside.queue.items _ (entries_of c.self.inside.entries) c.self.inside.unfinished (count_of c.self.inside.entries) c.self.inside.running c.args.task c.self.invariant c.self.inside.limit within c.value_mut-entry.result.now c.drop_join.new.self at c.drop_join.ensures.entry))
+
+pub returns-then-is_none-clause-answer : goal.returns-then-is_none-clause-answer
+returns-then-is_none-clause-answer g c =
+    let none : value_at c.self.inside.entries c.args.task ≡ None = search rules in
+    let gone = absent c.self.inside.entries c.args.task none in
+    let len = length_of c.self.inside.entries in
+    rw (← c.self.view_is) (sym (ap drop_value (kept_at c.self.inside.queue.items (entries_of c.self.inside.entries) c.self.inside.limit c.args.task (omega (arith, len, c.len.ensures)) ∙ ap (λ e. kept_value (task_of e)) gone)))
+
+pub returns-then-is_none-clause-after : goal.returns-then-is_none-clause-after
+returns-then-is_none-clause-after g c =
+    let none : value_at c.self.inside.entries c.args.task ≡ None = search rules in
+    let gone = absent c.self.inside.entries c.args.task none in
+    let len = length_of c.self.inside.entries in
+    rw (← c.self.view_is) (ap (λ tasks. record { tasks = tasks; turns = c.self.inside.turns; turn = c.self.inside.running }) (dropped_gone c.self.inside.queue.items (entries_of c.self.inside.entries) c.self.inside.limit c.args.task (omega (arith, len, c.len.ensures)) gone))

@@ -1,0 +1,17 @@
+use Rattle.std.proofs.Common.{ap, sym, ◌∙◌, arith}
+use Rattle.mono_model.specs.Joins.{finished_value, kept_value}
+use Rattle.mono_task.specs.Entries.{task_of}
+use Rattle.mono_task.specs.Standing.{entries_of}
+use Rattle.mono_task.proofs.Places.{kept_at}
+use Rattle.mono_task.proofs.Tabled.{found, absent, length_of}
+use Rattle.mono_task.proofs.table.Tasks.is_finished.Goals as goal
+
+pub returns-in-None : goal.returns-in-None
+returns-in-None g c =
+    let len = length_of c.self.inside.entries in
+    rw (← c.self.view_is) (sym (ap finished_value (kept_at c.self.inside.queue.items (entries_of c.self.inside.entries) c.self.inside.limit c.args.task (omega (arith, len, c.len.ensures)) ∙ ap (λ e. kept_value (task_of e)) (absent c.self.inside.entries c.args.task (sym c.in-None.ensures)))))
+
+pub returns-in-Some : goal.returns-in-Some
+returns-in-Some g c =
+    let len = length_of c.self.inside.entries in
+    rw (← c.self.view_is) (c.is_finished.ensures ∙ ap finished_value (sym (kept_at c.self.inside.queue.items (entries_of c.self.inside.entries) c.self.inside.limit c.args.task (omega (arith, len, c.len.ensures)) ∙ ap (λ e. kept_value (task_of e)) (found c.self.inside.entries c.args.task _ (sym c.in-Some.ensures)))))
