@@ -42,8 +42,9 @@ impl Timers {
         fired: &mut Vec<(u64, Option<u64>)>,
     ) -> Result<(), AllocError>
         ensures fires { OnOk result (FiredAll self.old self.new (nanos_of now) fired.old.items fired.new.items) }
-        ensures elapsed { OnOk result (elapsed_tick self.new ≡ (sleeps_of self.new).greatest) }
         ensures refused { OnErr result ((self.new ≡ self.old) × (fired.new.items ≡ fired.old.items)) }
+        // What shows the wheel under the table.
+        ensures elapsed { OnOk result (elapsed_tick self.new ≡ (sleeps_of self.new).greatest) }
     {
         fired.reserve(self.live() as usize)?;
         fire_each::<Brand>(self, now, fired, Blank::new(1));

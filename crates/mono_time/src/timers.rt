@@ -75,9 +75,9 @@ impl Timers {
     /// Timers without sleeps, for at most `limit` live ones; without `enabled` no sleep is ever made.
     pub fn new(alloc: Global, limit: u64, enabled: bool) -> Result<Timers, AllocError>
         ensures sleeps { IfOk result (λ timers. sleeps_of timers ≡ no_sleeps limit enabled) }
-        ensures elapsed { IfOk result (λ timers. elapsed_tick timers ≡ 0) }
         ensures stands { IfOk result (λ timers. StandsForSleeps timers (model.no_sleeps limit)) }
-        // what the wheel under it has to do
+        // What shows the wheel under the table.
+        ensures elapsed { IfOk result (λ timers. elapsed_tick timers ≡ 0) }
         ensures credit { IfOk result (λ timers. credit_left timers ≡ 0) }
     {
         let wheel = Wheel::new(alloc)?;
@@ -114,10 +114,10 @@ impl Timers {
     /// at the limit or the next number is 2^64 - 1; want of memory comes last. No refusal changes anything (`added`).
     pub fn add(&mut self, alloc: Global, deadline: Instant) -> Result<u64, SleepError>
         ensures added { Added (sleeps_of self.old) (nanos_of deadline) result (sleeps_of self.new) }
+        ensures stands { (m : Sleeps) → StandsForSleeps self.old m → machine.Adds (sleeps_of self.old).is_enabled m (nanos_of deadline) result (StandsForSleeps self.new) }
+        // What shows the wheel under the table.
         ensures elapsed { elapsed_tick self.new ≡ elapsed_tick self.old }
         ensures registered { (s : ℕ) → registered_of self.new s ≡ registered_of self.old s }
-        ensures stands { (m : Sleeps) → StandsForSleeps self.old m → machine.Adds (sleeps_of self.old).is_enabled m (nanos_of deadline) result (StandsForSleeps self.new) }
-        // what the wheel under it has to do
         ensures credit { credit_left self.new ≡ credit_left self.old }
     {
         if !self.is_enabled {
@@ -143,10 +143,10 @@ impl Timers {
     pub fn poll(&mut self, sleep: u64, by: u64) -> Result<Poll<()>, Error>
         ensures answer { result ≡ poll_answer (sleeps_of self.old) sleep }
         ensures sleeps { sleeps_of self.new ≡ polled (sleeps_of self.old) sleep by }
+        ensures stands { (m : Sleeps) → StandsForSleeps self.old m → (result ≡ machine.poll_answer m sleep) × StandsForSleeps self.new (machine.polled m sleep by) }
+        // What shows the wheel under the table.
         ensures elapsed { elapsed_tick self.new ≡ elapsed_tick self.old }
         ensures registered { RegistersOnly (registered_of self.old) (registered_of self.new) sleep (polled_registered (sleeps_of self.old).greatest (value_at (sleeps_of self.old).table sleep) (registered_of self.old sleep)) }
-        ensures stands { (m : Sleeps) → StandsForSleeps self.old m → (result ≡ machine.poll_answer m sleep) × StandsForSleeps self.new (machine.polled m sleep by) }
-        // what the wheel under it has to do
         ensures raise { credit_left self.new ≤ credit_left self.old + poll_raise (elapsed_tick self.old) (value_at (sleeps_of self.old).table sleep) }
     {
         match key_at(&self.keys, sleep) {
@@ -164,10 +164,10 @@ impl Timers {
     pub fn reset(&mut self, sleep: u64, deadline: Instant) -> Result<Option<u64>, Error>
         ensures answer { result ≡ reset_answer (sleeps_of self.old) sleep (nanos_of deadline) }
         ensures sleeps { sleeps_of self.new ≡ reset (sleeps_of self.old) sleep (nanos_of deadline) }
+        ensures stands { (m : Sleeps) → StandsForSleeps self.old m → (result ≡ machine.reset_answer m sleep (nanos_of deadline)) × StandsForSleeps self.new (machine.reset m sleep (nanos_of deadline)) }
+        // What shows the wheel under the table.
         ensures elapsed { elapsed_tick self.new ≡ elapsed_tick self.old }
         ensures registered { IsNoneArmedUpTo (sleeps_of self.old) → RegistersOnly (registered_of self.old) (registered_of self.new) sleep (reset_registered (sleeps_of self.old).greatest (up (nanos_of deadline)) (value_at (sleeps_of self.old).table sleep) (registered_of self.old sleep)) }
-        ensures stands { (m : Sleeps) → StandsForSleeps self.old m → (result ≡ machine.reset_answer m sleep (nanos_of deadline)) × StandsForSleeps self.new (machine.reset m sleep (nanos_of deadline)) }
-        // what the wheel under it has to do
         ensures raise { credit_left self.new ≤ credit_left self.old + most_takes (up (nanos_of deadline) - elapsed_tick self.old) }
     {
         match key_at(&self.keys, sleep) {
@@ -185,10 +185,10 @@ impl Timers {
     pub fn remove(&mut self, sleep: u64) -> Result<(), Error>
         ensures answer { result ≡ remove_answer (sleeps_of self.old) sleep }
         ensures sleeps { sleeps_of self.new ≡ removed (sleeps_of self.old) sleep }
+        ensures stands { (m : Sleeps) → StandsForSleeps self.old m → (result ≡ machine.remove_answer m sleep) × StandsForSleeps self.new (machine.removed m sleep) }
+        // What shows the wheel under the table.
         ensures elapsed { elapsed_tick self.new ≡ elapsed_tick self.old }
         ensures registered { RegistersOnly (registered_of self.old) (registered_of self.new) sleep None }
-        ensures stands { (m : Sleeps) → StandsForSleeps self.old m → (result ≡ machine.remove_answer m sleep) × StandsForSleeps self.new (machine.removed m sleep) }
-        // what the wheel under it has to do
         ensures raise { credit_left self.new ≤ credit_left self.old }
     {
         match key_at(&self.keys, sleep) {
@@ -236,11 +236,12 @@ impl Timers {
         ensures none { IfNone result (IsNoneArmedUpTo (at_clock (sleeps_of self.old) (nanos_of now)) × (sleeps_of self.new ≡ at_clock (sleeps_of self.old) (nanos_of now))) }
         ensures some { IfSome result (λ x. IsFiredFirst (at_clock (sleeps_of self.old) (nanos_of now)) x.0 x.1 × (sleeps_of self.new ≡ fired (at_clock (sleeps_of self.old) (nanos_of now)) x.0)) }
         ensures fewer { OnSome result (armed_count (sleeps_of self.new) < armed_count (sleeps_of self.old)) }
+        ensures stands { (m : Sleeps) → StandsForSleeps self.old m → machine.Fires (machine.at_clock m (nanos_of now)) result (StandsForSleeps self.new) }
+        // What shows the wheel under the table.
         ensures elapsed { IfNone result (elapsed_tick self.new ≡ (sleeps_of self.new).greatest) }
         ensures registered { (s : ℕ) → value_at (sleeps_of self.new).table s ≡ value_at (sleeps_of self.old).table s → registered_of self.new s ≡ moved_registered (elapsed_tick self.old) (elapsed_tick self.new) (value_at (sleeps_of self.old).table s) (registered_of self.old s) }
         ensures steps { steps.new + credit_left self.new ≡ steps.old + credit_left self.old }
         ensures gone { IfSome result (λ x. registered_of self.new x.0 ≡ None) }
-        ensures stands { (m : Sleeps) → StandsForSleeps self.old m → machine.Fires (machine.at_clock m (nanos_of now)) result (StandsForSleeps self.new) }
     {
         let greatest = self.greatest.max(now.clock_tick());
         self.greatest = greatest;
