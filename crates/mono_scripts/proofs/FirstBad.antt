@@ -1,17 +1,17 @@
 -- The first bad line of a script, by what may stand there.
-use Rattle.std.proofs.Common.{◌≡◌, ℕ, zero, suc, ◌+◌, ◌-◌, ◌^◌, ◌<◌, ◌≤◌, List, [], ◌∷◌, ◌++◌, length, map, take, flat_map, append_assoc, length-append, refl, sym, ap, subst, ◌∙◌, arith, codes, lit<}
-use Rattle.std.proofs.lemmas.List.{append-nil, map-append, take-append-le}
+use Rattle.std.proofs.Common.{◌≡◌, ℕ, ◌+◌, ◌-◌, ◌<◌, ◌≤◌, List, [], ◌∷◌, ◌++◌, length, map, take, flat_map, append_assoc, length-append, sym, ap, subst, ◌∙◌, arith, codes, lit<}
+use Rattle.std.proofs.lemmas.List.{append-nil, map-append}
 use Rattle.std.proofs.lemmas.Grind.{flat_map-append}
 use Rattle.std.proofs.Math.Seq.{take-append_seam, take-append-add}
 use Rattle.mono_machine.specs.declared.events.Limits.{Limits}
 use Rattle.mono_text.specs.Written.{FitLimits}
 use Rattle.mono_text.specs.Lines.{Line, lines}
-use Rattle.mono_scripts.specs.Beginnings.{Begins, IsFirstOut, wrong}
-use Rattle.mono_scripts.specs.Script.{Kind, Script, MayStand, AllMayStand, IsSoundKind, AreSoundKinds, IsSound}
+use Rattle.mono_scripts.specs.Beginnings.{Begins, wrong}
+use Rattle.mono_scripts.specs.Script.{Kind, Script, AllMayStand, IsSoundKind, AreSoundKinds, IsSound}
 use Rattle.mono_scripts.specs.Following.{MayFollow, done_text, front_texts}
 use Rattle.mono_scripts.specs.Written.{body_text, kind_texts, script_texts, limits_text, ended, task_lines, IsScript, IsFirstBad}
 use Rattle.mono_scripts.specs.declared.scripts.BodyLine.{BodyLine}
-use Rattle.mono_scripts.proofs.Fronts.{AllFit, AllKindsFit, in_kind, kinds_fit, all_may_fit}
+use Rattle.mono_scripts.proofs.Fronts.{in_kind, kinds_fit, all_may_fit}
 
 sound_more : (kinds : ℕ) (ks : List Kind) (k : Kind) → AreSoundKinds kinds ks → IsSoundKind kinds k → AreSoundKinds kinds (ks ++ k ∷ [])
 sound_more kinds [] k m s = (s, tt)

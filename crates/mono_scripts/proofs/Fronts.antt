@@ -1,5 +1,5 @@
 -- The texts of a script's lines are those of no other, from the front on.
-use Rattle.std.proofs.Common.{◌≡◌, ℕ, zero, suc, ◌+◌, ◌^◌, ◌<◌, ◌≤◌, List, [], ◌∷◌, ◌++◌, length, map, Option, Some, None, refl, sym, ap, subst, ◌∙◌, arith, codes, lit≤, lit<, get_or, drop}
+use Rattle.std.proofs.Common.{◌≡◌, ℕ, ◌^◌, ◌<◌, ◌≤◌, List, [], ◌∷◌, ◌++◌, length, map, Option, Some, None, refl, sym, ap, subst, ◌∙◌, arith, codes, lit≤, get_or, drop}
 use Rattle.std.proofs.lemmas.List.{append-nil}
 use Rattle.std.specs.Fmt.{decimal}
 use Rattle.mono_text.specs.Reading.{Read, number_at, word_at, when}
@@ -7,7 +7,7 @@ use Rattle.mono_text.proofs.Digits.{digits_again}
 use Rattle.std.proofs.Common.{flat_map, append_assoc, length-append}
 use Rattle.mono_machine.specs.declared.events.Limits.{Limits}
 use Rattle.mono_text.specs.Lines.{Line}
-use Rattle.mono_scripts.specs.Script.{Kind, Script, MayStand, AllMayStand, IsSoundKind, AreSoundKinds, IsSound}
+use Rattle.mono_scripts.specs.Script.{Kind, MayStand, AllMayStand, IsSoundKind, AreSoundKinds}
 use Rattle.mono_scripts.specs.Following.{MayFollow, goes_on, ends, done_text}
 use Rattle.mono_scripts.specs.Written.{body_text, kind_texts, script_texts, limits_text, ended, IsScript}
 use Rattle.mono_scripts.specs.declared.scripts.BodyLine.{BodyLine}

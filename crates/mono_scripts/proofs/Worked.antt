@@ -4,20 +4,18 @@ use Rattle.std.proofs.lemmas.List.{append-nil}
 use Rattle.std.specs.Fmt.{decimal}
 use Rattle.mono_text.specs.Reading.{digits_from}
 use Rattle.mono_text.proofs.Digits.{digits_found}
-use Rattle.std.proofs.Common.{◌+◌, ◌++◌, ◌∷◌, ◌≤◌, length, map, flat_map, arith, length-append, subst}
+use Rattle.std.proofs.Common.{◌++◌, ◌∷◌, ◌≤◌, length, map, flat_map, arith, length-append, subst}
 use Rattle.std.proofs.lemmas.List.{length-map}
 use Rattle.mono_text.specs.Lines.{lines}
 use Rattle.mono_scripts.specs.Beginnings.{Begins, missing}
-use Rattle.mono_scripts.specs.Script.{Kind, Script, IsSound}
-use Rattle.mono_scripts.specs.Written.{IsScript, ended, script_texts, kind_texts, body_text, task_lines}
+use Rattle.mono_scripts.specs.Script.{Kind, Script}
+use Rattle.mono_scripts.specs.Written.{IsScript, ended, script_texts, kind_texts, body_text}
 use Rattle.std.proofs.Common.{Option, None}
 use Rattle.mono_machine.specs.declared.events.Reply.{Reply}
 use Rattle.mono_machine.specs.declared.events.Reply.TheVariants as reply
 use Rattle.mono_machine.specs.declared.events.End.TheVariants as end
 use Rattle.mono_scripts.specs.Driven.{kept, Gives, turn_at, start_of}
 use Rattle.mono_scripts.specs.declared.scripts.BodyLine.TheVariants as body
-use Rattle.std.proofs.Common.{◌<◌}
-use Rattle.mono_machine.specs.declared.events.Limits.{Limits}
 use Rattle.mono_text.specs.Lines.{Line}
 use Rattle.mono_scripts.specs.Script.{MayStand}
 use Rattle.mono_scripts.proofs.Fronts.{body_once, may_fit, no_done}

@@ -1,5 +1,5 @@
 -- A form of lines, and the first line at which an input leaves it.
-use Rattle.std.specs.Prelude.{◌≡◌, ◌⊎◌, ℕ, ◌+◌, ◌-◌, ◌≤◌, List, ◌++◌, length, take}
+use Rattle.std.specs.Prelude.{◌≡◌, ℕ, ◌+◌, ◌-◌, ◌≤◌, List, ◌++◌, length, take}
 use Rattle.mono_text.specs.Lines.{Line}
 
 -- The lines can be gone on with to some that are in the form.

@@ -1,5 +1,5 @@
 -- How a journal is written, and what a run of a script answers.
-use Rattle.std.specs.Prelude.{◌≡◌, ℕ, ◌<◌, ◌≤◌, ◌^◌, List, [], ◌∷◌, ◌++◌, flat_map, Option, Some, None, codes, decimal}
+use Rattle.std.specs.Prelude.{ℕ, List, [], ◌∷◌, ◌++◌, flat_map, Option, Some, None, codes, decimal}
 use Rattle.mono_text.specs.Written.{event_text, report_text}
 use Rattle.mono_scripts.specs.Driven.{Entry, ran, now, park}
 

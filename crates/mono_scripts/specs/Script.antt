@@ -1,5 +1,5 @@
 -- Scripts, and which of them are sound.
-use Rattle.std.specs.Prelude.{◌≡◌, ◌<◌, ◌≤◌, ℕ, ◌+◌, ◌^◌, ◌==◌, ◌||◌, Bool, true, false, if◌then◌else◌, List, [], ◌∷◌, ◌++◌, length}
+use Rattle.std.specs.Prelude.{◌≡◌, ◌<◌, ◌≤◌, ℕ, ◌+◌, ◌^◌, ◌==◌, if◌then◌else◌, List, [], ◌∷◌, ◌++◌, length}
 use Rattle.mono_machine.specs.declared.events.Limits.{Limits}
 use Rattle.mono_text.specs.Written.{FitLimits}
 use Rattle.mono_scripts.specs.declared.scripts.BodyLine.{BodyLine}

@@ -1,5 +1,5 @@
 -- Worked scripts: the turns that they give.
-use Rattle.std.specs.Prelude.{◌≡◌, ℕ, List, [], ◌∷◌, ◌++◌, map, flat_map, Some, None, codes}
+use Rattle.std.specs.Prelude.{ℕ, List, [], ◌∷◌, ◌++◌, Some, None, codes}
 use Rattle.mono_model.specs.declared.Ended.TheVariants as ended
 use Rattle.mono_machine.specs.declared.events.Act.TheVariants as act
 use Rattle.mono_machine.specs.declared.events.How.TheVariants as how
@@ -13,7 +13,7 @@ use Rattle.mono_machine.specs.declared.events.Reply.TheVariants as reply
 use Rattle.mono_machine.specs.declared.events.Report.TheVariants as report
 use Rattle.mono_text.specs.Lines.{lines}
 use Rattle.mono_scripts.specs.Script.{Kind, Script}
-use Rattle.mono_scripts.specs.Written.{Spells, IsFirstBad, ended, script_texts}
+use Rattle.mono_scripts.specs.Written.{Spells, IsFirstBad}
 use Rattle.mono_scripts.specs.Driven.{Entry, ran, now, park, Driven}
 use Rattle.mono_scripts.specs.declared.scripts.BodyLine.{BodyLine}
 use Rattle.mono_scripts.specs.declared.scripts.BodyLine.TheVariants as body
