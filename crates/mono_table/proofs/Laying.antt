@@ -1,12 +1,12 @@
 -- What a write to one child does to the table that the children lay out.
-use Rattle.std.proofs.Common.{◌≡◌, ◌≢◌, ◌<◌, ◌≤◌, ◌+◌, ◌-◌, ◌*◌, ◌/◌, ◌%◌, ℕ, zero, suc, Bool, true, false, List, [], ◌∷◌, ◌++◌, length, get_or, set, Some, None, Option, refl, ap, sym, subst, ◌∙◌, inl, inr, arith, eq-eqb, ne_eqb, add-one}
-use Rattle.std.specs.Prelude.{◌==◌, slice_set, is_some, ◌⊎◌, nat_lt}
+use Rattle.std.proofs.Common.{◌≡◌, ◌≢◌, ◌<◌, ◌≤◌, ◌+◌, ◌-◌, ◌*◌, ◌/◌, ◌%◌, ℕ, zero, suc, Bool, true, false, List, [], ◌∷◌, length, get_or, set, Some, None, refl, ap, sym, subst, ◌∙◌, inl, inr, arith, eq-eqb, ne_eqb, add-one}
+use Rattle.std.specs.Prelude.{slice_set, is_some, ◌⊎◌, nat_lt}
 use borrow.Author.Tests.{ltb-true}
 use Rattle.std.proofs.lemmas.Bool.{cases_lt, cases_eq}
 use Rattle.std.proofs.lemmas.List.{get_or_past, get_or-set_same, get_or-set_other, length-set, length-append, get_or_append_left, get_or_push}
-use Rattle.std.proofs.lemmas.Nat.{div-add-mod', div-mul-add, mod-mul-add, mod_below, div_below}
+use Rattle.std.proofs.lemmas.Nat.{div-add-mod', div-mul-add, mod-mul-add, mod_below}
 use Rattle.std.proofs.Math.Nat.{mul-le-mul_left}
-use Rattle.mono_model.specs.Table.{Table, value_at, count_of, table_of, with_next, with_value, without}
+use Rattle.mono_model.specs.Table.{Table, value_at, count_of, with_next, with_value, without}
 use Rattle.mono_model.proofs.Counts.{count_of-with_next}
 use Rattle.mono_model.proofs.TableOf.{length-table_of, value_at-table_of, table_of-same, table_of-set, table_of-next}
 use Rattle.mono_table.specs.Laying.{child_at, look_in, laid_table, left_of, IsLaid}
