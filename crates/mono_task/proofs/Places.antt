@@ -1,11 +1,12 @@
 -- The place of the task whose turn runs, and what is asked of a place.
-use Rattle.std.proofs.Common.{◌≡◌, ◌≢◌, ◌<◌, ℕ, true, false, cond, List, map, length, Some, Err, Option, refl, ap, sym, ◌∙◌, inl, inr, arith, ne_eqb, eq-eqb}
+use Rattle.std.proofs.Common.{◌≡◌, ◌≢◌, ◌<◌, ℕ, true, false, cond, List, map, length, Some, Ok, Err, Option, refl, ap, sym, ◌∙◌, inl, inr, arith, ne_eqb, eq-eqb}
 use Rattle.std.specs.Prelude.{nat_lt}
 use Rattle.std.proofs.lemmas.List.{get_or_past, length-map}
 use Rattle.std.proofs.lemmas.Bool.{cases_lt}
 use Rattle.mono_model.specs.Table.{value_at}
 use Rattle.mono_model.specs.Joins.{kept_task, kept_value}
 use Rattle.mono_model.specs.declared.task_error.TaskError.TheVariants.{NoTask}
+use Rattle.mono_task.specs.Work.{has_finished, over_answer}
 use Rattle.mono_task.specs.declared.entries.Entry.{Entry}
 use Rattle.mono_task.specs.declared.entries.Entry.TheVariants.{Gone}
 use Rattle.mono_task.specs.Entries.{task_of, is_running}
@@ -37,3 +38,10 @@ pub kept_at : {O : Type 0} (queue : List ℕ) (entries : List (Entry O)) (limit 
 kept_at {O} queue entries limit t inside =
     ap (λ b. cond b (kept_value (value_at (map task_of entries) t)) (Err NoTask)) (ap (λ n. nat_lt t n) (length-map entries task_of) ∙ lt_true t (length entries) inside)
     ∙ ap kept_value (value_at-entries entries t)
+
+-- whether the task at a place has finished
+pub over_at : {O : Type 0} (queue : List ℕ) (entries : List (Entry O)) (limit t : ℕ) → t < length entries
+    → over_answer (tasks_of queue entries limit) t ≡ Ok (has_finished (task_of (entry_at entries t)))
+over_at {O} queue entries limit t inside =
+    ap (λ b. cond b (Ok (has_finished (value_at (map task_of entries) t))) (Err NoTask)) (ap (λ n. nat_lt t n) (length-map entries task_of) ∙ lt_true t (length entries) inside)
+    ∙ ap (λ v. Ok (has_finished v)) (value_at-entries entries t)

@@ -319,11 +319,13 @@ impl<O: Drop> Tasks<O> {
     pub fn has_finished(&self, task: u64) -> Result<bool, TaskError>
         ensures { result ≡ over_answer self.now.tasks task }
     {
-        let at = task as usize;
-        if at >= self.entries.len() {
+        if task >= self.entries.len() {
             return Err(TaskError::NoTask);
         }
-        Ok(self.entries[at].has_finished())
+        match self.entries.get(task) {
+            None => Ok(true),
+            Some(entry) => Ok(entry.has_finished()),
+        }
     }
 
     /// Whether a task has finished. Refused as `drop_join` is.
