@@ -13,7 +13,7 @@ use Rattle.mono_model.specs.declared.error.SleepError.{SleepError}
 use Rattle.mono_model.specs.declared.error.SleepError.TheVariants as why
 use Rattle.mono_model.specs.declared.error.Error.TheVariants as cause
 use Rattle.mono_time.specs.Sleeps.{SleepTable, Added, added, armed, fresh, elapsed, with_table, at_tick, changed_value, removed, removed_value, fired, waker_of}
-use Rattle.mono_time.specs.Timers.{sleeps_of}
+use Rattle.mono_time.specs.Timers.{sleeps_of, elapsed_tick}
 use Rattle.mono_session.specs.Keeper.{Session, Keeper, closing_tick, last_tick, with_sessions, with_greatest, without_session, if_granted, is_open, open_answer, opened, beat_answer, beaten, beaten_value, close_answer, closed}
 use Rattle.mono_session.specs.Memory.{OrLacksMemory}
 use Rattle.mono_session.specs.Sleeping.{Arms}
@@ -143,9 +143,9 @@ nonzero limit g e = grind (arith, nat_tests)
 pub opens : (old new : Sessions) (k : Keeper) (limit session tick : ℕ) → StandsFor old k → is_full k.sessions k.most_sessions ≡ false → nat_lt last_tick (k.greatest + limit) ≡ false → (limit == 0) ≡ false
     → Arms (sleeps_of old.timers) tick (Ok session) (sleeps_of new.timers) → tick ≡ k.greatest + limit
     → ((q : ℕ) → get nat_eq new.limits q ≡ cond (nat_eq session q) (Some limit) (get nat_eq old.limits q)) → (get nat_eq old.limits session ≡ None → open_count new ≡ open_count old + 1)
-    → new.entries ≡ old.entries → new.most_entries ≡ old.most_entries
+    → new.entries ≡ old.entries → new.most_entries ≡ old.most_entries → elapsed_tick new.timers ≡ elapsed_tick old.timers
     → OrLacksMemory Memory (open_answer k limit) k (opened k limit) (StandsFor new) (Ok session)
-opens old new k limit session tick stands full late none armed-so is limits count entries most =
+opens old new k limit session tick stands full late none armed-so is limits count entries most rests =
     inl (
       ap Ok number ∙ sym told,
       subst (StandsFor new) (sym granted) (record {
@@ -160,6 +160,7 @@ opens old new k limit session tick stands full late none armed-so is limits coun
           };
         };
         timely = subst AreTimely granted (open_timely k limit stands.timely);
+        rests = rests ∙ stands.rests;
       }),
     )
   where
@@ -178,9 +179,9 @@ opens old new k limit session tick stands full late none armed-so is limits coun
 -- ---- beat
 pub beats : (old new : Sessions) (k : Keeper) (s limit tick : ℕ) → StandsFor old k → get nat_eq old.limits s ≡ Some limit → nat_lt last_tick (k.greatest + limit) ≡ false → tick ≡ k.greatest + limit
     → sleeps_of new.timers ≡ changed_value (value_at (sleeps_of old.timers).table s) (sleeps_of old.timers) s (λ kept. at_tick (sleeps_of old.timers).greatest tick (waker_of kept))
-    → new.limits ≡ old.limits → new.entries ≡ old.entries → new.most_entries ≡ old.most_entries
+    → new.limits ≡ old.limits → new.entries ≡ old.entries → new.most_entries ≡ old.most_entries → elapsed_tick new.timers ≡ elapsed_tick old.timers
     → (Ok tt ≡ beat_answer k s) × StandsFor new (beaten k s)
-beats old new k s limit tick stands at late is sleeps limits entries most = by (value_at k.sessions s) refl (sym at ∙ stands.matches.beside.limits s)
+beats old new k s limit tick stands at late is sleeps limits entries most rests = by (value_at k.sessions s) refl (sym at ∙ stands.matches.beside.limits s)
   where
     by : (v : Option Session) → value_at k.sessions s ≡ v → Some limit ≡ limit_in v → (Ok tt ≡ beat_answer k s) × StandsFor new (beaten k s)
     by None here f = cc
@@ -203,6 +204,7 @@ beats old new k s limit tick stands at late is sleeps limits entries most = by (
               };
             };
             timely = beat_timely k s (Some session) here stands.timely;
+            rests = rests ∙ stands.rests;
           }),
         )
       where
@@ -214,9 +216,9 @@ beats old new k s limit tick stands at late is sleeps limits entries most = by (
         ]
 
 -- ---- close
-pub closes : (old new : Sessions) (k : Keeper) (s : ℕ) → StandsFor old k → is_some (get nat_eq old.limits s) ≡ true → sleeps_of new.timers ≡ removed (sleeps_of old.timers) s → Beside new (without_session k s)
+pub closes : (old new : Sessions) (k : Keeper) (s : ℕ) → StandsFor old k → is_some (get nat_eq old.limits s) ≡ true → sleeps_of new.timers ≡ removed (sleeps_of old.timers) s → Beside new (without_session k s) → elapsed_tick new.timers ≡ elapsed_tick old.timers
     → (Ok tt ≡ close_answer k s) × StandsFor new (closed k s)
-closes old new k s stands at sleeps beside = by (value_at k.sessions s) refl (sym at ∙ ap is_some (stands.matches.beside.limits s))
+closes old new k s stands at sleeps beside rests = by (value_at k.sessions s) refl (sym at ∙ ap is_some (stands.matches.beside.limits s))
   where
     by : (v : Option Session) → value_at k.sessions s ≡ v → true ≡ is_some (limit_in v) → (Ok tt ≡ close_answer k s) × StandsFor new (closed k s)
     by None here f = cc
@@ -226,6 +228,7 @@ closes old new k s stands at sleeps beside = by (value_at k.sessions s) refl (sy
           subst (StandsFor new) (sym (granted-by (close_answer k s) tt k (without_session k s) told)) (record {
             matches = record { sleeps = sleeps ∙ ap (λ sl. removed sl s) stands.matches.sleeps ∙ sleep_removed k s session here; beside = beside };
             timely = close_timely k s stands.timely;
+            rests = rests ∙ stands.rests;
           }),
         )
 
@@ -258,10 +261,11 @@ nonzero-tells n e = grind (arith, nat_tests)
 
 -- ---- what is as it was
 pub stands_alike : (old new : Sessions) (k : Keeper) → sleeps_of new.timers ≡ sleeps_of old.timers → ((q : ℕ) → get nat_eq new.limits q ≡ get nat_eq old.limits q) → open_count new ≡ open_count old
-    → new.entries ≡ old.entries → new.most_entries ≡ old.most_entries → StandsFor old k → StandsFor new k
-stands_alike old new k sleeps limits count entries most stands = record {
+    → new.entries ≡ old.entries → new.most_entries ≡ old.most_entries → elapsed_tick new.timers ≡ elapsed_tick old.timers → StandsFor old k → StandsFor new k
+stands_alike old new k sleeps limits count entries most rests stands = record {
   matches = record { sleeps = sleeps ∙ stands.matches.sleeps; beside = beside_alike old new k limits count entries most stands.matches.beside };
   timely = stands.timely;
+  rests = rests ∙ stands.rests;
 }
 
 pub unchanged_by : (old new : SleepTable) (nanos : ℕ) (e : SleepError) → Added old nanos (Err e) new → new ≡ old

@@ -3,7 +3,7 @@ use Rattle.std.specs.Prelude.{◌≡◌, ◌<◌, ◌≤◌, ℕ, true, map, Opt
 use Rattle.std.specs.HashMap.{get, hash_map_len}
 use Rattle.mono_model.specs.Table.{value_at, count_of}
 use Rattle.mono_time.specs.Sleeps.{Kept, armed, SleepTable}
-use Rattle.mono_time.specs.Timers.{sleeps_of}
+use Rattle.mono_time.specs.Timers.{sleeps_of, elapsed_tick, credit_left}
 use Rattle.mono_session.specs.Keeper.{Session, Keeper, closing_tick}
 use Rattle.mono_session.specs.Entered.{Entered}
 use Rattle.mono_session.specs.declared.keeper.Sessions.{Sessions}
@@ -24,6 +24,10 @@ limit_in (Some session) = Some session.limit
 abbrev pub open_count : Sessions → ℕ
 open_count sessions = hash_map_len sessions.limits
 
+-- how many steps the wheel has still to take at most for the open sessions
+abbrev pub steps_left : Sessions → ℕ
+steps_left sessions = credit_left sessions.timers
+
 -- the limits and the entries are those of the keeper
 pub record Beside (sessions : Sessions) (keeper : Keeper) : Type 0 where
   pub limits : (s : ℕ) → get nat_eq sessions.limits s ≡ limit_in (value_at keeper.sessions s)
@@ -40,7 +44,9 @@ pub record Matches (sessions : Sessions) (keeper : Keeper) : Type 0 where
 abbrev pub AreTimely : Keeper → Type 0
 AreTimely keeper = (s : ℕ) (session : Session) → value_at keeper.sessions s ≡ Some session → (session.last_beat ≤ keeper.greatest) × (keeper.greatest < closing_tick session)
 
--- The tables are those of the keeper, in which no session is late. Each call on the sessions is a step of it.
+-- The tables are those of the keeper, in which no session is late, and no clock step is under way. Each call on the
+-- sessions is a step of it.
 pub record StandsFor (sessions : Sessions) (keeper : Keeper) : Type 0 where
   pub matches : Matches sessions keeper
   pub timely : AreTimely keeper
+  pub rests : elapsed_tick sessions.timers ≡ keeper.greatest

@@ -1,8 +1,9 @@
 // Sleeps for the ticks at which sessions are closed.
-ghost use Rattle.std.specs.Prelude.{◌≡◌, ◌+◌, IfSome, IsSome, is_some, not, nat_lt};
+ghost use Rattle.std.specs.Prelude.{◌≡◌, ◌≤◌, ◌+◌, ◌-◌, IfSome, IsSome, is_some, not, nat_lt};
 ghost use Rattle.mono_model.specs.Ticks.{up};
 ghost use Rattle.mono_time.specs.Instants.{nanos_of};
-ghost use Rattle.mono_time.specs.Timers.{sleeps_of};
+ghost use Rattle.mono_time.specs.Timers.{sleeps_of, elapsed_tick, credit_left};
+ghost use Rattle.mono_wheel.specs.Credit.{most_takes};
 ghost use Rattle.mono_session.specs.Keeper.{last_tick};
 ghost use Rattle.mono_session.specs.Sleeping.{Arms};
 
@@ -26,7 +27,9 @@ pub fn deadline_after(tick: u64, limit: u64) -> Option<Instant>
 
 /// A new sleep that is armed for a deadline and wakes nobody. The answer is its number, or the timers' refusal.
 pub fn add_armed(timers: &mut Timers, alloc: Global, deadline: Instant) -> Result<u64, SleepError>
-    ensures { Arms (sleeps_of timers.old) (up (nanos_of deadline)) result (sleeps_of timers.new) }
+    ensures armed { Arms (sleeps_of timers.old) (up (nanos_of deadline)) result (sleeps_of timers.new) }
+    ensures elapsed { elapsed_tick timers.new ≡ elapsed_tick timers.old }
+    ensures raise { credit_left timers.new ≤ credit_left timers.old + most_takes (up (nanos_of deadline) - elapsed_tick timers.old) }
 {
     let sleep = timers.add(alloc, deadline)?;
     let _ = timers.reset(sleep, deadline);

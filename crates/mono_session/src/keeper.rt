@@ -1,14 +1,15 @@
 // The sessions, over timers and queues.
-ghost use Rattle.std.specs.Prelude.{◌≡◌, ◌≤◌, ◌+◌, ◌++◌, ◌∷◌, [], ℕ, List, true, false, if◌then◌else◌, IfOk, vec_len, vec_capacity};
+ghost use Rattle.std.specs.Prelude.{◌≡◌, ◌≤◌, ◌+◌, ◌++◌, ◌∷◌, [], ℕ, List, true, false, Some, if◌then◌else◌, IfOk, vec_len, vec_capacity};
 ghost use Rattle.mono_model.specs.Due.{ListsDue};
-ghost use Rattle.mono_model.specs.Table.{count_of};
+ghost use Rattle.mono_model.specs.Table.{value_at, count_of};
 ghost use Rattle.mono_time.specs.Instants.{nanos_of};
 ghost use Rattle.mono_time.specs.Sleeps.{removed};
-ghost use Rattle.mono_time.specs.Timers.{sleeps_of};
-ghost use Rattle.mono_session.specs.Keeper.{Keeper, no_sessions, is_open, open_answer, opened, beat_answer, beaten, close_answer, closed, acquire_answer, acquired, release_answer, released, owner_answer, with_greatest, without_session};
+ghost use Rattle.mono_time.specs.Timers.{sleeps_of, elapsed_tick};
+ghost use Rattle.mono_wheel.specs.Credit.{most_takes};
+ghost use Rattle.mono_session.specs.Keeper.{Keeper, Session, no_sessions, is_open, open_answer, opened, beat_answer, beaten, close_answer, closed, acquire_answer, acquired, release_answer, released, owner_answer, with_greatest, without_session};
 ghost use Rattle.mono_session.specs.Memory.{OrLacksMemory};
 ghost use Rattle.mono_session.specs.Steps.{closing_value, greatest_at, without_all};
-ghost use Rattle.mono_session.specs.Stands.{StandsFor, Beside, open_count};
+ghost use Rattle.mono_session.specs.Stands.{StandsFor, Beside, open_count, steps_left};
 ghost use Rattle.mono_session.specs.declared.error.SessionError.TheVariants as error;
 
 use crate::SessionError;
@@ -51,7 +52,8 @@ fn put(numbers: &mut Vec<u64>, number: u64)
 impl Sessions {
     /// No sessions, of which at most `sessions` may be open, with at most `entries` entries in all queues.
     pub fn new(alloc: Global, sessions: u64, entries: u64) -> Result<Sessions, AllocError>
-        ensures { IfOk result (λ made. StandsFor made (no_sessions sessions entries)) }
+        ensures stands { IfOk result (λ made. StandsFor made (no_sessions sessions entries)) }
+        ensures left { IfOk result (λ made. steps_left made ≡ 0) }
     {
         let timers = Timers::new(alloc, sessions, true)?;
         Ok(Sessions {
@@ -69,7 +71,8 @@ impl Sessions {
     /// exactly where it would be closed at a tick above 2^63 - 1, then for a limit of zero. Want of memory comes last. No
     /// refusal changes anything.
     pub fn open(&mut self, alloc: Global, limit_ms: u64) -> Result<u64, SessionError>
-        ensures { (k : Keeper) → StandsFor self.old k → OrLacksMemory error.Memory (open_answer k limit_ms) k (opened k limit_ms) (StandsFor self.new) result }
+        ensures step { (k : Keeper) → StandsFor self.old k → OrLacksMemory error.Memory (open_answer k limit_ms) k (opened k limit_ms) (StandsFor self.new) result }
+        ensures raise { (k : Keeper) → StandsFor self.old k → steps_left self.new ≤ steps_left self.old + most_takes limit_ms }
     {
         if self.timers.is_full() {
             return Err(SessionError::AtCapacity);
@@ -95,7 +98,8 @@ impl Sessions {
     /// Refused as invalid exactly where it is open and would be closed at a tick above 2^63 - 1, and exactly where it is not
     /// open.
     pub fn beat(&mut self, session: u64) -> Result<(), SessionError>
-        ensures { (k : Keeper) → StandsFor self.old k → (result ≡ beat_answer k session) × StandsFor self.new (beaten k session) }
+        ensures step { (k : Keeper) → StandsFor self.old k → (result ≡ beat_answer k session) × StandsFor self.new (beaten k session) }
+        ensures raise { (k : Keeper) (kept : Session) → StandsFor self.old k → value_at k.sessions session ≡ Some kept → steps_left self.new ≤ steps_left self.old + most_takes kept.limit }
     {
         let Some(limit) = self.limits.get(&session).copied() else {
             return Err(SessionError::NoSession);
@@ -109,7 +113,8 @@ impl Sessions {
 
     /// Closes a session: it leaves all queues. Refused exactly where it is not open.
     pub fn close(&mut self, session: u64) -> Result<(), SessionError>
-        ensures { (k : Keeper) → StandsFor self.old k → (result ≡ close_answer k session) × StandsFor self.new (closed k session) }
+        ensures step { (k : Keeper) → StandsFor self.old k → (result ≡ close_answer k session) × StandsFor self.new (closed k session) }
+        ensures raise { steps_left self.new ≤ steps_left self.old }
     {
         if !self.limits.contains_key(&session) {
             return Err(SessionError::NoSession);
@@ -124,6 +129,8 @@ impl Sessions {
         ensures sleeps { sleeps_of self.new.timers ≡ removed (sleeps_of self.old.timers) session }
         ensures beside { (k : Keeper) → Beside self.old k → Beside self.new (without_session k session) }
         ensures count { open_count self.new + (if result then 1 else 0) ≡ open_count self.old }
+        ensures elapsed { elapsed_tick self.new.timers ≡ elapsed_tick self.old.timers }
+        ensures raise { steps_left self.new ≤ steps_left self.old }
     {
         let _ = self.timers.remove(session);
         self.entries.leave_all(session);
@@ -135,7 +142,8 @@ impl Sessions {
     /// Refused at capacity exactly where the entries of all queues are at the limit, then exactly where it is not open, then
     /// as doubled exactly where it stands there already. Want of memory comes last. No refusal changes anything.
     pub fn acquire(&mut self, _alloc: Global, session: u64, key: u64) -> Result<bool, SessionError>
-        ensures { (k : Keeper) → StandsFor self.old k → OrLacksMemory error.Memory (acquire_answer k session key) k (acquired k session key) (StandsFor self.new) result }
+        ensures step { (k : Keeper) → StandsFor self.old k → OrLacksMemory error.Memory (acquire_answer k session key) k (acquired k session key) (StandsFor self.new) result }
+        ensures raise { steps_left self.new ≡ steps_left self.old }
     {
         if self.entries.len() as u64 >= self.most_entries {
             return Err(SessionError::AtCapacity);
@@ -154,7 +162,8 @@ impl Sessions {
 
     /// A session leaves the queue of a key. Refused exactly where it is not open, then exactly where it does not stand there.
     pub fn release(&mut self, session: u64, key: u64) -> Result<(), SessionError>
-        ensures { (k : Keeper) → StandsFor self.old k → (result ≡ release_answer k session key) × StandsFor self.new (released k session key) }
+        ensures step { (k : Keeper) → StandsFor self.old k → (result ≡ release_answer k session key) × StandsFor self.new (released k session key) }
+        ensures raise { steps_left self.new ≡ steps_left self.old }
     {
         if !self.limits.contains_key(&session) {
             return Err(SessionError::NoSession);
@@ -185,10 +194,14 @@ impl Sessions {
     /// sessions whose last beat plus limit is not above it are closed, and leave all queues, whose order stays.
     ///
     /// Their numbers are appended to `closed`, which has room for all that are open, in the order of the ticks at which they
-    /// are closed; in any order within one tick.
+    /// are closed; in any order within one tick (`step`).
+    ///
+    /// The steps of the wheel are no more than its steps that are left fall by (`steps`). They are none at first, and only a
+    /// session that is opened or beaten may raise them, by as many as its limit tells (`raise`).
     pub fn clock<L: Ledger>(&mut self, now: Instant, closed: &mut Vec<u64>, steps: &mut Steps<L>)
         requires { vec_len closed.old + open_count self.old ≤ vec_capacity closed.old }
-        ensures { (k : Keeper) → StandsFor self.old k → (due : List ℕ) × (closed.new.items ≡ closed.old.items ++ due) × ListsDue closing_value k.sessions (greatest_at k (nanos_of now)) due × StandsFor self.new (without_all (with_greatest k (greatest_at k (nanos_of now))) due) }
+        ensures step { (k : Keeper) → StandsFor self.old k → (due : List ℕ) × (closed.new.items ≡ closed.old.items ++ due) × ListsDue closing_value k.sessions (greatest_at k (nanos_of now)) due × StandsFor self.new (without_all (with_greatest k (greatest_at k (nanos_of now))) due) }
+        ensures steps { steps.new + steps_left self.new ≤ steps.old + steps_left self.old }
     {
         while let Some((session, _)) = self.timers.clock(now, steps) {
             self.close_due(session, closed);
@@ -202,6 +215,7 @@ impl Sessions {
         ensures listed { (k : Keeper) → Beside self.old k → is_open k session ≡ true → closed.new.items ≡ closed.old.items ++ session ∷ [] }
         ensures sleeps { sleeps_of self.new.timers ≡ removed (sleeps_of self.old.timers) session }
         ensures beside { (k : Keeper) → Beside self.old k → Beside self.new (without_session k session) }
+        ensures raise { steps_left self.new ≤ steps_left self.old }
     {
         if self.forget(session) {
             put(closed, session);

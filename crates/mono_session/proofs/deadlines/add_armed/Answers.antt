@@ -4,7 +4,7 @@ use Rattle.mono_time.specs.Timers.{sleeps_of}
 use Rattle.mono_session.proofs.Timed.{arms}
 use Rattle.mono_session.proofs.deadlines.add_armed.Goals as goal
 
-pub returns : goal.returns
-returns c =
+pub returns-clause-armed : goal.returns-clause-armed
+returns-clause-armed c =
     let added = c.in_ok-sleep.ensures.added in
     arms (sleeps_of c.args.timers.now) (sleeps_of c.add.new.self) (sleeps_of c.reset.new.self) (up (nanos_of c.args.deadline)) c.in_ok-sleep.sleep added.1 added.2 added.3 c.reset.ensures.sleeps

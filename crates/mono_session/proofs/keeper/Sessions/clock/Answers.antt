@@ -1,6 +1,6 @@
-use Rattle.std.proofs.Common.{◌≡◌, ℕ, List, [], ◌∷◌, ◌++◌, refl, sym, ap, subst, ◌∙◌, append_assoc, append-nil}
+use Rattle.std.proofs.Common.{arith, ◌≡◌, ℕ, List, [], ◌∷◌, ◌++◌, refl, sym, ap, subst, ◌∙◌, append_assoc, append-nil}
 use Rattle.mono_time.specs.Instants.{nanos_of}
-use Rattle.mono_time.specs.Sleeps.{at_clock, fired, removed, IsFiredFirst, IsNoneArmedUpTo}
+use Rattle.mono_time.specs.Sleeps.{SleepTable, at_clock, fired, removed, IsFiredFirst, IsNoneArmedUpTo}
 use Rattle.mono_time.specs.Timers.{sleeps_of}
 use Rattle.mono_session.specs.Keeper.{Keeper, with_greatest, without_session}
 use Rattle.mono_session.specs.Answers as answer
@@ -13,10 +13,11 @@ use Rattle.mono_session.proofs.Turns.{CloseInTurn, IsFirst, first_due, none_due,
 use Rattle.mono_session.proofs.keeper.Sessions.clock.Goals as goal
 
 pub loop-session-init : goal.loop-session-init
-loop-session-init g c = record { room = c.requires; turns = λ k st. ([], k, st.matches, refl, sym (append-nil c.args.closed.now.items), λ more turn. turn) }
+loop-session-init g c = record { steps = omega arith; room = c.requires; turns = λ k st. ([], k, st.matches, refl, sym (append-nil c.args.closed.now.items), λ more turn. turn) }
 
 pub loop-session-preserved : goal.loop-session-preserved
 loop-session-preserved g c = record {
+  steps = omega (arith, c.loop-session.invariant.steps, c.clock.ensures.steps, c.close_due.ensures.raise);
   room = c.close_due.ensures.room;
   turns = λ k st.
       let n = nanos_of c.args.now in
@@ -49,8 +50,8 @@ loop-session-preserved g c = record {
       );
 }
 
-pub returns : goal.returns
-returns g c = λ k st.
+pub returns-clause-step : goal.returns-clause-step
+returns-clause-step g c = λ k st.
     let n = nanos_of c.args.now in
     let at : Sessions = record { timers = c.loop-session.self.timers; limits = c.loop-session.self.limits; entries = c.loop-session.self.entries; most_entries = c.loop-session.self.most_entries } in
     let new : Sessions = record { timers = c.clock.new.self; limits = c.loop-session.self.limits; entries = c.loop-session.self.entries; most_entries = c.loop-session.self.most_entries } in
@@ -71,6 +72,7 @@ returns g c = λ k st.
       lists,
       record {
         matches = subst (Matches new) same matches;
+        rests = c.in_default.ensures.elapsed ∙ ap (λ (x : SleepTable). x.greatest) (told.1 ∙ ap (λ x. at_clock x n) was.2.sleeps) ∙ ap (λ (x : Keeper). x.greatest) same;
         timely = clock_timely k (without_all start due) n (answer.Closed due) st.timely (c.args.now.in_range, lists, refl);
       },
     )

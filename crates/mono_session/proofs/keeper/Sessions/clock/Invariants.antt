@@ -5,13 +5,14 @@ use Rattle.mono_time.specs.Sleeps.{armed_count}
 use Rattle.mono_time.specs.Timers.{sleeps_of}
 use Rattle.mono_session.specs.Keeper.{Keeper, with_greatest}
 use Rattle.mono_session.specs.Steps.{greatest_at, without_all}
-use Rattle.mono_session.specs.Stands.{Matches, StandsFor, open_count}
+use Rattle.mono_session.specs.Stands.{Matches, StandsFor, open_count, steps_left}
 use Rattle.mono_session.proofs.Turns.{CloseInTurn}
 use Rattle.mono_session.proofs.keeper.Sessions.clock.Given as goal
 
 -- There is room for the open sessions. What is closed in turn from here on, is closed in turn behind those that were closed.
 abbrev pub invariant-loop-session : goal.invariant-loop-session
 invariant-loop-session g l = record {
+  steps : l.steps + steps_left l.self ≤ l.fn.steps + steps_left l.fn.self;
   room : vec_len l.closed + open_count l.self ≤ vec_capacity l.closed;
   turns : (k : Keeper) → StandsFor l.fn.self k → (due : List ℕ) × (before : Keeper) × Matches l.self before
       × (with_greatest before (greatest_at before (nanos_of l.now)) ≡ without_all (with_greatest k (greatest_at k (nanos_of l.now))) due)
