@@ -8,4 +8,5 @@ pub mod Rate
 pub mod Waiting
 pub mod Validity
 pub mod Stepping
+pub mod Ended
 pub mod Worked
