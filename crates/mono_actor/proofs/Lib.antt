@@ -12,3 +12,4 @@ pub mod Spawning
 pub mod Listing
 pub mod Ringing
 pub mod Ending
+pub mod Coming

@@ -1,5 +1,5 @@
 -- What an actor got, of what was sent to it, and when it got a timeout.
-use Rattle.std.specs.Prelude.{◌≡◌, ◌<◌, ℕ, Bool, true, false, ◌==◌, if◌then◌else◌, List, [], ◌∷◌, ◌++◌, filter, IfSome}
+use Rattle.std.specs.Prelude.{◌≡◌, ◌<◌, ◌≤◌, ℕ, Bool, true, false, ◌==◌, if◌then◌else◌, List, [], ◌∷◌, ◌++◌, filter, Some, IfSome, Contains}
 use Rattle.mono_model.specs.Inbox.{is_waiting}
 use Rattle.mono_actor.specs.Actors.{Actors, no_actors}
 use Rattle.mono_actor.specs.declared.mailboxes.Letter.{Letter}
@@ -52,6 +52,36 @@ module _ {M : Type 0} where
   was_due a was [] = was
   was_due a was (told ∷ answers) = was_due a (due_after a was told) answers
 
+  -- the actor had no turn
+  abbrev pub has_no_turn_in : ℕ → Bool → Answer M → Bool
+  has_no_turn_in a rest (answer.Turn me what) = if me == a then false else rest
+  has_no_turn_in a rest told = rest
+
+  abbrev pub has_no_turn : ℕ → List (Answer M) → Bool
+  has_no_turn a [] = true
+  has_no_turn a (told ∷ answers) = has_no_turn_in a (has_no_turn a answers) told
+
+  -- A clock step came to a tick for which the actor waited, and listed it, and the actor had no turn since.
+  pub record HasRung (old : Actors M) (calls : List (Call M)) (answers : List (Answer M)) (new : Actors M) (a : ℕ) : Type 0 where
+    pub calls_before : List (Call M)
+    pub answers_before : List (Answer M)
+    pub nanos : ℕ
+    pub due : List ℕ
+    pub calls_after : List (Call M)
+    pub answers_after : List (Answer M)
+    pub before : Actors M
+    pub after : Actors M
+    pub tick : ℕ
+    pub calls_are : calls ≡ calls_before ++ call.Clock nanos ∷ calls_after
+    pub answers_are : answers ≡ answers_before ++ answer.Due due ∷ answers_after
+    pub run_before : Run old calls_before answers_before before
+    pub step : Step before (call.Clock nanos) (answer.Due due) after
+    pub run_after : Run after calls_after answers_after new
+    pub waited : waiting_at before a ≡ Some tick
+    pub come : tick ≤ after.greatest
+    pub listed : Contains due a
+    pub no_turn : has_no_turn a answers_after ≡ true
+
   -- how many messages to an actor wait for it by the calls and answers: all that was sent less all that it got
   abbrev pub IsEmptyFor : ℕ → List (Call M) → List (Answer M) → Type 0
   IsEmptyFor a calls answers = sent_to a calls answers ≡ got_by a answers
@@ -70,6 +100,12 @@ GotInOrderOfEach M = (calls : List (Call M)) (answers : List (Answer M)) (most_a
 abbrev pub TimeoutsAreDue : Type 0 → Type 0
 TimeoutsAreDue M = (calls : List (Call M)) (answers : List (Answer M)) (most_actors most_messages : ℕ) (old new : Actors M) (a : ℕ) →
     Run (no_actors most_actors most_messages) calls answers old → Step old call.Begin (answer.Turn a got.Timeout) new → IsEmptyFor a calls answers × (was_due a false answers ≡ true)
+
+-- A timeout comes only where a tick for which the actor waited was not above the greatest tick of the clock, in a clock step
+-- since which it had no turn.
+abbrev pub TimeoutsHaveCome : Type 0 → Type 0
+TimeoutsHaveCome M = (calls : List (Call M)) (answers : List (Answer M)) (most_actors most_messages : ℕ) (old new : Actors M) (a : ℕ) →
+    Run (no_actors most_actors most_messages) calls answers old → Step old call.Begin (answer.Turn a got.Timeout) new → HasRung (no_actors most_actors most_messages) calls answers old a
 
 -- Between any two calls no actor waits for a tick that has come. So it is listed in the first clock step that comes to it.
 abbrev pub NoneIsEverLate : Type 0 → Type 0
