@@ -1,6 +1,5 @@
 -- The words of a command.
-use Rattle.std.proofs.Common.{◌≡◌, ◌≢◌, ℕ, zero, suc, ◌+◌, ◌^◌, ◌<◌, ◌≤◌, List, [], ◌∷◌, ◌++◌, length, get_or, Some, None, Option, IfNone, IfSome, map, refl, sym, ap, subst, ◌∙◌, arith, codes, lit≤, lit<}
-use Rattle.std.proofs.lemmas.List.{append-nil, length-map}
+use Rattle.std.proofs.Common.{◌≡◌, ◌≢◌, ℕ, ◌^◌, ◌<◌, ◌≤◌, List, [], ◌∷◌, length, get_or, Some, None, Option, refl, sym, ap, subst, ◌∙◌, arith, codes}
 use Rattle.std.specs.Prelude.{nat_eq, ◌&&◌, Bool, true, false, if◌then◌else◌}
 use Rattle.std.specs.Fmt.{decimal}
 use Rattle.mono_machine.specs.declared.events.Limits.{Limits}
@@ -10,9 +9,7 @@ use Rattle.mono_text.specs.Reading.{Read, number_at}
 use Rattle.mono_script.specs.declared.command.Command.{Command}
 use Rattle.mono_script.specs.declared.command.Command.TheVariants as command
 use Rattle.mono_script.specs.Command.{strategy_text, command_words, FitsCommand, AreLimits, AreLoad, IsCommand, IsNoReplay, IsNoLoad, IsNoCommand}
-use Rattle.mono_text.specs.Written.{FitLimits}
-use Rattle.mono_text.proofs.Digits.{digits_found, digits_again}
-use Rattle.mono_text.proofs.Numbers.{if_none, none_so, whole, no_number, not_whole, reads_whole}
+use Rattle.mono_text.proofs.Numbers.{reads_whole}
 
 -- ---- the words
 

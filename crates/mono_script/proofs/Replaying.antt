@@ -1,24 +1,7 @@
 -- The answer so far, and what is left.
-use Rattle.std.proofs.Common.{◌≡◌, ℕ, zero, suc, ◌+◌, ◌-◌, ◌<◌, ◌≤◌, ◌^◌, List, [], ◌∷◌, ◌++◌, length, Option, Some, None, Bool, true, false, nat_eq, flat_map, refl, sym, ap, subst, ◌∙◌, arith, inl, inr, append_assoc, length-append, codes}
-use Rattle.std.proofs.lemmas.Bool.{cases_Bool, eqb-true}
+use Rattle.std.proofs.Common.{◌≡◌, ℕ, ◌+◌, ◌<◌, ◌≤◌, List, [], ◌∷◌, ◌++◌, length, flat_map, refl, sym, ap, subst, ◌∙◌, arith, append_assoc, length-append}
 use Rattle.std.proofs.lemmas.List.{append-nil}
-use Rattle.std.proofs.lemmas.Fmt.{decimal_is_IsNumeral_wide}
-use Rattle.std.proofs.lemmas.Grind.{common_steps}
-use Rattle.std.proofs.lemmas.Str.Parse.{digit_from_value}
-use Rattle.std.specs.Fmt.{decimal}
-use Rattle.std.specs.Str.Parse.{AllDigits}
-use Rattle.std.specs.Prelude.{◌==◌}
-use Rattle.mono_machine.specs.declared.events.Act.{Act}
-use Rattle.mono_machine.specs.declared.events.Act.TheVariants as act
-use Rattle.mono_machine.specs.declared.events.How.{How}
-use Rattle.mono_machine.specs.declared.events.How.TheVariants as how
-use Rattle.mono_machine.specs.declared.events.Query.TheVariants as query
-use Rattle.mono_machine.specs.declared.events.TurnStep.{TurnStep}
-use Rattle.mono_machine.specs.declared.events.TurnStep.TheVariants as step
-use Rattle.mono_machine.specs.declared.events.End.{End}
-use Rattle.mono_machine.specs.declared.events.End.TheVariants as end
 use Rattle.mono_machine.specs.declared.events.Event.{Event}
-use Rattle.mono_machine.specs.declared.events.Event.TheVariants as event
 use Rattle.mono_machine.specs.declared.events.Report.{Report}
 use Rattle.mono_machine.specs.declared.events.Limits.{Limits}
 use Rattle.mono_machine.specs.declared.events.Blocking.{Blocking}
@@ -26,8 +9,8 @@ use Rattle.mono_exec.specs.declared.executor.Exec.{Exec}
 use Rattle.mono_machine.specs.Machine.{Machine, start_machine}
 use Rattle.mono_machine.specs.Steps.{Step, Run}
 use Rattle.mono_exec.specs.Stands.{Stands}
-use Rattle.mono_text.specs.Written.{how_text, act_text, step_text, end_text, parts_text, event_text, FitsAct, FitsStep, FitsEnd, FitSteps, FitsEvent, report_line}
-use Rattle.mono_text.specs.Lines.{AreLines, IsFirstWrong, Line, onto_first, lines, IsEventLine, AreEventLines, IsFirstBad, BeginsWith, BeginsWithNone}
+use Rattle.mono_text.specs.Written.{event_text, report_line}
+use Rattle.mono_text.specs.Lines.{Line, lines, IsEventLine, AreEventLines, IsFirstBad, BeginsWith, BeginsWithNone}
 use Rattle.mono_script.specs.Answers.{IsReplayed, Answers}
 use Rattle.mono_text.proofs.Lined.{ended, no_event, each_more, lines_front, no_feed_event, first_line}
 

@@ -4,7 +4,7 @@ use Rattle.mono_script.specs.declared.command.Command.{Command}
 use Rattle.mono_script.specs.declared.command.Command.TheVariants as command
 use Rattle.mono_text.specs.Lines.{lines}
 use Rattle.mono_text.specs.Outside.{HasReadAll, IsLongerThan}
-use Rattle.mono_script.specs.Ending.{Meaning, Ends, HasInput, IsInput, HasAnswered, NamesBadLine, IsCutShort, IsRead, IsAnswered, status_code, max_input}
+use Rattle.mono_script.specs.Ending.{Meaning, Ends, HasInput, IsInput, HasAnswered, IsRead, IsAnswered, status_code, max_input}
 use Rattle.mono_script.specs.Meanings.{meaning}
 use Rattle.mono_script.specs.declared.ends.Status.{Status}
 use Rattle.mono_script.specs.declared.ends.Status.TheVariants as status

@@ -1,4 +1,4 @@
-use Rattle.std.proofs.Common.{rules, ◌≡◌, ◌∷◌, [], map, string_bytes, sym, ap, ◌∙◌}
+use Rattle.std.proofs.Common.{◌≡◌, ◌∷◌, [], map, string_bytes, sym, ap, ◌∙◌}
 use Rattle.mono_script.proofs.Commands.{five}
 use Rattle.mono_script.proofs.command.read_replay.Goals as goal
 

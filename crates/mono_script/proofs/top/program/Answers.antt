@@ -1,6 +1,6 @@
-use Rattle.std.proofs.Common.{◌≡◌, ◌⊎◌, ℕ, sym, ap, subst, ◌∙◌, List, map, string_bytes}
+use Rattle.std.proofs.Common.{subst, ◌∙◌, map, string_bytes}
 use Rattle.mono_text.specs.Outside.{HasRisen}
-use Rattle.mono_script.specs.Ending.{IsRead, HasAnswered, NamesBadLine, IsCutShort, status_code}
+use Rattle.mono_script.specs.Ending.{IsRead}
 use Rattle.mono_script.specs.Meanings.{meaning}
 use Rattle.mono_script.specs.declared.ends.Status.TheVariants as status
 use Rattle.mono_script.proofs.Commands.{command_once}
