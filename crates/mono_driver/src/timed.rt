@@ -14,7 +14,7 @@ pub struct TimeDriver<D> {
     driver: D,
 }
 
-impl<D: Driver> TimeDriver<D> {
+impl<D: Drop> TimeDriver<D> {
     /// The same driver, with timers.
     pub fn new(driver: D) -> TimeDriver<D>
         ensures { result.driver ≡ driver }
