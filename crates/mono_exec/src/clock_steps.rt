@@ -4,7 +4,7 @@ ghost use Rattle.mono_model.specs.Sleeps.{Sleeps};
 ghost use Rattle.mono_model.specs.SleepActs as sleep;
 ghost use Rattle.mono_model.specs.Firing.{FireInTurn};
 ghost use Rattle.mono_time.specs.Instants.{nanos_of};
-ghost use Rattle.mono_time.specs.Sleeps.{armed_count};
+ghost use Rattle.mono_time.specs.Sleeps.{armed_count, IsNoneArmedUpTo};
 ghost use Rattle.mono_time.specs.Timers.{sleeps_of, elapsed_tick};
 ghost use Rattle.mono_machine.specs.Machine.{Machine};
 ghost use Rattle.mono_machine.specs.Steps.{ClockStep, at_clock, after_fires, all_fired, with_first, wakers_of};
@@ -73,6 +73,7 @@ pub fn take_due<L: Ledger>(timers: &mut Timers, now: Instant, blank: Blank, room
     ensures fires { (sleeps : Sleeps) → Keeps timers.old sleeps → Keeps timers.new (all_fired (sleep.at_clock sleeps (nanos_of now)) result.fired.items) × FireInTurn (sleep.at_clock sleeps (nanos_of now)).table (sleep.at_clock sleeps (nanos_of now)).greatest result.fired.items }
     ensures wakers { (sleeps : Sleeps) → Keeps timers.old sleeps → result.wakers.items ≡ wakers_of (sleep.at_clock sleeps (nanos_of now)) result.fired.items }
     ensures has_gone { elapsed_tick timers.new ≡ (sleeps_of timers.new).greatest }
+    ensures rests { IsNoneArmedUpTo (sleeps_of timers.new) }
 {
     let mut steps: Steps<L> = Steps::new(blank);
     let mut due = room;

@@ -1,34 +1,43 @@
 -- One call of the running task leads the parts on.
-use Rattle.std.proofs.Common.{◌≡◌, ◌≤◌, ℕ, true, Bool, cond, Option, refl, ap, sym, subst, ◌∙◌}
-use Rattle.std.specs.Prelude.{Result, Ok, nat_lt}
+use Rattle.std.proofs.Common.{◌≡◌, ◌≤◌, ℕ, true, false, Bool, cond, List, [], Some, None, Option, refl, ap, sym, subst, ◌∙◌}
+use Rattle.std.specs.Prelude.{⊤, Result, Ok, Err, nat_lt, nat_le}
 use Rattle.std.proofs.lemmas.Bool.{le-ltb}
 use Rattle.mono_model.specs.Ticks.{up, max_nanos}
-use Rattle.mono_model.specs.Table.{value_at}
-use Rattle.mono_model.specs.Tasks.{Tasks, woken_if_any}
+use Rattle.mono_model.specs.Table.{value_at, next_number, is_full}
+use Rattle.mono_model.specs.Tasks.{Tasks, woken_if_any, spawned}
 use Rattle.mono_model.specs.Sleeps.{Sleeps, woken_by_arming}
 use Rattle.mono_task.specs.Schedule.{Schedule}
 use Rattle.mono_task.specs.Schedule as schedule
 use Rattle.mono_model.specs.SleepActs as machine
-use Rattle.mono_time.specs.Sleeps.{SleepTable}
+use Rattle.mono_time.specs.Sleeps.{SleepTable, IsNoneArmedUpTo}
 use Rattle.mono_model.specs.SleepAnswers.{waker_in}
 use Rattle.mono_time.specs.Timers.{sleeps_of, elapsed_tick}
 use Rattle.mono_time.specs.Stands.{StandsForSleeps}
 use Rattle.mono_model.specs.declared.error.Error.{Error}
 use Rattle.mono_time.specs.declared.timers.Timers.{Timers}
 use Rattle.mono_machine.specs.Machine.{Machine, with_tasks, with_sleeps}
-use Rattle.mono_machine.specs.Acts.{step_outcome, act_outcome, refused}
+use Rattle.mono_machine.specs.Acts.{step_outcome, act_outcome, answered, refused, for_sleep}
 use Rattle.mono_machine.specs.Acts.{reset as resetting}
 use Rattle.mono_machine.specs.declared.events.TurnStep.{TurnStep}
 use Rattle.mono_machine.specs.declared.events.Reply.{Reply}
+use Rattle.mono_machine.specs.declared.events.Reply.TheVariants as reply
 use Rattle.mono_machine.specs.declared.events.Act.TheVariants as act
 use Rattle.mono_machine.specs.declared.events.Refusal.TheVariants as refusal
-use Rattle.mono_exec.proofs.Timing.{Alike, live, gone}
+use Rattle.mono_exec.proofs.Timing.{Alike, live, gone, unchanged}
 use Rattle.mono_rt.specs.Record.{Record, noted}
 use Rattle.mono_rt.specs.Numbered.{numbered}
 use Rattle.mono_rt.specs.Stands.{Matches}
 use Rattle.mono_rt.specs.Reached.{Leads, by_act, by_nothing}
 use Rattle.mono_rt.specs.declared.parts.Parts.{Parts}
 use Rattle.mono_rt.proofs.Numbering.{numbered-woken_if_any}
+
+-- a sleep is made
+pub added_at : (m : Machine) (k n : ℕ) → k ≡ n → n ≤ max_nanos → is_full m.sleeps.table m.sleeps.limit ≡ false → act_outcome (act.NewSleep k) m ≡ answered (reply.Sleep (next_number m.sleeps.table)) (with_sleeps m (machine.added m.sleeps n))
+added_at m k n is below free =
+    let made = answered (reply.Sleep (next_number m.sleeps.table)) (with_sleeps m (machine.added m.sleeps n)) in
+    ap (λ x. act_outcome (act.NewSleep x) m) is
+    ∙ ap (λ b. cond b (refused refusal.AtCapacity m) (cond (nat_lt max_nanos n) (refused refusal.Invalid m) made)) free
+    ∙ ap (λ b. cond b (refused refusal.Invalid m) made) (le-ltb max_nanos n below)
 
 module _ {O : Type 0} (number : O → ℕ) where
   -- with these tasks, timers and record, and else as before
@@ -40,6 +49,7 @@ module _ {O : Type 0} (number : O → ℕ) where
     tasks = is;
     sleeps = subst (λ t. StandsForSleeps t m.sleeps) (sym timers) st.sleeps;
     has_gone = subst (λ t. elapsed_tick t ≡ (sleeps_of t).greatest) (sym timers) st.has_gone;
+    no_due = subst (λ t. IsNoneArmedUpTo (sleeps_of t)) (sym timers) st.no_due;
     enabled = ap (λ t. (sleeps_of t).is_enabled) timers ∙ st.enabled ∙ sym has;
     inbox = st.inbox;
     strategy = strategy ∙ st.strategy;
@@ -48,11 +58,12 @@ module _ {O : Type 0} (number : O → ℕ) where
   pub gone_on : (old new : Timers) (table : SleepTable) → elapsed_tick old ≡ (sleeps_of old).greatest → sleeps_of new ≡ table → Alike (sleeps_of old) table → elapsed_tick new ≡ elapsed_tick old → elapsed_tick new ≡ (sleeps_of new).greatest
   gone_on old new table was is alike gone = gone ∙ was ∙ sym alike.greatest ∙ sym (ap (λ x. x.greatest) is)
 
-  pub other_timers : (c d : Parts O) (m : Machine) (sleeps : Sleeps) → Matches number c m → d.tasks.tasks ≡ c.tasks.tasks → StandsForSleeps d.timers sleeps → elapsed_tick d.timers ≡ (sleeps_of d.timers).greatest → (sleeps_of d.timers).is_enabled ≡ (sleeps_of c.timers).is_enabled → d.has_timers ≡ c.has_timers → d.strategy ≡ c.strategy → Matches number d (with_sleeps m sleeps)
-  other_timers c d m sleeps st tasks stands gone enabled has strategy = record {
+  pub other_timers : (c d : Parts O) (m : Machine) (sleeps : Sleeps) → Matches number c m → d.tasks.tasks ≡ c.tasks.tasks → StandsForSleeps d.timers sleeps → elapsed_tick d.timers ≡ (sleeps_of d.timers).greatest → IsNoneArmedUpTo (sleeps_of d.timers) → (sleeps_of d.timers).is_enabled ≡ (sleeps_of c.timers).is_enabled → d.has_timers ≡ c.has_timers → d.strategy ≡ c.strategy → Matches number d (with_sleeps m sleeps)
+  other_timers c d m sleeps st tasks stands gone none enabled has strategy = record {
     tasks = ap (numbered number) tasks ∙ st.tasks;
     sleeps = stands;
     has_gone = gone;
+    no_due = none;
     enabled = enabled ∙ st.enabled ∙ sym has;
     inbox = st.inbox;
     strategy = strategy ∙ st.strategy;
@@ -77,10 +88,11 @@ module _ {O : Type 0} (number : O → ℕ) where
       → ((m : Machine) → Matches number c m → reply ≡ (step_outcome c.me step m).reply)
       → sleeps_of timers ≡ table → Alike (sleeps_of c.timers) table → elapsed_tick timers ≡ elapsed_tick c.timers
       → ((m : Sleeps) → StandsForSleeps c.timers m → StandsForSleeps timers (f m))
+      → (IsNoneArmedUpTo (sleeps_of c.timers) → IsNoneArmedUpTo table)
       → Leads number c (with_all c c.tasks timers acts)
-  by_sleeps c step reply acts timers table f is left answer after alike gone stands =
+  by_sleeps c step reply acts timers table f is left answer after alike gone stands rests =
       by_act number c (with_all c c.tasks timers acts) step reply is answer
-      (λ m st. subst (Matches number (with_all c c.tasks timers acts)) (sym (left m st)) (other_timers c (with_all c c.tasks timers acts) m (f m.sleeps) st refl (stands m.sleeps st.sleeps) (gone_on c.timers timers table st.has_gone after alike gone) (ap (λ x. x.is_enabled) after ∙ alike.is_enabled) refl refl))
+      (λ m st. subst (Matches number (with_all c c.tasks timers acts)) (sym (left m st)) (other_timers c (with_all c c.tasks timers acts) m (f m.sleeps) st refl (stands m.sleeps st.sleeps) (gone_on c.timers timers table st.has_gone after alike gone) (subst IsNoneArmedUpTo (sym after) (rests st.no_due)) (ap (λ x. x.is_enabled) after ∙ alike.is_enabled) refl refl))
       refl refl refl refl refl refl
 
   -- a call that was refused memory, or was not kept
@@ -92,6 +104,7 @@ module _ {O : Type 0} (number : O → ℕ) where
     tasks = ap (λ x. numbered number x.tasks) tasks ∙ st.tasks;
     sleeps = subst (λ t. StandsForSleeps t m.sleeps) (sym timers) st.sleeps;
     has_gone = subst (λ t. elapsed_tick t ≡ (sleeps_of t).greatest) (sym timers) st.has_gone;
+    no_due = subst (λ t. IsNoneArmedUpTo (sleeps_of t)) (sym timers) st.no_due;
     enabled = ap (λ t. (sleeps_of t).is_enabled) timers ∙ st.enabled ∙ sym has;
     inbox = st.inbox;
     strategy = strategy ∙ st.strategy;
@@ -105,7 +118,7 @@ module _ {O : Type 0} (number : O → ℕ) where
       → (c.is_out_of_memory ≡ true → is_out ≡ true) → Leads number c (with_memory c c.tasks timers is_out)
   by_no_sleep c timers is_out same gone stands memory =
       by_nothing number c (with_memory c c.tasks timers is_out) refl
-      (λ m st. record { tasks = st.tasks; sleeps = stands m.sleeps st.sleeps; has_gone = gone ∙ st.has_gone ∙ sym (ap (λ x. x.greatest) same); enabled = ap (λ x. x.is_enabled) same ∙ st.enabled; inbox = st.inbox; strategy = st.strategy })
+      (λ m st. record { tasks = st.tasks; sleeps = stands m.sleeps st.sleeps; has_gone = gone ∙ st.has_gone ∙ sym (ap (λ x. x.greatest) same); no_due = subst IsNoneArmedUpTo (sym same) st.no_due; enabled = ap (λ x. x.is_enabled) same ∙ st.enabled; inbox = st.inbox; strategy = st.strategy })
       refl refl refl refl refl memory
 
   -- a reset that found a live sleep
@@ -115,12 +128,13 @@ module _ {O : Type 0} (number : O → ℕ) where
         live (λ value. woken_by_arming value m.sleeps (up now)) m (cond (nat_lt max_nanos now) (refused refusal.Invalid m) (resetting s now m)) (value_at m.sleeps.table s) waker (sym answer)
         ∙ ap (λ b. cond b (refused refusal.Invalid m) (resetting s now m)) (le-ltb max_nanos now below)
 
-    pub reset_left : (c d : Parts O) → Matches number c m → d.tasks ≡ schedule.with_tasks c.tasks (woken_if_any c.tasks.tasks waker) → StandsForSleeps d.timers (machine.reset m.sleeps s now) → elapsed_tick d.timers ≡ (sleeps_of d.timers).greatest → (sleeps_of d.timers).is_enabled ≡ (sleeps_of c.timers).is_enabled → d.has_timers ≡ c.has_timers → d.strategy ≡ c.strategy
+    pub reset_left : (c d : Parts O) → Matches number c m → d.tasks ≡ schedule.with_tasks c.tasks (woken_if_any c.tasks.tasks waker) → StandsForSleeps d.timers (machine.reset m.sleeps s now) → elapsed_tick d.timers ≡ (sleeps_of d.timers).greatest → IsNoneArmedUpTo (sleeps_of d.timers) → (sleeps_of d.timers).is_enabled ≡ (sleeps_of c.timers).is_enabled → d.has_timers ≡ c.has_timers → d.strategy ≡ c.strategy
         → Ok waker ≡ machine.reset_answer m.sleeps s now → Matches number d (resetting s now m).machine
-    reset_left c d st woken stands gone enabled has strategy answer = record {
+    reset_left c d st woken stands gone none enabled has strategy answer = record {
       tasks = ap (λ x. numbered number x.tasks) woken ∙ numbered-woken_if_any number c.tasks.tasks waker ∙ ap (λ t. woken_if_any t waker) st.tasks ∙ ap (λ a. woken_if_any m.tasks (machine_waker a)) answer;
       sleeps = stands;
       has_gone = gone;
+      no_due = none;
       enabled = enabled ∙ st.enabled ∙ sym has;
       inbox = st.inbox;
       strategy = strategy ∙ st.strategy;

@@ -1,28 +1,30 @@
 -- What a runtime did stands in a relation, piece by piece.
-use Rattle.std.proofs.Common.{◌≡◌, ◌≤◌, ℕ, true, false, Bool, List, [], ◌∷◌, ◌++◌, refl, ap, sym, subst, ◌∙◌, append_assoc, append-nil}
-use Rattle.std.specs.Prelude.{AllPairs, ◌≢◌, ◌<◌, ◌^◌, ◌+◌, ◌-◌, ◌*◌, ◌⊎◌, min, length}
+use Rattle.std.proofs.Common.{◌≡◌, ◌≤◌, ℕ, true, false, Bool, cond, List, [], ◌∷◌, ◌++◌, refl, ap, sym, subst, ◌∙◌, append_assoc, append-nil}
+use Rattle.std.specs.Prelude.{AllPairs, ◌≢◌, ◌<◌, ◌==◌, ◌^◌, ◌+◌, ◌-◌, ◌*◌, ◌⊎◌, min, length}
 use Rattle.std.proofs.Common.{inl, inr, suc, arith}
 use Rattle.mono_machine.specs.declared.events.TurnStep.{TurnStep}
 use Rattle.mono_machine.specs.declared.events.End.{End}
 use Rattle.mono_machine.specs.declared.events.Reply.{Reply}
+use Rattle.mono_machine.specs.declared.events.Act.TheVariants as act
+use Rattle.mono_machine.specs.declared.events.Reply.TheVariants as reply
 use Rattle.mono_machine.specs.declared.events.Event.TheVariants as event
 use Rattle.mono_machine.specs.declared.events.Report.TheVariants as report
 use Rattle.mono_model.specs.declared.Ended.{Ended}
 use Rattle.mono_machine.specs.Steps.{Step}
-use Rattle.mono_rt.specs.declared.journals.Entry.TheVariants.{Now}
+use Rattle.mono_rt.specs.declared.journals.Entry.TheVariants.{Now, Park}
 use Rattle.mono_model.specs.Tasks.{all_woken}
 use Rattle.mono_task.specs.Schedule as schedule
 use Rattle.mono_machine.specs.Machine.{Machine, with_tasks}
 use Rattle.mono_rt.specs.Numbered.{numbered}
 use Rattle.mono_rt.specs.Drains.{remotes, listed, drain_of}
-use Rattle.mono_rt.specs.Rounds.{Drained, OneTurn, Turns, Round, most_turns, most_turns_of, IsPark, IsClock, Parks, Pauses, Pause, Pass, PassEnds, Rounds, Breaks, Ends, IsBreak, is_main_done, cost, IsSpawn, IsRefused, IsDrop, RunsMain, Blocked}
+use Rattle.mono_rt.specs.Rounds.{Drained, OneTurn, Turns, Round, most_turns, most_turns_of, IsPark, IsClock, Parks, Pauses, Pause, Pass, PassEnds, Rounds, Breaks, Ends, PauseEnds, is_main_done, cost, IsSpawn, IsRefused, IsDrop, DropsFor, output_in, RunsMain, Blocked}
 use Rattle.std.specs.Prelude.{⊤, Result, Ok, Err}
 use Rattle.std.specs.Option.{option_map}
 use Rattle.std.proofs.Common.{Option, Some, None}
 use Rattle.mono_model.specs.Table.{value_at}
 use Rattle.mono_model.specs.Tasks.{Task, Phase, idle, queued, running, done, taken}
 use Rattle.mono_task.specs.Work.{has_output, is_done}
-use Rattle.mono_rt.specs.Blocked.{OrMemory, OnCapacity}
+use Rattle.mono_rt.specs.Blocked.{OnCapacity}
 use Rattle.mono_rt.specs.Numbered.{phase_numbered, task_numbered}
 use Rattle.mono_rt.specs.declared.errors.RunError.{RunError}
 use Rattle.mono_rt.specs.declared.errors.RunError.TheVariants as error
@@ -31,11 +33,11 @@ use Rattle.mono_rt.proofs.Numbering.{numbered-all_woken}
 use Rattle.mono_rt.proofs.Calling.{other_tasks}
 use Rattle.mono_rt.proofs.Draining.{remotes_numbered, listed_numbered, drained_is, drained_follow}
 use Rattle.mono_rt.specs.Stands.{Matches}
-use Rattle.mono_rt.specs.Journals.{Did, Does, Stays, IsStep, IsReading, pushed}
+use Rattle.mono_rt.specs.Journals.{Follows, Went, Goes, Did, Does, Led, Stays, IsStep, IsReading, pushed}
 use Rattle.mono_rt.specs.declared.parts.Parts.{Parts}
 use Rattle.mono_rt.specs.declared.journals.Entry.{Entry}
 use Rattle.mono_rt.specs.declared.journals.Journal.{Journal}
-use Rattle.mono_rt.proofs.Going.{follows_on, pushed_open, does_stay}
+use Rattle.mono_rt.proofs.Going.{follows_on, pushed_open, goes_on, goes_of, does_led, does_stay}
 
 abbrev pub Relation : Type 1
 Relation = Machine → List Entry → Machine → List Entry → Type 0
@@ -59,8 +61,12 @@ two_pushed i j k one two first second a b unfull =
 suc_one : (n : ℕ) → suc n ≡ n + 1
 suc_one n = omega arith
 
-abbrev pub Finishes : Bool → ℕ → ℕ → Result ⊤ RunError → Relation
-Finishes h main units r old part new rest = (ended : Machine) × ((last : List Entry) × (Ends {A = ⊤} h main units r old part ended last × IsDrop main ended last new rest))
+-- a drain and a clock step
+abbrev DrainedClock : Machine → List Entry → Machine → List Entry → Type 0
+DrainedClock old part new rest = (mid : Machine) × ((left : List Entry) × (Drained old part mid left × IsClock mid left new rest))
+
+abbrev pub Finishes : Bool → ℕ → ℕ → Result ℕ RunError → Relation
+Finishes h main units r old part new rest = (ended : Machine) × ((last : List Entry) × (Ends {A = ℕ} h main units r old part ended last × DropsFor main (output_in r) ended last new rest))
 
 module _ {O : Type 0} (number : O → ℕ) where
   -- one after the other
@@ -166,22 +172,20 @@ module _ {O : Type 0} (number : O → ℕ) where
       p
 
   -- parks, and between two rounds
-  pub does_parks : (a b c : Parts O) (i j k : Journal) → Does number IsPark a b i j → Does number Drained b c j k → Does number (Parks false) a c i k
-  does_parks a b c i j k p q = does_on IsPark Drained (Parks false) a b c i j k
+  pub does_parks : (a b c : Parts O) (i j k : Journal) → Does number (IsPark false) a b i j → Does number Drained b c j k → Does number (Parks false) a c i k
+  does_parks a b c i j k p q = does_on (IsPark false) Drained (Parks false) a b c i j k
       (λ m mid new xs ys zs stm std stn park drains. record { parked = mid; left = ys; parks = park; drained = new; after = zs; drains = drains; clock = (refl, refl) }) p q
 
-  pub does_clocked : (a b c : Parts O) (i j k : Journal) → Does number (Parks false) a b i j → Does number IsClock b c j k → Does number (Parks true) a c i k
-  does_clocked a b c i j k p q = does_on (Parks false) IsClock (Parks true) a b c i j k
-      (λ m mid new xs ys zs stm std stn parks clock. record {
-        parked = parks.parked;
-        left = parks.left;
-        parks = parks.parks;
-        drained = parks.drained;
-        after = parks.after;
-        drains = parks.drains;
-        clock = subst (λ x. IsClock x parks.after new zs) parks.clock.1 (subst (λ ws. IsClock mid ws new zs) (sym parks.clock.0) clock);
-      })
-      p q
+  pub does_clocked : (a b c d : Parts O) (i j k l : Journal) → Does number (IsPark true) a b i j → Does number Drained b c j k → Does number IsClock c d k l → Does number (Parks true) a d i l
+  does_clocked a b c d i j k l p q s = does_on (IsPark true) DrainedClock (Parks true) a b d i j l (λ m mid new xs ys zs stm std stn park rest. record {
+    parked = mid;
+    left = ys;
+    parks = park;
+    drained = rest.0;
+    after = rest.1.0;
+    drains = rest.1.1.0;
+    clock = rest.1.1.1;
+  }) p (does_on Drained IsClock DrainedClock b c d j k l (λ m mid new xs ys zs stm std stn drains clock. (mid, (ys, (drains, clock)))) q s)
 
   pub pause_some : (h : Bool) (c d : Parts O) (j k : Journal) → 0 < length c.tasks.tasks.queue → Does number Drained c d j k → Does number (Pause h) c d j k
   pause_some h c d j k some p = does_more Drained (Pause h) c d j k (λ m new xs zs stm stn is. subst (λ q. Pauses h q m xs new zs) (ap (λ x. x.queue) stm.tasks) (some_queue c.tasks.tasks.queue h m new xs zs some is)) p
@@ -242,8 +246,8 @@ module _ {O : Type 0} (number : O → ℕ) where
       (λ m new xs zs stm stn rounds. (subst (λ x. Rounds h main turns x m xs new zs) none rounds, sym (main_done d new main stn) ∙ unfinished)) p
 
   pub ends_by : (e : RunError) (h g : Bool) (main turns units : ℕ) (a b c : Parts O) (i j k : Journal) → g ≡ h → has_output (value_at b.tasks.tasks.table main) ≡ false → 0 < units
-      → Does number (Rounds h main turns units) a b i j → OrMemory e (Does number (PassEnds g units (Err e)) b c j k) → OrMemory e (Does number (Ends {A = ⊤} h main turns (Err e)) a c i k)
-  ends_by error.Memory h g main turns units a b c i j k same unfinished some p q = tt
+      → Does number (Rounds h main turns units) a b i j → Does number (PassEnds g units (Err e)) b c j k → Does number (Ends {A = ⊤} h main turns (Err e)) a c i k
+  ends_by error.Memory h g main turns units a b c i j k same unfinished some p q = does_led number a c i k (goes_on number a b c i j k (goes_of number (Rounds h main turns units) a b i j p) (goes_of number Led b c j k q))
   ends_by error.AtCapacity h g main turns units a b c i j k same unfinished some p q = does_on (Rounds h main turns units) (PassEnds g units (Err error.AtCapacity)) (Ends {A = ⊤} h main turns (Err error.AtCapacity)) a b c i j k (λ m mid new xs ys zs stm std stn rounds none. none) p q
   ends_by error.Turns h g main turns units a b c i j k same unfinished some p q = does_on (Rounds h main turns units) (PassEnds g units (Err error.Turns)) (Ends {A = ⊤} h main turns (Err error.Turns)) a b c i j k (λ m mid new xs ys zs stm std stn rounds none. absurd none) p q
   ends_by error.Driver h g main turns units a b c i j k same unfinished some p q = does_on (Rounds h main turns units) (Pause g) (Breaks h main turns) a b c i j k
@@ -258,35 +262,44 @@ module _ {O : Type 0} (number : O → ℕ) where
       })
       p q
 
-  pub pass_breaks : (e : RunError) (h : Bool) (units : ℕ) (c d : Parts O) (j k : Journal) → IsBreak e → OrMemory e (Does number (Pause h) c d j k) → OrMemory e (Does number (PassEnds h units (Err e)) c d j k)
-  pass_breaks error.Memory h units c d j k is p = tt
-  pass_breaks error.Driver h units c d j k is p = p
-  pass_breaks error.Turns h units c d j k is p = absurd is
-  pass_breaks error.AtCapacity h units c d j k is p = absurd is
+  pub pass_breaks : (e : RunError) (h : Bool) (units : ℕ) (c d : Parts O) (j k : Journal) → Does number (PauseEnds h (Err e)) c d j k → Does number (PassEnds h units (Err e)) c d j k
+  pass_breaks error.Memory h units c d j k p = p
+  pass_breaks error.Driver h units c d j k p = p
+  pass_breaks error.Turns h units c d j k p = does_more (PauseEnds h (Err error.Turns)) (PassEnds h units (Err error.Turns)) c d j k (λ m new xs zs stm stn is. absurd is) p
+  pass_breaks error.AtCapacity h units c d j k p = does_more (PauseEnds h (Err error.AtCapacity)) (PassEnds h units (Err error.AtCapacity)) c d j k (λ m new xs zs stm stn is. absurd is) p
+
+  -- what the drop of the main task's handle gave
+  pub drops_for : (main : ℕ) (w : Option ℕ) (c d : Parts O) (j k : Journal) → Does number (IsStep (event.Act (act.DropJoin main)) (report.Reply (reply.Dropped w))) c d j k → Does number (DropsFor main w) c d j k
+  drops_for main (Some n) c d j k p = p
+  drops_for main None c d j k p = does_more (IsStep (event.Act (act.DropJoin main)) (report.Reply (reply.Dropped None))) (DropsFor main None) c d j k (λ m new xs zs stm stn is. (reply.Dropped None, is)) p
+
+  pub drops_any : (main : ℕ) (w : Option ℕ) (c d : Parts O) (j k : Journal) → Does number (DropsFor main w) c d j k → Does number (DropsFor main None) c d j k
+  drops_any main (Some n) c d j k p = does_more (DropsFor main (Some n)) (DropsFor main None) c d j k (λ m new xs zs stm stn is. (reply.Dropped (Some n), is)) p
+  drops_any main None c d j k p = p
 
   -- one whole call
-  pub does_main : (h g : Bool) (main units : ℕ) (r : Result ⊤ RunError) (a b c d : Parts O) (i j k l : Journal) → g ≡ h → Does number (IsSpawn main) a b i j → Does number (Ends {A = ⊤} g main units r) b c j k → Does number (IsDrop main) c d k l → Does number (RunsMain {A = ⊤} h main units r) a d i l
-  does_main h g main units r a b c d i j k l same p q s = does_on (IsSpawn main) (Finishes h main units r) (RunsMain {A = ⊤} h main units r) a b d i j l
+  pub does_main : (h g : Bool) (main units : ℕ) (r : Result ℕ RunError) (a b c d : Parts O) (i j k l : Journal) → g ≡ h → Does number (IsSpawn main) a b i j → Does number (Ends {A = ℕ} g main units r) b c j k → Does number (DropsFor main (output_in r)) c d k l → Does number (RunsMain h main units r) a d i l
+  does_main h g main units r a b c d i j k l same p q s = does_on (IsSpawn main) (Finishes h main units r) (RunsMain h main units r) a b d i j l
       (λ m mid new xs ys zs stm std stn spawn rest. record { spawned = mid; behind = ys; spawn = spawn; ended = rest.0; last = rest.1.0; ends = rest.1.1.0; drop = rest.1.1.1 })
-      p
-      (does_on (Ends {A = ⊤} g main units r) (IsDrop main) (Finishes h main units r) b c d j k l (λ m mid new xs ys zs stm std stn ends drop. (mid, (ys, (subst (λ x. Ends {A = ⊤} x main units r m xs mid ys) same ends, drop)))) q s)
+      p (does_on (Ends {A = ℕ} g main units r) (DropsFor main (output_in r)) (Finishes h main units r) b c d j k l (λ m mid new xs ys zs stm std stn ends drop. (mid, (ys, (subst (λ x. Ends {A = ℕ} x main units r m xs mid ys) same ends, drop)))) q s)
 
   -- by the error
-  pub blocks_by : (A : Type 0) (e : RunError) (h g : Bool) (main units : ℕ) (a b c d : Parts O) (i j k l : Journal) → g ≡ h → Does number (IsSpawn main) a b i j → OrMemory e (Does number (Ends {A = ⊤} g main units (Err e)) b c j k) → Does number (IsDrop main) c d k l → OrMemory e (Does number (Blocked {A = A} h units (Err e)) a d i l)
-  blocks_by A error.Memory h g main units a b c d i j k l same p q s = tt
-  blocks_by A error.Turns h g main units a b c d i j k l same p q s = does_more (RunsMain {A = ⊤} h main units (Err error.Turns)) (Blocked {A = A} h units (Err error.Turns)) a d i l (λ m new xs zs stm stn is. (main, is)) (does_main h g main units (Err error.Turns) a b c d i j k l same p q s)
-  blocks_by A error.Driver h g main units a b c d i j k l same p q s = does_more (RunsMain {A = ⊤} h main units (Err error.Driver)) (Blocked {A = A} h units (Err error.Driver)) a d i l (λ m new xs zs stm stn is. (main, is)) (does_main h g main units (Err error.Driver) a b c d i j k l same p q s)
-  blocks_by A error.AtCapacity h g main units a b c d i j k l same p q s =
-      does_more (RunsMain {A = ⊤} h main units (Err error.AtCapacity)) IsRefused a d i l (λ m new xs zs stm stn is. absurd is.ends) (does_main h g main units (Err error.AtCapacity) a b c d i j k l same p q s)
+  pub blocks_by : (e : RunError) (h g : Bool) (main units : ℕ) (w : Option ℕ) (a b c d : Parts O) (i j k l : Journal) → g ≡ h → Does number (IsSpawn main) a b i j → Does number (Ends {A = ⊤} g main units (Err e)) b c j k → Does number (DropsFor main w) c d k l → Does number (Blocked h units (Err e)) a d i l
+  blocks_by error.Memory h g main units w a b c d i j k l same p q s =
+      does_led number a d i l (goes_on number a c d i k l (goes_on number a b c i j k (goes_of number (IsSpawn main) a b i j p) (goes_of number Led b c j k q)) (goes_of number (DropsFor main w) c d k l s))
+  blocks_by error.Turns h g main units w a b c d i j k l same p q s = does_more (RunsMain h main units (Err error.Turns)) (Blocked h units (Err error.Turns)) a d i l (λ m new xs zs stm stn is. (main, is)) (does_main h g main units (Err error.Turns) a b c d i j k l same p q (drops_any main w c d k l s))
+  blocks_by error.Driver h g main units w a b c d i j k l same p q s = does_more (RunsMain h main units (Err error.Driver)) (Blocked h units (Err error.Driver)) a d i l (λ m new xs zs stm stn is. (main, is)) (does_main h g main units (Err error.Driver) a b c d i j k l same p q (drops_any main w c d k l s))
+  blocks_by error.AtCapacity h g main units w a b c d i j k l same p q s =
+      does_more (RunsMain h main units (Err error.AtCapacity)) IsRefused a d i l (λ m new xs zs stm stn is. absurd is.ends) (does_main h g main units (Err error.AtCapacity) a b c d i j k l same p q (drops_any main w c d k l s))
 
-  pub blocks_done : (A : Type 0) (x : A) (h g : Bool) (main units : ℕ) (a b c d : Parts O) (i j k l : Journal) → g ≡ h → Does number (IsSpawn main) a b i j → Does number (Ends {A = ⊤} g main units (Ok tt)) b c j k → Does number (IsDrop main) c d k l → Does number (Blocked {A = A} h units (Ok x)) a d i l
-  blocks_done A x h g main units a b c d i j k l same p q s = does_more (RunsMain {A = ⊤} h main units (Ok tt)) (Blocked {A = A} h units (Ok x)) a d i l (λ m new xs zs stm stn is. (main, is)) (does_main h g main units (Ok tt) a b c d i j k l same p q s)
+  pub blocks_done : (output : ℕ) (h g : Bool) (main units : ℕ) (a b c d : Parts O) (i j k l : Journal) → g ≡ h → Does number (IsSpawn main) a b i j → Does number (Ends {A = ⊤} g main units (Ok tt)) b c j k → Does number (DropsFor main (Some output)) c d k l → Does number (Blocked h units (Ok output)) a d i l
+  blocks_done output h g main units a b c d i j k l same p q s = does_more (RunsMain h main units (Ok output)) (Blocked h units (Ok output)) a d i l (λ m new xs zs stm stn is. (main, is)) (does_main h g main units (Ok output) a b c d i j k l same p q s)
 
-  pub blocks_refused : (A : Type 0) (e : RunError) (h : Bool) (units : ℕ) (c d : Parts O) (j k : Journal) → OnCapacity e (Does number IsRefused c d j k) → OrMemory e (Does number (Blocked {A = A} h units (Err e)) c d j k)
-  blocks_refused A error.Memory h units c d j k p = tt
-  blocks_refused A error.AtCapacity h units c d j k p = p
-  blocks_refused A error.Turns h units c d j k p = absurd p
-  blocks_refused A error.Driver h units c d j k p = absurd p
+  pub blocks_refused : (e : RunError) (h : Bool) (units : ℕ) (c d : Parts O) (j k : Journal) → Goes number c d j k → OnCapacity e (Does number IsRefused c d j k) → Does number (Blocked h units (Err e)) c d j k
+  blocks_refused error.Memory h units c d j k goes p = does_led number c d j k goes
+  blocks_refused error.AtCapacity h units c d j k goes p = p
+  blocks_refused error.Turns h units c d j k goes p = absurd p
+  blocks_refused error.Driver h units c d j k goes p = absurd p
 
   -- from an empty journal, what it then has stands in the relation
   pub relation_of : (R : Relation) (c d : Parts O) (j k l : Journal) (m : Machine) → Matches number c m → j.entries.items ≡ [] → l ≡ k → Does number R c d j k → l.is_full ≡ false → (new : Machine) × R m l.entries.items new []

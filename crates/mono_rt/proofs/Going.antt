@@ -1,13 +1,15 @@
 -- What a runtime did, piece by piece.
-use Rattle.std.proofs.Common.{◌≡◌, ◌≤◌, ℕ, true, false, Bool, cond, List, [], ◌∷◌, ◌++◌, refl, ap, sym, subst, ◌∙◌, append_assoc, append-nil}
+use Rattle.std.proofs.Common.{◌≡◌, ◌≤◌, ℕ, true, false, Bool, cond, List, [], ◌∷◌, ◌++◌, Some, None, Option, refl, ap, sym, subst, ◌∙◌, append_assoc, append-nil}
 use Rattle.mono_model.specs.Ticks.{max_nanos}
-use Rattle.mono_model.specs.Tasks.{all_woken, spawned}
+use Rattle.mono_model.specs.Tasks.{Tasks, all_woken, spawned}
 use Rattle.mono_model.specs.Sleeps.{Sleeps}
 use Rattle.mono_model.specs.declared.Ended.{Ended}
 use Rattle.mono_task.specs.Schedule as schedule
 use Rattle.mono_model.specs.SleepActs as sleep
 use Rattle.mono_model.specs.Firing.{FireInTurn}
 use Rattle.mono_model.proofs.Firing.{may_fire}
+use Rattle.mono_time.specs.Sleeps.{IsNoneArmedUpTo}
+use Rattle.mono_time.specs.Stands.{StandsForSleeps}
 use Rattle.mono_time.specs.Timers.{sleeps_of, elapsed_tick}
 use Rattle.mono_machine.specs.Machine.{Machine, with_tasks, with_sleeps}
 use Rattle.mono_machine.specs.Steps.{Step, Run, at_clock, greatest_at, after_fires, all_fired, wakers_of, ClockStep}
@@ -22,7 +24,7 @@ use Rattle.mono_exec.proofs.Firing.{fires-apart}
 use Rattle.mono_rt.specs.Numbered.{numbered, drop_numbered}
 use Rattle.mono_rt.specs.Stands.{Matches}
 use Rattle.mono_rt.specs.Turns.{IsTurnOf}
-use Rattle.mono_rt.specs.Journals.{events_in, reports_in, Follows, Went, Goes, Does, Stays, IsStep, pushed}
+use Rattle.mono_rt.specs.Journals.{events_in, reports_in, Follows, Went, Goes, Did, Does, Led, Stays, IsStep, IsReading, pushed}
 use Rattle.mono_rt.specs.declared.parts.Parts.{Parts}
 use Rattle.mono_rt.specs.declared.journals.Entry.{Entry}
 use Rattle.mono_rt.specs.declared.journals.Entry.TheVariants.{Ran, Now, Park}
@@ -88,6 +90,13 @@ module _ {O : Type 0} (number : O → ℕ) where
     };
   }
 
+  -- what was done are steps of the machine
+  pub does_led : (c d : Parts O) (j k : Journal) → Goes number c d j k → Does number Led c d j k
+  does_led c d j k p = record {
+    opens = p.opens;
+    did = λ m st unfull. let went : Went number c d j k m = p.went m st unfull in record { went = went; is = λ rest. (went.part, (refl, went.follows)) };
+  }
+
   -- one event
   pub does_by : (c d : Parts O) (j k : Journal) (e : Event) (r : Report) → k.entries.items ≡ pushed j (Ran e r) → k.is_full ≡ j.is_full → ((m : Machine) → Matches number c m → (new : Machine) × Step m e r new × Matches number d new) → Does number (IsStep e r) c d j k
   does_by c d j k e r grew full steps = record {
@@ -101,10 +110,10 @@ module _ {O : Type 0} (number : O → ℕ) where
   }
 
   -- entries that are no events
-  pub does_past : (R : Machine → List Entry → Machine → List Entry → Type 0) (c : Parts O) (j k : Journal) (entries : List Entry) → (k.is_full ≡ false → k.entries.items ≡ j.entries.items ++ entries) → k.is_full ≡ j.is_full → ((m : Machine) → Follows m entries m) → ((m : Machine) (rest : List Entry) → R m (entries ++ rest) m rest) → Does number R c c j k
+  pub does_past : (R : Machine → List Entry → Machine → List Entry → Type 0) (c : Parts O) (j k : Journal) (entries : List Entry) → (k.is_full ≡ false → k.entries.items ≡ j.entries.items ++ entries) → k.is_full ≡ j.is_full → ((m : Machine) → Follows m entries m) → ((m : Machine) → Matches number c m → (rest : List Entry) → R m (entries ++ rest) m rest) → Does number R c c j k
   does_past R c j k entries grew full still is = record {
     opens = λ unfull. sym full ∙ unfull;
-    did = λ m st unfull. record { went = record { part = entries; new = m; grew = grew unfull; follows = still m; matches = st }; is = is m };
+    did = λ m st unfull. record { went = record { part = entries; new = m; grew = grew unfull; follows = still m; matches = st }; is = is m st };
   }
 
   -- a turn
@@ -134,9 +143,9 @@ module _ {O : Type 0} (number : O → ℕ) where
       → c.has_timers ≡ true
       → ((m : Sleeps) → Keeps c.timers m → Keeps d.timers (all_fired (sleep.at_clock m now) fired) × FireInTurn (sleep.at_clock m now).table (sleep.at_clock m now).greatest fired)
       → ((m : Sleeps) → Keeps c.timers m → wakers ≡ wakers_of (sleep.at_clock m now) fired)
-      → elapsed_tick d.timers ≡ (sleeps_of d.timers).greatest
+      → elapsed_tick d.timers ≡ (sleeps_of d.timers).greatest → IsNoneArmedUpTo (sleeps_of d.timers)
       → d.tasks ≡ schedule.with_tasks c.tasks (all_woken c.tasks.tasks wakers) → d.has_timers ≡ c.has_timers → d.strategy ≡ c.strategy → Does number (IsStep (event.Clock n) (report.Fired fired)) c d j k
-  does_clock c d j k n now fired wakers is below grew full are_there fires woken gone tasks has strategy =
+  does_clock c d j k n now fired wakers is below grew full are_there fires woken gone none tasks has strategy =
       does_by c d j k (event.Clock n) (report.Fired fired) grew full (λ m st.
       let keeps : Keeps c.timers m.sleeps = record { stands = st.sleeps; is_enabled = st.enabled ∙ are_there } in
       let fire = fires m.sleeps keeps in
@@ -148,6 +157,7 @@ module _ {O : Type 0} (number : O → ℕ) where
           tasks = ap (λ x. numbered number x.tasks) tasks ∙ numbered-all_woken number c.tasks.tasks wakers ∙ ap (λ x. all_woken x wakers) st.tasks ∙ ap (all_woken m.tasks) (woken m.sleeps keeps);
           sleeps = fire.0.stands;
           has_gone = gone;
+          no_due = none;
           enabled = fire.0.is_enabled ∙ sym are_there ∙ sym has;
           inbox = st.inbox;
           strategy = strategy ∙ st.strategy;

@@ -1,5 +1,6 @@
 -- A turn of a future is a turn of the machine.
-use Rattle.std.proofs.Common.{◌≡◌, ℕ, true, false, Bool, List, ◌∷◌, ◌++◌, Some, None, Option, ap, sym, subst, ◌∙◌}
+use Rattle.std.proofs.Common.{◌≡◌, ℕ, true, false, Bool, List, [], ◌∷◌, ◌++◌, Some, None, Option, refl, ap, sym, subst, ◌∙◌}
+use Rattle.std.specs.Prelude.{Ok, is_some}
 use Rattle.mono_model.specs.Table.{value_at}
 use Rattle.mono_model.specs.Tasks.{begun, paused_value, pause_answer, completed_value, complete_answer}
 use Rattle.mono_model.specs.declared.Ended.{Ended}
@@ -9,17 +10,19 @@ use Rattle.mono_task.specs.Members.{FutureOf}
 use Rattle.mono_task.specs.Schedule.{Schedule}
 use Rattle.mono_task.specs.Schedule as schedule
 use Rattle.mono_time.specs.declared.instant.Instant.{Instant}
-use Rattle.mono_machine.specs.Machine.{Machine}
-use Rattle.mono_machine.specs.Turns.{replies_of, after_steps, after_begin, end_answer, after_end, turn_report_for, after_turn_for}
+use Rattle.mono_machine.specs.Machine.{Machine, with_tasks}
+use Rattle.mono_machine.specs.Turns.{replies_of, after_steps, after_begin, end_answer, after_end, turn_report, turn_report_for, after_turn, after_turn_for}
+use Rattle.mono_machine.specs.declared.events.TurnStep.{TurnStep}
 use Rattle.mono_machine.specs.declared.events.End.{End}
 use Rattle.mono_machine.specs.declared.events.End.TheVariants as end
 use Rattle.mono_machine.specs.declared.events.Report.TheVariants as report
+use Rattle.mono_machine.specs.declared.events.Reply.{Reply}
 use Rattle.mono_exec.proofs.Matching.{front_is}
 use Rattle.mono_rt.specs.Numbered.{numbered, end_of}
 use Rattle.mono_rt.specs.Record.{Record, no_acts}
 use Rattle.mono_rt.specs.Stands.{Matches}
 use Rattle.mono_rt.specs.Reached.{Leads, leads_itself, leads_on, Reaches}
-use Rattle.mono_rt.specs.Turns.{BeginsParts, EndsParts, Pauses, AfterPoll, UnlessSpent, Runs, IsTurnOf}
+use Rattle.mono_rt.specs.Turns.{BeginsParts, EndsParts, Begins, Pauses, Completes, AfterPoll, Polls, UnlessSpent, Runs, Turn, IsTurnOf}
 use Rattle.mono_rt.specs.declared.parts.Parts.{Parts}
 use Rattle.mono_rt.specs.declared.contexts.Cx.{Cx}
 use Rattle.mono_rt.proofs.Numbering.{numbered-begun, numbered-paused, numbered-completed, pause_answer-numbered, complete_answer-numbered}

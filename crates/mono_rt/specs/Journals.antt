@@ -1,5 +1,5 @@
 -- What a journal says of the machine.
-use Rattle.std.specs.Prelude.{◌≡◌, ◌≤◌, ℕ, false, List, [], ◌∷◌, ◌++◌, ◌+◌, length, vec_capacity, if◌then◌else◌}
+use Rattle.std.specs.Prelude.{◌≡◌, ◌≤◌, ◌⊎◌, ℕ, suc, zero, Bool, false, List, [], ◌∷◌, ◌++◌, ◌+◌, length, vec_capacity, if◌then◌else◌, Option}
 use Rattle.mono_machine.specs.Machine.{Machine}
 use Rattle.mono_machine.specs.Steps.{Step}
 use Rattle.mono_machine.specs.declared.events.Event.{Event}
@@ -52,6 +52,10 @@ pub record Did {O : Type 0} (number : O → ℕ) (R : Machine → List Entry →
 pub record Does {O : Type 0} (number : O → ℕ) (R : Machine → List Entry → Machine → List Entry → Type 0) (c d : Parts O) (j k : Journal) : Type 0 where
   pub opens : k.is_full ≡ false → j.is_full ≡ false
   pub did : (old : Machine) → Matches number c old → k.is_full ≡ false → Did number R c d j k old
+
+-- some entries, by which the machine was led on
+abbrev pub Led : Machine → List Entry → Machine → List Entry → Type 0
+Led old part new rest = (xs : List Entry) × ((part ≡ xs ++ rest) × Follows old xs new)
 
 -- nothing was done
 abbrev pub Stays : Machine → List Entry → Machine → List Entry → Type 0

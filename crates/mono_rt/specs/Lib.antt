@@ -3,7 +3,6 @@ pub mod Record
 pub mod Stands
 pub mod Reached
 pub mod Turns
-pub mod Driving
 pub mod Journals
 pub mod Blocked
 pub mod Drains

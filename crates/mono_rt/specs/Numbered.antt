@@ -1,10 +1,11 @@
 -- Tasks with numbers in the place of their outputs: so a runtime's tasks are those of the plain machine.
-use Rattle.std.specs.Prelude.{ℕ, map, Option, Result, Ok, Err}
+use Rattle.std.specs.Prelude.{ℕ, map, Option, Some, None, Result, Ok, Err}
 use Rattle.std.specs.Option.{option_map}
 use Rattle.mono_model.specs.Tasks.{Tasks, Task, Phase, idle, queued, running, done, taken}
 use Rattle.mono_model.specs.declared.task_error.TaskError.{TaskError}
 use Rattle.mono_model.specs.declared.poll.Poll.{Poll}
 use Rattle.mono_model.specs.declared.poll.Poll.TheVariants.{Ready, Pending}
+use Rattle.mono_rt.specs.declared.errors.RunError.{RunError}
 use Rattle.mono_machine.specs.declared.events.End.{End}
 use Rattle.mono_machine.specs.declared.events.End.TheVariants as end
 
@@ -34,6 +35,11 @@ module _ {O : Type 0} (number : O → ℕ) where
   abbrev pub drop_numbered : Result (Option O) TaskError → Result (Option ℕ) TaskError
   drop_numbered (Ok output) = Ok (option_map number output)
   drop_numbered (Err e) = Err e
+
+  -- the answer of a call that runs a main task
+  abbrev pub answer_numbered : Result O RunError → Result ℕ RunError
+  answer_numbered (Ok output) = Ok (number output)
+  answer_numbered (Err e) = Err e
 
   -- how a turn ends whose future answered so
   abbrev pub end_of : Poll O → End

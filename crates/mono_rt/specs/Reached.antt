@@ -1,5 +1,5 @@
 -- Parts, and a context, that were reached from others by calls of the running task.
-use Rattle.std.specs.Prelude.{◌≡◌, ℕ, Bool, true, false, ◌||◌, nat_le, List, [], ◌∷◌, ◌++◌, length, Option, Some, ◌≤◌, refl}
+use Rattle.std.specs.Prelude.{◌≡◌, ℕ, Bool, true, false, ◌||◌, nat_le, List, [], ◌∷◌, ◌++◌, length, Option, Some, ◌≤◌, ◌<◌, vec_len, vec_capacity, refl}
 use Rattle.std.proofs.Common.{sym, ◌∙◌, ap, subst, cond, append_assoc, append-nil, arith}
 use Rattle.std.proofs.Math.Nat.{le_refl}
 use Rattle.mono_model.specs.Table.{value_at}
@@ -123,27 +123,34 @@ module _ {O : Type 0} (number : O → ℕ) where
 abbrev pub KeepsFutures : {F : Type 0} → List (Option F) → List (Option F) → Type 0
 KeepsFutures {F} old new = (t : ℕ) (f : F) → value_at old t ≡ Some f → value_at new t ≡ Some f
 
+-- there is room for one more task's future and waker
+abbrev pub HasPlace : {F O P U J A V : Type 0} → Cx F O P U J A V → Type 0
+HasPlace c = (vec_len c.futures < vec_capacity c.futures) × (vec_len c.wakers < vec_capacity c.wakers)
+
 module _ {F O P U J A V : Type 0} (number : O → ℕ) where
   -- calls of the running task lead from the one context to the other
   pub record Reaches (c d : Cx F O P U J A V) : Type 0 where
     pub parts : Leads number c.parts d.parts
     pub keeps : KeepsFutures c.futures.items d.futures.items
     pub grows : length c.futures.items ≤ length d.futures.items
+    pub same_waker : d.waker ≡ c.waker
 
   pub reaches_itself : (c : Cx F O P U J A V) → Reaches c c
-  reaches_itself c = record { parts = leads_itself number c.parts; keeps = λ t f h. h; grows = le_refl _ }
+  reaches_itself c = record { parts = leads_itself number c.parts; keeps = λ t f h. h; grows = le_refl _; same_waker = refl }
 
   pub reaches_on : (a b c : Cx F O P U J A V) → Reaches a b → Reaches b c → Reaches a c
   reaches_on a b c p q = record {
     parts = leads_on number a.parts b.parts c.parts p.parts q.parts;
     keeps = λ t f h. q.keeps t f (p.keeps t f h);
     grows = omega (arith, p.grows, q.grows);
+    same_waker = q.same_waker ∙ p.same_waker;
   }
 
   -- a call on the parts alone
-  pub by_parts : (c d : Cx F O P U J A V) → Leads number c.parts d.parts → d.futures.items ≡ c.futures.items → Reaches c d
-  by_parts c d parts same = record {
+  pub by_parts : (c d : Cx F O P U J A V) → Leads number c.parts d.parts → d.futures.items ≡ c.futures.items → d.waker ≡ c.waker → Reaches c d
+  by_parts c d parts same waker = record {
     parts = parts;
     keeps = λ t f h. ap (λ v. value_at v t) same ∙ h;
     grows = rw same (le_refl _);
+    same_waker = waker;
   }

@@ -1,9 +1,10 @@
 -- The journal of one call that runs a main task: rounds of turns, and between two rounds a hand-in or a park.
-use Rattle.std.specs.Prelude.{⊤, ◌≡◌, ◌≢◌, ◌<◌, ◌≤◌, ◌⊎◌, ℕ, ◌+◌, ◌-◌, ◌*◌, zero, suc, min, Bool, true, false, List, [], ◌∷◌, length, Option, Some, None, Result, Ok, Err, AllPairs}
+use Rattle.std.specs.Prelude.{⊤, ◌≡◌, ◌≢◌, ◌<◌, ◌≤◌, ◌⊎◌, ℕ, ◌+◌, ◌-◌, ◌*◌, zero, suc, min, Bool, true, false, if◌then◌else◌, nat_le, List, [], ◌∷◌, length, Option, Some, None, Result, Ok, Err, AllPairs}
 use Rattle.mono_model.specs.Ticks.{down}
-use Rattle.mono_model.specs.Table.{value_at}
+use Rattle.mono_model.specs.Table.{value_at, next_number}
+use Rattle.mono_model.specs.Tasks.{Task}
 use Rattle.mono_task.specs.Work.{has_output}
-use Rattle.mono_wheel.specs.Start.{start, top_level}
+use Rattle.mono_model.specs.Sleeps.{Arming, armed}
 use Rattle.mono_machine.specs.Machine.{Machine}
 use Rattle.mono_machine.specs.Steps.{Step}
 use Rattle.mono_machine.specs.declared.events.Act.TheVariants as act
@@ -16,7 +17,7 @@ use Rattle.mono_machine.specs.declared.events.Reply.TheVariants as reply
 use Rattle.mono_machine.specs.declared.events.Report.{Report}
 use Rattle.mono_machine.specs.declared.events.Report.TheVariants as report
 use Rattle.mono_model.specs.declared.Ended.{Ended}
-use Rattle.mono_rt.specs.Journals.{IsStep}
+use Rattle.mono_rt.specs.Journals.{IsStep, Led}
 use Rattle.mono_rt.specs.declared.errors.RunError.{RunError}
 use Rattle.mono_rt.specs.declared.errors.RunError.TheVariants as error
 use Rattle.mono_rt.specs.declared.journals.Entry.{Entry}
@@ -82,20 +83,33 @@ abbrev pub ClockIf : Bool → Machine → List Entry → Machine → List Entry 
 ClockIf false old part new rest = (part ≡ rest) × (new ≡ old)
 ClockIf true old part new rest = IsClock old part new rest
 
--- How long the driver is parked: until the least start of a slot over the ticks at which sleeps are registered.
-abbrev pub IsWait : Bool → ℕ → (ℕ → Option ℕ) → ℕ → Option ℕ → Type 0
-IsWait has_timers greatest registered now None = has_timers ≡ true → (s tick : ℕ) → registered s ≡ Some tick → ⊥
-IsWait has_timers greatest registered now (Some v) =
-    (has_timers ≡ true) × ((s : ℕ) × ((tick : ℕ) × ((registered s ≡ Some tick) × (v ≡ start top_level greatest tick - down now) × ((q later : ℕ) → registered q ≡ Some later → start top_level greatest tick ≤ start top_level greatest later))))
+-- some sleep is armed
+abbrev pub IsOneArmed : Machine → Type 0
+IsOneArmed m = (s : ℕ) × ((a : Arming) × (value_at m.sleeps.table s ≡ Some (armed a)))
+
+-- The driver is parked until a tick that is above the greatest tick and not above the tick of any armed sleep.
+pub record WaitsUntil (m : Machine) (now v : ℕ) : Type 0 where
+  pub until : ℕ
+  pub is_wait : v ≡ until - down now
+  pub above : m.sleeps.greatest < until
+  pub before : (s : ℕ) (a : Arming) → value_at m.sleeps.table s ≡ Some (armed a) → until ≤ a.tick
+  pub is_one : IsOneArmed m
+
+-- How long the driver is parked, in milliseconds: without an end where there are no timers or no sleep is armed.
+abbrev pub IsWait : Bool → Machine → ℕ → Option ℕ → Type 0
+IsWait false m now None = ⊤
+IsWait false m now (Some v) = ⊥
+IsWait true m now None = IsOneArmed m → ⊥
+IsWait true m now (Some v) = WaitsUntil m now v
 
 -- the clock is read and the driver is parked
-abbrev pub IsPark : Machine → List Entry → Machine → List Entry → Type 0
-IsPark old part new rest = (now : ℕ) × ((wait : Option ℕ) × ((part ≡ Now now ∷ Park wait ∷ rest) × (new ≡ old)))
+abbrev pub IsPark : Bool → Machine → List Entry → Machine → List Entry → Type 0
+IsPark has_timers old part new rest = (now : ℕ) × ((wait : Option ℕ) × (IsWait has_timers old now wait × ((part ≡ Now now ∷ Park wait ∷ rest) × (new ≡ old))))
 
 pub record Parks (has_timers : Bool) (old : Machine) (part : List Entry) (new : Machine) (rest : List Entry) : Type 0 where
   pub parked : Machine
   pub left : List Entry
-  pub parks : IsPark old part parked left
+  pub parks : IsPark has_timers old part parked left
   pub drained : Machine
   pub after : List Entry
   pub drains : Drained parked left drained after
@@ -108,6 +122,19 @@ Pauses has_timers (front ∷ queue) old part new rest = Drained old part new res
 
 abbrev pub Pause : Bool → Machine → List Entry → Machine → List Entry → Type 0
 Pause has_timers old part new rest = Pauses has_timers old.tasks.queue old part new rest
+
+-- Where memory was refused, what is in the journal are still steps of the machine.
+abbrev pub OrLed : {A : Type 0} → Result A RunError → (Machine → List Entry → Machine → List Entry → Type 0) → Machine → List Entry → Machine → List Entry → Type 0
+OrLed (Ok x) R old part new rest = R old part new rest
+OrLed (Err e) R old part new rest = Led old part new rest
+
+-- the whole pause is there, but where memory was refused
+abbrev pub PauseEnds : Bool → Result Bool RunError → Machine → List Entry → Machine → List Entry → Type 0
+PauseEnds has_timers (Ok spent) old part new rest = Pause has_timers old part new rest
+PauseEnds has_timers (Err error.Driver) old part new rest = Pause has_timers old part new rest
+PauseEnds has_timers (Err error.Memory) old part new rest = Led old part new rest
+PauseEnds has_timers (Err error.Turns) old part new rest = ⊥
+PauseEnds has_timers (Err error.AtCapacity) old part new rest = ⊥
 
 -- a park after which the queue is still empty costs a unit
 abbrev pub cost : List ℕ → List ℕ → ℕ
@@ -133,7 +160,7 @@ IsBreak error.AtCapacity = ⊥
 abbrev pub PassEnds : Bool → ℕ → Result ℕ RunError → Machine → List Entry → Machine → List Entry → Type 0
 PassEnds has_timers units (Ok left) old part new rest = Pass has_timers units left old part new rest
 PassEnds has_timers units (Err error.Driver) old part new rest = Pause has_timers old part new rest
-PassEnds has_timers units (Err error.Memory) old part new rest = ⊤
+PassEnds has_timers units (Err error.Memory) old part new rest = Led old part new rest
 PassEnds has_timers units (Err error.Turns) old part new rest = ⊥
 PassEnds has_timers units (Err error.AtCapacity) old part new rest = ⊥
 
@@ -172,7 +199,7 @@ abbrev pub Ends : {A : Type 0} → Bool → ℕ → ℕ → Result A RunError �
 Ends has_timers main units (Ok x) old part new rest = (left : ℕ) × (Rounds has_timers main units left old part new rest × (is_main_done main new ≡ true))
 Ends has_timers main units (Err error.Turns) old part new rest = Rounds has_timers main units 0 old part new rest × (is_main_done main new ≡ false)
 Ends has_timers main units (Err error.Driver) old part new rest = Breaks has_timers main units old part new rest
-Ends has_timers main units (Err error.Memory) old part new rest = ⊤
+Ends has_timers main units (Err error.Memory) old part new rest = Led old part new rest
 Ends has_timers main units (Err error.AtCapacity) old part new rest = ⊥
 
 -- a task is made, with this number, or is refused
@@ -186,20 +213,30 @@ IsRefused old part new rest = IsStep (event.Act act.Spawn) (report.Reply (reply.
 abbrev pub IsDrop : ℕ → Machine → List Entry → Machine → List Entry → Type 0
 IsDrop main old part new rest = (answer : Reply) × IsStep (event.Act (act.DropJoin main)) (report.Reply answer) old part new rest
 
+-- the handle of the main task is dropped, and gives this output where there is one
+abbrev pub DropsFor : ℕ → Option ℕ → Machine → List Entry → Machine → List Entry → Type 0
+DropsFor main (Some output) old part new rest = IsStep (event.Act (act.DropJoin main)) (report.Reply (reply.Dropped (Some output))) old part new rest
+DropsFor main None old part new rest = IsDrop main old part new rest
+
+-- what the drop of the main task's handle gives, by the answer
+abbrev pub output_in : Result ℕ RunError → Option ℕ
+output_in (Ok output) = Some output
+output_in (Err e) = None
+
 -- The main task is made, there are rounds, and its handle is dropped.
-pub record RunsMain {A : Type 0} (has_timers : Bool) (main units : ℕ) (answer : Result A RunError) (old : Machine) (part : List Entry) (new : Machine) (rest : List Entry) : Type 0 where
+pub record RunsMain (has_timers : Bool) (main units : ℕ) (answer : Result ℕ RunError) (old : Machine) (part : List Entry) (new : Machine) (rest : List Entry) : Type 0 where
   pub spawned : Machine
   pub behind : List Entry
   pub spawn : IsSpawn main old part spawned behind
   pub ended : Machine
   pub last : List Entry
   pub ends : Ends has_timers main units answer spawned behind ended last
-  pub drop : IsDrop main ended last new rest
+  pub drop : DropsFor main (output_in answer) ended last new rest
 
--- What one call did, by its answer. Where no task could be made that is the one entry.
-abbrev pub Blocked : {A : Type 0} → Bool → ℕ → Result A RunError → Machine → List Entry → Machine → List Entry → Type 0
-Blocked has_timers units (Ok x) old part new rest = (main : ℕ) × RunsMain {A = ⊤} has_timers main units (Ok tt) old part new rest
-Blocked has_timers units (Err error.Turns) old part new rest = (main : ℕ) × RunsMain {A = ⊤} has_timers main units (Err error.Turns) old part new rest
-Blocked has_timers units (Err error.Driver) old part new rest = (main : ℕ) × RunsMain {A = ⊤} has_timers main units (Err error.Driver) old part new rest
+-- What one call did, by its answer, whose output has this number. Where no task could be made that is the one entry.
+abbrev pub Blocked : Bool → ℕ → Result ℕ RunError → Machine → List Entry → Machine → List Entry → Type 0
+Blocked has_timers units (Ok output) old part new rest = (main : ℕ) × RunsMain has_timers main units (Ok output) old part new rest
+Blocked has_timers units (Err error.Turns) old part new rest = (main : ℕ) × RunsMain has_timers main units (Err error.Turns) old part new rest
+Blocked has_timers units (Err error.Driver) old part new rest = (main : ℕ) × RunsMain has_timers main units (Err error.Driver) old part new rest
 Blocked has_timers units (Err error.AtCapacity) old part new rest = IsRefused old part new rest
-Blocked has_timers units (Err error.Memory) old part new rest = ⊤
+Blocked has_timers units (Err error.Memory) old part new rest = Led old part new rest

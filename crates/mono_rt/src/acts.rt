@@ -51,7 +51,7 @@ impl Acts {
         }
     }
 
-    /// The acts and their replies, or none where the record is full.
+    /// The acts and their replies, in as much memory as they need, or none where the record is full.
     pub fn take(self) -> Option<(List<TurnStep>, List<Reply>)>
         ensures some { IfSome result (λ lists. (self.is_full ≡ false) × (lists.0 ≡ self.steps) × (lists.1 ≡ self.replies)) }
         ensures none { IfNone result (self.is_full ≡ true) }
@@ -59,7 +59,11 @@ impl Acts {
         if self.is_full {
             return None;
         }
-        Some((List::from(self.steps), List::from(self.replies)))
+        let mut steps = self.steps;
+        let mut replies = self.replies;
+        steps.shrink_to_fit();
+        replies.shrink_to_fit();
+        Some((List::from(steps), List::from(replies)))
     }
 
     /// One more act. It takes no memory.

@@ -3,15 +3,15 @@ ghost use Rattle.std.specs.Prelude.{◌≡◌, IfOk, true, false, []};
 ghost use Rattle.mono_machine.specs.Machine.{Machine, start_machine};
 ghost use Rattle.mono_machine.specs.Steps.{Run};
 ghost use Rattle.mono_rt.specs.Journals.{events_in, reports_in};
-ghost use Rattle.mono_rt.specs.Blocked.{UnlessMemory};
+ghost use Rattle.mono_rt.specs.Numbered.{answer_numbered};
 ghost use Rattle.mono_rt.specs.Rounds.{Blocked};
 
 use crate::contexts::Cx;
-use crate::drivers::Driver;
 use crate::errors::RunError;
 use crate::journals::Journal;
 use crate::runtimes::Runtime;
 use mono_blocking::{BlockingHandle, ThreadPool};
+use mono_driver::Driver;
 use mono_exec::{Blocking, Limits};
 use mono_joinword::Outcome;
 use mono_model::Host;
@@ -21,8 +21,7 @@ use std::alloc::{AllocError, Global};
 
 /// Runs a main task on a new runtime, and answers the journal beside the answer.
 ///
-/// The journal is what `Blocked` tells of the answer, from the machine's start, but where it is full or memory was refused
-/// (`blocked`). So what it says was done is a run of the plain machine from its start (`run`).
+/// The journal is what `Blocked` tells of the answer, from the machine's start, but where it is full (`blocked`). So what it says was done is a run of the plain machine from its start (`run`).
 pub fn run_alone<F, O, D, P, R: Host>(
     rt: &R,
     alloc: Global,
@@ -40,8 +39,8 @@ where
     D: Driver,
     P: ThreadPool + Drop,
     requires callable { (f : F) → F.can_poll f }
-    ensures blocked { IfOk result (λ r. UnlessMemory r.0 (r.1.is_full ≡ false → (new : Machine) × Blocked true turns r.0 (start_machine limits strategy) r.1.entries.items new [])) }
-    ensures run { IfOk result (λ r. UnlessMemory r.0 (r.1.is_full ≡ false → (new : Machine) × Run (start_machine limits strategy) (events_in r.1.entries.items) (reports_in r.1.entries.items) new)) }
+    ensures blocked { IfOk result (λ r. r.1.is_full ≡ false → (new : Machine) × Blocked true turns (answer_numbered O.output_number r.0) (start_machine limits strategy) r.1.entries.items new []) }
+    ensures run { IfOk result (λ r. r.1.is_full ≡ false → (new : Machine) × Run (start_machine limits strategy) (events_in r.1.entries.items) (reports_in r.1.entries.items) new) }
 {
     let mut runtime = Runtime::new(alloc, driver, pool, limits, strategy, true, start)?;
     let answer = runtime.block_on(rt, alloc, future, turns);

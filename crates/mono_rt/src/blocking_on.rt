@@ -1,16 +1,22 @@
 // Rounds of turns, waits on the driver, and the main task.
-ghost use Rattle.std.specs.Prelude.{◌≡◌, ◌<◌, ◌≤◌, None, false, length, vec_len, vec_capacity, IfOk, OnOk, IfErr, IsSome, true, if◌then◌else◌};
+ghost use Rattle.std.specs.Prelude.{◌≡◌, ◌<◌, ◌≤◌, None, false, length, IfOk, OnOk, IfErr, IsSome, if◌then◌else◌};
+ghost use Rattle.std.specs.Option.{option_map};
+ghost use Rattle.mono_time.specs.Instants.{nanos_of};
+ghost use Rattle.mono_machine.specs.Machine.{Machine};
+ghost use Rattle.mono_rt.specs.Numbered.{answer_numbered};
+ghost use Rattle.mono_rt.specs.Reached.{HasPlace};
+ghost use Rattle.mono_rt.specs.Stands.{Matches};
 ghost use Rattle.mono_rt.specs.Journals.{Goes, Does, Stays, HasPlaces};
-ghost use Rattle.mono_rt.specs.Rounds.{IsPark, Parks, Pause, Round, PassEnds, Ends, IsBreak, IsSpawn, IsRefused, IsDrop, Blocked, cost};
-ghost use Rattle.mono_rt.specs.Blocked.{UnlessMemory, OnCapacity};
+ghost use Rattle.mono_rt.specs.Rounds.{IsWait, IsPark, Parks, OrLed, PauseEnds, Round, PassEnds, Ends, IsSpawn, IsRefused, DropsFor, Blocked, cost};
+ghost use Rattle.mono_rt.specs.Blocked.{OnCapacity};
 
 use crate::calls::drop_reply_of;
 use crate::contexts::Cx;
-use crate::drivers::Driver;
 use crate::errors::RunError;
 use crate::journals::Entry;
 use crate::runtimes::Runtime;
 use mono_blocking::ThreadPool;
+use mono_driver::Driver;
 use mono_exec::{Act, Event, Refusal, Reply, Report};
 use mono_joinword::Outcome;
 use mono_model::Host;
@@ -21,13 +27,16 @@ use std::time::Duration;
 
 impl<F: Drop, O: Outcome + Drop, D: Driver, P: ThreadPool + Drop> Runtime<F, O, D, P> {
     /// How long the driver is parked, in milliseconds.
-    fn wait_from(&self, now: Instant) -> Option<u64> {
-        if !self.cx.parts.has_timers {
-            return None;
-        }
-        match self.cx.parts.timers.next_expiration_time() {
-            None => None,
-            Some(tick) => Some(tick.saturating_sub((now.as_nanos() / 1000000) as u64)),
+    fn wait_from(&self, now: Instant) -> Option<u64>
+        ensures { (m : Machine) → Matches O.output_number self.now.cx.parts m → IsWait self.now.cx.parts.has_timers m (nanos_of now) result }
+    {
+        if self.cx.parts.has_timers {
+            match self.cx.parts.timers.next_expiration_time() {
+                None => None,
+                Some(tick) => Some(tick.saturating_sub(now.clock_tick())),
+            }
+        } else {
+            None
         }
     }
 
@@ -46,7 +55,7 @@ impl<F: Drop, O: Outcome + Drop, D: Driver, P: ThreadPool + Drop> Runtime<F, O, 
     /// The clock is read, and the driver is parked. The answer tells whether it failed.
     fn park<R: Host>(&mut self, rt: &R) -> Result<bool, RunError>
         ensures goes { Goes O.output_number self.old.cx.parts self.new.cx.parts self.old.journal self.new.journal }
-        ensures parked { OnOk result (Does O.output_number IsPark self.old.cx.parts self.new.cx.parts self.old.journal self.new.journal) }
+        ensures parked { OnOk result (Does O.output_number (IsPark self.old.cx.parts.has_timers) self.old.cx.parts self.new.cx.parts self.old.journal self.new.journal) }
         ensures same { self.new.cx ≡ self.old.cx }
     {
         match self.journal.reserve(2) {
@@ -65,7 +74,7 @@ impl<F: Drop, O: Outcome + Drop, D: Driver, P: ThreadPool + Drop> Runtime<F, O, 
     /// The queue is empty: the driver is parked, the inbox is drained, and with timers a clock step is done. The answer tells
     /// whether the park failed.
     fn wait<R: Host>(&mut self, rt: &R, alloc: Global) -> Result<bool, RunError>
-        ensures parks { OnOk result (Does O.output_number (Parks self.old.cx.parts.has_timers) self.old.cx.parts self.new.cx.parts self.old.journal self.new.journal) }
+        ensures parks { Does O.output_number (OrLed result (Parks self.old.cx.parts.has_timers)) self.old.cx.parts self.new.cx.parts self.old.journal self.new.journal }
         ensures has_timers { self.new.cx.parts.has_timers ≡ self.old.cx.parts.has_timers }
         ensures turn { self.new.cx.parts.tasks.turn ≡ self.old.cx.parts.tasks.turn }
     {
@@ -89,11 +98,10 @@ impl<F: Drop, O: Outcome + Drop, D: Driver, P: ThreadPool + Drop> Runtime<F, O, 
 
     /// Between two rounds. The answer tells whether a unit is spent: the queue was empty and still is.
     fn pause<R: Host>(&mut self, rt: &R, alloc: Global) -> Result<bool, RunError>
-        ensures pauses { UnlessMemory result (Does O.output_number (Pause self.old.cx.parts.has_timers) self.old.cx.parts self.new.cx.parts self.old.journal self.new.journal) }
+        ensures pauses { Does O.output_number (PauseEnds self.old.cx.parts.has_timers result) self.old.cx.parts self.new.cx.parts self.old.journal self.new.journal }
         ensures spent { IfOk result (λ spent. (if spent then 1 else 0) ≡ cost self.old.cx.parts.tasks.tasks.queue self.new.cx.parts.tasks.tasks.queue) }
         ensures has_timers { self.new.cx.parts.has_timers ≡ self.old.cx.parts.has_timers }
         ensures queued { IfOk result (λ spent. spent ≡ false → 0 < length self.new.cx.parts.tasks.tasks.queue) }
-        ensures breaks { IfErr result IsBreak }
         ensures turn { self.new.cx.parts.tasks.turn ≡ self.old.cx.parts.tasks.turn }
     {
         if self.cx.parts.tasks.queue_len() > 0 {
@@ -127,7 +135,7 @@ impl<F: Drop, O: Outcome + Drop, D: Driver, P: ThreadPool + Drop> Runtime<F, O, 
             None => Err(RunError::Memory),
             Some(()) => match self.cx.parts.tasks.spawn(alloc) {
                 Ok(t) => {
-                    self.cx.futures.push_reserved(Some(future));
+                    self.cx.put_future(future);
                     self.journal.push(Entry::Ran(
                         Event::Act(Act::Spawn),
                         Report::Reply(Reply::Task(t)),
@@ -149,23 +157,24 @@ impl<F: Drop, O: Outcome + Drop, D: Driver, P: ThreadPool + Drop> Runtime<F, O, 
     /// Room for the main task's future and for its entry.
     fn open_spawn(&mut self) -> Option<()>
         ensures place { IsSome result → HasPlaces self.new.journal 1 }
-        ensures future { IsSome result → vec_len self.new.cx.futures < vec_capacity self.new.cx.futures }
+        ensures future { IsSome result → HasPlace self.new.cx }
         ensures stays { Does O.output_number Stays self.old.cx.parts self.new.cx.parts self.old.journal self.new.journal }
         ensures goes { Goes O.output_number self.old.cx.parts self.new.cx.parts self.old.journal self.new.journal }
         ensures same { self.new.cx.parts ≡ self.old.cx.parts }
     {
         match self.journal.reserve(1) {
             Err(_) => None,
-            Ok(()) => match self.cx.futures.reserve(1) {
+            Ok(()) => match self.cx.make_place() {
                 Err(_) => None,
                 Ok(()) => Some(()),
             },
         }
     }
 
-    /// The handle of the main task is dropped.
+    /// The handle of the main task is dropped. The answer is the output that it gave, whose number stands in the journal.
     fn end_main(&mut self, main: u64) -> Result<Option<O>, RunError>
-        ensures dropped { OnOk result (Does O.output_number (IsDrop main) self.old.cx.parts self.new.cx.parts self.old.journal self.new.journal) }
+        ensures dropped { IfOk result (λ output. Does O.output_number (DropsFor main (option_map O.output_number output)) self.old.cx.parts self.new.cx.parts self.old.journal self.new.journal) }
+        ensures goes { Goes O.output_number self.old.cx.parts self.new.cx.parts self.old.journal self.new.journal }
         ensures turn { self.new.cx.parts.tasks.turn ≡ self.old.cx.parts.tasks.turn }
     {
         match self.journal.reserve(1) {
@@ -221,7 +230,7 @@ where
         requires callable { (f : F) → F.can_poll f }
         requires rests { self.old.cx.parts.tasks.turn ≡ None }
         requires some_left { 0 < units }
-        ensures passes { UnlessMemory result (Does O.output_number (PassEnds self.old.cx.parts.has_timers units result) self.old.cx.parts self.new.cx.parts self.old.journal self.new.journal) }
+        ensures passes { Does O.output_number (PassEnds self.old.cx.parts.has_timers units result) self.old.cx.parts self.new.cx.parts self.old.journal self.new.journal }
         ensures has_timers { self.new.cx.parts.has_timers ≡ self.old.cx.parts.has_timers }
         ensures rests { self.new.cx.parts.tasks.turn ≡ None }
         ensures fewer { IfOk result (λ left. left < units) }
@@ -243,7 +252,7 @@ where
     fn run<R: Host>(&mut self, rt: &R, alloc: Global, main: u64, turns: u64) -> Result<(), RunError>
         requires callable { (f : F) → F.can_poll f }
         requires rests { self.old.cx.parts.tasks.turn ≡ None }
-        ensures ends { UnlessMemory result (Does O.output_number (Ends self.old.cx.parts.has_timers main turns result) self.old.cx.parts self.new.cx.parts self.old.journal self.new.journal) }
+        ensures ends { Does O.output_number (Ends self.old.cx.parts.has_timers main turns result) self.old.cx.parts self.new.cx.parts self.old.journal self.new.journal }
         ensures has_timers { self.new.cx.parts.has_timers ≡ self.old.cx.parts.has_timers }
         ensures rests { self.new.cx.parts.tasks.turn ≡ None }
     {
@@ -268,7 +277,7 @@ where
     /// which no task is queued.
     ///
     /// From each machine for which the parts stood, the journal grew by what `Blocked` tells of the answer, which is a run of
-    /// the machine, but where it is full or memory was refused (`blocked`).
+    /// the machine, but where it is full (`blocked`). After want of memory it says no more than that it is a run.
     pub fn block_on<R: Host>(
         &mut self,
         rt: &R,
@@ -278,7 +287,7 @@ where
     ) -> Result<O, RunError>
         requires callable { (f : F) → F.can_poll f }
         requires rests { self.old.cx.parts.tasks.turn ≡ None }
-        ensures blocked { UnlessMemory result (Does O.output_number (Blocked self.old.cx.parts.has_timers turns result) self.old.cx.parts self.new.cx.parts self.old.journal self.new.journal) }
+        ensures blocked { Does O.output_number (Blocked self.old.cx.parts.has_timers turns (answer_numbered O.output_number result)) self.old.cx.parts self.new.cx.parts self.old.journal self.new.journal }
         ensures rests { self.new.cx.parts.tasks.turn ≡ None }
     {
         match self.start_main(alloc, future) {

@@ -5,11 +5,11 @@ ghost use Rattle.mono_rt.specs.Stands.{Matches};
 
 use crate::acts::Acts;
 use crate::contexts::Cx;
-use crate::drivers::Driver;
 use crate::journals::Journal;
 use crate::parts::Parts;
 use crate::runtimes::Runtime;
 use mono_blocking::{BlockingHandle, ThreadPool};
+use mono_driver::Driver;
 use mono_exec::{Blocking, Limits};
 use mono_inbox::Inbox;
 use mono_joinword::Outcome;
@@ -69,6 +69,8 @@ impl<F: Drop, O: Outcome + Drop, D: Driver, P: ThreadPool + Drop> Runtime<F, O, 
             futures: Vec::new(alloc),
             blocking: pool,
             inbox,
+            wakers: Vec::new(alloc),
+            waker: None,
         };
         Ok(Runtime {
             cx,

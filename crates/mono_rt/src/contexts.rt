@@ -1,21 +1,21 @@
 // The executor as a running task sees it.
 ghost use Rattle.std.proofs.Common.{ap};
-ghost use Rattle.std.specs.Prelude.{refl, ◌≡◌, ◌++◌, ◌∷◌, [], Option, Some, None, IfOk, OnOk, IfErr, OnErr};
+ghost use Rattle.std.specs.Prelude.{refl, ◌≡◌, ◌++◌, ◌∷◌, [], Option, Some, None, IfOk, OnOk, OnErr};
 ghost use Rattle.mono_model.specs.Table.{next_number};
 ghost use Rattle.mono_model.specs.Tasks.{woken, spawned};
 ghost use Rattle.mono_task.specs.Schedule as schedule;
 ghost use Rattle.mono_task.specs.Work.{without_outputs};
 ghost use Rattle.mono_time.specs.Instants.{nanos_of};
 ghost use Rattle.mono_time.specs.Timers.{sleeps_of};
-ghost use Rattle.mono_rt.specs.Reached.{Reaches, reaches_itself, reaches_on};
+ghost use Rattle.mono_rt.specs.Reached.{Reaches, HasPlace, reaches_itself, reaches_on};
 
 use crate::parts::Parts;
 use mono_blocking::{BlockingHandle, ThreadPool};
-use mono_inbox::{Inbox, Unpark};
+use mono_inbox::{Inbox, RemoteWaker, Unpark};
 use mono_joinword::Outcome;
 use mono_task::{Context, JoinContext, JoinHandle, Poll, SpawnTask, TaskError, Woke};
 use mono_time::{Error, Instant, SleepError, TimeContext};
-use std::alloc::Global;
+use std::alloc::{AllocError, Global};
 
 /// The executor as a running task sees it: its tasks, sleeps and futures.
 #[derive(Drop)]
@@ -24,6 +24,10 @@ pub struct Cx<F, O, P: ThreadPool, U: Unpark> {
     pub(crate) futures: Vec<Option<F>>,
     pub(crate) blocking: BlockingHandle<P>,
     pub(crate) inbox: Inbox<U>,
+    // by the task's number its remote waker, once it has had a turn and until it ends
+    pub(crate) wakers: Vec<Option<RemoteWaker<U>>>,
+    // that of the task whose turn runs, where there was memory for it
+    pub(crate) waker: Option<RemoteWaker<U>>,
 }
 
 /// A future that was not spawned. It comes back.
@@ -44,17 +48,53 @@ impl<F: Drop, O: Outcome + Drop, P: ThreadPool + Drop, U: Unpark> Cx<F, O, P, U>
         ensures refused { OnErr result (self.new.parts.tasks ≡ self.old.parts.tasks) }
         ensures reached { Reaches O.output_number self.old self.new }
     {
-        if self.futures.reserve(1).is_err() {
+        if self.make_place().is_err() {
             self.parts.is_out_of_memory = true;
             return Err(SpawnRefused::Memory(future));
         }
         match self.parts.spawn(alloc) {
             Ok(t) => {
-                self.futures.push_reserved(Some(future));
+                self.put_future(future);
                 Ok(JoinHandle::of_task(t))
             }
             Err(SpawnTask::AtCapacity) => Err(SpawnRefused::AtCapacity(future)),
             Err(SpawnTask::Memory) => Err(SpawnRefused::Memory(future)),
+        }
+    }
+}
+
+impl<F: Drop, O: Drop, P: ThreadPool + Drop, U: Unpark> Cx<F, O, P, U> {
+    /// Room for one more task's future and waker.
+    pub(crate) fn make_place(&mut self) -> Result<(), AllocError>
+        ensures place { OnOk result (HasPlace self.new) }
+        ensures parts { self.new.parts ≡ self.old.parts }
+        ensures futures { self.new.futures.items ≡ self.old.futures.items }
+        ensures waker { self.new.waker ≡ self.old.waker }
+    {
+        self.futures.reserve(1)?;
+        self.wakers.reserve(1)
+    }
+
+    /// The future of a new task, for which there is room.
+    pub(crate) fn put_future(&mut self, future: F)
+        requires { HasPlace self.old }
+        ensures parts { self.new.parts ≡ self.old.parts }
+        ensures futures { self.new.futures.items ≡ self.old.futures.items ++ Some future ∷ [] }
+        ensures waker { self.new.waker ≡ self.old.waker }
+    {
+        self.futures.push_reserved(Some(future));
+        self.wakers.push_reserved(None);
+    }
+
+    /// A remote waker of the task whose turn runs (`task`): a clone of the one that was made before its first turn. Refused
+    /// for want of memory only. The runtime answers Memory where there was none for the first one.
+    pub fn remote_waker(&mut self) -> Result<RemoteWaker<U>, AllocError>
+        ensures waker { IfOk result (λ waker. self.old.waker ≡ Some waker) }
+        ensures same { self.new ≡ self.old }
+    {
+        match &self.waker {
+            Some(waker) => waker.clone(),
+            None => Err(AllocError),
         }
     }
 }

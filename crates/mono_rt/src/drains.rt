@@ -8,11 +8,11 @@ ghost use Rattle.mono_rt.specs.Drains.{told_by, listed_by, remotes, listed};
 ghost use Rattle.mono_rt.specs.Journals.{Goes, Does, HasPlaces, pushed};
 ghost use Rattle.mono_rt.specs.Rounds.{Drained};
 
-use crate::drivers::Driver;
 use crate::errors::RunError;
 use crate::journals::Entry;
 use crate::runtimes::Runtime;
 use mono_blocking::ThreadPool;
+use mono_driver::Driver;
 use mono_exec::{Event, List, Refusal, Reply, Report, wake_all};
 use mono_joinword::Outcome;
 use mono_model::Host;

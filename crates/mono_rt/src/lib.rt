@@ -8,7 +8,6 @@ mod building;
 mod calls;
 mod contexts;
 mod drains;
-mod drivers;
 mod errors;
 mod journals;
 mod parts;
@@ -17,9 +16,17 @@ mod turns;
 
 pub use alone::run_alone;
 pub use contexts::{Cx, SpawnRefused};
-pub use drivers::{Clock, Driver, DriverFault, StepDriver};
 pub use errors::RunError;
 pub use journals::{Entry, Journal};
+pub use mono_driver::{
+    Clock, Driver, DriverFault, Instant, ListClock, StepDriver, ThreadDriver, TimeDriver,
+};
+pub use mono_exec::{
+    Act, Blocking, End, Ended, Event, Exec, How, Limits, List, MAX_NANOS, Query, Refusal, Reply,
+    Report, Timers, TurnStep, Woke, replay,
+};
+pub use mono_inbox::RemoteWaker;
+pub use mono_joinword::Outcome;
 pub use runtimes::Runtime;
 
 #[cfg(test)]

@@ -11,10 +11,10 @@ ghost use Rattle.mono_rt.specs.Rounds.{OneTurn, IsClock};
 
 use crate::acts::Acts;
 use crate::contexts::Cx;
-use crate::drivers::Driver;
 use crate::errors::RunError;
 use crate::journals::{Entry, Journal};
 use mono_blocking::ThreadPool;
+use mono_driver::Driver;
 use mono_exec::{Due, End, Ended, Event, Report, take_due, wake_all};
 use mono_joinword::Outcome;
 use mono_model::Host;

@@ -19,8 +19,55 @@ use std::alloc::Global;
 use std::mem;
 
 impl<F: Drop, O: Outcome + Drop, P: ThreadPool + Drop, U: Unpark> Cx<F, O, P, U> {
-    /// The queue's front runs, at this reading of the clock, and its future is taken out of the table.
-    fn begin_turn(&mut self, now: Instant, acts: Acts) -> (u64, Option<F>)
+    /// The waker of a task that begins a turn: the one that it had, or a new one before its first turn. The answer tells
+    /// whether there was memory for it.
+    fn open_waker<R: Host>(&mut self, rt: &R, alloc: Global, task: u64) -> bool
+        ensures waker { IfSome self.new.waker (λ waker. waker ≡ task) }
+        ensures parts { self.new.parts ≡ self.old.parts }
+        ensures futures { self.new.futures ≡ self.old.futures }
+    {
+        let at = task as usize;
+        if at < self.wakers.len() {
+            let had = mem::replace(&mut self.wakers[at], None);
+            if let Some(waker) = had {
+                if waker.task() == task {
+                    self.waker = Some(waker);
+                    return true;
+                }
+            }
+        }
+        match self.inbox.waker(rt, alloc, task) {
+            Ok(waker) => {
+                self.waker = Some(waker);
+                true
+            }
+            Err(_) => {
+                self.waker = None;
+                false
+            }
+        }
+    }
+
+    /// The waker of the task whose turn ends goes back to the table.
+    fn close_waker(&mut self, task: u64)
+        ensures parts { self.new.parts ≡ self.old.parts }
+        ensures futures { self.new.futures ≡ self.old.futures }
+    {
+        let at = task as usize;
+        if at < self.wakers.len() {
+            self.wakers[at] = mem::replace(&mut self.waker, None);
+        }
+    }
+
+    /// The queue's front runs, at this reading of the clock, and its future is taken out of the table. Before its first
+    /// turn its remote waker is made.
+    fn begin_turn<R: Host>(
+        &mut self,
+        rt: &R,
+        alloc: Global,
+        now: Instant,
+        acts: Acts,
+    ) -> (u64, Option<F>)
         requires rests { self.old.parts.tasks.turn ≡ None }
         requires queued { 0 < length self.old.parts.tasks.tasks.queue }
         ensures begins { Begins result.0 now acts self.old self.new }
@@ -29,9 +76,11 @@ impl<F: Drop, O: Outcome + Drop, P: ThreadPool + Drop, U: Unpark> Cx<F, O, P, U>
         let Ok(task) = self.parts.tasks.begin_turn() else {
             unreachable!()
         };
+        let made = self.open_waker(rt, alloc, task);
         self.parts.me = task;
         self.parts.now = now;
         self.parts.acts = acts;
+        self.parts.is_out_of_memory = self.parts.is_out_of_memory || !made;
         let at = task as usize;
         if at >= self.futures.len() {
             return (task, None);
@@ -46,6 +95,7 @@ impl<F: Drop, O: Outcome + Drop, P: ThreadPool + Drop, U: Unpark> Cx<F, O, P, U>
         ensures { Pauses task future result self.old self.new }
     {
         let ended = self.parts.tasks.end_turn(Poll::Pending);
+        self.close_waker(task);
         let at = task as usize;
         if at < self.futures.len() {
             self.futures[at] = future;
@@ -53,11 +103,13 @@ impl<F: Drop, O: Outcome + Drop, P: ThreadPool + Drop, U: Unpark> Cx<F, O, P, U>
         ended
     }
 
-    /// The turn that runs ends ready.
-    fn complete_turn(&mut self, output: O) -> Ended
+    /// The turn that runs ends ready: from now on no other thread can list the task.
+    fn complete_turn<R: Host>(&mut self, rt: &R, task: u64, output: O) -> Ended
         requires { is_some self.old.parts.tasks.turn ≡ true }
         ensures { Completes output result self.old self.new }
     {
+        self.inbox.retire(rt, task);
+        self.waker = None;
         self.parts.tasks.end_turn(Poll::Ready(output))
     }
 }
@@ -91,7 +143,7 @@ where
             Poll::Ready(output) => {
                 future.cancel(self);
                 let number = output.number();
-                (End::Ready(number), self.complete_turn(output))
+                (End::Ready(number), self.complete_turn(rt, task, output))
             }
             Poll::Pending => (End::Pending, self.pause_turn(task, Some(future))),
         }
@@ -114,7 +166,7 @@ where
         ensures has_timers { self.new.parts.has_timers ≡ self.old.parts.has_timers }
         ensures rests { self.new.parts.tasks.turn ≡ None }
     {
-        let (task, taken) = self.begin_turn(now, acts);
+        let (task, taken) = self.begin_turn(rt, alloc, now, acts);
         let (end, ended) = self.run_turn(rt, alloc, task, taken);
         (task, end, ended)
     }

@@ -4,7 +4,7 @@ use Rattle.std.specs.Prelude.{Option, slice_get, is_some, IfSome}
 use Rattle.mono_model.specs.Table.{Table, value_at}
 use Rattle.mono_wheel.specs.Start.{start, top_level}
 use Rattle.mono_wheel.specs.Model.{Wheel, Timed, timed_at, NextTick, IsPending, AllFit, Fits}
-use Rattle.mono_time.specs.Sleeps.{SleepTable, armed}
+use Rattle.mono_time.specs.Sleeps.{SleepTable, armed, IsOneArmed}
 use Rattle.mono_time.specs.Entries.{is_armed_state, kept_in, tick_in, owner_of}
 use Rattle.mono_time.specs.Keeping.{Holds}
 use Rattle.mono_time.specs.Registered.{registered_in, registered_under, registered_at, NextExpiration, IsOnePending}
@@ -82,6 +82,11 @@ module _ (wheel : Wheel) (keys : Table ℕ) (entries : List Entry) (greatest liv
                 subst (λ r. next ≤ start top_level wheel.elapsed r) key.1.2 (first.least key.0 key.1.0 key.1.1);
           },
         )
+
+    pub next-armed : (next : Option ℕ) → NextTick wheel next → IfSome next (λ t. IsOneArmed sleeps)
+    next-armed None none = tt
+    next-armed (Some next) (inl (pending, is)) = let there = in_wheel pending.0 pending.1.0 pending.1.1 in (there.0, (pending.1.0.tick, (there.2.0, there.2.1)))
+    next-armed (Some next) (inr (none, first)) = let there = in_wheel first.key first.timed first.is in (there.0, (first.timed.tick, (there.2.0, there.2.1)))
 
     pub next-ahead : (next : Option ℕ) → NextTick wheel next → AllFit wheel → wheel.elapsed ≡ greatest → ((s tick : ℕ) (waker : Option ℕ) → value_at (table_kept wheel keys entries) s ≡ Some (armed tick waker) → greatest < tick)
         → ((top now tick : ℕ) → now < start top now tick) → ((top now tick : ℕ) → now < tick → start top now tick ≤ tick)

@@ -123,6 +123,10 @@ fired sleeps s = with_table sleeps (with_value sleeps.table s elapsed)
 abbrev pub IsNoneArmedUpTo : SleepTable → Type 0
 IsNoneArmedUpTo sleeps = (s tick : ℕ) (waker : Option ℕ) → value_at sleeps.table s ≡ Some (armed tick waker) → sleeps.greatest < tick
 
+-- some sleep is armed
+abbrev pub IsOneArmed : SleepTable → Type 0
+IsOneArmed sleeps = (s : ℕ) × ((tick : ℕ) × ((waker : Option ℕ) × (value_at sleeps.table s ≡ Some (armed tick waker))))
+
 -- the sleep is armed with this waker at a tick up to the greatest, and no sleep is armed at a lower tick
 pub record IsFiredFirst (sleeps : SleepTable) (s : ℕ) (waker : Option ℕ) : Type 0 where
   pub tick : ℕ

@@ -48,7 +48,7 @@ impl Instant {
     }
 
     /// The tick of a clock's reading: milliseconds, rounded down.
-    pub(crate) fn clock_tick(&self) -> u64
+    pub fn clock_tick(&self) -> u64
         ensures tick { result ≡ down (nanos_of self.now) }
         ensures range { result < 2 ^ 63 }
     {

@@ -65,7 +65,7 @@ impl Timers {
     ghost use Rattle.mono_model.specs.Sleeps.{Sleeps};
     ghost use Rattle.mono_model.specs.Sleeps as model;
     ghost use Rattle.mono_time.specs.Instants.{nanos_of};
-    ghost use Rattle.mono_time.specs.Sleeps.{no_sleeps, Added, poll_answer, polled, reset_answer, reset, remove_answer, removed, elapsed_answer, at_clock, fired, IsNoneArmedUpTo, IsFiredFirst, armed_count, armed};
+    ghost use Rattle.mono_time.specs.Sleeps.{no_sleeps, Added, poll_answer, polled, reset_answer, reset, remove_answer, removed, elapsed_answer, at_clock, fired, IsOneArmed, IsNoneArmedUpTo, IsFiredFirst, armed_count, armed};
     ghost use Rattle.mono_model.specs.SleepActs as machine;
     ghost use Rattle.mono_time.specs.Timers.{sleeps_of, elapsed_tick, registered_of, credit_left, poll_raise};
     ghost use Rattle.mono_wheel.specs.Credit.{most_takes};
@@ -258,9 +258,11 @@ impl Timers {
     /// The next tick at which the wheel has something to do: None exactly where no sleep is armed, else the first start of a
     /// slot with a sleep (`next`).
     ///
-    /// While no clock step is under way it is above the greatest tick and not above the least armed tick (`ahead`).
+    /// While no clock step is under way it is above the greatest tick and not above the least armed tick (`ahead`). It is
+    /// there only where some sleep is armed (`armed`).
     pub fn next_expiration_time(&self) -> Option<u64>
         ensures next { NextExpiration (elapsed_tick self.now) (registered_of self.now) (sleeps_of self.now) result }
+        ensures armed { IfSome result (λ next. IsOneArmed (sleeps_of self.now)) }
         ensures ahead { IsNoneArmedUpTo (sleeps_of self.now) → elapsed_tick self.now ≡ (sleeps_of self.now).greatest → IfSome result (λ next. ((sleeps_of self.now).greatest < next) × ((s tick : ℕ) (waker : Option ℕ) → value_at (sleeps_of self.now).table s ≡ Some (armed tick waker) → next ≤ tick)) }
     {
         slots_start_ahead();

@@ -3,6 +3,7 @@ use Rattle.mono_model.specs.Sleeps.{Sleeps}
 use Rattle.mono_model.specs.SleepActs as sleep
 use Rattle.mono_model.specs.Firing.{FireInTurn, IsFirstDue, IsNoneDue}
 use Rattle.mono_time.specs.Instants.{nanos_of}
+use Rattle.mono_time.specs.Sleeps.{IsNoneArmedUpTo}
 use Rattle.mono_time.specs.Stands.{StandsForSleeps}
 use Rattle.mono_machine.specs.Steps.{all_fired, with_first, wakers_of}
 use Rattle.mono_exec.specs.Matches.{Keeps}
@@ -52,3 +53,6 @@ returns-clause-fires g c = λ sleeps st.
       subst (Keeps c.clock.new.self) before.2 (keeps_none c.loop-s.timers c.clock.new.self before.0 n before.1 c.in_default.ensures.none.1 last.1),
       subst (FireInTurn old.table old.greatest) (append-nil fired) (before.4 [] (subst (λ x. IsNoneDue x.table x.greatest) before.2 last.0)),
     )
+
+pub returns-clause-rests : goal.returns-clause-rests
+returns-clause-rests g c = subst IsNoneArmedUpTo (sym c.in_default.ensures.none.1) c.in_default.ensures.none.0

@@ -1,6 +1,6 @@
-use Rattle.std.proofs.Common.{[], subst}
+use Rattle.std.proofs.Common.{◌≡◌, true, false, [], subst}
 use Rattle.mono_machine.specs.Machine.{Machine, start_machine}
-use Rattle.mono_rt.specs.Blocked.{unless_all}
+use Rattle.mono_rt.specs.Numbered.{answer_numbered}
 use Rattle.mono_rt.specs.Rounds.{Blocked}
 use Rattle.mono_rt.proofs.Going.{goes_of, run_of}
 use Rattle.mono_rt.proofs.Doing.{relation_of}
@@ -12,13 +12,10 @@ returns g c =
     let made = c.in_ok-runtime.runtime in
     let left = c.block_on-answer.new.self in
     let m = start_machine c.args.limits c.args.strategy in
-    let told = Blocked made.cx.parts.has_timers c.args.turns c.block_on-answer.result in
+    let answer = answer_numbered number c.block_on-answer.result in
+    let told = Blocked made.cx.parts.has_timers c.args.turns answer in
     record {
-      blocked = unless_all c.block_on-answer.result
-          (λ does unfull. subst (λ h. (new : Machine) × Blocked h c.args.turns c.block_on-answer.result m c.into_journal.result.entries.items new []) c.in_ok-runtime.ensures.timers
-          (relation_of number told made.cx.parts left.cx.parts made.journal left.journal c.into_journal.result m c.in_ok-runtime.ensures.stands c.in_ok-runtime.ensures.journal c.into_journal.ensures does unfull))
-          c.block_on-answer.ensures.blocked;
-      run = unless_all c.block_on-answer.result
-          (λ does. run_of number made.cx.parts left.cx.parts made.journal left.journal c.into_journal.result m c.in_ok-runtime.ensures.stands c.in_ok-runtime.ensures.journal c.into_journal.ensures (goes_of number told made.cx.parts left.cx.parts made.journal left.journal does))
-          c.block_on-answer.ensures.blocked;
+      blocked = λ unfull. subst (λ h. (new : Machine) × Blocked h c.args.turns answer m c.into_journal.result.entries.items new []) c.in_ok-runtime.ensures.timers
+          (relation_of number told made.cx.parts left.cx.parts made.journal left.journal c.into_journal.result m c.in_ok-runtime.ensures.stands c.in_ok-runtime.ensures.journal c.into_journal.ensures c.block_on-answer.ensures.blocked unfull);
+      run = λ unfull. run_of number made.cx.parts left.cx.parts made.journal left.journal c.into_journal.result m c.in_ok-runtime.ensures.stands c.in_ok-runtime.ensures.journal c.into_journal.ensures (goes_of number told made.cx.parts left.cx.parts made.journal left.journal c.block_on-answer.ensures.blocked) unfull;
     }

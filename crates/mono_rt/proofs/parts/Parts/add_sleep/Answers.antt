@@ -1,4 +1,4 @@
-use Rattle.std.proofs.Common.{◌≡◌, ℕ, refl, ap, ◌∙◌, subst}
+use Rattle.std.proofs.Common.{◌≡◌, ℕ, refl, ap, sym, ◌∙◌, subst, Ok}
 use Rattle.std.specs.Prelude.{Result, Err}
 use Rattle.mono_model.specs.Sleeps.{Sleeps}
 use Rattle.mono_model.specs.SleepActs.{Adds}
@@ -9,7 +9,13 @@ use Rattle.mono_time.specs.Timers.{sleeps_of}
 use Rattle.mono_model.specs.declared.error.Error.TheVariants.{Shutdown}
 use Rattle.mono_model.specs.declared.error.SleepError.{SleepError}
 use Rattle.mono_model.specs.declared.error.SleepError.TheVariants.{Memory, Timer}
-use Rattle.mono_rt.proofs.Calling.{by_no_sleep}
+use Rattle.mono_model.specs.Ticks.{up}
+use Rattle.mono_model.specs.SleepActs as sleep
+use Rattle.mono_time.specs.Sleeps.{added}
+use Rattle.mono_time.proofs.Resting.{rests-added}
+use Rattle.mono_machine.specs.declared.events.Reply.TheVariants as reply
+use Rattle.mono_exec.proofs.Timing.{alike_added}
+use Rattle.mono_rt.proofs.Calling.{by_no_sleep, by_sleeps, added_at}
 use Rattle.mono_rt.proofs.parts.Parts.add_sleep.Goals as goal
 
 abbrev failed : SleepError → Result ℕ SleepError
@@ -34,3 +40,14 @@ returns-in-Err-Timer-Shutdown-clause-leads g c =
     let added : Added (sleeps_of old) n (Err (Timer Shutdown)) (sleeps_of new) = subst (λ r. Added (sleeps_of old) n r (sleeps_of new)) is c.add.ensures.added in
     let stands : (m : Sleeps) → StandsForSleeps old m → Adds (sleeps_of old).is_enabled m n (Err (Timer Shutdown)) (StandsForSleeps new) = λ m st. subst (λ r. Adds (sleeps_of old).is_enabled m n r (StandsForSleeps new)) is (c.add.ensures.stands m st) in
     by_no_sleep g.O.Outcome.output_number c.args.self.now new _ added.1 c.add.ensures.elapsed (λ m st. (stands m st).1) (λ h. h)
+
+pub returns-in-Ok-clause-leads : goal.returns-in-Ok-clause-leads
+returns-in-Ok-clause-leads g c =
+    let number = g.O.Outcome.output_number in
+    let old = c.args.self.now in
+    let n = nanos_of c.args.deadline in
+    let stands : (m : Sleeps) → StandsForSleeps old.timers m → Adds (sleeps_of old.timers).is_enabled m n (Ok c.in-Ok.s) (StandsForSleeps c.add.new.self) = c.in-Ok.ensures.stands in
+    by_sleeps number old _ _ _ _ (added (sleeps_of old.timers) (up n)) (λ x. sleep.added x n) c.note.ensures
+    (λ m st. ap (λ o. o.machine) (added_at m c.as_nanos.result n c.as_nanos.ensures c.args.deadline.in_range (stands m.sleeps st.sleeps).1))
+    (λ m st. ap reply.Sleep (stands m.sleeps st.sleeps).2 ∙ sym (ap (λ o. o.reply) (added_at m c.as_nanos.result n c.as_nanos.ensures c.args.deadline.in_range (stands m.sleeps st.sleeps).1)))
+    c.in-Ok.ensures.added.3 (alike_added (sleeps_of old.timers) (up n)) c.add.ensures.elapsed (λ m st. (stands m st).3) (rests-added (sleeps_of old.timers) (up n))

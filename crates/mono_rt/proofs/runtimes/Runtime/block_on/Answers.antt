@@ -1,24 +1,53 @@
+use Rattle.std.proofs.Common.{◌≡◌, ap, ◌∙◌, sym, Ok}
+use Rattle.std.specs.Prelude.{⊤}
+use Rattle.std.specs.Option.{option_map}
+use Rattle.mono_rt.specs.Rounds.{IsSpawn, Ends}
+use Rattle.mono_rt.proofs.Going.{goes_of, goes_on, does_led}
 use Rattle.mono_rt.proofs.Doing.{blocks_by, blocks_done, blocks_refused}
 use Rattle.mono_rt.proofs.runtimes.Runtime.block_on.Goals as goal
 
 pub returns-in-Err-clause-blocked : goal.returns-in-Err-clause-blocked
 returns-in-Err-clause-blocked g c =
-    blocks_refused g.O.Outcome.output_number g.row.O.Denot c.in-Err.error c.args.self.now.cx.parts.has_timers c.args.turns c.args.self.now.cx.parts c.start_main.new.self.cx.parts c.args.self.now.journal c.start_main.new.self.journal c.in-Err.ensures.refused
+    blocks_refused g.O.Outcome.output_number c.in-Err.error c.args.self.now.cx.parts.has_timers c.args.turns c.args.self.now.cx.parts c.start_main.new.self.cx.parts c.args.self.now.journal c.start_main.new.self.journal c.start_main.ensures.goes c.in-Err.ensures.refused
 
 pub returns-in-Err-answer-clause-blocked : goal.returns-in-Err-answer-clause-blocked
 returns-in-Err-answer-clause-blocked g c =
+    let number = g.O.Outcome.output_number in
     let old = c.args.self.now in
     let started = c.start_main.new.self in
     let ran = c.run-answer.new.self in
     let ended = c.end_main.new.self in
-    blocks_by g.O.Outcome.output_number g.row.O.Denot c.in-Err-answer.error old.cx.parts.has_timers started.cx.parts.has_timers c.in-Ok.main c.args.turns old.cx.parts started.cx.parts ran.cx.parts ended.cx.parts old.journal started.journal ran.journal ended.journal
+    blocks_by number c.in-Err-answer.error old.cx.parts.has_timers started.cx.parts.has_timers c.in-Ok.main c.args.turns (option_map number c.in-Ok-end_main.output) old.cx.parts started.cx.parts ran.cx.parts ended.cx.parts old.journal started.journal ran.journal ended.journal
     c.start_main.ensures.has_timers c.in-Ok.ensures.spawned (rw c.in-Err-answer.is at c.run-answer.ensures.ends) c.in-Ok-end_main.ensures.dropped
 
 pub returns-in-Some-clause-blocked : goal.returns-in-Some-clause-blocked
 returns-in-Some-clause-blocked g c =
+    let number = g.O.Outcome.output_number in
     let old = c.args.self.now in
     let started = c.start_main.new.self in
     let ran = c.run-answer.new.self in
     let ended = c.end_main.new.self in
-    blocks_done g.O.Outcome.output_number g.row.O.Denot c.in-Some.output old.cx.parts.has_timers started.cx.parts.has_timers c.in-Ok.main c.args.turns old.cx.parts started.cx.parts ran.cx.parts ended.cx.parts old.journal started.journal ran.journal ended.journal
-    c.start_main.ensures.has_timers c.in-Ok.ensures.spawned (rw c.in-Ok-answer.is at c.run-answer.ensures.ends) c.in-Ok-end_main.ensures.dropped
+    blocks_done number (number c.in-Some.output) old.cx.parts.has_timers started.cx.parts.has_timers c.in-Ok.main c.args.turns old.cx.parts started.cx.parts ran.cx.parts ended.cx.parts old.journal started.journal ran.journal ended.journal
+    c.start_main.ensures.has_timers c.in-Ok.ensures.spawned (rw c.in-Ok-answer.is at c.run-answer.ensures.ends) (rw c.in-Some.is at c.in-Ok-end_main.ensures.dropped)
+
+pub returns-in-None-clause-blocked : goal.returns-in-None-clause-blocked
+returns-in-None-clause-blocked g c =
+    let number = g.O.Outcome.output_number in
+    let old = c.args.self.now in
+    let started = c.start_main.new.self in
+    let ran = c.run-answer.new.self in
+    let ended = c.end_main.new.self in
+    does_led number old.cx.parts ended.cx.parts old.journal ended.journal (goes_on number old.cx.parts ran.cx.parts ended.cx.parts old.journal ran.journal ended.journal
+    (goes_on number old.cx.parts started.cx.parts ran.cx.parts old.journal started.journal ran.journal c.start_main.ensures.goes (goes_of number (Ends started.cx.parts.has_timers c.in-Ok.main c.args.turns c.run-answer.result) started.cx.parts ran.cx.parts started.journal ran.journal c.run-answer.ensures.ends))
+    c.end_main.ensures.goes)
+
+pub returns-in-Err-end_main-clause-blocked : goal.returns-in-Err-end_main-clause-blocked
+returns-in-Err-end_main-clause-blocked g c =
+    let number = g.O.Outcome.output_number in
+    let old = c.args.self.now in
+    let started = c.start_main.new.self in
+    let ran = c.run-answer.new.self in
+    let ended = c.end_main.new.self in
+    does_led number old.cx.parts ended.cx.parts old.journal ended.journal (goes_on number old.cx.parts ran.cx.parts ended.cx.parts old.journal ran.journal ended.journal
+    (goes_on number old.cx.parts started.cx.parts ran.cx.parts old.journal started.journal ran.journal c.start_main.ensures.goes (goes_of number (Ends started.cx.parts.has_timers c.in-Ok.main c.args.turns c.run-answer.result) started.cx.parts ran.cx.parts started.journal ran.journal c.run-answer.ensures.ends))
+    c.end_main.ensures.goes)

@@ -1,20 +1,33 @@
-use Rattle.std.proofs.Common.{refl, ap, ◌∙◌}
+use Rattle.std.proofs.Common.{refl, ap, ◌∙◌, subst, None}
+use Rattle.std.specs.Option.{option_map}
 use Rattle.mono_machine.specs.JoinCalls.{drop_reply}
+use Rattle.mono_machine.specs.declared.events.Act.TheVariants as act
+use Rattle.mono_machine.specs.declared.events.Event.TheVariants as event
+use Rattle.mono_machine.specs.declared.events.Reply.TheVariants as reply
+use Rattle.mono_machine.specs.declared.events.Report.TheVariants as report
+use Rattle.mono_rt.specs.Journals.{Does, IsStep}
 use Rattle.mono_rt.specs.Numbered.{drop_numbered}
-use Rattle.mono_rt.specs.Rounds.{IsDrop}
-use Rattle.mono_rt.proofs.Going.{does_stay, does_drop}
-use Rattle.mono_rt.proofs.Doing.{stay_on, does_more}
+use Rattle.mono_rt.specs.Rounds.{IsDrop, DropsFor}
+use Rattle.mono_rt.proofs.Calling.{with_all}
+use Rattle.mono_rt.proofs.Going.{goes_of, goes_nowhere, does_stay, does_drop}
+use Rattle.mono_rt.proofs.Doing.{stay_on, does_more, drops_for}
 use Rattle.mono_rt.proofs.runtimes.Runtime.end_main.Goals as goal
 
 pub returns-in-Ok-answer-clause-dropped : goal.returns-in-Ok-answer-clause-dropped
 returns-in-Ok-answer-clause-dropped g c =
     let number = g.O.Outcome.output_number in
     let parts = c.args.self.now.cx.parts in
-    stay_on number (IsDrop c.args.main) parts parts _ c.args.self.now.journal c.reserve.new.self c.push.new.self
+    let after = with_all number parts c.drop_join-answer.new.self parts.timers parts.acts in
+    let step = IsStep (event.Act (act.DropJoin c.args.main)) (report.Reply (reply.Dropped (option_map number c.in-Ok-answer.output))) in
+    drops_for number c.args.main (option_map number c.in-Ok-answer.output) parts after c.args.self.now.journal c.push.new.self
+    (stay_on number step parts parts after c.args.self.now.journal c.reserve.new.self c.push.new.self
     (does_stay number parts parts c.args.self.now.journal c.reserve.new.self refl refl refl refl c.reserve.ensures.entries c.reserve.ensures.full)
-    (does_more number _ (IsDrop c.args.main) parts _ c.reserve.new.self c.push.new.self (λ m new xs zs stm stn is. (c.drop_reply_of-reply.result, is))
-    (does_drop number parts _ c.reserve.new.self c.push.new.self c.args.main c.drop_reply_of-reply.result c.push.ensures.entries c.push.ensures.full
-    (c.drop_reply_of-reply.ensures ∙ ap (λ a. drop_reply (drop_numbered number a)) c.drop_join-answer.ensures.answer) c.drop_join-answer.ensures.after refl refl refl))
+    (subst (λ r. Does number (IsStep (event.Act (act.DropJoin c.args.main)) (report.Reply r)) parts after c.reserve.new.self c.push.new.self) (c.drop_reply_of-reply.ensures ∙ ap (λ a. drop_reply (drop_numbered number a)) c.in-Ok-answer.is)
+    (does_drop number parts after c.reserve.new.self c.push.new.self c.args.main c.drop_reply_of-reply.result c.push.ensures.entries c.push.ensures.full
+    (c.drop_reply_of-reply.ensures ∙ ap (λ a. drop_reply (drop_numbered number a)) c.drop_join-answer.ensures.answer) c.drop_join-answer.ensures.after refl refl refl)))
+
+pub returns-in-Ok-answer-clause-goes : goal.returns-in-Ok-answer-clause-goes
+returns-in-Ok-answer-clause-goes g c = goes_of g.O.Outcome.output_number (DropsFor c.args.main (option_map g.O.Outcome.output_number c.in-Ok-answer.output)) c.args.self.now.cx.parts (with_all g.O.Outcome.output_number c.args.self.now.cx.parts c.drop_join-answer.new.self c.args.self.now.cx.parts.timers c.args.self.now.cx.parts.acts) c.args.self.now.journal c.push.new.self (returns-in-Ok-answer-clause-dropped g c)
 
 pub returns-in-Err-answer-clause-dropped : goal.returns-in-Err-answer-clause-dropped
 returns-in-Err-answer-clause-dropped g c =
@@ -25,3 +38,9 @@ returns-in-Err-answer-clause-dropped g c =
     (does_more number _ (IsDrop c.args.main) parts _ c.reserve.new.self c.push.new.self (λ m new xs zs stm stn is. (c.drop_reply_of-reply.result, is))
     (does_drop number parts _ c.reserve.new.self c.push.new.self c.args.main c.drop_reply_of-reply.result c.push.ensures.entries c.push.ensures.full
     (c.drop_reply_of-reply.ensures ∙ ap (λ a. drop_reply (drop_numbered number a)) c.drop_join-answer.ensures.answer) c.drop_join-answer.ensures.after refl refl refl))
+
+pub returns-in-Err-answer-clause-goes : goal.returns-in-Err-answer-clause-goes
+returns-in-Err-answer-clause-goes g c = goes_of g.O.Outcome.output_number (IsDrop c.args.main) c.args.self.now.cx.parts _ c.args.self.now.journal c.push.new.self (returns-in-Err-answer-clause-dropped g c)
+
+pub returns-in-Err-clause-goes : goal.returns-in-Err-clause-goes
+returns-in-Err-clause-goes g c = goes_nowhere g.O.Outcome.output_number c.args.self.now.cx.parts c.args.self.now.cx.parts c.args.self.now.journal c.reserve.new.self refl refl refl refl c.reserve.ensures.entries c.reserve.ensures.full

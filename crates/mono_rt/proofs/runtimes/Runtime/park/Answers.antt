@@ -1,6 +1,6 @@
 use Rattle.std.proofs.Common.{refl, [], ◌∷◌, ◌∙◌, sym, subst}
 use Rattle.mono_rt.specs.Journals.{Does}
-use Rattle.mono_rt.specs.Rounds.{IsPark}
+use Rattle.mono_rt.specs.Rounds.{IsPark, IsWait}
 use Rattle.mono_rt.specs.declared.journals.Entry.TheVariants.{Now, Park}
 use Rattle.mono_rt.proofs.Going.{goes_of, does_stay, does_past}
 use Rattle.mono_rt.proofs.Doing.{stay_on, two_pushed}
@@ -17,12 +17,12 @@ returns-in-Ok-clause-parked g c =
     let n = c.as_nanos.result in
     let wait = c.wait_from-wait.result in
     let last = c.push-in-Ok.new.self in
-    subst (λ j. Does number IsPark parts c.park_driver-failed.new.self.cx.parts c.args.self.now.journal j) (sym c.park_driver-failed.ensures.journal)
-    (subst (λ x. Does number IsPark parts x.parts c.args.self.now.journal last) (sym c.park_driver-failed.ensures.cx)
-    (stay_on number IsPark parts parts parts c.args.self.now.journal opened last
+    subst (λ j. Does number (IsPark parts.has_timers) parts c.park_driver-failed.new.self.cx.parts c.args.self.now.journal j) (sym c.park_driver-failed.ensures.journal)
+    (subst (λ x. Does number (IsPark parts.has_timers) parts x.parts c.args.self.now.journal last) (sym c.park_driver-failed.ensures.cx)
+    (stay_on number (IsPark parts.has_timers) parts parts parts c.args.self.now.journal opened last
     (does_stay number parts parts c.args.self.now.journal opened refl refl refl refl c.reserve.ensures.entries c.reserve.ensures.full)
-    (does_past number IsPark parts opened last (Now n ∷ Park wait ∷ []) (two_pushed opened c.push.new.self last (Now n) (Park wait) c.push.ensures.full c.push-in-Ok.ensures.full c.push.ensures.entries c.push-in-Ok.ensures.entries)
-    (c.push-in-Ok.ensures.full ∙ c.push.ensures.full) (λ m. refl) (λ m rest. (n, (wait, (refl, refl)))))))
+    (does_past number (IsPark parts.has_timers) parts opened last (Now n ∷ Park wait ∷ []) (two_pushed opened c.push.new.self last (Now n) (Park wait) c.push.ensures.full c.push-in-Ok.ensures.full c.push.ensures.entries c.push-in-Ok.ensures.entries)
+    (c.push-in-Ok.ensures.full ∙ c.push.ensures.full) (λ m. refl) (λ m st rest. (n, (wait, (subst (λ x. IsWait parts.has_timers m x wait) (sym c.as_nanos.ensures) (c.wait_from-wait.ensures m st), (refl, refl))))))))
 
 pub returns-in-Ok-clause-goes : goal.returns-in-Ok-clause-goes
-returns-in-Ok-clause-goes g c = goes_of g.O.Outcome.output_number IsPark c.args.self.now.cx.parts c.park_driver-failed.new.self.cx.parts c.args.self.now.journal c.park_driver-failed.new.self.journal (returns-in-Ok-clause-parked g c)
+returns-in-Ok-clause-goes g c = goes_of g.O.Outcome.output_number (IsPark c.args.self.now.cx.parts.has_timers) c.args.self.now.cx.parts c.park_driver-failed.new.self.cx.parts c.args.self.now.journal c.park_driver-failed.new.self.journal (returns-in-Ok-clause-parked g c)

@@ -1,4 +1,6 @@
-use Rattle.std.proofs.Common.{◌≡◌, cond, ℕ, ◌-◌, arith, ap, ◌∙◌, sym}
+use Rattle.std.proofs.Common.{◌≡◌, cond, ℕ, ◌-◌, ◌<◌, arith, refl, ap, ◌∙◌, sym, subst}
+use Rattle.mono_rt.specs.Rounds.{Pause}
+use Rattle.mono_rt.proofs.Going.{goes_of, goes_on, does_led}
 use Rattle.mono_rt.proofs.Doing.{does_pass, pass_breaks}
 use Rattle.mono_rt.proofs.runtimes.Runtime.pass.Goals as goal
 
@@ -8,7 +10,7 @@ no_cost u k is = omega (arith, is)
 pub returns-in-Err-clause-passes : goal.returns-in-Err-clause-passes
 returns-in-Err-clause-passes g c =
     pass_breaks g.O.Outcome.output_number c.in-Err.error c.args.self.now.cx.parts.has_timers c.args.units c.args.self.now.cx.parts c.pause.new.self.cx.parts c.args.self.now.journal c.pause.new.self.journal
-    (rw c.in-Err.is at c.pause.ensures.breaks) (rw c.in-Err.is at c.pause.ensures.pauses)
+    (rw c.in-Err.is at c.pause.ensures.pauses)
 
 pub returns-in-Ok-clause-passes : goal.returns-in-Ok-clause-passes
 returns-in-Ok-clause-passes g c =
@@ -22,3 +24,21 @@ returns-in-Ok-round-clause-passes g c =
 
 pub returns-in-Ok-round-clause-fewer : goal.returns-in-Ok-round-clause-fewer
 returns-in-Ok-round-clause-fewer g c = c.in-Ok-round.ensures.fewer ((rw c.in-Ok-false.is at c.pause.ensures.queued) c.in-Ok-false.field-0-test) c.requires.some_left
+
+pub returns-in-Err-round-clause-passes : goal.returns-in-Err-round-clause-passes
+returns-in-Err-round-clause-passes g c =
+    let number = g.O.Outcome.output_number in
+    let old = c.args.self.now in
+    let paused = c.pause.new.self in
+    let left = c.round.new.self in
+    does_led number old.cx.parts left.cx.parts old.journal left.journal (goes_on number old.cx.parts paused.cx.parts left.cx.parts old.journal paused.journal left.journal
+    (goes_of number (Pause old.cx.parts.has_timers) old.cx.parts paused.cx.parts old.journal paused.journal (rw c.in-Ok-true.is at c.pause.ensures.pauses)) c.round.ensures.goes)
+
+pub returns-in-Err-round-2-clause-passes : goal.returns-in-Err-round-2-clause-passes
+returns-in-Err-round-2-clause-passes g c =
+    let number = g.O.Outcome.output_number in
+    let old = c.args.self.now in
+    let paused = c.pause.new.self in
+    let left = c.round-in-Ok-false.new.self in
+    does_led number old.cx.parts left.cx.parts old.journal left.journal (goes_on number old.cx.parts paused.cx.parts left.cx.parts old.journal paused.journal left.journal
+    (goes_of number (Pause old.cx.parts.has_timers) old.cx.parts paused.cx.parts old.journal paused.journal (rw c.in-Ok-false.is at c.pause.ensures.pauses)) c.round-in-Ok-false.ensures.goes)

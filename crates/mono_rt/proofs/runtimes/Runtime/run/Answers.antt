@@ -1,4 +1,5 @@
-use Rattle.std.proofs.Common.{◌≡◌, true, false, Bool, arith, ◌∙◌, sym}
+use Rattle.std.proofs.Common.{◌≡◌, refl, true, false, Bool, arith, ap, ◌∙◌, sym, subst}
+use Rattle.mono_rt.proofs.Going.{does_led}
 use Rattle.mono_rt.proofs.Doing.{does_first, passes_more, ends_done, ends_turns, ends_by}
 use Rattle.mono_rt.proofs.runtimes.Runtime.run.Goals.{then-loop-units-test+else-not-has_output, else-loop-units-test}
 use Rattle.mono_rt.proofs.runtimes.Runtime.run.Goals as goal
@@ -42,3 +43,6 @@ returns-else-has_output-clause-ends g c =
       | else-loop-units-test w ↦ omega (arith, w.loop-units-test.false)
     ])
     (sym c.if-has_output.ensures) c.loop-units.invariant.0
+
+pub returns-in-Err-clause-ends : goal.returns-in-Err-clause-ends
+returns-in-Err-clause-ends g c = does_led g.O.Outcome.output_number c.args.self.now.cx.parts c.round.new.self.cx.parts c.args.self.now.journal c.round.new.self.journal c.round.ensures.goes

@@ -1,4 +1,4 @@
-use Rattle.std.proofs.Common.{◌≡◌, None}
+use Rattle.std.proofs.Common.{◌≡◌, ◌<◌, ◌≤◌, ℕ, None, length}
 use Rattle.mono_rt.specs.Journals.{Does}
 use Rattle.mono_rt.specs.Rounds.{Rounds}
 use Rattle.mono_rt.proofs.runtimes.Runtime.run.Given as goal

@@ -1,7 +1,9 @@
-use Rattle.std.proofs.Common.{◌≡◌, ℕ, Bool, true, false, refl, ap, ◌∙◌, Ok, Err}
+use Rattle.std.proofs.Common.{◌≡◌, ℕ, Bool, true, false, refl, ap, sym, ◌∙◌, Ok, Err, subst}
 use Rattle.std.specs.Prelude.{Result}
 use Rattle.mono_task.specs.declared.error.SpawnTask.{SpawnTask}
 use Rattle.mono_task.specs.declared.error.SpawnTask.TheVariants.{AtCapacity}
+use Rattle.mono_rt.specs.Journals.{Does}
+use Rattle.mono_rt.proofs.Calling.{with_all}
 use Rattle.mono_rt.proofs.Going.{goes_of, does_spawn, does_full}
 use Rattle.mono_rt.specs.Rounds.{IsSpawn, IsRefused}
 use Rattle.mono_rt.proofs.Doing.{stay_on}
@@ -20,13 +22,16 @@ failed e = Err e
 pub returns-in-Ok-clause-spawned : goal.returns-in-Ok-clause-spawned
 returns-in-Ok-clause-spawned g c =
     let number = g.O.Outcome.output_number in
+    let old = c.args.self.now in
     let opened = c.open_spawn.new.self in
-    stay_on number (IsSpawn c.in-Ok.t) c.args.self.now.cx.parts opened.cx.parts _ c.args.self.now.journal opened.journal c.push.new.self c.open_spawn.ensures.stays
-    (does_spawn number opened.cx.parts _ opened.journal c.push.new.self c.in-Ok.t c.push.ensures.entries c.push.ensures.full
-    (not_true _ (λ e. not_both c.spawn.result c.in-Ok.t c.in-Ok.is (c.spawn.ensures.full.1 e))) c.in-Ok.ensures.number c.in-Ok.ensures.after refl refl refl)
+    let made = with_all number opened.cx.parts c.spawn.new.self opened.cx.parts.timers opened.cx.parts.acts in
+    subst (λ p. Does number (IsSpawn c.in-Ok.t) old.cx.parts p old.journal c.push.new.self) (sym c.put_future.ensures.parts)
+    (stay_on number (IsSpawn c.in-Ok.t) old.cx.parts opened.cx.parts made old.journal opened.journal c.push.new.self c.open_spawn.ensures.stays
+    (does_spawn number opened.cx.parts made opened.journal c.push.new.self c.in-Ok.t c.push.ensures.entries c.push.ensures.full
+    (not_true _ (λ e. not_both c.spawn.result c.in-Ok.t c.in-Ok.is (c.spawn.ensures.full.1 e))) c.in-Ok.ensures.number c.in-Ok.ensures.after refl refl refl))
 
 pub returns-in-Ok-clause-goes : goal.returns-in-Ok-clause-goes
-returns-in-Ok-clause-goes g c = goes_of g.O.Outcome.output_number (IsSpawn c.in-Ok.t) c.args.self.now.cx.parts _ c.args.self.now.journal c.push.new.self (returns-in-Ok-clause-spawned g c)
+returns-in-Ok-clause-goes g c = goes_of g.O.Outcome.output_number (IsSpawn c.in-Ok.t) c.args.self.now.cx.parts c.put_future.new.self.parts c.args.self.now.journal c.push.new.self (returns-in-Ok-clause-spawned g c)
 
 pub returns-in-Err-AtCapacity-clause-refused : goal.returns-in-Err-AtCapacity-clause-refused
 returns-in-Err-AtCapacity-clause-refused g c =

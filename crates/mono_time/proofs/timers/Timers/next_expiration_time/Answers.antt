@@ -1,10 +1,15 @@
-use Rattle.mono_time.proofs.Waiting.{next-expiration, next-ahead}
+use Rattle.mono_time.proofs.Waiting.{next-expiration, next-armed, next-ahead}
 use Rattle.mono_time.proofs.timers.Timers.next_expiration_time.Goals as goal
 
 pub returns-clause-next : goal.returns-clause-next
 returns-clause-next c =
     let t = c.args.self.now in
     next-expiration t.wheel t.keys.items t.entries.items t.greatest t.live t.holds t.limit t.is_enabled c.next_expiration_time.result c.next_expiration_time.ensures.next
+
+pub returns-clause-armed : goal.returns-clause-armed
+returns-clause-armed c =
+    let t = c.args.self.now in
+    next-armed t.wheel t.keys.items t.entries.items t.greatest t.live t.holds t.limit t.is_enabled c.next_expiration_time.result c.next_expiration_time.ensures.next
 
 pub returns-clause-ahead : goal.returns-clause-ahead
 returns-clause-ahead c = λ none rest.
