@@ -4,14 +4,17 @@
 #   make run         proves and builds the program where that is not done, and replays the example
 #   make build       proves and builds the program, and leaves it as bin/monoio
 #   make test        the gate: every proof, wrong body, test and program; it ends in `rt ci`
+#   make examples    builds the program, and compares each example's reports with those stored beside it
+#   make soak        random inputs for a minute (SECONDS=n), each report checked by an independent machine
 #   make planted     tries the wrong bodies of crates/*/planted on a copy (CRATE=name: of one crate)
 #   make gate-times  the gate from nothing, with the processor seconds of each crate
 
 WORDS = replay attached 16 16 16
 EXAMPLE = examples/both_roundings.events
 CRATE =
+SECONDS = 60
 
-.PHONY: help run build test try planted gate-times
+.PHONY: help run build has-rt test examples soak try planted gate-times
 
 help:
 	@sed -n 's/^#   //p' Makefile
@@ -19,15 +22,31 @@ help:
 run: build
 	bin/monoio $(WORDS) < $(EXAMPLE)
 
-build:
-	mkdir -p bin
-	cd crates/monoio && rt run -- --version
-	cp crates/monoio/out/monoio bin/monoio
+build: has-rt
+	@mkdir -p bin
+	@echo 'proving the program and what stands below it: minutes from nothing, seconds where nothing changed; log: bin/build.log'
+	@{ (cd crates/monoio && rt run -- --version); echo $$? > bin/build.status; } 2>&1 \
+	    | tee bin/build.log | awk -v total=$$(python3 tools/below.py monoio | wc -l) -f tools/progress.awk
+	@test "$$(cat bin/build.status)" = 0 || { tail -30 bin/build.log; exit 1; }
+	@cp crates/monoio/out/monoio bin/monoio
 
-test:
+# A sentence where the kit is missing.
+has-rt:
+	@command -v rt > /dev/null || { echo 'the Rattle kit is missing: put its command rt on the path'; exit 1; }
+
+test: has-rt
 	rt ci
 
-try:
+examples: build
+	@for input in examples/*.events; do \
+	    bin/monoio $(WORDS) < $$input | cmp -s - $${input%.events}.reports \
+	        || { echo "$$input: not the stored reports"; exit 1; }; \
+	done; echo 'each example has its stored reports'
+
+soak: build
+	python3 tools/soak/soak.py bin/monoio $(SECONDS)
+
+try: has-rt
 	@echo 'unproved: this runs the program before any proof'
 	cd crates/monoio && rt try -- $(WORDS) < ../../$(EXAMPLE)
 
