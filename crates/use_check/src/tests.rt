@@ -1,8 +1,9 @@
-use crate::{Trace, Verdict, check};
+use crate::checked_replay;
 use mono_machine::{
     Act, Blocking, End, Ended, Event, How, Limits, List, Query, Refusal, Reply, Report, TurnStep,
     Woke,
 };
+use mono_trace::{Trace, Verdict, check};
 use std::alloc::{AllocError, Global};
 use std::test::Fail;
 
@@ -236,5 +237,25 @@ fn jobs_and_the_inbox(rt: HostRuntime) -> Result<(), Fail> {
     for (event, report) in pairs {
         assert!(rt; takes(alloc, &mut trace, event, report)?);
     }
+    Ok(())
+}
+
+#[test]
+fn what_the_executor_answers_is_passed(rt: HostRuntime) -> Result<(), Fail> {
+    let alloc = rt.alloc();
+    let mut steps = List::new(alloc);
+    for s in 0..300 {
+        steps.push(TurnStep::Act(Act::NewSleep(3000000)))?;
+        steps.push(TurnStep::Query(Query::Sleep(s)))?;
+        steps.push(TurnStep::Act(Act::Reset(s, 8000000)))?;
+    }
+    let mut events = Vec::new(alloc);
+    events.push(Event::Act(Act::Spawn))?;
+    events.push(Event::Turn(steps, End::Pending))?;
+    events.push(Event::Clock(7999999))?;
+    events.push(Event::Clock(8000000))?;
+    events.push(Event::Drain)?;
+    let verdict = checked_replay(alloc, LIMITS, Blocking::Attached, &events)?;
+    assert_eq!(rt; verdict, Verdict::Yes);
     Ok(())
 }

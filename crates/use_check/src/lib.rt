@@ -1,0 +1,27 @@
+//! What the executor answers is what the checker passes.
+#![tactic(auto)]
+
+ghost use Rattle.std.specs.Prelude.{◌≡◌, IfOk};
+
+use mono_machine::{Blocking, Event, Limits};
+use mono_trace::{Verdict, check};
+use std::alloc::{AllocError, Global};
+
+/// Takes all events by a new executor, and checks its reports with the same limits and strategy: the verdict is yes.
+///
+/// The only error is want of memory.
+pub fn checked_replay(
+    alloc: Global,
+    limits: Limits,
+    blocking: Blocking,
+    events: &Vec<Event>,
+) -> Result<Verdict, AllocError>
+    ensures { IfOk result (λ verdict. verdict ≡ Verdict.Yes) }
+{
+    let reports = mono_exec::replay(alloc, limits, blocking, events)?;
+    let verdict = check(alloc, limits, blocking, events, &reports)?;
+    Ok(verdict)
+}
+
+#[cfg(test)]
+mod tests;
