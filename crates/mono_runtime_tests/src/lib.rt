@@ -1,0 +1,5 @@
+//! Tests of the runtime with real threads, over its public calls.
+#![tactic(auto)]
+
+#[cfg(test)]
+mod runtimes;

@@ -1,0 +1,166 @@
+// Another thread that wakes a sleeping runtime.
+ghost use Rattle.std.specs.Prelude.{◌≡◌, ⊤, false, None, IfSome};
+
+use mono_blocking::{BlockingHandle, BlockingStrategy, Job, NoPool, Outcome};
+use mono_inbox::{RemoteWaker, UnparkHandle};
+use mono_model::Host;
+use mono_rt::{Blocking, Cx, Instant, Limits, ListClock, Runtime, ThreadDriver};
+use mono_task::{Poll, TaskFuture};
+use std::alloc::Global;
+use std::sync::atomic::{AtomicU64, Ordering};
+use std::sync::{Arc, Mutex};
+use std::test::Fail;
+use std::thread;
+use std::time::Duration;
+
+const WAKES: u64 = 10000;
+
+const LIMITS: Limits = Limits {
+    tasks: 4,
+    jobs: 4,
+    sleeps: 4,
+};
+
+/// A job that is never handed out.
+#[derive(Drop)]
+struct Nothing;
+
+impl Outcome for Nothing {
+    ghost output_number = { λ _. 0 };
+
+    fn number(&self) -> u64 {
+        0
+    }
+}
+
+impl Job for Nothing {
+    type Output = ();
+
+    type Unpark = UnparkHandle;
+
+    fn run(self) {}
+}
+
+/// What the future and the other thread share: how often the future was polled, and its waker.
+#[derive(Drop)]
+struct Shared {
+    polls: AtomicU64,
+    slot: Mutex<Option<RemoteWaker<UnparkHandle>>>,
+}
+
+/// Hands its waker out at its first poll, and is ready at the poll after the last wake.
+#[derive(Drop)]
+struct Counts {
+    shared: Arc<Shared, Global>,
+    has_given: bool,
+}
+
+impl Counts {
+    /// Hands the waker out, where that was not done.
+    fn give_out<R: Host>(&mut self, rt: &R, cx: &mut Cx<Counts, u64, NoPool<Nothing>, UnparkHandle>)
+        ensures { cx.new ≡ cx.old }
+    {
+        if self.has_given {
+            return;
+        }
+        match cx.remote_waker() {
+            Ok(waker) => {
+                *self.shared.slot.lock(rt) = Some(waker);
+                self.has_given = true;
+            }
+            Err(_) => {}
+        }
+    }
+}
+
+impl TaskFuture<Cx<Counts, u64, NoPool<Nothing>, UnparkHandle>> for Counts {
+    type Output = u64;
+
+    ghost is_spent = { λ f. false };
+
+    ghost polls = { λ f c r g d. ⊤ };
+
+    ghost cancels = { λ f c d. ⊤ };
+
+    fn spent(&self) -> bool {
+        false
+    }
+
+    fn poll<R: Host>(
+        &mut self,
+        rt: &R,
+        _alloc: Global,
+        cx: &mut Cx<Counts, u64, NoPool<Nothing>, UnparkHandle>,
+    ) -> Poll<u64> {
+        self.give_out(rt, cx);
+        let polls = self.shared.polls.fetch_add(1, Ordering::SeqCst);
+        if polls >= WAKES {
+            Poll::Ready(polls)
+        } else {
+            Poll::Pending
+        }
+    }
+
+    fn cancel(self, _cx: &mut Cx<Counts, u64, NoPool<Nothing>, UnparkHandle>) {}
+}
+
+/// Whether the future was polled more often than this, within some seconds.
+fn is_polled<R: Host>(rt: &R, shared: &Shared, often: u64) -> bool {
+    for look in 0..20000 {
+        if shared.polls.load(Ordering::SeqCst) > often {
+            return true;
+        }
+        if look > 10000 {
+            thread::sleep(rt, Duration::from_millis(1));
+        }
+    }
+    false
+}
+
+/// Wakes the task, again and again, each time once it was polled. Answers how often it was not polled in time, though it
+/// was woken.
+fn wakes<R: Host>(rt: &R, shared: &Shared) -> u64 {
+    if !is_polled(rt, shared, 0) {
+        return WAKES;
+    }
+    let Some(waker) = shared.slot.lock(rt).take() else {
+        return WAKES;
+    };
+    let mut lost = 0u64;
+    for often in 1..WAKES + 1 {
+        waker.wake(rt);
+        if !is_polled(rt, shared, often) {
+            lost = lost.saturating_add(1);
+            waker.wake(rt);
+        }
+    }
+    lost
+}
+
+#[test]
+fn no_wake_of_a_sleeping_runtime_is_lost(rt: HostRuntime) -> Result<(), Fail> {
+    let alloc = rt.alloc();
+    let zero = Instant::from_nanos(0).ok_or("an instant")?;
+    let shared = Arc::new(
+        alloc,
+        Shared {
+            polls: AtomicU64::new(0),
+            slot: Mutex::new(None),
+        },
+    )?;
+    let theirs = Arc::try_clone(&shared)?;
+    let other = thread::spawn(&rt, move || wakes(&rt, &theirs))
+        .ok()
+        .ok_or("a thread")?;
+    let driver = ThreadDriver::new(alloc, ListClock::new(vec![in alloc; zero]?))?;
+    let pool = BlockingHandle::Empty(BlockingStrategy::Panic);
+    let mut runtime = Runtime::new(alloc, driver, pool, LIMITS, Blocking::Panic, false, zero)?;
+    let main = Counts {
+        shared,
+        has_given: false,
+    };
+    let answer = runtime.block_on(&rt, alloc, main, 1000000);
+    assert_eq!(rt; answer, Ok(WAKES));
+    assert_eq!(rt; other.join(&rt), 0);
+    Ok(())
+}
