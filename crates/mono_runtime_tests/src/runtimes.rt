@@ -10,8 +10,8 @@ use std::alloc::Global;
 use std::sync::atomic::{AtomicU64, Ordering};
 use std::sync::{Arc, Mutex};
 use std::test::Fail;
-use std::thread;
 use std::time::Duration;
+use std::{thread, time};
 
 const WAKES: u64 = 10000;
 
@@ -106,19 +106,27 @@ impl TaskFuture<Cx<Counts, u64, NoPool<Nothing>, UnparkHandle>> for Counts {
 
 /// Whether the future was polled more often than this, within some seconds.
 fn is_polled<R: Host>(rt: &R, shared: &Shared, often: u64) -> bool {
-    for look in 0..20000 {
+    for look in 0..200000 {
         if shared.polls.load(Ordering::SeqCst) > often {
             return true;
         }
-        if look > 10000 {
-            thread::sleep(rt, Duration::from_millis(1));
+        if look > 100000 {
+            thread::sleep(rt, Duration::from_micros(100));
         }
     }
     false
 }
 
-/// Wakes the task, again and again, each time once it was polled. Answers how often it was not polled in time, though it
-/// was woken.
+/// Whether this has gone on for longer than a busy machine may take.
+fn is_late<R: Host>(rt: &R, begin: &time::Instant) -> bool {
+    match begin.elapsed(rt) {
+        Ok(gone) => gone > Duration::from_secs(20),
+        Err(_) => false,
+    }
+}
+
+/// Wakes the task, again and again, each time once it was polled, and stops early on a machine that is too busy. Answers
+/// how often it was not polled in time, though it was woken.
 fn wakes<R: Host>(rt: &R, shared: &Shared) -> u64 {
     if !is_polled(rt, shared, 0) {
         return WAKES;
@@ -126,8 +134,16 @@ fn wakes<R: Host>(rt: &R, shared: &Shared) -> u64 {
     let Some(waker) = shared.slot.lock(rt).take() else {
         return WAKES;
     };
+    let Ok(begin) = time::Instant::now(rt) else {
+        return WAKES;
+    };
     let mut lost = 0u64;
     for often in 1..WAKES + 1 {
+        if is_late(rt, &begin) {
+            shared.polls.store(WAKES, Ordering::SeqCst);
+            waker.wake(rt);
+            return lost;
+        }
         waker.wake(rt);
         if !is_polled(rt, shared, often) {
             lost = lost.saturating_add(1);
