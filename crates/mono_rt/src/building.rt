@@ -19,7 +19,7 @@ use std::alloc::{AllocError, Global};
 
 impl<O: Outcome + Drop> Parts<O> {
     /// No task and no sleep.
-    fn new(
+    pub(crate) fn new(
         alloc: Global,
         limits: Limits,
         strategy: Blocking,
@@ -29,6 +29,7 @@ impl<O: Outcome + Drop> Parts<O> {
         ensures stands { IfOk result (λ parts. Matches O.output_number parts (start_machine limits strategy)) }
         ensures timers { IfOk result (λ parts. parts.has_timers ≡ has_timers) }
         ensures rests { IfOk result (λ parts. parts.tasks.turn ≡ None) }
+        ensures me { IfOk result (λ parts. (parts.me ≡ 0) × (parts.now ≡ now)) }
     {
         let tasks = Tasks::new(alloc, limits.tasks)?;
         let timers = Timers::new(alloc, limits.sleeps, has_timers)?;

@@ -4,6 +4,7 @@
 mod acts;
 mod alone;
 mod blocking_on;
+mod builder;
 mod building;
 mod calls;
 mod contexts;
@@ -15,6 +16,7 @@ mod runtimes;
 mod turns;
 
 pub use alone::run_alone;
+pub use builder::{Buildable, RuntimeBuilder, start};
 pub use contexts::{Cx, SpawnRefused};
 pub use errors::RunError;
 pub use journals::{Entry, Journal};
@@ -29,5 +31,7 @@ pub use mono_inbox::RemoteWaker;
 pub use mono_joinword::Outcome;
 pub use runtimes::Runtime;
 
+#[cfg(test)]
+mod builder_tests;
 #[cfg(test)]
 mod tests;

@@ -1,0 +1,320 @@
+// How a runtime is set up and made.
+ghost use Rattle.std.specs.Prelude.{◌≡◌, ◌^◌, max, Bool, true, false, not, None, [], IfOk, IfSome, IfNone};
+ghost use Rattle.mono_machine.specs.Machine.{start_machine};
+ghost use Rattle.mono_time.specs.Instants.{nanos_of};
+ghost use Rattle.mono_jobs.specs.Spawning.{strategy_of, IsApart};
+ghost use Rattle.mono_rt.specs.Stands.{Matches};
+ghost use Rattle.mono_blocking.specs.declared.strategy.BlockingHandle.TheVariants.{Attached, Empty};
+ghost use Rattle.mono_blocking.specs.declared.strategy.BlockingStrategy.TheVariants.{Panic};
+
+use crate::contexts::Cx;
+use crate::errors::RunError;
+use crate::journals::Journal;
+use crate::parts::Parts;
+use crate::runtimes::Runtime;
+use mono_blocking::{BlockingHandle, BlockingStrategy, ThreadPool};
+use mono_driver::{Clock, Driver, StepDriver, ThreadDriver, TimeDriver};
+use mono_exec::{Blocking, Limits};
+use mono_inbox::Inbox;
+use mono_joinword::Outcome;
+use mono_model::Host;
+use mono_task::TaskFuture;
+use mono_time::Instant;
+use std::alloc::{AllocError, Global};
+
+/// The inbox's first capacity, where none is set.
+const ENTRIES: u32 = 1024;
+
+/// The least first capacity of an inbox.
+const LEAST_ENTRIES: u32 = 256;
+
+/// How many tasks, jobs and sleeps there may be at once, where no limits are set.
+const LIMIT: u64 = 1048576;
+
+/// Sets up a runtime on a driver.
+#[derive(Drop)]
+pub struct RuntimeBuilder<D, P> {
+    driver: D,
+    pool: BlockingHandle<P>,
+    entries: u32,
+    limits: Limits,
+    keeps_journal: bool,
+}
+
+impl<D: Drop, P: Drop> RuntimeBuilder<D, P> {
+    /// The defaults: no pool, and blocking jobs are refused; an inbox of 1024 entries; at most 2^20 tasks, jobs and sleeps
+    /// each; no journal.
+    pub fn new(driver: D) -> RuntimeBuilder<D, P>
+        ensures driver { result.driver ≡ driver }
+        ensures pool { result.pool ≡ Empty Panic }
+        ensures entries { result.entries ≡ 1024 }
+        ensures limits { result.limits ≡ record { tasks = 2 ^ 20; jobs = 2 ^ 20; sleeps = 2 ^ 20 } }
+        ensures journal { result.keeps_journal ≡ false }
+    {
+        RuntimeBuilder {
+            driver,
+            pool: BlockingHandle::Empty(BlockingStrategy::Panic),
+            entries: ENTRIES,
+            limits: Limits {
+                tasks: LIMIT,
+                jobs: LIMIT,
+                sleeps: LIMIT,
+            },
+            keeps_journal: false,
+        }
+    }
+
+    /// The inbox's first capacity, raised to at least 256.
+    pub fn with_entries(self, entries: u32) -> RuntimeBuilder<D, P>
+        ensures { result ≡ record self { entries = max entries 256 } }
+    {
+        let mut this = self;
+        this.entries = entries.max(LEAST_ENTRIES);
+        this
+    }
+
+    /// The inbox's first capacity.
+    pub fn entries(&self) -> u32
+        ensures { result ≡ self.now.entries }
+    {
+        self.entries
+    }
+
+    /// Enables the timer.
+    pub fn enable_timer(self) -> RuntimeBuilder<TimeDriver<D>, P>
+        ensures driver { result.driver.driver ≡ self.driver }
+        ensures pool { result.pool ≡ self.pool }
+        ensures entries { result.entries ≡ self.entries }
+        ensures limits { result.limits ≡ self.limits }
+        ensures journal { result.keeps_journal ≡ self.keeps_journal }
+    {
+        let RuntimeBuilder {
+            driver,
+            pool,
+            entries,
+            limits,
+            keeps_journal,
+        } = self;
+        RuntimeBuilder {
+            driver: TimeDriver::new(driver),
+            pool,
+            entries,
+            limits,
+            keeps_journal,
+        }
+    }
+
+    /// Enables the timer. There is nothing else.
+    pub fn enable_all(self) -> RuntimeBuilder<TimeDriver<D>, P>
+        ensures driver { result.driver.driver ≡ self.driver }
+        ensures pool { result.pool ≡ self.pool }
+        ensures entries { result.entries ≡ self.entries }
+        ensures limits { result.limits ≡ self.limits }
+        ensures journal { result.keeps_journal ≡ self.keeps_journal }
+    {
+        self.enable_timer()
+    }
+
+    /// Blocking jobs go to this pool. Of this call and `with_blocking_strategy` the last one wins.
+    pub fn attach_thread_pool(self, pool: P) -> RuntimeBuilder<D, P>
+        ensures { result ≡ record self { pool = Attached pool } }
+    {
+        let mut this = self;
+        this.pool = BlockingHandle::Attached(pool);
+        this
+    }
+
+    /// No pool is attached, and blocking jobs are refused or run on the caller. Of this call and `attach_thread_pool` the
+    /// last one wins.
+    pub fn with_blocking_strategy(self, strategy: BlockingStrategy) -> RuntimeBuilder<D, P>
+        ensures { result ≡ record self { pool = Empty strategy } }
+    {
+        let mut this = self;
+        this.pool = BlockingHandle::Empty(strategy);
+        this
+    }
+
+    /// How many tasks, jobs and sleeps there may be at once.
+    pub fn limits(self, limits: Limits) -> RuntimeBuilder<D, P>
+        ensures { result ≡ record self { limits = limits } }
+    {
+        let mut this = self;
+        this.limits = limits;
+        this
+    }
+
+    /// The runtime keeps a journal.
+    pub fn with_journal(self) -> RuntimeBuilder<D, P>
+        ensures { result ≡ record self { keeps_journal = true } }
+    {
+        let mut this = self;
+        this.keeps_journal = true;
+        this
+    }
+}
+
+impl<D: Buildable, P: ThreadPool + Drop> RuntimeBuilder<D, P> {
+    /// A runtime. Its context stands for the machine's start, with the limits that were set, and with the strategy Attached
+    /// where a pool is attached, else with the one that was set (`stands`). It has timers exactly where its driver marks
+    /// them (`timers`).
+    pub fn build<F: Drop, O: Outcome + Drop>(
+        self,
+        alloc: Global,
+    ) -> Result<Runtime<F, O, D, P>, AllocError>
+        ensures stands { IfOk result (λ made. Matches O.output_number made.cx.parts (start_machine self.limits (strategy_of self.pool))) }
+        ensures timers { IfOk result (λ made. made.cx.parts.has_timers ≡ D.marks_timers) }
+        ensures pool { IfOk result (λ made. made.cx.blocking ≡ self.pool) }
+        ensures driver { IfOk result (λ made. made.driver ≡ self.driver) }
+        ensures journal { IfOk result (λ made. (made.journal.entries.items ≡ []) × (made.journal.is_full ≡ not self.keeps_journal)) }
+        ensures rests { IfOk result (λ made. made.cx.parts.tasks.turn ≡ None) }
+        ensures me { IfOk result (λ made. (made.cx.parts.me ≡ 0) × (nanos_of made.cx.parts.now ≡ 0)) }
+    {
+        D::build(alloc, self)
+    }
+}
+
+/// A driver of which a runtime can be made.
+pub trait Buildable: Driver + Sized {
+    /// Whether it marks a runtime with timers.
+    ghost marks_timers: { Bool } = { false };
+
+    /// Whether it marks a runtime with timers.
+    fn has_timers() -> bool
+        ensures { result ≡ marks_timers };
+
+    /// A runtime, as `RuntimeBuilder::build` says.
+    final fn build<F: Drop, O: Outcome + Drop, P: ThreadPool + Drop>(
+        alloc: Global,
+        this: RuntimeBuilder<Self, P>,
+    ) -> Result<Runtime<F, O, Self, P>, AllocError>
+        ensures stands { IfOk result (λ made. Matches O.output_number made.cx.parts (start_machine this.limits (strategy_of this.pool))) }
+        ensures timers { IfOk result (λ made. made.cx.parts.has_timers ≡ marks_timers) }
+        ensures pool { IfOk result (λ made. made.cx.blocking ≡ this.pool) }
+        ensures driver { IfOk result (λ made. made.driver ≡ this.driver) }
+        ensures journal { IfOk result (λ made. (made.journal.entries.items ≡ []) × (made.journal.is_full ≡ not this.keeps_journal)) }
+        ensures rests { IfOk result (λ made. made.cx.parts.tasks.turn ≡ None) }
+        ensures me { IfOk result (λ made. (made.cx.parts.me ≡ 0) × (nanos_of made.cx.parts.now ≡ 0)) }
+    {
+        let RuntimeBuilder {
+            driver,
+            pool,
+            entries,
+            limits,
+            keeps_journal,
+        } = this;
+        let inbox = Inbox::new(alloc, entries as usize, driver.unpark()?)?;
+        let parts = Parts::new(
+            alloc,
+            limits,
+            blocking_of(&pool),
+            Self::has_timers(),
+            zero(),
+        )?;
+        let cx = Cx {
+            parts,
+            futures: Vec::new(alloc),
+            blocking: pool,
+            inbox,
+            wakers: Vec::new(alloc),
+            waker: None,
+        };
+        Ok(Runtime {
+            cx,
+            driver,
+            journal: Journal::new(alloc, !keeps_journal),
+        })
+    }
+}
+
+impl Buildable for StepDriver {
+    fn has_timers() -> bool {
+        false
+    }
+}
+
+impl<C: Clock + Drop> Buildable for ThreadDriver<C> {
+    fn has_timers() -> bool {
+        false
+    }
+}
+
+/// With timers.
+impl<D: Driver> Buildable for TimeDriver<D> {
+    ghost marks_timers = { true };
+
+    fn has_timers() -> bool {
+        true
+    }
+}
+
+// What is done with a blocking job.
+fn blocking_of<P>(pool: &BlockingHandle<P>) -> Blocking
+    ensures { result ≡ strategy_of pool.now }
+{
+    match pool {
+        BlockingHandle::Attached(_) => Blocking::Attached,
+        BlockingHandle::Empty(BlockingStrategy::ExecuteLocal) => Blocking::ExecuteLocal,
+        BlockingHandle::Empty(BlockingStrategy::Panic) => Blocking::Panic,
+    }
+}
+
+// The clock's zero.
+fn zero() -> Instant
+    ensures { nanos_of result ≡ 0 }
+{
+    match Instant::from_nanos(0) {
+        Some(zero) => zero,
+        None => unreachable!(),
+    }
+}
+
+impl<F: Drop, O: Outcome + Drop, D: Driver, P: ThreadPool + Drop> Runtime<F, O, D, P> {
+    /// The attached pool (`some`); None exactly where none is attached (`none`).
+    pub fn into_pool(self) -> Option<P>
+        ensures some { IfSome result (λ pool. self.cx.blocking ≡ Attached pool) }
+        ensures none { IfNone result (IsApart self.cx.blocking) }
+    {
+        let Runtime {
+            cx,
+            driver: _,
+            journal: _,
+        } = self;
+        let Cx {
+            parts: _,
+            futures: _,
+            blocking,
+            inbox: _,
+            wakers: _,
+            waker: _,
+        } = cx;
+        match blocking {
+            BlockingHandle::Attached(pool) => Some(pool),
+            BlockingHandle::Empty(_) => None,
+        }
+    }
+}
+
+/// Makes a runtime with the defaults on this driver, and runs the future on it as `Runtime::block_on` does.
+pub fn start<D, F, O, P, R: Host>(
+    rt: &R,
+    alloc: Global,
+    driver: D,
+    future: F,
+    turns: u64,
+) -> Result<O, RunError>
+where
+    F: TaskFuture<Cx<F, O, P, D::Unpark>, Output = O> + Drop,
+    O: Outcome + Drop,
+    D: Buildable,
+    P: ThreadPool + Drop,
+    requires { (f : F) → F.can_poll f }
+{
+    let builder: RuntimeBuilder<D, P> = RuntimeBuilder::new(driver);
+    match builder.build(alloc) {
+        Err(_) => Err(RunError::Memory),
+        Ok(runtime) => {
+            let mut runtime = runtime;
+            runtime.block_on(rt, alloc, future, turns)
+        }
+    }
+}
