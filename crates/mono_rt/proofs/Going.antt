@@ -165,7 +165,7 @@ module _ {O : Type 0} (number : O → ℕ) where
       ))
 
   -- a task is made outside of a turn, or is refused
-  spawn_full : (c : Parts O) (m : Machine) → Matches number c m → (b : Bool) → is_full c.tasks.tasks.table c.tasks.tasks.limit ≡ b → is_full m.tasks.table m.tasks.limit ≡ b
+  pub spawn_full : (c : Parts O) (m : Machine) → Matches number c m → (b : Bool) → is_full c.tasks.tasks.table c.tasks.tasks.limit ≡ b → is_full m.tasks.table m.tasks.limit ≡ b
   spawn_full c m st b is = ap (λ x. is_full x.table x.limit) (sym st.tasks) ∙ full_numbered number c.tasks.tasks ∙ is
 
   pub does_spawn : (c d : Parts O) (j k : Journal) (t : ℕ) → k.entries.items ≡ pushed j (Ran (event.Act act.Spawn) (report.Reply (reply.Task t))) → k.is_full ≡ j.is_full

@@ -8,3 +8,4 @@ pub mod Blocked
 pub mod Drains
 pub mod Rounds
 pub mod Texts
+pub mod Spawns

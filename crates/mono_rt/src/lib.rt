@@ -13,6 +13,7 @@ mod errors;
 mod journals;
 mod parts;
 mod runtimes;
+mod spawning;
 mod turns;
 
 pub use alone::run_alone;
