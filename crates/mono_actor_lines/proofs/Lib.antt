@@ -1,0 +1,4 @@
+pub mod Spelled
+pub mod Feeds
+pub mod Parts
+pub mod Turning

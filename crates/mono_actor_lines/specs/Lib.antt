@@ -1,0 +1,5 @@
+pub mod Lines
+pub mod Reading
+pub mod Answers
+pub mod Told
+pub mod Turns
