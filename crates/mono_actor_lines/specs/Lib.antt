@@ -3,3 +3,4 @@ pub mod Reading
 pub mod Answers
 pub mod Told
 pub mod Turns
+pub mod Whole

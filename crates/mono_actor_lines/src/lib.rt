@@ -3,6 +3,7 @@
 
 mod answering;
 mod command;
+pub mod laws;
 mod parsing;
 mod printing;
 mod serving;
