@@ -26,11 +26,11 @@ abbrev pub NoFeed : List ℕ → Type 0
 NoFeed [] = Unit {0}
 NoFeed (b ∷ bs) = (nat_eq b 10 ≡ false) × NoFeed bs
 
-no_feed_both : (xs ys : List ℕ) → NoFeed xs → NoFeed ys → NoFeed (xs ++ ys)
+pub no_feed_both : (xs ys : List ℕ) → NoFeed xs → NoFeed ys → NoFeed (xs ++ ys)
 no_feed_both [] ys p q = q
 no_feed_both (x ∷ xs) ys p q = (p.0, no_feed_both xs ys p.1 q)
 
-no_feed_digits : (ds : List ℕ) → AllDigits 10 ds → NoFeed ds
+pub no_feed_digits : (ds : List ℕ) → AllDigits 10 ds → NoFeed ds
 no_feed_digits [] d = tt
 no_feed_digits (c ∷ cs) d =
     let k = digit_from_value c d.0 in

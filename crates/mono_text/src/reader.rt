@@ -95,9 +95,17 @@ impl<'a> Reader<'a> {
         self.rest.is_empty()
     }
 
-    // The next byte, or 0 at the end.
+    /// How many bytes are left.
     #[inline(always)]
-    fn first(&self) -> u8
+    pub fn left(&self) -> usize
+        ensures { result ≡ length self.now.rest.now }
+    {
+        self.rest.len()
+    }
+
+    /// The next byte, or 0 at the end.
+    #[inline(always)]
+    pub fn first(&self) -> u8
         ensures { result ≡ slice_index self.now.rest.now 0 }
     {
         if self.rest.is_empty() {
@@ -435,9 +443,10 @@ impl<'a> Reader<'a> {
         Ok(None)
     }
 
-    // An event, without its line feed.
+    /// The event that stands here, without a line feed, and goes past it. None where none stands here; what is left then is
+    /// not told. The spare list is used as [`Reader::line`] uses it.
     #[tactic(auto, unfolding(crate::specs::Reading::event_at))]
-    fn event(
+    pub fn event(
         &mut self,
         alloc: Global,
         spare: &mut List<TurnStep>,
