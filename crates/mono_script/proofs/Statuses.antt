@@ -9,13 +9,9 @@ use Rattle.mono_script.specs.Meanings.{meaning}
 use Rattle.mono_script.specs.declared.ends.Status.{Status}
 use Rattle.mono_script.specs.declared.ends.Status.TheVariants as status
 use Rattle.mono_text.proofs.Lined.{not_both}
+use Rattle.mono_script.proofs.Sound.{Sound}
 
 -- ---- each command: what is owed of its meaning
-
--- a good input has no first bad line, and an answer is one to a good input
-pub record Sound (m : Meaning) : Type 0 where
-  pub apart : (input : List ℕ) (n : ℕ) → m.IsGood input → m.IsFirstBad input n → ⊥
-  pub good : (input : List ℕ) (s : Status) (output : List ℕ) → m.Answers input s output → m.IsGood input
 
 pub sound : (c : Command) → Sound (meaning c)
 sound (command.Replay l g) = record {

@@ -5,7 +5,9 @@ mod command;
 mod ends;
 mod load_line;
 mod replay;
+mod served;
 mod top;
+mod words;
 
 pub use command::Command;
 pub use ends::Status;

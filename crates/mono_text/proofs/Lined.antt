@@ -37,7 +37,7 @@ no_feed_digits (c ∷ cs) d =
     let no : nat_eq c 10 ≡ false = grind (arith, common_steps, k.0) in
     (no, no_feed_digits cs d.1)
 
-no_feed_number : (word : List ℕ) (n : ℕ) → NoFeed word → n < 10 ^ 64 → NoFeed (word ++ decimal n)
+pub no_feed_number : (word : List ℕ) (n : ℕ) → NoFeed word → n < 10 ^ 64 → NoFeed (word ++ decimal n)
 no_feed_number word n p l = no_feed_both word (decimal n) p (no_feed_digits (decimal n) (decimal_is_IsNumeral_wide n l).0.1)
 
 no_feed_how : (h : How) → NoFeed (how_text h)

@@ -21,7 +21,7 @@ use Rattle.mono_text.proofs.Digits.{digits_found, digits_again, starts_digit}
 
 -- ---- tools
 
-when_cases : {A : Type 0} (o : Option (List ℕ)) (f : List ℕ → A) (other y : A) → when o f other ≡ y
+pub when_cases : {A : Type 0} (o : Option (List ℕ)) (f : List ℕ → A) (other y : A) → when o f other ≡ y
     → ((r : List ℕ) × (o ≡ Some r) × (f r ≡ y)) ⊎ ((o ≡ None) × (other ≡ y))
 when_cases None f other y e = inr (refl, e)
 when_cases (Some r) f other y e = inl (r, refl, e)
@@ -30,20 +30,20 @@ chosen : {A : Type 0} (b : Bool) (x y z : A) → (if b then x else y) ≡ z → 
 chosen true x y z e = inl (refl, e)
 chosen false x y z e = inr (refl, e)
 
-mapped_some : {A B : Type 0} (f : A → B) (o : Read A) (y : B) (rest : List ℕ) → mapped f o ≡ Some (y, rest)
+pub mapped_some : {A B : Type 0} (f : A → B) (o : Read A) (y : B) (rest : List ℕ) → mapped f o ≡ Some (y, rest)
     → (x : A) × (o ≡ Some (x, rest)) × (f x ≡ y)
 mapped_some f None y rest e = cc e
 mapped_some f (Some x) y rest e =
     let k : (f x.0 ≡ y) × (x.1 ≡ rest) = grind arith in
     (x.0, ap (λ r. Some (x.0, r)) k.1, k.0)
 
-then_some : {A B : Type 0} (o : Read A) (f : A → List ℕ → Read B) (y : B × List ℕ) → then_read o f ≡ Some y
+pub then_some : {A B : Type 0} (o : Read A) (f : A → List ℕ → Read B) (y : B × List ℕ) → then_read o f ≡ Some y
     → (x : A) × (r : List ℕ) × (o ≡ Some (x, r)) × (f x r ≡ Some y)
 then_some None f y e = cc e
 then_some (Some x) f y e = (x.0, x.1, refl, e)
 
 -- a number behind its word
-numbered_found : {A : Type 0} (top : ℕ) (word : List ℕ) (make : ℕ → A) (bytes r : List ℕ) (y : A) (rest : List ℕ) → 0 < top → top ≤ 10 ^ 64
+pub numbered_found : {A : Type 0} (top : ℕ) (word : List ℕ) (make : ℕ → A) (bytes r : List ℕ) (y : A) (rest : List ℕ) → 0 < top → top ≤ 10 ^ 64
     → word_at word bytes ≡ Some r → mapped make (digits_from top 0 0 r) ≡ Some (y, rest)
     → (v : ℕ) × (make v ≡ y) × (bytes ≡ word ++ decimal v ++ rest) × (v < top)
 numbered_found top word make bytes r y rest some bound w e =
