@@ -10,6 +10,10 @@ use Rattle.mono_script.specs.declared.ends.Status.{Status}
 use Rattle.mono_script.specs.declared.ends.Status.TheVariants as status
 use Rattle.mono_text.proofs.Lined.{not_both}
 use Rattle.mono_script.proofs.Sound.{Sound}
+use Rattle.mono_script.proofs.Serving.{sound_serving}
+use Rattle.mono_actor.specs.Actors.{no_actors}
+use Rattle.mono_actor_lines.specs.Lines.{line_text, FitsLine}
+use Rattle.mono_actor_lines.specs.Answers.{Answers}
 
 -- ---- each command: what is owed of its meaning
 
@@ -22,6 +26,7 @@ sound (command.Load seed count) = record {
   apart = λ input n good bad. bad;
   good = λ input s output a. tt;
 }
+sound (command.Actors actors messages) = sound_serving line_text FitsLine Answers (no_actors actors messages)
 
 -- ---- one status, one number
 

@@ -1,6 +1,7 @@
 //! The commands: each is words, an input and an answer, and `program` carries one out.
 #![tactic(auto)]
 
+mod acting;
 mod command;
 mod ends;
 mod load_line;
