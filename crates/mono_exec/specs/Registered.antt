@@ -24,12 +24,19 @@ armed_by_act (Some (fresh nanos)) a registered = Some a.tick
 armed_by_act (Some (armed before)) a registered = if before.arm == a.arm then registered else Some a.tick
 armed_by_act (Some elapsed) a registered = Some a.tick
 
+-- a sleep that is not armed after an act, and is registered no more where it was
+abbrev pub unarmed_by_act : Option Sleep → Option ℕ → Option ℕ
+unarmed_by_act None registered = registered
+unarmed_by_act (Some (fresh nanos)) registered = registered
+unarmed_by_act (Some (armed before)) registered = None
+unarmed_by_act (Some elapsed) registered = registered
+
 -- after an act or a poll, by the sleep as it was and as it is
 abbrev pub by_act : Option Sleep → Option Sleep → Option ℕ → Option ℕ
-by_act was None registered = None
-by_act was (Some (fresh nanos)) registered = None
+by_act was None registered = unarmed_by_act was registered
+by_act was (Some (fresh nanos)) registered = unarmed_by_act was registered
 by_act was (Some (armed a)) registered = armed_by_act was a registered
-by_act was (Some elapsed) registered = None
+by_act was (Some elapsed) registered = unarmed_by_act was registered
 
 -- a sleep with this tick once the clock went from one tick to another
 abbrev pub gone_on : ℕ → ℕ → ℕ → Option ℕ → Option ℕ
@@ -38,10 +45,10 @@ gone_on old new tick (Some registered) = Some (if nat_le (start top_level old re
 
 -- after a clock step from one greatest tick to another, by the sleep as it was: what was due has fired
 abbrev pub by_clock : ℕ → ℕ → Option Sleep → Option ℕ → Option ℕ
-by_clock old new None registered = None
-by_clock old new (Some (fresh nanos)) registered = None
+by_clock old new None registered = registered
+by_clock old new (Some (fresh nanos)) registered = registered
 by_clock old new (Some (armed a)) registered = if nat_le a.tick new then None else gone_on old new a.tick registered
-by_clock old new (Some elapsed) registered = None
+by_clock old new (Some elapsed) registered = registered
 
 -- the sleep with this number, after an act or a poll
 abbrev pub registered_by_act : Sleeps → Sleeps → ℕ → Option ℕ → Option ℕ

@@ -122,7 +122,6 @@ impl Parts {
         match Instant::from_nanos(n) {
             None => Ok(Report::Reply(Reply::Refused(Refusal::Invalid))),
             Some(now) => {
-                self.timers.registers_armed();
                 let room = Due::with_room(alloc, &self.timers)?;
                 let fired = fire_all::<Brand>(
                     &mut self.timers,

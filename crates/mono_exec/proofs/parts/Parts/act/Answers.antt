@@ -37,12 +37,12 @@ always (Err e) p = tt
 
 pub returns-in-NewSleep-clause-registered : goal.returns-in-NewSleep-clause-registered
 returns-in-NewSleep-clause-registered c = always c.new_sleep.result (λ m st none.
-    rw c.in-NewSleep.is (registered-added c.args.self.now.timers c.new_sleep.new.self.timers m st.sleeps.keeps.stands c.registers_armed.ensures.registered c.in-NewSleep.n c.new_sleep.ensures.registered))
+    rw c.in-NewSleep.is (registered-added c.args.self.now.timers c.new_sleep.new.self.timers m c.in-NewSleep.n c.new_sleep.ensures.registered))
 
 pub returns-in-DropSleep-clause-registered : goal.returns-in-DropSleep-clause-registered
 returns-in-DropSleep-clause-registered c = λ m st none.
-    rw c.in-DropSleep.is (registered-removed c.args.self.now.timers c.remove.new.self m st.sleeps.keeps.stands c.registers_armed.ensures.registered c.in-DropSleep.s c.remove.ensures.registered)
+    rw c.in-DropSleep.is (registered-removed c.args.self.now.timers c.remove.new.self m.sleeps st.sleeps.keeps.stands c.registers_armed.ensures.registered c.in-DropSleep.s c.remove.ensures.registered)
 
 pub returns-in-Block-clause-registered : goal.returns-in-Block-clause-registered
 returns-in-Block-clause-registered c = always c.block.result (λ m st none.
-    rw c.in-Block.is (sleeps-stay c.args.self.now.timers c.block.new.self.timers m.sleeps _ st.sleeps.keeps.stands c.registers_armed.ensures.registered (block-sleeps c.in-Block.output m) (λ q. ap (λ t. registered_of t q) c.block.ensures.timers)))
+    rw c.in-Block.is (sleeps-stay c.args.self.now.timers c.block.new.self.timers m.sleeps _ (block-sleeps c.in-Block.output m) (λ q. ap (λ t. registered_of t q) c.block.ensures.timers)))

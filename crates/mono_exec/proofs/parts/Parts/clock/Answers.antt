@@ -19,5 +19,5 @@ returns-in_ok-room-in-Some-clause-registered c = λ m st s.
     let old = c.args.self.now.timers in
     let new = c.fire_all-fired.new.timers in
     let fires = c.fire_all-fired.ensures.fires m (record { keeps = st.sleeps.keeps; same_tasks = st.tasks }) in
-    clock-on old new m c.args.n _ c.in-Some.ensures.some c.in-Some.now.in_range st.sleeps.keeps.stands c.registers_armed.ensures.registered st.sleeps.has_gone
+    clock-on old new m c.args.n _ c.in-Some.ensures.some c.in-Some.now.in_range st.sleeps.keeps.stands st.sleeps.has_gone
     (c.fire_all-fired.ensures.has_gone ∙ sym fires.0.keeps.stands.same_greatest ∙ fires-greatest (at_clock m _) c.fire_all-fired.result) s (c.fire_all-fired.ensures.registered s)
