@@ -22,6 +22,7 @@ use mono_time::{Instant, Timers};
 use mono_wheel::Steps;
 use std::alloc::{AllocError, Global};
 use std::marker::Brand;
+use std::mem;
 use std::sync::ledger::{Blank, Ledger};
 
 /// The sleeps that fired, in order, and the wakers of those that had one.
@@ -32,6 +33,17 @@ pub struct Due {
 }
 
 impl Due {
+    /// No sleep yet, and no memory.
+    pub fn new(alloc: Global) -> Due
+        ensures fired { result.fired.items ≡ [] }
+        ensures wakers { result.wakers.items ≡ [] }
+    {
+        Due {
+            fired: Vec::new(alloc),
+            wakers: Vec::new(alloc),
+        }
+    }
+
     /// No sleep yet, and room for all that a clock step may fire, so that the step itself takes no memory.
     pub fn with_room(alloc: Global, timers: &Timers) -> Result<Due, AllocError>
         ensures fired { IfOk result (λ due. (due.fired.items ≡ []) × (armed_count (sleeps_of timers.now) + vec_len due.fired ≤ vec_capacity due.fired)) }
@@ -42,6 +54,19 @@ impl Due {
             fired: Vec::with_capacity(alloc, live)?,
             wakers: Vec::with_capacity(alloc, live)?,
         })
+    }
+
+    /// Empties the lists of an earlier step, and makes room for all that the next one may fire. Memory is taken only where
+    /// more sleeps live than the lists have had room for.
+    pub fn make_room(&mut self, timers: &Timers) -> Result<(), AllocError>
+        ensures fired { OnOk result ((self.new.fired.items ≡ []) × (armed_count (sleeps_of timers.now) + vec_len self.new.fired ≤ vec_capacity self.new.fired)) }
+        ensures wakers { OnOk result ((self.new.wakers.items ≡ []) × (armed_count (sleeps_of timers.now) + vec_len self.new.wakers ≤ vec_capacity self.new.wakers)) }
+    {
+        let live = timers.live() as usize;
+        self.fired.clear();
+        self.wakers.clear();
+        self.fired.reserve(live)?;
+        self.wakers.reserve(live)
     }
 
     /// One more sleep has fired. Its waker, if there is one, comes behind the others.
@@ -55,6 +80,17 @@ impl Due {
         self.fired.push_reserved(s);
         if let Some(t) = waker {
             self.wakers.push_reserved(t);
+        }
+    }
+
+    /// The sleeps that fired, as a list that is as long as they are; their own list keeps its memory. Where no memory is
+    /// left it goes out itself, so a clock step never fails once it has begun.
+    fn fired_apart(&mut self, alloc: Global) -> List<u64>
+        ensures { result ≡ self.old.fired.items }
+    {
+        match Vec::from_slice(alloc, &self.fired) {
+            Ok(fired) => List::from(fired),
+            Err(_) => List::from(mem::replace(&mut self.fired, Vec::new(alloc))),
         }
     }
 
@@ -96,24 +132,24 @@ fn fire_all<L: Ledger>(
     now: Instant,
     blank: Blank,
     room: Due,
-) -> List<u64>
+) -> Due
     requires ledger { (blank.name ≡ L.name) × (blank.parts ≡ L.parts) × (0 < L.parts) }
     requires fired { (room.fired.items ≡ []) × (armed_count (sleeps_of timers.old) + vec_len room.fired ≤ vec_capacity room.fired) }
     requires wakers { (room.wakers.items ≡ []) × (armed_count (sleeps_of timers.old) + vec_len room.wakers ≤ vec_capacity room.wakers) }
-    ensures fires { (m : Machine) → MatchesInStep timers.old tasks.old m → MatchesInStep timers.new tasks.new (after_fires (at_clock m (nanos_of now)) result) × FireInTurn (at_clock m (nanos_of now)).sleeps.table (at_clock m (nanos_of now)).sleeps.greatest result }
+    ensures fires { (m : Machine) → MatchesInStep timers.old tasks.old m → MatchesInStep timers.new tasks.new (after_fires (at_clock m (nanos_of now)) result.fired.items) × FireInTurn (at_clock m (nanos_of now)).sleeps.table (at_clock m (nanos_of now)).sleeps.greatest result.fired.items }
     ensures has_gone { elapsed_tick timers.new ≡ (sleeps_of timers.new).greatest }
     ensures turn { tasks.new.turn ≡ tasks.old.turn }
     ensures registered { (s : ℕ) → registered_of timers.new s ≡ stepped_registered (elapsed_tick timers.old) (elapsed_tick timers.new) (value_at (sleeps_of timers.old).table s) (registered_of timers.old s) }
 {
     let due = take_due::<L>(timers, now, blank, room);
     wake_all(tasks, &due.wakers);
-    due.into_fired()
+    due
 }
 
 impl Parts {
     /// The clock shows so many nanoseconds. Where memory is refused nothing changes (`memory`), since the room for all that
-    /// may fire is made first.
-    pub fn clock(&mut self, alloc: Global, n: u128) -> Result<Report, AllocError>
+    /// may fire is made first, in the lists that are lent.
+    pub fn clock(&mut self, alloc: Global, n: u128, lent: &mut Due) -> Result<Report, AllocError>
         ensures steps { IfOk result (λ r. (m : Machine) → Matches self.old m → (new : Machine) × ClockStep m n r new × Matches self.new new) }
         ensures turn { self.new.tasks.turn ≡ self.old.tasks.turn }
         ensures memory { OnErr result (self.new ≡ self.old) }
@@ -122,14 +158,17 @@ impl Parts {
         match Instant::from_nanos(n) {
             None => Ok(Report::Reply(Reply::Refused(Refusal::Invalid))),
             Some(now) => {
-                let room = Due::with_room(alloc, &self.timers)?;
-                let fired = fire_all::<Brand>(
+                lent.make_room(&self.timers)?;
+                let room = mem::replace(lent, Due::new(alloc));
+                let mut due = fire_all::<Brand>(
                     &mut self.timers,
                     &mut self.tasks,
                     now,
                     Blank::new(1),
                     room,
                 );
+                let fired = due.fired_apart(alloc);
+                *lent = due;
                 Ok(Report::Fired(fired))
             }
         }

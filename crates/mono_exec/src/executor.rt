@@ -3,6 +3,7 @@ ghost use Rattle.std.specs.Prelude.{◌≡◌, ℕ, IfOk, OnOk, Option, None};
 ghost use Rattle.mono_machine.specs.Machine.{Machine, start_machine};
 ghost use Rattle.mono_machine.specs.Steps.{Step, Run};
 
+use crate::clock_steps::Due;
 use crate::parts::Parts;
 use crate::{Blocking, Event, Limits, List, Reply, Report};
 use mono_time::Timers;
@@ -13,9 +14,12 @@ use std::mem;
 ///
 /// It stands for the plain machine. `Stands` says for which machines one stands; each event leads from any machine for
 /// which it stood to one for which it stands, by a step of that machine.
+///
+/// The lists of a clock step are kept for the next one.
 #[derive(Drop)]
 pub struct Exec {
     parts: Parts,
+    due: Due,
     ghost rest: { parts.tasks.turn ≡ None },
 }
 
@@ -34,7 +38,10 @@ impl Exec {
         ensures registered { IfOk result (λ exec. (s : ℕ) → registered_in exec s ≡ None) }
     {
         let parts = Parts::new(alloc, limits, blocking)?;
-        Ok(Exec { parts })
+        Ok(Exec {
+            parts,
+            due: Due::new(alloc),
+        })
     }
 
     /// Takes one event and answers its report.
@@ -76,7 +83,7 @@ impl Exec {
                 Ok(report)
             }
             Event::Clock(n) => {
-                let report = self.parts.clock(alloc, *n)?;
+                let report = self.parts.clock(alloc, *n, &mut self.due)?;
                 Ok(report)
             }
             Event::Remote(t) => Ok(self.parts.remote(*t)),
