@@ -3,6 +3,7 @@
 
 mod command;
 mod ends;
+mod limiter_lines;
 mod load_line;
 mod replay;
 mod served;
