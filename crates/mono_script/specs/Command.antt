@@ -10,12 +10,14 @@ use Rattle.mono_script.specs.Words.{two_words, limit_words}
 abbrev pub command_words : Command → List (List ℕ)
 command_words (command.Replay limits strategy) = limit_words (codes "replay") limits strategy
 command_words (command.Load seed count) = two_words (codes "load") seed count
+command_words (command.Limiter buckets retries) = two_words (codes "limiter") buckets retries
 command_words (command.Actors actors messages) = two_words (codes "actors") actors messages
 
 -- the numbers are within their bounds
 abbrev pub FitsCommand : Command → Type 0
 FitsCommand (command.Replay limits strategy) = FitLimits limits
 FitsCommand (command.Load seed count) = (seed < 2 ^ 64) × (count ≤ 100000)
+FitsCommand (command.Limiter buckets retries) = (buckets < 2 ^ 64) × (retries < 2 ^ 64)
 FitsCommand (command.Actors actors messages) = (actors < 2 ^ 64) × (messages < 2 ^ 64)
 
 -- The words say the command.
@@ -35,5 +37,7 @@ IsNoReplay words = (limits : Limits) (strategy : Blocking) → IsCommand words (
 abbrev pub IsNoLoad : List (List ℕ) → Type 0
 IsNoLoad words = (seed count : ℕ) → IsCommand words (command.Load seed count) → ⊥
 
+abbrev pub IsNoLimiter : List (List ℕ) → Type 0
+IsNoLimiter words = (buckets retries : ℕ) → IsCommand words (command.Limiter buckets retries) → ⊥
 abbrev pub IsNoActors : List (List ℕ) → Type 0
 IsNoActors words = (actors messages : ℕ) → IsCommand words (command.Actors actors messages) → ⊥

@@ -4,6 +4,7 @@
 mod acting;
 mod command;
 mod ends;
+mod limiter_lines;
 mod load_line;
 mod replay;
 mod served;
