@@ -1,0 +1,11 @@
+//! Runs of scripts on a runtime, and the text of a journal.
+#![tactic(auto)]
+
+mod entries;
+mod runs;
+
+pub use entries::{journal_lines, put_entry};
+pub use runs::{RunEnd, ScriptRun, run_script};
+
+#[cfg(test)]
+mod tests;

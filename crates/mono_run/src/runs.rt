@@ -1,0 +1,142 @@
+// A script on a runtime.
+ghost use Rattle.std.specs.Prelude.{◌≡◌, false, map, IfOk, IfSome, OnOk};
+ghost use Rattle.mono_blocking.specs.Counts.{counted_by};
+ghost use Rattle.mono_scripts.specs.Journal.{journal_text};
+ghost use Rattle.mono_rt.specs.Rounds.{output_in};
+ghost use Rattle.mono_run.specs.Told.{Ran, answer_of, told};
+
+use crate::entries::journal_lines;
+use mono_blocking::{BlockingHandle, DefaultThreadPool, Spawner};
+use mono_driver::{Clock, StepDriver, ThreadDriver};
+use mono_model::Host;
+use mono_rt::{Instant, Journal, RunError, Runtime};
+use mono_script_reader::Script;
+use mono_script_task::{ScriptDriver, ScriptJob, ScriptTask};
+use std::alloc::{AllocError, Global};
+
+/// How a run ended.
+#[derive(Clone, Copy, Debug, PartialEq, Eq)]
+pub enum RunEnd {
+    /// The main task gave this output.
+    Output(u64),
+    /// No unit was left.
+    Turns,
+    /// There was no place for the main task.
+    Capacity,
+}
+
+/// How a run ended, and the lines of its journal.
+#[derive(Drop)]
+pub struct ScriptRun {
+    pub end: RunEnd,
+    pub text: Vec<u8>,
+}
+
+type ScriptRuntime<'a, C> =
+    Runtime<ScriptTask<'a>, u64, ScriptDriver<C>, DefaultThreadPool<ScriptJob>>;
+
+// Without workers a driver that never waits; else one that parks its thread, over the clock.
+fn driver_for<C: Clock + Drop>(
+    alloc: Global,
+    workers: usize,
+    clock: C,
+) -> Result<ScriptDriver<C>, AllocError> {
+    if workers == 0 {
+        return Ok(ScriptDriver::Steps(StepDriver::new(Vec::new(alloc))));
+    }
+    match ThreadDriver::new(alloc, clock) {
+        Ok(driver) => Ok(ScriptDriver::Threads(driver)),
+        Err(refused) => Err(refused),
+    }
+}
+
+// How a run ended that was answered so. The driver never fails; want of memory is no end.
+fn end_of(answer: &Result<u64, RunError>) -> Option<RunEnd>
+    ensures { IfSome result (λ end. answer.now ≡ answer_of end) }
+{
+    match answer {
+        Ok(output) => Some(RunEnd::Output(*output)),
+        Err(RunError::Turns) => Some(RunEnd::Turns),
+        Err(RunError::AtCapacity) => Some(RunEnd::Capacity),
+        Err(RunError::Memory) => None,
+        Err(RunError::Driver) => None,
+    }
+}
+
+fn output_of(end: RunEnd) -> Option<u64>
+    ensures { result ≡ output_in (answer_of end) }
+{
+    match end {
+        RunEnd::Output(output) => Some(output),
+        RunEnd::Turns => None,
+        RunEnd::Capacity => None,
+    }
+}
+
+// The lines of what was done. A turn of a script has fewer acts than make a journal full; no clause tells that, so a full
+// journal counts as want of memory.
+fn told_of(
+    alloc: Global,
+    journal: &Journal,
+    answer: &Result<u64, RunError>,
+) -> Result<ScriptRun, AllocError>
+    ensures answer { IfOk result (λ run. answer.now ≡ answer_of run.end) }
+    ensures kept { OnOk result (journal.now.is_full ≡ false) }
+    ensures text { IfOk result (λ run. run.text.items ≡ journal_text (map told journal.now.entries.items) (output_in (answer_of run.end))) }
+{
+    let Some(end) = end_of(answer) else {
+        return Err(AllocError);
+    };
+    if journal.is_full() {
+        return Err(AllocError);
+    }
+    let text = journal_lines(alloc, journal, output_of(end))?;
+    Ok(ScriptRun { end, text })
+}
+
+// Lets the workers end.
+fn end_workers<R: Host, C: Clock + Drop>(rt: &R, runtime: ScriptRuntime<C>) {
+    if let Some(pool) = runtime.into_pool() {
+        pool.close(rt);
+    }
+}
+
+// The clock's zero.
+fn zero() -> Instant {
+    match Instant::from_nanos(0) {
+        Some(zero) => zero,
+        None => unreachable!(),
+    }
+}
+
+/// Runs kind 0 of the script as the main task of a new runtime with timers and a journal, with so many units, and a pool of
+/// so many workers, which are asked of the spawner one by one. Without workers time is what is parked for, and the clock is
+/// not read.
+///
+/// What is told is how the run ended and the lines of its journal (`ran`). Once a call found no memory nothing is told. The
+/// workers end when they have run what waits, whatever the answer is; only where there was no memory for the runtime itself
+/// do they wait on. Whoever started their threads joins them.
+pub fn run_script<R: Host + Send + 'static, C: Clock + Drop, P: Spawner>(
+    rt: &R,
+    alloc: Global,
+    script: &Script,
+    workers: usize,
+    turns: u64,
+    clock: C,
+    spawner: &mut P,
+) -> Result<ScriptRun, AllocError>
+    ensures ran { IfOk result (λ run. Ran script.now.limits turns run.end run.text.items) }
+    ensures starts { OnOk result (P.starts spawner.new ≡ counted_by workers (P.starts spawner.old)) }
+{
+    let driver = driver_for(alloc, workers, clock)?;
+    let pool = DefaultThreadPool::new(rt, alloc, workers, spawner)?;
+    let handle = BlockingHandle::Attached(pool);
+    let made: Result<ScriptRuntime<C>, AllocError> =
+        Runtime::new(alloc, driver, handle, script.limits, true, zero());
+    let mut runtime = made?;
+    let main = ScriptTask::new(&script.kinds, 0);
+    let answer = runtime.block_on(rt, alloc, main, turns);
+    let told = told_of(alloc, runtime.journal(), &answer);
+    end_workers(rt, runtime);
+    told
+}
