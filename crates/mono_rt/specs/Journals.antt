@@ -4,7 +4,8 @@ use Rattle.mono_machine.specs.Machine.{Machine}
 use Rattle.mono_machine.specs.Steps.{Step}
 use Rattle.mono_machine.specs.declared.events.Event.{Event}
 use Rattle.mono_machine.specs.declared.events.Report.{Report}
-use Rattle.mono_rt.specs.Stands.{Matches}
+use Rattle.mono_jobs.specs.Spawning.{Seen}
+use Rattle.mono_rt.specs.Stands.{hosting_of, Matches}
 use Rattle.mono_rt.specs.declared.parts.Parts.{Parts}
 use Rattle.mono_rt.specs.declared.journals.Entry.{Entry}
 use Rattle.mono_rt.specs.declared.journals.Entry.TheVariants.{Ran, Now, Park}
@@ -32,26 +33,26 @@ Follows old (Park v ∷ part) new = Follows old part new
 
 -- From each machine for which the parts stood, what the journal grew by is a run to one for which they stand, unless the
 -- journal is full.
-pub record Went {O : Type 0} (number : O → ℕ) (c d : Parts O) (j k : Journal) (old : Machine) : Type 0 where
+pub record Went {O P : Type 0} (number : O → ℕ) (c d : Parts O (Seen P)) (j k : Journal) (old : Machine) : Type 0 where
   pub part : List Entry
   pub new : Machine
   pub grew : k.entries.items ≡ j.entries.items ++ part
   pub follows : Follows old part new
-  pub matches : Matches number d new
+  pub matches : Matches number hosting_of d new
 
-pub record Goes {O : Type 0} (number : O → ℕ) (c d : Parts O) (j k : Journal) : Type 0 where
+pub record Goes {O P : Type 0} (number : O → ℕ) (c d : Parts O (Seen P)) (j k : Journal) : Type 0 where
   pub opens : k.is_full ≡ false → j.is_full ≡ false
-  pub went : (old : Machine) → Matches number c old → k.is_full ≡ false → Went number c d j k old
+  pub went : (old : Machine) → Matches number hosting_of c old → k.is_full ≡ false → Went number c d j k old
 
 -- The same, and what was done stands in a relation: from the machine before with the part and any entries after it, to the
 -- machine after with these.
-pub record Did {O : Type 0} (number : O → ℕ) (R : Machine → List Entry → Machine → List Entry → Type 0) (c d : Parts O) (j k : Journal) (old : Machine) : Type 0 where
+pub record Did {O P : Type 0} (number : O → ℕ) (R : Machine → List Entry → Machine → List Entry → Type 0) (c d : Parts O (Seen P)) (j k : Journal) (old : Machine) : Type 0 where
   pub went : Went number c d j k old
   pub is : (rest : List Entry) → R old (went.part ++ rest) went.new rest
 
-pub record Does {O : Type 0} (number : O → ℕ) (R : Machine → List Entry → Machine → List Entry → Type 0) (c d : Parts O) (j k : Journal) : Type 0 where
+pub record Does {O P : Type 0} (number : O → ℕ) (R : Machine → List Entry → Machine → List Entry → Type 0) (c d : Parts O (Seen P)) (j k : Journal) : Type 0 where
   pub opens : k.is_full ≡ false → j.is_full ≡ false
-  pub did : (old : Machine) → Matches number c old → k.is_full ≡ false → Did number R c d j k old
+  pub did : (old : Machine) → Matches number hosting_of c old → k.is_full ≡ false → Did number R c d j k old
 
 -- some entries, by which the machine was led on
 abbrev pub Led : Machine → List Entry → Machine → List Entry → Type 0

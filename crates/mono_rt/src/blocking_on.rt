@@ -5,7 +5,7 @@ ghost use Rattle.mono_time.specs.Instants.{nanos_of};
 ghost use Rattle.mono_machine.specs.Machine.{Machine};
 ghost use Rattle.mono_rt.specs.Numbered.{answer_numbered};
 ghost use Rattle.mono_rt.specs.Reached.{HasPlace};
-ghost use Rattle.mono_rt.specs.Stands.{Matches};
+ghost use Rattle.mono_rt.specs.Stands.{hosting_of, Matches};
 ghost use Rattle.mono_rt.specs.Journals.{Goes, Does, Stays, HasPlaces};
 ghost use Rattle.mono_rt.specs.Rounds.{IsWait, IsPark, Parks, OrLed, PauseEnds, Round, PassEnds, Ends, IsSpawn, IsRefused, DropsFor, Blocked, cost};
 ghost use Rattle.mono_rt.specs.Blocked.{OnCapacity};
@@ -28,7 +28,7 @@ use std::time::Duration;
 impl<F: Drop, O: Outcome + Drop, D: Driver, P: ThreadPool + Drop> Runtime<F, O, D, P> {
     /// How long the driver is parked, in milliseconds.
     fn wait_from(&self, now: Instant) -> Option<u64>
-        ensures { (m : Machine) → Matches O.output_number self.now.cx.parts m → IsWait self.now.cx.parts.has_timers m (nanos_of now) result }
+        ensures { (m : Machine) → Matches O.output_number hosting_of self.now.cx.parts m → IsWait self.now.cx.parts.has_timers m (nanos_of now) result }
     {
         if self.cx.parts.has_timers {
             match self.cx.parts.timers.next_expiration_time() {
