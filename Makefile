@@ -39,7 +39,8 @@ test: has-rt
 
 examples: build
 	@for input in examples/*.events; do \
-	    bin/monoio $(WORDS) < $$input | cmp -s - $${input%.events}.reports \
+	    words=$$(cat $${input%.events}.words 2> /dev/null || echo '$(WORDS)'); \
+	    bin/monoio $$words < $$input | cmp -s - $${input%.events}.reports \
 	        || { echo "$$input: not the stored reports"; exit 1; }; \
 	done; echo 'each example has its stored reports'
 

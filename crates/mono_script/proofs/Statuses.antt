@@ -10,6 +10,9 @@ use Rattle.mono_script.specs.declared.ends.Status.{Status}
 use Rattle.mono_script.specs.declared.ends.Status.TheVariants as status
 use Rattle.mono_text.proofs.Lined.{not_both}
 use Rattle.mono_script.proofs.Sound.{Sound}
+use Rattle.mono_script.proofs.Serving.{sound_serving}
+use Rattle.mono_session.specs.Keeper.{no_sessions}
+use Rattle.mono_session_lines.specs.Lines.{call_text, FitsCall, StepsAs}
 
 -- ---- each command: what is owed of its meaning
 
@@ -22,6 +25,7 @@ sound (command.Load seed count) = record {
   apart = λ input n good bad. bad;
   good = λ input s output a. tt;
 }
+sound (command.Sessions sessions entries) = sound_serving call_text FitsCall StepsAs (no_sessions sessions entries)
 
 -- ---- one status, one number
 

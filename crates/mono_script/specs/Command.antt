@@ -10,11 +10,13 @@ use Rattle.mono_script.specs.Words.{two_words, limit_words}
 abbrev pub command_words : Command → List (List ℕ)
 command_words (command.Replay limits strategy) = limit_words (codes "replay") limits strategy
 command_words (command.Load seed count) = two_words (codes "load") seed count
+command_words (command.Sessions sessions entries) = two_words (codes "sessions") sessions entries
 
 -- the numbers are within their bounds
 abbrev pub FitsCommand : Command → Type 0
 FitsCommand (command.Replay limits strategy) = FitLimits limits
 FitsCommand (command.Load seed count) = (seed < 2 ^ 64) × (count ≤ 100000)
+FitsCommand (command.Sessions sessions entries) = (sessions < 2 ^ 64) × (entries < 2 ^ 64)
 
 -- The words say the command.
 pub record IsCommand (words : List (List ℕ)) (c : Command) : Type 0 where
@@ -32,3 +34,6 @@ IsNoReplay words = (limits : Limits) (strategy : Blocking) → IsCommand words (
 
 abbrev pub IsNoLoad : List (List ℕ) → Type 0
 IsNoLoad words = (seed count : ℕ) → IsCommand words (command.Load seed count) → ⊥
+
+abbrev pub IsNoSessions : List (List ℕ) → Type 0
+IsNoSessions words = (sessions entries : ℕ) → IsCommand words (command.Sessions sessions entries) → ⊥

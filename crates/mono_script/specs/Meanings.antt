@@ -9,8 +9,11 @@ use Rattle.mono_script.specs.declared.ends.Status.TheVariants as status
 use Rattle.mono_load.specs.Load.{IsSummary}
 use Rattle.mono_load.specs.declared.loads.Summary.{Summary}
 use Rattle.mono_script.specs.Ending.{Meaning}
+use Rattle.mono_script.specs.Served.{serving}
 use Rattle.mono_text.specs.Lines.{lines, AreEventLines, IsFirstBad}
 use Rattle.mono_script.specs.Answers.{IsReplayed}
+use Rattle.mono_session.specs.Keeper.{no_sessions}
+use Rattle.mono_session_lines.specs.Lines.{call_text, FitsCall, StepsAs}
 
 -- a replay: event lines in, and a line for each report of a run
 abbrev pub replaying : Limits → Blocking → Meaning
@@ -33,6 +36,11 @@ loading seed count = record {
   Answers = λ input s output. (s ≡ status.Done) × ((sum : Summary) × IsSummary seed count sum × (output ≡ summary_line sum));
 }
 
+-- sessions: lines of calls in, and a line for each answer of a run of their steps from the empty sessions
+abbrev pub keeping_sessions : ℕ → ℕ → Meaning
+keeping_sessions most_sessions most_entries = serving call_text FitsCall StepsAs (no_sessions most_sessions most_entries)
+
 abbrev pub meaning : Command → Meaning
 meaning (command.Replay limits strategy) = replaying limits strategy
 meaning (command.Load seed count) = loading seed count
+meaning (command.Sessions sessions entries) = keeping_sessions sessions entries

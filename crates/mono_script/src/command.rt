@@ -4,6 +4,7 @@ ghost use Rattle.mono_script.specs.Command.{IsCommand, IsNoCommand};
 
 use crate::words::load::read_load;
 use crate::words::replay::read_replay;
+use crate::words::sessions::read_sessions;
 use mono_exec::{Blocking, Limits};
 
 /// What the words ask for.
@@ -13,6 +14,8 @@ pub enum Command {
     Replay(Limits, Blocking),
     /// The load of this seed and count.
     Load(u64, u64),
+    /// Sessions, of which at most so many may be open, with at most so many entries in all queues.
+    Sessions(u64, u64),
 }
 
 // The command that the words say, or none.
@@ -23,5 +26,8 @@ pub(crate) fn read_command(words: &Vec<String>) -> Option<Command>
     if let Some(command) = read_replay(words) {
         return Some(command);
     }
-    read_load(words)
+    if let Some(command) = read_load(words) {
+        return Some(command);
+    }
+    read_sessions(words)
 }

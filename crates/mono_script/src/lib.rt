@@ -6,6 +6,7 @@ mod ends;
 mod load_line;
 mod replay;
 mod served;
+mod session_lines;
 mod top;
 mod words;
 

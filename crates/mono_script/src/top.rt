@@ -11,6 +11,7 @@ use crate::command::{Command, read_command};
 use crate::ends::{Output, Status};
 use crate::load_line::output_of_load;
 use crate::replay::output_of_replay;
+use crate::session_lines::output_of_sessions;
 use mono_text::{InputError, Sink, Source, read_all, write_all};
 use std::alloc::{AllocError, Global};
 
@@ -22,6 +23,9 @@ fn made(alloc: Global, command: Command, input: &[u8]) -> Result<Output, AllocEr
     match command {
         Command::Replay(limits, blocking) => output_of_replay(alloc, limits, blocking, input),
         Command::Load(seed, count) => output_of_load(alloc, seed, count, input),
+        Command::Sessions(sessions, entries) => {
+            output_of_sessions(alloc, sessions, entries, input)
+        }
     }
 }
 
@@ -32,6 +36,7 @@ fn reads(command: Command) -> bool
     match command {
         Command::Replay(_, _) => true,
         Command::Load(_, _) => false,
+        Command::Sessions(_, _) => true,
     }
 }
 

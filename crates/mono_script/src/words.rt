@@ -3,3 +3,4 @@ pub(crate) mod limits;
 pub(crate) mod load;
 pub(crate) mod numbers;
 pub(crate) mod replay;
+pub(crate) mod sessions;

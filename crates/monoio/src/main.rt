@@ -12,6 +12,9 @@ const HELP: &str = "usage:
   monoio load SEED COUNT
       replays a long input that the seed gives, and writes one line that sums up its reports
       SEED: a number below 2^64; COUNT: at most 100000
+  monoio sessions SESSIONS ENTRIES
+      reads lines that say calls on sessions and locks, and writes the answer of each
+      SESSIONS: how many may be open; ENTRIES: how many may stand in all queues; numbers below 2^64
   monoio --help
   monoio --version
 exit status: 0 done, 2 no such command, 3 a bad line, 4 a read failed, 5 a write failed, 6 out of memory,
@@ -28,7 +31,7 @@ fn cause(status: u8) -> &'static str {
         6 => "out of memory",
         7 => "the input has more than 16777216 bytes",
         _ =>
-            "usage: monoio replay attached|local|panic TASKS JOBS SLEEPS, monoio load SEED COUNT, monoio --help, monoio --version",
+            "usage: monoio replay attached|local|panic TASKS JOBS SLEEPS, monoio load SEED COUNT, monoio sessions SESSIONS ENTRIES, monoio --help, monoio --version",
     }
 }
 
