@@ -15,6 +15,8 @@ mod replays;
 #[cfg(test)]
 mod running;
 #[cfg(test)]
+mod sessions;
+#[cfg(test)]
 mod waits;
 
 pub use caller::status_of;

@@ -8,6 +8,7 @@ mod limiter_lines;
 mod load_line;
 mod replay;
 mod served;
+mod session_lines;
 mod top;
 mod words;
 

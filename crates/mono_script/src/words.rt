@@ -5,3 +5,4 @@ pub(crate) mod limits;
 pub(crate) mod load;
 pub(crate) mod numbers;
 pub(crate) mod replay;
+pub(crate) mod sessions;

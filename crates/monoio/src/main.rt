@@ -12,6 +12,9 @@ const HELP: &str = "usage:
   monoio load SEED COUNT
       replays a long input that the seed gives, and writes one line that sums up its reports
       SEED: a number below 2^64; COUNT: at most 100000
+  monoio sessions SESSIONS ENTRIES
+      reads lines that say calls on sessions and locks, and writes the answer of each
+      SESSIONS: how many may be open; ENTRIES: how many may stand in all queues; numbers below 2^64
   monoio limiter BUCKETS RETRIES
       answers lines that make and use token buckets and retries, a line for each
       BUCKETS, RETRIES: limits, numbers below 2^64
@@ -34,7 +37,7 @@ fn cause(status: u8) -> &'static str {
         6 => "out of memory",
         7 => "the input has more than 16777216 bytes",
         _ =>
-            "usage: monoio replay attached|local|panic TASKS JOBS SLEEPS, monoio load SEED COUNT, monoio limiter BUCKETS RETRIES, monoio actors ACTORS MESSAGES, monoio --help, monoio --version",
+            "usage: monoio replay attached|local|panic TASKS JOBS SLEEPS, monoio load SEED COUNT, monoio sessions SESSIONS ENTRIES, monoio limiter BUCKETS RETRIES, monoio actors ACTORS MESSAGES, monoio --help, monoio --version",
     }
 }
 
