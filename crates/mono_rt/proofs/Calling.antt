@@ -11,7 +11,9 @@ use Rattle.mono_task.specs.Schedule as schedule
 use Rattle.mono_model.specs.SleepActs as machine
 use Rattle.mono_time.specs.Sleeps.{SleepTable, IsNoneArmedUpTo}
 use Rattle.mono_model.specs.SleepAnswers.{waker_in}
-use Rattle.mono_time.specs.Timers.{sleeps_of, elapsed_tick}
+use Rattle.mono_time.specs.Timers.{sleeps_of, elapsed_tick, registered_of}
+use Rattle.mono_exec.specs.Registered.{FollowsAct}
+use Rattle.mono_exec.proofs.Registering.{sleeps-stay}
 use Rattle.mono_time.specs.Stands.{StandsForSleeps}
 use Rattle.mono_model.specs.declared.error.Error.{Error}
 use Rattle.mono_time.specs.declared.timers.Timers.{Timers}
@@ -81,6 +83,7 @@ module _ {O B : Type 0} (number : O → ℕ) (hosting : B → Hosting) where
   by_tasks c step reply acts s tasks f is left answer after same =
       by_act number hosting c (with_all c s c.timers acts) step reply is answer
       (λ m st. subst (Matches number hosting (with_all c s c.timers acts)) (sym (left m)) (other_tasks c (with_all c s c.timers acts) m (f m.tasks) st (ap (λ x. numbered number x.tasks) after ∙ same ∙ ap f st.tasks) refl refl refl))
+      (λ m st. sleeps-stay c.timers c.timers m.sleeps _ (ap (λ x. x.sleeps) (left m)) (λ q. refl))
       refl refl (ap (λ x. x.turn) after) (ap (λ x. x.turns) after) refl refl
 
   -- a call on the sleeps alone
@@ -91,10 +94,12 @@ module _ {O B : Type 0} (number : O → ℕ) (hosting : B → Hosting) where
       → sleeps_of timers ≡ table → Alike (sleeps_of c.timers) table → elapsed_tick timers ≡ elapsed_tick c.timers
       → ((m : Sleeps) → StandsForSleeps c.timers m → StandsForSleeps timers (f m))
       → (IsNoneArmedUpTo (sleeps_of c.timers) → IsNoneArmedUpTo table)
+      → ((m : Machine) → Matches number hosting c m → FollowsAct c.timers timers m.sleeps (f m.sleeps))
       → Leads number hosting c (with_all c c.tasks timers acts)
-  by_sleeps c step reply acts timers table f is left answer after alike gone stands rests =
+  by_sleeps c step reply acts timers table f is left answer after alike gone stands rests follows =
       by_act number hosting c (with_all c c.tasks timers acts) step reply is answer
       (λ m st. subst (Matches number hosting (with_all c c.tasks timers acts)) (sym (left m st)) (other_timers c (with_all c c.tasks timers acts) m (f m.sleeps) st refl (stands m.sleeps st.sleeps) (gone_on c.timers timers table st.has_gone after alike gone) (subst IsNoneArmedUpTo (sym after) (rests st.no_due)) (ap (λ x. x.is_enabled) after ∙ alike.is_enabled) refl refl))
+      (λ m st. subst (λ x. FollowsAct c.timers timers m.sleeps x.sleeps) (sym (left m st)) (follows m st))
       refl refl refl refl refl refl
 
   -- a call that was refused memory, or was not kept
@@ -114,15 +119,15 @@ module _ {O B : Type 0} (number : O → ℕ) (hosting : B → Hosting) where
   }
 
   pub by_refusal : (c : Parts O B) (s : Schedule O) → s ≡ c.tasks → Leads number hosting c (with_memory c s c.timers true)
-  by_refusal c s is = by_nothing number hosting c (with_memory c s c.timers true) refl (λ m st. same_machine c (with_memory c s c.timers true) m is refl refl refl st) refl refl (ap (λ x. x.turn) is) (ap (λ x. x.turns) is) refl (λ h. refl)
+  by_refusal c s is = by_nothing number hosting c (with_memory c s c.timers true) refl (λ m st. same_machine c (with_memory c s c.timers true) m is refl refl refl st) (λ q. refl) refl refl (ap (λ x. x.turn) is) (ap (λ x. x.turns) is) refl (λ h. refl)
 
   -- the table of sleeps stands for the machine's as before
   pub by_no_sleep : (c : Parts O B) (timers : Timers) (is_out : Bool) → sleeps_of timers ≡ sleeps_of c.timers → elapsed_tick timers ≡ elapsed_tick c.timers → ((m : Sleeps) → StandsForSleeps c.timers m → StandsForSleeps timers m)
-      → (c.is_out_of_memory ≡ true → is_out ≡ true) → Leads number hosting c (with_memory c c.tasks timers is_out)
-  by_no_sleep c timers is_out same gone stands memory =
+      → ((s : ℕ) → registered_of timers s ≡ registered_of c.timers s) → (c.is_out_of_memory ≡ true → is_out ≡ true) → Leads number hosting c (with_memory c c.tasks timers is_out)
+  by_no_sleep c timers is_out same gone stands stays memory =
       by_nothing number hosting c (with_memory c c.tasks timers is_out) refl
       (λ m st. record { tasks = st.tasks; sleeps = stands m.sleeps st.sleeps; has_gone = gone ∙ st.has_gone ∙ sym (ap (λ x. x.greatest) same); no_due = subst IsNoneArmedUpTo (sym same) st.no_due; enabled = ap (λ x. x.is_enabled) same ∙ st.enabled; inbox = st.inbox; jobs = st.jobs; strategy = st.strategy })
-      refl refl refl refl refl memory
+      stays refl refl refl refl refl memory
 
   -- a reset that found a live sleep
   module _ (m : Machine) (s now : ℕ) (waker : Option ℕ) where

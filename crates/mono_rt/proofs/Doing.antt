@@ -38,6 +38,8 @@ use Rattle.mono_rt.specs.Journals.{Follows, Went, Goes, Did, Does, Led, Stays, I
 use Rattle.mono_rt.specs.declared.parts.Parts.{Parts}
 use Rattle.mono_rt.specs.declared.journals.Entry.{Entry}
 use Rattle.mono_rt.specs.declared.journals.Journal.{Journal}
+use Rattle.mono_time.specs.Timers.{registered_of}
+use Rattle.mono_rt.proofs.Registering.{registers_on, drained_registers}
 use Rattle.mono_rt.proofs.Going.{follows_on, pushed_open, goes_on, goes_of, does_led, does_stay}
 
 abbrev pub Relation : Type 1
@@ -100,6 +102,7 @@ module _ {O P : Type 0} (number : O → ℕ) where
             new = second.went.new;
             grew = second.went.grew ∙ ap (λ zs. zs ++ ys) first.went.grew ∙ append_assoc i.entries.items xs ys;
             follows = follows_on m first.went.new second.went.new xs ys first.went.follows second.went.follows;
+            registers = registers_on None m first.went.new second.went.new (registered_of a.timers) (registered_of b.timers) (registered_of c.timers) xs ys first.went.registers second.went.registers;
             matches = second.went.matches;
           };
           is = λ rest. subst (λ zs. T m zs second.went.new rest) (sym (append_assoc xs ys rest))
@@ -142,6 +145,7 @@ module _ {O P : Type 0} (number : O → ℕ) where
             grew = grew ∙ pushed_open k (drain_of woken) (sym full ∙ unfull) ∙ ap (λ xs. xs ++ drain_of woken ∷ []) (told (sym full ∙ unfull) ∙ ap (λ xs. j.entries.items ++ xs) before)
                 ∙ append_assoc j.entries.items (remotes m.tasks ts) (drain_of woken ∷ []) ∙ ap (λ x. j.entries.items ++ (remotes m.tasks ts ++ drain_of x ∷ [])) mine;
             follows = drained_follow m new new part [] (drained []) refl;
+            registers = drained_registers m new new (registered_of c.timers) (registered_of d.timers) part [] (drained []) (refl, λ s. ap (λ x. registered_of x s) timers);
             matches = other_tasks number hosting_of c d m (all_woken m.tasks (listed m.tasks ts)) st
                 (ap (λ x. numbered number x.tasks) tasks ∙ numbered-all_woken number c.tasks.tasks woken ∙ ap (λ x. all_woken x woken) st.tasks ∙ ap (all_woken m.tasks) mine) timers has blocking;
           };

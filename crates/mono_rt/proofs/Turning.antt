@@ -18,6 +18,8 @@ use Rattle.mono_machine.specs.declared.events.End.TheVariants as end
 use Rattle.mono_machine.specs.declared.events.Report.TheVariants as report
 use Rattle.mono_machine.specs.declared.events.Reply.{Reply}
 use Rattle.mono_exec.proofs.Matching.{front_is}
+use Rattle.mono_time.specs.Timers.{registered_of}
+use Rattle.mono_exec.specs.Registered.{registered_by_steps, registered_by_turn}
 use Rattle.mono_rt.specs.Numbered.{numbered, end_of}
 use Rattle.mono_rt.specs.Record.{Record, no_acts}
 use Rattle.mono_jobs.specs.Spawning.{Seen}
@@ -81,6 +83,11 @@ module _ {O P : Type 0} (number : O → ℕ) where
       record {
         steps = steps;
         matches = subst (λ q. Matches number hosting_of d (after_turn_for q steps e m)) (sym queue) left;
+        registered = λ s.
+            ap (λ ts. registered_of ts s) ends.timers ∙ leads.registered (after_begin t rest m) begun s
+            ∙ ap (λ me. registered_by_steps me steps (after_begin t rest m) s (registered_of b.timers s)) begins.me
+            ∙ ap (λ ts. registered_by_steps t steps (after_begin t rest m) s (registered_of ts s)) begins.timers
+            ∙ sym (ap (λ q. registered_by_turn q steps m s (registered_of c.timers s)) queue);
         kept = λ unfull.
             let open_x : x.acts.is_full ≡ false = sym (ap (λ y. y.is_full) ends.acts) ∙ unfull in
             let kept = leads.kept open_x in

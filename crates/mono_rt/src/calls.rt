@@ -146,6 +146,7 @@ impl<O: Outcome + Drop, B: Drop> Parts<O, B> {
         ensures tasks { self.new.tasks ≡ self.old.tasks }
         ensures leads { (hosting : B → Hosting) → Leads O.output_number hosting self.old self.new }
     {
+        self.timers.registers_armed();
         let answer = self.timers.poll(sleep, self.me);
         self.acts
             .note(TurnStep::Query(Query::Sleep(sleep)), poll_reply(answer));
@@ -159,6 +160,7 @@ impl<O: Outcome + Drop, B: Drop> Parts<O, B> {
         ensures tasks { self.new.tasks ≡ self.old.tasks }
         ensures leads { (hosting : B → Hosting) → Leads O.output_number hosting self.old self.new }
     {
+        self.timers.registers_armed();
         let answer = self.timers.remove(sleep);
         self.acts
             .note(TurnStep::Act(Act::DropSleep(sleep)), gone_reply(answer));
@@ -172,6 +174,7 @@ impl<O: Outcome + Drop, B: Drop> Parts<O, B> {
         ensures tasks { self.new.tasks ≡ schedule.with_tasks self.old.tasks (woken_if_any self.old.tasks.tasks (waker_in (reset_answer (sleeps_of self.old.timers) sleep (nanos_of deadline)))) }
         ensures leads { (hosting : B → Hosting) → Leads O.output_number hosting self.old self.new }
     {
+        self.timers.registers_armed();
         let nanos = deadline.as_nanos();
         let step = TurnStep::Act(Act::Reset(sleep, nanos));
         match self.timers.reset(sleep, deadline) {

@@ -5,6 +5,7 @@ use Rattle.mono_time.specs.Timers.{sleeps_of}
 use Rattle.mono_machine.specs.SleepCalls.{poll_reply}
 use Rattle.mono_exec.proofs.Timing.{alike_polled}
 use Rattle.mono_time.proofs.Resting.{rests-polled}
+use Rattle.mono_exec.proofs.Registering.{registered-polled}
 use Rattle.mono_rt.proofs.Calling.{by_sleeps}
 use Rattle.mono_rt.proofs.parts.Parts.poll_sleep.Goals as goal
 
@@ -16,3 +17,4 @@ returns-clause-leads g c = λ hosting.
     (λ m st. c.poll_reply.ensures ∙ ap poll_reply (c.poll-answer.ensures.stands m.sleeps st.sleeps).0)
     c.poll-answer.ensures.sleeps (alike_polled (sleeps_of old.timers) s old.me) c.poll-answer.ensures.elapsed (λ m st. (c.poll-answer.ensures.stands m st).1)
     (rests-polled (sleeps_of old.timers) s old.me)
+    (λ m st. registered-polled old.timers c.poll-answer.new.self m.sleeps st.sleeps c.registers_armed.ensures.registered s old.me c.poll-answer.ensures.registered)
