@@ -1,14 +1,18 @@
 // A clock step, at which the sleeps that are due fire.
-ghost use Rattle.std.specs.Prelude.{◌≡◌, ◌<◌, ◌≤◌, ◌+◌, ◌++◌, ◌∷◌, [], IfOk, OnOk, OnErr, vec_len, vec_capacity};
+ghost use Rattle.std.specs.Prelude.{◌≡◌, ◌<◌, ◌≤◌, ◌+◌, ◌++◌, ◌∷◌, [], ℕ, IfOk, OnOk, OnErr, vec_len, vec_capacity};
 ghost use Rattle.mono_model.specs.Sleeps.{Sleeps};
 ghost use Rattle.mono_model.specs.SleepActs as sleep;
 ghost use Rattle.mono_model.specs.Firing.{FireInTurn};
 ghost use Rattle.mono_time.specs.Instants.{nanos_of};
 ghost use Rattle.mono_time.specs.Sleeps.{armed_count, IsNoneArmedUpTo};
-ghost use Rattle.mono_time.specs.Timers.{sleeps_of, elapsed_tick};
+ghost use Rattle.mono_time.specs.Timers.{sleeps_of, elapsed_tick, registered_of};
+ghost use Rattle.mono_time.specs.Registered.{stepped_registered};
+ghost use Rattle.mono_model.specs.Table.{value_at};
 ghost use Rattle.mono_machine.specs.Machine.{Machine};
 ghost use Rattle.mono_machine.specs.Steps.{ClockStep, at_clock, after_fires, all_fired, with_first, wakers_of};
 ghost use Rattle.mono_exec.specs.Matches.{Keeps, Matches, MatchesInStep};
+ghost use Rattle.mono_exec.specs.Registered.{registered_after};
+ghost use Rattle.mono_machine.specs.declared.events.Event.TheVariants as event;
 
 use crate::parts::Parts;
 use crate::remote::wake_all;
@@ -110,7 +114,9 @@ pub fn take_due<L: Ledger>(timers: &mut Timers, now: Instant, blank: Blank, room
     ensures wakers { (sleeps : Sleeps) → Keeps timers.old sleeps → result.wakers.items ≡ wakers_of (sleep.at_clock sleeps (nanos_of now)) result.fired.items }
     ensures has_gone { elapsed_tick timers.new ≡ (sleeps_of timers.new).greatest }
     ensures rests { IsNoneArmedUpTo (sleeps_of timers.new) }
+    ensures registered { (s : ℕ) → registered_of timers.new s ≡ stepped_registered (elapsed_tick timers.old) (elapsed_tick timers.new) (value_at (sleeps_of timers.old).table s) (registered_of timers.old s) }
 {
+    timers.registers_armed();
     let mut steps: Steps<L> = Steps::new(blank);
     let mut due = room;
     while let Some((s, waker)) = timers.clock(now, &mut steps) {
@@ -133,6 +139,7 @@ fn fire_all<L: Ledger>(
     ensures fires { (m : Machine) → MatchesInStep timers.old tasks.old m → MatchesInStep timers.new tasks.new (after_fires (at_clock m (nanos_of now)) result.fired.items) × FireInTurn (at_clock m (nanos_of now)).sleeps.table (at_clock m (nanos_of now)).sleeps.greatest result.fired.items }
     ensures has_gone { elapsed_tick timers.new ≡ (sleeps_of timers.new).greatest }
     ensures turn { tasks.new.turn ≡ tasks.old.turn }
+    ensures registered { (s : ℕ) → registered_of timers.new s ≡ stepped_registered (elapsed_tick timers.old) (elapsed_tick timers.new) (value_at (sleeps_of timers.old).table s) (registered_of timers.old s) }
 {
     let due = take_due::<L>(timers, now, blank, room);
     wake_all(tasks, &due.wakers);
@@ -146,6 +153,7 @@ impl Parts {
         ensures steps { IfOk result (λ r. (m : Machine) → Matches self.old m → (new : Machine) × ClockStep m n r new × Matches self.new new) }
         ensures turn { self.new.tasks.turn ≡ self.old.tasks.turn }
         ensures memory { OnErr result (self.new ≡ self.old) }
+        ensures registered { OnOk result ((m : Machine) → Matches self.old m → (s : ℕ) → registered_of self.new.timers s ≡ registered_after (event.Clock n) m s (registered_of self.old.timers s)) }
     {
         match Instant::from_nanos(n) {
             None => Ok(Report::Reply(Reply::Refused(Refusal::Invalid))),

@@ -1,9 +1,13 @@
 //! Bytes to bytes: what a caller of the top call may rely on, and rows of inputs with their outputs as tests.
 #![tactic(auto)]
 
+#[cfg(test)]
+mod actors;
 mod caller;
 #[cfg(test)]
 mod faults;
+#[cfg(test)]
+mod limiters;
 #[cfg(test)]
 mod refusals;
 #[cfg(test)]

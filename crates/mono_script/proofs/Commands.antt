@@ -1,6 +1,7 @@
 -- The words of a command.
-use Rattle.std.proofs.Common.{◌≡◌, ◌≢◌, ℕ, ◌^◌, ◌<◌, ◌≤◌, List, [], ◌∷◌, length, get_or, Some, None, Option, refl, sym, ap, subst, ◌∙◌, arith, codes}
+use Rattle.std.proofs.Common.{◌≡◌, ℕ, ◌^◌, ◌<◌, ◌≤◌, List, [], ◌∷◌, length, get_or, Some, None, Option, refl, sym, ap, ◌∙◌, arith, codes}
 use Rattle.std.specs.Prelude.{nat_eq, ◌&&◌, Bool, true, false, if◌then◌else◌}
+use Rattle.std.proofs.lemmas.Fmt.{decimal_injective}
 use Rattle.std.specs.Fmt.{decimal}
 use Rattle.mono_machine.specs.declared.events.Limits.{Limits}
 use Rattle.mono_machine.specs.declared.events.Blocking.{Blocking}
@@ -8,30 +9,11 @@ use Rattle.mono_machine.specs.declared.events.Blocking.TheVariants as blocking
 use Rattle.mono_text.specs.Reading.{Read, number_at}
 use Rattle.mono_script.specs.declared.command.Command.{Command}
 use Rattle.mono_script.specs.declared.command.Command.TheVariants as command
-use Rattle.mono_script.specs.Command.{strategy_text, command_words, FitsCommand, AreLimits, AreLoad, IsCommand, IsNoReplay, IsNoLoad, IsNoCommand}
+use Rattle.mono_script.specs.Words.{strategy_text, two_words, SayTwo, SayLimits, AreLimits}
+use Rattle.mono_script.specs.Command.{command_words, FitsCommand, IsCommand, IsNoReplay, IsNoLoad, IsNoLimiter, IsNoActors, IsNoCommand}
 use Rattle.mono_text.proofs.Numbers.{reads_whole}
 
--- ---- the words
-
-pub record Parts (a b c d e : List ℕ) (limits : Limits) (strategy : Blocking) : Type 0 where
-  pub replay : a ≡ codes "replay"
-  pub strategy_is : b ≡ strategy_text strategy
-  pub tasks : c ≡ decimal limits.tasks
-  pub jobs : d ≡ decimal limits.jobs
-  pub sleeps : e ≡ decimal limits.sleeps
-
-pub parts : (a b c d e : List ℕ) (limits : Limits) (strategy : Blocking) → a ∷ b ∷ c ∷ d ∷ e ∷ [] ≡ command_words (command.Replay limits strategy) → Parts a b c d e limits strategy
-parts a b c d e limits strategy is = record {
-  replay = ap (λ ws. get_or ws 0 a) is;
-  strategy_is = ap (λ ws. get_or ws 1 a) is;
-  tasks = ap (λ ws. get_or ws 2 a) is;
-  jobs = ap (λ ws. get_or ws 3 a) is;
-  sleeps = ap (λ ws. get_or ws 4 a) is;
-}
-
-pub whole_words : (a b c d e : List ℕ) (limits : Limits) (strategy : Blocking) → a ≡ codes "replay" → b ≡ strategy_text strategy → AreLimits c d e limits
-    → a ∷ b ∷ c ∷ d ∷ e ∷ [] ≡ command_words (command.Replay limits strategy)
-whole_words a b c d e limits strategy p q r = rw (p, q, r.tasks_text, r.jobs_text, r.sleeps_text) refl
+-- ---- lists of words of one length
 
 pub five : {S : Type 0} (ws : List S) (a b c d e : S) → 5 ≤ length ws → length ws < 6
     → a ≡ get_or ws 0 a → b ≡ get_or ws 1 b → c ≡ get_or ws 2 c → d ≡ get_or ws 3 d → e ≡ get_or ws 4 e → ws ≡ a ∷ b ∷ c ∷ d ∷ e ∷ []
@@ -43,33 +25,43 @@ five (v ∷ w ∷ x ∷ y ∷ []) a b c d e l m p q r s t = absurd (omega arith)
 five (v ∷ w ∷ x ∷ y ∷ z ∷ []) a b c d e l m p q r s t = rw (p, q, r, s, t) refl
 five (v ∷ w ∷ x ∷ y ∷ z ∷ u ∷ us) a b c d e l m p q r s t = absurd (omega arith)
 
-pub not_five : (ws : List (List ℕ)) → length ws ≢ 5 → IsNoReplay ws
-not_five ws other limits strategy is = other (ap length is.text)
-
--- ---- every command
-
-pub no_command : (words : List (List ℕ)) → IsNoReplay words → IsNoLoad words → IsNoCommand words
-no_command words a b (command.Replay l g) is = a l g is
-no_command words a b (command.Load seed count) is = b seed count is
-
-pub load_words : (a b c : List ℕ) (x : Command) → a ≡ codes "load" → AreLoad b c x → IsCommand (a ∷ b ∷ c ∷ []) x
-load_words a b c x e l =
-    let is : IsCommand (a ∷ b ∷ c ∷ []) (command.Load l.seed l.count) = record { text = rw (e, l.seed_text, l.count_text) refl; fit = l.fit } in
-    subst (IsCommand (a ∷ b ∷ c ∷ [])) (sym l.is) is
-
-pub not_load : (a b c : List ℕ) → ((x : Command) → AreLoad b c x → ⊥) → IsNoLoad (a ∷ b ∷ c ∷ [])
-not_load a b c none seed count is =
-    none (command.Load seed count) (record { seed = seed; count = count; is = refl; seed_text = ap (λ ws. get_or ws 1 b) is.text; count_text = ap (λ ws. get_or ws 2 c) is.text; fit = is.fit })
-
-pub not_three : (ws : List (List ℕ)) → length ws ≢ 3 → IsNoLoad ws
-not_three ws other seed count is = other (ap length is.text)
-
 pub three : {S : Type 0} (ws : List S) (a b c : S) → 3 ≤ length ws → length ws < 4 → a ≡ get_or ws 0 a → b ≡ get_or ws 1 b → c ≡ get_or ws 2 c → ws ≡ a ∷ b ∷ c ∷ []
 three [] a b c l m p q r = absurd (omega arith)
 three (v ∷ []) a b c l m p q r = absurd (omega arith)
 three (v ∷ w ∷ []) a b c l m p q r = absurd (omega arith)
 three (v ∷ w ∷ x ∷ []) a b c l m p q r = rw (p, q, r) refl
 three (v ∷ w ∷ x ∷ y ∷ ws) a b c l m p q r = absurd (omega arith)
+
+-- ---- a word and two numbers
+
+pub not_two : (name word first second : List ℕ) → ((a b : ℕ) → a < 2 ^ 64 → b < 2 ^ 64 → first ≡ decimal a → second ≡ decimal b → ⊥)
+    → (a b : ℕ) → SayTwo name (word ∷ first ∷ second ∷ []) a b → ⊥
+not_two name word first second none a b say = none a b say.first_fits say.second_fits (ap (λ ws. get_or ws 1 first) say.text) (ap (λ ws. get_or ws 2 first) say.text)
+
+-- the second number is told by the words
+pub second_once : (name other : List ℕ) (words : List (List ℕ)) (a b c d : ℕ) → SayTwo name words a b → words ≡ two_words other c d → d < 2 ^ 64 → b ≡ d
+second_once name other words a b c d say text fits =
+    decimal_injective b d (omega (arith, say.second_fits)) (omega (arith, fits)) (ap (λ ws. get_or ws 2 name) (sym say.text ∙ text))
+
+-- ---- a word, a strategy and limits
+
+pub say_limits : (name a b c d e : List ℕ) (limits : Limits) (strategy : Blocking) → a ≡ name → b ≡ strategy_text strategy → AreLimits c d e limits
+    → SayLimits name (a ∷ b ∷ c ∷ d ∷ e ∷ []) limits strategy
+say_limits name a b c d e limits strategy p q r = record { text = rw (p, q, r.tasks_text, r.jobs_text, r.sleeps_text) refl; fit = r.fit }
+
+pub not_limits : (name a b c d e : List ℕ) → ((l : Limits) (s : Blocking) → b ≡ strategy_text s → AreLimits c d e l → ⊥)
+    → (l : Limits) (s : Blocking) → SayLimits name (a ∷ b ∷ c ∷ d ∷ e ∷ []) l s → ⊥
+not_limits name a b c d e none l s say =
+    none l s (ap (λ ws. get_or ws 1 a) say.text)
+    (record { tasks_text = ap (λ ws. get_or ws 2 a) say.text; jobs_text = ap (λ ws. get_or ws 3 a) say.text; sleeps_text = ap (λ ws. get_or ws 4 a) say.text; fit = say.fit })
+
+-- ---- every command
+
+pub no_command : (words : List (List ℕ)) → IsNoReplay words → IsNoLoad words → IsNoLimiter words → IsNoActors words → IsNoCommand words
+no_command words a b l c (command.Replay limits g) is = a limits g is
+no_command words a b l c (command.Load seed count) is = b seed count is
+no_command words a b l c (command.Limiter buckets retries) is = l buckets retries is
+no_command words a b l c (command.Actors actors messages) is = c actors messages is
 
 -- ---- the words of one command are those of no other: each command is read back from its words
 
@@ -118,14 +110,37 @@ abbrev load_of : List (List ℕ) → Option Command
 load_of (a ∷ b ∷ []) = load_from (number_of a) (number_of b)
 load_of other = None
 
+abbrev limiter_from : Option ℕ → Option ℕ → Option Command
+limiter_from (Some buckets) (Some retries) = Some (command.Limiter buckets retries)
+limiter_from x y = None
+
+abbrev limiter_of : List (List ℕ) → Option Command
+limiter_of (a ∷ b ∷ []) = limiter_from (number_of a) (number_of b)
+limiter_of other = None
+
+abbrev actors_from : Option ℕ → Option ℕ → Option Command
+actors_from (Some actors) (Some messages) = Some (command.Actors actors messages)
+actors_from x y = None
+
+abbrev actors_of : List (List ℕ) → Option Command
+actors_of (a ∷ b ∷ []) = actors_from (number_of a) (number_of b)
+actors_of other = None
+
 abbrev command_of : List (List ℕ) → Option Command
 command_of [] = None
-command_of (w ∷ ws) = if same_text w (codes "replay") then replay_of ws else if same_text w (codes "load") then load_of ws else None
+command_of (w ∷ ws) =
+    if same_text w (codes "replay") then replay_of ws
+    else if same_text w (codes "load") then load_of ws
+    else if same_text w (codes "limiter") then limiter_of ws
+    else if same_text w (codes "actors") then actors_of ws
+    else None
 
 -- one clause a command
 read_back : (c : Command) → FitsCommand c → command_of (command_words c) ≡ Some c
 read_back (command.Replay l g) fit = rw (strategy_back g, of_text l.tasks fit.tasks, of_text l.jobs fit.jobs, of_text l.sleeps fit.sleeps) refl
 read_back (command.Load seed count) fit = rw (of_text seed fit.0, of_text count (omega (arith, fit.1))) refl
+read_back (command.Limiter buckets retries) fit = rw (of_text buckets fit.0, of_text retries fit.1) refl
+read_back (command.Actors actors messages) fit = rw (of_text actors fit.0, of_text messages fit.1) refl
 
 pub command_once : (words : List (List ℕ)) (c d : Command) → IsCommand words c → IsCommand words d → c ≡ d
 command_once words c d p q =

@@ -1,3 +1,5 @@
+pub mod Sound
 pub mod Statuses
 pub mod Commands
 pub mod Replaying
+pub mod Serving

@@ -9,13 +9,15 @@ use Rattle.mono_script.specs.Meanings.{meaning}
 use Rattle.mono_script.specs.declared.ends.Status.{Status}
 use Rattle.mono_script.specs.declared.ends.Status.TheVariants as status
 use Rattle.mono_text.proofs.Lined.{not_both}
+use Rattle.mono_script.proofs.Sound.{Sound}
+use Rattle.mono_script.proofs.Serving.{sound_serving}
+use Rattle.mono_limit.specs.Limiter.{no_limits}
+use Rattle.mono_limit_lines.specs.Lines.{call_text, FitsCall, StepByLine}
+use Rattle.mono_actor.specs.Actors.{no_actors}
+use Rattle.mono_actor_lines.specs.Lines.{line_text, FitsLine}
+use Rattle.mono_actor_lines.specs.Answers.{Answers}
 
 -- ---- each command: what is owed of its meaning
-
--- a good input has no first bad line, and an answer is one to a good input
-pub record Sound (m : Meaning) : Type 0 where
-  pub apart : (input : List ℕ) (n : ℕ) → m.IsGood input → m.IsFirstBad input n → ⊥
-  pub good : (input : List ℕ) (s : Status) (output : List ℕ) → m.Answers input s output → m.IsGood input
 
 pub sound : (c : Command) → Sound (meaning c)
 sound (command.Replay l g) = record {
@@ -26,6 +28,8 @@ sound (command.Load seed count) = record {
   apart = λ input n good bad. bad;
   good = λ input s output a. tt;
 }
+sound (command.Limiter buckets retries) = sound_serving call_text FitsCall StepByLine (no_limits buckets retries)
+sound (command.Actors actors messages) = sound_serving line_text FitsLine Answers (no_actors actors messages)
 
 -- ---- one status, one number
 

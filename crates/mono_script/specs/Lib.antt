@@ -1,4 +1,6 @@
 pub mod Answers
+pub mod Words
 pub mod Command
 pub mod Ending
+pub mod Served
 pub mod Meanings

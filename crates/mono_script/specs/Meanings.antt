@@ -10,7 +10,13 @@ use Rattle.mono_load.specs.Load.{IsSummary}
 use Rattle.mono_load.specs.declared.loads.Summary.{Summary}
 use Rattle.mono_script.specs.Ending.{Meaning}
 use Rattle.mono_text.specs.Lines.{lines, AreEventLines, IsFirstBad}
+use Rattle.mono_actor.specs.Actors.{no_actors}
+use Rattle.mono_actor_lines.specs.Lines.{line_text, FitsLine}
+use Rattle.mono_actor_lines.specs.Answers.{Answers}
 use Rattle.mono_script.specs.Answers.{IsReplayed}
+use Rattle.mono_script.specs.Served.{serving}
+use Rattle.mono_limit.specs.Limiter.{no_limits}
+use Rattle.mono_limit_lines.specs.Lines.{call_text, FitsCall, StepByLine}
 
 -- a replay: event lines in, and a line for each report of a run
 abbrev pub replaying : Limits → Blocking → Meaning
@@ -33,6 +39,15 @@ loading seed count = record {
   Answers = λ input s output. (s ≡ status.Done) × ((sum : Summary) × IsSummary seed count sum × (output ≡ summary_line sum));
 }
 
+-- a limiter: calls in, from buckets and retries that begin empty, and a line for each answer of a run
+abbrev pub limiting : ℕ → ℕ → Meaning
+limiting buckets retries = serving call_text FitsCall StepByLine (no_limits buckets retries)
+-- actors: lines that say calls in, and a line for each call's answers
+abbrev pub acting : ℕ → ℕ → Meaning
+acting actors messages = serving line_text FitsLine Answers (no_actors actors messages)
+
 abbrev pub meaning : Command → Meaning
 meaning (command.Replay limits strategy) = replaying limits strategy
 meaning (command.Load seed count) = loading seed count
+meaning (command.Limiter buckets retries) = limiting buckets retries
+meaning (command.Actors actors messages) = acting actors messages

@@ -1,11 +1,15 @@
 //! The commands: each is words, an input and an answer, and `program` carries one out.
 #![tactic(auto)]
 
+mod acting;
 mod command;
 mod ends;
+mod limiter_lines;
 mod load_line;
 mod replay;
+mod served;
 mod top;
+mod words;
 
 pub use command::Command;
 pub use ends::Status;

@@ -7,3 +7,4 @@ pub mod Digits
 pub mod Lined
 pub mod Numbers
 pub mod Serving
+pub mod Calls

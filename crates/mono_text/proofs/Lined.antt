@@ -26,18 +26,18 @@ abbrev pub NoFeed : List ℕ → Type 0
 NoFeed [] = Unit {0}
 NoFeed (b ∷ bs) = (nat_eq b 10 ≡ false) × NoFeed bs
 
-no_feed_both : (xs ys : List ℕ) → NoFeed xs → NoFeed ys → NoFeed (xs ++ ys)
+pub no_feed_both : (xs ys : List ℕ) → NoFeed xs → NoFeed ys → NoFeed (xs ++ ys)
 no_feed_both [] ys p q = q
 no_feed_both (x ∷ xs) ys p q = (p.0, no_feed_both xs ys p.1 q)
 
-no_feed_digits : (ds : List ℕ) → AllDigits 10 ds → NoFeed ds
+pub no_feed_digits : (ds : List ℕ) → AllDigits 10 ds → NoFeed ds
 no_feed_digits [] d = tt
 no_feed_digits (c ∷ cs) d =
     let k = digit_from_value c d.0 in
     let no : nat_eq c 10 ≡ false = grind (arith, common_steps, k.0) in
     (no, no_feed_digits cs d.1)
 
-no_feed_number : (word : List ℕ) (n : ℕ) → NoFeed word → n < 10 ^ 64 → NoFeed (word ++ decimal n)
+pub no_feed_number : (word : List ℕ) (n : ℕ) → NoFeed word → n < 10 ^ 64 → NoFeed (word ++ decimal n)
 no_feed_number word n p l = no_feed_both word (decimal n) p (no_feed_digits (decimal n) (decimal_is_IsNumeral_wide n l).0.1)
 
 no_feed_how : (h : How) → NoFeed (how_text h)

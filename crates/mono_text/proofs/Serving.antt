@@ -1,8 +1,10 @@
 -- The answers so far, and what is left.
-use Rattle.std.proofs.Common.{◌≡◌, ℕ, zero, suc, ◌+◌, ◌<◌, ◌≤◌, List, [], ◌∷◌, ◌++◌, length, Option, Some, None, true, false, nat_eq, flat_map, refl, sym, ap, subst, ◌∙◌, arith, append_assoc, length-append}
+use Rattle.std.proofs.Common.{◌≡◌, ℕ, ◌+◌, ◌<◌, ◌≤◌, List, [], ◌∷◌, ◌++◌, length, flat_map, refl, sym, ap, subst, ◌∙◌, arith, append_assoc, length-append}
 use Rattle.std.proofs.lemmas.List.{append-nil}
 use Rattle.mono_text.specs.Lines.{Line, lines, AreLines, IsFirstWrong}
-use Rattle.mono_text.specs.Serving.{HasNoFeed, Says, StartsWith, StartsWithNone, answer_line, AnswersAll, IsServed}
+use Rattle.mono_text.specs.declared.services.Served.{Served}
+use Rattle.mono_text.specs.declared.services.Served.TheVariants as served
+use Rattle.mono_text.specs.Serving.{HasNoFeed, Says, StartsWith, StartsWithNone, answer_line, AnswersAll, IsServed, Serves, AnswersAs}
 use Rattle.mono_text.proofs.Lined.{NoFeed, ended, lines_front, first_line, line_in}
 
 no_feed : (text : List ℕ) → HasNoFeed text → NoFeed text
@@ -74,3 +76,24 @@ module _ {S A : Type 0} (text : A → List ℕ) (Fits : A → Type 0) (Answers :
   first_wrong count service out (b ∷ rest) p some none =
       let f = first_line b rest in
       (p.calls, p.good, f.0, f.1, p.split ∙ ap (λ x. p.good ++ x) f.2, p.each, omega (arith, p.counted), no_call (b ∷ rest) f.0 f.1 f.2 none)
+
+-- ---- from a value to the model for which it stands
+
+module _ {S K A : Type 0} (Stands : S → K → Type 0) (Allowed : K → A → List ℕ → K → Type 0) where
+  run_through : (old new : S) (model : K) (calls : List A) (answers : List (List ℕ)) → AnswersAll (AnswersAs Stands Allowed) old calls answers new → Stands old model
+      → (last : K) × AnswersAll Allowed model calls answers last
+  run_through old new model [] [] run stands = (model, refl)
+  run_through old new model [] (a ∷ answers) run stands = absurd run
+  run_through old new model (c ∷ calls) [] run stands = absurd run
+  run_through old new model (c ∷ calls) (a ∷ answers) run stands =
+      let k = run.1 model stands in
+      let rest = run_through run.0 new k.0 calls answers run.2 k.2 in
+      (rest.0, (k.0, k.1, rest.1))
+
+  -- what the value serves is served by the model
+  pub serves_through : (text : A → List ℕ) (Fits : A → Type 0) (start : S) (first : K) (input : List ℕ) (r : Served) → Stands start first
+      → Serves text Fits (AnswersAs Stands Allowed) start input r → Serves text Fits Allowed first input r
+  serves_through text Fits start first input (served.BadLine n) stands s = s
+  serves_through text Fits start first input (served.Output bytes) stands s =
+      let run = run_through start s.last first s.calls s.answers s.run stands in
+      record { calls = s.calls; answers = s.answers; last = run.0; are_lines = s.are_lines; run = run.1; output_is = s.output_is }

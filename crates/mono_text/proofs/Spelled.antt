@@ -14,36 +14,36 @@ use Rattle.mono_machine.specs.declared.events.End.TheVariants as end
 use Rattle.mono_machine.specs.declared.events.Event.{Event}
 use Rattle.mono_machine.specs.declared.events.Event.TheVariants as event
 use Rattle.mono_text.specs.Written.{how_text, act_text, step_text, end_text, parts_text, event_text, FitsAct, FitsStep, FitsEnd, FitSteps, FitsEvent}
-use Rattle.mono_text.specs.Lines.{BeginsWith, BeginsWithNone}
+use Rattle.mono_text.specs.Lines.{BeginsWith, BeginsWithNone, OneEvent}
 use Rattle.mono_text.specs.Reading.{GivesIf, Read, when, mapped, then_read, ends_or, word_at, digits_from, s_act_at, drop_at, reset_at, how_at, job_act_at, other_act_at, act_at, job_step_at, number_at, nanos_at, step_at, end_at, parts_at, event_at, line_at}
 use Rattle.mono_text.proofs.Words.{word_is}
 use Rattle.mono_text.proofs.Digits.{digits_found, digits_again, starts_digit}
 
 -- ---- tools
 
-when_cases : {A : Type 0} (o : Option (List ℕ)) (f : List ℕ → A) (other y : A) → when o f other ≡ y
+pub when_cases : {A : Type 0} (o : Option (List ℕ)) (f : List ℕ → A) (other y : A) → when o f other ≡ y
     → ((r : List ℕ) × (o ≡ Some r) × (f r ≡ y)) ⊎ ((o ≡ None) × (other ≡ y))
 when_cases None f other y e = inr (refl, e)
 when_cases (Some r) f other y e = inl (r, refl, e)
 
-chosen : {A : Type 0} (b : Bool) (x y z : A) → (if b then x else y) ≡ z → ((b ≡ true) × (x ≡ z)) ⊎ ((b ≡ false) × (y ≡ z))
+pub chosen : {A : Type 0} (b : Bool) (x y z : A) → (if b then x else y) ≡ z → ((b ≡ true) × (x ≡ z)) ⊎ ((b ≡ false) × (y ≡ z))
 chosen true x y z e = inl (refl, e)
 chosen false x y z e = inr (refl, e)
 
-mapped_some : {A B : Type 0} (f : A → B) (o : Read A) (y : B) (rest : List ℕ) → mapped f o ≡ Some (y, rest)
+pub mapped_some : {A B : Type 0} (f : A → B) (o : Read A) (y : B) (rest : List ℕ) → mapped f o ≡ Some (y, rest)
     → (x : A) × (o ≡ Some (x, rest)) × (f x ≡ y)
 mapped_some f None y rest e = cc e
 mapped_some f (Some x) y rest e =
     let k : (f x.0 ≡ y) × (x.1 ≡ rest) = grind arith in
     (x.0, ap (λ r. Some (x.0, r)) k.1, k.0)
 
-then_some : {A B : Type 0} (o : Read A) (f : A → List ℕ → Read B) (y : B × List ℕ) → then_read o f ≡ Some y
+pub then_some : {A B : Type 0} (o : Read A) (f : A → List ℕ → Read B) (y : B × List ℕ) → then_read o f ≡ Some y
     → (x : A) × (r : List ℕ) × (o ≡ Some (x, r)) × (f x r ≡ Some y)
 then_some None f y e = cc e
 then_some (Some x) f y e = (x.0, x.1, refl, e)
 
 -- a number behind its word
-numbered_found : {A : Type 0} (top : ℕ) (word : List ℕ) (make : ℕ → A) (bytes r : List ℕ) (y : A) (rest : List ℕ) → 0 < top → top ≤ 10 ^ 64
+pub numbered_found : {A : Type 0} (top : ℕ) (word : List ℕ) (make : ℕ → A) (bytes r : List ℕ) (y : A) (rest : List ℕ) → 0 < top → top ≤ 10 ^ 64
     → word_at word bytes ≡ Some r → mapped make (digits_from top 0 0 r) ≡ Some (y, rest)
     → (v : ℕ) × (make v ≡ y) × (bytes ≡ word ++ decimal v ++ rest) × (v < top)
 numbered_found top word make bytes r y rest some bound w e =
@@ -54,10 +54,10 @@ numbered_found top word make bytes r y rest some bound w e =
 regroup : (a b c d e : List ℕ) → a ++ (b ++ (c ++ d ++ e)) ≡ a ++ b ++ c ++ d ++ e
 regroup a b c d e = grind (arith, append_assoc)
 
-small : 2 ^ 64 ≤ 10 ^ 64
+pub small : 2 ^ 64 ≤ 10 ^ 64
 small = lit≤ tt
 
-large : 2 ^ 128 ≤ 10 ^ 64
+pub large : 2 ^ 128 ≤ 10 ^ 64
 large = lit≤ tt
 
 -- ---- what is read is spelled so
@@ -288,10 +288,10 @@ parts_found (suc most) front bytes e rest h = elim (when_cases (word_at (codes "
       ]
 ]
 
-abbrev EventIs : List ℕ → List ℕ → Event → Type 0
+abbrev pub EventIs : List ℕ → List ℕ → Event → Type 0
 EventIs bytes rest e = (bytes ≡ event_text e ++ rest) × FitsEvent e
 
-event_found : (bytes : List ℕ) (e : Event) (rest : List ℕ) → event_at bytes ≡ Some (e, rest) → EventIs bytes rest e
+pub event_found : (bytes : List ℕ) (e : Event) (rest : List ℕ) → event_at bytes ≡ Some (e, rest) → EventIs bytes rest e
 unfolding event_at
 event_found bytes e rest h = elim (when_cases (word_at (codes "turn") bytes) _ _ _ h) [
   | inl w ↦
@@ -440,7 +440,7 @@ act_is_no_event (act.JobFinished j) rest f = refl
 act_is_no_event (act.SleepElapsed s) rest f = refl
 act_is_no_event (act.JobEnd j h) rest f = refl
 
-event_again : (e : Event) (rest : List ℕ) → FitsEvent e → starts_digit rest ≡ false → event_at (event_text e ++ rest) ≡ Some (e, rest)
+pub event_again : (e : Event) (rest : List ℕ) → FitsEvent e → starts_digit rest ≡ false → event_at (event_text e ++ rest) ≡ Some (e, rest)
 unfolding event_at
 event_again (event.Act a) rest f d = act_is_no_event a rest f ∙ rw (act_again a rest f d) refl
 event_again (event.Turn steps e) rest f d =
@@ -452,6 +452,11 @@ event_again event.Drain rest f d = refl
 pub line_again : (e : Event) (rest : List ℕ) → FitsEvent e → line_at (event_text e ++ 10 ∷ rest) ≡ Some (e, rest)
 unfolding line_at
 line_again e rest f = rw (event_again e (10 ∷ rest) f refl) refl
+
+pub one_event : OneEvent
+one_event bytes e other rest behind b c =
+    let same : ◌≡◌ {A = Read Event} (Some (e, rest)) (Some (other, behind)) = sym (ap line_at b.0 ∙ line_again e rest b.1) ∙ (ap line_at c.0 ∙ line_again other behind c.1) in
+    grind (arith, same)
 
 -- ---- both for what a line of code gave
 

@@ -51,3 +51,7 @@ BeginsWith bytes e rest = (bytes ≡ event_text e ++ 10 ∷ rest) × FitsEvent e
 -- the bytes begin with no line that says an event
 abbrev pub BeginsWithNone : List ℕ → Type 0
 BeginsWithNone bytes = (e : Event) (rest : List ℕ) → BeginsWith bytes e rest → ⊥
+
+-- they begin with the line of one event at most
+abbrev pub OneEvent : Type 0
+OneEvent = (bytes : List ℕ) (e other : Event) (rest behind : List ℕ) → BeginsWith bytes e rest → BeginsWith bytes other behind → (e ≡ other) × (rest ≡ behind)

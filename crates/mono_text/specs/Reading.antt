@@ -63,6 +63,10 @@ number_at bytes = digits_from (2 ^ 64) 0 0 bytes
 abbrev pub nanos_at : List ℕ → Read ℕ
 nanos_at bytes = digits_from (2 ^ 128) 0 0 bytes
 
+-- a number behind a blank
+abbrev pub behind_at : List ℕ → Read ℕ
+behind_at bytes = when (word_at (codes " ") bytes) number_at None
+
 -- an act whose word begins with an s
 unfoldable pub s_act_at : List ℕ → Read Act
 s_act_at bytes =
@@ -158,3 +162,7 @@ event_at bytes =
 -- an event and the line feed behind it
 unfoldable pub line_at : List ℕ → Read Event
 line_at bytes = then_read (event_at bytes) (λ e rest. when (word_at (10 ∷ []) rest) (λ r. Some (e, r)) None)
+
+-- a call as `call_at` reads it, and the line feed behind it
+abbrev pub call_line_at : {A : Type 0} → (List ℕ → Read A) → List ℕ → Read A
+call_line_at call_at bytes = then_read (call_at bytes) (λ c rest. when (word_at (10 ∷ []) rest) (λ r. Some (c, r)) None)

@@ -48,3 +48,8 @@ pub record IsServed {S A : Type 0} (text : A → List ℕ) (Fits : A → Type 0)
 abbrev pub Serves : {S A : Type 0} → (A → List ℕ) → (A → Type 0) → (S → A → List ℕ → S → Type 0) → S → List ℕ → Served → Type 0
 Serves text Fits Answers start input (served.BadLine n) = IsFirstWrong (Says text Fits) (lines input) n
 Serves text Fits Answers start input (served.Output bytes) = IsServed text Fits Answers start input bytes.items
+
+-- Of every model for which the value stood, the call is answered as the model allows, and afterwards the value stands for
+-- what the model has become.
+abbrev pub AnswersAs : {S K A : Type 0} → (S → K → Type 0) → (K → A → List ℕ → K → Type 0) → S → A → List ℕ → S → Type 0
+AnswersAs {S} {K} Stands Allowed old call answer new = (model : K) → Stands old model → (next : K) × Allowed model call answer next × Stands new next

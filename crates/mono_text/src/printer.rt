@@ -6,26 +6,29 @@ use itoa::Buffer;
 use mono_machine::{Ended, Refusal, Reply, Report, Woke};
 use std::alloc::AllocError;
 
+/// Puts a word at the end.
 #[inline(always)]
-fn word(out: &mut Vec<u8>, word: &[u8]) -> Result<(), AllocError>
+pub fn put_word(out: &mut Vec<u8>, word: &[u8]) -> Result<(), AllocError>
     ensures { OnOk result (out.new.items ≡ out.old.items ++ word.now) }
 {
     out.extend_from_slice(word)
 }
 
+/// Puts a number at the end, in decimal.
 #[inline(always)]
-fn number(out: &mut Vec<u8>, n: u64) -> Result<(), AllocError>
+pub fn put_number(out: &mut Vec<u8>, n: u64) -> Result<(), AllocError>
     ensures { OnOk result (out.new.items ≡ out.old.items ++ decimal n) }
 {
     let mut buffer = Buffer::new();
     out.extend_from_slice(buffer.format(n).as_bytes())
 }
 
-fn pair(out: &mut Vec<u8>, text: &[u8], n: u64) -> Result<(), AllocError>
+/// Puts a word and a number behind it at the end.
+pub fn put_pair(out: &mut Vec<u8>, text: &[u8], n: u64) -> Result<(), AllocError>
     ensures { OnOk result (out.new.items ≡ out.old.items ++ (text.now ++ decimal n)) }
 {
-    word(out, text)?;
-    number(out, n)
+    put_word(out, text)?;
+    put_number(out, n)
 }
 
 fn refused_word(refusal: Refusal) -> &'static [u8]
@@ -96,9 +99,9 @@ fn part(out: &mut Vec<u8>, item: Reply) -> Result<(), AllocError>
     ensures { OnOk result (out.new.items ≡ out.old.items ++ reply_part item) }
 {
     let (text, n) = reply_word(item);
-    word(out, text)?;
+    put_word(out, text)?;
     match n {
-        Some(n) => number(out, n),
+        Some(n) => put_number(out, n),
         None => Ok(()),
     }
 }
@@ -108,11 +111,11 @@ fn reply_line(out: &mut Vec<u8>, item: Reply) -> Result<(), AllocError>
     ensures { OnOk result (out.new.items ≡ out.old.items ++ (reply_text item ++ 10 ∷ [])) }
 {
     let (text, n) = reply_word(item);
-    word(out, &text[2..])?;
+    put_word(out, &text[2..])?;
     if let Some(n) = n {
-        number(out, n)?;
+        put_number(out, n)?;
     }
-    word(out, b"\n".as_slice())
+    put_word(out, b"\n".as_slice())
 }
 
 fn replies(out: &mut Vec<u8>, list: &[Reply]) -> Result<(), AllocError>
@@ -128,7 +131,7 @@ fn numbers(out: &mut Vec<u8>, list: &[u64]) -> Result<(), AllocError>
     ensures { OnOk result (out.new.items ≡ out.old.items ++ flat_map number_part list.now) }
 {
     for item in list {
-        pair(out, b" ".as_slice(), *item)?;
+        put_pair(out, b" ".as_slice(), *item)?;
     }
     Ok(())
 }
@@ -137,18 +140,18 @@ fn numbers(out: &mut Vec<u8>, list: &[u64]) -> Result<(), AllocError>
 fn turn(out: &mut Vec<u8>, task: u64, list: &[Reply], ended: Ended) -> Result<(), AllocError>
     ensures { OnOk result (out.new.items ≡ out.old.items ++ (codes "turn " ++ decimal task ++ flat_map reply_part list.now ++ codes "; " ++ ended_text ended ++ 10 ∷ [])) }
 {
-    pair(out, b"turn ".as_slice(), task)?;
+    put_pair(out, b"turn ".as_slice(), task)?;
     replies(out, list)?;
-    word(out, ended_word(ended))
+    put_word(out, ended_word(ended))
 }
 
-// A line of a word and numbers.
-fn listed(out: &mut Vec<u8>, text: &[u8], list: &[u64]) -> Result<(), AllocError>
+/// Puts a line of a word and numbers at the end: each number behind a blank, and a line feed.
+pub fn put_list(out: &mut Vec<u8>, text: &[u8], list: &[u64]) -> Result<(), AllocError>
     ensures { OnOk result (out.new.items ≡ out.old.items ++ (text.now ++ flat_map number_part list.now ++ 10 ∷ [])) }
 {
-    word(out, text)?;
+    put_word(out, text)?;
     numbers(out, list)?;
-    word(out, b"\n".as_slice())
+    put_word(out, b"\n".as_slice())
 }
 
 /// Puts the line of a report at the end: its one spelling, and a line feed.
@@ -158,9 +161,9 @@ pub fn report_line(out: &mut Vec<u8>, item: &Report) -> Result<(), AllocError>
     match item {
         Report::Reply(r) => reply_line(out, *r),
         Report::Turn(task, list, ended) => turn(out, *task, list.as_slice(), *ended),
-        Report::Fired(list) => listed(out, b"fired".as_slice(), list.as_slice()),
-        Report::Listed => word(out, b"listed\n".as_slice()),
-        Report::Unlisted => word(out, b"unlisted\n".as_slice()),
-        Report::Drained(list) => listed(out, b"drained".as_slice(), list.as_slice()),
+        Report::Fired(list) => put_list(out, b"fired".as_slice(), list.as_slice()),
+        Report::Listed => put_word(out, b"listed\n".as_slice()),
+        Report::Unlisted => put_word(out, b"unlisted\n".as_slice()),
+        Report::Drained(list) => put_list(out, b"drained".as_slice(), list.as_slice()),
     }
 }

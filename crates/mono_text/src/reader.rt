@@ -2,7 +2,7 @@
 ghost use Rattle.std.specs.Prelude.{◌≡◌, ◌+◌, ◌-◌, ◌*◌, ◌^◌, ◌<◌, ◌≤◌, ◌↔◌, IfNone, IfSome, IfOk, Some, None, length, IsTrue, if◌then◌else◌, [], ◌++◌, slice_index, nat_lt, drop, decimal, ℕ};
 ghost use Rattle.mono_text.specs.Lines.{BeginsWith, BeginsWithNone};
 ghost use Rattle.mono_text.specs.Reading as Reading;
-ghost use Rattle.mono_text.specs.Reading.{Gives, GivesIf, GivesEnd, word_at, number_at, nanos_at, s_act_at, drop_at, reset_at, how_at, job_act_at, other_act_at, act_at, job_step_at, step_at, end_at, parts_at, event_at, line_at};
+ghost use Rattle.mono_text.specs.Reading.{Gives, GivesIf, GivesEnd, word_at, number_at, nanos_at, behind_at, s_act_at, drop_at, reset_at, how_at, job_act_at, other_act_at, act_at, job_step_at, step_at, end_at, parts_at, event_at, line_at};
 
 use mono_machine::{Act, End, Event, How, List, Query, TurnStep};
 use std::alloc::{AllocError, Global};
@@ -95,9 +95,17 @@ impl<'a> Reader<'a> {
         self.rest.is_empty()
     }
 
-    // The next byte, or 0 at the end.
+    /// How many bytes are left.
     #[inline(always)]
-    fn first(&self) -> u8
+    pub fn left(&self) -> usize
+        ensures { result ≡ length self.now.rest.now }
+    {
+        self.rest.len()
+    }
+
+    /// The next byte, or 0 at the end.
+    #[inline(always)]
+    pub fn first(&self) -> u8
         ensures { result ≡ slice_index self.now.rest.now 0 }
     {
         if self.rest.is_empty() {
@@ -177,6 +185,16 @@ impl<'a> Reader<'a> {
             value = value * 10 + u64::from(digit - b'0');
         }
         self.end(text, text.len(), u128::from(value))
+    }
+
+    /// The number that stands here behind a blank; as [`Reader::number`].
+    pub fn number_behind(&mut self) -> Option<u64>
+        ensures { Gives result self.new.rest.now (behind_at self.old.rest.now) }
+    {
+        if self.take(b" ".as_slice()) {
+            return self.number();
+        }
+        None
     }
 
     // As `number`, digit by digit with each test.
@@ -425,9 +443,10 @@ impl<'a> Reader<'a> {
         Ok(None)
     }
 
-    // An event, without its line feed.
+    /// The event that stands here, without a line feed, and goes past it. None where none stands here; what is left then is
+    /// not told. The spare list is used as [`Reader::line`] uses it.
     #[tactic(auto, unfolding(crate::specs::Reading::event_at))]
-    fn event(
+    pub fn event(
         &mut self,
         alloc: Global,
         spare: &mut List<TurnStep>,

@@ -1,5 +1,8 @@
 // Each public call once, but for `program`, which has its rows in a crate above.
-use crate::{MemSink, PlainSink, PlainSource, Reader, read_all, report_line, write_all};
+use crate::{
+    MemSink, PlainSink, PlainSource, Reader, put_list, put_number, put_pair, put_word, read_all,
+    report_line, write_all,
+};
 use mono_machine::{List, Reply, Report};
 use std::alloc::AllocError;
 
@@ -35,5 +38,22 @@ fn lines_are_read_and_written(rt: HostRuntime) -> Result<(), AllocError> {
     let mut out = Vec::new(alloc);
     report_line(&mut out, &Report::Reply(Reply::Task(10)))?;
     assert_eq!(&rt; out.as_slice(), b"task 10\n".as_slice());
+    Ok(())
+}
+
+#[test]
+fn numbers_stand_behind_words(rt: HostRuntime) -> Result<(), AllocError> {
+    let alloc = rt.alloc();
+    let mut reader = Reader::new(b"take 7 18446744073709551615\n".as_slice());
+    assert!(&rt; reader.take(b"take".as_slice()));
+    assert_eq!(&rt; reader.number_behind(), Some(7));
+    assert_eq!(&rt; reader.number_behind(), Some(18446744073709551615));
+    assert_eq!(&rt; reader.number_behind(), None);
+    let mut out = Vec::new(alloc);
+    put_word(&mut out, b"a".as_slice())?;
+    put_number(&mut out, 10)?;
+    put_pair(&mut out, b" b ".as_slice(), 0)?;
+    put_list(&mut out, b" c".as_slice(), [3, 20].as_slice())?;
+    assert_eq!(&rt; out.as_slice(), b"a10 b 0 c 3 20\n".as_slice());
     Ok(())
 }

@@ -73,7 +73,7 @@ impl Timers {
     ghost use Rattle.mono_model.specs.SleepActs as machine;
     ghost use Rattle.mono_time.specs.Timers.{sleeps_of, elapsed_tick, registered_of, credit_left, poll_raise};
     ghost use Rattle.mono_wheel.specs.Credit.{most_takes};
-    ghost use Rattle.mono_time.specs.Registered.{RegistersOnly, polled_registered, reset_registered, moved_registered, NextExpiration};
+    ghost use Rattle.mono_time.specs.Registered.{RegistersOnly, polled_registered, reset_registered, moved_registered, IsRegistered, NextExpiration};
     ghost use Rattle.mono_time.specs.Stands.{StandsForSleeps};
 
     /// Timers without sleeps, for at most `limit` live ones; without `enabled` no sleep is ever made.
@@ -82,6 +82,7 @@ impl Timers {
         ensures stands { IfOk result (λ timers. StandsForSleeps timers (model.no_sleeps limit)) }
         // What shows the wheel under the table.
         ensures elapsed { IfOk result (λ timers. elapsed_tick timers ≡ 0) }
+        ensures registered { IfOk result (λ timers. (s : ℕ) → registered_of timers s ≡ None) }
         ensures credit { IfOk result (λ timers. credit_left timers ≡ 0) }
     {
         let wheel = Wheel::new(alloc)?;
@@ -226,6 +227,16 @@ impl Timers {
         self.greatest
     }
 
+    /// Where the sleeps are registered: a sleep is registered exactly while it is armed, ahead of the tick up to which the
+    /// wheel has gone and not after its own, unless it is pending (`registered`). The wheel has not gone beyond the greatest
+    /// tick (`behind`). The call does nothing.
+    pub fn registers_armed(&self)
+        ensures registered { (s : ℕ) → IsRegistered (elapsed_tick self.now) (value_at (sleeps_of self.now).table s) (registered_of self.now s) }
+        ensures behind { elapsed_tick self.now ≤ (sleeps_of self.now).greatest }
+    {
+        let _ = self.wheel.elapsed();
+    }
+
     /// The next sleep that fires in the clock step to a reading, with its waker, which is to be woken. The greatest tick
     /// becomes the greater of itself and the reading's tick, rounded down (`none`, `some`).
     ///
@@ -243,10 +254,13 @@ impl Timers {
         ensures stands { (m : Sleeps) → StandsForSleeps self.old m → machine.Fires (machine.at_clock m (nanos_of now)) result (StandsForSleeps self.new) }
         // What shows the wheel under the table.
         ensures elapsed { IfNone result (elapsed_tick self.new ≡ (sleeps_of self.new).greatest) }
+        ensures later { elapsed_tick self.old ≤ elapsed_tick self.new }
+        ensures reached { IfSome result (λ x. value_at (sleeps_of self.old).table x.0 ≡ Some (armed (elapsed_tick self.new) x.1)) }
         ensures registered { (s : ℕ) → value_at (sleeps_of self.new).table s ≡ value_at (sleeps_of self.old).table s → registered_of self.new s ≡ moved_registered (elapsed_tick self.old) (elapsed_tick self.new) (value_at (sleeps_of self.old).table s) (registered_of self.old s) }
         ensures steps { steps.new + credit_left self.new ≡ steps.old + credit_left self.old }
         ensures gone { IfSome result (λ x. registered_of self.new x.0 ≡ None) }
     {
+        let _ = self.wheel.elapsed();
         let greatest = self.greatest.max(now.clock_tick());
         self.greatest = greatest;
         match self.wheel.poll(greatest, steps) {

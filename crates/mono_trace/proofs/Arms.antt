@@ -1,10 +1,10 @@
 -- How often a sleep is armed by one step, by one turn and by one event.
-use Rattle.std.proofs.Common.{◌≡◌, ◌≤◌, ℕ, ◌+◌, true, false, Bool, cond, List, [], ◌∷◌, length, Some, None, Option, refl, ap, subst, ◌∙◌, arith}
+use Rattle.std.proofs.Common.{◌≡◌, ◌≤◌, ℕ, ◌+◌, true, false, Bool, cond, List, [], ◌∷◌, length, Some, None, Option, refl, ap, ◌∙◌, arith}
 use Rattle.std.specs.Prelude.{nat_le, nat_lt, ◌||◌, Result, Ok, Err, IfOk}
 use Rattle.mono_model.specs.Ticks.{up, max_nanos}
 use Rattle.mono_model.specs.Table.{value_at, is_full, is_issued}
 use Rattle.mono_model.specs.Inbox.{is_waiting}
-use Rattle.mono_model.specs.Sleeps.{Sleeps, Sleep, fresh, armed, elapsed, armed_above, after_arming}
+use Rattle.mono_model.specs.Sleeps.{Sleeps, Sleep, fresh, armed, elapsed, armed_above}
 use Rattle.mono_model.specs.SleepActs as sleep
 use Rattle.mono_machine.specs.Machine.{Machine}
 use Rattle.mono_machine.specs.Acts.{Outcome, for_sleep, block, act_outcome, query_outcome, step_outcome}

@@ -1,22 +1,21 @@
 -- A list of sleeps that fire in turn until none is due is one that a clock step may list, both ways.
-use Rattle.std.proofs.Common.{◌≡◌, ◌≢◌, ◌<◌, ◌≤◌, ◌⊎◌, inl, inr, ℕ, zero, suc, true, false, Bool, cond, List, [], ◌∷◌, length, set, get_or, Some, None, Option, refl, ap, sym, subst, ◌∙◌, ne_eqb, arith}
+use Rattle.std.proofs.Common.{◌≡◌, ◌≢◌, ◌<◌, ◌≤◌, inl, inr, ℕ, true, false, Bool, List, [], ◌∷◌, length, Some, None, Option, refl, ap, sym, subst, ◌∙◌, ne_eqb, arith}
 use Rattle.std.specs.Prelude.{◌&&◌, ◌||◌, ◌==◌, not, MatchBool}
 use Rattle.std.proofs.lemmas.Bool.{cases_eq, cases_lt}
 use Rattle.std.proofs.lemmas.List.{get_or-set_other, get_or-set_same, get_or_past, set_past}
 use Rattle.mono_model.specs.Ticks.{max_nanos}
 use Rattle.mono_model.specs.Table.{Table, value_at, with_value}
-use Rattle.mono_model.specs.Sleeps.{Sleeps, Sleep, fresh, armed, elapsed, IsDueSleep, MayFire}
+use Rattle.mono_model.specs.Sleeps.{Sleep, elapsed, IsDueSleep, MayFire}
 use Rattle.mono_model.specs.Firing.{IsNoneDue}
 use Rattle.mono_machine.specs.Machine.{Machine}
-use Rattle.mono_machine.specs.Steps.{after_fire, after_fires, at_clock, greatest_at, ClockStep}
+use Rattle.mono_machine.specs.Steps.{after_fire, after_fires, at_clock, greatest_at}
 use Rattle.mono_machine.specs.declared.events.Event.TheVariants as event
-use Rattle.mono_machine.specs.declared.events.Report.{Report}
 use Rattle.mono_machine.specs.declared.events.Report.TheVariants as report
 use Rattle.mono_trace.specs.Versions.{Versions}
 use Rattle.mono_trace.specs.Verdicts.{IsNoStep}
-use Rattle.mono_trace.specs.Traces.{may_follow_value, tick_after_value, arms_after_value, are_in_order, is_listed, are_once, are_all_listed, is_allowed}
+use Rattle.mono_trace.specs.Traces.{may_follow_value, tick_after_value, arms_after_value, are_in_order, is_listed, are_once, are_all_listed}
 use Rattle.mono_trace.specs.Told.{Tried, are_in_turn}
-use Rattle.mono_trace.proofs.Allowed.{and_left, and_right, and_both, or_left, or_right, eq-tells, eq-told, listed-tells, all-tells, true-false, is_either, allows_exactly}
+use Rattle.mono_trace.proofs.Allowed.{and_left, and_right, and_both, or_left, or_right, eq-tells, listed-tells, all-tells, true-false, is_either, allows_exactly}
 
 -- ---- tests
 and_false : (a : Bool) → (a && false) ≡ false

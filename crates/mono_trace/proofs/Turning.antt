@@ -1,5 +1,5 @@
 -- One more reply of a turn that is compared.
-use Rattle.std.proofs.Common.{◌≡◌, ◌≢◌, ◌<◌, ◌≤◌, ℕ, ◌+◌, List, [], ◌∷◌, length, get_or, drop, ap, sym, ◌∙◌, refl, arith}
+use Rattle.std.proofs.Common.{◌≡◌, ◌≢◌, ℕ, List, [], ◌∷◌, length, ap, sym, ◌∙◌, refl, arith}
 use Rattle.std.specs.Prelude.{◌↔◌}
 use Rattle.mono_machine.specs.Machine.{Machine}
 use Rattle.mono_machine.specs.Acts.{step_outcome}

@@ -1,5 +1,5 @@
 -- A change that is taken back is as if it had not been made.
-use Rattle.std.proofs.Common.{◌≡◌, ◌<◌, inl, inr, ℕ, ◌+◌, ◌-◌, ◌≤◌, zero, suc, List, [], ◌∷◌, ◌++◌, length, take, set, get_or, Some, None, Option, refl, ap, sym, ◌∙◌, arith}
+use Rattle.std.proofs.Common.{◌≡◌, ℕ, ◌+◌, ◌-◌, ◌≤◌, zero, suc, List, [], ◌∷◌, ◌++◌, length, take, set, Some, None, Option, refl, ap, sym, ◌∙◌, arith}
 use Rattle.std.proofs.lemmas.List.{set-set, set-get_or, set_past, take_at, length_push}
 use Rattle.mono_model.specs.Table.{value_at, count_of}
 use Rattle.mono_model.proofs.Counts.{counted, counted-count_of}

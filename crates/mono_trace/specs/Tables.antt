@@ -9,7 +9,6 @@ use Rattle.mono_model.specs.Sleeps.{Sleeps, Arming}
 use Rattle.mono_model.specs.Sleeps as sleeps
 use Rattle.mono_model.specs.declared.task_error.TaskError.{TaskError}
 use Rattle.mono_machine.specs.declared.events.Refusal.{Refusal}
-use Rattle.mono_trace.specs.Versions.{Versions}
 use Rattle.mono_trace.specs.declared.tasks.Phase.{Phase as CodePhase}
 use Rattle.mono_trace.specs.declared.tasks.Phase.TheVariants as phase
 use Rattle.mono_trace.specs.declared.tasks.Task.{Task as CodeTask}

@@ -1,5 +1,5 @@
 -- A value with what it was when its changes were last kept, so that they can be taken back.
-use Rattle.std.specs.Prelude.{ℕ, ◌-◌, List, [], ◌∷◌, Option, Some, length, slice_set, take}
+use Rattle.std.specs.Prelude.{◌-◌, List, [], ◌∷◌, Option, Some, length, slice_set, take}
 use Rattle.mono_trace.specs.declared.places.Change.{Change}
 use Rattle.mono_trace.specs.declared.places.Change.TheVariants.{Added, Had}
 

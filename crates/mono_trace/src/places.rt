@@ -1,5 +1,5 @@
 // A table by number whose changes can be taken back.
-ghost use Rattle.std.specs.Prelude.{◌≡◌, [], Some, OnOk, is_some, true, List};
+ghost use Rattle.std.specs.Prelude.{◌≡◌, [], Some, OnOk, OnErr, is_some, true, List};
 ghost use Rattle.mono_model.specs.Table.{value_at, next_number, is_issued, with_next, with_value, without, count_of};
 ghost use Rattle.mono_trace.specs.Versions.{kept, changed, undone};
 
@@ -102,7 +102,8 @@ impl<V: Copy + Drop> Places<V> {
 
     /// Gives out the next number, with this value.
     pub fn push(&mut self, value: V) -> Result<(), AllocError>
-        ensures { OnOk result (self.new ≡ changed self.old (with_next self.old.now value)) }
+        ensures changed { OnOk result (self.new ≡ changed self.old (with_next self.old.now value)) }
+        ensures refused { OnErr result (self.new ≡ self.old) }
     {
         self.items.push(Some(value))?;
         match self.changes.push(Change::Added) {
@@ -120,7 +121,8 @@ impl<V: Copy + Drop> Places<V> {
     /// A number that has a value gets another.
     pub fn set(&mut self, number: u64, value: V) -> Result<(), AllocError>
         requires { is_some (value_at self.old.now number) ≡ true }
-        ensures { OnOk result (self.new ≡ changed self.old (with_value self.old.now number value)) }
+        ensures changed { OnOk result (self.new ≡ changed self.old (with_value self.old.now number value)) }
+        ensures refused { OnErr result (self.new ≡ self.old) }
     {
         if let Some(old) = self.get(number) {
             self.changes.push(Change::Had(number, old))?;
@@ -132,7 +134,8 @@ impl<V: Copy + Drop> Places<V> {
     /// A number that has a value is gone.
     pub fn remove(&mut self, number: u64) -> Result<(), AllocError>
         requires { is_some (value_at self.old.now number) ≡ true }
-        ensures { OnOk result (self.new ≡ changed self.old (without self.old.now number)) }
+        ensures changed { OnOk result (self.new ≡ changed self.old (without self.old.now number)) }
+        ensures refused { OnErr result (self.new ≡ self.old) }
     {
         if let Some(old) = self.get(number) {
             self.changes.push(Change::Had(number, old))?;

@@ -10,7 +10,7 @@ ghost use Rattle.mono_machine.specs.SleepCalls.{poll_reply, gone_reply, elapsed_
 ghost use Rattle.mono_trace.specs.Versions.{kept, changed};
 ghost use Rattle.mono_trace.specs.Tables.{sleep_of, sleep_place};
 
-use crate::places::Places;
+use crate::armed::SleepPlaces;
 use mono_machine::{Refusal, Reply};
 use std::alloc::{AllocError, Global};
 use std::marker::Model;
@@ -38,7 +38,7 @@ pub enum Sleep {
 /// Contracts see the sleeps of the machine, as they are and as they were when their changes were last kept.
 #[derive(Drop)]
 pub struct Sleeps {
-    places: Places<Sleep>,
+    places: SleepPlaces,
     greatest: u128,
     greatest_before: u128,
     arms: u128,
@@ -70,7 +70,7 @@ impl Sleeps {
         ensures { result ≡ kept (model.no_sleeps limit) }
     {
         Sleeps {
-            places: Places::new(alloc),
+            places: SleepPlaces::new(alloc),
             greatest: 0,
             greatest_before: 0,
             arms: 0,
@@ -113,7 +113,7 @@ impl Sleeps {
         ensures sleeps { OnOk result (self.new ≡ changed self.old (sleep.added self.old.now nanos)) }
     {
         let s = self.places.next_number();
-        self.places.push(Sleep::Fresh(nanos))?;
+        self.places.push_fresh(nanos)?;
         Ok(s)
     }
 
@@ -273,14 +273,7 @@ impl Sleeps {
     pub fn is_none_due(&self) -> bool
         ensures { MatchBool result (IsNoneDue self.now.now.table self.now.now.greatest) (IsNoneDue self.now.now.table self.now.now.greatest → ⊥) }
     {
-        for s in 0..self.places.next_number() {
-            if let Some(Sleep::Armed(arming)) = self.get(s) {
-                if arming.tick <= self.greatest {
-                    return false;
-                }
-            }
-        }
-        true
+        self.places.is_none_due(self.greatest)
     }
 
     /// The clock shows so many nanoseconds.

@@ -12,6 +12,12 @@ const HELP: &str = "usage:
   monoio load SEED COUNT
       replays a long input that the seed gives, and writes one line that sums up its reports
       SEED: a number below 2^64; COUNT: at most 100000
+  monoio limiter BUCKETS RETRIES
+      answers lines that make and use token buckets and retries, a line for each
+      BUCKETS, RETRIES: limits, numbers below 2^64
+  monoio actors ACTORS MESSAGES
+      makes the calls on actors that the lines of standard input say, and writes a line of answers for each
+      ACTORS, MESSAGES: limits, numbers below 2^64
   monoio --help
   monoio --version
 exit status: 0 done, 2 no such command, 3 a bad line, 4 a read failed, 5 a write failed, 6 out of memory,
@@ -28,7 +34,7 @@ fn cause(status: u8) -> &'static str {
         6 => "out of memory",
         7 => "the input has more than 16777216 bytes",
         _ =>
-            "usage: monoio replay attached|local|panic TASKS JOBS SLEEPS, monoio load SEED COUNT, monoio --help, monoio --version",
+            "usage: monoio replay attached|local|panic TASKS JOBS SLEEPS, monoio load SEED COUNT, monoio limiter BUCKETS RETRIES, monoio actors ACTORS MESSAGES, monoio --help, monoio --version",
     }
 }
 

@@ -1,4 +1,4 @@
-use Rattle.std.proofs.Common.{◌≡◌, ◌<◌, ◌≤◌, ℕ, length, subst, arith, Ok}
+use Rattle.std.proofs.Common.{◌<◌, ◌≤◌, ℕ, length, subst, arith, Ok}
 use Rattle.mono_machine.specs.Machine.{start_machine}
 use Rattle.mono_machine.proofs.Running.{item_and_rest, nothing_left}
 use Rattle.mono_trace.specs.Stands.{machine_of}

@@ -180,3 +180,22 @@ returns-in-Some-clause-fewer g c =
     let was : slice_get t.entries.items k ≡ Some e = slice_get_read t.entries.items _ k e refl inside c.index_mut-entry.ensures.value in
     let fewer = fewer_armed (table_kept t.wheel t.keys t.entries.items) owned.0 left.elapsed _ (table-armed t.wheel left t.keys t.entries.items t.greatest t.live t.limit t.holds now less below k came e f was c.elapse-waker.ensures.entry) in
     subst (λ xs. count_by is_armed xs < count_by is_armed (table_kept t.wheel t.keys t.entries.items)) (sym (table-fired t.wheel left t.keys t.entries.items t.greatest t.live t.limit t.holds now less below k came e f was c.elapse-waker.ensures.entry)) fewer
+
+pub returns-in-Some-clause-reached : goal.returns-in-Some-clause-reached
+returns-in-Some-clause-reached g c =
+    let t = c.args.self.now in
+    let now = c.max-greatest.result in
+    let is : now ≡ max t.greatest (down (nanos_of c.args.now)) = c.max-greatest.ensures ∙ ap (max t.greatest) c.clock_tick.ensures.tick in
+    let less : t.greatest ≤ now = omega (arith, is) in
+    let below : now < 2 ^ 63 = omega (arith, c.max-greatest.ensures, c.clock_tick.ensures.range, t.holds.greatest_below) in
+    let left = c.poll.new.self in
+    let k = c.in-Some.key in
+    let e = c.index_mut-entry.result.now in
+    let f = c.elapse-waker.new.entry in
+    let came : CameOut t.wheel left now k = c.in-Some.ensures.polled in
+    let owned = came-owner t.wheel left t.keys t.entries.items t.greatest t.live t.limit t.holds now less below k came in
+    let inside : k < length t.entries.items = key_inside t.wheel t.keys t.entries.items t.greatest t.live t.holds owned.0 k owned.1 in
+    let was : slice_get t.entries.items k ≡ Some e = slice_get_read t.entries.items _ k e refl inside c.index_mut-entry.ensures.value in
+    let number : f.sleep ≡ owned.0 = fired-number t.wheel left t.keys t.entries.items t.greatest t.live t.limit t.holds now less below k came e f was c.elapse-waker.ensures.entry in
+    ap (value_at (table_kept t.wheel t.keys t.entries.items)) number ∙ table-armed t.wheel left t.keys t.entries.items t.greatest t.live t.limit t.holds now less below k came e f was c.elapse-waker.ensures.entry
+    ∙ ap (λ w. Some (armed left.elapsed w)) (sym c.elapse-waker.ensures.waker)

@@ -1,4 +1,4 @@
-use Rattle.std.proofs.Common.{◌≡◌, ap, sym, ◌∙◌, false, true}
+use Rattle.std.proofs.Common.{ap, sym, ◌∙◌}
 use Rattle.mono_machine.specs.Steps.{after_fires}
 use Rattle.mono_trace.specs.Told.{are_in_turn}
 use Rattle.mono_trace.proofs.Firings.{not_told, told_if}

@@ -1,9 +1,9 @@
-use Rattle.std.proofs.Common.{◌++◌, ◌∷◌, [], ◌+◌, Some, None, set, ap, sym, ◌∙◌, refl}
-use Rattle.mono_model.specs.Table.{value_at, count_of}
-use Rattle.mono_model.proofs.Counts.{count_of-with_value, count_of-with_next}
-use Rattle.mono_trace.specs.Versions.{undone, changed}
-use Rattle.mono_trace.specs.declared.places.Change.TheVariants.{Added, Had}
-use Rattle.mono_trace.proofs.Undoing.{undone_pushed, undone_set, one_less}
+use Rattle.std.proofs.Common.{◌++◌, ◌∷◌, [], ◌+◌, ap, sym, ◌∙◌}
+use Rattle.mono_model.specs.Table.{count_of}
+use Rattle.mono_model.proofs.Counts.{count_of-with_next}
+use Rattle.mono_trace.specs.Versions.{undone}
+use Rattle.mono_trace.specs.declared.places.Change.TheVariants.{Added}
+use Rattle.mono_trace.proofs.Undoing.{undone_pushed}
 use Rattle.mono_trace.proofs.places.Places.push.Goals as goal
 
 pub invariant_of-self-in-Ok : goal.invariant_of-self-in-Ok
@@ -13,8 +13,8 @@ invariant_of-self-in-Ok g c =
     let before = ap (λ cs. undone cs c.push.new.self.items) c.in-Ok.ensures.items ∙ ap (undone (c.self.inside.changes.items ++ Added ∷ [])) c.in_ok-push.ensures.items ∙ undone_pushed c.self.inside.changes.items items v in
     (ap (λ n. n + 1) c.self.invariant.0 ∙ sym (count_of-with_next items v) ∙ ap count_of (sym c.in_ok-push.ensures.items), c.self.invariant.1 ∙ ap count_of (sym before))
 
-pub returns-in-Ok : goal.returns-in-Ok
-returns-in-Ok g c =
+pub returns-in-Ok-clause-changed : goal.returns-in-Ok-clause-changed
+returns-in-Ok-clause-changed g c =
     let items = c.self.inside.items.items in
     let v = c.args.value in
     let before = ap (λ cs. undone cs c.push.new.self.items) c.in-Ok.ensures.items ∙ ap (undone (c.self.inside.changes.items ++ Added ∷ [])) c.in_ok-push.ensures.items ∙ undone_pushed c.self.inside.changes.items items v in

@@ -1,9 +1,7 @@
-use Rattle.std.proofs.Common.{◌++◌, ◌∷◌, [], ◌+◌, Some, None, set, ap, sym, ◌∙◌, refl}
+use Rattle.std.proofs.Common.{None, set, ap, sym, ◌∙◌}
 use Rattle.mono_model.specs.Table.{value_at, count_of}
-use Rattle.mono_model.proofs.Counts.{count_of-with_value, count_of-with_next}
-use Rattle.mono_trace.specs.Versions.{undone, changed}
-use Rattle.mono_trace.specs.declared.places.Change.TheVariants.{Added, Had}
-use Rattle.mono_trace.proofs.Undoing.{undone_pushed, undone_set, one_less}
+use Rattle.mono_trace.specs.Versions.{undone}
+use Rattle.mono_trace.proofs.Undoing.{undone_set, one_less}
 use Rattle.mono_trace.proofs.places.Places.remove.Goals as goal
 
 pub invariant_of-self-in-Some : goal.invariant_of-self-in-Some
@@ -14,8 +12,8 @@ invariant_of-self-in-Some g c =
     let before = ap (λ cs. undone cs (set items n None)) c.in_ok-push.ensures.items ∙ undone_set c.self.inside.changes.items items n c.in-Some.old None at in
     (one_less items n c.self.inside.live c.in-Some.old at c.self.invariant.0, c.self.invariant.1 ∙ ap count_of (sym before))
 
-pub returns-in_ok-push : goal.returns-in_ok-push
-returns-in_ok-push g c =
+pub returns-in_ok-push-clause-changed : goal.returns-in_ok-push-clause-changed
+returns-in_ok-push-clause-changed g c =
     let items = c.self.inside.items.items in
     let n = c.args.number in
     let at = ap (λ m. value_at m.now n) c.self.view_is ∙ sym c.in-Some.ensures in

@@ -1,4 +1,4 @@
-use Rattle.std.proofs.Common.{Some, None}
+use Rattle.std.proofs.Common.{Some}
 use Rattle.std.proofs.lemmas.List.{map-set}
 use Rattle.mono_trace.specs.Tables.{sleep_place}
 use Rattle.mono_trace.proofs.sleeps.Sleeps.set.Goals as goal

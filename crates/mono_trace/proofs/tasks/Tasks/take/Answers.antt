@@ -1,4 +1,4 @@
-use Rattle.std.proofs.Common.{◌≡◌, ℕ, List, [], ◌∷◌, ap, sym, ◌∙◌, refl, Option, Some, None}
+use Rattle.std.proofs.Common.{◌≡◌, ℕ, [], ◌∷◌, ap, sym, ◌∙◌, Option, Some, None}
 use Rattle.std.specs.Prelude.{MatchOption}
 use Rattle.mono_trace.specs.Tables.{tasks_of}
 use Rattle.mono_trace.proofs.tasks.Tasks.take.Goals as goal

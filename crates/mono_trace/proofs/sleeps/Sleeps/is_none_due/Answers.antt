@@ -1,0 +1,7 @@
+use Rattle.std.proofs.Common.{subst}
+use Rattle.std.specs.Prelude.{MatchBool}
+use Rattle.mono_model.specs.Firing.{IsNoneDue}
+use Rattle.mono_trace.proofs.sleeps.Sleeps.is_none_due.Goals as goal
+
+pub returns : goal.returns
+returns c = subst (λ m. MatchBool c.is_none_due.result (IsNoneDue m.now.table m.now.greatest) (IsNoneDue m.now.table m.now.greatest → ⊥)) c.self.view_is c.is_none_due.ensures

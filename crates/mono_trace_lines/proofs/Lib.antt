@@ -1,0 +1,3 @@
+pub mod Spelled
+mod Listed
+mod Answering

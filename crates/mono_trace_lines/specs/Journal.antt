@@ -1,0 +1,106 @@
+-- The lines of a journal, and what a check of them answers.
+use Rattle.std.specs.Prelude.{◌≡◌, ◌^◌, ◌<◌, ◌+◌, ℕ, zero, suc, true, List, [], ◌∷◌, ◌++◌, Option, codes, decimal}
+use Rattle.mono_machine.specs.declared.events.Limits.{Limits}
+use Rattle.mono_machine.specs.declared.events.Blocking.{Blocking}
+use Rattle.mono_machine.specs.declared.events.Event.{Event}
+use Rattle.mono_machine.specs.declared.events.Report.{Report}
+use Rattle.mono_text.specs.Written.{event_text, report_text, number_text, FitsEvent}
+use Rattle.mono_text.specs.Lines.{Line, lines, AreLines, IsFirstWrong}
+use Rattle.mono_trace.specs.Verdicts.{Checked}
+use Rattle.mono_trace.specs.declared.Verdict.TheVariants.{Yes, No}
+use Rattle.mono_trace_lines.specs.Reported.{FitsReport, FitsAny}
+use Rattle.mono_trace_lines.specs.declared.journal.JournalLine.{JournalLine}
+use Rattle.mono_trace_lines.specs.declared.journal.JournalLine.TheVariants.{Ran, Now, Park, Main}
+use Rattle.mono_trace_lines.specs.declared.checks.Answer.{Answer}
+use Rattle.mono_trace_lines.specs.declared.checks.Answer.TheVariants as answer
+
+-- ---- lines
+
+abbrev pub journal_text : JournalLine → List ℕ
+journal_text (Ran e r) = event_text e ++ codes " -> " ++ report_text r
+journal_text (Now n) = codes "now " ++ decimal n
+journal_text (Park millis) = codes "park" ++ number_text millis
+journal_text (Main o) = codes "main " ++ decimal o
+
+abbrev pub FitsJournal : JournalLine → Type 0
+FitsJournal (Ran e r) = FitsEvent e × FitsReport r
+FitsJournal (Now n) = n < 2 ^ 128
+FitsJournal (Park millis) = FitsAny millis
+FitsJournal (Main o) = o < 2 ^ 64
+
+-- the line says this
+pub record IsJournalLine (said : JournalLine) (line : Line) : Type 0 where
+  pub fits : FitsJournal said
+  pub text : line.bytes ≡ journal_text said
+  pub is_ended : line.is_ended ≡ true
+
+-- the lines say these, one each
+abbrev pub AreJournalLines : List JournalLine → List Line → Type 0
+AreJournalLines said ls = AreLines IsJournalLine said ls
+
+-- Line n, counted from 1, is the first that is no line of a journal.
+abbrev pub IsFirstBad : List Line → ℕ → Type 0
+IsFirstBad ls n = IsFirstWrong IsJournalLine ls n
+
+-- the bytes begin with a line that says this, and rest is behind it
+abbrev pub BeginsWith : List ℕ → JournalLine → List ℕ → Type 0
+BeginsWith bytes said rest = (bytes ≡ journal_text said ++ 10 ∷ rest) × FitsJournal said
+
+-- the bytes begin with no line of a journal
+abbrev pub BeginsWithNone : List ℕ → Type 0
+BeginsWithNone bytes = (said : JournalLine) (rest : List ℕ) → BeginsWith bytes said rest → ⊥
+
+-- they begin with one line of a journal at most
+abbrev pub OneLine : Type 0
+OneLine = (bytes : List ℕ) (said other : JournalLine) (rest behind : List ℕ) → BeginsWith bytes said rest → BeginsWith bytes other behind → (said ≡ other) × (rest ≡ behind)
+
+-- they begin with the line of one report at most
+abbrev pub OneReport : Type 0
+OneReport = (bytes : List ℕ) (r other : Report) (rest behind : List ℕ) → FitsReport r → FitsReport other
+    → bytes ≡ report_text r ++ 10 ∷ rest → bytes ≡ report_text other ++ 10 ∷ behind → (r ≡ other) × (rest ≡ behind)
+
+-- ---- the pairs of events and reports; the other lines are passed over
+
+abbrev pub events_in : List JournalLine → List Event
+events_in [] = []
+events_in (Ran e r ∷ said) = e ∷ events_in said
+events_in (Now n ∷ said) = events_in said
+events_in (Park millis ∷ said) = events_in said
+events_in (Main o ∷ said) = events_in said
+
+abbrev pub reports_in : List JournalLine → List Report
+reports_in [] = []
+reports_in (Ran e r ∷ said) = r ∷ reports_in said
+reports_in (Now n ∷ said) = reports_in said
+reports_in (Park millis ∷ said) = reports_in said
+reports_in (Main o ∷ said) = reports_in said
+
+-- the line of the pair at a place, counted from 1 over all lines; the places of pairs are counted from 0
+abbrev pub line_of_pair : List JournalLine → ℕ → ℕ
+line_of_pair [] place = 0
+line_of_pair (Ran e r ∷ said) zero = 1
+line_of_pair (Ran e r ∷ said) (suc place) = line_of_pair said place + 1
+line_of_pair (Now n ∷ said) place = line_of_pair said place + 1
+line_of_pair (Park millis ∷ said) place = line_of_pair said place + 1
+line_of_pair (Main o ∷ said) place = line_of_pair said place + 1
+
+-- ---- what a check answers
+
+-- Each line is one of a journal, and its reports are those of a run of its events.
+pub record IsPassed (limits : Limits) (strategy : Blocking) (input : List ℕ) : Type 0 where
+  pub said : List JournalLine
+  pub are_lines : AreJournalLines said (lines input)
+  pub verdict : Checked limits strategy (events_in said) (reports_in said) Yes
+
+-- Each line is one of a journal, and the pair in line n is the first that no step allows.
+pub record FailsAtLine (limits : Limits) (strategy : Blocking) (input : List ℕ) (n : ℕ) : Type 0 where
+  pub said : List JournalLine
+  pub place : ℕ
+  pub are_lines : AreJournalLines said (lines input)
+  pub verdict : Checked limits strategy (events_in said) (reports_in said) (No place)
+  pub line : n ≡ line_of_pair said place
+
+abbrev pub IsAnswer : Limits → Blocking → List ℕ → Answer → Type 0
+IsAnswer limits strategy input (answer.BadLine n) = IsFirstBad (lines input) n
+IsAnswer limits strategy input answer.Yes = IsPassed limits strategy input
+IsAnswer limits strategy input (answer.No n) = FailsAtLine limits strategy input n

@@ -1,0 +1,3 @@
+pub mod Reported
+pub mod Reading
+pub mod Journal

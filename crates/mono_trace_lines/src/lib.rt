@@ -1,0 +1,11 @@
+//! Journals as lines of text, and whether they are runs of the machine.
+#![tactic(auto)]
+
+mod checks;
+mod journal;
+pub mod laws;
+mod reports;
+
+pub use checks::{Answer, check_lines};
+pub use journal::{JournalLine, read_line};
+pub use reports::read_report;
