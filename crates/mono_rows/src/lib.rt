@@ -5,6 +5,8 @@ mod caller;
 #[cfg(test)]
 mod faults;
 #[cfg(test)]
+mod journals;
+#[cfg(test)]
 mod refusals;
 #[cfg(test)]
 mod replays;

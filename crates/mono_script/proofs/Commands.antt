@@ -10,7 +10,7 @@ use Rattle.mono_text.specs.Reading.{Read, number_at}
 use Rattle.mono_script.specs.declared.command.Command.{Command}
 use Rattle.mono_script.specs.declared.command.Command.TheVariants as command
 use Rattle.mono_script.specs.Words.{strategy_text, two_words, SayTwo, SayLimits, AreLimits}
-use Rattle.mono_script.specs.Command.{command_words, FitsCommand, IsCommand, IsNoReplay, IsNoLoad, IsNoCommand}
+use Rattle.mono_script.specs.Command.{command_words, FitsCommand, IsCommand, IsNoReplay, IsNoLoad, IsNoCheck, IsNoCommand}
 use Rattle.mono_text.proofs.Numbers.{reads_whole}
 
 -- ---- lists of words of one length
@@ -57,9 +57,10 @@ not_limits name a b c d e none l s say =
 
 -- ---- every command
 
-pub no_command : (words : List (List ℕ)) → IsNoReplay words → IsNoLoad words → IsNoCommand words
-no_command words a b (command.Replay l g) is = a l g is
-no_command words a b (command.Load seed count) is = b seed count is
+pub no_command : (words : List (List ℕ)) → IsNoReplay words → IsNoLoad words → IsNoCheck words → IsNoCommand words
+no_command words a b d (command.Replay l g) is = a l g is
+no_command words a b d (command.Load seed count) is = b seed count is
+no_command words a b d (command.Check l g) is = d l g is
 
 -- ---- the words of one command are those of no other: each command is read back from its words
 
@@ -100,6 +101,14 @@ abbrev replay_of : List (List ℕ) → Option Command
 replay_of (g ∷ t ∷ j ∷ s ∷ []) = replay_from (strategy_of g) (number_of t) (number_of j) (number_of s)
 replay_of other = None
 
+abbrev check_from : Option Blocking → Option ℕ → Option ℕ → Option ℕ → Option Command
+check_from (Some g) (Some t) (Some j) (Some s) = Some (command.Check (record { tasks = t; jobs = j; sleeps = s }) g)
+check_from a b c d = None
+
+abbrev check_of : List (List ℕ) → Option Command
+check_of (g ∷ t ∷ j ∷ s ∷ []) = check_from (strategy_of g) (number_of t) (number_of j) (number_of s)
+check_of other = None
+
 abbrev load_from : Option ℕ → Option ℕ → Option Command
 load_from (Some seed) (Some count) = Some (command.Load seed count)
 load_from x y = None
@@ -110,12 +119,13 @@ load_of other = None
 
 abbrev command_of : List (List ℕ) → Option Command
 command_of [] = None
-command_of (w ∷ ws) = if same_text w (codes "replay") then replay_of ws else if same_text w (codes "load") then load_of ws else None
+command_of (w ∷ ws) = if same_text w (codes "replay") then replay_of ws else if same_text w (codes "load") then load_of ws else if same_text w (codes "check") then check_of ws else None
 
 -- one clause a command
 read_back : (c : Command) → FitsCommand c → command_of (command_words c) ≡ Some c
 read_back (command.Replay l g) fit = rw (strategy_back g, of_text l.tasks fit.tasks, of_text l.jobs fit.jobs, of_text l.sleeps fit.sleeps) refl
 read_back (command.Load seed count) fit = rw (of_text seed fit.0, of_text count (omega (arith, fit.1))) refl
+read_back (command.Check l g) fit = rw (strategy_back g, of_text l.tasks fit.tasks, of_text l.jobs fit.jobs, of_text l.sleeps fit.sleeps) refl
 
 pub command_once : (words : List (List ℕ)) (c d : Command) → IsCommand words c → IsCommand words d → c ≡ d
 command_once words c d p q =

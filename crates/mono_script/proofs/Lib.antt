@@ -3,3 +3,4 @@ pub mod Statuses
 pub mod Commands
 pub mod Replaying
 pub mod Serving
+pub mod Checked

@@ -10,11 +10,13 @@ use Rattle.mono_script.specs.Words.{two_words, limit_words}
 abbrev pub command_words : Command → List (List ℕ)
 command_words (command.Replay limits strategy) = limit_words (codes "replay") limits strategy
 command_words (command.Load seed count) = two_words (codes "load") seed count
+command_words (command.Check limits strategy) = limit_words (codes "check") limits strategy
 
 -- the numbers are within their bounds
 abbrev pub FitsCommand : Command → Type 0
 FitsCommand (command.Replay limits strategy) = FitLimits limits
 FitsCommand (command.Load seed count) = (seed < 2 ^ 64) × (count ≤ 100000)
+FitsCommand (command.Check limits strategy) = FitLimits limits
 
 -- The words say the command.
 pub record IsCommand (words : List (List ℕ)) (c : Command) : Type 0 where
@@ -32,3 +34,6 @@ IsNoReplay words = (limits : Limits) (strategy : Blocking) → IsCommand words (
 
 abbrev pub IsNoLoad : List (List ℕ) → Type 0
 IsNoLoad words = (seed count : ℕ) → IsCommand words (command.Load seed count) → ⊥
+
+abbrev pub IsNoCheck : List (List ℕ) → Type 0
+IsNoCheck words = (limits : Limits) (strategy : Blocking) → IsCommand words (command.Check limits strategy) → ⊥

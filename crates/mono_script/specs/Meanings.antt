@@ -11,6 +11,7 @@ use Rattle.mono_load.specs.declared.loads.Summary.{Summary}
 use Rattle.mono_script.specs.Ending.{Meaning}
 use Rattle.mono_text.specs.Lines.{lines, AreEventLines, IsFirstBad}
 use Rattle.mono_script.specs.Answers.{IsReplayed}
+use Rattle.mono_script.specs.Checked.{checking}
 
 -- a replay: event lines in, and a line for each report of a run
 abbrev pub replaying : Limits → Blocking → Meaning
@@ -36,3 +37,4 @@ loading seed count = record {
 abbrev pub meaning : Command → Meaning
 meaning (command.Replay limits strategy) = replaying limits strategy
 meaning (command.Load seed count) = loading seed count
+meaning (command.Check limits strategy) = checking limits strategy

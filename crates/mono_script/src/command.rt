@@ -2,6 +2,7 @@
 ghost use Rattle.std.specs.Prelude.{IfSome, IfNone, map, string_bytes};
 ghost use Rattle.mono_script.specs.Command.{IsCommand, IsNoCommand};
 
+use crate::words::check::read_check;
 use crate::words::load::read_load;
 use crate::words::replay::read_replay;
 use mono_exec::{Blocking, Limits};
@@ -13,6 +14,8 @@ pub enum Command {
     Replay(Limits, Blocking),
     /// The load of this seed and count.
     Load(u64, u64),
+    /// A check of a journal, with these limits and this strategy.
+    Check(Limits, Blocking),
 }
 
 // The command that the words say, or none.
@@ -23,5 +26,8 @@ pub(crate) fn read_command(words: &Vec<String>) -> Option<Command>
     if let Some(command) = read_replay(words) {
         return Some(command);
     }
-    read_load(words)
+    if let Some(command) = read_load(words) {
+        return Some(command);
+    }
+    read_check(words)
 }

@@ -1,6 +1,7 @@
 //! The commands: each is words, an input and an answer, and `program` carries one out.
 #![tactic(auto)]
 
+mod check_line;
 mod command;
 mod ends;
 mod load_line;

@@ -7,6 +7,7 @@ ghost use Rattle.mono_script.specs.Meanings.{meaning};
 ghost use Rattle.mono_script.specs.declared.ends.Status.TheVariants as status;
 ghost use Rattle.mono_text.specs.declared.source.InputError.TheVariants as input_error;
 
+use crate::check_line::output_of_check;
 use crate::command::{Command, read_command};
 use crate::ends::{Output, Status};
 use crate::load_line::output_of_load;
@@ -22,6 +23,7 @@ fn made(alloc: Global, command: Command, input: &[u8]) -> Result<Output, AllocEr
     match command {
         Command::Replay(limits, blocking) => output_of_replay(alloc, limits, blocking, input),
         Command::Load(seed, count) => output_of_load(alloc, seed, count, input),
+        Command::Check(limits, blocking) => output_of_check(alloc, limits, blocking, input),
     }
 }
 
@@ -32,6 +34,7 @@ fn reads(command: Command) -> bool
     match command {
         Command::Replay(_, _) => true,
         Command::Load(_, _) => false,
+        Command::Check(_, _) => true,
     }
 }
 
@@ -112,6 +115,7 @@ pub fn program<S: Source, K: Sink>(
     ensures usage { result ≡ 2 ↔ IsNoCommand (map string_bytes words.now.items) }
     ensures untouched { result ≡ 2 → (S.left source.new ≡ S.left source.old) × (K.written sink.new ≡ K.written sink.old) }
     ensures done { result ≡ 0 → (c : Command) → IsCommand (map string_bytes words.now.items) c → HasAnswered (meaning c) status.Done (S.left source.old) (S.left source.new) (K.written sink.old) (K.written sink.new) }
+    ensures not_a_run { result ≡ 11 → (c : Command) → IsCommand (map string_bytes words.now.items) c → HasAnswered (meaning c) status.NotARun (S.left source.old) (S.left source.new) (K.written sink.old) (K.written sink.new) }
     ensures bad_line { result ≡ 3 → (c : Command) → IsCommand (map string_bytes words.now.items) c → NamesBadLine (meaning c) (S.left source.old) (S.left source.new) (K.written sink.old) (K.written sink.new) }
     ensures read_fault { result ≡ 4 → HasRisen (S.faults source.old) (S.faults source.new) × (K.written sink.new ≡ K.written sink.old) }
     ensures write_fault { result ≡ 5 → HasRisen (K.faults sink.old) (K.faults sink.new) × ((c : Command) → IsCommand (map string_bytes words.now.items) c → IsCutShort (meaning c) (S.left source.old) (S.left source.new) (K.written sink.old) (K.written sink.new)) }

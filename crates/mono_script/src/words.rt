@@ -1,4 +1,5 @@
 // The words of each command, a file each, and what several commands have behind their first word.
+pub(crate) mod check;
 pub(crate) mod limits;
 pub(crate) mod load;
 pub(crate) mod numbers;
