@@ -7,6 +7,8 @@ mod caller;
 #[cfg(test)]
 mod faults;
 #[cfg(test)]
+mod journals;
+#[cfg(test)]
 mod limiters;
 #[cfg(test)]
 mod refusals;

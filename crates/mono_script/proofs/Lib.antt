@@ -3,3 +3,5 @@ pub mod Serving
 pub mod Statuses
 pub mod Commands
 pub mod Replaying
+pub mod Serving
+pub mod Checked

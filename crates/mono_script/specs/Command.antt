@@ -13,6 +13,7 @@ command_words (command.Load seed count) = two_words (codes "load") seed count
 command_words (command.Sessions sessions entries) = two_words (codes "sessions") sessions entries
 command_words (command.Limiter buckets retries) = two_words (codes "limiter") buckets retries
 command_words (command.Actors actors messages) = two_words (codes "actors") actors messages
+command_words (command.Check limits strategy) = limit_words (codes "check") limits strategy
 
 -- the numbers are within their bounds
 abbrev pub FitsCommand : Command → Type 0
@@ -21,6 +22,7 @@ FitsCommand (command.Load seed count) = (seed < 2 ^ 64) × (count ≤ 100000)
 FitsCommand (command.Sessions sessions entries) = (sessions < 2 ^ 64) × (entries < 2 ^ 64)
 FitsCommand (command.Limiter buckets retries) = (buckets < 2 ^ 64) × (retries < 2 ^ 64)
 FitsCommand (command.Actors actors messages) = (actors < 2 ^ 64) × (messages < 2 ^ 64)
+FitsCommand (command.Check limits strategy) = FitLimits limits
 
 -- The words say the command.
 pub record IsCommand (words : List (List ℕ)) (c : Command) : Type 0 where
@@ -47,3 +49,6 @@ IsNoLimiter words = (buckets retries : ℕ) → IsCommand words (command.Limiter
 
 abbrev pub IsNoActors : List (List ℕ) → Type 0
 IsNoActors words = (actors messages : ℕ) → IsCommand words (command.Actors actors messages) → ⊥
+
+abbrev pub IsNoCheck : List (List ℕ) → Type 0
+IsNoCheck words = (limits : Limits) (strategy : Blocking) → IsCommand words (command.Check limits strategy) → ⊥

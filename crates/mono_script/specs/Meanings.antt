@@ -19,6 +19,7 @@ use Rattle.mono_session_lines.specs.Lines as session_line
 use Rattle.mono_script.specs.Served.{serving}
 use Rattle.mono_limit.specs.Limiter.{no_limits}
 use Rattle.mono_limit_lines.specs.Lines as limiter_line
+use Rattle.mono_script.specs.Checked.{checking}
 
 -- a replay: event lines in, and a line for each report of a run
 abbrev pub replaying : Limits → Blocking → Meaning
@@ -59,3 +60,4 @@ meaning (command.Load seed count) = loading seed count
 meaning (command.Sessions sessions entries) = keeping_sessions sessions entries
 meaning (command.Limiter buckets retries) = limiting buckets retries
 meaning (command.Actors actors messages) = acting actors messages
+meaning (command.Check limits strategy) = checking limits strategy

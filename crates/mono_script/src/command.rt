@@ -3,6 +3,7 @@ ghost use Rattle.std.specs.Prelude.{IfSome, IfNone, map, string_bytes};
 ghost use Rattle.mono_script.specs.Command.{IsCommand, IsNoCommand};
 
 use crate::words::actors::read_actors;
+use crate::words::check::read_check;
 use crate::words::limiter::read_limiter;
 use crate::words::load::read_load;
 use crate::words::replay::read_replay;
@@ -22,6 +23,8 @@ pub enum Command {
     Limiter(u64, u64),
     /// Calls on actors, with room for so many live ones and so many messages.
     Actors(u64, u64),
+    /// A check of a journal, with these limits and this strategy.
+    Check(Limits, Blocking),
 }
 
 // The command that the words say, or none.
@@ -41,5 +44,8 @@ pub(crate) fn read_command(words: &Vec<String>) -> Option<Command>
     if let Some(command) = read_limiter(words) {
         return Some(command);
     }
-    read_actors(words)
+    if let Some(command) = read_actors(words) {
+        return Some(command);
+    }
+    read_check(words)
 }

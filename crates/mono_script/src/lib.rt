@@ -2,6 +2,7 @@
 #![tactic(auto)]
 
 mod acting;
+mod check_line;
 mod command;
 mod ends;
 mod limiter_lines;
