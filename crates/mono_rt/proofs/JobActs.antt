@@ -26,7 +26,7 @@ use Rattle.mono_exec.proofs.Registering.{sleeps-stay}
 use Rattle.mono_rt.specs.Record.{Record, noted}
 use Rattle.mono_rt.specs.Stands.{hosting_of, Matches}
 use Rattle.mono_rt.specs.Reached.{Leads, leads_on, by_act, by_nothing}
-use Rattle.mono_rt.specs.JobActs.{noted_end, noted_block, with_blocking, SpawnsJob, AsksJob}
+use Rattle.mono_rt.specs.JobActs.{noted_end, with_blocking, SpawnsJob, AsksJob}
 use Rattle.mono_rt.specs.declared.parts.Parts.{Parts}
 
 -- the machine with the jobs that it has
