@@ -43,7 +43,7 @@ use Rattle.mono_time.specs.Timers.{registered_of}
 use Rattle.mono_time.specs.Registered.{stepped_registered}
 use Rattle.mono_exec.specs.Registered.{registered_after}
 use Rattle.mono_exec.proofs.Registering.{clock-on, spawn-sleeps}
-use Rattle.mono_rt.proofs.Registering.{registers_on, stays_registered, fired_greatest}
+use Rattle.mono_rt.proofs.Registering.{registers_on, same_ticks, stays_registered, fired_greatest}
 use Rattle.mono_rt.proofs.Calling.{same_machine, other_tasks}
 
 pub follows_on : (a b c : Machine) (xs ys : List Entry) → Follows a xs b → Follows b ys c → Follows a (xs ++ ys) c
@@ -221,3 +221,12 @@ module _ {O P : Type 0} (number : O → ℕ) where
       let went = goes.went m st (ap (λ x. x.is_full) (sym same) ∙ unfull) in
       let part : went.part ≡ l.entries.items = sym (ap (λ x. x.entries.items) same ∙ went.grew ∙ ap (λ xs. xs ++ went.part) empty) in
       (went.new, subst (λ xs. Run m (events_in xs) (reports_in xs) went.new) part (follows_run m went.new went.part went.follows))
+
+  -- and the parks are those of the wheel, where nothing was registered
+  pub registers_of : (c d : Parts O (Seen P)) (j k l : Journal) (m : Machine) → Matches number hosting_of c m → j.entries.items ≡ [] → l ≡ k → ((s : ℕ) → registered_of c.timers s ≡ None) → Goes number c d j k → l.is_full ≡ false
+      → (new : Machine) × ((left : ℕ → Option ℕ) × Registers None m (λ s. None) l.entries.items new left)
+  registers_of c d j k l m st empty same none goes unfull =
+      let went = goes.went m st (ap (λ x. x.is_full) (sym same) ∙ unfull) in
+      let part : went.part ≡ l.entries.items = sym (ap (λ x. x.entries.items) same ∙ went.grew ∙ ap (λ xs. xs ++ went.part) empty) in
+      let left = registered_of d.timers in
+      (went.new, (left, subst (λ xs. Registers None m (λ s. None) xs went.new left) part (same_ticks None m (λ s. None) (registered_of c.timers) went.part went.new left (λ s. sym (none s)) went.registers)))

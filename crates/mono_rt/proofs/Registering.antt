@@ -37,7 +37,7 @@ waits_same (Some n) m q r v same (next, (first, is)) = (
   ),
 )
 
-same_ticks : (reading : Option ℕ) (m : Machine) (q r : ℕ → Option ℕ) (xs : List Entry) (new : Machine) (l : ℕ → Option ℕ) → ((s : ℕ) → q s ≡ r s) → Registers reading m r xs new l → Registers reading m q xs new l
+pub same_ticks : (reading : Option ℕ) (m : Machine) (q r : ℕ → Option ℕ) (xs : List Entry) (new : Machine) (l : ℕ → Option ℕ) → ((s : ℕ) → q s ≡ r s) → Registers reading m r xs new l → Registers reading m q xs new l
 same_ticks reading m q r [] new l same (is, left) = (is, λ s. left s ∙ sym (same s))
 same_ticks reading m q r (Ran e a ∷ xs) new l same (mid, step, rest) = (mid, step, same_ticks reading mid (λ s. registered_after e m s (q s)) (λ s. registered_after e m s (r s)) xs new l (λ s. ap (registered_after e m s) (same s)) rest)
 same_ticks reading m q r (Now n ∷ xs) new l same is = same_ticks (Some n) m q r xs new l same is

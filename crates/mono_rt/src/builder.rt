@@ -1,7 +1,8 @@
 // How a runtime is set up and made.
-ghost use Rattle.std.specs.Prelude.{◌≡◌, ◌^◌, max, Bool, true, false, not, None, [], IfOk, IfSome, IfNone};
+ghost use Rattle.std.specs.Prelude.{◌≡◌, ◌^◌, ℕ, max, Bool, true, false, not, None, [], IfOk, IfSome, IfNone};
 ghost use Rattle.mono_machine.specs.Machine.{start_machine};
 ghost use Rattle.mono_time.specs.Instants.{nanos_of};
+ghost use Rattle.mono_time.specs.Timers.{registered_of};
 ghost use Rattle.mono_jobs.specs.Spawning.{strategy_of, IsApart};
 ghost use Rattle.mono_rt.specs.Stands.{hosting_of, Matches};
 ghost use Rattle.mono_blocking.specs.declared.strategy.BlockingHandle.TheVariants.{Attached, Empty};
@@ -168,6 +169,7 @@ impl<D: Buildable, P: ThreadPool + Drop> RuntimeBuilder<D, P> {
         ensures journal { IfOk result (λ made. (made.journal.entries.items ≡ []) × (made.journal.is_full ≡ not self.keeps_journal)) }
         ensures rests { IfOk result (λ made. made.cx.parts.tasks.turn ≡ None) }
         ensures me { IfOk result (λ made. (made.cx.parts.me ≡ 0) × (nanos_of made.cx.parts.now ≡ 0)) }
+        ensures registered { IfOk result (λ made. (s : ℕ) → registered_of made.cx.parts.timers s ≡ None) }
     {
         D::build(alloc, self)
     }
@@ -194,6 +196,7 @@ pub trait Buildable: Driver + Sized {
         ensures journal { IfOk result (λ made. (made.journal.entries.items ≡ []) × (made.journal.is_full ≡ not this.keeps_journal)) }
         ensures rests { IfOk result (λ made. made.cx.parts.tasks.turn ≡ None) }
         ensures me { IfOk result (λ made. (made.cx.parts.me ≡ 0) × (nanos_of made.cx.parts.now ≡ 0)) }
+        ensures registered { IfOk result (λ made. (s : ℕ) → registered_of made.cx.parts.timers s ≡ None) }
     {
         let RuntimeBuilder {
             driver,

@@ -1,7 +1,8 @@
 // How a runtime is made.
-ghost use Rattle.std.specs.Prelude.{◌≡◌, IfOk, None, []};
+ghost use Rattle.std.specs.Prelude.{◌≡◌, ℕ, IfOk, None, []};
 ghost use Rattle.mono_machine.specs.Machine.{start_machine};
 ghost use Rattle.mono_jobs.specs.Spawning.{strategy_of};
+ghost use Rattle.mono_time.specs.Timers.{registered_of};
 ghost use Rattle.mono_rt.specs.Stands.{hosting_of, Matches};
 
 use crate::acts::Acts;
@@ -33,6 +34,7 @@ impl<O: Outcome + Drop, P: ThreadPool + Drop> Parts<O, Blockings<P>> {
         ensures timers { IfOk result (λ parts. parts.has_timers ≡ has_timers) }
         ensures rests { IfOk result (λ parts. parts.tasks.turn ≡ None) }
         ensures me { IfOk result (λ parts. (parts.me ≡ 0) × (parts.now ≡ now)) }
+        ensures registered { IfOk result (λ parts. (s : ℕ) → registered_of parts.timers s ≡ None) }
     {
         let tasks = Tasks::new(alloc, limits.tasks)?;
         let timers = Timers::new(alloc, limits.sleeps, has_timers)?;
@@ -64,6 +66,7 @@ impl<F: Drop, O: Outcome + Drop, D: Driver, P: ThreadPool + Drop> Runtime<F, O, 
         ensures timers { IfOk result (λ runtime. runtime.cx.parts.has_timers ≡ has_timers) }
         ensures rests { IfOk result (λ runtime. runtime.cx.parts.tasks.turn ≡ None) }
         ensures journal { IfOk result (λ runtime. runtime.journal.entries.items ≡ []) }
+        ensures registered { IfOk result (λ runtime. (s : ℕ) → registered_of runtime.cx.parts.timers s ≡ None) }
     {
         let unpark = driver.unpark()?;
         let inbox = Inbox::new(alloc, 1024, unpark)?;
