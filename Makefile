@@ -4,7 +4,7 @@
 #   make run         proves and builds the program where that is not done, and replays the example
 #   make build       proves and builds the program, and leaves it as bin/monoio
 #   make test        the gate: every proof, wrong body, test and program; it ends in `rt ci`
-#   make examples    builds the program, and compares each example's reports with those stored beside it
+#   make examples    builds the program, and compares each example's reports and verdicts with those stored beside it
 #   make soak        random inputs for a minute (SECONDS=n), each report checked by an independent machine; their journals too
 #   make planted     tries the wrong bodies of crates/*/planted on a copy (CRATE=name: of one crate)
 #   make gate-times  the gate from nothing, with the processor seconds of each crate
@@ -42,6 +42,10 @@ examples: build
 	    bin/monoio $(WORDS) < $$input | cmp -s - $${input%.events}.reports \
 	        || { echo "$$input: not the stored reports"; exit 1; }; \
 	done; echo 'each example has its stored reports'
+	@for input in examples/*.journal; do \
+	    bin/monoio check attached 16 16 16 < $$input | cmp -s - $${input%.journal}.verdict \
+	        || { echo "$$input: not the stored verdict"; exit 1; }; \
+	done; echo 'each journal has its stored verdict'
 
 soak: build
 	python3 tools/soak/soak.py bin/monoio $(SECONDS)
