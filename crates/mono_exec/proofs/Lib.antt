@@ -1,3 +1,4 @@
 pub mod Timing
 pub mod Firing
 pub mod Matching
+pub mod Registering

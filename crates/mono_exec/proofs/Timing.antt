@@ -100,7 +100,7 @@ none_seen next g sleeps (Some (model.armed a)) valid is tick waker at =
     tick-same t u w x e = cc
 none_seen next g sleeps (Some model.elapsed) valid is tick waker at = cc
 
-value-seen : (timers : Timers) (sleeps : Sleeps) (s : ℕ) → StandsForSleeps timers sleeps → value_at (sleeps_of timers).table s ≡ option_map seen (value_at sleeps.table s)
+pub value-seen : (timers : Timers) (sleeps : Sleeps) (s : ℕ) → StandsForSleeps timers sleeps → value_at (sleeps_of timers).table s ≡ option_map seen (value_at sleeps.table s)
 value-seen timers sleeps s st = ap (λ xs. value_at xs s) (sym st.table) ∙ get_or-map (option_map seen) sleeps.table s None
 
 pub none_armed : (timers : Timers) (next : ℕ) (sleeps : Sleeps) → StandsForSleeps timers sleeps → AreValidSleeps next sleeps → IsNoneArmedUpTo (sleeps_of timers)

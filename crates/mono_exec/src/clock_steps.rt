@@ -1,14 +1,18 @@
 // A clock step, at which the sleeps that are due fire.
-ghost use Rattle.std.specs.Prelude.{◌≡◌, ◌<◌, ◌≤◌, ◌+◌, ◌++◌, ◌∷◌, [], IfOk, OnErr, vec_len, vec_capacity};
+ghost use Rattle.std.specs.Prelude.{◌≡◌, ◌<◌, ◌≤◌, ◌+◌, ◌++◌, ◌∷◌, [], ℕ, IfOk, OnOk, OnErr, vec_len, vec_capacity};
 ghost use Rattle.mono_model.specs.Sleeps.{Sleeps};
 ghost use Rattle.mono_model.specs.SleepActs as sleep;
 ghost use Rattle.mono_model.specs.Firing.{FireInTurn};
 ghost use Rattle.mono_time.specs.Instants.{nanos_of};
 ghost use Rattle.mono_time.specs.Sleeps.{armed_count, IsNoneArmedUpTo};
-ghost use Rattle.mono_time.specs.Timers.{sleeps_of, elapsed_tick};
+ghost use Rattle.mono_time.specs.Timers.{sleeps_of, elapsed_tick, registered_of};
+ghost use Rattle.mono_time.specs.Registered.{stepped_registered};
+ghost use Rattle.mono_model.specs.Table.{value_at};
 ghost use Rattle.mono_machine.specs.Machine.{Machine};
 ghost use Rattle.mono_machine.specs.Steps.{ClockStep, at_clock, after_fires, all_fired, with_first, wakers_of};
 ghost use Rattle.mono_exec.specs.Matches.{Keeps, Matches, MatchesInStep};
+ghost use Rattle.mono_exec.specs.Registered.{registered_after};
+ghost use Rattle.mono_machine.specs.declared.events.Event.TheVariants as event;
 
 use crate::parts::Parts;
 use crate::remote::wake_all;
@@ -18,6 +22,7 @@ use mono_time::{Instant, Timers};
 use mono_wheel::Steps;
 use std::alloc::{AllocError, Global};
 use std::marker::Brand;
+use std::mem;
 use std::sync::ledger::{Blank, Ledger};
 
 /// The sleeps that fired, in order, and the wakers of those that had one.
@@ -28,6 +33,17 @@ pub struct Due {
 }
 
 impl Due {
+    /// No sleep yet, and no memory.
+    pub fn new(alloc: Global) -> Due
+        ensures fired { result.fired.items ≡ [] }
+        ensures wakers { result.wakers.items ≡ [] }
+    {
+        Due {
+            fired: Vec::new(alloc),
+            wakers: Vec::new(alloc),
+        }
+    }
+
     /// No sleep yet, and room for all that a clock step may fire, so that the step itself takes no memory.
     pub fn with_room(alloc: Global, timers: &Timers) -> Result<Due, AllocError>
         ensures fired { IfOk result (λ due. (due.fired.items ≡ []) × (armed_count (sleeps_of timers.now) + vec_len due.fired ≤ vec_capacity due.fired)) }
@@ -38,6 +54,19 @@ impl Due {
             fired: Vec::with_capacity(alloc, live)?,
             wakers: Vec::with_capacity(alloc, live)?,
         })
+    }
+
+    /// Empties the lists of an earlier step, and makes room for all that the next one may fire. Memory is taken only where
+    /// more sleeps live than the lists have had room for.
+    pub fn make_room(&mut self, timers: &Timers) -> Result<(), AllocError>
+        ensures fired { OnOk result ((self.new.fired.items ≡ []) × (armed_count (sleeps_of timers.now) + vec_len self.new.fired ≤ vec_capacity self.new.fired)) }
+        ensures wakers { OnOk result ((self.new.wakers.items ≡ []) × (armed_count (sleeps_of timers.now) + vec_len self.new.wakers ≤ vec_capacity self.new.wakers)) }
+    {
+        let live = timers.live() as usize;
+        self.fired.clear();
+        self.wakers.clear();
+        self.fired.reserve(live)?;
+        self.wakers.reserve(live)
     }
 
     /// One more sleep has fired. Its waker, if there is one, comes behind the others.
@@ -51,6 +80,17 @@ impl Due {
         self.fired.push_reserved(s);
         if let Some(t) = waker {
             self.wakers.push_reserved(t);
+        }
+    }
+
+    /// The sleeps that fired, as a list that is as long as they are; their own list keeps its memory. Where no memory is
+    /// left it goes out itself, so a clock step never fails once it has begun.
+    fn fired_apart(&mut self, alloc: Global) -> List<u64>
+        ensures { result ≡ self.old.fired.items }
+    {
+        match Vec::from_slice(alloc, &self.fired) {
+            Ok(fired) => List::from(fired),
+            Err(_) => List::from(mem::replace(&mut self.fired, Vec::new(alloc))),
         }
     }
 
@@ -74,7 +114,9 @@ pub fn take_due<L: Ledger>(timers: &mut Timers, now: Instant, blank: Blank, room
     ensures wakers { (sleeps : Sleeps) → Keeps timers.old sleeps → result.wakers.items ≡ wakers_of (sleep.at_clock sleeps (nanos_of now)) result.fired.items }
     ensures has_gone { elapsed_tick timers.new ≡ (sleeps_of timers.new).greatest }
     ensures rests { IsNoneArmedUpTo (sleeps_of timers.new) }
+    ensures registered { (s : ℕ) → registered_of timers.new s ≡ stepped_registered (elapsed_tick timers.old) (elapsed_tick timers.new) (value_at (sleeps_of timers.old).table s) (registered_of timers.old s) }
 {
+    timers.registers_armed();
     let mut steps: Steps<L> = Steps::new(blank);
     let mut due = room;
     while let Some((s, waker)) = timers.clock(now, &mut steps) {
@@ -90,38 +132,43 @@ fn fire_all<L: Ledger>(
     now: Instant,
     blank: Blank,
     room: Due,
-) -> List<u64>
+) -> Due
     requires ledger { (blank.name ≡ L.name) × (blank.parts ≡ L.parts) × (0 < L.parts) }
     requires fired { (room.fired.items ≡ []) × (armed_count (sleeps_of timers.old) + vec_len room.fired ≤ vec_capacity room.fired) }
     requires wakers { (room.wakers.items ≡ []) × (armed_count (sleeps_of timers.old) + vec_len room.wakers ≤ vec_capacity room.wakers) }
-    ensures fires { (m : Machine) → MatchesInStep timers.old tasks.old m → MatchesInStep timers.new tasks.new (after_fires (at_clock m (nanos_of now)) result) × FireInTurn (at_clock m (nanos_of now)).sleeps.table (at_clock m (nanos_of now)).sleeps.greatest result }
+    ensures fires { (m : Machine) → MatchesInStep timers.old tasks.old m → MatchesInStep timers.new tasks.new (after_fires (at_clock m (nanos_of now)) result.fired.items) × FireInTurn (at_clock m (nanos_of now)).sleeps.table (at_clock m (nanos_of now)).sleeps.greatest result.fired.items }
     ensures has_gone { elapsed_tick timers.new ≡ (sleeps_of timers.new).greatest }
     ensures turn { tasks.new.turn ≡ tasks.old.turn }
+    ensures registered { (s : ℕ) → registered_of timers.new s ≡ stepped_registered (elapsed_tick timers.old) (elapsed_tick timers.new) (value_at (sleeps_of timers.old).table s) (registered_of timers.old s) }
 {
     let due = take_due::<L>(timers, now, blank, room);
     wake_all(tasks, &due.wakers);
-    due.into_fired()
+    due
 }
 
 impl Parts {
     /// The clock shows so many nanoseconds. Where memory is refused nothing changes (`memory`), since the room for all that
-    /// may fire is made first.
-    pub fn clock(&mut self, alloc: Global, n: u128) -> Result<Report, AllocError>
+    /// may fire is made first, in the lists that are lent.
+    pub fn clock(&mut self, alloc: Global, n: u128, lent: &mut Due) -> Result<Report, AllocError>
         ensures steps { IfOk result (λ r. (m : Machine) → Matches self.old m → (new : Machine) × ClockStep m n r new × Matches self.new new) }
         ensures turn { self.new.tasks.turn ≡ self.old.tasks.turn }
         ensures memory { OnErr result (self.new ≡ self.old) }
+        ensures registered { OnOk result ((m : Machine) → Matches self.old m → (s : ℕ) → registered_of self.new.timers s ≡ registered_after (event.Clock n) m s (registered_of self.old.timers s)) }
     {
         match Instant::from_nanos(n) {
             None => Ok(Report::Reply(Reply::Refused(Refusal::Invalid))),
             Some(now) => {
-                let room = Due::with_room(alloc, &self.timers)?;
-                let fired = fire_all::<Brand>(
+                lent.make_room(&self.timers)?;
+                let room = mem::replace(lent, Due::new(alloc));
+                let mut due = fire_all::<Brand>(
                     &mut self.timers,
                     &mut self.tasks,
                     now,
                     Blank::new(1),
                     room,
                 );
+                let fired = due.fired_apart(alloc);
+                *lent = due;
                 Ok(Report::Fired(fired))
             }
         }

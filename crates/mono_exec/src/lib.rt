@@ -7,6 +7,7 @@ mod jobs;
 mod parts;
 mod remote;
 mod replies;
+pub mod rows;
 mod sleeps;
 mod turns;
 

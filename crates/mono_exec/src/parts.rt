@@ -1,8 +1,11 @@
 // The parts of an executor, and the acts and polls on them.
-ghost use Rattle.std.specs.Prelude.{◌≡◌, IfOk, OnOk, None};
+ghost use Rattle.std.specs.Prelude.{◌≡◌, ℕ, IfOk, OnOk, None};
 ghost use Rattle.mono_machine.specs.Machine.{Machine, start_machine};
 ghost use Rattle.mono_machine.specs.Acts.{act_outcome, query_outcome, step_outcome};
+ghost use Rattle.mono_time.specs.Sleeps.{IsNoneArmedUpTo};
+ghost use Rattle.mono_time.specs.Timers.{sleeps_of, registered_of};
 ghost use Rattle.mono_exec.specs.Matches.{Matches};
+ghost use Rattle.mono_exec.specs.Registered.{FollowsAct};
 
 use crate::jobs::Jobs;
 use crate::replies::{
@@ -32,6 +35,7 @@ impl Parts {
     pub fn new(alloc: Global, limits: Limits, blocking: Blocking) -> Result<Parts, AllocError>
         ensures matches { IfOk result (λ parts. Matches parts (start_machine limits blocking)) }
         ensures rest { IfOk result (λ parts. parts.tasks.turn ≡ None) }
+        ensures registered { IfOk result (λ parts. (s : ℕ) → registered_of parts.timers s ≡ None) }
     {
         let tasks = Tasks::new(alloc, limits.tasks)?;
         let timers = Timers::new(alloc, limits.sleeps, true)?;
@@ -50,6 +54,7 @@ impl Parts {
         ensures reply { IfOk result (λ r. (m : Machine) → Matches self.old m → r ≡ (act_outcome Act.Spawn m).reply) }
         ensures matches { OnOk result ((m : Machine) → Matches self.old m → Matches self.new (act_outcome Act.Spawn m).machine) }
         ensures turn { self.new.tasks.turn ≡ self.old.tasks.turn }
+        ensures timers { self.new.timers ≡ self.old.timers }
     {
         match self.tasks.spawn(alloc) {
             Ok(t) => {
@@ -62,21 +67,22 @@ impl Parts {
     }
 
     /// A job is made, by the strategy.
-    fn block(&mut self, output: u64) -> Result<Reply, AllocError>
+    fn block(&mut self, alloc: Global, output: u64) -> Result<Reply, AllocError>
         ensures reply { IfOk result (λ r. (m : Machine) → Matches self.old m → r ≡ (act_outcome (Act.Block output) m).reply) }
         ensures matches { OnOk result ((m : Machine) → Matches self.old m → Matches self.new (act_outcome (Act.Block output) m).machine) }
         ensures turn { self.new.tasks.turn ≡ self.old.tasks.turn }
+        ensures timers { self.new.timers ≡ self.old.timers }
     {
         if self.jobs.is_full() {
             return Ok(Reply::Refused(Refusal::AtCapacity));
         }
         match self.blocking {
             Blocking::Attached => {
-                let j = self.jobs.start(output)?;
+                let j = self.jobs.start(alloc, output)?;
                 Ok(Reply::Job(j))
             }
             Blocking::ExecuteLocal => {
-                let j = self.jobs.run(output)?;
+                let j = self.jobs.run(alloc, output)?;
                 Ok(Reply::Job(j))
             }
             Blocking::Panic => Ok(Reply::Refused(Refusal::NoPool)),
@@ -88,7 +94,9 @@ impl Parts {
         ensures reply { IfOk result (λ r. (m : Machine) → Matches self.old m → r ≡ (act_outcome act m).reply) }
         ensures matches { OnOk result ((m : Machine) → Matches self.old m → Matches self.new (act_outcome act m).machine) }
         ensures turn { self.new.tasks.turn ≡ self.old.tasks.turn }
+        ensures registered { OnOk result ((m : Machine) → Matches self.old m → IsNoneArmedUpTo (sleeps_of self.old.timers) → FollowsAct self.old.timers self.new.timers m.sleeps (act_outcome act m).machine.sleeps) }
     {
+        self.timers.registers_armed();
         match act {
             Act::Spawn => self.spawn(alloc),
             Act::Wake(t) => Ok(wake_reply(self.tasks.wake(t))),
@@ -97,7 +105,7 @@ impl Parts {
             Act::DropSleep(s) => Ok(gone_reply(self.timers.remove(s))),
             Act::SleepElapsed(s) => Ok(elapsed_reply(self.timers.is_elapsed(s))),
             Act::DropJoin(t) => Ok(drop_reply(self.tasks.drop_join(t))),
-            Act::Block(output) => self.block(output),
+            Act::Block(output) => self.block(alloc, output),
             Act::DropJob(j) => Ok(reply_of(self.jobs.drop_handle(j))),
             Act::Finished(t) => Ok(finished_reply(self.tasks.is_finished(t))),
             Act::JobFinished(j) => Ok(reply_of(self.jobs.has_ended(j))),
@@ -110,7 +118,9 @@ impl Parts {
         ensures reply { IfOk result (λ r. (m : Machine) → Matches self.old m → r ≡ (query_outcome me query m).reply) }
         ensures matches { OnOk result ((m : Machine) → Matches self.old m → Matches self.new (query_outcome me query m).machine) }
         ensures turn { self.new.tasks.turn ≡ self.old.tasks.turn }
+        ensures registered { OnOk result ((m : Machine) → Matches self.old m → IsNoneArmedUpTo (sleeps_of self.old.timers) → FollowsAct self.old.timers self.new.timers m.sleeps (query_outcome me query m).machine.sleeps) }
     {
+        self.timers.registers_armed();
         match query {
             Query::Sleep(s) => Ok(poll_reply(self.timers.poll(s, me))),
             Query::Join(t) => Ok(join_reply(self.tasks.poll_join(t, me))),
@@ -123,6 +133,7 @@ impl Parts {
         ensures reply { IfOk result (λ r. (m : Machine) → Matches self.old m → r ≡ (step_outcome me step m).reply) }
         ensures matches { OnOk result ((m : Machine) → Matches self.old m → Matches self.new (step_outcome me step m).machine) }
         ensures turn { self.new.tasks.turn ≡ self.old.tasks.turn }
+        ensures registered { OnOk result ((m : Machine) → Matches self.old m → IsNoneArmedUpTo (sleeps_of self.old.timers) → FollowsAct self.old.timers self.new.timers m.sleeps (step_outcome me step m).machine.sleeps) }
     {
         match step {
             TurnStep::Act(act) => self.act(alloc, act),

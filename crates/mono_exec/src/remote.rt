@@ -27,6 +27,7 @@ impl Parts {
         ensures report { (m : Machine) → Matches self.old m → result ≡ remote_report m t }
         ensures matches { (m : Machine) → Matches self.old m → Matches self.new (after_remote m t) }
         ensures turn { self.new.tasks.turn ≡ self.old.tasks.turn }
+        ensures timers { self.new.timers ≡ self.old.timers }
     {
         match self.tasks.is_finished(t) {
             Err(TaskError::NoTask) => Report::Reply(Reply::Refused(Refusal::NoTask)),
@@ -46,6 +47,7 @@ impl Parts {
         ensures matches { OnOk result ((m : Machine) → Matches self.old m → Matches self.new (after_drain m)) }
         ensures refused { OnErr result (self.new ≡ self.old) }
         ensures turn { self.new.tasks.turn ≡ self.old.tasks.turn }
+        ensures timers { self.new.timers ≡ self.old.timers }
     {
         let mut woken = Vec::with_capacity(alloc, self.inbox.waiting())?;
         self.inbox.drain(&mut woken);

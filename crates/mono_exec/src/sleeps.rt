@@ -1,12 +1,15 @@
 // Sleeps that are made and that are reset.
-ghost use Rattle.std.specs.Prelude.{◌≡◌, ◌≤◌, IfOk, OnOk};
+ghost use Rattle.std.specs.Prelude.{◌≡◌, ◌≤◌, ℕ, IfOk, OnOk};
 ghost use Rattle.mono_model.specs.Ticks.{up, max_nanos};
 ghost use Rattle.mono_model.specs.Tasks.{woken_if_any};
 ghost use Rattle.mono_task.specs.Schedule as schedule;
 ghost use Rattle.mono_machine.specs.Machine.{Machine};
 ghost use Rattle.mono_machine.specs.Acts.{act_outcome};
 ghost use Rattle.mono_machine.specs.SleepCalls.{reset_reply};
+ghost use Rattle.mono_time.specs.Sleeps.{IsNoneArmedUpTo};
+ghost use Rattle.mono_time.specs.Timers.{sleeps_of, registered_of};
 ghost use Rattle.mono_exec.specs.Matches.{Matches};
+ghost use Rattle.mono_exec.specs.Registered.{FollowsAct};
 ghost use Rattle.mono_machine.specs.declared.events.Act.{Act};
 
 use crate::parts::Parts;
@@ -42,6 +45,7 @@ impl Parts {
         ensures reply { IfOk result (λ r. (m : Machine) → Matches self.old m → r ≡ (act_outcome (Act.NewSleep n) m).reply) }
         ensures matches { OnOk result ((m : Machine) → Matches self.old m → Matches self.new (act_outcome (Act.NewSleep n) m).machine) }
         ensures turn { self.new.tasks.turn ≡ self.old.tasks.turn }
+        ensures registered { (s : ℕ) → registered_of self.new.timers s ≡ registered_of self.old.timers s }
     {
         match Instant::from_nanos(n) {
             None => {
@@ -63,7 +67,9 @@ impl Parts {
         ensures reply { (m : Machine) → Matches self.old m → result ≡ (act_outcome (Act.Reset s n) m).reply }
         ensures matches { (m : Machine) → Matches self.old m → Matches self.new (act_outcome (Act.Reset s n) m).machine }
         ensures turn { self.new.tasks.turn ≡ self.old.tasks.turn }
+        ensures registered { (m : Machine) → Matches self.old m → IsNoneArmedUpTo (sleeps_of self.old.timers) → FollowsAct self.old.timers self.new.timers m.sleeps (act_outcome (Act.Reset s n) m).machine.sleeps }
     {
+        self.timers.registers_armed();
         match Instant::from_nanos(n) {
             None => match self.timers.is_elapsed(s) {
                 Err(_) => Reply::Refused(Refusal::NoTimer),

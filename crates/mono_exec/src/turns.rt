@@ -1,8 +1,10 @@
 // A turn of the task at the queue's front.
-ghost use Rattle.std.specs.Prelude.{◌≡◌, IfOk, OnOk, Some, None};
+ghost use Rattle.std.specs.Prelude.{◌≡◌, ℕ, IfOk, OnOk, Some, None};
 ghost use Rattle.mono_machine.specs.Machine.{Machine, IsValid, IsValidDuring};
 ghost use Rattle.mono_machine.specs.Turns.{replies_of, after_steps, end_answer, after_end, turn_report, after_turn};
+ghost use Rattle.mono_time.specs.Timers.{registered_of};
 ghost use Rattle.mono_exec.specs.Matches.{Matches};
+ghost use Rattle.mono_exec.specs.Registered.{registered_by_steps, registered_by_turn};
 
 use crate::parts::Parts;
 use crate::{End, Ended, List, Refusal, Reply, Report, TurnStep};
@@ -21,6 +23,7 @@ impl Parts {
         ensures replies { IfOk result (λ r. (m : Machine) → Matches self.old m → r ≡ replies_of me steps.now m) }
         ensures matches { OnOk result ((m : Machine) → Matches self.old m → Matches self.new (after_steps me steps.now m)) }
         ensures turn { self.new.tasks.turn ≡ self.old.tasks.turn }
+        ensures registered { OnOk result ((m : Machine) → Matches self.old m → IsValidDuring (Some me) m → (s : ℕ) → registered_of self.new.timers s ≡ registered_by_steps me steps.now m s (registered_of self.old.timers s)) }
     {
         replies.clear();
         for step in steps {
@@ -36,6 +39,7 @@ impl Parts {
         ensures answer { (m : Machine) → Matches self.old m → result ≡ end_answer end me m }
         ensures matches { (m : Machine) → Matches self.old m → IsValidDuring (Some me) m → Matches self.new (after_end end me m) }
         ensures rest { self.new.tasks.turn ≡ None }
+        ensures timers { self.new.timers ≡ self.old.timers }
     {
         match end {
             End::Pending => self.tasks.end_turn(Poll::Pending),
@@ -59,6 +63,7 @@ impl Parts {
         ensures report { IfOk result (λ r. (m : Machine) → Matches self.old m → r ≡ Report.Turn me (replies_of me steps.now m) (end_answer end me (after_steps me steps.now m))) }
         ensures matches { OnOk result ((m : Machine) → Matches self.old m → IsValidDuring (Some me) m → Matches self.new (after_end end me (after_steps me steps.now m))) }
         ensures rest { self.new.tasks.turn ≡ None }
+        ensures registered { OnOk result ((m : Machine) → Matches self.old m → IsValidDuring (Some me) m → (s : ℕ) → registered_of self.new.timers s ≡ registered_by_steps me steps.now m s (registered_of self.old.timers s)) }
     {
         let replies = self.steps(alloc, me, spare, steps);
         let ended = self.end(me, end);
@@ -78,6 +83,7 @@ impl Parts {
         ensures report { IfOk result (λ r. (m : Machine) → Matches self.old m → IsValid m → r ≡ turn_report steps.now end m) }
         ensures matches { OnOk result ((m : Machine) → Matches self.old m → IsValid m → Matches self.new (after_turn steps.now end m)) }
         ensures rest { self.new.tasks.turn ≡ None }
+        ensures registered { OnOk result ((m : Machine) → Matches self.old m → IsValid m → (s : ℕ) → registered_of self.new.timers s ≡ registered_by_turn m.tasks.queue steps.now m s (registered_of self.old.timers s)) }
     {
         match self.tasks.begin_turn() {
             Err(_) => Ok(Report::Reply(Reply::Refused(Refusal::Idle))),

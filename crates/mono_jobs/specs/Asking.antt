@@ -10,7 +10,7 @@ use Rattle.mono_joinword.specs.declared.outcome.JoinError.{JoinError}
 use Rattle.mono_joinword.specs.declared.views.JoinerView.{JoinerView}
 use Rattle.mono_joinword.specs.declared.joiner.Joiner.{Joiner}
 use Rattle.mono_joinword.specs.declared.joiner.JoinerSeat.{JoinerSeat}
-use Rattle.mono_machine.specs.JobCalls.{job_ended, end_answer, yes_or_no, is_over}
+use Rattle.mono_machine.specs.JobCalls.{job_ended, end_answer, finished_answer, is_over}
 use Rattle.mono_machine.specs.declared.events.How.{How}
 use Rattle.mono_machine.specs.declared.events.How.TheVariants as how
 use Rattle.mono_machine.specs.declared.events.Reply.{Reply}
@@ -55,10 +55,6 @@ module _ {A : Type 0} (number : A → ℕ) where
   abbrev pub dropped_reply : Result (Option (Result A JoinError)) Refusal → Result Reply Refusal
   dropped_reply (Ok output) = Ok (reply.Dropped (output_in output))
   dropped_reply (Err e) = Err e
-
-abbrev pub finished_reply : Result Bool Refusal → Result Reply Refusal
-finished_reply (Ok b) = Ok (yes_or_no b)
-finished_reply (Err e) = Err e
 
 -- what the joiner of job j knows, where that runs
 abbrev pub joiner_at : Seen → ℕ → Option JoinerView
@@ -112,13 +108,8 @@ Loaded None answer after = ⊥
 Loaded (Some before) answer None = ⊥
 Loaded (Some before) answer (Some after) = Peeked before answer after
 
-module _ {A : Type 0} (number : A → ℕ) where
-  -- a load that saw the word complete, and then a cancel that gave an output
-  abbrev pub LoadedThenReleased : Option JoinerView → Option JoinerView → Type 0
-  LoadedThenReleased before last = (mid : JoinerView) × (r : Result A JoinError) × Loaded before true (Some mid) × Released number (Some mid) (Some r) last
-
-  -- No comes from a load of the joiner in this call. So does Yes, where the job had not ended.
-  abbrev pub FinishShown : Seen → ℕ → Result Bool Refusal → Option JoinerView → Seen → Type 0
-  FinishShown old j (Ok false) last new = Loaded (joiner_at old j) false (joiner_at new j)
-  FinishShown old j (Ok true) last new = IsOver old j ⊎ LoadedThenReleased (joiner_at old j) last
-  FinishShown old j (Err e) last new = ⊤
+-- A refusal is the machine's. The machine says Yes of a job that ended in its table; of one that runs there, a load of the joiner in this call says whether it has ended.
+abbrev pub FinishShown : Seen → ℕ → Result Bool Refusal → Seen → Type 0
+FinishShown old j (Ok false) new = (finished_answer old.jobs j ≡ Ok reply.No) × Loaded (joiner_at old j) false (joiner_at new j)
+FinishShown old j (Ok true) new = (finished_answer old.jobs j ≡ Ok reply.Yes) ⊎ ((finished_answer old.jobs j ≡ Ok reply.No) × Loaded (joiner_at old j) true (joiner_at new j))
+FinishShown old j (Err e) new = finished_answer old.jobs j ≡ Err e

@@ -1,9 +1,9 @@
 // Who runs the blocking jobs, and the table of those jobs.
 ghost use Rattle.std.specs.Prelude.{◌≡◌, ◌≤◌, IfSome, IfNone};
 ghost use Rattle.mono_model.specs.Jobs.{no_jobs};
-ghost use Rattle.mono_machine.specs.JobCalls.{poll_answer, job_polled, drop_answer, job_dropped, finished_answer};
+ghost use Rattle.mono_machine.specs.JobCalls.{poll_answer, job_polled, drop_answer, job_dropped};
 ghost use Rattle.mono_blocking.specs.declared.strategy.BlockingHandle.TheVariants.{Attached};
-ghost use Rattle.mono_jobs.specs.Asking.{IsEnd, after_end, polled_reply, dropped_reply, finished_reply, used, left, PollShown, DropShown, FinishShown};
+ghost use Rattle.mono_jobs.specs.Asking.{IsEnd, after_end, polled_reply, dropped_reply, used, left, PollShown, DropShown, FinishShown};
 ghost use Rattle.mono_jobs.specs.Spawning.{Spawned, strategy_of, refusals_of, IsApart};
 
 use crate::ends::{Answered, PolledJob};
@@ -14,6 +14,7 @@ use mono_blocking::{
     BlockingHandle, BlockingStrategy, BlockingTask, Job, JobWaker, JoinError, Outcome,
     ScheduleError, ThreadPool,
 };
+use mono_machine::Refusal;
 use mono_model::Host;
 use std::alloc::Global;
 use std::marker::Model;
@@ -123,11 +124,9 @@ impl<P: ThreadPool + Drop> Blockings<P> {
     }
 
     /// Whether a job has ended: as `JobTable::has_ended`. The pool is not asked.
-    pub fn has_ended(&mut self, j: u64) -> Answered<P::Job, bool>
-        ensures end { IsEnd result.end self.old.table.jobs j }
-        ensures answer { finished_reply result.answer ≡ finished_answer (after_end result.end self.old.table.jobs j) j }
-        ensures jobs { self.new.table.jobs ≡ after_end result.end self.old.table.jobs j }
-        ensures shown { FinishShown P.Job.Output.output_number self.old.table j result.answer (left result.seat) self.new.table }
+    pub fn has_ended(&mut self, j: u64) -> Result<bool, Refusal>
+        ensures jobs { self.new.table.jobs ≡ self.old.table.jobs }
+        ensures shown { FinishShown self.old.table j result self.new.table }
         ensures pool { self.new.pool ≡ self.old.pool }
     {
         self.jobs.has_ended(j)

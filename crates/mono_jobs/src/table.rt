@@ -4,9 +4,9 @@ ghost use Rattle.mono_model.specs.Table.{value_at, next_number, is_full};
 ghost use Rattle.mono_model.specs.Jobs.{no_jobs, running, ended_ok};
 ghost use Rattle.mono_joinword.specs.Ends.{joiner_view};
 ghost use Rattle.mono_joinword.specs.Views.{fresh};
-ghost use Rattle.mono_machine.specs.JobCalls.{with_next_job, with_job, without_job, kept_job, poll_answer, job_polled, drop_answer, job_dropped, finished_answer};
+ghost use Rattle.mono_machine.specs.JobCalls.{with_next_job, with_job, without_job, kept_job, poll_answer, job_polled, drop_answer, job_dropped};
 ghost use Rattle.mono_jobs.specs.JobTable.{HasPlace, job_of, joiner_of, found_of, IsSound};
-ghost use Rattle.mono_jobs.specs.Asking.{IsEnd, after_end, polled_reply, dropped_reply, finished_reply, joiner_at, used, left, PollShown, DropShown, FinishShown};
+ghost use Rattle.mono_jobs.specs.Asking.{IsEnd, after_end, polled_reply, dropped_reply, joiner_at, used, left, PollShown, DropShown, FinishShown};
 
 use crate::ends::{Answered, End, PolledJob, how_of};
 use mono_blocking::{Job, JobJoiner, JobWaker, JoinError};
@@ -230,45 +230,28 @@ impl<J: Job> JobTable<J> {
         }
     }
 
-    /// Whether a job has ended. `end` is its end where this call saw it, and then its output is kept here; `answer` and
-    /// `jobs` are the machine's after it. `shown` says that No, and Yes for a job that had not ended, come from a load of
-    /// the joiner's in this call.
-    pub fn has_ended(&mut self, j: u64) -> Answered<J, bool>
-        ensures end { IsEnd result.end self.old.jobs j }
-        ensures answer { finished_reply result.answer ≡ finished_answer (after_end result.end self.old.jobs j) j }
-        ensures jobs { self.new.jobs ≡ after_end result.end self.old.jobs j }
-        ensures shown { FinishShown J.Output.output_number self.old j result.answer (left result.seat) self.new }
+    /// Whether a job has ended. The question changes nothing for the machine (`jobs`): a job that its load sees ended
+    /// runs on in the table, until a poll or a drop sees the end. `shown` says that a refusal is the machine's, that Yes
+    /// of a job that had not ended comes from a load of the joiner's in this call, and so does No.
+    pub fn has_ended(&mut self, j: u64) -> Result<bool, Refusal>
+        ensures jobs { self.new.jobs ≡ self.old.jobs }
+        ensures shown { FinishShown self.old j result self.new }
     {
         match self.take(j) {
-            Err(refusal) => Answered::told(Err(refusal)),
+            Err(refusal) => Err(refusal),
             Ok(Place::Taken) => {
                 self.put(j, Place::Taken);
-                Answered::told(Ok(true))
+                Ok(true)
             }
             Ok(Place::Ended(number, output)) => {
                 self.put(j, Place::Ended(number, output));
-                Answered::told(Ok(true))
+                Ok(true)
             }
             Ok(Place::Running(number, joiner, waiter)) => {
                 let mut joiner = joiner;
-                if !joiner.is_finished() {
-                    self.put(j, Place::Running(number, joiner, waiter));
-                    return Answered::told(Ok(false));
-                }
-                let Cancelled { output, seat } = joiner.cancel_with_seat();
-                let seat = Some(seat);
-                match output {
-                    None => unreachable!(),
-                    Some(output) => {
-                        let how = how_of(&output);
-                        self.put(j, Place::Ended(number, output));
-                        Answered {
-                            end: Some(End { how, waiter }),
-                            answer: Ok(true),
-                            seat,
-                        }
-                    }
-                }
+                let ended = joiner.is_finished();
+                self.put(j, Place::Running(number, joiner, waiter));
+                Ok(ended)
             }
         }
     }

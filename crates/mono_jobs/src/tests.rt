@@ -136,16 +136,16 @@ fn a_job_on_the_caller_has_ended(rt: HostRuntime) -> Result<(), Fail> {
             Err(SpawnError::AtCapacity(Gives(6)))
         )
     );
-    assert!(rt; matches!(jobs.has_ended(0).answer, Ok(true)));
+    assert!(rt; matches!(jobs.has_ended(0), Ok(true)));
     let polled = jobs.poll(0, waker(&rt, alloc, 3)?);
     assert!(rt; polled.end.is_none());
     assert!(rt; matches!(polled.answer, Ok(Poll::Ready(Ok(4)))));
     let again = jobs.poll(0, waker(&rt, alloc, 3)?);
     assert!(rt; matches!(again.answer, Err(Refusal::Taken)));
-    assert!(rt; matches!(jobs.has_ended(0).answer, Ok(true)));
+    assert!(rt; matches!(jobs.has_ended(0), Ok(true)));
     assert!(rt; matches!(jobs.drop_handle(1).answer, Ok(Some(Ok(5)))));
     assert!(rt; matches!(jobs.drop_handle(1).answer, Err(Refusal::NoHandle)));
-    assert!(rt; matches!(jobs.has_ended(2).answer, Err(Refusal::NoTask)));
+    assert!(rt; matches!(jobs.has_ended(2), Err(Refusal::NoTask)));
     assert!(rt; jobs.into_pool().is_none());
     Ok(())
 }
@@ -178,8 +178,8 @@ fn a_refused_task_makes_no_job(rt: HostRuntime) -> Result<(), Fail> {
     let (mut jobs, waiting) = jobs_on(alloc, 1, 3)?;
     assert_eq!(rt; made(jobs.spawn(&rt, alloc, Gives(4)))?, 0);
     assert!(rt; matches!(jobs.spawn(&rt, alloc, Gives(5)), Err(SpawnError::PoolFault)));
-    assert!(rt; matches!(jobs.has_ended(1).answer, Err(Refusal::NoTask)));
-    assert!(rt; matches!(jobs.has_ended(0).answer, Ok(false)));
+    assert!(rt; matches!(jobs.has_ended(1), Err(Refusal::NoTask)));
+    assert!(rt; matches!(jobs.has_ended(0), Ok(false)));
     assert_eq!(rt; made(jobs.spawn(&rt, alloc, Gives(6)))?, 1);
     let pool = jobs.into_pool().ok_or("no pool")?;
     assert_eq!(rt; pool.refusals, 1);
@@ -198,23 +198,22 @@ fn an_end_is_seen_once(rt: HostRuntime) -> Result<(), Fail> {
         let polled = jobs.poll(number, waker(&rt, alloc, 7)?);
         assert!(rt; polled.end.is_none());
         assert!(rt; matches!(polled.answer, Ok(Poll::Pending)));
-        assert!(rt; matches!(jobs.has_ended(number).answer, Ok(false)));
+        assert!(rt; matches!(jobs.has_ended(number), Ok(false)));
     }
     run_all(&rt, &waiting);
     for number in 0..MANY {
-        let seen = jobs.has_ended(number);
+        assert!(rt; matches!(jobs.has_ended(number), Ok(true)));
+        assert!(rt; matches!(jobs.has_ended(number), Ok(true)));
+        let polled = jobs.poll(number, waker(&rt, alloc, 8)?);
         assert_eq!(rt;
-            seen.end,
+            polled.end,
             Some(End {
                 how: How::Ran,
                 waiter: Some(7)
             })
         );
-        assert!(rt; matches!(seen.answer, Ok(true)));
-        assert!(rt; jobs.has_ended(number).end.is_none());
-        let polled = jobs.poll(number, waker(&rt, alloc, 8)?);
-        assert!(rt; polled.end.is_none());
         assert!(rt; matches!(polled.answer, Ok(Poll::Ready(Ok(gave))) if gave == number));
+        assert!(rt; jobs.drop_handle(number).end.is_none());
     }
     Ok(())
 }

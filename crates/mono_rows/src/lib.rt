@@ -1,17 +1,23 @@
 //! Bytes to bytes: what a caller of the top call may rely on, and rows of inputs with their outputs as tests.
 #![tactic(auto)]
 
+#[cfg(test)]
+mod actors;
 mod caller;
 #[cfg(test)]
 mod faults;
 #[cfg(test)]
 mod journals;
 #[cfg(test)]
+mod limiters;
+#[cfg(test)]
 mod refusals;
 #[cfg(test)]
 mod replays;
 #[cfg(test)]
 mod running;
+#[cfg(test)]
+mod sessions;
 #[cfg(test)]
 mod waits;
 

@@ -1,4 +1,5 @@
 pub mod Sound
+pub mod Serving
 pub mod Statuses
 pub mod Commands
 pub mod Replaying

@@ -1,10 +1,11 @@
 -- What was served is an output of the command whose calls and answers these are.
-use Rattle.std.proofs.Common.{ℕ, List, refl, subst, sym}
+use Rattle.std.proofs.Common.{ℕ, List, Result, Ok, Err, IfOk, refl, subst, sym}
 use Rattle.mono_text.specs.Lines.{lines}
 use Rattle.mono_text.specs.Serving.{Says, Serves}
 use Rattle.mono_text.specs.declared.services.Served.{Served}
 use Rattle.mono_text.specs.declared.services.Served.TheVariants as served
 use Rattle.mono_text.proofs.Lined.{not_both_of}
+use Rattle.mono_script.specs.declared.ends.Output.{Output}
 use Rattle.mono_script.specs.declared.ends.Status.{Status}
 use Rattle.mono_script.specs.Ending.{IsOutput}
 use Rattle.mono_script.specs.Served.{serving, IsToldAs}
@@ -25,3 +26,8 @@ module _ {S A : Type 0} (text : A → List ℕ) (Fits : A → Type 0) (Answers :
       subst (λ x. IsOutput (serving text Fits Answers start) input x output) (sym told.0) (n, serves, told.1)
   as_output input (served.Output bytes) s output serves told =
       subst (λ x. IsOutput (serving text Fits Answers start) input x output) (sym told.0) (refl, rw told.1 serves)
+
+  pub if_output : {E : Type 0} (input : List ℕ) (r : Served) (made : Result Output E) → Serves text Fits Answers start input r
+      → IfOk made (λ o. IsToldAs r o.status o.text.items) → IfOk made (λ o. IsOutput (serving text Fits Answers start) input o.status o.text.items)
+  if_output input r (Ok o) serves told = as_output input r o.status o.text.items serves told
+  if_output input r (Err e) serves told = tt

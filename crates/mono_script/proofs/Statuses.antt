@@ -10,6 +10,14 @@ use Rattle.mono_script.specs.declared.ends.Status.{Status}
 use Rattle.mono_script.specs.declared.ends.Status.TheVariants as status
 use Rattle.mono_text.proofs.Lined.{not_both}
 use Rattle.mono_script.proofs.Sound.{Sound}
+use Rattle.mono_script.proofs.Serving.{sound_serving}
+use Rattle.mono_session.specs.Keeper.{no_sessions}
+use Rattle.mono_session_lines.specs.Lines as session_line
+use Rattle.mono_limit.specs.Limiter.{no_limits}
+use Rattle.mono_limit_lines.specs.Lines as limiter_line
+use Rattle.mono_actor.specs.Actors.{no_actors}
+use Rattle.mono_actor_lines.specs.Lines.{line_text, FitsLine}
+use Rattle.mono_actor_lines.specs.Answers.{Answers}
 use Rattle.mono_script.proofs.Checked.{sound_checking}
 
 -- ---- each command: what is owed of its meaning
@@ -23,6 +31,9 @@ sound (command.Load seed count) = record {
   apart = λ input n good bad. bad;
   good = λ input s output a. tt;
 }
+sound (command.Sessions sessions entries) = sound_serving session_line.call_text session_line.FitsCall session_line.StepsAs (no_sessions sessions entries)
+sound (command.Limiter buckets retries) = sound_serving limiter_line.call_text limiter_line.FitsCall limiter_line.StepByLine (no_limits buckets retries)
+sound (command.Actors actors messages) = sound_serving line_text FitsLine Answers (no_actors actors messages)
 sound (command.Check l g) = sound_checking l g
 
 -- ---- one status, one number

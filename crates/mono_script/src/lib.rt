@@ -1,12 +1,15 @@
 //! The commands: each is words, an input and an answer, and `program` carries one out.
 #![tactic(auto)]
 
+mod acting;
 mod check_line;
 mod command;
 mod ends;
+mod limiter_lines;
 mod load_line;
 mod replay;
 mod served;
+mod session_lines;
 mod top;
 mod words;
 

@@ -7,11 +7,14 @@ ghost use Rattle.mono_script.specs.Meanings.{meaning};
 ghost use Rattle.mono_script.specs.declared.ends.Status.TheVariants as status;
 ghost use Rattle.mono_text.specs.declared.source.InputError.TheVariants as input_error;
 
+use crate::acting::output_of_actors;
 use crate::check_line::output_of_check;
 use crate::command::{Command, read_command};
 use crate::ends::{Output, Status};
+use crate::limiter_lines::output_of_limiter;
 use crate::load_line::output_of_load;
 use crate::replay::output_of_replay;
+use crate::session_lines::output_of_sessions;
 use mono_text::{InputError, Sink, Source, read_all, write_all};
 use std::alloc::{AllocError, Global};
 
@@ -23,6 +26,11 @@ fn made(alloc: Global, command: Command, input: &[u8]) -> Result<Output, AllocEr
     match command {
         Command::Replay(limits, blocking) => output_of_replay(alloc, limits, blocking, input),
         Command::Load(seed, count) => output_of_load(alloc, seed, count, input),
+        Command::Sessions(sessions, entries) => {
+            output_of_sessions(alloc, sessions, entries, input)
+        }
+        Command::Limiter(buckets, retries) => output_of_limiter(alloc, buckets, retries, input),
+        Command::Actors(actors, messages) => output_of_actors(alloc, actors, messages, input),
         Command::Check(limits, blocking) => output_of_check(alloc, limits, blocking, input),
     }
 }
@@ -34,6 +42,9 @@ fn reads(command: Command) -> bool
     match command {
         Command::Replay(_, _) => true,
         Command::Load(_, _) => false,
+        Command::Sessions(_, _) => true,
+        Command::Limiter(_, _) => true,
+        Command::Actors(_, _) => true,
         Command::Check(_, _) => true,
     }
 }

@@ -13,7 +13,7 @@ use Rattle.mono_scripts.specs.Written.{body_text, kind_texts, script_texts, limi
 use Rattle.mono_scripts.specs.declared.scripts.BodyLine.{BodyLine}
 use Rattle.mono_scripts.proofs.Fronts.{in_kind, kinds_fit, all_may_fit}
 
-sound_more : (kinds : ℕ) (ks : List Kind) (k : Kind) → AreSoundKinds kinds ks → IsSoundKind kinds k → AreSoundKinds kinds (ks ++ k ∷ [])
+pub sound_more : (kinds : ℕ) (ks : List Kind) (k : Kind) → AreSoundKinds kinds ks → IsSoundKind kinds k → AreSoundKinds kinds (ks ++ k ∷ [])
 sound_more kinds [] k m s = (s, tt)
 sound_more kinds (j ∷ ks) k m s = (m.0, sound_more kinds ks k m.1 s)
 
@@ -24,7 +24,7 @@ closed x ks bs =
     let all : flat_map kind_texts (ks ++ k ∷ []) ≡ flat_map kind_texts ks ++ kind_texts k = flat_map-append kind_texts ks (k ∷ []) ∙ ap (λ r. flat_map kind_texts ks ++ r) (append-nil (kind_texts k)) in
     ap (λ r. limits_text x ∷ r) (append_assoc (flat_map kind_texts ks) (codes "task" ∷ map body_text bs) (done_text 0 ∷ []) ∙ sym all)
 
-begins : (kinds : ℕ) (x : Limits) (ks : List Kind) (bs : List BodyLine) → FitLimits x → AreSoundKinds kinds ks → AllMayStand kinds [] bs → length ks < 64 → length bs ≤ 127
+pub begins : (kinds : ℕ) (x : Limits) (ks : List Kind) (bs : List BodyLine) → FitLimits x → AreSoundKinds kinds ks → AllMayStand kinds [] bs → length ks < 64 → length bs ≤ 127
     → Begins (IsScript kinds) (map ended (front_texts x ks bs))
 begins kinds x ks bs fit sound may few short =
     let k : Kind = record { body = bs; output = 0 } in

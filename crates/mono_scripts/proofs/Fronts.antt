@@ -91,10 +91,10 @@ abbrev pub AllFit : List BodyLine → Type 0
 AllFit [] = Unit {0}
 AllFit (l ∷ ls) = Fits l × AllFit ls
 
-head_same : {A : Type 0} (x y : A) (xs ys : List A) → x ∷ xs ≡ y ∷ ys → x ≡ y
+pub head_same : {A : Type 0} (x y : A) (xs ys : List A) → x ∷ xs ≡ y ∷ ys → x ≡ y
 head_same x y xs ys e = ap (λ zs. get_or zs 0 x) e
 
-tail_same : {A : Type 0} (x y : A) (xs ys : List A) → x ∷ xs ≡ y ∷ ys → xs ≡ ys
+pub tail_same : {A : Type 0} (x y : A) (xs ys : List A) → x ∷ xs ≡ y ∷ ys → xs ≡ ys
 tail_same x y xs ys e = ap (drop 1) e
 
 cons_same : {A : Type 0} (x y : A) (xs ys : List A) → x ≡ y → xs ≡ ys → x ∷ xs ≡ y ∷ ys
@@ -147,7 +147,7 @@ abbrev pub AllKindsFit : List Kind → Type 0
 AllKindsFit [] = Unit {0}
 AllKindsFit (k ∷ ks) = (AllFit k.body × (k.output < 2 ^ 64)) × AllKindsFit ks
 
-kind_split : (k : Kind) (r : List (List ℕ)) → kind_texts k ++ r ≡ codes "task" ∷ (map body_text k.body ++ done_text k.output ∷ r)
+pub kind_split : (k : Kind) (r : List (List ℕ)) → kind_texts k ++ r ≡ codes "task" ∷ (map body_text k.body ++ done_text k.output ∷ r)
 kind_split k r = ap (λ x. codes "task" ∷ x) (append_assoc (map body_text k.body) (done_text k.output ∷ []) r)
 
 -- Whole kinds in front of other lines are the first kinds of every script with these lines.

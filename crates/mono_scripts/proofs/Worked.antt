@@ -126,7 +126,7 @@ unfolding digits_from
 zero_text = number (codes "0") 0 refl
 
 -- a script has at least three lines
-three_lines : (s : Script) → 1 ≤ length s.kinds → 3 ≤ length (map ended (script_texts s))
+pub three_lines : (s : Script) → 1 ≤ length s.kinds → 3 ≤ length (map ended (script_texts s))
 three_lines s some = by_kinds s.kinds some
   where
     by_kinds : (ks : List Kind) → 1 ≤ length ks → 3 ≤ length (map ended (script_texts (record { limits = s.limits; kinds = ks })))

@@ -4,3 +4,5 @@ pub mod Iterated
 pub mod Mapped
 pub mod Chained
 pub mod Handled
+pub mod Given
+pub mod Worked

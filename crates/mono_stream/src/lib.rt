@@ -6,8 +6,10 @@ mod chained;
 mod extend;
 mod handled;
 mod iterate;
+pub mod laws;
 mod mapped;
 mod of_iterator;
+pub mod rows;
 mod streams;
 
 pub use chained::Then;

@@ -17,3 +17,4 @@ pub mod Registering
 pub mod Waiting
 pub mod Resting
 pub mod Expiring
+pub mod Passing

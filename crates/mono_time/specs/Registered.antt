@@ -1,6 +1,6 @@
 -- Where a sleep is registered in the wheel: its slot is the one that this tick has. A lazily moved sleep is registered at
 -- an earlier tick than its own, until the clock comes to the start of that slot.
-use Rattle.std.specs.Prelude.{◌≡◌, ◌≢◌, ◌≤◌, ◌⊎◌, ℕ, if◌then◌else◌, Option, Some, None, nat_le}
+use Rattle.std.specs.Prelude.{◌≡◌, ◌≢◌, ◌<◌, ◌≤◌, ◌⊎◌, ℕ, if◌then◌else◌, Option, Some, None, nat_le}
 use Rattle.mono_model.specs.Table.{Table, value_at}
 use Rattle.mono_wheel.specs.Start.{start, top_level}
 use Rattle.mono_wheel.specs.Model.{Wheel, Timed, timed_at}
@@ -50,6 +50,22 @@ moved_registered old new (Some (armed tick waker)) None = None
 moved_registered old new (Some (fresh tick)) registered = registered
 moved_registered old new (Some elapsed) registered = registered
 moved_registered old new None registered = registered
+
+-- after a whole clock step: a sleep that was due has fired, and is registered no more
+abbrev pub stepped_registered : ℕ → ℕ → Option Kept → Option ℕ → Option ℕ
+stepped_registered old new None registered = registered
+stepped_registered old new (Some (fresh tick)) registered = registered
+stepped_registered old new (Some (armed tick waker)) registered = if nat_le tick new then None else moved_registered old new (Some (armed tick waker)) registered
+stepped_registered old new (Some elapsed) registered = registered
+
+-- A sleep is registered exactly while it is armed. It is pending, or registered ahead of the tick up to which the wheel
+-- has gone and not after its own.
+abbrev pub IsRegistered : ℕ → Option Kept → Option ℕ → Type 0
+IsRegistered reached None registered = registered ≡ None
+IsRegistered reached (Some (fresh tick)) registered = registered ≡ None
+IsRegistered reached (Some (armed tick waker)) None = ⊥
+IsRegistered reached (Some (armed tick waker)) (Some registered) = ((registered ≡ reached) × (tick ≡ reached)) ⊎ ((reached < registered) × (registered ≤ tick))
+IsRegistered reached (Some elapsed) registered = registered ≡ None
 
 -- some sleep's slot starts at this tick, and none starts before
 pub record FirstSlot (reached : ℕ) (registered : ℕ → Option ℕ) (next : ℕ) : Type 0 where

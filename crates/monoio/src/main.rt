@@ -12,6 +12,15 @@ const HELP: &str = "usage:
   monoio load SEED COUNT
       replays a long input that the seed gives, and writes one line that sums up its reports
       SEED: a number below 2^64; COUNT: at most 100000
+  monoio sessions SESSIONS ENTRIES
+      reads lines that say calls on sessions and locks, and writes the answer of each
+      SESSIONS: how many may be open; ENTRIES: how many may stand in all queues; numbers below 2^64
+  monoio limiter BUCKETS RETRIES
+      answers lines that make and use token buckets and retries, a line for each
+      BUCKETS, RETRIES: limits, numbers below 2^64
+  monoio actors ACTORS MESSAGES
+      makes the calls on actors that the lines of standard input say, and writes a line of answers for each
+      ACTORS, MESSAGES: limits, numbers below 2^64
   monoio check STRATEGY TASKS JOBS SLEEPS
       reads a journal, event lines with their report lines, and writes yes where it is a run of the machine,
       or no and the number of the first line that no step allows
@@ -32,7 +41,7 @@ fn cause(status: u8) -> &'static str {
         7 => "the input has more than 16777216 bytes",
         11 => "the journal is no run; the output names the first line that no step allows",
         _ =>
-            "usage: monoio replay attached|local|panic TASKS JOBS SLEEPS, monoio load SEED COUNT, monoio check attached|local|panic TASKS JOBS SLEEPS, monoio --help, monoio --version",
+            "usage: monoio replay attached|local|panic TASKS JOBS SLEEPS, monoio load SEED COUNT, monoio sessions SESSIONS ENTRIES, monoio limiter BUCKETS RETRIES, monoio actors ACTORS MESSAGES, monoio check attached|local|panic TASKS JOBS SLEEPS, monoio --help, monoio --version",
     }
 }
 

@@ -1,8 +1,7 @@
 use Rattle.std.proofs.Common.{sym, ◌∙◌, ap, subst}
-use Rattle.mono_model.specs.Firing.{FireInTurn}
 use Rattle.mono_model.specs.Tasks.{all_woken}
 use Rattle.mono_time.specs.Instants.{nanos_of}
-use Rattle.mono_machine.specs.Steps.{at_clock, after_fires}
+use Rattle.mono_machine.specs.Steps.{at_clock}
 use Rattle.mono_exec.specs.Matches.{MatchesInStep}
 use Rattle.mono_exec.proofs.Firing.{fires-apart}
 use Rattle.mono_exec.proofs.clock_steps.fire_all.Goals as goal
@@ -11,8 +10,7 @@ pub returns-clause-fires : goal.returns-clause-fires
 returns-clause-fires g c = λ m st.
     let n = nanos_of c.args.now in
     let due = c.take_due-due.result in
-    let fires = c.take_due-due.ensures.fires m.sleeps st.keeps in
-    subst (λ fired. MatchesInStep c.take_due-due.new.timers c.wake_all.new.tasks (after_fires (at_clock m n) fired) × FireInTurn (at_clock m n).sleeps.table (at_clock m n).sleeps.greatest fired) (sym c.into_fired.ensures) (
+    let fires = c.take_due-due.ensures.fires m.sleeps st.keeps in (
       subst (MatchesInStep c.take_due-due.new.timers c.wake_all.new.tasks) (sym (fires-apart (at_clock m n) due.fired.items)) (record {
         keeps = fires.0;
         same_tasks = ap (λ x. x.tasks) c.wake_all.ensures ∙ ap (λ x. all_woken x c.deref.result.now) st.same_tasks ∙ ap (all_woken m.tasks) (c.deref.ensures.value ∙ c.take_due-due.ensures.wakers m.sleeps st.keeps);

@@ -8,7 +8,24 @@ use Rattle.mono_time.specs.Stands.{StandsForSleeps}
 use Rattle.mono_machine.specs.Steps.{all_fired, with_first, wakers_of}
 use Rattle.mono_exec.specs.Matches.{Keeps}
 use Rattle.mono_exec.proofs.Firing.{fired-push, wakers-push, same_clock, keeps_none, keeps_some}
+use Rattle.mono_time.proofs.Passing.{Passed, none-passed, passed-some, passed-none, all-passed}
 use Rattle.mono_exec.proofs.clock_steps.take_due.Goals as goal
+
+pub loop-s-init : goal.loop-s-init
+loop-s-init g c = (
+  c.requires.fired.1,
+  c.requires.wakers.1,
+  λ sleeps st.
+      let x = sleep.at_clock sleeps (nanos_of c.args.now) in
+      let none : c.args.room.fired.items ≡ [] = c.requires.fired.0 in (
+        sleeps,
+        st,
+        sym (ap (all_fired x) none),
+        c.requires.wakers.0 ∙ sym (ap (wakers_of x) none),
+        λ more turn. subst (λ items. FireInTurn (all_fired x items).table (all_fired x items).greatest more → FireInTurn x.table x.greatest (items ++ more)) (sym none) (λ t. t) turn,
+      ),
+  none-passed c.args.timers.now,
+)
 
 pub loop-s-preserved : goal.loop-s-preserved
 loop-s-preserved g c = (
@@ -34,6 +51,8 @@ loop-s-preserved g c = (
             let behind : FireInTurn old.table old.greatest (fired ++ s ∷ more) = before.4 (s ∷ more) (first, subst (λ x. FireInTurn x.table x.greatest more) one turn) in
             subst (FireInTurn old.table old.greatest) (sym (ap (λ xs. xs ++ more) c.put.ensures.fired ∙ append_assoc fired (s ∷ []) more)) behind,
       ),
+  passed-some c.args.timers.now c.loop-s.timers c.clock.new.self c.registers_armed.ensures.registered c.loop-s.invariant.3 c.clock.ensures.later c.in-Some.s c.in-Some.waker c.in-Some.ensures.reached
+      (ap (λ t. t.table) c.in-Some.ensures.some.1) c.in-Some.ensures.gone c.clock.ensures.registered,
 )
 
 pub put-requires : goal.put-requires
@@ -56,3 +75,8 @@ returns-clause-fires g c = λ sleeps st.
 
 pub returns-clause-rests : goal.returns-clause-rests
 returns-clause-rests g c = subst IsNoneArmedUpTo (sym c.in_default.ensures.none.1) c.in_default.ensures.none.0
+
+pub returns-clause-registered : goal.returns-clause-registered
+returns-clause-registered g c =
+    let passed : Passed c.args.timers.now c.clock.new.self = passed-none c.args.timers.now c.loop-s.timers c.clock.new.self c.registers_armed.ensures.registered c.loop-s.invariant.3 c.clock.ensures.later (ap (λ t. t.table) c.in_default.ensures.none.1) c.clock.ensures.registered in
+    all-passed c.args.timers.now c.clock.new.self passed (subst IsNoneArmedUpTo (sym c.in_default.ensures.none.1) c.in_default.ensures.none.0) c.in_default.ensures.elapsed

@@ -8,6 +8,7 @@ use Rattle.mono_time.specs.Sleeps.{armed_count}
 use Rattle.mono_time.specs.Timers.{sleeps_of}
 use Rattle.mono_machine.specs.Steps.{all_fired, wakers_of}
 use Rattle.mono_exec.specs.Matches.{Keeps}
+use Rattle.mono_time.proofs.Passing.{Passed}
 use Rattle.mono_exec.proofs.clock_steps.take_due.Given as goal
 
 -- there is room for so many more
@@ -21,6 +22,7 @@ invariant-loop-s g l = HasRoom (armed_count (sleeps_of l.timers)) (vec_len l.due
     × (l.due.wakers.items ≡ wakers_of (sleep.at_clock sleeps (nanos_of l.now)) l.due.fired.items)
     × ((more : List ℕ) → FireInTurn (all_fired (sleep.at_clock sleeps (nanos_of l.now)) l.due.fired.items).table (all_fired (sleep.at_clock sleeps (nanos_of l.now)) l.due.fired.items).greatest more
     → FireInTurn (sleep.at_clock sleeps (nanos_of l.now)).table (sleep.at_clock sleeps (nanos_of l.now)).greatest (l.due.fired.items ++ more)))
+    × Passed l.fn.timers l.timers
 
 abbrev pub decreases-loop-s : goal.decreases-loop-s
 decreases-loop-s g l = armed_count (sleeps_of l.timers)

@@ -14,7 +14,7 @@ loop-event-preserved c =
     let reports = c.loop-event.reports.items in
     let first : drop i events ≡ c.event-item.result ∷ drop (i + 1) events =
     subst (λ xs. drop i xs ≡ c.event-item.result ∷ drop (i + 1) xs) c.deref-event-items.ensures.value (item_and_rest c.deref-event-items.result.now i c.event-item.result c.loop-event-test.true c.event-item.is) in
-    let step = c.in_ok-report.ensures before.0 before.1 in (
+    let step = c.in_ok-report.ensures.step before.0 before.1 in (
       step.0,
       step.2,
       λ answers new run.

@@ -11,4 +11,4 @@ returns c =
     let first : Goes c.in_ok-exec.exec (record { fired = 0; refused = 0; order = 0 }) (sleepers 0 c.args.count (seeded c.args.seed)) c.all_sleepers.new.exec c.all_sleepers.new.sum =
     subst (λ r. Goes c.in_ok-exec.exec (record { fired = 0; refused = 0; order = 0 }) (sleepers 0 c.args.count r) c.all_sleepers.new.exec c.all_sleepers.new.sum) c.new-2.ensures c.in_ok-all_sleepers.ensures in
     summed c.args.seed c.args.count c.in_ok-exec.exec c.all_sleepers.new.exec c.all_clocks.new.exec c.all_endings.new.exec c.all_sleepers.new.sum c.all_clocks.new.sum c.all_endings.new.sum
-    c.in_ok-exec.ensures first c.in_ok-all_clocks.ensures c.in_ok-all_endings.ensures
+    c.in_ok-exec.ensures.start first c.in_ok-all_clocks.ensures c.in_ok-all_endings.ensures

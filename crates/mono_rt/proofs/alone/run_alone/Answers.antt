@@ -1,5 +1,6 @@
-use Rattle.std.proofs.Common.{◌≡◌, true, false, [], subst}
+use Rattle.std.proofs.Common.{[], subst}
 use Rattle.mono_machine.specs.Machine.{Machine, start_machine}
+use Rattle.mono_jobs.specs.Spawning.{strategy_of}
 use Rattle.mono_rt.specs.Numbered.{answer_numbered}
 use Rattle.mono_rt.specs.Rounds.{Blocked}
 use Rattle.mono_rt.proofs.Going.{goes_of, run_of}
@@ -11,7 +12,7 @@ returns g c =
     let number = g.O.Outcome.output_number in
     let made = c.in_ok-runtime.runtime in
     let left = c.block_on-answer.new.self in
-    let m = start_machine c.args.limits c.args.strategy in
+    let m = start_machine c.args.limits (strategy_of c.args.pool) in
     let answer = answer_numbered number c.block_on-answer.result in
     let told = Blocked made.cx.parts.has_timers c.args.turns answer in
     record {

@@ -7,6 +7,7 @@ use Rattle.mono_machine.specs.SleepCalls.{poll_reply}
 use Rattle.mono_machine.proofs.Known.{alike_joined}
 use Rattle.mono_exec.proofs.Matching.{changed}
 use Rattle.mono_exec.proofs.Timing.{other_timers, rests, alike_polled}
+use Rattle.mono_exec.proofs.Registering.{sleeps-stay, registered-polled}
 use Rattle.mono_exec.proofs.parts.Parts.query.Goals as goal
 
 pub returns-in-Sleep-clause-reply : goal.returns-in-Sleep-clause-reply
@@ -23,3 +24,7 @@ returns-in-Sleep-clause-matches c = λ m st.
 pub returns-in-Join-clause-matches : goal.returns-in-Join-clause-matches
 returns-in-Join-clause-matches c = λ m st.
     rw c.in-Join.is (changed c.args.self.now m c.poll_join.new.self (λ x. joined x c.in-Join.t c.args.me) st c.poll_join.ensures.after (alike_joined m.tasks c.in-Join.t c.args.me))
+
+pub returns-in-Sleep-clause-registered : goal.returns-in-Sleep-clause-registered
+returns-in-Sleep-clause-registered c = λ m st none.
+    rw c.in-Sleep.is (registered-polled c.args.self.now.timers c.poll.new.self m.sleeps st.sleeps.keeps.stands c.registers_armed.ensures.registered c.in-Sleep.s c.args.me c.poll.ensures.registered)

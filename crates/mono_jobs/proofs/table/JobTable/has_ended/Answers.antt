@@ -1,36 +1,27 @@
-use Rattle.std.proofs.Common.{◌≡◌, ap, sym, subst, ◌∙◌, Ok}
+use Rattle.std.proofs.Common.{◌≡◌, subst, ◌∙◌, Ok}
 use Rattle.mono_model.specs.Jobs as job
-use Rattle.mono_machine.specs.JobCalls.{kept_job, with_job, ended_as}
-use Rattle.mono_jobs.specs.Asking.{after_end}
+use Rattle.mono_machine.specs.JobCalls.{kept_job}
 use Rattle.mono_jobs.specs.JobTable.{job_of, ended_job}
-use Rattle.mono_jobs.proofs.Jobs.{back_is, same_is, ended_is, ended_job_is}
+use Rattle.mono_jobs.proofs.Jobs.{back_is, same_is}
 use Rattle.mono_jobs.proofs.table.JobTable.has_ended.Goals as goal
-
-pub returns-then-not-is_finished-clause-jobs : goal.returns-then-not-is_finished-clause-jobs
-returns-then-not-is_finished-clause-jobs g c =
-    let jobs = c.args.self.now.jobs in
-    let j = c.args.j in
-    let kept : Ok (job.running c.in-Ok-Running.number c.in-Ok-Running.waiter) ≡ kept_job jobs j = subst (λ p. Ok (job_of p) ≡ kept_job jobs j) c.in-Ok-Running.field-0-is c.in-Ok-Running.ensures.found in
-    back_is jobs j _ kept _ _ _ c.take.ensures.jobs c.put-then-not-is_finished.ensures.jobs ∙ same_is jobs j _ kept ∙ sym (ap (λ r. after_end r.end jobs j) c.told-then-not-is_finished.ensures)
 
 pub returns-in-Ok-Taken-clause-jobs : goal.returns-in-Ok-Taken-clause-jobs
 returns-in-Ok-Taken-clause-jobs g c =
     let jobs = c.args.self.now.jobs in
     let j = c.args.j in
     let kept : Ok job.taken ≡ kept_job jobs j = subst (λ p. Ok (job_of p) ≡ kept_job jobs j) c.in-Ok-Taken.field-0-is c.in-Ok-Taken.ensures.found in
-    back_is jobs j _ kept _ _ _ c.take.ensures.jobs c.put.ensures.jobs ∙ same_is jobs j _ kept ∙ sym (ap (λ r. after_end r.end jobs j) c.told-in-Ok-Taken.ensures)
+    back_is jobs j _ kept _ _ _ c.take.ensures.jobs c.put.ensures.jobs ∙ same_is jobs j _ kept
 
 pub returns-in-Ok-Ended-clause-jobs : goal.returns-in-Ok-Ended-clause-jobs
 returns-in-Ok-Ended-clause-jobs g c =
     let jobs = c.args.self.now.jobs in
     let j = c.args.j in
     let kept : Ok (ended_job c.in-Ok-Ended.number c.in-Ok-Ended.output) ≡ kept_job jobs j = subst (λ p. Ok (job_of p) ≡ kept_job jobs j) c.in-Ok-Ended.field-0-is c.in-Ok-Ended.ensures.found in
-    back_is jobs j _ kept _ _ _ c.take.ensures.jobs c.put-in-Ok-Ended.ensures.jobs ∙ same_is jobs j _ kept ∙ sym (ap (λ r. after_end r.end jobs j) c.told-in-Ok-Ended.ensures)
+    back_is jobs j _ kept _ _ _ c.take.ensures.jobs c.put-in-Ok-Ended.ensures.jobs ∙ same_is jobs j _ kept
 
-pub returns-in-Some-clause-jobs : goal.returns-in-Some-clause-jobs
-returns-in-Some-clause-jobs g c =
+pub returns-in-Ok-Running-clause-jobs : goal.returns-in-Ok-Running-clause-jobs
+returns-in-Ok-Running-clause-jobs g c =
     let jobs = c.args.self.now.jobs in
     let j = c.args.j in
-    let n = c.in-Ok-Running.number in
-    let kept : Ok (job.running n c.in-Ok-Running.waiter) ≡ kept_job jobs j = subst (λ p. Ok (job_of p) ≡ kept_job jobs j) c.in-Ok-Running.field-0-is c.in-Ok-Running.ensures.found in
-    back_is jobs j _ kept _ _ _ c.take.ensures.jobs c.put-in-Some.ensures.jobs ∙ ap (with_job jobs j) (ended_job_is c.in-Some.output n ∙ ap (λ h. ended_as h n) (sym c.how_of-how.ensures)) ∙ sym (ended_is jobs j n _ kept c.how_of-how.result)
+    let kept : Ok (job.running c.in-Ok-Running.number c.in-Ok-Running.waiter) ≡ kept_job jobs j = subst (λ p. Ok (job_of p) ≡ kept_job jobs j) c.in-Ok-Running.field-0-is c.in-Ok-Running.ensures.found in
+    back_is jobs j _ kept _ _ _ c.take.ensures.jobs c.put-in-Ok-Running.ensures.jobs ∙ same_is jobs j _ kept

@@ -1,0 +1,5 @@
+pub mod Spelled
+pub mod Feeds
+pub mod Parts
+pub mod Turning
+pub mod Whole

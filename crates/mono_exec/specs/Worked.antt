@@ -1,0 +1,6 @@
+-- An arming for worked changes: its tick and its arm number.
+use Rattle.std.specs.Prelude.{ℕ, false, None}
+use Rattle.mono_model.specs.Sleeps.{Arming}
+
+abbrev pub arming : ℕ → ℕ → Arming
+arming tick arm = record { tick = tick; arm = arm; is_moved = false; waker = None }

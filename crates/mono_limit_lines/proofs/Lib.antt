@@ -1,0 +1,4 @@
+pub mod Clocking
+pub mod Spelled
+pub mod Serving
+pub mod Running

@@ -1,0 +1,153 @@
+// A limiter that answers lines.
+ghost use Rattle.std.specs.Prelude.{◌≡◌, ◌<◌, ◌≤◌, ◌+◌, IfOk, OnOk, vec_len, vec_capacity};
+ghost use Rattle.mono_model.specs.Table.{count_of};
+ghost use Rattle.mono_text.specs.Serving.{Serves};
+ghost use Rattle.mono_time.specs.Instants.{nanos_of};
+ghost use Rattle.mono_limit.specs.Limiter.{no_limits};
+ghost use Rattle.mono_limit.specs.Limits.{limits_of, ListsInto};
+ghost use Rattle.mono_limit.specs.Calls as calls;
+ghost use Rattle.mono_limit_lines.specs.Lines.{call_text, FitsCall, call_of, StepByLine, StepInto};
+
+use crate::calls::LimiterCall;
+use crate::{printing, reading};
+use mono_limit::{LimitError, Limiter};
+use mono_text::{Reader, Served, Service, serve};
+use mono_time::Instant;
+use mono_wheel::Steps;
+use std::alloc::{AllocError, Global};
+use std::marker::Brand;
+use std::sync::ledger::{Blank, Ledger};
+
+// A limiter, and a list for the retries of a clock step, which is used again.
+#[derive(Drop)]
+struct LimiterLines {
+    limiter: Limiter,
+    due: Vec<u64>,
+}
+
+// A clock step whose steps are not counted. There is room for the retries that are due.
+fn clock_step<L: Ledger>(limiter: &mut Limiter, now: Instant, due: &mut Vec<u64>, blank: Blank)
+    requires ledger { (blank.name ≡ L.name) × (blank.parts ≡ L.parts) × (0 < L.parts) }
+    requires room { vec_len due.old + count_of (limits_of limiter.old).retries ≤ vec_capacity due.old }
+    ensures { ListsInto (limits_of limiter.old) (nanos_of now) due.old.items due.new.items (limits_of limiter.new) }
+{
+    let mut steps: Steps<L> = Steps::new(blank);
+    limiter.clock(now, due, &mut steps);
+}
+
+impl LimiterLines {
+    // A limiter without buckets and retries, for at most so many buckets, and so many retries that live at a time.
+    fn new(alloc: Global, buckets: u64, retries: u64) -> Result<LimiterLines, AllocError>
+        ensures { IfOk result (λ lines. limits_of lines.limiter ≡ no_limits buckets retries) }
+    {
+        let limiter = Limiter::new(alloc, buckets, retries)?;
+        Ok(LimiterLines {
+            limiter,
+            due: Vec::new(alloc),
+        })
+    }
+
+    fn bucket(
+        &mut self,
+        alloc: Global,
+        burst: u64,
+        period: u64,
+        out: &mut Vec<u8>,
+    ) -> Result<(), AllocError>
+        ensures { OnOk result (StepInto (limits_of self.old.limiter) (calls.Bucket burst period) out.old.items out.new.items (limits_of self.new.limiter)) }
+    {
+        let told = self.limiter.bucket(alloc, burst, period);
+        printing::bucket(out, told)
+    }
+
+    fn take(&mut self, bucket: u64, n: u64, out: &mut Vec<u8>) -> Result<(), AllocError>
+        ensures { OnOk result (StepInto (limits_of self.old.limiter) (calls.Take bucket n) out.old.items out.new.items (limits_of self.new.limiter)) }
+    {
+        let told = self.limiter.take(bucket, n);
+        printing::take(out, told)
+    }
+
+    fn retry(
+        &mut self,
+        alloc: Global,
+        base: u64,
+        cap: u64,
+        most: u64,
+        out: &mut Vec<u8>,
+    ) -> Result<(), AllocError>
+        ensures { OnOk result (StepInto (limits_of self.old.limiter) (calls.Retry base cap most) out.old.items out.new.items (limits_of self.new.limiter)) }
+    {
+        let told = self.limiter.retry(alloc, base, cap, most);
+        printing::retry(out, told)
+    }
+
+    fn fail(&mut self, retry: u64, out: &mut Vec<u8>) -> Result<(), AllocError>
+        ensures { OnOk result (StepInto (limits_of self.old.limiter) (calls.Fail retry) out.old.items out.new.items (limits_of self.new.limiter)) }
+    {
+        let told = self.limiter.fail(retry);
+        printing::fail(out, told)
+    }
+
+    fn done(&mut self, retry: u64, out: &mut Vec<u8>) -> Result<(), AllocError>
+        ensures { OnOk result (StepInto (limits_of self.old.limiter) (calls.Done retry) out.old.items out.new.items (limits_of self.new.limiter)) }
+    {
+        let told = self.limiter.done(retry);
+        printing::done(out, told)
+    }
+
+    fn clock(&mut self, n: u128, out: &mut Vec<u8>) -> Result<(), AllocError>
+        ensures { OnOk result (StepInto (limits_of self.old.limiter) (calls.Clock n) out.old.items out.new.items (limits_of self.new.limiter)) }
+    {
+        let Some(now) = Instant::from_nanos(n) else {
+            return printing::refused(out, LimitError::Invalid);
+        };
+        self.due.clear();
+        self.due.reserve(self.limiter.live())?;
+        clock_step::<Brand>(&mut self.limiter, now, &mut self.due, Blank::new(1));
+        printing::due(out, &self.due)
+    }
+}
+
+impl Service for LimiterLines {
+    type Call = LimiterCall;
+
+    ghost text = { λ call. call_text (call_of call) };
+
+    ghost fits = { λ call. FitsCall (call_of call) };
+
+    ghost answers = { λ old call text new. StepByLine (limits_of old.limiter) (call_of call) text (limits_of new.limiter) };
+
+    fn read(_alloc: Global, reader: &mut Reader) -> Result<Option<LimiterCall>, AllocError> {
+        Ok(reading::line(reader))
+    }
+
+    fn answer(
+        &mut self,
+        alloc: Global,
+        call: LimiterCall,
+        out: &mut Vec<u8>,
+    ) -> Result<(), AllocError> {
+        match call {
+            LimiterCall::Bucket(burst, period) => self.bucket(alloc, burst, period, out),
+            LimiterCall::Take(bucket, n) => self.take(bucket, n, out),
+            LimiterCall::Retry(base, cap, most) => self.retry(alloc, base, cap, most, out),
+            LimiterCall::Fail(retry) => self.fail(retry, out),
+            LimiterCall::Done(retry) => self.done(retry, out),
+            LimiterCall::Clock(n) => self.clock(n, out),
+        }
+    }
+}
+
+/// The answers of a limiter to an input, one line at a time, or the number of the first line that says no call. The
+/// limiter has no buckets and retries at first, and these limits; its answers are those of its model.
+pub fn limiter(
+    alloc: Global,
+    buckets: u64,
+    retries: u64,
+    input: &[u8],
+) -> Result<Served, AllocError>
+    ensures { IfOk result (λ served. Serves call_text FitsCall StepByLine (no_limits buckets retries) input.now served) }
+{
+    let lines = LimiterLines::new(alloc, buckets, retries)?;
+    serve(alloc, lines, input)
+}

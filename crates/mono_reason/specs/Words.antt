@@ -1,0 +1,43 @@
+-- The words of a line, and numbers among them.
+use Rattle.std.specs.Prelude.{ℕ, ◌==◌, ◌-◌, ◌||◌, Bool, true, false, if◌then◌else◌, nat_lt, List, [], ◌∷◌, length, Option, Some, None}
+use Rattle.std.specs.Char.{is_ascii_digit}
+use Rattle.std.specs.Ordering.{nat_cmp}
+use Rattle.std.specs.Bool.{nat_eq}
+use Rattle.std.specs.Cmp.Lexicographic.{pointwise}
+use Rattle.std.specs.Cmp.Lexicographic.{slice_cmp}
+use Rattle.std.specs.Ordering.{is_lt}
+use Rattle.std.specs.List.{slice_split}
+use Rattle.mono_text.specs.Lines.{Line}
+
+-- a blank or a semicolon stands between words
+abbrev pub is_gap : ℕ → Bool
+is_gap b = (b == 32) || (b == 59)
+
+-- A gap ends a word; there may be nothing in it.
+abbrev pub words : List ℕ → List (List ℕ)
+words bytes = slice_split is_gap bytes
+
+abbrev pub is_among : List ℕ → List (List ℕ) → Bool
+is_among word [] = false
+is_among word (w ∷ ws) = if pointwise nat_eq word w then true else is_among word ws
+
+abbrev pub are_digits : List ℕ → Bool
+are_digits [] = true
+are_digits (b ∷ bs) = if is_ascii_digit b then are_digits bs else false
+
+-- digits, of which the first is not zero
+abbrev pub is_number : List ℕ → Bool
+is_number [] = false
+is_number (b ∷ bs) = if b == 48 then false else are_digits (b ∷ bs)
+
+-- Of two numbers the longer one is greater, and of two that are as long the one that is later in the order of digits.
+abbrev pub is_above : List ℕ → List ℕ → Bool
+is_above top word =
+    if is_number word
+    then (if nat_lt (length top) (length word) then true else if length word == length top then is_lt (slice_cmp nat_cmp top word) else false)
+    else false
+
+-- line n, counted from 1
+abbrev pub line_at : ℕ → List Line → Option Line
+line_at n [] = None
+line_at n (l ∷ ls) = if n == 1 then Some l else line_at (n - 1) ls

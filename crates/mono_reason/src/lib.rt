@@ -1,0 +1,11 @@
+//! Why a line says no call: the reason, by the bytes of the line alone.
+#![tactic(auto)]
+
+mod lines;
+mod reasons;
+mod words;
+
+pub use reasons::{Reason, reason_of_line};
+
+#[cfg(test)]
+mod tests;

@@ -1,0 +1,22 @@
+// What the lines of a limiter are answered, as an output.
+ghost use Rattle.std.specs.Prelude.{IfOk};
+ghost use Rattle.mono_script.specs.Ending.{IsOutput};
+ghost use Rattle.mono_script.specs.Meanings.{limiting};
+
+use crate::ends::Output;
+use crate::served::output_of;
+use mono_limit_lines::limiter;
+use std::alloc::{AllocError, Global};
+
+// What a limiter writes for an input.
+pub(crate) fn output_of_limiter(
+    alloc: Global,
+    buckets: u64,
+    retries: u64,
+    input: &[u8],
+) -> Result<Output, AllocError>
+    ensures { IfOk result (λ o. IsOutput (limiting buckets retries) input.now o.status o.text.items) }
+{
+    let served = limiter(alloc, buckets, retries, input)?;
+    output_of(alloc, served)
+}

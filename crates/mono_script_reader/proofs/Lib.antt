@@ -1,0 +1,4 @@
+pub mod Counts
+pub mod Cutting
+pub mod Going
+pub mod Spelled

@@ -1,0 +1,14 @@
+// A worked stream, as functions with empty bodies.
+ghost use Rattle.std.specs.Prelude.{◌≡◌, ℕ, true, false, List, [], ◌∷◌, Bool, Option, None};
+ghost use Rattle.mono_model.specs.declared.poll.Poll.{Poll};
+ghost use Rattle.mono_model.specs.declared.poll.Poll.TheVariants.{Ready, Pending};
+ghost use Rattle.mono_stream.specs.Given.{Gives};
+ghost use Rattle.mono_stream.specs.Worked.{AnswersNext, five_and_seven};
+
+/// Polls that answer 5, then that it has to wait, then 7, then that the stream has ended, give 5 and 7 and the end; three
+/// of them give 5 and 7 and no end; and they give nothing else.
+pub fn waits_between_two_items()
+    ensures all { Gives AnswersNext 4 five_and_seven (5 ∷ 7 ∷ []) true [] }
+    ensures some { Gives AnswersNext 3 five_and_seven (5 ∷ 7 ∷ []) false (Ready None ∷ []) }
+    ensures nothing_else { (items : List ℕ) (has_ended : Bool) (left : _) → Gives AnswersNext 4 five_and_seven items has_ended left → (items ≡ 5 ∷ 7 ∷ []) × (has_ended ≡ true) }
+{}
