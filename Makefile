@@ -5,8 +5,8 @@
 #   make build       proves and builds the program, and leaves it as bin/monoio
 #   make test        the gate: every proof, wrong body, test and program; it ends in `rt ci`
 #   make examples    builds the program, and compares each example's reports with those stored beside it
-#   make soak        random inputs for a minute (SECONDS=n), each report checked by an independent machine; then each
-#                    allocation, read and write fails in turn
+#   make soak        random inputs for a minute (SECONDS=n), each report checked by an independent machine; their journals
+#                    too; then each allocation, read and write fails in turn
 #   make planted     tries the wrong bodies of crates/*/planted on a copy (CRATE=name: of one crate)
 #   make gate-times  the gate from nothing, with the processor seconds of each crate
 

@@ -1,6 +1,9 @@
 #!/usr/bin/env python3
 """Replays inputs made from a seed, malformed ones among them, and checks each report line by an independent machine.
 
+Events and reports, joined to a journal, must pass `check`; with one report changed the independent machine says which
+line must be named, or that the other report is allowed too.
+
 usage: tools/soak/soak.py PROGRAM [SECONDS [SEED]]
 
 PROGRAM is bin/monoio. It ends after SECONDS (default 60), or at the first input whose answer is wrong, which it prints.
@@ -10,6 +13,7 @@ import subprocess
 import sys
 import time
 
+from journals import joined, verdict, with_one_changed
 from machine import BadLine, Machine, parse
 
 STRATEGIES = ("attached", "local", "panic")
@@ -92,24 +96,47 @@ def is_right(words, text, run):
     )
 
 
+def answer(program, words, text):
+    return subprocess.run([program, *words], input=text, capture_output=True, text=True, timeout=60)
+
+
+def wrong_journal(draw, program, words, text, reports):
+    """A journal of these events and reports that is answered wrongly, with its answer; or none."""
+    reports = reports.split("\n")[:-1]
+    lines = joined(draw, text.split("\n")[:-1], reports)
+    for journal in (lines, with_one_changed(draw, lines, reports)):
+        wanted = ("yes\n", 0) if journal is lines else verdict(words, journal)
+        run = answer(program, ["check", *words[1:]], "".join(line + "\n" for line in journal))
+        if (run.stdout, run.returncode) != wanted:
+            return journal, run
+    return None
+
+
 def main():
     program = sys.argv[1]
     seconds = float(sys.argv[2]) if len(sys.argv) > 2 else 60
     seed = int(sys.argv[3]) if len(sys.argv) > 3 else int(time.time())
     draw = random.Random(seed)
     end = time.time() + seconds
-    inputs = lines = 0
+    inputs = lines = journals = 0
     while time.time() < end:
         words = ["replay", draw.choice(STRATEGIES), *(str(draw.choice((0, 1, 3, 16))) for _ in range(3))]
         text = made(draw)
-        run = subprocess.run([program, *words], input=text, capture_output=True, text=True, timeout=60)
+        run = answer(program, words, text)
         if not is_right(words, text, run):
             print(f"seed {seed}, input {inputs}: wrong answer to {' '.join(words)}, status {run.returncode}")
             print(text, run.stdout, sep="\n--- answered\n")
             return 1
+        if run.returncode == 0:
+            wrong = wrong_journal(draw, program, words, text, run.stdout)
+            if wrong is not None:
+                print(f"seed {seed}, input {inputs}: wrong answer to a check {' '.join(words[1:])}, status {wrong[1].returncode}")
+                print(*wrong[0], "--- answered", wrong[1].stdout, sep="\n")
+                return 1
+            journals += 1
         inputs += 1
         lines += text.count("\n")
-    print(f"seed {seed}: {inputs} inputs of {lines} lines, each answered rightly")
+    print(f"seed {seed}: {inputs} inputs of {lines} lines and {journals} journals, each also with one report changed: all answered rightly")
     return 0
 
 

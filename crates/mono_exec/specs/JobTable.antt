@@ -1,6 +1,7 @@
 -- What the places of the table of jobs stand for.
-use Rattle.std.specs.Prelude.{ℕ, List, map, Option, Result, Ok, Err}
+use Rattle.std.specs.Prelude.{ℕ, map, Option, Result, Ok, Err}
 use Rattle.std.specs.Option.{option_map}
+use Rattle.mono_model.specs.Table.{Table}
 use Rattle.mono_model.specs.Jobs.{Jobs}
 use Rattle.mono_model.specs.Jobs as model
 use Rattle.mono_exec.specs.declared.jobs.Job.{Job}
@@ -16,7 +17,7 @@ job_of Taken = model.taken
 abbrev pub place_of : Option Job → Option model.Job
 place_of = option_map job_of
 
-abbrev pub jobs_of : List (Option Job) → ℕ → Jobs
+abbrev pub jobs_of : Table Job → ℕ → Jobs
 jobs_of places limit = record { table = map place_of places; limit = limit }
 
 abbrev pub found_of : Result Job Refusal → Result model.Job Refusal

@@ -1,12 +1,13 @@
 // Blocking jobs whose handles are kept.
-ghost use Rattle.std.specs.Prelude.{◌≡◌, IfOk, OnOk, is_some, true, None};
+ghost use Rattle.std.specs.Prelude.{◌≡◌, ◌<◌, ◌-◌, ◌^◌, IfOk, OnOk, is_some, true, false, None};
 ghost use Rattle.mono_model.specs.Table.{value_at, next_number, is_full};
 ghost use Rattle.mono_model.specs.Jobs.{no_jobs, running, ended_ok};
 ghost use Rattle.mono_exec.specs.JobTable.{job_of, found_of};
 ghost use Rattle.mono_machine.specs.JobCalls.{with_job, without_job, with_next_job, kept_job, drop_answer, job_dropped, finished_answer, end_answer, job_ended, poll_answer, job_polled};
 
 use crate::{How, Refusal, Reply};
-use std::alloc::{AllocError, AllocFailed, Global};
+use mono_table::Table;
+use std::alloc::{AllocError, Global};
 use std::marker::Model;
 
 /// A job whose handle is kept: it runs, with its output to come and the task that waits for it, or it has ended, or what
@@ -19,26 +20,21 @@ pub enum Job {
     Taken,
 }
 
-/// The jobs by their numbers, and how many there may be. At a number whose job's handle was dropped there is none.
+/// The jobs by their numbers, and how many there may be. Of a job whose handle was dropped nothing is left.
 #[derive(Drop)]
 pub struct Jobs {
-    places: Vec<Option<Job>>,
-    kept: u64,
+    places: Table<Job>,
     limit: u64,
 }
 
 impl Model for Jobs {
-    ghost use Rattle.std.specs.Prelude.{◌≡◌};
     ghost use Rattle.mono_model.specs.Jobs as model;
-    ghost use Rattle.mono_model.specs.Table.{count_of};
 
     ghost Value = { model.Jobs };
 
     ghost use Rattle.mono_exec.specs.JobTable.{jobs_of};
 
-    ghost view = { λ a. jobs_of a.places.items a.limit };
-
-    ghost invariant = { λ a. a.kept ≡ count_of a.places.items };
+    ghost view = { λ a. jobs_of a.places a.limit };
 }
 
 impl Jobs {
@@ -47,54 +43,58 @@ impl Jobs {
         ensures { result ≡ no_jobs limit }
     {
         Jobs {
-            places: Vec::new(alloc),
-            kept: 0,
+            places: Table::new(alloc),
             limit,
         }
     }
 
-    /// Whether no further job may be made.
+    /// Whether no further job may be made. While one may be there is a next number (`room`).
     pub fn is_full(&self) -> bool
-        ensures { result ≡ is_full self.now.table self.now.limit }
+        ensures full { result ≡ is_full self.now.table self.now.limit }
+        ensures room { result ≡ false → next_number self.now.table < 2 ^ 64 - 1 }
     {
-        self.kept >= self.limit || self.places.len() as u64 == u64::MAX
+        self.places.count() >= self.limit || self.places.len() == u64::MAX
     }
 
     /// One more job, with the next number, which is the answer.
-    fn add(&mut self, job: Job) -> Result<u64, AllocError>
+    fn add(&mut self, alloc: Global, job: Job) -> Result<u64, AllocError>
+        requires { next_number self.old.table < 2 ^ 64 - 1 }
         ensures number { IfOk result (λ j. j ≡ next_number self.old.table) }
         ensures jobs { OnOk result (self.new ≡ with_next_job self.old (job_of job)) }
     {
-        let j = self.places.len() as u64;
-        self.places.push(Some(job))?;
-        self.kept += 1;
+        let j = self.places.len();
+        self.places.push(alloc, job)?;
         Ok(j)
     }
 
     /// Makes a job that runs elsewhere, and answers its number.
-    pub fn start(&mut self, output: u64) -> Result<u64, AllocError>
+    pub fn start(&mut self, alloc: Global, output: u64) -> Result<u64, AllocError>
+        requires { next_number self.old.table < 2 ^ 64 - 1 }
         ensures number { IfOk result (λ j. j ≡ next_number self.old.table) }
         ensures jobs { OnOk result (self.new ≡ with_next_job self.old (running output None)) }
     {
-        self.add(Job::Running(output, None))
+        self.add(alloc, Job::Running(output, None))
     }
 
     /// Makes a job that has run here, and answers its number.
-    pub fn run(&mut self, output: u64) -> Result<u64, AllocError>
+    pub fn run(&mut self, alloc: Global, output: u64) -> Result<u64, AllocError>
+        requires { next_number self.old.table < 2 ^ 64 - 1 }
         ensures number { IfOk result (λ j. j ≡ next_number self.old.table) }
         ensures jobs { OnOk result (self.new ≡ with_next_job self.old (ended_ok output)) }
     {
-        self.add(Job::EndedOk(output))
+        self.add(alloc, Job::EndedOk(output))
     }
 
     /// The job, where its handle is kept.
     fn kept(&self, j: u64) -> Result<Job, Refusal>
         ensures { found_of result ≡ kept_job self.now j }
     {
-        match self.places.get(j as usize) {
-            None => Err(Refusal::NoTask),
-            Some(None) => Err(Refusal::NoHandle),
-            Some(Some(job)) => Ok(*job),
+        if j >= self.places.len() {
+            return Err(Refusal::NoTask);
+        }
+        match self.places.get(j) {
+            None => Err(Refusal::NoHandle),
+            Some(job) => Ok(*job),
         }
     }
 
@@ -103,16 +103,15 @@ impl Jobs {
         requires { is_some (value_at self.old.table j) ≡ true }
         ensures { self.new ≡ with_job self.old j (job_of job) }
     {
-        self.places[j as usize] = Some(job);
+        self.places.set(j, job);
     }
 
-    /// The job is gone.
+    /// The job is gone. It takes no memory.
     fn remove(&mut self, j: u64)
         requires { is_some (value_at self.old.table j) ≡ true }
         ensures { self.new ≡ without_job self.old j }
     {
-        self.places[j as usize] = None;
-        self.kept -= 1;
+        self.places.remove(j);
     }
 
     /// Drops the handle of a job.

@@ -67,7 +67,7 @@ impl Parts {
     }
 
     /// A job is made, by the strategy.
-    fn block(&mut self, output: u64) -> Result<Reply, AllocError>
+    fn block(&mut self, alloc: Global, output: u64) -> Result<Reply, AllocError>
         ensures reply { IfOk result (λ r. (m : Machine) → Matches self.old m → r ≡ (act_outcome (Act.Block output) m).reply) }
         ensures matches { OnOk result ((m : Machine) → Matches self.old m → Matches self.new (act_outcome (Act.Block output) m).machine) }
         ensures turn { self.new.tasks.turn ≡ self.old.tasks.turn }
@@ -78,11 +78,11 @@ impl Parts {
         }
         match self.blocking {
             Blocking::Attached => {
-                let j = self.jobs.start(output)?;
+                let j = self.jobs.start(alloc, output)?;
                 Ok(Reply::Job(j))
             }
             Blocking::ExecuteLocal => {
-                let j = self.jobs.run(output)?;
+                let j = self.jobs.run(alloc, output)?;
                 Ok(Reply::Job(j))
             }
             Blocking::Panic => Ok(Reply::Refused(Refusal::NoPool)),
@@ -105,7 +105,7 @@ impl Parts {
             Act::DropSleep(s) => Ok(gone_reply(self.timers.remove(s))),
             Act::SleepElapsed(s) => Ok(elapsed_reply(self.timers.is_elapsed(s))),
             Act::DropJoin(t) => Ok(drop_reply(self.tasks.drop_join(t))),
-            Act::Block(output) => self.block(output),
+            Act::Block(output) => self.block(alloc, output),
             Act::DropJob(j) => Ok(reply_of(self.jobs.drop_handle(j))),
             Act::Finished(t) => Ok(finished_reply(self.tasks.is_finished(t))),
             Act::JobFinished(j) => Ok(reply_of(self.jobs.has_ended(j))),

@@ -272,8 +272,8 @@ fn answers(alloc: Global, count: u64) -> Result<Vec<u8>, AllocError> {
         text.extend_from_slice(b"; queued")?;
     }
     text.extend_from_slice(b"; again\n")?;
-    for place in 1..count + 1 {
-        let actor = if place < count { place } else { 0 };
+    for before in 0..count {
+        let actor = if before < count - 1 { before + 1 } else { 0 };
         put(&mut text, b"turn ".as_slice(), actor)?;
         put(&mut text, b"; from 0 ".as_slice(), actor)?;
         text.extend_from_slice(b"; stopped\n")?;

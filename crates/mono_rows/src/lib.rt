@@ -7,6 +7,8 @@ mod caller;
 #[cfg(test)]
 mod faults;
 #[cfg(test)]
+mod journals;
+#[cfg(test)]
 mod limiters;
 #[cfg(test)]
 mod refusals;
@@ -14,6 +16,8 @@ mod refusals;
 mod replays;
 #[cfg(test)]
 mod running;
+#[cfg(test)]
+mod sessions;
 #[cfg(test)]
 mod waits;
 

@@ -11,7 +11,9 @@ use Rattle.mono_task.specs.Schedule as schedule
 use Rattle.mono_model.specs.SleepActs as machine
 use Rattle.mono_time.specs.Sleeps.{SleepTable, IsNoneArmedUpTo}
 use Rattle.mono_model.specs.SleepAnswers.{waker_in}
-use Rattle.mono_time.specs.Timers.{sleeps_of, elapsed_tick}
+use Rattle.mono_time.specs.Timers.{sleeps_of, elapsed_tick, registered_of}
+use Rattle.mono_exec.specs.Registered.{FollowsAct}
+use Rattle.mono_exec.proofs.Registering.{sleeps-stay}
 use Rattle.mono_time.specs.Stands.{StandsForSleeps}
 use Rattle.mono_model.specs.declared.error.Error.{Error}
 use Rattle.mono_time.specs.declared.timers.Timers.{Timers}
@@ -26,7 +28,7 @@ use Rattle.mono_machine.specs.declared.events.Refusal.TheVariants as refusal
 use Rattle.mono_exec.proofs.Timing.{Alike, live, gone, unchanged}
 use Rattle.mono_rt.specs.Record.{Record, noted}
 use Rattle.mono_rt.specs.Numbered.{numbered}
-use Rattle.mono_rt.specs.Stands.{Matches}
+use Rattle.mono_rt.specs.Stands.{Hosting, Matches}
 use Rattle.mono_rt.specs.Reached.{Leads, by_act, by_nothing}
 use Rattle.mono_rt.specs.declared.parts.Parts.{Parts}
 use Rattle.mono_rt.proofs.Numbering.{numbered-woken_if_any}
@@ -39,87 +41,93 @@ added_at m k n is below free =
     ∙ ap (λ b. cond b (refused refusal.AtCapacity m) (cond (nat_lt max_nanos n) (refused refusal.Invalid m) made)) free
     ∙ ap (λ b. cond b (refused refusal.Invalid m) made) (le-ltb max_nanos n below)
 
-module _ {O : Type 0} (number : O → ℕ) where
+module _ {O B : Type 0} (number : O → ℕ) (hosting : B → Hosting) where
   -- with these tasks, timers and record, and else as before
-  abbrev pub with_all : Parts O → Schedule O → Timers → Record → Parts O
-  with_all c tasks timers acts = record { tasks = tasks; timers = timers; has_timers = c.has_timers; strategy = c.strategy; acts = acts; me = c.me; now = c.now; is_out_of_memory = c.is_out_of_memory }
+  abbrev pub with_all : Parts O B → Schedule O → Timers → Record → Parts O B
+  with_all c tasks timers acts = record { tasks = tasks; timers = timers; has_timers = c.has_timers; blocking = c.blocking; acts = acts; me = c.me; now = c.now; is_out_of_memory = c.is_out_of_memory }
 
-  pub other_tasks : (c d : Parts O) (m : Machine) (tasks : Tasks ℕ) → Matches number c m → numbered number d.tasks.tasks ≡ tasks → d.timers ≡ c.timers → d.has_timers ≡ c.has_timers → d.strategy ≡ c.strategy → Matches number d (with_tasks m tasks)
-  other_tasks c d m tasks st is timers has strategy = record {
+  pub other_tasks : (c d : Parts O B) (m : Machine) (tasks : Tasks ℕ) → Matches number hosting c m → numbered number d.tasks.tasks ≡ tasks → d.timers ≡ c.timers → d.has_timers ≡ c.has_timers → d.blocking ≡ c.blocking → Matches number hosting d (with_tasks m tasks)
+  other_tasks c d m tasks st is timers has blocking = record {
     tasks = is;
     sleeps = subst (λ t. StandsForSleeps t m.sleeps) (sym timers) st.sleeps;
     has_gone = subst (λ t. elapsed_tick t ≡ (sleeps_of t).greatest) (sym timers) st.has_gone;
     no_due = subst (λ t. IsNoneArmedUpTo (sleeps_of t)) (sym timers) st.no_due;
     enabled = ap (λ t. (sleeps_of t).is_enabled) timers ∙ st.enabled ∙ sym has;
     inbox = st.inbox;
-    strategy = strategy ∙ st.strategy;
+    jobs = ap (λ x. (hosting x).jobs) blocking ∙ st.jobs;
+    strategy = ap (λ x. (hosting x).strategy) blocking ∙ st.strategy;
   }
 
   pub gone_on : (old new : Timers) (table : SleepTable) → elapsed_tick old ≡ (sleeps_of old).greatest → sleeps_of new ≡ table → Alike (sleeps_of old) table → elapsed_tick new ≡ elapsed_tick old → elapsed_tick new ≡ (sleeps_of new).greatest
   gone_on old new table was is alike gone = gone ∙ was ∙ sym alike.greatest ∙ sym (ap (λ x. x.greatest) is)
 
-  pub other_timers : (c d : Parts O) (m : Machine) (sleeps : Sleeps) → Matches number c m → d.tasks.tasks ≡ c.tasks.tasks → StandsForSleeps d.timers sleeps → elapsed_tick d.timers ≡ (sleeps_of d.timers).greatest → IsNoneArmedUpTo (sleeps_of d.timers) → (sleeps_of d.timers).is_enabled ≡ (sleeps_of c.timers).is_enabled → d.has_timers ≡ c.has_timers → d.strategy ≡ c.strategy → Matches number d (with_sleeps m sleeps)
-  other_timers c d m sleeps st tasks stands gone none enabled has strategy = record {
+  pub other_timers : (c d : Parts O B) (m : Machine) (sleeps : Sleeps) → Matches number hosting c m → d.tasks.tasks ≡ c.tasks.tasks → StandsForSleeps d.timers sleeps → elapsed_tick d.timers ≡ (sleeps_of d.timers).greatest → IsNoneArmedUpTo (sleeps_of d.timers) → (sleeps_of d.timers).is_enabled ≡ (sleeps_of c.timers).is_enabled → d.has_timers ≡ c.has_timers → d.blocking ≡ c.blocking → Matches number hosting d (with_sleeps m sleeps)
+  other_timers c d m sleeps st tasks stands gone none enabled has blocking = record {
     tasks = ap (numbered number) tasks ∙ st.tasks;
     sleeps = stands;
     has_gone = gone;
     no_due = none;
     enabled = enabled ∙ st.enabled ∙ sym has;
     inbox = st.inbox;
-    strategy = strategy ∙ st.strategy;
+    jobs = ap (λ x. (hosting x).jobs) blocking ∙ st.jobs;
+    strategy = ap (λ x. (hosting x).strategy) blocking ∙ st.strategy;
   }
 
   -- a call on the tasks alone
-  pub by_tasks : (c : Parts O) (step : TurnStep) (reply : Reply) (acts : Record) (s : Schedule O) (tasks : Tasks O) (f : Tasks ℕ → Tasks ℕ)
+  pub by_tasks : (c : Parts O B) (step : TurnStep) (reply : Reply) (acts : Record) (s : Schedule O) (tasks : Tasks O) (f : Tasks ℕ → Tasks ℕ)
       → acts ≡ noted c.acts step reply
       → ((m : Machine) → (step_outcome c.me step m).machine ≡ with_tasks m (f m.tasks))
-      → ((m : Machine) → Matches number c m → reply ≡ (step_outcome c.me step m).reply)
+      → ((m : Machine) → Matches number hosting c m → reply ≡ (step_outcome c.me step m).reply)
       → s ≡ schedule.with_tasks c.tasks tasks → numbered number tasks ≡ f (numbered number c.tasks.tasks)
-      → Leads number c (with_all c s c.timers acts)
+      → Leads number hosting c (with_all c s c.timers acts)
   by_tasks c step reply acts s tasks f is left answer after same =
-      by_act number c (with_all c s c.timers acts) step reply is answer
-      (λ m st. subst (Matches number (with_all c s c.timers acts)) (sym (left m)) (other_tasks c (with_all c s c.timers acts) m (f m.tasks) st (ap (λ x. numbered number x.tasks) after ∙ same ∙ ap f st.tasks) refl refl refl))
+      by_act number hosting c (with_all c s c.timers acts) step reply is answer
+      (λ m st. subst (Matches number hosting (with_all c s c.timers acts)) (sym (left m)) (other_tasks c (with_all c s c.timers acts) m (f m.tasks) st (ap (λ x. numbered number x.tasks) after ∙ same ∙ ap f st.tasks) refl refl refl))
+      (λ m st. sleeps-stay c.timers c.timers m.sleeps _ (ap (λ x. x.sleeps) (left m)) (λ q. refl))
       refl refl (ap (λ x. x.turn) after) (ap (λ x. x.turns) after) refl refl
 
   -- a call on the sleeps alone
-  pub by_sleeps : (c : Parts O) (step : TurnStep) (reply : Reply) (acts : Record) (timers : Timers) (table : SleepTable) (f : Sleeps → Sleeps)
+  pub by_sleeps : (c : Parts O B) (step : TurnStep) (reply : Reply) (acts : Record) (timers : Timers) (table : SleepTable) (f : Sleeps → Sleeps)
       → acts ≡ noted c.acts step reply
-      → ((m : Machine) → Matches number c m → (step_outcome c.me step m).machine ≡ with_sleeps m (f m.sleeps))
-      → ((m : Machine) → Matches number c m → reply ≡ (step_outcome c.me step m).reply)
+      → ((m : Machine) → Matches number hosting c m → (step_outcome c.me step m).machine ≡ with_sleeps m (f m.sleeps))
+      → ((m : Machine) → Matches number hosting c m → reply ≡ (step_outcome c.me step m).reply)
       → sleeps_of timers ≡ table → Alike (sleeps_of c.timers) table → elapsed_tick timers ≡ elapsed_tick c.timers
       → ((m : Sleeps) → StandsForSleeps c.timers m → StandsForSleeps timers (f m))
       → (IsNoneArmedUpTo (sleeps_of c.timers) → IsNoneArmedUpTo table)
-      → Leads number c (with_all c c.tasks timers acts)
-  by_sleeps c step reply acts timers table f is left answer after alike gone stands rests =
-      by_act number c (with_all c c.tasks timers acts) step reply is answer
-      (λ m st. subst (Matches number (with_all c c.tasks timers acts)) (sym (left m st)) (other_timers c (with_all c c.tasks timers acts) m (f m.sleeps) st refl (stands m.sleeps st.sleeps) (gone_on c.timers timers table st.has_gone after alike gone) (subst IsNoneArmedUpTo (sym after) (rests st.no_due)) (ap (λ x. x.is_enabled) after ∙ alike.is_enabled) refl refl))
+      → ((m : Machine) → Matches number hosting c m → FollowsAct c.timers timers m.sleeps (f m.sleeps))
+      → Leads number hosting c (with_all c c.tasks timers acts)
+  by_sleeps c step reply acts timers table f is left answer after alike gone stands rests follows =
+      by_act number hosting c (with_all c c.tasks timers acts) step reply is answer
+      (λ m st. subst (Matches number hosting (with_all c c.tasks timers acts)) (sym (left m st)) (other_timers c (with_all c c.tasks timers acts) m (f m.sleeps) st refl (stands m.sleeps st.sleeps) (gone_on c.timers timers table st.has_gone after alike gone) (subst IsNoneArmedUpTo (sym after) (rests st.no_due)) (ap (λ x. x.is_enabled) after ∙ alike.is_enabled) refl refl))
+      (λ m st. subst (λ x. FollowsAct c.timers timers m.sleeps x.sleeps) (sym (left m st)) (follows m st))
       refl refl refl refl refl refl
 
   -- a call that was refused memory, or was not kept
-  abbrev pub with_memory : Parts O → Schedule O → Timers → Bool → Parts O
-  with_memory c tasks timers is_out = record { tasks = tasks; timers = timers; has_timers = c.has_timers; strategy = c.strategy; acts = c.acts; me = c.me; now = c.now; is_out_of_memory = is_out }
+  abbrev pub with_memory : Parts O B → Schedule O → Timers → Bool → Parts O B
+  with_memory c tasks timers is_out = record { tasks = tasks; timers = timers; has_timers = c.has_timers; blocking = c.blocking; acts = c.acts; me = c.me; now = c.now; is_out_of_memory = is_out }
 
-  pub same_machine : (c d : Parts O) (m : Machine) → d.tasks ≡ c.tasks → d.timers ≡ c.timers → d.has_timers ≡ c.has_timers → d.strategy ≡ c.strategy → Matches number c m → Matches number d m
-  same_machine c d m tasks timers has strategy st = record {
+  pub same_machine : (c d : Parts O B) (m : Machine) → d.tasks ≡ c.tasks → d.timers ≡ c.timers → d.has_timers ≡ c.has_timers → d.blocking ≡ c.blocking → Matches number hosting c m → Matches number hosting d m
+  same_machine c d m tasks timers has blocking st = record {
     tasks = ap (λ x. numbered number x.tasks) tasks ∙ st.tasks;
     sleeps = subst (λ t. StandsForSleeps t m.sleeps) (sym timers) st.sleeps;
     has_gone = subst (λ t. elapsed_tick t ≡ (sleeps_of t).greatest) (sym timers) st.has_gone;
     no_due = subst (λ t. IsNoneArmedUpTo (sleeps_of t)) (sym timers) st.no_due;
     enabled = ap (λ t. (sleeps_of t).is_enabled) timers ∙ st.enabled ∙ sym has;
     inbox = st.inbox;
-    strategy = strategy ∙ st.strategy;
+    jobs = ap (λ x. (hosting x).jobs) blocking ∙ st.jobs;
+    strategy = ap (λ x. (hosting x).strategy) blocking ∙ st.strategy;
   }
 
-  pub by_refusal : (c : Parts O) (s : Schedule O) → s ≡ c.tasks → Leads number c (with_memory c s c.timers true)
-  by_refusal c s is = by_nothing number c (with_memory c s c.timers true) refl (λ m st. same_machine c (with_memory c s c.timers true) m is refl refl refl st) refl refl (ap (λ x. x.turn) is) (ap (λ x. x.turns) is) refl (λ h. refl)
+  pub by_refusal : (c : Parts O B) (s : Schedule O) → s ≡ c.tasks → Leads number hosting c (with_memory c s c.timers true)
+  by_refusal c s is = by_nothing number hosting c (with_memory c s c.timers true) refl (λ m st. same_machine c (with_memory c s c.timers true) m is refl refl refl st) (λ q. refl) refl refl (ap (λ x. x.turn) is) (ap (λ x. x.turns) is) refl (λ h. refl)
 
   -- the table of sleeps stands for the machine's as before
-  pub by_no_sleep : (c : Parts O) (timers : Timers) (is_out : Bool) → sleeps_of timers ≡ sleeps_of c.timers → elapsed_tick timers ≡ elapsed_tick c.timers → ((m : Sleeps) → StandsForSleeps c.timers m → StandsForSleeps timers m)
-      → (c.is_out_of_memory ≡ true → is_out ≡ true) → Leads number c (with_memory c c.tasks timers is_out)
-  by_no_sleep c timers is_out same gone stands memory =
-      by_nothing number c (with_memory c c.tasks timers is_out) refl
-      (λ m st. record { tasks = st.tasks; sleeps = stands m.sleeps st.sleeps; has_gone = gone ∙ st.has_gone ∙ sym (ap (λ x. x.greatest) same); no_due = subst IsNoneArmedUpTo (sym same) st.no_due; enabled = ap (λ x. x.is_enabled) same ∙ st.enabled; inbox = st.inbox; strategy = st.strategy })
-      refl refl refl refl refl memory
+  pub by_no_sleep : (c : Parts O B) (timers : Timers) (is_out : Bool) → sleeps_of timers ≡ sleeps_of c.timers → elapsed_tick timers ≡ elapsed_tick c.timers → ((m : Sleeps) → StandsForSleeps c.timers m → StandsForSleeps timers m)
+      → ((s : ℕ) → registered_of timers s ≡ registered_of c.timers s) → (c.is_out_of_memory ≡ true → is_out ≡ true) → Leads number hosting c (with_memory c c.tasks timers is_out)
+  by_no_sleep c timers is_out same gone stands stays memory =
+      by_nothing number hosting c (with_memory c c.tasks timers is_out) refl
+      (λ m st. record { tasks = st.tasks; sleeps = stands m.sleeps st.sleeps; has_gone = gone ∙ st.has_gone ∙ sym (ap (λ x. x.greatest) same); no_due = subst IsNoneArmedUpTo (sym same) st.no_due; enabled = ap (λ x. x.is_enabled) same ∙ st.enabled; inbox = st.inbox; jobs = st.jobs; strategy = st.strategy })
+      stays refl refl refl refl refl memory
 
   -- a reset that found a live sleep
   module _ (m : Machine) (s now : ℕ) (waker : Option ℕ) where
@@ -128,16 +136,17 @@ module _ {O : Type 0} (number : O → ℕ) where
         live (λ value. woken_by_arming value m.sleeps (up now)) m (cond (nat_lt max_nanos now) (refused refusal.Invalid m) (resetting s now m)) (value_at m.sleeps.table s) waker (sym answer)
         ∙ ap (λ b. cond b (refused refusal.Invalid m) (resetting s now m)) (le-ltb max_nanos now below)
 
-    pub reset_left : (c d : Parts O) → Matches number c m → d.tasks ≡ schedule.with_tasks c.tasks (woken_if_any c.tasks.tasks waker) → StandsForSleeps d.timers (machine.reset m.sleeps s now) → elapsed_tick d.timers ≡ (sleeps_of d.timers).greatest → IsNoneArmedUpTo (sleeps_of d.timers) → (sleeps_of d.timers).is_enabled ≡ (sleeps_of c.timers).is_enabled → d.has_timers ≡ c.has_timers → d.strategy ≡ c.strategy
-        → Ok waker ≡ machine.reset_answer m.sleeps s now → Matches number d (resetting s now m).machine
-    reset_left c d st woken stands gone none enabled has strategy answer = record {
+    pub reset_left : (c d : Parts O B) → Matches number hosting c m → d.tasks ≡ schedule.with_tasks c.tasks (woken_if_any c.tasks.tasks waker) → StandsForSleeps d.timers (machine.reset m.sleeps s now) → elapsed_tick d.timers ≡ (sleeps_of d.timers).greatest → IsNoneArmedUpTo (sleeps_of d.timers) → (sleeps_of d.timers).is_enabled ≡ (sleeps_of c.timers).is_enabled → d.has_timers ≡ c.has_timers → d.blocking ≡ c.blocking
+        → Ok waker ≡ machine.reset_answer m.sleeps s now → Matches number hosting d (resetting s now m).machine
+    reset_left c d st woken stands gone none enabled has blocking answer = record {
       tasks = ap (λ x. numbered number x.tasks) woken ∙ numbered-woken_if_any number c.tasks.tasks waker ∙ ap (λ t. woken_if_any t waker) st.tasks ∙ ap (λ a. woken_if_any m.tasks (machine_waker a)) answer;
       sleeps = stands;
       has_gone = gone;
       no_due = none;
       enabled = enabled ∙ st.enabled ∙ sym has;
       inbox = st.inbox;
-      strategy = strategy ∙ st.strategy;
+      jobs = ap (λ x. (hosting x).jobs) blocking ∙ st.jobs;
+      strategy = ap (λ x. (hosting x).strategy) blocking ∙ st.strategy;
     }
       where
         machine_waker : Result (Option ℕ) Error → Option ℕ

@@ -18,9 +18,12 @@ use Rattle.mono_machine.specs.declared.events.End.TheVariants as end
 use Rattle.mono_machine.specs.declared.events.Report.TheVariants as report
 use Rattle.mono_machine.specs.declared.events.Reply.{Reply}
 use Rattle.mono_exec.proofs.Matching.{front_is}
+use Rattle.mono_time.specs.Timers.{registered_of}
+use Rattle.mono_exec.specs.Registered.{registered_by_steps, registered_by_turn}
 use Rattle.mono_rt.specs.Numbered.{numbered, end_of}
 use Rattle.mono_rt.specs.Record.{Record, no_acts}
-use Rattle.mono_rt.specs.Stands.{Matches}
+use Rattle.mono_jobs.specs.Spawning.{Seen}
+use Rattle.mono_rt.specs.Stands.{hosting_of, Matches}
 use Rattle.mono_rt.specs.Reached.{Leads, leads_itself, leads_on, Reaches}
 use Rattle.mono_rt.specs.Turns.{BeginsParts, EndsParts, Begins, Pauses, Completes, AfterPoll, Polls, UnlessSpent, Runs, Turn, IsTurnOf}
 use Rattle.mono_rt.specs.declared.parts.Parts.{Parts}
@@ -28,56 +31,63 @@ use Rattle.mono_rt.specs.declared.contexts.Cx.{Cx}
 use Rattle.mono_rt.proofs.Numbering.{numbered-begun, numbered-paused, numbered-completed, pause_answer-numbered, complete_answer-numbered}
 use Rattle.mono_rt.proofs.Calling.{other_tasks}
 
-module _ {O : Type 0} (number : O → ℕ) where
-  -- the front runs
-  pub begun_matches : (c d : Parts O) (t : ℕ) (now : Instant) (acts : Record) (m : Machine) (rest : List ℕ) → BeginsParts t now acts c d → m.tasks.queue ≡ t ∷ rest → Matches number c m → Matches number d (after_begin t rest m)
-  begun_matches c d t now acts m rest b queue st =
-      let mine : c.tasks.tasks.queue ≡ t ∷ rest = ap (λ x. x.queue) st.tasks ∙ queue in
-      let tasks : d.tasks.tasks ≡ begun c.tasks.tasks t rest = ap (λ x. x.tasks) b.tasks ∙ ap (λ q. (schedule.begun_by q c.tasks).tasks) mine in
-      other_tasks number c d m (begun m.tasks t rest) st (ap (numbered number) tasks ∙ numbered-begun number c.tasks.tasks t rest ∙ ap (λ x. begun x t rest) st.tasks) b.timers b.has_timers b.strategy
-
-  pub begun_turn : (c d : Parts O) (t : ℕ) (now : Instant) (acts : Record) → BeginsParts t now acts c d → d.tasks.turn ≡ Some t
-  begun_turn c d t now acts b =
-      let front = front_is c.tasks.tasks.queue t b.front in
-      ap (λ x. x.turn) b.tasks ∙ ap (λ q. (schedule.begun_by q c.tasks).turn) front.1
-
-  -- the turn ends
+-- how a turn ends, by the task that runs
+module _ {O : Type 0} where
   after_poll : (s : Schedule O) (me : ℕ) (answer : Poll O) → s.turn ≡ Some me → schedule.after_end s answer ≡ schedule.ended_by (Some me) s answer
   after_poll s me answer turn = ap (λ x. schedule.ended_by x s answer) turn
 
   told_poll : (s : Schedule O) (me : ℕ) (answer : Poll O) → s.turn ≡ Some me → schedule.end_answer s answer ≡ schedule.end_by (Some me) s answer
   told_poll s me answer turn = ap (λ x. schedule.end_by x s answer) turn
 
-  pub ended_matches : (answer : Poll O) (ended : Ended) (c d : Parts O) (me : ℕ) (m : Machine) → EndsParts answer ended c d → c.tasks.turn ≡ Some me → Matches number c m → Matches number d (after_end (end_of number answer) me m)
-  ended_matches Pending ended c d me m e turn st =
-      other_tasks number c d m (paused_value (value_at m.tasks.table me) m.tasks me) st
-      (ap (λ x. numbered number x.tasks) (e.tasks ∙ after_poll c.tasks me Pending turn) ∙ numbered-paused number c.tasks.tasks me ∙ ap (λ x. paused_value (value_at x.table me) x me) st.tasks) e.timers e.has_timers e.strategy
-  ended_matches (Ready output) ended c d me m e turn st =
-      other_tasks number c d m (completed_value (value_at m.tasks.table me) m.tasks me (number output)) st
-      (ap (λ x. numbered number x.tasks) (e.tasks ∙ after_poll c.tasks me (Ready output) turn) ∙ numbered-completed number c.tasks.tasks me output ∙ ap (λ x. completed_value (value_at x.table me) x me (number output)) st.tasks) e.timers e.has_timers e.strategy
+module _ {O P : Type 0} (number : O → ℕ) where
+  -- the front runs
+  pub begun_matches : (c d : Parts O (Seen P)) (t : ℕ) (now : Instant) (acts : Record) (m : Machine) (rest : List ℕ) → BeginsParts t now acts c d → m.tasks.queue ≡ t ∷ rest → Matches number hosting_of c m → Matches number hosting_of d (after_begin t rest m)
+  begun_matches c d t now acts m rest b queue st =
+      let mine : c.tasks.tasks.queue ≡ t ∷ rest = ap (λ x. x.queue) st.tasks ∙ queue in
+      let tasks : d.tasks.tasks ≡ begun c.tasks.tasks t rest = ap (λ x. x.tasks) b.tasks ∙ ap (λ q. (schedule.begun_by q c.tasks).tasks) mine in
+      other_tasks number hosting_of c d m (begun m.tasks t rest) st (ap (numbered number) tasks ∙ numbered-begun number c.tasks.tasks t rest ∙ ap (λ x. begun x t rest) st.tasks) b.timers b.has_timers b.blocking
 
-  pub ended_told : (answer : Poll O) (ended : Ended) (c d : Parts O) (me : ℕ) (m : Machine) → EndsParts answer ended c d → c.tasks.turn ≡ Some me → Matches number c m → ended ≡ end_answer (end_of number answer) me m
+  pub begun_turn : (c d : Parts O (Seen P)) (t : ℕ) (now : Instant) (acts : Record) → BeginsParts t now acts c d → d.tasks.turn ≡ Some t
+  begun_turn c d t now acts b =
+      let front = front_is c.tasks.tasks.queue t b.front in
+      ap (λ x. x.turn) b.tasks ∙ ap (λ q. (schedule.begun_by q c.tasks).turn) front.1
+
+  -- the turn ends
+  pub ended_matches : (answer : Poll O) (ended : Ended) (c d : Parts O (Seen P)) (me : ℕ) (m : Machine) → EndsParts answer ended c d → c.tasks.turn ≡ Some me → Matches number hosting_of c m → Matches number hosting_of d (after_end (end_of number answer) me m)
+  ended_matches Pending ended c d me m e turn st =
+      other_tasks number hosting_of c d m (paused_value (value_at m.tasks.table me) m.tasks me) st
+      (ap (λ x. numbered number x.tasks) (e.tasks ∙ after_poll c.tasks me Pending turn) ∙ numbered-paused number c.tasks.tasks me ∙ ap (λ x. paused_value (value_at x.table me) x me) st.tasks) e.timers e.has_timers e.blocking
+  ended_matches (Ready output) ended c d me m e turn st =
+      other_tasks number hosting_of c d m (completed_value (value_at m.tasks.table me) m.tasks me (number output)) st
+      (ap (λ x. numbered number x.tasks) (e.tasks ∙ after_poll c.tasks me (Ready output) turn) ∙ numbered-completed number c.tasks.tasks me output ∙ ap (λ x. completed_value (value_at x.table me) x me (number output)) st.tasks) e.timers e.has_timers e.blocking
+
+  pub ended_told : (answer : Poll O) (ended : Ended) (c d : Parts O (Seen P)) (me : ℕ) (m : Machine) → EndsParts answer ended c d → c.tasks.turn ≡ Some me → Matches number hosting_of c m → ended ≡ end_answer (end_of number answer) me m
   ended_told Pending ended c d me m e turn st = e.told ∙ told_poll c.tasks me Pending turn ∙ sym (pause_answer-numbered number c.tasks.tasks me) ∙ ap (λ x. pause_answer (value_at x.table me)) st.tasks
   ended_told (Ready output) ended c d me m e turn st = e.told ∙ told_poll c.tasks me (Ready output) turn ∙ sym (complete_answer-numbered number c.tasks.tasks me) ∙ ap (λ x. complete_answer (value_at x.table me)) st.tasks
 
-  pub ended_turn : (answer : Poll O) (ended : Ended) (c d : Parts O) (me : ℕ) → EndsParts answer ended c d → c.tasks.turn ≡ Some me → d.tasks.turn ≡ None
+  pub ended_turn : (answer : Poll O) (ended : Ended) (c d : Parts O (Seen P)) (me : ℕ) → EndsParts answer ended c d → c.tasks.turn ≡ Some me → d.tasks.turn ≡ None
   ended_turn answer ended c d me e turn = ap (λ x. x.turn) (e.tasks ∙ after_poll c.tasks me answer turn)
 
   -- a turn that began, went on by acts, and ended
-  pub is_turn : (c b x d : Parts O) (t : ℕ) (now : Instant) (answer : Poll O) (ended : Ended) (m : Machine) → BeginsParts t now no_acts c b → Leads number b x → EndsParts answer ended x d → Matches number c m → IsTurnOf number t (end_of number answer) ended c d m
+  pub is_turn : (c b x d : Parts O (Seen P)) (t : ℕ) (now : Instant) (answer : Poll O) (ended : Ended) (m : Machine) → BeginsParts t now no_acts c b → Leads number hosting_of b x → EndsParts answer ended x d → Matches number hosting_of c m → IsTurnOf number t (end_of number answer) ended c d m
   is_turn c b x d t now answer ended m begins leads ends st =
       let front = front_is c.tasks.tasks.queue t begins.front in
       let rest = front.0 in
       let queue : m.tasks.queue ≡ t ∷ rest = sym (ap (λ y. y.queue) st.tasks) ∙ front.1 in
-      let begun : Matches number b (after_begin t rest m) = begun_matches c b t now no_acts m rest begins queue st in
+      let begun : Matches number hosting_of b (after_begin t rest m) = begun_matches c b t now no_acts m rest begins queue st in
       let turn : x.tasks.turn ≡ Some t = leads.same_turn ∙ begun_turn c b t now no_acts begins in
       let steps = leads.steps in
-      let mid : Matches number x (after_steps t steps (after_begin t rest m)) = subst (λ me. Matches number x (after_steps me steps (after_begin t rest m))) begins.me (leads.leads (after_begin t rest m) begun) in
+      let mid : Matches number hosting_of x (after_steps t steps (after_begin t rest m)) = subst (λ me. Matches number hosting_of x (after_steps me steps (after_begin t rest m))) begins.me (leads.leads (after_begin t rest m) begun) in
       let e = end_of number answer in
-      let left : Matches number d (after_end e t (after_steps t steps (after_begin t rest m))) = ended_matches answer ended x d t _ ends turn mid in
+      let left : Matches number hosting_of d (after_end e t (after_steps t steps (after_begin t rest m))) = ended_matches answer ended x d t _ ends turn mid in
       record {
         steps = steps;
-        matches = subst (λ q. Matches number d (after_turn_for q steps e m)) (sym queue) left;
+        matches = subst (λ q. Matches number hosting_of d (after_turn_for q steps e m)) (sym queue) left;
+        registered = λ s.
+            ap (λ ts. registered_of ts s) ends.timers ∙ leads.registered (after_begin t rest m) begun s
+            ∙ ap (λ me. registered_by_steps me steps (after_begin t rest m) s (registered_of b.timers s)) begins.me
+            ∙ ap (λ ts. registered_by_steps t steps (after_begin t rest m) s (registered_of ts s)) begins.timers
+            ∙ sym (ap (λ q. registered_by_turn q steps m s (registered_of c.timers s)) queue);
         kept = λ unfull.
             let open_x : x.acts.is_full ≡ false = sym (ap (λ y. y.is_full) ends.acts) ∙ unfull in
             let kept = leads.kept open_x in
@@ -90,20 +100,20 @@ module _ {O : Type 0} (number : O → ℕ) where
       }
 
 module _ {F O P U J A V : Type 0} (number : O → ℕ) (future : FutureOf F (Cx F O P U J A V) O) where
-  by_rest : (c b x d : Cx F O P U J A V) (t : ℕ) (now : Instant) (answer : Poll O) (g : F) (ended : Ended) (m : Machine) → BeginsParts t now no_acts c.parts b.parts → Reaches number b x → AfterPoll number future answer t g ended x d → Matches number c.parts m
+  by_rest : (c b x d : Cx F O P U J A V) (t : ℕ) (now : Instant) (answer : Poll O) (g : F) (ended : Ended) (m : Machine) → BeginsParts t now no_acts c.parts b.parts → Reaches number b x → AfterPoll number future answer t g ended x d → Matches number hosting_of c.parts m
       → IsTurnOf number t (end_of number answer) ended c.parts d.parts m
   by_rest c b x d t now Pending g ended m begins reached rest st = is_turn number c.parts b.parts x.parts d.parts t now Pending ended m begins reached.parts rest.parts st
   by_rest c b x d t now (Ready output) g ended m begins reached (e, cancels, on, completes) st =
-      is_turn number c.parts b.parts e.parts d.parts t now (Ready output) ended m begins (leads_on number b.parts x.parts e.parts reached.parts on.parts) completes.parts st
+      is_turn number c.parts b.parts e.parts d.parts t now (Ready output) ended m begins (leads_on number hosting_of b.parts x.parts e.parts reached.parts on.parts) completes.parts st
 
-  by_pause : (c b d : Cx F O P U J A V) (t : ℕ) (now : Instant) (f : Option F) (e : End) (ended : Ended) (m : Machine) → BeginsParts t now no_acts c.parts b.parts → e ≡ end.Pending → Pauses t f ended b d → Matches number c.parts m → IsTurnOf number t e ended c.parts d.parts m
-  by_pause c b d t now f e ended m begins is pauses st = subst (λ x. IsTurnOf number t x ended c.parts d.parts m) (sym is) (is_turn number c.parts b.parts b.parts d.parts t now Pending ended m begins (leads_itself number b.parts) pauses.parts st)
+  by_pause : (c b d : Cx F O P U J A V) (t : ℕ) (now : Instant) (f : Option F) (e : End) (ended : Ended) (m : Machine) → BeginsParts t now no_acts c.parts b.parts → e ≡ end.Pending → Pauses t f ended b d → Matches number hosting_of c.parts m → IsTurnOf number t e ended c.parts d.parts m
+  by_pause c b d t now f e ended m begins is pauses st = subst (λ x. IsTurnOf number t x ended c.parts d.parts m) (sym is) (is_turn number c.parts b.parts b.parts d.parts t now Pending ended m begins (leads_itself number hosting_of b.parts) pauses.parts st)
 
-  by_spent : (s : Bool) (c b d : Cx F O P U J A V) (t : ℕ) (now : Instant) (f : F) (e : End) (ended : Ended) (m : Machine) → BeginsParts t now no_acts c.parts b.parts → UnlessSpent number future s t f e ended b d → Matches number c.parts m → IsTurnOf number t e ended c.parts d.parts m
+  by_spent : (s : Bool) (c b d : Cx F O P U J A V) (t : ℕ) (now : Instant) (f : F) (e : End) (ended : Ended) (m : Machine) → BeginsParts t now no_acts c.parts b.parts → UnlessSpent number future s t f e ended b d → Matches number hosting_of c.parts m → IsTurnOf number t e ended c.parts d.parts m
   by_spent true c b d t now f e ended m begins runs st = by_pause c b d t now (Some f) e ended m begins runs.0 runs.1 st
   by_spent false c b d t now f e ended m begins runs st = subst (λ x. IsTurnOf number t x ended c.parts d.parts m) (sym runs.is_end) (by_rest c b runs.middle d t now runs.answer runs.left ended m begins runs.reached runs.rest st)
 
-  pub turn_is : (f : Option F) (c b d : Cx F O P U J A V) (t : ℕ) (now : Instant) (e : End) (ended : Ended) (m : Machine) → BeginsParts t now no_acts c.parts b.parts → Runs number future f t e ended b d → Matches number c.parts m → IsTurnOf number t e ended c.parts d.parts m
+  pub turn_is : (f : Option F) (c b d : Cx F O P U J A V) (t : ℕ) (now : Instant) (e : End) (ended : Ended) (m : Machine) → BeginsParts t now no_acts c.parts b.parts → Runs number future f t e ended b d → Matches number hosting_of c.parts m → IsTurnOf number t e ended c.parts d.parts m
   turn_is None c b d t now e ended m begins runs st = by_pause c b d t now None e ended m begins runs.0 runs.1 st
   turn_is (Some f) c b d t now e ended m begins runs st = by_spent (future.is_spent f) c b d t now f e ended m begins runs st
 

@@ -14,7 +14,8 @@ use Rattle.mono_time.specs.Stands.{seen}
 use Rattle.mono_time.specs.Timers.{sleeps_of}
 use Rattle.mono_machine.specs.Machine.{Machine}
 use Rattle.mono_rt.specs.Rounds.{IsOneArmed, WaitsUntil}
-use Rattle.mono_rt.specs.Stands.{Matches}
+use Rattle.mono_jobs.specs.Spawning.{Seen}
+use Rattle.mono_rt.specs.Stands.{hosting_of, Matches}
 use Rattle.mono_rt.specs.declared.parts.Parts.{Parts}
 
 armed_by : (v : Option model.Sleep) (tick : ℕ) (waker : Option ℕ) → option_map seen v ≡ Some (kept.armed tick waker) → (a : Arming) × (v ≡ Some (model.armed a))
@@ -23,15 +24,15 @@ armed_by (Some (model.fresh n)) tick waker is = absurd (cc)
 armed_by (Some (model.armed a)) tick waker is = (a, refl)
 armed_by (Some model.elapsed) tick waker is = absurd (cc)
 
-module _ {O : Type 0} (number : O → ℕ) where
+module _ {O P : Type 0} (number : O → ℕ) where
   -- what the table of sleeps has at a number
-  value_seen : (c : Parts O) (m : Machine) → Matches number c m → (s : ℕ) → value_at (sleeps_of c.timers).table s ≡ option_map seen (value_at m.sleeps.table s)
+  value_seen : (c : Parts O (Seen P)) (m : Machine) → Matches number hosting_of c m → (s : ℕ) → value_at (sleeps_of c.timers).table s ≡ option_map seen (value_at m.sleeps.table s)
   value_seen c m st s = ap (λ xs. value_at xs s) (sym st.sleeps.table) ∙ get_or-map (option_map seen) m.sleeps.table s None
 
-  pub waits_none : (c : Parts O) (m : Machine) (reached : ℕ) (registered : ℕ → Option ℕ) → Matches number c m → NextExpiration reached registered (sleeps_of c.timers) None → IsOneArmed m → ⊥
+  pub waits_none : (c : Parts O (Seen P)) (m : Machine) (reached : ℕ) (registered : ℕ → Option ℕ) → Matches number hosting_of c m → NextExpiration reached registered (sleeps_of c.timers) None → IsOneArmed m → ⊥
   waits_none c m reached registered st none one = none one.0 one.1.0.tick one.1.0.waker (value_seen c m st one.0 ∙ ap (option_map seen) one.1.1)
 
-  pub waits_until : (c : Parts O) (m : Machine) (now until v : ℕ) → Matches number c m
+  pub waits_until : (c : Parts O (Seen P)) (m : Machine) (now until v : ℕ) → Matches number hosting_of c m
       → ((sleeps_of c.timers).greatest < until) × ((s tick : ℕ) (waker : Option ℕ) → value_at (sleeps_of c.timers).table s ≡ Some (kept.armed tick waker) → until ≤ tick)
       → kept.IsOneArmed (sleeps_of c.timers) → v ≡ until - down now → WaitsUntil m now v
   waits_until c m now until v st ahead one is =

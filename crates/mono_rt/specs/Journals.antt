@@ -1,10 +1,15 @@
 -- What a journal says of the machine.
-use Rattle.std.specs.Prelude.{◌≡◌, ◌≤◌, ◌⊎◌, ℕ, suc, zero, Bool, false, List, [], ◌∷◌, ◌++◌, ◌+◌, length, vec_capacity, if◌then◌else◌, Option}
+use Rattle.std.specs.Prelude.{◌≡◌, ◌≤◌, ◌⊎◌, ℕ, suc, zero, Bool, false, List, [], ◌∷◌, ◌++◌, ◌+◌, ◌-◌, length, vec_capacity, if◌then◌else◌, Option, Some, None}
+use Rattle.mono_model.specs.Ticks.{down}
+use Rattle.mono_time.specs.Registered.{FirstSlot}
+use Rattle.mono_time.specs.Timers.{registered_of}
+use Rattle.mono_exec.specs.Registered.{registered_after}
 use Rattle.mono_machine.specs.Machine.{Machine}
 use Rattle.mono_machine.specs.Steps.{Step}
 use Rattle.mono_machine.specs.declared.events.Event.{Event}
 use Rattle.mono_machine.specs.declared.events.Report.{Report}
-use Rattle.mono_rt.specs.Stands.{Matches}
+use Rattle.mono_jobs.specs.Spawning.{Seen}
+use Rattle.mono_rt.specs.Stands.{hosting_of, Matches}
 use Rattle.mono_rt.specs.declared.parts.Parts.{Parts}
 use Rattle.mono_rt.specs.declared.journals.Entry.{Entry}
 use Rattle.mono_rt.specs.declared.journals.Entry.TheVariants.{Ran, Now, Park}
@@ -30,28 +35,45 @@ Follows old (Ran event report ∷ part) new = (mid : Machine) × Step old event 
 Follows old (Now n ∷ part) new = Follows old part new
 Follows old (Park v ∷ part) new = Follows old part new
 
+-- The driver is parked, from the last reading of the clock, until the next tick at which the wheel has something to do: the
+-- least start of a slot over the registered ticks, less the reading in whole milliseconds, at least 0.
+abbrev pub WaitsForNext : Machine → (ℕ → Option ℕ) → Option ℕ → ℕ → Type 0
+WaitsForNext m ticks None v = ⊥
+WaitsForNext m ticks (Some now) v = (next : ℕ) × (FirstSlot m.sleeps.greatest ticks next × (v ≡ next - down now))
+
+-- The same entries lead the ticks on at which the sleeps are registered, as the wheel's model says of each event, and each
+-- park with an end is exactly until the next expiration over the ticks that then are. The clock was last read so.
+abbrev pub Registers : Option ℕ → Machine → (ℕ → Option ℕ) → List Entry → Machine → (ℕ → Option ℕ) → Type 0
+Registers reading old ticks [] new left = (new ≡ old) × ((s : ℕ) → left s ≡ ticks s)
+Registers reading old ticks (Ran event report ∷ part) new left = (mid : Machine) × Step old event report mid × Registers reading mid (λ s. registered_after event old s (ticks s)) part new left
+Registers reading old ticks (Now n ∷ part) new left = Registers (Some n) old ticks part new left
+Registers reading old ticks (Park None ∷ part) new left = Registers reading old ticks part new left
+Registers reading old ticks (Park (Some v) ∷ part) new left = WaitsForNext old ticks reading v × Registers reading old ticks part new left
+
 -- From each machine for which the parts stood, what the journal grew by is a run to one for which they stand, unless the
--- journal is full.
-pub record Went {O : Type 0} (number : O → ℕ) (c d : Parts O) (j k : Journal) (old : Machine) : Type 0 where
+-- journal is full. From the ticks at which the sleeps were registered before it leads to those at which they are now, and
+-- each park is until the next expiration.
+pub record Went {O P : Type 0} (number : O → ℕ) (c d : Parts O (Seen P)) (j k : Journal) (old : Machine) : Type 0 where
   pub part : List Entry
   pub new : Machine
   pub grew : k.entries.items ≡ j.entries.items ++ part
   pub follows : Follows old part new
-  pub matches : Matches number d new
+  pub registers : Registers None old (registered_of c.timers) part new (registered_of d.timers)
+  pub matches : Matches number hosting_of d new
 
-pub record Goes {O : Type 0} (number : O → ℕ) (c d : Parts O) (j k : Journal) : Type 0 where
+pub record Goes {O P : Type 0} (number : O → ℕ) (c d : Parts O (Seen P)) (j k : Journal) : Type 0 where
   pub opens : k.is_full ≡ false → j.is_full ≡ false
-  pub went : (old : Machine) → Matches number c old → k.is_full ≡ false → Went number c d j k old
+  pub went : (old : Machine) → Matches number hosting_of c old → k.is_full ≡ false → Went number c d j k old
 
 -- The same, and what was done stands in a relation: from the machine before with the part and any entries after it, to the
 -- machine after with these.
-pub record Did {O : Type 0} (number : O → ℕ) (R : Machine → List Entry → Machine → List Entry → Type 0) (c d : Parts O) (j k : Journal) (old : Machine) : Type 0 where
+pub record Did {O P : Type 0} (number : O → ℕ) (R : Machine → List Entry → Machine → List Entry → Type 0) (c d : Parts O (Seen P)) (j k : Journal) (old : Machine) : Type 0 where
   pub went : Went number c d j k old
   pub is : (rest : List Entry) → R old (went.part ++ rest) went.new rest
 
-pub record Does {O : Type 0} (number : O → ℕ) (R : Machine → List Entry → Machine → List Entry → Type 0) (c d : Parts O) (j k : Journal) : Type 0 where
+pub record Does {O P : Type 0} (number : O → ℕ) (R : Machine → List Entry → Machine → List Entry → Type 0) (c d : Parts O (Seen P)) (j k : Journal) : Type 0 where
   pub opens : k.is_full ≡ false → j.is_full ≡ false
-  pub did : (old : Machine) → Matches number c old → k.is_full ≡ false → Did number R c d j k old
+  pub did : (old : Machine) → Matches number hosting_of c old → k.is_full ≡ false → Did number R c d j k old
 
 -- some entries, by which the machine was led on
 abbrev pub Led : Machine → List Entry → Machine → List Entry → Type 0

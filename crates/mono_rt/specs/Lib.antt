@@ -9,3 +9,4 @@ pub mod Drains
 pub mod Rounds
 pub mod Texts
 pub mod Spawns
+pub mod JobActs

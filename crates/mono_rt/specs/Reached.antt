@@ -10,16 +10,20 @@ use Rattle.mono_rt.specs.Record.{Record, room, noted, filled, with_act}
 use Rattle.mono_machine.specs.Machine.{Machine}
 use Rattle.mono_machine.specs.Turns.{replies_of, after_steps}
 use Rattle.mono_machine.specs.declared.events.TurnStep.{TurnStep}
-use Rattle.mono_rt.specs.Stands.{Matches}
+use Rattle.mono_time.specs.Timers.{registered_of}
+use Rattle.mono_exec.specs.Registered.{registered_by_steps, registered_by_act, FollowsAct}
+use Rattle.mono_rt.specs.Stands.{Hosting, hosting_of, Matches}
 use Rattle.mono_rt.specs.declared.parts.Parts.{Parts}
 
 -- A list of acts leads each machine for which the parts stood to one for which they stand. While the record of the turn is
--- not full, it grew by these acts and by the machine's replies to them.
-pub record Leads {O : Type 0} (number : O → ℕ) (c d : Parts O) : Type 0 where
+-- not full, it grew by these acts and by the machine's replies to them. Where the sleeps are registered in the wheel
+-- follows the acts.
+pub record Leads {O B : Type 0} (number : O → ℕ) (hosting : B → Hosting) (c d : Parts O B) : Type 0 where
   pub steps : List TurnStep
-  pub leads : (m : Machine) → Matches number c m → Matches number d (after_steps c.me steps m)
+  pub leads : (m : Machine) → Matches number hosting c m → Matches number hosting d (after_steps c.me steps m)
+  pub registered : (m : Machine) → Matches number hosting c m → (s : ℕ) → registered_of d.timers s ≡ registered_by_steps c.me steps m s (registered_of c.timers s)
   pub kept : d.acts.is_full ≡ false → (c.acts.is_full ≡ false) × (d.acts.steps ≡ c.acts.steps ++ steps)
-  pub answers : (m : Machine) → Matches number c m → d.acts.is_full ≡ false → d.acts.replies ≡ c.acts.replies ++ replies_of c.me steps m
+  pub answers : (m : Machine) → Matches number hosting c m → d.acts.is_full ≡ false → d.acts.replies ≡ c.acts.replies ++ replies_of c.me steps m
   pub same_me : d.me ≡ c.me
   pub same_now : d.now ≡ c.now
   pub same_turn : d.tasks.turn ≡ c.tasks.turn
@@ -35,6 +39,10 @@ pub replies_of-append : (me : ℕ) (xs ys : List TurnStep) (m : Machine) → rep
 replies_of-append me [] ys m = refl
 replies_of-append me (x ∷ xs) ys m = ap (λ rs. (step_outcome me x m).reply ∷ rs) (replies_of-append me xs ys (step_outcome me x m).machine)
 
+pub registered-append : (me : ℕ) (xs ys : List TurnStep) (m : Machine) (s : ℕ) (r : Option ℕ) → registered_by_steps me (xs ++ ys) m s r ≡ registered_by_steps me ys (after_steps me xs m) s (registered_by_steps me xs m s r)
+registered-append me [] ys m s r = refl
+registered-append me (x ∷ xs) ys m s r = registered-append me xs ys (step_outcome me x m).machine s (registered_by_act m.sleeps (step_outcome me x m).machine.sleeps s r)
+
 -- an act that did not fill the record is its last
 true-false : true ≡ false → ⊥
 true-false e = cc
@@ -49,11 +57,12 @@ pub unfilled : (acts : Record) (step : TurnStep) (reply : Reply) → (noted acts
     → (acts.is_full ≡ false) × ((noted acts step reply).steps ≡ acts.steps ++ step ∷ []) × ((noted acts step reply).replies ≡ acts.replies ++ reply ∷ [])
 unfilled acts step reply left = unfilled_by acts.is_full _ acts step reply refl refl left
 
-module _ {O : Type 0} (number : O → ℕ) where
-  pub leads_itself : (c : Parts O) → Leads number c c
+module _ {O B : Type 0} (number : O → ℕ) (hosting : B → Hosting) where
+  pub leads_itself : (c : Parts O B) → Leads number hosting c c
   leads_itself c = record {
     steps = [];
     leads = λ m st. st;
+    registered = λ m st s. refl;
     kept = λ left. (left, sym (append-nil c.acts.steps));
     answers = λ m st left. sym (append-nil c.acts.replies);
     same_me = refl;
@@ -64,10 +73,14 @@ module _ {O : Type 0} (number : O → ℕ) where
     memory = λ h. h;
   }
 
-  pub leads_on : (a b c : Parts O) → Leads number a b → Leads number b c → Leads number a c
+  pub leads_on : (a b c : Parts O B) → Leads number hosting a b → Leads number hosting b c → Leads number hosting a c
   leads_on a b c p q = record {
     steps = p.steps ++ q.steps;
-    leads = λ m st. subst (Matches number c) (ap (λ me. after_steps me q.steps (after_steps a.me p.steps m)) p.same_me ∙ sym (after_steps-append a.me p.steps q.steps m)) (q.leads (after_steps a.me p.steps m) (p.leads m st));
+    leads = λ m st. subst (Matches number hosting c) (ap (λ me. after_steps me q.steps (after_steps a.me p.steps m)) p.same_me ∙ sym (after_steps-append a.me p.steps q.steps m)) (q.leads (after_steps a.me p.steps m) (p.leads m st));
+    registered = λ m st s.
+        let mid : Machine = after_steps a.me p.steps m in
+        q.registered mid (p.leads m st) s ∙ ap (λ me. registered_by_steps me q.steps mid s (registered_of b.timers s)) p.same_me
+        ∙ ap (registered_by_steps a.me q.steps mid s) (p.registered m st s) ∙ sym (registered-append a.me p.steps q.steps m s (registered_of a.timers s));
     kept = λ left. ((p.kept (q.kept left).0).0, (q.kept left).1 ∙ ap (λ xs. xs ++ q.steps) (p.kept (q.kept left).0).1 ∙ append_assoc a.acts.steps p.steps q.steps);
     answers = λ m st left.
         let mid : Machine = after_steps a.me p.steps m in
@@ -86,13 +99,15 @@ module _ {O : Type 0} (number : O → ℕ) where
   }
 
   -- one act
-  pub by_act : (c d : Parts O) (step : TurnStep) (reply : Reply) → d.acts ≡ noted c.acts step reply
-      → ((m : Machine) → Matches number c m → reply ≡ (step_outcome c.me step m).reply)
-      → ((m : Machine) → Matches number c m → Matches number d (step_outcome c.me step m).machine)
-      → d.me ≡ c.me → d.now ≡ c.now → d.tasks.turn ≡ c.tasks.turn → d.tasks.turns ≡ c.tasks.turns → d.has_timers ≡ c.has_timers → d.is_out_of_memory ≡ c.is_out_of_memory → Leads number c d
-  by_act c d step reply is answer left me now turn turns timers memory = record {
+  pub by_act : (c d : Parts O B) (step : TurnStep) (reply : Reply) → d.acts ≡ noted c.acts step reply
+      → ((m : Machine) → Matches number hosting c m → reply ≡ (step_outcome c.me step m).reply)
+      → ((m : Machine) → Matches number hosting c m → Matches number hosting d (step_outcome c.me step m).machine)
+      → ((m : Machine) → Matches number hosting c m → FollowsAct c.timers d.timers m.sleeps (step_outcome c.me step m).machine.sleeps)
+      → d.me ≡ c.me → d.now ≡ c.now → d.tasks.turn ≡ c.tasks.turn → d.tasks.turns ≡ c.tasks.turns → d.has_timers ≡ c.has_timers → d.is_out_of_memory ≡ c.is_out_of_memory → Leads number hosting c d
+  by_act c d step reply is answer left follows me now turn turns timers memory = record {
     steps = step ∷ [];
     leads = left;
+    registered = follows;
     kept = λ unfull. ((unfilled c.acts step reply (sym (ap (λ x. x.is_full) is) ∙ unfull)).0, ap (λ x. x.steps) is ∙ (unfilled c.acts step reply (sym (ap (λ x. x.is_full) is) ∙ unfull)).1);
     answers = λ m st unfull. ap (λ x. x.replies) is ∙ (unfilled c.acts step reply (sym (ap (λ x. x.is_full) is) ∙ unfull)).2 ∙ ap (λ r. c.acts.replies ++ r ∷ []) (answer m st);
     same_me = me;
@@ -104,11 +119,12 @@ module _ {O : Type 0} (number : O → ℕ) where
   }
 
   -- a call that changed nothing of the machine and was not kept
-  pub by_nothing : (c d : Parts O) → d.acts ≡ c.acts → ((m : Machine) → Matches number c m → Matches number d m)
-      → d.me ≡ c.me → d.now ≡ c.now → d.tasks.turn ≡ c.tasks.turn → d.tasks.turns ≡ c.tasks.turns → d.has_timers ≡ c.has_timers → (c.is_out_of_memory ≡ true → d.is_out_of_memory ≡ true) → Leads number c d
-  by_nothing c d is left me now turn turns timers memory = record {
+  pub by_nothing : (c d : Parts O B) → d.acts ≡ c.acts → ((m : Machine) → Matches number hosting c m → Matches number hosting d m) → ((s : ℕ) → registered_of d.timers s ≡ registered_of c.timers s)
+      → d.me ≡ c.me → d.now ≡ c.now → d.tasks.turn ≡ c.tasks.turn → d.tasks.turns ≡ c.tasks.turns → d.has_timers ≡ c.has_timers → (c.is_out_of_memory ≡ true → d.is_out_of_memory ≡ true) → Leads number hosting c d
+  by_nothing c d is left stays me now turn turns timers memory = record {
     steps = [];
     leads = left;
+    registered = λ m st. stays;
     kept = λ unfull. (sym (ap (λ x. x.is_full) is) ∙ unfull, ap (λ x. x.steps) is ∙ sym (append-nil c.acts.steps));
     answers = λ m st unfull. ap (λ x. x.replies) is ∙ sym (append-nil c.acts.replies);
     same_me = me;
@@ -130,24 +146,24 @@ HasPlace c = (vec_len c.futures < vec_capacity c.futures) × (vec_len c.wakers <
 module _ {F O P U J A V : Type 0} (number : O → ℕ) where
   -- calls of the running task lead from the one context to the other
   pub record Reaches (c d : Cx F O P U J A V) : Type 0 where
-    pub parts : Leads number c.parts d.parts
+    pub parts : Leads number hosting_of c.parts d.parts
     pub keeps : KeepsFutures c.futures.items d.futures.items
     pub grows : length c.futures.items ≤ length d.futures.items
     pub same_waker : d.waker ≡ c.waker
 
   pub reaches_itself : (c : Cx F O P U J A V) → Reaches c c
-  reaches_itself c = record { parts = leads_itself number c.parts; keeps = λ t f h. h; grows = le_refl _; same_waker = refl }
+  reaches_itself c = record { parts = leads_itself number hosting_of c.parts; keeps = λ t f h. h; grows = le_refl _; same_waker = refl }
 
   pub reaches_on : (a b c : Cx F O P U J A V) → Reaches a b → Reaches b c → Reaches a c
   reaches_on a b c p q = record {
-    parts = leads_on number a.parts b.parts c.parts p.parts q.parts;
+    parts = leads_on number hosting_of a.parts b.parts c.parts p.parts q.parts;
     keeps = λ t f h. q.keeps t f (p.keeps t f h);
     grows = omega (arith, p.grows, q.grows);
     same_waker = q.same_waker ∙ p.same_waker;
   }
 
   -- a call on the parts alone
-  pub by_parts : (c d : Cx F O P U J A V) → Leads number c.parts d.parts → d.futures.items ≡ c.futures.items → d.waker ≡ c.waker → Reaches c d
+  pub by_parts : (c d : Cx F O P U J A V) → Leads number hosting_of c.parts d.parts → d.futures.items ≡ c.futures.items → d.waker ≡ c.waker → Reaches c d
   by_parts c d parts same waker = record {
     parts = parts;
     keeps = λ t f h. ap (λ v. value_at v t) same ∙ h;

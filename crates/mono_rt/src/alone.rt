@@ -1,8 +1,9 @@
 // A whole run of a runtime of its own.
-ghost use Rattle.std.specs.Prelude.{◌≡◌, IfOk, true, false, []};
+ghost use Rattle.std.specs.Prelude.{◌≡◌, ℕ, IfOk, Option, None, true, false, []};
 ghost use Rattle.mono_machine.specs.Machine.{Machine, start_machine};
 ghost use Rattle.mono_machine.specs.Steps.{Run};
-ghost use Rattle.mono_rt.specs.Journals.{events_in, reports_in};
+ghost use Rattle.mono_jobs.specs.Spawning.{strategy_of};
+ghost use Rattle.mono_rt.specs.Journals.{events_in, reports_in, Registers};
 ghost use Rattle.mono_rt.specs.Numbered.{answer_numbered};
 ghost use Rattle.mono_rt.specs.Rounds.{Blocked};
 
@@ -12,7 +13,7 @@ use crate::journals::Journal;
 use crate::runtimes::Runtime;
 use mono_blocking::{BlockingHandle, ThreadPool};
 use mono_driver::Driver;
-use mono_exec::{Blocking, Limits};
+use mono_exec::Limits;
 use mono_joinword::Outcome;
 use mono_model::Host;
 use mono_task::TaskFuture;
@@ -21,14 +22,13 @@ use std::alloc::{AllocError, Global};
 
 /// Runs a main task on a new runtime, and answers the journal beside the answer.
 ///
-/// The journal is what `Blocked` tells of the answer, from the machine's start, but where it is full (`blocked`). So what it says was done is a run of the plain machine from its start (`run`).
+/// The journal is what `Blocked` tells of the answer, from the machine's start, but where it is full (`blocked`). So what it says was done is a run of the plain machine from its start (`run`). Each park is until the next expiration over the registered ticks, of which there are none at the start (`parks`).
 pub fn run_alone<F, O, D, P, R: Host>(
     rt: &R,
     alloc: Global,
     driver: D,
     pool: BlockingHandle<P>,
     limits: Limits,
-    strategy: Blocking,
     start: Instant,
     future: F,
     turns: u64,
@@ -39,10 +39,11 @@ where
     D: Driver,
     P: ThreadPool + Drop,
     requires callable { (f : F) → F.can_poll f }
-    ensures blocked { IfOk result (λ r. r.1.is_full ≡ false → (new : Machine) × Blocked true turns (answer_numbered O.output_number r.0) (start_machine limits strategy) r.1.entries.items new []) }
-    ensures run { IfOk result (λ r. r.1.is_full ≡ false → (new : Machine) × Run (start_machine limits strategy) (events_in r.1.entries.items) (reports_in r.1.entries.items) new) }
+    ensures blocked { IfOk result (λ r. r.1.is_full ≡ false → (new : Machine) × Blocked true turns (answer_numbered O.output_number r.0) (start_machine limits (strategy_of pool)) r.1.entries.items new []) }
+    ensures run { IfOk result (λ r. r.1.is_full ≡ false → (new : Machine) × Run (start_machine limits (strategy_of pool)) (events_in r.1.entries.items) (reports_in r.1.entries.items) new) }
+    ensures parks { IfOk result (λ r. r.1.is_full ≡ false → (new : Machine) × ((left : ℕ → Option ℕ) × Registers None (start_machine limits (strategy_of pool)) (λ s. None) r.1.entries.items new left)) }
 {
-    let mut runtime = Runtime::new(alloc, driver, pool, limits, strategy, true, start)?;
+    let mut runtime = Runtime::new(alloc, driver, pool, limits, true, start)?;
     let answer = runtime.block_on(rt, alloc, future, turns);
     Ok((answer, runtime.into_journal()))
 }

@@ -1,12 +1,13 @@
 // Rounds of turns, waits on the driver, and the main task.
-ghost use Rattle.std.specs.Prelude.{◌≡◌, ◌<◌, ◌≤◌, None, false, length, IfOk, OnOk, IfErr, IsSome, if◌then◌else◌};
+ghost use Rattle.std.specs.Prelude.{◌≡◌, ◌<◌, ◌≤◌, None, false, length, Some, IfOk, OnOk, IfErr, IfSome, IsSome, if◌then◌else◌};
 ghost use Rattle.std.specs.Option.{option_map};
 ghost use Rattle.mono_time.specs.Instants.{nanos_of};
 ghost use Rattle.mono_machine.specs.Machine.{Machine};
 ghost use Rattle.mono_rt.specs.Numbered.{answer_numbered};
 ghost use Rattle.mono_rt.specs.Reached.{HasPlace};
-ghost use Rattle.mono_rt.specs.Stands.{Matches};
-ghost use Rattle.mono_rt.specs.Journals.{Goes, Does, Stays, HasPlaces};
+ghost use Rattle.mono_rt.specs.Stands.{hosting_of, Matches};
+ghost use Rattle.mono_time.specs.Timers.{registered_of};
+ghost use Rattle.mono_rt.specs.Journals.{Goes, Does, Stays, HasPlaces, WaitsForNext};
 ghost use Rattle.mono_rt.specs.Rounds.{IsWait, IsPark, Parks, OrLed, PauseEnds, Round, PassEnds, Ends, IsSpawn, IsRefused, DropsFor, Blocked, cost};
 ghost use Rattle.mono_rt.specs.Blocked.{OnCapacity};
 
@@ -28,7 +29,8 @@ use std::time::Duration;
 impl<F: Drop, O: Outcome + Drop, D: Driver, P: ThreadPool + Drop> Runtime<F, O, D, P> {
     /// How long the driver is parked, in milliseconds.
     fn wait_from(&self, now: Instant) -> Option<u64>
-        ensures { (m : Machine) → Matches O.output_number self.now.cx.parts m → IsWait self.now.cx.parts.has_timers m (nanos_of now) result }
+        ensures wait { (m : Machine) → Matches O.output_number hosting_of self.now.cx.parts m → IsWait self.now.cx.parts.has_timers m (nanos_of now) result }
+        ensures next { IfSome result (λ v. (m : Machine) → Matches O.output_number hosting_of self.now.cx.parts m → WaitsForNext m (registered_of self.now.cx.parts.timers) (Some (nanos_of now)) v) }
     {
         if self.cx.parts.has_timers {
             match self.cx.parts.timers.next_expiration_time() {

@@ -1,9 +1,10 @@
 // How a runtime is set up and made.
-ghost use Rattle.std.specs.Prelude.{◌≡◌, ◌^◌, max, Bool, true, false, not, None, [], IfOk, IfSome, IfNone};
+ghost use Rattle.std.specs.Prelude.{◌≡◌, ◌^◌, ℕ, max, Bool, true, false, not, None, [], IfOk, IfSome, IfNone};
 ghost use Rattle.mono_machine.specs.Machine.{start_machine};
 ghost use Rattle.mono_time.specs.Instants.{nanos_of};
+ghost use Rattle.mono_time.specs.Timers.{registered_of};
 ghost use Rattle.mono_jobs.specs.Spawning.{strategy_of, IsApart};
-ghost use Rattle.mono_rt.specs.Stands.{Matches};
+ghost use Rattle.mono_rt.specs.Stands.{hosting_of, Matches};
 ghost use Rattle.mono_blocking.specs.declared.strategy.BlockingHandle.TheVariants.{Attached, Empty};
 ghost use Rattle.mono_blocking.specs.declared.strategy.BlockingStrategy.TheVariants.{Panic};
 
@@ -14,7 +15,7 @@ use crate::parts::Parts;
 use crate::runtimes::Runtime;
 use mono_blocking::{BlockingHandle, BlockingStrategy, ThreadPool};
 use mono_driver::{Clock, Driver, StepDriver, ThreadDriver, TimeDriver};
-use mono_exec::{Blocking, Limits};
+use mono_exec::Limits;
 use mono_inbox::Inbox;
 use mono_joinword::Outcome;
 use mono_model::Host;
@@ -161,13 +162,14 @@ impl<D: Buildable, P: ThreadPool + Drop> RuntimeBuilder<D, P> {
         self,
         alloc: Global,
     ) -> Result<Runtime<F, O, D, P>, AllocError>
-        ensures stands { IfOk result (λ made. Matches O.output_number made.cx.parts (start_machine self.limits (strategy_of self.pool))) }
+        ensures stands { IfOk result (λ made. Matches O.output_number hosting_of made.cx.parts (start_machine self.limits (strategy_of self.pool))) }
         ensures timers { IfOk result (λ made. made.cx.parts.has_timers ≡ D.marks_timers) }
-        ensures pool { IfOk result (λ made. made.cx.blocking ≡ self.pool) }
+        ensures pool { IfOk result (λ made. made.cx.parts.blocking.pool ≡ self.pool) }
         ensures driver { IfOk result (λ made. made.driver ≡ self.driver) }
         ensures journal { IfOk result (λ made. (made.journal.entries.items ≡ []) × (made.journal.is_full ≡ not self.keeps_journal)) }
         ensures rests { IfOk result (λ made. made.cx.parts.tasks.turn ≡ None) }
         ensures me { IfOk result (λ made. (made.cx.parts.me ≡ 0) × (nanos_of made.cx.parts.now ≡ 0)) }
+        ensures registered { IfOk result (λ made. (s : ℕ) → registered_of made.cx.parts.timers s ≡ None) }
     {
         D::build(alloc, self)
     }
@@ -187,13 +189,14 @@ pub trait Buildable: Driver + Sized {
         alloc: Global,
         this: RuntimeBuilder<Self, P>,
     ) -> Result<Runtime<F, O, Self, P>, AllocError>
-        ensures stands { IfOk result (λ made. Matches O.output_number made.cx.parts (start_machine this.limits (strategy_of this.pool))) }
+        ensures stands { IfOk result (λ made. Matches O.output_number hosting_of made.cx.parts (start_machine this.limits (strategy_of this.pool))) }
         ensures timers { IfOk result (λ made. made.cx.parts.has_timers ≡ marks_timers) }
-        ensures pool { IfOk result (λ made. made.cx.blocking ≡ this.pool) }
+        ensures pool { IfOk result (λ made. made.cx.parts.blocking.pool ≡ this.pool) }
         ensures driver { IfOk result (λ made. made.driver ≡ this.driver) }
         ensures journal { IfOk result (λ made. (made.journal.entries.items ≡ []) × (made.journal.is_full ≡ not this.keeps_journal)) }
         ensures rests { IfOk result (λ made. made.cx.parts.tasks.turn ≡ None) }
         ensures me { IfOk result (λ made. (made.cx.parts.me ≡ 0) × (nanos_of made.cx.parts.now ≡ 0)) }
+        ensures registered { IfOk result (λ made. (s : ℕ) → registered_of made.cx.parts.timers s ≡ None) }
     {
         let RuntimeBuilder {
             driver,
@@ -203,17 +206,10 @@ pub trait Buildable: Driver + Sized {
             keeps_journal,
         } = this;
         let inbox = Inbox::new(alloc, entries as usize, driver.unpark()?)?;
-        let parts = Parts::new(
-            alloc,
-            limits,
-            blocking_of(&pool),
-            Self::has_timers(),
-            zero(),
-        )?;
+        let parts = Parts::new(alloc, limits, pool, Self::has_timers(), zero())?;
         let cx = Cx {
             parts,
             futures: Vec::new(alloc),
-            blocking: pool,
             inbox,
             wakers: Vec::new(alloc),
             waker: None,
@@ -247,17 +243,6 @@ impl<D: Driver> Buildable for TimeDriver<D> {
     }
 }
 
-// What is done with a blocking job.
-fn blocking_of<P>(pool: &BlockingHandle<P>) -> Blocking
-    ensures { result ≡ strategy_of pool.now }
-{
-    match pool {
-        BlockingHandle::Attached(_) => Blocking::Attached,
-        BlockingHandle::Empty(BlockingStrategy::ExecuteLocal) => Blocking::ExecuteLocal,
-        BlockingHandle::Empty(BlockingStrategy::Panic) => Blocking::Panic,
-    }
-}
-
 // The clock's zero.
 fn zero() -> Instant
     ensures { nanos_of result ≡ 0 }
@@ -271,8 +256,8 @@ fn zero() -> Instant
 impl<F: Drop, O: Outcome + Drop, D: Driver, P: ThreadPool + Drop> Runtime<F, O, D, P> {
     /// The attached pool (`some`); None exactly where none is attached (`none`).
     pub fn into_pool(self) -> Option<P>
-        ensures some { IfSome result (λ pool. self.cx.blocking ≡ Attached pool) }
-        ensures none { IfNone result (IsApart self.cx.blocking) }
+        ensures some { IfSome result (λ pool. self.cx.parts.blocking.pool ≡ Attached pool) }
+        ensures none { IfNone result (IsApart self.cx.parts.blocking.pool) }
     {
         let Runtime {
             cx,
@@ -280,17 +265,14 @@ impl<F: Drop, O: Outcome + Drop, D: Driver, P: ThreadPool + Drop> Runtime<F, O, 
             journal: _,
         } = self;
         let Cx {
-            parts: _,
+            parts,
             futures: _,
-            blocking,
             inbox: _,
             wakers: _,
             waker: _,
         } = cx;
-        match blocking {
-            BlockingHandle::Attached(pool) => Some(pool),
-            BlockingHandle::Empty(_) => None,
-        }
+        let Parts { blocking, .. } = parts;
+        blocking.into_pool()
     }
 }
 

@@ -1,7 +1,9 @@
 // How a runtime is made.
-ghost use Rattle.std.specs.Prelude.{◌≡◌, IfOk, None, []};
+ghost use Rattle.std.specs.Prelude.{◌≡◌, ℕ, IfOk, None, []};
 ghost use Rattle.mono_machine.specs.Machine.{start_machine};
-ghost use Rattle.mono_rt.specs.Stands.{Matches};
+ghost use Rattle.mono_jobs.specs.Spawning.{strategy_of};
+ghost use Rattle.mono_time.specs.Timers.{registered_of};
+ghost use Rattle.mono_rt.specs.Stands.{hosting_of, Matches};
 
 use crate::acts::Acts;
 use crate::contexts::Cx;
@@ -10,26 +12,29 @@ use crate::parts::Parts;
 use crate::runtimes::Runtime;
 use mono_blocking::{BlockingHandle, ThreadPool};
 use mono_driver::Driver;
-use mono_exec::{Blocking, Limits};
+use mono_exec::Limits;
 use mono_inbox::Inbox;
+use mono_jobs::Blockings;
 use mono_joinword::Outcome;
 use mono_task::Tasks;
 use mono_time::{Instant, Timers};
 use std::alloc::{AllocError, Global};
 
-impl<O: Outcome + Drop> Parts<O> {
-    /// No task and no sleep.
+impl<O: Outcome + Drop, P: ThreadPool + Drop> Parts<O, Blockings<P>> {
+    /// No task, no sleep and no job, and who runs the jobs.
     pub(crate) fn new(
         alloc: Global,
         limits: Limits,
-        strategy: Blocking,
+        pool: BlockingHandle<P>,
         has_timers: bool,
         now: Instant,
-    ) -> Result<Parts<O>, AllocError>
-        ensures stands { IfOk result (λ parts. Matches O.output_number parts (start_machine limits strategy)) }
+    ) -> Result<Parts<O, Blockings<P>>, AllocError>
+        ensures stands { IfOk result (λ parts. Matches O.output_number hosting_of parts (start_machine limits (strategy_of pool))) }
+        ensures pool { IfOk result (λ parts. parts.blocking.pool ≡ pool) }
         ensures timers { IfOk result (λ parts. parts.has_timers ≡ has_timers) }
         ensures rests { IfOk result (λ parts. parts.tasks.turn ≡ None) }
         ensures me { IfOk result (λ parts. (parts.me ≡ 0) × (parts.now ≡ now)) }
+        ensures registered { IfOk result (λ parts. (s : ℕ) → registered_of parts.timers s ≡ None) }
     {
         let tasks = Tasks::new(alloc, limits.tasks)?;
         let timers = Timers::new(alloc, limits.sleeps, has_timers)?;
@@ -37,7 +42,7 @@ impl<O: Outcome + Drop> Parts<O> {
             tasks,
             timers,
             has_timers,
-            strategy,
+            blocking: Blockings::new(alloc, pool, limits.jobs),
             acts: Acts::keeping_none(alloc),
             me: 0,
             now,
@@ -47,28 +52,28 @@ impl<O: Outcome + Drop> Parts<O> {
 }
 
 impl<F: Drop, O: Outcome + Drop, D: Driver, P: ThreadPool + Drop> Runtime<F, O, D, P> {
-    /// A runtime with a journal. It stands for the start machine.
+    /// A runtime with a journal. It stands for the start machine, with the pool's strategy.
     pub fn new(
         alloc: Global,
         driver: D,
         pool: BlockingHandle<P>,
         limits: Limits,
-        strategy: Blocking,
         has_timers: bool,
         start: Instant,
     ) -> Result<Runtime<F, O, D, P>, AllocError>
-        ensures stands { IfOk result (λ runtime. Matches O.output_number runtime.cx.parts (start_machine limits strategy)) }
+        ensures stands { IfOk result (λ runtime. Matches O.output_number hosting_of runtime.cx.parts (start_machine limits (strategy_of pool))) }
+        ensures pool { IfOk result (λ runtime. runtime.cx.parts.blocking.pool ≡ pool) }
         ensures timers { IfOk result (λ runtime. runtime.cx.parts.has_timers ≡ has_timers) }
         ensures rests { IfOk result (λ runtime. runtime.cx.parts.tasks.turn ≡ None) }
         ensures journal { IfOk result (λ runtime. runtime.journal.entries.items ≡ []) }
+        ensures registered { IfOk result (λ runtime. (s : ℕ) → registered_of runtime.cx.parts.timers s ≡ None) }
     {
         let unpark = driver.unpark()?;
         let inbox = Inbox::new(alloc, 1024, unpark)?;
-        let parts = Parts::new(alloc, limits, strategy, has_timers, start)?;
+        let parts = Parts::new(alloc, limits, pool, has_timers, start)?;
         let cx = Cx {
             parts,
             futures: Vec::new(alloc),
-            blocking: pool,
             inbox,
             wakers: Vec::new(alloc),
             waker: None,

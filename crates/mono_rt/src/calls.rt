@@ -12,6 +12,7 @@ ghost use Rattle.mono_model.specs.declared.error.SleepError.TheVariants.{Memory}
 ghost use Rattle.mono_machine.specs.JoinCalls as replies;
 ghost use Rattle.mono_rt.specs.Numbered.{join_numbered, drop_numbered};
 ghost use Rattle.mono_rt.specs.Reached.{Leads};
+ghost use Rattle.mono_rt.specs.Stands.{Hosting};
 
 use crate::parts::Parts;
 use mono_exec::{
@@ -45,13 +46,13 @@ pub(crate) fn drop_reply_of<O: Outcome>(answer: &Result<Option<O>, TaskError>) -
     }
 }
 
-impl<O: Outcome + Drop> Parts<O> {
+impl<O: Outcome + Drop, B: Drop> Parts<O, B> {
     /// Wakes a task.
     pub fn wake(&mut self, task: u64) -> Result<Woke, TaskError>
         ensures answer { result ≡ wake_answer self.old.tasks.tasks task }
         ensures tasks { self.new.tasks ≡ schedule.with_tasks self.old.tasks (woken self.old.tasks.tasks task) }
         ensures timers { self.new.timers ≡ self.old.timers }
-        ensures leads { Leads O.output_number self.old self.new }
+        ensures leads { (hosting : B → Hosting) → Leads O.output_number hosting self.old self.new }
     {
         let answer = self.tasks.wake(task);
         self.acts
@@ -64,7 +65,7 @@ impl<O: Outcome + Drop> Parts<O> {
         ensures answer { result ≡ join_answer self.old.tasks.tasks task }
         ensures tasks { self.new.tasks ≡ schedule.with_tasks self.old.tasks (joined self.old.tasks.tasks task self.old.me) }
         ensures timers { self.new.timers ≡ self.old.timers }
-        ensures leads { Leads O.output_number self.old self.new }
+        ensures leads { (hosting : B → Hosting) → Leads O.output_number hosting self.old self.new }
     {
         let answer = self.tasks.poll_join(task, self.me);
         let reply = join_reply_of(&answer);
@@ -77,7 +78,7 @@ impl<O: Outcome + Drop> Parts<O> {
         ensures answer { result ≡ drop_answer self.old.tasks.tasks task }
         ensures tasks { self.new.tasks ≡ schedule.with_tasks self.old.tasks (join_dropped self.old.tasks.tasks task) }
         ensures timers { self.new.timers ≡ self.old.timers }
-        ensures leads { Leads O.output_number self.old self.new }
+        ensures leads { (hosting : B → Hosting) → Leads O.output_number hosting self.old self.new }
     {
         let answer = self.tasks.drop_join(task);
         let reply = drop_reply_of(&answer);
@@ -91,7 +92,7 @@ impl<O: Outcome + Drop> Parts<O> {
         ensures after { OnOk result (self.new.tasks ≡ schedule.with_tasks self.old.tasks (spawned self.old.tasks.tasks)) }
         ensures refused { OnErr result (self.new.tasks ≡ self.old.tasks) }
         ensures timers { self.new.timers ≡ self.old.timers }
-        ensures leads { Leads O.output_number self.old self.new }
+        ensures leads { (hosting : B → Hosting) → Leads O.output_number hosting self.old self.new }
     {
         match self.tasks.spawn(alloc) {
             Ok(t) => {
@@ -117,7 +118,7 @@ impl<O: Outcome + Drop> Parts<O> {
         ensures added { Added (sleeps_of self.old.timers) (nanos_of deadline) result (sleeps_of self.new.timers) }
         ensures memory { result ≡ Err Memory → self.new.is_out_of_memory ≡ true }
         ensures tasks { self.new.tasks ≡ self.old.tasks }
-        ensures leads { Leads O.output_number self.old self.new }
+        ensures leads { (hosting : B → Hosting) → Leads O.output_number hosting self.old self.new }
     {
         let step = TurnStep::Act(Act::NewSleep(deadline.as_nanos()));
         match self.timers.add(alloc, deadline) {
@@ -143,8 +144,9 @@ impl<O: Outcome + Drop> Parts<O> {
         ensures answer { result ≡ poll_answer (sleeps_of self.old.timers) sleep }
         ensures sleeps { sleeps_of self.new.timers ≡ polled (sleeps_of self.old.timers) sleep self.old.me }
         ensures tasks { self.new.tasks ≡ self.old.tasks }
-        ensures leads { Leads O.output_number self.old self.new }
+        ensures leads { (hosting : B → Hosting) → Leads O.output_number hosting self.old self.new }
     {
+        self.timers.registers_armed();
         let answer = self.timers.poll(sleep, self.me);
         self.acts
             .note(TurnStep::Query(Query::Sleep(sleep)), poll_reply(answer));
@@ -156,8 +158,9 @@ impl<O: Outcome + Drop> Parts<O> {
         ensures answer { result ≡ remove_answer (sleeps_of self.old.timers) sleep }
         ensures sleeps { sleeps_of self.new.timers ≡ removed (sleeps_of self.old.timers) sleep }
         ensures tasks { self.new.tasks ≡ self.old.tasks }
-        ensures leads { Leads O.output_number self.old self.new }
+        ensures leads { (hosting : B → Hosting) → Leads O.output_number hosting self.old self.new }
     {
+        self.timers.registers_armed();
         let answer = self.timers.remove(sleep);
         self.acts
             .note(TurnStep::Act(Act::DropSleep(sleep)), gone_reply(answer));
@@ -169,8 +172,9 @@ impl<O: Outcome + Drop> Parts<O> {
         ensures answer { result ≡ without_waker (reset_answer (sleeps_of self.old.timers) sleep (nanos_of deadline)) }
         ensures sleeps { sleeps_of self.new.timers ≡ reset (sleeps_of self.old.timers) sleep (nanos_of deadline) }
         ensures tasks { self.new.tasks ≡ schedule.with_tasks self.old.tasks (woken_if_any self.old.tasks.tasks (waker_in (reset_answer (sleeps_of self.old.timers) sleep (nanos_of deadline)))) }
-        ensures leads { Leads O.output_number self.old self.new }
+        ensures leads { (hosting : B → Hosting) → Leads O.output_number hosting self.old self.new }
     {
+        self.timers.registers_armed();
         let nanos = deadline.as_nanos();
         let step = TurnStep::Act(Act::Reset(sleep, nanos));
         match self.timers.reset(sleep, deadline) {

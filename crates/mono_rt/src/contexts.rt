@@ -10,8 +10,9 @@ ghost use Rattle.mono_time.specs.Timers.{sleeps_of};
 ghost use Rattle.mono_rt.specs.Reached.{Reaches, HasPlace, reaches_itself, reaches_on};
 
 use crate::parts::Parts;
-use mono_blocking::{BlockingHandle, ThreadPool};
+use mono_blocking::ThreadPool;
 use mono_inbox::{Inbox, RemoteWaker, Unpark};
+use mono_jobs::Blockings;
 use mono_joinword::Outcome;
 use mono_task::{Context, JoinContext, JoinHandle, Poll, SpawnTask, TaskError, Woke};
 use mono_time::{Error, Instant, SleepError, TimeContext};
@@ -20,9 +21,8 @@ use std::alloc::{AllocError, Global};
 /// The executor as a running task sees it: its tasks, sleeps and futures.
 #[derive(Drop)]
 pub struct Cx<F, O, P: ThreadPool, U: Unpark> {
-    pub(crate) parts: Parts<O>,
+    pub(crate) parts: Parts<O, Blockings<P>>,
     pub(crate) futures: Vec<Option<F>>,
-    pub(crate) blocking: BlockingHandle<P>,
     pub(crate) inbox: Inbox<U>,
     // by the task's number its remote waker, once it has had a turn and until it ends
     pub(crate) wakers: Vec<Option<RemoteWaker<U>>>,

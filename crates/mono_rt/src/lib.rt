@@ -10,6 +10,8 @@ mod calls;
 mod contexts;
 mod drains;
 mod errors;
+mod job_acts;
+mod job_calls;
 mod journals;
 mod parts;
 mod runtimes;
@@ -29,7 +31,8 @@ pub use mono_exec::{
     Report, Timers, TurnStep, Woke, replay,
 };
 pub use mono_inbox::RemoteWaker;
-pub use mono_joinword::Outcome;
+pub use mono_jobs::{JobHandle, OutputOf, PollJob, SpawnError};
+pub use mono_joinword::{JoinError, Outcome};
 pub use runtimes::Runtime;
 
 #[cfg(test)]

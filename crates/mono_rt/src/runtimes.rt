@@ -41,7 +41,7 @@ impl<F: Drop, O: Outcome + Drop, D: Driver, P: ThreadPool + Drop> Runtime<F, O, 
         ensures tasks { self.new.cx.parts.tasks ≡ self.old.cx.parts.tasks }
         ensures timers { self.new.cx.parts.timers ≡ self.old.cx.parts.timers }
         ensures has_timers { self.new.cx.parts.has_timers ≡ self.old.cx.parts.has_timers }
-        ensures strategy { self.new.cx.parts.strategy ≡ self.old.cx.parts.strategy }
+        ensures blocking { self.new.cx.parts.blocking ≡ self.old.cx.parts.blocking }
     {
         let acts = mem::replace(&mut self.cx.parts.acts, Acts::keeping_none(alloc));
         self.journal.push_turn(task, acts, end, ended);

@@ -4,7 +4,7 @@ ghost use Rattle.mono_model.specs.Table.{next_number};
 ghost use Rattle.mono_model.specs.Tasks.{spawned};
 ghost use Rattle.mono_machine.specs.Machine.{Machine};
 ghost use Rattle.mono_rt.specs.Spawns.{SpawnsTask, refused_future};
-ghost use Rattle.mono_rt.specs.Stands.{Matches};
+ghost use Rattle.mono_rt.specs.Stands.{hosting_of, Matches};
 
 use crate::contexts::{Cx, SpawnRefused};
 use crate::runtimes::Runtime;
@@ -25,7 +25,7 @@ impl<F: Drop, O: Outcome + Drop, D: Driver, P: ThreadPool + Drop> Runtime<F, O, 
         ensures number { IfOk result (λ handle. handle ≡ next_number self.old.cx.parts.tasks.tasks.table) }
         ensures tasks { OnOk result (self.new.cx.parts.tasks.tasks ≡ spawned self.old.cx.parts.tasks.tasks) }
         ensures futures { OnOk result (self.new.cx.futures.items ≡ self.old.cx.futures.items ++ Some future ∷ []) }
-        ensures machine { (m : Machine) → Matches O.output_number self.old.cx.parts m → SpawnsTask m result (Matches O.output_number self.new.cx.parts) }
+        ensures machine { (m : Machine) → Matches O.output_number hosting_of self.old.cx.parts m → SpawnsTask m result (Matches O.output_number hosting_of self.new.cx.parts) }
         ensures back { IfErr result (λ refusal. refused_future refusal ≡ future) }
         ensures refused { OnErr result ((self.new.cx.parts ≡ self.old.cx.parts) × (self.new.cx.futures.items ≡ self.old.cx.futures.items)) }
         ensures has_timers { self.new.cx.parts.has_timers ≡ self.old.cx.parts.has_timers }

@@ -3,7 +3,7 @@ ghost use Rattle.std.specs.Prelude.{◌≡◌, ◌<◌, None, Some, true, length
 ghost use Rattle.mono_model.specs.Table.{value_at};
 ghost use Rattle.mono_machine.specs.Machine.{Machine};
 ghost use Rattle.mono_rt.specs.Record.{no_acts};
-ghost use Rattle.mono_rt.specs.Stands.{Matches};
+ghost use Rattle.mono_rt.specs.Stands.{hosting_of, Matches};
 ghost use Rattle.mono_rt.specs.Turns.{Begins, Pauses, Completes, Runs, Turn, IsTurnOf};
 
 use crate::acts::Acts;
@@ -162,7 +162,7 @@ where
         requires queued { 0 < length self.old.parts.tasks.tasks.queue }
         requires empty { acts ≡ no_acts }
         ensures turn { Turn O.output_number F.TaskFuture result.0 now acts result.1 result.2 self.old self.new }
-        ensures is { (m : Machine) → Matches O.output_number self.old.parts m → IsTurnOf O.output_number result.0 result.1 result.2 self.old.parts self.new.parts m }
+        ensures is { (m : Machine) → Matches O.output_number hosting_of self.old.parts m → IsTurnOf O.output_number result.0 result.1 result.2 self.old.parts self.new.parts m }
         ensures has_timers { self.new.parts.has_timers ≡ self.old.parts.has_timers }
         ensures rests { self.new.parts.tasks.turn ≡ None }
     {

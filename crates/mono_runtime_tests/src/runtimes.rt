@@ -4,7 +4,7 @@ ghost use Rattle.std.specs.Prelude.{◌≡◌, ⊤, false, None, IfSome};
 use mono_blocking::{BlockingHandle, BlockingStrategy, Job, NoPool, Outcome};
 use mono_inbox::{RemoteWaker, UnparkHandle};
 use mono_model::Host;
-use mono_rt::{Blocking, Cx, Instant, Limits, ListClock, Runtime, ThreadDriver};
+use mono_rt::{Cx, Instant, Limits, ListClock, Runtime, ThreadDriver};
 use mono_task::{Poll, TaskFuture};
 use std::alloc::Global;
 use std::sync::atomic::{AtomicU64, Ordering};
@@ -170,7 +170,7 @@ fn no_wake_of_a_sleeping_runtime_is_lost(rt: HostRuntime) -> Result<(), Fail> {
         .ok_or("a thread")?;
     let driver = ThreadDriver::new(alloc, ListClock::new(vec![in alloc; zero]?))?;
     let pool = BlockingHandle::Empty(BlockingStrategy::Panic);
-    let mut runtime = Runtime::new(alloc, driver, pool, LIMITS, Blocking::Panic, false, zero)?;
+    let mut runtime = Runtime::new(alloc, driver, pool, LIMITS, false, zero)?;
     let main = Counts {
         shared,
         has_given: false,

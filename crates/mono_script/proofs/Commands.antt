@@ -10,7 +10,7 @@ use Rattle.mono_text.specs.Reading.{Read, number_at}
 use Rattle.mono_script.specs.declared.command.Command.{Command}
 use Rattle.mono_script.specs.declared.command.Command.TheVariants as command
 use Rattle.mono_script.specs.Words.{strategy_text, two_words, SayTwo, SayLimits, AreLimits}
-use Rattle.mono_script.specs.Command.{command_words, FitsCommand, IsCommand, IsNoReplay, IsNoLoad, IsNoLimiter, IsNoActors, IsNoCommand}
+use Rattle.mono_script.specs.Command.{command_words, FitsCommand, IsCommand, IsNoReplay, IsNoLoad, IsNoSessions, IsNoLimiter, IsNoActors, IsNoCheck, IsNoCommand}
 use Rattle.mono_text.proofs.Numbers.{reads_whole}
 
 -- ---- lists of words of one length
@@ -57,11 +57,13 @@ not_limits name a b c d e none l s say =
 
 -- ---- every command
 
-pub no_command : (words : List (List ℕ)) → IsNoReplay words → IsNoLoad words → IsNoLimiter words → IsNoActors words → IsNoCommand words
-no_command words a b l c (command.Replay limits g) is = a limits g is
-no_command words a b l c (command.Load seed count) is = b seed count is
-no_command words a b l c (command.Limiter buckets retries) is = l buckets retries is
-no_command words a b l c (command.Actors actors messages) is = c actors messages is
+pub no_command : (words : List (List ℕ)) → IsNoReplay words → IsNoLoad words → IsNoSessions words → IsNoLimiter words → IsNoActors words → IsNoCheck words → IsNoCommand words
+no_command words replay load sessions limiter actors check (command.Replay limits g) is = replay limits g is
+no_command words replay load sessions limiter actors check (command.Load a b) is = load a b is
+no_command words replay load sessions limiter actors check (command.Sessions a b) is = sessions a b is
+no_command words replay load sessions limiter actors check (command.Limiter a b) is = limiter a b is
+no_command words replay load sessions limiter actors check (command.Actors a b) is = actors a b is
+no_command words replay load sessions limiter actors check (command.Check limits g) is = check limits g is
 
 -- ---- the words of one command are those of no other: each command is read back from its words
 
@@ -102,6 +104,14 @@ abbrev replay_of : List (List ℕ) → Option Command
 replay_of (g ∷ t ∷ j ∷ s ∷ []) = replay_from (strategy_of g) (number_of t) (number_of j) (number_of s)
 replay_of other = None
 
+abbrev check_from : Option Blocking → Option ℕ → Option ℕ → Option ℕ → Option Command
+check_from (Some g) (Some t) (Some j) (Some s) = Some (command.Check (record { tasks = t; jobs = j; sleeps = s }) g)
+check_from a b c d = None
+
+abbrev check_of : List (List ℕ) → Option Command
+check_of (g ∷ t ∷ j ∷ s ∷ []) = check_from (strategy_of g) (number_of t) (number_of j) (number_of s)
+check_of other = None
+
 abbrev load_from : Option ℕ → Option ℕ → Option Command
 load_from (Some seed) (Some count) = Some (command.Load seed count)
 load_from x y = None
@@ -110,6 +120,13 @@ abbrev load_of : List (List ℕ) → Option Command
 load_of (a ∷ b ∷ []) = load_from (number_of a) (number_of b)
 load_of other = None
 
+abbrev sessions_from : Option ℕ → Option ℕ → Option Command
+sessions_from (Some sessions) (Some entries) = Some (command.Sessions sessions entries)
+sessions_from x y = None
+
+abbrev sessions_of : List (List ℕ) → Option Command
+sessions_of (a ∷ b ∷ []) = sessions_from (number_of a) (number_of b)
+sessions_of other = None
 abbrev limiter_from : Option ℕ → Option ℕ → Option Command
 limiter_from (Some buckets) (Some retries) = Some (command.Limiter buckets retries)
 limiter_from x y = None
@@ -131,16 +148,20 @@ command_of [] = None
 command_of (w ∷ ws) =
     if same_text w (codes "replay") then replay_of ws
     else if same_text w (codes "load") then load_of ws
+    else if same_text w (codes "sessions") then sessions_of ws
     else if same_text w (codes "limiter") then limiter_of ws
     else if same_text w (codes "actors") then actors_of ws
+    else if same_text w (codes "check") then check_of ws
     else None
 
 -- one clause a command
 read_back : (c : Command) → FitsCommand c → command_of (command_words c) ≡ Some c
 read_back (command.Replay l g) fit = rw (strategy_back g, of_text l.tasks fit.tasks, of_text l.jobs fit.jobs, of_text l.sleeps fit.sleeps) refl
 read_back (command.Load seed count) fit = rw (of_text seed fit.0, of_text count (omega (arith, fit.1))) refl
+read_back (command.Sessions sessions entries) fit = rw (of_text sessions fit.0, of_text entries fit.1) refl
 read_back (command.Limiter buckets retries) fit = rw (of_text buckets fit.0, of_text retries fit.1) refl
 read_back (command.Actors actors messages) fit = rw (of_text actors fit.0, of_text messages fit.1) refl
+read_back (command.Check l g) fit = rw (strategy_back g, of_text l.tasks fit.tasks, of_text l.jobs fit.jobs, of_text l.sleeps fit.sleeps) refl
 
 pub command_once : (words : List (List ℕ)) (c d : Command) → IsCommand words c → IsCommand words d → c ≡ d
 command_once words c d p q =

@@ -1,5 +1,7 @@
 pub mod Sound
+pub mod Serving
 pub mod Statuses
 pub mod Commands
 pub mod Replaying
 pub mod Serving
+pub mod Checked

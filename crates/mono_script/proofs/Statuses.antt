@@ -11,11 +11,14 @@ use Rattle.mono_script.specs.declared.ends.Status.TheVariants as status
 use Rattle.mono_text.proofs.Lined.{not_both}
 use Rattle.mono_script.proofs.Sound.{Sound}
 use Rattle.mono_script.proofs.Serving.{sound_serving}
+use Rattle.mono_session.specs.Keeper.{no_sessions}
+use Rattle.mono_session_lines.specs.Lines as session_line
 use Rattle.mono_limit.specs.Limiter.{no_limits}
-use Rattle.mono_limit_lines.specs.Lines.{call_text, FitsCall, StepByLine}
+use Rattle.mono_limit_lines.specs.Lines as limiter_line
 use Rattle.mono_actor.specs.Actors.{no_actors}
 use Rattle.mono_actor_lines.specs.Lines.{line_text, FitsLine}
 use Rattle.mono_actor_lines.specs.Answers.{Answers}
+use Rattle.mono_script.proofs.Checked.{sound_checking}
 
 -- ---- each command: what is owed of its meaning
 
@@ -28,8 +31,10 @@ sound (command.Load seed count) = record {
   apart = λ input n good bad. bad;
   good = λ input s output a. tt;
 }
-sound (command.Limiter buckets retries) = sound_serving call_text FitsCall StepByLine (no_limits buckets retries)
+sound (command.Sessions sessions entries) = sound_serving session_line.call_text session_line.FitsCall session_line.StepsAs (no_sessions sessions entries)
+sound (command.Limiter buckets retries) = sound_serving limiter_line.call_text limiter_line.FitsCall limiter_line.StepByLine (no_limits buckets retries)
 sound (command.Actors actors messages) = sound_serving line_text FitsLine Answers (no_actors actors messages)
+sound (command.Check l g) = sound_checking l g
 
 -- ---- one status, one number
 
@@ -41,6 +46,17 @@ done status.ReadFault e = absurd (omega (arith, e))
 done status.WriteFault e = absurd (omega (arith, e))
 done status.OutOfMemory e = absurd (omega (arith, e))
 done status.TooLong e = absurd (omega (arith, e))
+done status.NotARun e = absurd (omega (arith, e))
+
+pub not_a_run : (s : Status) → status_code s ≡ 11 → s ≡ status.NotARun
+not_a_run status.NotARun e = refl
+not_a_run status.Done e = absurd (omega (arith, e))
+not_a_run status.Usage e = absurd (omega (arith, e))
+not_a_run status.BadLine e = absurd (omega (arith, e))
+not_a_run status.ReadFault e = absurd (omega (arith, e))
+not_a_run status.WriteFault e = absurd (omega (arith, e))
+not_a_run status.OutOfMemory e = absurd (omega (arith, e))
+not_a_run status.TooLong e = absurd (omega (arith, e))
 
 pub bad_line : (s : Status) → status_code s ≡ 3 → s ≡ status.BadLine
 bad_line status.BadLine e = refl
@@ -50,6 +66,7 @@ bad_line status.ReadFault e = absurd (omega (arith, e))
 bad_line status.WriteFault e = absurd (omega (arith, e))
 bad_line status.OutOfMemory e = absurd (omega (arith, e))
 bad_line status.TooLong e = absurd (omega (arith, e))
+bad_line status.NotARun e = absurd (omega (arith, e))
 
 pub write_fault : (s : Status) → status_code s ≡ 5 → s ≡ status.WriteFault
 write_fault status.WriteFault e = refl
@@ -59,6 +76,7 @@ write_fault status.BadLine e = absurd (omega (arith, e))
 write_fault status.ReadFault e = absurd (omega (arith, e))
 write_fault status.OutOfMemory e = absurd (omega (arith, e))
 write_fault status.TooLong e = absurd (omega (arith, e))
+write_fault status.NotARun e = absurd (omega (arith, e))
 
 -- ---- where a status comes
 
@@ -81,6 +99,8 @@ pub long_where : (m : Meaning) (left rest before after : Option (List ℕ)) (R W
     → Ends m left rest before after R W s → IsInput m.reads left input → IsRead (status_code s) → (status_code s ≡ 7 ↔ max_input < length input)
 long_where m left rest b a R W input status.Done p told read =
     let h = had m.reads left input p.input rest told p.read in (λ e. absurd (omega (arith, e)), λ long. absurd (omega (arith, long, h.1)))
+long_where m left rest b a R W input status.NotARun p told read =
+    let h = had m.reads left input p.input rest told p.read in (λ e. absurd (omega (arith, e)), λ long. absurd (omega (arith, long, h.1)))
 long_where m left rest b a R W input status.BadLine p told read =
     let h = had m.reads left input p.input rest told p.read in (λ e. absurd (omega (arith, e)), λ long. absurd (omega (arith, long, h.1)))
 long_where m left rest b a R W input status.WriteFault p told read =
@@ -102,6 +122,8 @@ pub bad_where : (m : Meaning) → Sound m → (left rest before after : Option (
     → (status_code s ≡ 3 ↔ (length input ≤ max_input) × ((n : ℕ) × m.IsFirstBad input n))
 bad_where m sound left rest b a R W input status.Done p told read wrote =
     (λ e. absurd (omega (arith, e)), λ bad. absurd (answered m sound status.Done left rest b a input p told bad.1.0 bad.1.1))
+bad_where m sound left rest b a R W input status.NotARun p told read wrote =
+    (λ e. absurd (omega (arith, e)), λ bad. absurd (answered m sound status.NotARun left rest b a input p told bad.1.0 bad.1.1))
 bad_where m sound left rest b a R W input status.BadLine p told read wrote =
     let h = had m.reads left input p.input rest told p.read in
     (λ _. (h.1, (p.line, subst (λ x. m.IsFirstBad x p.line) (sym h.0) p.first)), λ _. refl)
@@ -121,6 +143,7 @@ pub completed : (m : Meaning) → Sound m → (left rest before after : Option (
     → Ends m left rest before after R W s → IsInput m.reads left input → length input ≤ max_input → m.IsGood input → (m.reads ≡ true → R → ⊥) → (W → ⊥)
     → (status_code s ≡ 6) ⊎ IsAnswered m input (status_code s)
 completed m sound left rest b a R W input status.Done p told short good no_read no_write = inr (was_answered m status.Done left rest b a input p told)
+completed m sound left rest b a R W input status.NotARun p told short good no_read no_write = inr (was_answered m status.NotARun left rest b a input p told)
 completed m sound left rest b a R W input status.OutOfMemory p told short good no_read no_write = inl refl
 completed m sound left rest b a R W input status.BadLine p told short good no_read no_write =
     let h = had m.reads left input p.input rest told p.read in
@@ -140,6 +163,7 @@ rose_in_reading status.BadLine old new stays less = absurd (omega (arith, less, 
 rose_in_reading status.WriteFault old new stays less = absurd (omega (arith, less, stays (λ e. omega (arith, ap status_code e))))
 rose_in_reading status.OutOfMemory old new stays less = absurd (omega (arith, less, stays (λ e. omega (arith, ap status_code e))))
 rose_in_reading status.TooLong old new stays less = absurd (omega (arith, less, stays (λ e. omega (arith, ap status_code e))))
+rose_in_reading status.NotARun old new stays less = absurd (omega (arith, less, stays (λ e. omega (arith, ap status_code e))))
 
 pub rose_in_writing : (s : Status) (old new : ℕ) → (s ≢ status.WriteFault → new ≡ old) → old < new → status_code s ≡ 5
 rose_in_writing status.WriteFault old new stays less = refl
@@ -149,6 +173,7 @@ rose_in_writing status.BadLine old new stays less = absurd (omega (arith, less, 
 rose_in_writing status.ReadFault old new stays less = absurd (omega (arith, less, stays (λ e. omega (arith, ap status_code e))))
 rose_in_writing status.OutOfMemory old new stays less = absurd (omega (arith, less, stays (λ e. omega (arith, ap status_code e))))
 rose_in_writing status.TooLong old new stays less = absurd (omega (arith, less, stays (λ e. omega (arith, ap status_code e))))
+rose_in_writing status.NotARun old new stays less = absurd (omega (arith, less, stays (λ e. omega (arith, ap status_code e))))
 
 -- ---- what a number says
 

@@ -10,15 +10,19 @@ use Rattle.mono_script.specs.Words.{two_words, limit_words}
 abbrev pub command_words : Command → List (List ℕ)
 command_words (command.Replay limits strategy) = limit_words (codes "replay") limits strategy
 command_words (command.Load seed count) = two_words (codes "load") seed count
+command_words (command.Sessions sessions entries) = two_words (codes "sessions") sessions entries
 command_words (command.Limiter buckets retries) = two_words (codes "limiter") buckets retries
 command_words (command.Actors actors messages) = two_words (codes "actors") actors messages
+command_words (command.Check limits strategy) = limit_words (codes "check") limits strategy
 
 -- the numbers are within their bounds
 abbrev pub FitsCommand : Command → Type 0
 FitsCommand (command.Replay limits strategy) = FitLimits limits
 FitsCommand (command.Load seed count) = (seed < 2 ^ 64) × (count ≤ 100000)
+FitsCommand (command.Sessions sessions entries) = (sessions < 2 ^ 64) × (entries < 2 ^ 64)
 FitsCommand (command.Limiter buckets retries) = (buckets < 2 ^ 64) × (retries < 2 ^ 64)
 FitsCommand (command.Actors actors messages) = (actors < 2 ^ 64) × (messages < 2 ^ 64)
+FitsCommand (command.Check limits strategy) = FitLimits limits
 
 -- The words say the command.
 pub record IsCommand (words : List (List ℕ)) (c : Command) : Type 0 where
@@ -37,7 +41,14 @@ IsNoReplay words = (limits : Limits) (strategy : Blocking) → IsCommand words (
 abbrev pub IsNoLoad : List (List ℕ) → Type 0
 IsNoLoad words = (seed count : ℕ) → IsCommand words (command.Load seed count) → ⊥
 
+abbrev pub IsNoSessions : List (List ℕ) → Type 0
+IsNoSessions words = (sessions entries : ℕ) → IsCommand words (command.Sessions sessions entries) → ⊥
+
 abbrev pub IsNoLimiter : List (List ℕ) → Type 0
 IsNoLimiter words = (buckets retries : ℕ) → IsCommand words (command.Limiter buckets retries) → ⊥
+
 abbrev pub IsNoActors : List (List ℕ) → Type 0
 IsNoActors words = (actors messages : ℕ) → IsCommand words (command.Actors actors messages) → ⊥
+
+abbrev pub IsNoCheck : List (List ℕ) → Type 0
+IsNoCheck words = (limits : Limits) (strategy : Blocking) → IsCommand words (command.Check limits strategy) → ⊥

@@ -4,3 +4,4 @@ pub mod Command
 pub mod Ending
 pub mod Served
 pub mod Meanings
+pub mod Checked

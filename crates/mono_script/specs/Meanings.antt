@@ -14,9 +14,12 @@ use Rattle.mono_actor.specs.Actors.{no_actors}
 use Rattle.mono_actor_lines.specs.Lines.{line_text, FitsLine}
 use Rattle.mono_actor_lines.specs.Answers.{Answers}
 use Rattle.mono_script.specs.Answers.{IsReplayed}
+use Rattle.mono_session.specs.Keeper.{no_sessions}
+use Rattle.mono_session_lines.specs.Lines as session_line
 use Rattle.mono_script.specs.Served.{serving}
 use Rattle.mono_limit.specs.Limiter.{no_limits}
-use Rattle.mono_limit_lines.specs.Lines.{call_text, FitsCall, StepByLine}
+use Rattle.mono_limit_lines.specs.Lines as limiter_line
+use Rattle.mono_script.specs.Checked.{checking}
 
 -- a replay: event lines in, and a line for each report of a run
 abbrev pub replaying : Limits → Blocking → Meaning
@@ -39,9 +42,14 @@ loading seed count = record {
   Answers = λ input s output. (s ≡ status.Done) × ((sum : Summary) × IsSummary seed count sum × (output ≡ summary_line sum));
 }
 
+-- sessions: lines of calls in, and a line for each answer of a run of their steps from the empty sessions
+abbrev pub keeping_sessions : ℕ → ℕ → Meaning
+keeping_sessions most_sessions most_entries = serving session_line.call_text session_line.FitsCall session_line.StepsAs (no_sessions most_sessions most_entries)
+
 -- a limiter: calls in, from buckets and retries that begin empty, and a line for each answer of a run
 abbrev pub limiting : ℕ → ℕ → Meaning
-limiting buckets retries = serving call_text FitsCall StepByLine (no_limits buckets retries)
+limiting buckets retries = serving limiter_line.call_text limiter_line.FitsCall limiter_line.StepByLine (no_limits buckets retries)
+
 -- actors: lines that say calls in, and a line for each call's answers
 abbrev pub acting : ℕ → ℕ → Meaning
 acting actors messages = serving line_text FitsLine Answers (no_actors actors messages)
@@ -49,5 +57,7 @@ acting actors messages = serving line_text FitsLine Answers (no_actors actors me
 abbrev pub meaning : Command → Meaning
 meaning (command.Replay limits strategy) = replaying limits strategy
 meaning (command.Load seed count) = loading seed count
+meaning (command.Sessions sessions entries) = keeping_sessions sessions entries
 meaning (command.Limiter buckets retries) = limiting buckets retries
 meaning (command.Actors actors messages) = acting actors messages
+meaning (command.Check limits strategy) = checking limits strategy

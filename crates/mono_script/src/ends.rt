@@ -21,6 +21,8 @@ pub enum Status {
     OutOfMemory,
     /// 7: the input has more than 2^24 bytes.
     TooLong,
+    /// 11: a journal is no run; `no n` was written.
+    NotARun,
 }
 
 impl Status {
@@ -36,6 +38,7 @@ impl Status {
             Status::WriteFault => 5,
             Status::OutOfMemory => 6,
             Status::TooLong => 7,
+            Status::NotARun => 11,
         }
     }
 }

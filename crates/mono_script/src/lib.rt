@@ -2,12 +2,14 @@
 #![tactic(auto)]
 
 mod acting;
+mod check_line;
 mod command;
 mod ends;
 mod limiter_lines;
 mod load_line;
 mod replay;
 mod served;
+mod session_lines;
 mod top;
 mod words;
 

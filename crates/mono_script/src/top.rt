@@ -8,11 +8,13 @@ ghost use Rattle.mono_script.specs.declared.ends.Status.TheVariants as status;
 ghost use Rattle.mono_text.specs.declared.source.InputError.TheVariants as input_error;
 
 use crate::acting::output_of_actors;
+use crate::check_line::output_of_check;
 use crate::command::{Command, read_command};
 use crate::ends::{Output, Status};
 use crate::limiter_lines::output_of_limiter;
 use crate::load_line::output_of_load;
 use crate::replay::output_of_replay;
+use crate::session_lines::output_of_sessions;
 use mono_text::{InputError, Sink, Source, read_all, write_all};
 use std::alloc::{AllocError, Global};
 
@@ -24,8 +26,12 @@ fn made(alloc: Global, command: Command, input: &[u8]) -> Result<Output, AllocEr
     match command {
         Command::Replay(limits, blocking) => output_of_replay(alloc, limits, blocking, input),
         Command::Load(seed, count) => output_of_load(alloc, seed, count, input),
+        Command::Sessions(sessions, entries) => {
+            output_of_sessions(alloc, sessions, entries, input)
+        }
         Command::Limiter(buckets, retries) => output_of_limiter(alloc, buckets, retries, input),
         Command::Actors(actors, messages) => output_of_actors(alloc, actors, messages, input),
+        Command::Check(limits, blocking) => output_of_check(alloc, limits, blocking, input),
     }
 }
 
@@ -36,8 +42,10 @@ fn reads(command: Command) -> bool
     match command {
         Command::Replay(_, _) => true,
         Command::Load(_, _) => false,
+        Command::Sessions(_, _) => true,
         Command::Limiter(_, _) => true,
         Command::Actors(_, _) => true,
+        Command::Check(_, _) => true,
     }
 }
 
@@ -118,6 +126,7 @@ pub fn program<S: Source, K: Sink>(
     ensures usage { result ≡ 2 ↔ IsNoCommand (map string_bytes words.now.items) }
     ensures untouched { result ≡ 2 → (S.left source.new ≡ S.left source.old) × (K.written sink.new ≡ K.written sink.old) }
     ensures done { result ≡ 0 → (c : Command) → IsCommand (map string_bytes words.now.items) c → HasAnswered (meaning c) status.Done (S.left source.old) (S.left source.new) (K.written sink.old) (K.written sink.new) }
+    ensures not_a_run { result ≡ 11 → (c : Command) → IsCommand (map string_bytes words.now.items) c → HasAnswered (meaning c) status.NotARun (S.left source.old) (S.left source.new) (K.written sink.old) (K.written sink.new) }
     ensures bad_line { result ≡ 3 → (c : Command) → IsCommand (map string_bytes words.now.items) c → NamesBadLine (meaning c) (S.left source.old) (S.left source.new) (K.written sink.old) (K.written sink.new) }
     ensures read_fault { result ≡ 4 → HasRisen (S.faults source.old) (S.faults source.new) × (K.written sink.new ≡ K.written sink.old) }
     ensures write_fault { result ≡ 5 → HasRisen (K.faults sink.old) (K.faults sink.new) × ((c : Command) → IsCommand (map string_bytes words.now.items) c → IsCutShort (meaning c) (S.left source.old) (S.left source.new) (K.written sink.old) (K.written sink.new)) }

@@ -1,5 +1,5 @@
 -- One more sleep, or none for want of memory.
-use Rattle.std.proofs.Common.{◌≡◌, ◌≢◌, ◌<◌, ◌⊎◌, ◌^◌, inl, inr, ℕ, ◌+◌, ◌-◌, zero, suc, true, false, Bool, List, [], ◌∷◌, ◌++◌, length, set, Some, None, refl, ap, sym, subst, ◌∙◌, arith, ne_eqb}
+use Rattle.std.proofs.Common.{◌≡◌, ◌≢◌, ◌<◌, ◌⊎◌, ◌^◌, inl, inr, ℕ, ◌+◌, ◌-◌, zero, suc, true, false, List, [], ◌∷◌, ◌++◌, length, set, Some, None, refl, ap, sym, subst, ◌∙◌, arith}
 use Rattle.std.specs.Prelude.{Option, slice_get, is_some, nat_le, ◌==◌, ◌||◌}
 use Rattle.std.specs.Option.{option_map}
 use Rattle.std.proofs.lemmas.Bool.{cases_eq, cases_lt}
@@ -28,7 +28,7 @@ false-true : false ≡ true → ⊥
 false-true e = cc
 
 -- no further sleep is given out exactly where the live ones are at the limit
-module _ (wheel : Wheel) (keys : Table ℕ) (entries : List Entry) (greatest live : ℕ) (holds : Holds wheel keys entries greatest live) (small : length keys < 2 ^ 63) where
+module _ (wheel : Wheel) (keys : Table ℕ) (entries : List Entry) (greatest live : ℕ) (holds : Holds wheel keys entries greatest live) where
   is_some-kept : (q : ℕ) → is_some (kept_at wheel keys entries q) ≡ is_some (value_at keys q)
   is_some-kept q = by (value_at keys q) refl
     where
@@ -36,17 +36,10 @@ module _ (wheel : Wheel) (keys : Table ℕ) (entries : List Entry) (greatest liv
       by None at = refl
       by (Some j) at = ap (λ x. is_some (kept_of (timed_at wheel j) x)) (entry_there wheel keys entries greatest live holds q j at).1
 
-  past_end : (n limit : ℕ) → n < 2 ^ 63 → (n == 2 ^ 64 - 1) ≡ false
-  past_end n limit below = ne_eqb n (2 ^ 64 - 1) (λ is. omega (arith, is, below))
-
-  or-false : (b c : Bool) → c ≡ false → (b || c) ≡ b
-  or-false true c is = refl
-  or-false false c is = is
-
-  full-by : {V : Type 0} (table : Table V) (limit : ℕ) → length table ≡ length keys → ((q : ℕ) → is_some (value_at table q) ≡ is_some (value_at keys q)) → is_full table limit ≡ nat_le limit live
+  full-by : {V : Type 0} (table : Table V) (limit : ℕ) → length table ≡ length keys → ((q : ℕ) → is_some (value_at table q) ≡ is_some (value_at keys q)) → is_full table limit ≡ (nat_le limit live || (length keys == 2 ^ 64 - 1))
   full-by table limit long same =
-      or-false (nat_le limit (count_of table)) (length table == 2 ^ 64 - 1) (past_end (length table) limit (omega (arith, long, small)))
-      ∙ ap (nat_le limit) (count_of-same table keys long same ∙ sym holds.live_count)
+      ap (λ n. nat_le limit n || (length table == 2 ^ 64 - 1)) (count_of-same table keys long same ∙ sym holds.live_count)
+      ∙ ap (λ n. nat_le limit live || (n == 2 ^ 64 - 1)) long
 
   value-kept : (q : ℕ) → is_some (value_at (table_kept wheel keys entries) q) ≡ is_some (value_at keys q)
   value-kept q = elim (cases_lt q (length keys)) [
@@ -54,7 +47,7 @@ module _ (wheel : Wheel) (keys : Table ℕ) (entries : List Entry) (greatest liv
     | inr past ↦ ap is_some (get_or_past (table_kept wheel keys entries) q None (omega (arith, past, length-table_of (kept_at wheel keys entries) (length keys)))) ∙ sym (ap is_some (get_or_past keys q None past))
   ]
 
-  pub full-kept : (limit : ℕ) → is_full (table_kept wheel keys entries) limit ≡ nat_le limit live
+  pub full-kept : (limit : ℕ) → is_full (table_kept wheel keys entries) limit ≡ (nat_le limit live || (length keys == 2 ^ 64 - 1))
   full-kept limit = full-by (table_kept wheel keys entries) limit (length-table_of (kept_at wheel keys entries) (length keys)) value-kept
 
   -- as many live as there are
@@ -65,7 +58,7 @@ module _ (wheel : Wheel) (keys : Table ℕ) (entries : List Entry) (greatest liv
   is_some-seen None = refl
   is_some-seen (Some sleep) = refl
 
-  pub full-machine : (limit : ℕ) (m : Sleeps) → Standing wheel keys entries greatest limit m → is_full m.table m.limit ≡ nat_le limit live
+  pub full-machine : (limit : ℕ) (m : Sleeps) → Standing wheel keys entries greatest limit m → is_full m.table m.limit ≡ (nat_le limit live || (length keys == 2 ^ 64 - 1))
   full-machine limit m st =
       ap (is_full m.table) st.same_limit
       ∙ full-by m.table limit (same_length wheel keys entries greatest limit m st) (λ q. is_some-seen (value_at m.table q) ∙ ap is_some (value-seen wheel keys entries greatest limit m st q) ∙ is_some-kept q)

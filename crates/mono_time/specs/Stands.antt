@@ -32,4 +32,4 @@ pub record Standing (wheel : Wheel) (keys : Table ℕ) (entries : List Entry) (g
       → a.tick ≡ b.tick → a.arm < b.arm → Precedes wheel k j
 
 abbrev pub StandsForSleeps : Timers → Sleeps → Type 0
-StandsForSleeps timers sleeps = Standing timers.wheel timers.keys.items timers.entries.items timers.greatest timers.limit sleeps
+StandsForSleeps timers sleeps = Standing timers.wheel timers.keys timers.entries.items timers.greatest timers.limit sleeps

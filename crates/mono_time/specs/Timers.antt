@@ -9,7 +9,7 @@ use Rattle.mono_time.specs.declared.timers.Timers.{Timers}
 
 abbrev pub sleeps_of : Timers → SleepTable
 sleeps_of timers = record {
-  table = table_of (kept_at timers.wheel timers.keys.items timers.entries.items) (length timers.keys.items);
+  table = table_of (kept_at timers.wheel timers.keys timers.entries.items) (length timers.keys);
   greatest = timers.greatest;
   limit = timers.limit;
   is_enabled = timers.is_enabled;
@@ -21,7 +21,7 @@ elapsed_tick timers = timers.wheel.elapsed
 
 -- where each sleep is registered while it is armed
 abbrev pub registered_of : Timers → ℕ → Option ℕ
-registered_of timers s = registered_at timers.wheel timers.keys.items s
+registered_of timers s = registered_at timers.wheel timers.keys s
 
 -- how many steps the wheel has still to take at most for what is armed
 abbrev pub credit_left : Timers → ℕ

@@ -1,9 +1,11 @@
 // What the timers keep of a live sleep, at its key in the wheel.
-ghost use Rattle.std.specs.Prelude.{◌≡◌, ◌<◌, ℕ, [], ◌∷◌, ◌++◌, OnOk, OnErr, IfOk, Some, length, slice_get};
+ghost use Rattle.std.specs.Prelude.{◌≡◌, ◌<◌, ◌-◌, ◌^◌, ℕ, [], ◌∷◌, ◌++◌, OnOk, OnErr, IfOk, Some, length, slice_get};
+ghost use Rattle.mono_model.specs.Table.{next_number};
 ghost use Rattle.mono_wheel.specs.Credit.{credit};
 ghost use Rattle.mono_time.specs.Entries.{is_armed_state, is_elapsed_state, waker_in_state};
 ghost use Rattle.mono_time.specs.Keeping.{EntriesStay, KeyMade, NoKeyMade};
 
+use mono_table::Table;
 use mono_wheel::Wheel;
 use std::alloc::{AllocError, Global};
 
@@ -72,36 +74,38 @@ pub(crate) fn make_entry(entries: &mut Vec<Entry>, key: usize) -> Result<(), All
 
 /// Makes the places of a further sleep with this key: one for its entry, and one for its key. Without memory no key is there.
 pub(crate) fn make_places(
-    keys: &mut Vec<Option<u32>>,
+    alloc: Global,
+    keys: &mut Table<u32>,
     entries: &mut Vec<Entry>,
     key: usize,
 ) -> Result<(), AllocError>
-    ensures keys { OnOk result (keys.new.items ≡ keys.old.items ++ Some key ∷ []) }
+    requires { next_number keys.old < 2 ^ 64 - 1 }
+    ensures keys { OnOk result (keys.new ≡ keys.old ++ Some key ∷ []) }
     ensures inside { OnOk result (key < length entries.new.items) }
-    ensures refused { OnErr result (keys.new.items ≡ keys.old.items) }
+    ensures refused { OnErr result (keys.new ≡ keys.old) }
     ensures entries { EntriesStay entries.old.items entries.new.items }
 {
     if key > u32::MAX as usize {
         return Err(AllocError);
     }
     make_entry(entries, key)?;
-    keys.push(Some(key as u32))?;
-    Ok(())
+    keys.push(alloc, key as u32)
 }
 
 /// A key for a further sleep, with its places.
 pub(crate) fn make_key(
     alloc: Global,
     wheel: &mut Wheel,
-    keys: &mut Vec<Option<u32>>,
+    keys: &mut Table<u32>,
     entries: &mut Vec<Entry>,
 ) -> Result<usize, AllocError>
-    ensures made { IfOk result (λ key. KeyMade wheel.old wheel.new keys.old.items keys.new.items entries.old.items entries.new.items key) }
+    requires { next_number keys.old < 2 ^ 64 - 1 }
+    ensures made { IfOk result (λ key. KeyMade wheel.old wheel.new keys.old keys.new entries.old.items entries.new.items key) }
     ensures credit { credit wheel.new ≡ credit wheel.old }
-    ensures refused { OnErr result (NoKeyMade wheel.old wheel.new keys.old.items keys.new.items entries.old.items entries.new.items) }
+    ensures refused { OnErr result (NoKeyMade wheel.old wheel.new keys.old keys.new entries.old.items entries.new.items) }
 {
     let key = wheel.reserve_entry(alloc)?;
-    match make_places(keys, entries, key) {
+    match make_places(alloc, keys, entries, key) {
         Ok(()) => Ok(key),
         Err(error) => {
             wheel.free_entry(key);

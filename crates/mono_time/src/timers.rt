@@ -1,5 +1,5 @@
 // The table of sleeps over the wheel.
-ghost use Rattle.std.specs.Prelude.{◌≡◌, ◌<◌, ◌≤◌, ◌+◌, ◌-◌, ◌^◌, ℕ, max, true, Option, None, Some, IfOk, IfNone, IfSome, OnSome, OnErr, MatchOption, is_some, slice_get};
+ghost use Rattle.std.specs.Prelude.{◌≡◌, ◌<◌, ◌≤◌, ◌+◌, ◌-◌, ◌^◌, ℕ, max, true, Option, None, Some, IfOk, IfNone, IfSome, OnSome, OnErr, MatchOption, is_some, slice_get, nat_le, ◌==◌, ◌||◌};
 ghost use Rattle.mono_model.specs.Ticks.{up, down};
 ghost use Rattle.mono_model.specs.Table.{value_at, count_of, is_full};
 ghost use Rattle.mono_wheel.specs.Model.{timed_at, is_reserved};
@@ -12,6 +12,7 @@ use crate::instant::Instant;
 use crate::turning::{elapse, poll_entry, reset_entry, take_out};
 use crate::{Error, SleepError};
 use mono_model::Poll;
+use mono_table::Table;
 use mono_wheel::laws::slots_start_ahead;
 use mono_wheel::{Steps, Wheel};
 use std::alloc::{AllocError, Global};
@@ -21,12 +22,12 @@ use std::sync::ledger::Ledger;
 ///
 /// A sleep is fresh, armed at a tick, or elapsed; an armed sleep has at most one waker, the task that polled it last. Ticks
 /// are milliseconds below 2^63. Only `new` and `add` take memory. A sleep's number is never given twice, and of a sleep that
-/// was removed eight bytes stay: each key of the wheel is that of a live sleep (`holds`).
+/// was removed nothing stays: each key of the wheel is that of a live sleep (`holds`).
 #[derive(Drop)]
 pub struct Timers {
     wheel: Wheel,
     // by the sleep's number its key in the wheel, while it is live
-    keys: Vec<Option<u32>>,
+    keys: Table<u32>,
     // by key, what is kept of the sleep
     entries: Vec<Entry>,
     // the greatest tick of the clock so far
@@ -34,21 +35,24 @@ pub struct Timers {
     limit: u64,
     live: u64,
     is_enabled: bool,
-    pub ghost holds: { Holds wheel keys.items entries.items greatest live },
+    pub ghost holds: { Holds wheel keys entries.items greatest live },
 }
 
 // The key of a sleep in the wheel, while it is live.
-fn key_at(keys: &Vec<Option<u32>>, sleep: u64) -> Option<usize>
-    ensures { result ≡ value_at keys.now.items sleep }
+fn key_at(keys: &Table<u32>, sleep: u64) -> Option<usize>
+    ensures { result ≡ value_at keys.now sleep }
 {
-    let at = sleep as usize;
-    if at >= keys.len() {
-        return None;
-    }
-    match keys[at] {
+    match keys.get(sleep) {
         None => None,
-        Some(key) => Some(key as usize),
+        Some(key) => Some(*key as usize),
     }
+}
+
+// Whether no further sleep is given out, where so many live and this number is the next.
+fn is_at_end(live: u64, limit: u64, next: u64) -> bool
+    ensures { result ≡ (nat_le limit live || (next == 2 ^ 64 - 1)) }
+{
+    live >= limit || next == u64::MAX
 }
 
 fn ready_if(is_ready: bool) -> Poll<()>
@@ -84,7 +88,7 @@ impl Timers {
         let wheel = Wheel::new(alloc)?;
         Ok(Timers {
             wheel,
-            keys: Vec::new(alloc),
+            keys: Table::new(alloc),
             entries: Vec::new(alloc),
             greatest: 0,
             limit,
@@ -98,7 +102,7 @@ impl Timers {
         ensures full { result ≡ is_full (sleeps_of self.now).table (sleeps_of self.now).limit }
         ensures stands { (m : Sleeps) → StandsForSleeps self.now m → result ≡ is_full m.table m.limit }
     {
-        self.live >= self.limit
+        is_at_end(self.live, self.limit, self.keys.len())
     }
 
     /// How many sleeps live (`live`). No more than these are armed (`armed`).
@@ -124,10 +128,10 @@ impl Timers {
         if !self.is_enabled {
             return Err(SleepError::Timer(Error::Shutdown));
         }
-        if self.live >= self.limit {
+        let sleep = self.keys.len();
+        if is_at_end(self.live, self.limit, sleep) {
             return Err(SleepError::Timer(Error::AtCapacity));
         }
-        let sleep = self.keys.len() as u64;
         match make_key(alloc, &mut self.wheel, &mut self.keys, &mut self.entries) {
             Err(_) => Err(SleepError::Memory),
             Ok(key) => {
@@ -198,7 +202,7 @@ impl Timers {
                 let is_armed = self.entries[key].state.is_armed();
                 take_out(&mut self.wheel, key, is_armed);
                 self.wheel.free_entry(key);
-                self.keys[sleep as usize] = None;
+                self.keys.remove(sleep);
                 self.live -= 1;
                 Ok(())
             }

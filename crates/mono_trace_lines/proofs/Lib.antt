@@ -1,3 +1,5 @@
 pub mod Spelled
+pub mod Again
+pub mod Lines
+pub mod Checking
 mod Listed
-mod Answering

@@ -1,5 +1,5 @@
 -- What is read is spelled so, and what is spelled so is read: reports.
-use Rattle.std.proofs.Common.{◌≡◌, ℕ, zero, suc, ◌^◌, ◌<◌, ◌≤◌, ◌+◌, ◌++◌, List, [], ◌∷◌, length, Some, None, Option, Bool, true, false, ◌⊎◌, if◌then◌else◌, refl, sym, ap, subst, ◌∙◌, arith, inl, inr, append_assoc, length-append, codes, slice_index, ◌==◌, lit≤, lit<, flat_map}
+use Rattle.std.proofs.Common.{◌≡◌, ℕ, zero, suc, ◌^◌, ◌++◌, List, [], ◌∷◌, length, Some, None, Option, ◌⊎◌, refl, sym, ap, subst, ◌∙◌, arith, inl, inr, append_assoc, codes, slice_index, ◌==◌, lit<, flat_map}
 use Rattle.std.proofs.lemmas.List.{append-nil}
 use Rattle.std.specs.Fmt.{decimal}
 use Rattle.mono_model.specs.declared.Woke.TheVariants as woke
@@ -12,9 +12,9 @@ use Rattle.mono_machine.specs.declared.events.Reply.TheVariants as reply
 use Rattle.mono_machine.specs.declared.events.Report.{Report}
 use Rattle.mono_machine.specs.declared.events.Report.TheVariants as report
 use Rattle.mono_text.specs.Written.{refusal_text, number_text, reply_text, ended_text, reply_part, number_part, report_text}
-use Rattle.mono_text.specs.Reading.{Read, when, mapped, then_read, word_at, digits_from, number_at}
+use Rattle.mono_text.specs.Reading.{Read, mapped, then_read, word_at, number_at}
 use Rattle.mono_text.proofs.Words.{word_is}
-use Rattle.mono_text.proofs.Digits.{digits_found, digits_again, starts_digit}
+use Rattle.mono_text.proofs.Digits.{digits_found}
 use Rattle.mono_text.proofs.Spelled.{when_cases, chosen, mapped_some, then_some, numbered_found, small}
 use Rattle.mono_trace_lines.specs.Reported.{FitsAny, FitsReply, FitReplies, FitNumbers, FitsReport}
 use Rattle.mono_trace_lines.specs.Reading.{any_number_at, refusal_at, n_reply_at, e_reply_at, ready_with, r_reply_at, other_reply_at, reply_at, ended_at, mapped_or, replies_at, numbers_at, report_at}
@@ -195,13 +195,13 @@ or_cases f (Some o) other y rest h =
     inl (o.0, ap (λ r. Some (o.0, r)) k.1, k.0)
 
 -- the parts of a turn's report, with what is behind them
-abbrev turn_parts : List Reply → Ended → List ℕ → List ℕ
+abbrev pub turn_parts : List Reply → Ended → List ℕ → List ℕ
 turn_parts replies e rest = flat_map reply_part replies ++ codes "; " ++ ended_text e ++ rest
 
-regroup : (a f g e rest : List ℕ) → a ++ (f ++ g ++ e ++ rest) ≡ a ++ f ++ g ++ e ++ rest
+pub regroup : (a f g e rest : List ℕ) → a ++ (f ++ g ++ e ++ rest) ≡ a ++ f ++ g ++ e ++ rest
 regroup a f g e rest = grind (arith, append_assoc)
 
-regroup_all : (a b f g e rest : List ℕ) → a ++ (b ++ (f ++ g ++ e ++ rest)) ≡ a ++ b ++ f ++ g ++ e ++ rest
+pub regroup_all : (a b f g e rest : List ℕ) → a ++ (b ++ (f ++ g ++ e ++ rest)) ≡ a ++ b ++ f ++ g ++ e ++ rest
 regroup_all a b f g e rest = grind (arith, append_assoc)
 
 record RepliesAre (t : ℕ) (front : List Reply) (bytes rest : List ℕ) (r : Report) : Type 0 where
@@ -229,7 +229,7 @@ replies_found (suc most) t front bytes r rest h = elim (when_cases (word_at (cod
               last = more.last;
               is = ap (λ x. report.Turn t x more.last) (sym (append_assoc front (s.0 ∷ []) more.replies)) ∙ more.is;
               text = b ∙ ap (λ q. codes "; " ++ q) (k.0 ∙ ap (λ q. reply_text s.0 ++ q) more.text)
-              ∙ regroup (reply_part s.0) (flat_map reply_part more.replies) (codes "; ") (ended_text more.last) rest;
+                  ∙ regroup (reply_part s.0) (flat_map reply_part more.replies) (codes "; ") (ended_text more.last) rest;
               fit = (k.1, more.fit);
             }
       ]
@@ -258,7 +258,7 @@ numbers_found (suc most) front bytes all rest h = elim (when_cases (word_at (cod
         numbers = s.0 ∷ more.numbers;
         is = sym (append_assoc front (s.0 ∷ []) more.numbers) ∙ more.is;
         text = word_is (codes " ") bytes w.0 w.1 ∙ ap (λ q. codes " " ++ q) (d.0 ∙ ap (λ q. decimal s.0 ++ q) more.text ∙ sym (append_assoc (decimal s.0) (flat_map number_part more.numbers) rest))
-        ∙ sym (ap (λ q. q ++ rest) (append_assoc (codes " ") (decimal s.0) (flat_map number_part more.numbers)));
+            ∙ sym (ap (λ q. q ++ rest) (append_assoc (codes " ") (decimal s.0) (flat_map number_part more.numbers)));
         fit = (d.1, more.fit);
       }
 ]
@@ -274,7 +274,7 @@ turn_found bytes w r rest h e =
     let k = replies_found (length s.1) s.0 [] s.1 r rest s.3 in
     subst (ReportIs bytes rest) k.is (
       word_is (codes "turn ") bytes w h ∙ ap (λ q. codes "turn " ++ q) (d.0 ∙ ap (λ q. decimal s.0 ++ q) k.text)
-      ∙ regroup_all (codes "turn ") (decimal s.0) (flat_map reply_part k.replies) (codes "; ") (ended_text k.last) rest,
+          ∙ regroup_all (codes "turn ") (decimal s.0) (flat_map reply_part k.replies) (codes "; ") (ended_text k.last) rest,
       (d.1, k.fit),
     )
 

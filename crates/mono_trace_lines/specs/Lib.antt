@@ -1,3 +1,4 @@
 pub mod Reported
 pub mod Reading
 pub mod Journal
+pub mod Taking

@@ -1,6 +1,8 @@
 // The check of a whole journal.
-ghost use Rattle.std.specs.Prelude.{IfOk};
+ghost use Rattle.std.specs.Prelude.{◌-◌, ◌<◌, IfOk, OnOk};
+ghost use Rattle.mono_trace.specs.Stands.{machine_of};
 ghost use Rattle.mono_trace_lines.specs.Journal.{IsAnswer};
+ghost use Rattle.mono_trace_lines.specs.Taking.{LeadsOn, HasFewArms};
 
 use crate::journal::{JournalLine, read_line};
 use mono_machine::{Blocking, Event, Limits, List, Report, TurnStep};
@@ -26,27 +28,58 @@ struct Checking {
     failed: Option<usize>,
 }
 
-// Takes what line n says: a pair, while none has failed; the other lines are passed over.
+// Takes the pair in a line with this number, unless one has failed.
+#[inline(always)]
+fn take_pair(
+    alloc: Global,
+    checking: &mut Checking,
+    event: &Event,
+    report: &Report,
+    line: usize,
+) -> Result<(), AllocError>
+    requires counted { 0 < line }
+    requires few { HasFewArms (line - 1) (machine_of checking.old.trace) }
+    ensures leads { OnOk result (LeadsOn line (JournalLine.Ran event.now report.now) checking.old.failed (machine_of checking.old.trace) checking.new.failed (machine_of checking.new.trace)) }
+    ensures few { OnOk result (HasFewArms line (machine_of checking.new.trace)) }
+{
+    if checking.failed.is_some() {
+        return Ok(());
+    }
+    if !checking.trace.step(alloc, event, report)? {
+        checking.failed = Some(line);
+    }
+    Ok(())
+}
+
+// Takes what a line with this number says: a pair, unless one has failed. The other lines are passed over.
+#[inline(always)]
 fn take_line(
     alloc: Global,
     checking: &mut Checking,
-    said: JournalLine,
-    n: usize,
-    spare: &mut List<TurnStep>,
+    item: &JournalLine,
+    line: usize,
 ) -> Result<(), AllocError>
+    requires counted { 0 < line }
+    requires few { HasFewArms (line - 1) (machine_of checking.old.trace) }
+    ensures leads { OnOk result (LeadsOn line item.now checking.old.failed (machine_of checking.old.trace) checking.new.failed (machine_of checking.new.trace)) }
+    ensures few { OnOk result (HasFewArms line (machine_of checking.new.trace)) }
 {
-    match said {
-        JournalLine::Ran(event, report) => {
-            if checking.failed.is_none() && !checking.trace.step(alloc, &event, &report)? {
-                checking.failed = Some(n);
-            }
-            if let Event::Turn(steps, _) = event {
-                *spare = steps;
-            }
-        }
-        JournalLine::Now(_) | JournalLine::Park(_) | JournalLine::Main(_) => {}
+    match item {
+        JournalLine::Ran(event, report) => take_pair(alloc, checking, event, report, line),
+        JournalLine::Now(_) => Ok(()),
+        JournalLine::Park(_) => Ok(()),
+        JournalLine::Main(_) => Ok(()),
     }
-    Ok(())
+}
+
+// Keeps the list of a turn's steps for the next one.
+#[inline(always)]
+fn keep_list(item: JournalLine, spare: &mut List<TurnStep>) {
+    if let JournalLine::Ran(event, _) = item {
+        if let Event::Turn(steps, _) = event {
+            *spare = steps;
+        }
+    }
 }
 
 /// Whether a journal is a run of the machine, from the start machine with these limits and this strategy.
@@ -69,10 +102,11 @@ pub fn check_lines(
     let mut spare = List::new(alloc);
     let mut count = 0usize;
     'lines: while !reader.is_empty() {
-        let Some(said) = read_line(alloc, &mut reader, &mut spare)? else {
+        let Some(item) = read_line(alloc, &mut reader, &mut spare)? else {
             return Ok(Answer::BadLine(count + 1));
         };
-        take_line(alloc, &mut checking, said, count + 1, &mut spare)?;
+        take_line(alloc, &mut checking, &item, count + 1)?;
+        keep_list(item, &mut spare);
         count += 1;
     }
     match checking.failed {

@@ -1,5 +1,5 @@
 // Report lines in.
-ghost use Rattle.std.specs.Prelude.{[], length};
+ghost use Rattle.std.specs.Prelude.{◌≡◌, [], None, length};
 ghost use Rattle.mono_text.specs.Reading.{Gives, GivesIf, number_at};
 ghost use Rattle.mono_trace_lines.specs.Reading.{any_number_at, refusal_at, n_reply_at, e_reply_at, r_reply_at, other_reply_at, reply_at, ended_at, replies_at, numbers_at, report_at};
 

@@ -12,16 +12,22 @@ const HELP: &str = "usage:
   monoio load SEED COUNT
       replays a long input that the seed gives, and writes one line that sums up its reports
       SEED: a number below 2^64; COUNT: at most 100000
+  monoio sessions SESSIONS ENTRIES
+      reads lines that say calls on sessions and locks, and writes the answer of each
+      SESSIONS: how many may be open; ENTRIES: how many may stand in all queues; numbers below 2^64
   monoio limiter BUCKETS RETRIES
       answers lines that make and use token buckets and retries, a line for each
       BUCKETS, RETRIES: limits, numbers below 2^64
   monoio actors ACTORS MESSAGES
       makes the calls on actors that the lines of standard input say, and writes a line of answers for each
       ACTORS, MESSAGES: limits, numbers below 2^64
+  monoio check STRATEGY TASKS JOBS SLEEPS
+      reads a journal, event lines with their report lines, and writes yes where it is a run of the machine,
+      or no and the number of the first line that no step allows
   monoio --help
   monoio --version
 exit status: 0 done, 2 no such command, 3 a bad line, 4 a read failed, 5 a write failed, 6 out of memory,
-      7 more than 16777216 bytes of input";
+      7 more than 16777216 bytes of input, 11 a journal that is no run";
 
 const VERSION: &str = "monoio 0.1.0, after the crate monoio 0.2.4";
 
@@ -33,8 +39,9 @@ fn cause(status: u8) -> &'static str {
         5 => "standard output can't be written",
         6 => "out of memory",
         7 => "the input has more than 16777216 bytes",
+        11 => "the journal is no run; the output names the first line that no step allows",
         _ =>
-            "usage: monoio replay attached|local|panic TASKS JOBS SLEEPS, monoio load SEED COUNT, monoio limiter BUCKETS RETRIES, monoio actors ACTORS MESSAGES, monoio --help, monoio --version",
+            "usage: monoio replay attached|local|panic TASKS JOBS SLEEPS, monoio load SEED COUNT, monoio sessions SESSIONS ENTRIES, monoio limiter BUCKETS RETRIES, monoio actors ACTORS MESSAGES, monoio check attached|local|panic TASKS JOBS SLEEPS, monoio --help, monoio --version",
     }
 }
 

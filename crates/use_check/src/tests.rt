@@ -10,7 +10,7 @@ use std::test::Fail;
 const LIMITS: Limits = Limits {
     tasks: 16,
     jobs: 16,
-    sleeps: 1000,
+    sleeps: 200000,
 };
 
 fn turn(alloc: Global, steps: &[TurnStep], end: End) -> Result<Event, AllocError> {
@@ -146,6 +146,20 @@ fn long_lists(rt: HostRuntime) -> Result<(), Fail> {
     assert_eq!(rt; many(alloc, 300, all)?, Some(Verdict::Yes));
     assert_eq!(rt; many(alloc, 300, without_last)?, Some(Verdict::No(2)));
     assert_eq!(rt; many(alloc, 300, swapped)?, Some(Verdict::No(2)));
+    Ok(())
+}
+
+#[test]
+fn a_long_list_of_one_tick(rt: HostRuntime) -> Result<(), Fail> {
+    let alloc = rt.alloc();
+    let mut all = List::new(alloc);
+    let mut last_first = List::new(alloc);
+    for s in 0..100000 {
+        all.push(s)?;
+        last_first.push(99999 - s)?;
+    }
+    assert_eq!(rt; many(alloc, 100000, all)?, Some(Verdict::Yes));
+    assert_eq!(rt; many(alloc, 100000, last_first)?, Some(Verdict::No(2)));
     Ok(())
 }
 

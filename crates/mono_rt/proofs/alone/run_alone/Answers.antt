@@ -1,8 +1,9 @@
-use Rattle.std.proofs.Common.{◌≡◌, true, false, [], subst}
+use Rattle.std.proofs.Common.{[], subst}
 use Rattle.mono_machine.specs.Machine.{Machine, start_machine}
+use Rattle.mono_jobs.specs.Spawning.{strategy_of}
 use Rattle.mono_rt.specs.Numbered.{answer_numbered}
 use Rattle.mono_rt.specs.Rounds.{Blocked}
-use Rattle.mono_rt.proofs.Going.{goes_of, run_of}
+use Rattle.mono_rt.proofs.Going.{goes_of, run_of, registers_of}
 use Rattle.mono_rt.proofs.Doing.{relation_of}
 use Rattle.mono_rt.proofs.alone.run_alone.Goals as goal
 
@@ -11,11 +12,12 @@ returns g c =
     let number = g.O.Outcome.output_number in
     let made = c.in_ok-runtime.runtime in
     let left = c.block_on-answer.new.self in
-    let m = start_machine c.args.limits c.args.strategy in
+    let m = start_machine c.args.limits (strategy_of c.args.pool) in
     let answer = answer_numbered number c.block_on-answer.result in
     let told = Blocked made.cx.parts.has_timers c.args.turns answer in
     record {
       blocked = λ unfull. subst (λ h. (new : Machine) × Blocked h c.args.turns answer m c.into_journal.result.entries.items new []) c.in_ok-runtime.ensures.timers
           (relation_of number told made.cx.parts left.cx.parts made.journal left.journal c.into_journal.result m c.in_ok-runtime.ensures.stands c.in_ok-runtime.ensures.journal c.into_journal.ensures c.block_on-answer.ensures.blocked unfull);
+      parks = λ unfull. registers_of number made.cx.parts left.cx.parts made.journal left.journal c.into_journal.result m c.in_ok-runtime.ensures.stands c.in_ok-runtime.ensures.journal c.into_journal.ensures c.in_ok-runtime.ensures.registered (goes_of number told made.cx.parts left.cx.parts made.journal left.journal c.block_on-answer.ensures.blocked) unfull;
       run = λ unfull. run_of number made.cx.parts left.cx.parts made.journal left.journal c.into_journal.result m c.in_ok-runtime.ensures.stands c.in_ok-runtime.ensures.journal c.into_journal.ensures (goes_of number told made.cx.parts left.cx.parts made.journal left.journal c.block_on-answer.ensures.blocked) unfull;
     }

@@ -4,7 +4,7 @@ use Rattle.mono_script.specs.Ending.{IsRead}
 use Rattle.mono_script.specs.Meanings.{meaning}
 use Rattle.mono_script.specs.declared.ends.Status.TheVariants as status
 use Rattle.mono_script.proofs.Commands.{command_once}
-use Rattle.mono_script.proofs.Statuses.{says, sound, done, bad_line, write_fault, long_where, bad_where, completed, rose_in_reading, rose_in_writing}
+use Rattle.mono_script.proofs.Statuses.{says, sound, done, not_a_run, bad_line, write_fault, long_where, bad_where, completed, rose_in_reading, rose_in_writing}
 use Rattle.mono_script.proofs.top.program.Goals as goal
 
 pub returns-in-Some-clause-done : goal.returns-in-Some-clause-done
@@ -14,6 +14,15 @@ returns-in-Some-clause-done g c = λ is d words.
     (g.S.Source.left c.args.source.now) (g.S.Source.left c.carry_out.new.source) (g.K.Sink.written c.args.sink.now) (g.K.Sink.written c.carry_out.new.sink)
     (HasRisen (g.S.Source.faults c.args.source.now) (g.S.Source.faults c.carry_out.new.source)) (HasRisen (g.K.Sink.faults c.args.sink.now) (g.K.Sink.faults c.carry_out.new.sink))
     c.code.result 0 c.carry_out.result status.Done c.code.ensures c.carry_out.ensures.ends is (done c.carry_out.result) in
+    rw same ended
+
+pub returns-in-Some-clause-not_a_run : goal.returns-in-Some-clause-not_a_run
+returns-in-Some-clause-not_a_run g c = λ is d words.
+    let same = command_once (map string_bytes c.args.words.now.items) d c.in-Some.command words c.in-Some.ensures.found in
+    let ended = says (meaning c.in-Some.command)
+    (g.S.Source.left c.args.source.now) (g.S.Source.left c.carry_out.new.source) (g.K.Sink.written c.args.sink.now) (g.K.Sink.written c.carry_out.new.sink)
+    (HasRisen (g.S.Source.faults c.args.source.now) (g.S.Source.faults c.carry_out.new.source)) (HasRisen (g.K.Sink.faults c.args.sink.now) (g.K.Sink.faults c.carry_out.new.sink))
+    c.code.result 11 c.carry_out.result status.NotARun c.code.ensures c.carry_out.ensures.ends is (not_a_run c.carry_out.result) in
     rw same ended
 
 pub returns-in-Some-clause-bad_line : goal.returns-in-Some-clause-bad_line

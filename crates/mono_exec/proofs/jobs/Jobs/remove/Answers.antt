@@ -4,4 +4,4 @@ use Rattle.mono_exec.specs.JobTable.{place_of}
 use Rattle.mono_exec.proofs.jobs.Jobs.remove.Goals as goal
 
 pub returns : goal.returns
-returns c = rw (← c.self.view_is, map-set place_of c.self.inside.places.items c.args.j None)
+returns c = rw (← c.self.view_is, c.remove.ensures, map-set place_of c.self.inside.places c.args.j None)

@@ -1,10 +1,11 @@
-use Rattle.std.proofs.Common.{refl, ap, ◌∙◌, subst, None}
+use Rattle.std.proofs.Common.{refl, ap, ◌∙◌, subst}
 use Rattle.std.specs.Option.{option_map}
 use Rattle.mono_machine.specs.JoinCalls.{drop_reply}
 use Rattle.mono_machine.specs.declared.events.Act.TheVariants as act
 use Rattle.mono_machine.specs.declared.events.Event.TheVariants as event
 use Rattle.mono_machine.specs.declared.events.Reply.TheVariants as reply
 use Rattle.mono_machine.specs.declared.events.Report.TheVariants as report
+use Rattle.mono_rt.specs.Stands.{hosting_of}
 use Rattle.mono_rt.specs.Journals.{Does, IsStep}
 use Rattle.mono_rt.specs.Numbered.{drop_numbered}
 use Rattle.mono_rt.specs.Rounds.{IsDrop, DropsFor}
@@ -17,7 +18,7 @@ pub returns-in-Ok-answer-clause-dropped : goal.returns-in-Ok-answer-clause-dropp
 returns-in-Ok-answer-clause-dropped g c =
     let number = g.O.Outcome.output_number in
     let parts = c.args.self.now.cx.parts in
-    let after = with_all number parts c.drop_join-answer.new.self parts.timers parts.acts in
+    let after = with_all number hosting_of parts c.drop_join-answer.new.self parts.timers parts.acts in
     let step = IsStep (event.Act (act.DropJoin c.args.main)) (report.Reply (reply.Dropped (option_map number c.in-Ok-answer.output))) in
     drops_for number c.args.main (option_map number c.in-Ok-answer.output) parts after c.args.self.now.journal c.push.new.self
     (stay_on number step parts parts after c.args.self.now.journal c.reserve.new.self c.push.new.self
@@ -27,7 +28,7 @@ returns-in-Ok-answer-clause-dropped g c =
     (c.drop_reply_of-reply.ensures ∙ ap (λ a. drop_reply (drop_numbered number a)) c.drop_join-answer.ensures.answer) c.drop_join-answer.ensures.after refl refl refl)))
 
 pub returns-in-Ok-answer-clause-goes : goal.returns-in-Ok-answer-clause-goes
-returns-in-Ok-answer-clause-goes g c = goes_of g.O.Outcome.output_number (DropsFor c.args.main (option_map g.O.Outcome.output_number c.in-Ok-answer.output)) c.args.self.now.cx.parts (with_all g.O.Outcome.output_number c.args.self.now.cx.parts c.drop_join-answer.new.self c.args.self.now.cx.parts.timers c.args.self.now.cx.parts.acts) c.args.self.now.journal c.push.new.self (returns-in-Ok-answer-clause-dropped g c)
+returns-in-Ok-answer-clause-goes g c = goes_of g.O.Outcome.output_number (DropsFor c.args.main (option_map g.O.Outcome.output_number c.in-Ok-answer.output)) c.args.self.now.cx.parts (with_all g.O.Outcome.output_number hosting_of c.args.self.now.cx.parts c.drop_join-answer.new.self c.args.self.now.cx.parts.timers c.args.self.now.cx.parts.acts) c.args.self.now.journal c.push.new.self (returns-in-Ok-answer-clause-dropped g c)
 
 pub returns-in-Err-answer-clause-dropped : goal.returns-in-Err-answer-clause-dropped
 returns-in-Err-answer-clause-dropped g c =

@@ -8,9 +8,9 @@ returns-in-Err-clause-stays g c = does_stay g.O.Outcome.output_number c.args.sel
 pub returns-in-Err-make_place-clause-stays : goal.returns-in-Err-make_place-clause-stays
 returns-in-Err-make_place-clause-stays g c =
     let is = c.make_place.ensures.parts in
-    does_stay g.O.Outcome.output_number c.args.self.now.cx.parts c.make_place.new.self.parts c.args.self.now.journal c.reserve.new.self (ap (λ p. p.tasks) is) (ap (λ p. p.timers) is) (ap (λ p. p.has_timers) is) (ap (λ p. p.strategy) is) c.reserve.ensures.entries c.reserve.ensures.full
+    does_stay g.O.Outcome.output_number c.args.self.now.cx.parts c.make_place.new.self.parts c.args.self.now.journal c.reserve.new.self (ap (λ p. p.tasks) is) (ap (λ p. p.timers) is) (ap (λ p. p.has_timers) is) (ap (λ p. p.blocking) is) c.reserve.ensures.entries c.reserve.ensures.full
 
 pub returns-in-Ok-make_place-clause-stays : goal.returns-in-Ok-make_place-clause-stays
 returns-in-Ok-make_place-clause-stays g c =
     let is = c.make_place.ensures.parts in
-    does_stay g.O.Outcome.output_number c.args.self.now.cx.parts c.make_place.new.self.parts c.args.self.now.journal c.reserve.new.self (ap (λ p. p.tasks) is) (ap (λ p. p.timers) is) (ap (λ p. p.has_timers) is) (ap (λ p. p.strategy) is) c.reserve.ensures.entries c.reserve.ensures.full
+    does_stay g.O.Outcome.output_number c.args.self.now.cx.parts c.make_place.new.self.parts c.args.self.now.journal c.reserve.new.self (ap (λ p. p.tasks) is) (ap (λ p. p.timers) is) (ap (λ p. p.has_timers) is) (ap (λ p. p.blocking) is) c.reserve.ensures.entries c.reserve.ensures.full

@@ -12,7 +12,7 @@ returns-in-Ok-with_room-clause-reading g c =
     let n = c.as_nanos.result in
     stay_on number IsReading parts parts parts c.args.self.now.journal c.reserve.new.self c.push.new.self
     (does_stay number parts parts c.args.self.now.journal c.reserve.new.self refl refl refl refl c.reserve.ensures.entries c.reserve.ensures.full)
-    (does_past number IsReading parts c.reserve.new.self c.push.new.self (Now n ∷ []) (λ unfull. c.push.ensures.entries ∙ pushed_open c.reserve.new.self (Now n) (sym c.push.ensures.full ∙ unfull)) c.push.ensures.full (λ m. refl) (λ m st rest. (n, (refl, refl))))
+    (does_past number IsReading parts c.reserve.new.self c.push.new.self (Now n ∷ []) (λ unfull. c.push.ensures.entries ∙ pushed_open c.reserve.new.self (Now n) (sym c.push.ensures.full ∙ unfull)) c.push.ensures.full (λ m. refl) (λ m st. (refl, λ s. refl)) (λ m st rest. (n, (refl, refl))))
 
 pub returns-in-Ok-with_room-clause-goes : goal.returns-in-Ok-with_room-clause-goes
 returns-in-Ok-with_room-clause-goes g c = goes_of g.O.Outcome.output_number IsReading c.args.self.now.cx.parts c.args.self.now.cx.parts c.args.self.now.journal c.push.new.self (returns-in-Ok-with_room-clause-reading g c)

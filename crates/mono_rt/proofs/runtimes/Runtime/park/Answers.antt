@@ -1,5 +1,11 @@
-use Rattle.std.proofs.Common.{refl, [], ◌∷◌, ◌∙◌, sym, subst}
-use Rattle.mono_rt.specs.Journals.{Does}
+use Rattle.std.proofs.Common.{ℕ, Some, None, Option, refl, [], ◌∷◌, ◌∙◌, sym, subst}
+use Rattle.std.specs.Prelude.{IfSome}
+use Rattle.mono_time.specs.Instants.{nanos_of}
+use Rattle.mono_time.specs.Timers.{registered_of}
+use Rattle.mono_machine.specs.Machine.{Machine}
+use Rattle.mono_rt.specs.Stands.{hosting_of, Matches}
+use Rattle.mono_rt.specs.Journals.{Does, WaitsForNext}
+use Rattle.mono_rt.proofs.Registering.{parked_registers}
 use Rattle.mono_rt.specs.Rounds.{IsPark, IsWait}
 use Rattle.mono_rt.specs.declared.journals.Entry.TheVariants.{Now, Park}
 use Rattle.mono_rt.proofs.Going.{goes_of, does_stay, does_past}
@@ -22,7 +28,14 @@ returns-in-Ok-clause-parked g c =
     (stay_on number (IsPark parts.has_timers) parts parts parts c.args.self.now.journal opened last
     (does_stay number parts parts c.args.self.now.journal opened refl refl refl refl c.reserve.ensures.entries c.reserve.ensures.full)
     (does_past number (IsPark parts.has_timers) parts opened last (Now n ∷ Park wait ∷ []) (two_pushed opened c.push.new.self last (Now n) (Park wait) c.push.ensures.full c.push-in-Ok.ensures.full c.push.ensures.entries c.push-in-Ok.ensures.entries)
-    (c.push-in-Ok.ensures.full ∙ c.push.ensures.full) (λ m. refl) (λ m st rest. (n, (wait, (subst (λ x. IsWait parts.has_timers m x wait) (sym c.as_nanos.ensures) (c.wait_from-wait.ensures m st), (refl, refl))))))))
+    (c.push-in-Ok.ensures.full ∙ c.push.ensures.full) (λ m. refl) (λ m st. parked_registers n wait m (registered_of parts.timers) (by_reading m st wait c.wait_from-wait.ensures.next))
+    (λ m st rest. (n, (wait, (subst (λ x. IsWait parts.has_timers m x wait) (sym c.as_nanos.ensures) (c.wait_from-wait.ensures.wait m st), (refl, refl))))))))
+  where
+    by_reading : (m : Machine) → Matches g.O.Outcome.output_number hosting_of c.args.self.now.cx.parts m → (wait : Option ℕ)
+        → IfSome wait (λ v. (x : Machine) → Matches g.O.Outcome.output_number hosting_of c.args.self.now.cx.parts x → WaitsForNext x (registered_of c.args.self.now.cx.parts.timers) (Some (nanos_of c.now-now.result)) v)
+        → IfSome wait (WaitsForNext m (registered_of c.args.self.now.cx.parts.timers) (Some c.as_nanos.result))
+    by_reading m st None is = tt
+    by_reading m st (Some v) is = subst (λ n. WaitsForNext m (registered_of c.args.self.now.cx.parts.timers) (Some n) v) (sym c.as_nanos.ensures) (is m st)
 
 pub returns-in-Ok-clause-goes : goal.returns-in-Ok-clause-goes
 returns-in-Ok-clause-goes g c = goes_of g.O.Outcome.output_number (IsPark c.args.self.now.cx.parts.has_timers) c.args.self.now.cx.parts c.park_driver-failed.new.self.cx.parts c.args.self.now.journal c.park_driver-failed.new.self.journal (returns-in-Ok-clause-parked g c)

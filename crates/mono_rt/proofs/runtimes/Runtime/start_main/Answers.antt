@@ -2,6 +2,7 @@ use Rattle.std.proofs.Common.{◌≡◌, ℕ, Bool, true, false, refl, ap, sym, 
 use Rattle.std.specs.Prelude.{Result}
 use Rattle.mono_task.specs.declared.error.SpawnTask.{SpawnTask}
 use Rattle.mono_task.specs.declared.error.SpawnTask.TheVariants.{AtCapacity}
+use Rattle.mono_rt.specs.Stands.{hosting_of}
 use Rattle.mono_rt.specs.Journals.{Does}
 use Rattle.mono_rt.proofs.Calling.{with_all}
 use Rattle.mono_rt.proofs.Going.{goes_of, does_spawn, does_full}
@@ -24,7 +25,7 @@ returns-in-Ok-clause-spawned g c =
     let number = g.O.Outcome.output_number in
     let old = c.args.self.now in
     let opened = c.open_spawn.new.self in
-    let made = with_all number opened.cx.parts c.spawn.new.self opened.cx.parts.timers opened.cx.parts.acts in
+    let made = with_all number hosting_of opened.cx.parts c.spawn.new.self opened.cx.parts.timers opened.cx.parts.acts in
     subst (λ p. Does number (IsSpawn c.in-Ok.t) old.cx.parts p old.journal c.push.new.self) (sym c.put_future.ensures.parts)
     (stay_on number (IsSpawn c.in-Ok.t) old.cx.parts opened.cx.parts made old.journal opened.journal c.push.new.self c.open_spawn.ensures.stays
     (does_spawn number opened.cx.parts made opened.journal c.push.new.self c.in-Ok.t c.push.ensures.entries c.push.ensures.full

@@ -1,3 +1,4 @@
+use Rattle.mono_rt.specs.Stands.{hosting_of}
 use Rattle.mono_rt.specs.Rounds.{OneTurn}
 use Rattle.mono_rt.proofs.Calling.{same_machine}
 use Rattle.mono_rt.proofs.Going.{goes_of, goes_on, does_turn}
@@ -13,7 +14,7 @@ returns-then-self-clause-goes g c =
     let left = c.keep_turn.new.self in
     goes_on number old.cx.parts opened.cx.parts left.cx.parts old.journal opened.journal left.journal c.open_turn.ensures.goes
     (goes_of number _ opened.cx.parts left.cx.parts opened.journal left.journal (does_turn number opened.cx.parts done.parts left.cx.parts opened.journal left.journal _ _ _ c.turn-task.ensures.is c.keep_turn.ensures.kept
-    (λ m st. same_machine number done.parts left.cx.parts m c.keep_turn.ensures.tasks c.keep_turn.ensures.timers c.keep_turn.ensures.has_timers c.keep_turn.ensures.strategy st)))
+    (λ m st. same_machine number hosting_of done.parts left.cx.parts m c.keep_turn.ensures.tasks c.keep_turn.ensures.timers c.keep_turn.ensures.has_timers c.keep_turn.ensures.blocking st) c.keep_turn.ensures.timers))
 
 pub returns-clause-turned : goal.returns-clause-turned
 returns-clause-turned g c =
@@ -24,7 +25,7 @@ returns-clause-turned g c =
     let left = c.keep_turn.new.self in
     does_one number old.cx.parts opened.cx.parts left.cx.parts old.journal opened.journal left.journal _ _ _ _ _ c.in-Some.ensures.reading
     (does_turn number opened.cx.parts done.parts left.cx.parts opened.journal left.journal _ _ _ c.turn-task.ensures.is c.keep_turn.ensures.kept
-    (λ m st. same_machine number done.parts left.cx.parts m c.keep_turn.ensures.tasks c.keep_turn.ensures.timers c.keep_turn.ensures.has_timers c.keep_turn.ensures.strategy st))
+    (λ m st. same_machine number hosting_of done.parts left.cx.parts m c.keep_turn.ensures.tasks c.keep_turn.ensures.timers c.keep_turn.ensures.has_timers c.keep_turn.ensures.blocking st) c.keep_turn.ensures.timers)
 
 pub returns-clause-goes : goal.returns-clause-goes
 returns-clause-goes g c = goes_of g.O.Outcome.output_number OneTurn c.args.self.now.cx.parts c.keep_turn.new.self.cx.parts c.args.self.now.journal c.keep_turn.new.self.journal (returns-clause-turned g c)

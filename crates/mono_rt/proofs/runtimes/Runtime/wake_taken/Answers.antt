@@ -24,7 +24,7 @@ returns-in-Some-clause-drained g c =
     (tell_is.listed ∙ ap (λ xs. xs ++ listed opened.cx.parts.tasks.tasks taken) c.in-Some.ensures.empty ∙ ap (λ x. listed x.parts.tasks.tasks taken) open_is.same)
     (c.push.ensures.entries ∙ ap (λ xs. pushed told.journal (drain_of xs)) c.from.ensures) c.push.ensures.full
     (c.wake_all.ensures ∙ ap (λ ws. schedule.with_tasks told.cx.parts.tasks (all_woken told.cx.parts.tasks.tasks ws)) c.deref.ensures.value ∙ ap (λ x. schedule.with_tasks x.parts.tasks (all_woken x.parts.tasks.tasks woken)) (tell_is.same ∙ open_is.same))
-    (ap (λ x. x.parts.timers) (tell_is.same ∙ open_is.same)) (ap (λ x. x.parts.has_timers) (tell_is.same ∙ open_is.same)) (ap (λ x. x.parts.strategy) (tell_is.same ∙ open_is.same))
+    (ap (λ x. x.parts.timers) (tell_is.same ∙ open_is.same)) (ap (λ x. x.parts.has_timers) (tell_is.same ∙ open_is.same)) (ap (λ x. x.parts.blocking) (tell_is.same ∙ open_is.same))
 
 pub returns-in-Some-clause-goes : goal.returns-in-Some-clause-goes
 returns-in-Some-clause-goes g c = goes_of g.O.Outcome.output_number Drained c.args.self.now.cx.parts _ c.args.self.now.journal c.push.new.self (returns-in-Some-clause-drained g c)

@@ -30,10 +30,10 @@ invariant_of-self-in-Some g c =
     let e = c.index_mut-entry.result.now in
     let f = c.elapse-waker.new.entry in
     let came : CameOut t.wheel left now k = c.in-Some.ensures.polled in
-    let owned = came-owner t.wheel left t.keys.items t.entries.items t.greatest t.live t.limit t.holds now less below k came in
-    let inside : k < length t.entries.items = key_inside t.wheel t.keys.items t.entries.items t.greatest t.live t.holds owned.0 k owned.1 in
+    let owned = came-owner t.wheel left t.keys t.entries.items t.greatest t.live t.limit t.holds now less below k came in
+    let inside : k < length t.entries.items = key_inside t.wheel t.keys t.entries.items t.greatest t.live t.holds owned.0 k owned.1 in
     let was : slice_get t.entries.items k ≡ Some e = slice_get_read t.entries.items _ k e refl inside c.index_mut-entry.ensures.value in
-    record { holds = holds-fired t.wheel left t.keys.items t.entries.items t.greatest t.live t.limit t.holds now less below k came e f was c.elapse-waker.ensures.entry }
+    record { holds = holds-fired t.wheel left t.keys t.entries.items t.greatest t.live t.limit t.holds now less below k came e f was c.elapse-waker.ensures.entry }
 
 pub returns-in-None-clause-none : goal.returns-in-None-clause-none
 returns-in-None-clause-none g c =
@@ -43,9 +43,9 @@ returns-in-None-clause-none g c =
     let less : t.greatest ≤ now = omega (arith, is) in
     let below : now < 2 ^ 63 = omega (arith, c.max-greatest.ensures, c.clock_tick.ensures.range, t.holds.greatest_below) in
     let nothing : NothingDue t.wheel c.poll.new.self now = c.in-None.ensures.polled in (
-      λ s tick waker at. omega (arith, is, none-armed t.wheel c.poll.new.self t.keys.items t.entries.items t.greatest t.live t.limit t.holds now less below nothing s tick waker at),
-      ap (λ table. record { table = table; greatest = now; limit = t.limit; is_enabled = t.is_enabled }) (table-none t.wheel c.poll.new.self t.keys.items t.entries.items t.greatest t.live t.limit t.holds now less below nothing)
-          ∙ ap (λ n. record { table = table_kept t.wheel t.keys.items t.entries.items; greatest = n; limit = t.limit; is_enabled = t.is_enabled }) is,
+      λ s tick waker at. omega (arith, is, none-armed t.wheel c.poll.new.self t.keys t.entries.items t.greatest t.live t.limit t.holds now less below nothing s tick waker at),
+      ap (λ table. record { table = table; greatest = now; limit = t.limit; is_enabled = t.is_enabled }) (table-none t.wheel c.poll.new.self t.keys t.entries.items t.greatest t.live t.limit t.holds now less below nothing)
+          ∙ ap (λ n. record { table = table_kept t.wheel t.keys t.entries.items; greatest = n; limit = t.limit; is_enabled = t.is_enabled }) is,
     )
 
 pub returns-in-None-clause-stands : goal.returns-in-None-clause-stands
@@ -56,7 +56,7 @@ returns-in-None-clause-stands g c = λ m st.
     let less : t.greatest ≤ now = omega (arith, is) in
     let below : now < 2 ^ 63 = omega (arith, c.max-greatest.ensures, c.clock_tick.ensures.range, t.holds.greatest_below) in
     let nothing : NothingDue t.wheel c.poll.new.self now = c.in-None.ensures.polled in
-    machine-none t.wheel c.poll.new.self t.keys.items t.entries.items t.greatest t.live t.limit t.holds now less below nothing m (nanos_of c.args.now) st (ap (λ x. max x (down (nanos_of c.args.now))) st.same_greatest ∙ sym is)
+    machine-none t.wheel c.poll.new.self t.keys t.entries.items t.greatest t.live t.limit t.holds now less below nothing m (nanos_of c.args.now) st (ap (λ x. max x (down (nanos_of c.args.now))) st.same_greatest ∙ sym is)
 
 pub returns-in-Some-clause-some : goal.returns-in-Some-clause-some
 returns-in-Some-clause-some g c =
@@ -70,19 +70,19 @@ returns-in-Some-clause-some g c =
     let e = c.index_mut-entry.result.now in
     let f = c.elapse-waker.new.entry in
     let came : CameOut t.wheel left now k = c.in-Some.ensures.polled in
-    let owned = came-owner t.wheel left t.keys.items t.entries.items t.greatest t.live t.limit t.holds now less below k came in
-    let inside : k < length t.entries.items = key_inside t.wheel t.keys.items t.entries.items t.greatest t.live t.holds owned.0 k owned.1 in
+    let owned = came-owner t.wheel left t.keys t.entries.items t.greatest t.live t.limit t.holds now less below k came in
+    let inside : k < length t.entries.items = key_inside t.wheel t.keys t.entries.items t.greatest t.live t.holds owned.0 k owned.1 in
     let was : slice_get t.entries.items k ≡ Some e = slice_get_read t.entries.items _ k e refl inside c.index_mut-entry.ensures.value in
-    let number : f.sleep ≡ owned.0 = fired-number t.wheel left t.keys.items t.entries.items t.greatest t.live t.limit t.holds now less below k came e f was c.elapse-waker.ensures.entry in
+    let number : f.sleep ≡ owned.0 = fired-number t.wheel left t.keys t.entries.items t.greatest t.live t.limit t.holds now less below k came e f was c.elapse-waker.ensures.entry in
     let first : IsFiredFirst (at_clock (sleeps_of t) (nanos_of c.args.now)) owned.0 c.elapse-waker.result = record {
       tick = left.elapsed;
-      is_armed_there = table-armed t.wheel left t.keys.items t.entries.items t.greatest t.live t.limit t.holds now less below k came e f was c.elapse-waker.ensures.entry ∙ ap (λ w. Some (armed left.elapsed w)) (sym c.elapse-waker.ensures.waker);
+      is_armed_there = table-armed t.wheel left t.keys t.entries.items t.greatest t.live t.limit t.holds now less below k came e f was c.elapse-waker.ensures.entry ∙ ap (λ w. Some (armed left.elapsed w)) (sym c.elapse-waker.ensures.waker);
       is_due = omega (arith, is, came.due.3);
-      is_least = table-least t.wheel left t.keys.items t.entries.items t.greatest t.live t.limit t.holds now less below k came e f was c.elapse-waker.ensures.entry;
+      is_least = table-least t.wheel left t.keys t.entries.items t.greatest t.live t.limit t.holds now less below k came e f was c.elapse-waker.ensures.entry;
     } in (
       subst (λ s. IsFiredFirst (at_clock (sleeps_of t) (nanos_of c.args.now)) s c.elapse-waker.result) (sym number) first,
-      ap (λ table. record { table = table; greatest = now; limit = t.limit; is_enabled = t.is_enabled }) (table-fired t.wheel left t.keys.items t.entries.items t.greatest t.live t.limit t.holds now less below k came e f was c.elapse-waker.ensures.entry)
-          ∙ ap (λ n. record { table = with_value (table_kept t.wheel t.keys.items t.entries.items) owned.0 elapsed; greatest = n; limit = t.limit; is_enabled = t.is_enabled }) is
+      ap (λ table. record { table = table; greatest = now; limit = t.limit; is_enabled = t.is_enabled }) (table-fired t.wheel left t.keys t.entries.items t.greatest t.live t.limit t.holds now less below k came e f was c.elapse-waker.ensures.entry)
+          ∙ ap (λ n. record { table = with_value (table_kept t.wheel t.keys t.entries.items) owned.0 elapsed; greatest = n; limit = t.limit; is_enabled = t.is_enabled }) is
           ∙ ap (fired (at_clock (sleeps_of t) (nanos_of c.args.now))) (sym number),
     )
 
@@ -98,15 +98,15 @@ returns-in-Some-clause-stands g c = λ m st.
     let e = c.index_mut-entry.result.now in
     let f = c.elapse-waker.new.entry in
     let came : CameOut t.wheel left now k = c.in-Some.ensures.polled in
-    let owned = came-owner t.wheel left t.keys.items t.entries.items t.greatest t.live t.limit t.holds now less below k came in
-    let inside : k < length t.entries.items = key_inside t.wheel t.keys.items t.entries.items t.greatest t.live t.holds owned.0 k owned.1 in
+    let owned = came-owner t.wheel left t.keys t.entries.items t.greatest t.live t.limit t.holds now less below k came in
+    let inside : k < length t.entries.items = key_inside t.wheel t.keys t.entries.items t.greatest t.live t.holds owned.0 k owned.1 in
     let was : slice_get t.entries.items k ≡ Some e = slice_get_read t.entries.items _ k e refl inside c.index_mut-entry.ensures.value in
-    let number : f.sleep ≡ owned.0 = fired-number t.wheel left t.keys.items t.entries.items t.greatest t.live t.limit t.holds now less below k came e f was c.elapse-waker.ensures.entry in
-    let done = machine-fired t.wheel left t.keys.items t.entries.items t.greatest t.live t.limit t.holds now less below k came e f was c.elapse-waker.ensures.entry m (nanos_of c.args.now) st (ap (λ x. max x (down (nanos_of c.args.now))) st.same_greatest ∙ sym is) in
+    let number : f.sleep ≡ owned.0 = fired-number t.wheel left t.keys t.entries.items t.greatest t.live t.limit t.holds now less below k came e f was c.elapse-waker.ensures.entry in
+    let done = machine-fired t.wheel left t.keys t.entries.items t.greatest t.live t.limit t.holds now less below k came e f was c.elapse-waker.ensures.entry m (nanos_of c.args.now) st (ap (λ x. max x (down (nanos_of c.args.now))) st.same_greatest ∙ sym is) in
     let after = machine.at_clock m (nanos_of c.args.now) in (
       subst (IsFirstDue after.table after.greatest) (sym number) done.0,
       c.elapse-waker.ensures.waker ∙ done.1 ∙ ap (machine.waker_at after) (sym number),
-      subst (λ s. Standing left t.keys.items (set t.entries.items k f) now t.limit (machine.fired after s)) (sym number) done.2,
+      subst (λ s. Standing left t.keys (set t.entries.items k f) now t.limit (machine.fired after s)) (sym number) done.2,
     )
 
 pub returns-in-None-clause-registered : goal.returns-in-None-clause-registered
@@ -117,9 +117,9 @@ returns-in-None-clause-registered g c = λ s same.
     let less : t.greatest ≤ now = omega (arith, is) in
     let below : now < 2 ^ 63 = omega (arith, c.max-greatest.ensures, c.clock_tick.ensures.range, t.holds.greatest_below) in
     let nothing : NothingDue t.wheel c.poll.new.self now = c.in-None.ensures.polled in
-    registered-moved t.wheel t.keys.items t.entries.items t.greatest t.live t.holds now c.poll.new.self s (λ j at. nothing.ticks j)
-    ∙ ap (λ n. moved_registered t.wheel.elapsed n (kept_at t.wheel t.keys.items t.entries.items s) (registered_at t.wheel t.keys.items s)) (sym nothing.elapsed)
-    ∙ ap (λ v. moved_registered t.wheel.elapsed c.poll.new.self.elapsed v (registered_at t.wheel t.keys.items s)) (sym (value-table t.wheel t.keys.items t.entries.items s))
+    registered-moved t.wheel t.keys t.entries.items t.greatest t.live t.holds now c.poll.new.self s (λ j at. nothing.ticks j)
+    ∙ ap (λ n. moved_registered t.wheel.elapsed n (kept_at t.wheel t.keys t.entries.items s) (registered_at t.wheel t.keys s)) (sym nothing.elapsed)
+    ∙ ap (λ v. moved_registered t.wheel.elapsed c.poll.new.self.elapsed v (registered_at t.wheel t.keys s)) (sym (value-table t.wheel t.keys t.entries.items s))
 
 pub returns-in-Some-clause-registered : goal.returns-in-Some-clause-registered
 returns-in-Some-clause-registered g c = λ s same.
@@ -133,12 +133,12 @@ returns-in-Some-clause-registered g c = λ s same.
     let e = c.index_mut-entry.result.now in
     let f = c.elapse-waker.new.entry in
     let came : CameOut t.wheel left now k = c.in-Some.ensures.polled in
-    let owned = came-owner t.wheel left t.keys.items t.entries.items t.greatest t.live t.limit t.holds now less below k came in
-    let inside : k < length t.entries.items = key_inside t.wheel t.keys.items t.entries.items t.greatest t.live t.holds owned.0 k owned.1 in
+    let owned = came-owner t.wheel left t.keys t.entries.items t.greatest t.live t.limit t.holds now less below k came in
+    let inside : k < length t.entries.items = key_inside t.wheel t.keys t.entries.items t.greatest t.live t.holds owned.0 k owned.1 in
     let was : slice_get t.entries.items k ≡ Some e = slice_get_read t.entries.items _ k e refl inside c.index_mut-entry.ensures.value in
-    let apart : s ≢ owned.0 = λ is. elapsed-armed (some-kept (sym (fired-value t.wheel left t.keys.items t.entries.items t.greatest t.live t.limit t.holds now less below k came e f was c.elapse-waker.ensures.entry) ∙ ap (value_at (table_kept left t.keys.items (set t.entries.items k f))) (sym is) ∙ same ∙ ap (value_at (table_kept t.wheel t.keys.items t.entries.items)) is ∙ table-armed t.wheel left t.keys.items t.entries.items t.greatest t.live t.limit t.holds now less below k came e f was c.elapse-waker.ensures.entry)) in
-    registered-moved t.wheel t.keys.items t.entries.items t.greatest t.live t.holds left.elapsed left s (after-out t.wheel t.keys.items t.entries.items t.greatest t.live t.holds now left owned.0 k owned.1 came s apart)
-    ∙ ap (λ v. moved_registered t.wheel.elapsed left.elapsed v (registered_at t.wheel t.keys.items s)) (sym (value-table t.wheel t.keys.items t.entries.items s))
+    let apart : s ≢ owned.0 = λ is. elapsed-armed (some-kept (sym (fired-value t.wheel left t.keys t.entries.items t.greatest t.live t.limit t.holds now less below k came e f was c.elapse-waker.ensures.entry) ∙ ap (value_at (table_kept left t.keys (set t.entries.items k f))) (sym is) ∙ same ∙ ap (value_at (table_kept t.wheel t.keys t.entries.items)) is ∙ table-armed t.wheel left t.keys t.entries.items t.greatest t.live t.limit t.holds now less below k came e f was c.elapse-waker.ensures.entry)) in
+    registered-moved t.wheel t.keys t.entries.items t.greatest t.live t.holds left.elapsed left s (after-out t.wheel t.keys t.entries.items t.greatest t.live t.holds now left owned.0 k owned.1 came s apart)
+    ∙ ap (λ v. moved_registered t.wheel.elapsed left.elapsed v (registered_at t.wheel t.keys s)) (sym (value-table t.wheel t.keys t.entries.items s))
   where
     some-kept : {a b : Kept} → Some a ≡ Some b → a ≡ b
     some-kept e = cc
@@ -158,10 +158,10 @@ returns-in-Some-clause-gone g c =
     let e = c.index_mut-entry.result.now in
     let f = c.elapse-waker.new.entry in
     let came : CameOut t.wheel left now k = c.in-Some.ensures.polled in
-    let owned = came-owner t.wheel left t.keys.items t.entries.items t.greatest t.live t.limit t.holds now less below k came in
-    let inside : k < length t.entries.items = key_inside t.wheel t.keys.items t.entries.items t.greatest t.live t.holds owned.0 k owned.1 in
+    let owned = came-owner t.wheel left t.keys t.entries.items t.greatest t.live t.limit t.holds now less below k came in
+    let inside : k < length t.entries.items = key_inside t.wheel t.keys t.entries.items t.greatest t.live t.holds owned.0 k owned.1 in
     let was : slice_get t.entries.items k ≡ Some e = slice_get_read t.entries.items _ k e refl inside c.index_mut-entry.ensures.value in
-    ap (registered_at left t.keys.items) (fired-number t.wheel left t.keys.items t.entries.items t.greatest t.live t.limit t.holds now less below k came e f was c.elapse-waker.ensures.entry) ∙ registered-gone t.wheel t.keys.items t.entries.items t.greatest t.live t.holds now left owned.0 k owned.1 came
+    ap (registered_at left t.keys) (fired-number t.wheel left t.keys t.entries.items t.greatest t.live t.limit t.holds now less below k came e f was c.elapse-waker.ensures.entry) ∙ registered-gone t.wheel t.keys t.entries.items t.greatest t.live t.holds now left owned.0 k owned.1 came
 
 pub returns-in-Some-clause-fewer : goal.returns-in-Some-clause-fewer
 returns-in-Some-clause-fewer g c =
@@ -175,11 +175,11 @@ returns-in-Some-clause-fewer g c =
     let e = c.index_mut-entry.result.now in
     let f = c.elapse-waker.new.entry in
     let came : CameOut t.wheel left now k = c.in-Some.ensures.polled in
-    let owned = came-owner t.wheel left t.keys.items t.entries.items t.greatest t.live t.limit t.holds now less below k came in
-    let inside : k < length t.entries.items = key_inside t.wheel t.keys.items t.entries.items t.greatest t.live t.holds owned.0 k owned.1 in
+    let owned = came-owner t.wheel left t.keys t.entries.items t.greatest t.live t.limit t.holds now less below k came in
+    let inside : k < length t.entries.items = key_inside t.wheel t.keys t.entries.items t.greatest t.live t.holds owned.0 k owned.1 in
     let was : slice_get t.entries.items k ≡ Some e = slice_get_read t.entries.items _ k e refl inside c.index_mut-entry.ensures.value in
-    let fewer = fewer_armed (table_kept t.wheel t.keys.items t.entries.items) owned.0 left.elapsed _ (table-armed t.wheel left t.keys.items t.entries.items t.greatest t.live t.limit t.holds now less below k came e f was c.elapse-waker.ensures.entry) in
-    subst (λ xs. count_by is_armed xs < count_by is_armed (table_kept t.wheel t.keys.items t.entries.items)) (sym (table-fired t.wheel left t.keys.items t.entries.items t.greatest t.live t.limit t.holds now less below k came e f was c.elapse-waker.ensures.entry)) fewer
+    let fewer = fewer_armed (table_kept t.wheel t.keys t.entries.items) owned.0 left.elapsed _ (table-armed t.wheel left t.keys t.entries.items t.greatest t.live t.limit t.holds now less below k came e f was c.elapse-waker.ensures.entry) in
+    subst (λ xs. count_by is_armed xs < count_by is_armed (table_kept t.wheel t.keys t.entries.items)) (sym (table-fired t.wheel left t.keys t.entries.items t.greatest t.live t.limit t.holds now less below k came e f was c.elapse-waker.ensures.entry)) fewer
 
 pub returns-in-Some-clause-reached : goal.returns-in-Some-clause-reached
 returns-in-Some-clause-reached g c =
@@ -193,9 +193,9 @@ returns-in-Some-clause-reached g c =
     let e = c.index_mut-entry.result.now in
     let f = c.elapse-waker.new.entry in
     let came : CameOut t.wheel left now k = c.in-Some.ensures.polled in
-    let owned = came-owner t.wheel left t.keys.items t.entries.items t.greatest t.live t.limit t.holds now less below k came in
-    let inside : k < length t.entries.items = key_inside t.wheel t.keys.items t.entries.items t.greatest t.live t.holds owned.0 k owned.1 in
+    let owned = came-owner t.wheel left t.keys t.entries.items t.greatest t.live t.limit t.holds now less below k came in
+    let inside : k < length t.entries.items = key_inside t.wheel t.keys t.entries.items t.greatest t.live t.holds owned.0 k owned.1 in
     let was : slice_get t.entries.items k ≡ Some e = slice_get_read t.entries.items _ k e refl inside c.index_mut-entry.ensures.value in
-    let number : f.sleep ≡ owned.0 = fired-number t.wheel left t.keys.items t.entries.items t.greatest t.live t.limit t.holds now less below k came e f was c.elapse-waker.ensures.entry in
-    ap (value_at (table_kept t.wheel t.keys.items t.entries.items)) number ∙ table-armed t.wheel left t.keys.items t.entries.items t.greatest t.live t.limit t.holds now less below k came e f was c.elapse-waker.ensures.entry
+    let number : f.sleep ≡ owned.0 = fired-number t.wheel left t.keys t.entries.items t.greatest t.live t.limit t.holds now less below k came e f was c.elapse-waker.ensures.entry in
+    ap (value_at (table_kept t.wheel t.keys t.entries.items)) number ∙ table-armed t.wheel left t.keys t.entries.items t.greatest t.live t.limit t.holds now less below k came e f was c.elapse-waker.ensures.entry
     ∙ ap (λ w. Some (armed left.elapsed w)) (sym c.elapse-waker.ensures.waker)

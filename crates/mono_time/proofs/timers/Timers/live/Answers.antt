@@ -1,4 +1,4 @@
-use Rattle.std.proofs.Common.{rules, ◌<◌, ◌^◌, sym, length, subst, ◌≤◌}
+use Rattle.std.proofs.Common.{sym, subst, ◌≤◌}
 use Rattle.mono_time.specs.Sleeps.{armed_count}
 use Rattle.mono_time.specs.Timers.{sleeps_of}
 use Rattle.mono_time.proofs.Adding.{live-kept}
@@ -8,11 +8,9 @@ use Rattle.mono_time.proofs.timers.Timers.live.Goals as goal
 pub returns-clause-live : goal.returns-clause-live
 returns-clause-live c =
     let t = c.args.self.now in
-    let small : length t.keys.items < 2 ^ 63 = search rules in
-    sym (live-kept t.wheel t.keys.items t.entries.items t.greatest t.live t.holds small)
+    sym (live-kept t.wheel t.keys t.entries.items t.greatest t.live t.holds)
 
 pub returns-clause-armed : goal.returns-clause-armed
 returns-clause-armed c =
     let t = c.args.self.now in
-    let small : length t.keys.items < 2 ^ 63 = search rules in
-    subst (λ n. armed_count (sleeps_of t) ≤ n) (live-kept t.wheel t.keys.items t.entries.items t.greatest t.live t.holds small) (armed_live (sleeps_of t).table)
+    subst (λ n. armed_count (sleeps_of t) ≤ n) (live-kept t.wheel t.keys t.entries.items t.greatest t.live t.holds) (armed_live (sleeps_of t).table)

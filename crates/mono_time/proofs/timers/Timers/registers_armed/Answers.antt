@@ -7,8 +7,8 @@ use Rattle.mono_time.proofs.timers.Timers.registers_armed.Goals as goal
 pub returns-clause-registered : goal.returns-clause-registered
 returns-clause-registered c = λ s.
     let t = c.args.self.now in
-    subst (λ v. IsRegistered t.wheel.elapsed v (registered_at t.wheel t.keys.items s)) (sym (value-table t.wheel t.keys.items t.entries.items s))
-    (is-registered t.wheel t.keys.items t.entries.items t.greatest t.live t.holds c.elapsed.ensures.fits s)
+    subst (λ v. IsRegistered t.wheel.elapsed v (registered_at t.wheel t.keys s)) (sym (value-table t.wheel t.keys t.entries.items s))
+    (is-registered t.wheel t.keys t.entries.items t.greatest t.live t.holds c.elapsed.ensures.fits s)
 
 pub returns-clause-behind : goal.returns-clause-behind
 returns-clause-behind c = c.args.self.now.holds.elapsed

@@ -1,7 +1,8 @@
-use Rattle.std.proofs.Common.{rules, ◌≡◌, ◌<◌, ◌+◌, ◌-◌, Some, refl, sym, ◌∙◌, length, arith}
+use Rattle.std.proofs.Common.{rules, ◌≡◌, ◌<◌, ◌+◌, ◌-◌, Some, refl, sym, subst, ◌∙◌, length, arith}
 use Rattle.std.specs.Prelude.{slice_get}
 use Rattle.std.proofs.lemmas.Option.{slice_get_read}
 use Rattle.mono_model.specs.Table.{value_at}
+use Rattle.mono_time.specs.Keeping.{Holds}
 use Rattle.mono_time.proofs.Counting.{count_of-gone}
 use Rattle.mono_time.proofs.Standing.{none_there}
 use Rattle.mono_time.proofs.Writing.{key_inside, is_in-entry, table-there, none-there}
@@ -11,7 +12,7 @@ use Rattle.mono_time.proofs.timers.Timers.remove.Goals as goal
 pub index-requires : goal.index-requires
 index-requires c =
     let t = c.args.self.now in
-    let inside : c.in-Some.key < length t.entries.items = key_inside t.wheel t.keys.items t.entries.items t.greatest t.live t.holds c.args.sleep c.in-Some.key (sym c.in-Some.ensures) in
+    let inside : c.in-Some.key < length t.entries.items = key_inside t.wheel t.keys t.entries.items t.greatest t.live t.holds c.args.sleep c.in-Some.key (sym c.in-Some.ensures) in
     search rules
 
 pub take_out-requires : goal.take_out-requires
@@ -19,57 +20,57 @@ take_out-requires c =
     let t = c.args.self.now in
     let s = c.args.sleep in
     let k = c.in-Some.key in
-    let at : value_at t.keys.items s ≡ Some k = sym c.in-Some.ensures in
+    let at : value_at t.keys s ≡ Some k = sym c.in-Some.ensures in
     let e = c.index.result.now in
-    let was : slice_get t.entries.items k ≡ Some e = slice_get_read t.entries.items _ k e refl (key_inside t.wheel t.keys.items t.entries.items t.greatest t.live t.holds s k at) c.index.ensures in
-    is_in-entry t.wheel t.keys.items t.entries.items t.greatest t.live t.holds s k e at was ∙ sym c.is_armed-is_armed.ensures
+    let was : slice_get t.entries.items k ≡ Some e = slice_get_read t.entries.items _ k e refl (key_inside t.wheel t.keys t.entries.items t.greatest t.live t.holds s k at) c.index.ensures in
+    is_in-entry t.wheel t.keys t.entries.items t.greatest t.live t.holds s k e at was ∙ sym c.is_armed-is_armed.ensures
 
 pub invariant_of-self : goal.invariant_of-self
 invariant_of-self c =
     let t = c.args.self.now in
     let s = c.args.sleep in
     let k = c.in-Some.key in
-    let at : value_at t.keys.items s ≡ Some k = sym c.in-Some.ensures in
+    let at : value_at t.keys s ≡ Some k = sym c.in-Some.ensures in
     let e = c.index.result.now in
-    let was : slice_get t.entries.items k ≡ Some e = slice_get_read t.entries.items _ k e refl (key_inside t.wheel t.keys.items t.entries.items t.greatest t.live t.holds s k at) c.index.ensures in
-    let count : t.live - 1 + 1 ≡ t.live = omega (arith, t.holds.live_count, count_of-gone t.keys.items s k at) in
-    record { holds = holds-removed t.wheel c.take_out.new.wheel c.free_entry.new.self t.keys.items t.entries.items t.greatest t.live t.holds s k at c.take_out.ensures.out c.free_entry.ensures.entries c.free_entry.ensures.elapsed c.free_entry.ensures.others (t.live - 1) count c.free_entry.ensures.gone }
+    let was : slice_get t.entries.items k ≡ Some e = slice_get_read t.entries.items _ k e refl (key_inside t.wheel t.keys t.entries.items t.greatest t.live t.holds s k at) c.index.ensures in
+    let count : t.live - 1 + 1 ≡ t.live = omega (arith, t.holds.live_count, count_of-gone t.keys s k at) in
+    record { holds = subst (λ ks. Holds c.free_entry.new.self ks t.entries.items t.greatest (t.live - 1)) (sym c.remove.ensures) (holds-removed t.wheel c.take_out.new.wheel c.free_entry.new.self t.keys t.entries.items t.greatest t.live t.holds s k at c.take_out.ensures.out c.free_entry.ensures.entries c.free_entry.ensures.elapsed c.free_entry.ensures.others (t.live - 1) count c.free_entry.ensures.gone) }
 
 pub returns-in-None-clause-answer : goal.returns-in-None-clause-answer
-returns-in-None-clause-answer c = let t = c.args.self.now in rw (none-there t.wheel t.keys.items t.entries.items c.args.sleep (sym c.in-None.ensures)) refl
+returns-in-None-clause-answer c = let t = c.args.self.now in rw (none-there t.wheel t.keys t.entries.items c.args.sleep (sym c.in-None.ensures)) refl
 
 pub returns-in-None-clause-sleeps : goal.returns-in-None-clause-sleeps
-returns-in-None-clause-sleeps c = let t = c.args.self.now in rw (none-there t.wheel t.keys.items t.entries.items c.args.sleep (sym c.in-None.ensures)) refl
+returns-in-None-clause-sleeps c = let t = c.args.self.now in rw (none-there t.wheel t.keys t.entries.items c.args.sleep (sym c.in-None.ensures)) refl
 
 pub returns-in-None-clause-stands : goal.returns-in-None-clause-stands
-returns-in-None-clause-stands c = λ m st. let t = c.args.self.now in rw (none_there t.wheel t.keys.items t.entries.items t.greatest t.limit m st c.args.sleep (sym c.in-None.ensures)) (refl, st)
+returns-in-None-clause-stands c = λ m st. let t = c.args.self.now in rw (none_there t.wheel t.keys t.entries.items t.greatest t.limit m st c.args.sleep (sym c.in-None.ensures)) (refl, st)
 
 pub returns-in-Some-clause-answer : goal.returns-in-Some-clause-answer
 returns-in-Some-clause-answer c =
     let t = c.args.self.now in
     let s = c.args.sleep in
     let k = c.in-Some.key in
-    let at : value_at t.keys.items s ≡ Some k = sym c.in-Some.ensures in
+    let at : value_at t.keys s ≡ Some k = sym c.in-Some.ensures in
     let e = c.index.result.now in
-    let was : slice_get t.entries.items k ≡ Some e = slice_get_read t.entries.items _ k e refl (key_inside t.wheel t.keys.items t.entries.items t.greatest t.live t.holds s k at) c.index.ensures in
-    rw (table-there t.wheel t.keys.items t.entries.items t.greatest t.live t.holds s k e at was) refl
+    let was : slice_get t.entries.items k ≡ Some e = slice_get_read t.entries.items _ k e refl (key_inside t.wheel t.keys t.entries.items t.greatest t.live t.holds s k at) c.index.ensures in
+    rw (table-there t.wheel t.keys t.entries.items t.greatest t.live t.holds s k e at was) refl
 
 pub returns-in-Some-clause-sleeps : goal.returns-in-Some-clause-sleeps
 returns-in-Some-clause-sleeps c =
     let t = c.args.self.now in
     let s = c.args.sleep in
     let k = c.in-Some.key in
-    let at : value_at t.keys.items s ≡ Some k = sym c.in-Some.ensures in
+    let at : value_at t.keys s ≡ Some k = sym c.in-Some.ensures in
     let e = c.index.result.now in
-    let was : slice_get t.entries.items k ≡ Some e = slice_get_read t.entries.items _ k e refl (key_inside t.wheel t.keys.items t.entries.items t.greatest t.live t.holds s k at) c.index.ensures in
-    rw (table-there t.wheel t.keys.items t.entries.items t.greatest t.live t.holds s k e at was, table-removed t.wheel c.take_out.new.wheel c.free_entry.new.self t.keys.items t.entries.items t.greatest t.live t.holds s k at c.take_out.ensures.out c.free_entry.ensures.entries c.free_entry.ensures.elapsed c.free_entry.ensures.others) refl
+    let was : slice_get t.entries.items k ≡ Some e = slice_get_read t.entries.items _ k e refl (key_inside t.wheel t.keys t.entries.items t.greatest t.live t.holds s k at) c.index.ensures in
+    rw (c.remove.ensures, table-there t.wheel t.keys t.entries.items t.greatest t.live t.holds s k e at was, table-removed t.wheel c.take_out.new.wheel c.free_entry.new.self t.keys t.entries.items t.greatest t.live t.holds s k at c.take_out.ensures.out c.free_entry.ensures.entries c.free_entry.ensures.elapsed c.free_entry.ensures.others) refl
 
 pub returns-in-Some-clause-stands : goal.returns-in-Some-clause-stands
 returns-in-Some-clause-stands c = λ m st.
     let t = c.args.self.now in
     let s = c.args.sleep in
     let k = c.in-Some.key in
-    let at : value_at t.keys.items s ≡ Some k = sym c.in-Some.ensures in
+    let at : value_at t.keys s ≡ Some k = sym c.in-Some.ensures in
     let e = c.index.result.now in
-    let was : slice_get t.entries.items k ≡ Some e = slice_get_read t.entries.items _ k e refl (key_inside t.wheel t.keys.items t.entries.items t.greatest t.live t.holds s k at) c.index.ensures in
-    machine-removed t.wheel c.take_out.new.wheel c.free_entry.new.self t.keys.items t.entries.items t.greatest t.live t.holds s k at c.take_out.ensures.out c.free_entry.ensures.entries c.free_entry.ensures.elapsed c.free_entry.ensures.others t.limit m st c.free_entry.ensures.order e was
+    let was : slice_get t.entries.items k ≡ Some e = slice_get_read t.entries.items _ k e refl (key_inside t.wheel t.keys t.entries.items t.greatest t.live t.holds s k at) c.index.ensures in
+    rw c.remove.ensures (machine-removed t.wheel c.take_out.new.wheel c.free_entry.new.self t.keys t.entries.items t.greatest t.live t.holds s k at c.take_out.ensures.out c.free_entry.ensures.entries c.free_entry.ensures.elapsed c.free_entry.ensures.others t.limit m st c.free_entry.ensures.order e was)

@@ -1,0 +1,145 @@
+//! Sessions that are kept open by beats in turn, while the clock goes on second by second.
+#![tactic(auto)]
+
+ghost use Rattle.std.specs.Prelude.{◌≡◌, ◌<◌};
+
+use mono_session::Sessions;
+use mono_time::Instant;
+use mono_wheel::Steps;
+use std::alloc::Global;
+use std::marker::Brand;
+use std::process::ExitCode;
+use std::sync::ledger::{Blank, Ledger};
+use std::{env, io};
+
+const HELP: &str = "usage: mono_beats SESSIONS SECONDS
+  So many sessions are opened for 30 seconds each, two in the queue of each key. Each second a tenth of them is beaten in
+  turn, but for each sixteenth session, and then the clock goes on by a second. Printed are how many beats there were,
+  how many sessions the clock closed, a sum over their order, and a sum over the owners of the keys.";
+
+const LIMIT_MS: u64 = 30000;
+
+const SECOND: u128 = 1000000000;
+
+// What was done so far.
+#[derive(Clone, Copy)]
+struct Tally {
+    beats: u64,
+    closed: u64,
+    order: u64,
+}
+
+// So many sessions, two in the queue of each key.
+fn open_all(alloc: Global, count: u64) -> Option<Sessions> {
+    let mut sessions = Sessions::new(alloc, count, count).ok()?;
+    for i in 0..count {
+        let session = sessions.open(alloc, LIMIT_MS).ok()?;
+        sessions.acquire(alloc, session, i / 2).ok()?;
+    }
+    Some(sessions)
+}
+
+// The number after one, of so many that go round.
+fn after(number: u64, count: u64) -> u64 {
+    let next = number.wrapping_add(1);
+    if next < count { next } else { 0 }
+}
+
+// The beats of a second, from one session on. The session with which the next second begins.
+fn beat_some(sessions: &mut Sessions, count: u64, first: u64, tally: &mut Tally) -> u64 {
+    let mut session = first;
+    for _ in 0..count / 10 {
+        if session % 16 != 0 && sessions.beat(session).is_ok() {
+            tally.beats = tally.beats.wrapping_add(1);
+        }
+        session = after(session, count);
+    }
+    session
+}
+
+// The clock goes on to a second, and what it closes is counted.
+fn clock_step<L: Ledger>(
+    sessions: &mut Sessions,
+    second: u64,
+    closed: &mut Vec<u64>,
+    steps: &mut Steps<L>,
+    tally: &mut Tally,
+) -> Option<()> {
+    let now = Instant::from_nanos(second as u128 * SECOND)?;
+    closed.clear();
+    closed.reserve(sessions.open_len()).ok()?;
+    sessions.clock(now, closed, steps);
+    for session in closed.as_slice() {
+        tally.closed = tally.closed.wrapping_add(1);
+        tally.order = tally
+            .order
+            .wrapping_mul(31)
+            .wrapping_add(*session)
+            .wrapping_add(1);
+    }
+    Some(())
+}
+
+// A sum over the owners of so many keys.
+fn owners(sessions: &Sessions, keys: u64) -> u64 {
+    let mut sum = 0u64;
+    for key in 0..keys {
+        if let Some(owner) = sessions.owner(key) {
+            sum = sum.wrapping_add(owner);
+        }
+    }
+    sum
+}
+
+// All seconds. What was done, and the sum over the owners then.
+fn keep<L: Ledger>(alloc: Global, count: u64, seconds: u64, blank: Blank) -> Option<(Tally, u64)>
+    requires { (blank.name ≡ L.name) × (blank.parts ≡ L.parts) × (0 < L.parts) }
+{
+    let mut steps: Steps<L> = Steps::new(blank);
+    let mut sessions = open_all(alloc, count)?;
+    let mut closed = Vec::new(alloc);
+    let mut tally = Tally {
+        beats: 0,
+        closed: 0,
+        order: 0,
+    };
+    let mut first = 0u64;
+    for second in 0..seconds {
+        first = beat_some(&mut sessions, count, first, &mut tally);
+        clock_step(
+            &mut sessions,
+            second.wrapping_add(1),
+            &mut closed,
+            &mut steps,
+            &mut tally,
+        )?;
+    }
+    Some((tally, owners(&sessions, count / 2)))
+}
+
+fn run_words(rt: &HostRuntime, words: &Vec<String>) -> io::Result<bool> {
+    let (count, seconds) = match words.as_slice() {
+        [count, seconds] => (count.parse::<u64>(), seconds.parse::<u64>()),
+        _ => return Ok(false),
+    };
+    let (Ok(count), Ok(seconds)) = (count, seconds) else {
+        return Ok(false);
+    };
+    match keep::<Brand>(rt.alloc(), count, seconds, Blank::new(1)) {
+        None => println!(rt; "no {count} sessions")?,
+        Some((tally, owners)) => println!(rt;
+            "{count} sessions {seconds} seconds beats {} closed {} order {} owners {owners}",
+            tally.beats, tally.closed, tally.order
+        )?,
+    }
+    Ok(true)
+}
+
+fn main(rt: HostRuntime) -> io::Result<ExitCode> {
+    let words: Vec<String> = env::args(&rt)?.skip(1).collect(rt.alloc())?;
+    if run_words(&rt, &words)? {
+        return Ok(ExitCode::SUCCESS);
+    }
+    println!(rt; "{HELP}")?;
+    Ok(ExitCode::from(2))
+}

@@ -1,0 +1,136 @@
+//! Tasks that come and go, each with a sleep: what is gone is to cost nothing.
+#![tactic(auto)]
+
+use mono_exec::{Act, Blocking, End, Event, Exec, Limits, List, Query, Reply, Report, TurnStep};
+use std::alloc::{AllocError, Global};
+use std::process::ExitCode;
+use std::{env, io, mem};
+
+const HELP: &str = "usage: mono_churn TASKS ALIVE
+  So many tasks, one every millisecond, each with a sleep of ALIVE milliseconds; the first sleeps until all others are
+  gone. Printed is how many sleeps fired, and the sum of their numbers.";
+
+// An executor, the lists of its turns, and what fired so far.
+#[derive(Drop)]
+struct Desk {
+    exec: Exec,
+    steps: List<TurnStep>,
+    replies: List<Reply>,
+    fired: u64,
+    sum: u64,
+}
+
+// A turn of two steps of the task at the queue's front.
+fn turn(
+    alloc: Global,
+    desk: &mut Desk,
+    first: TurnStep,
+    second: TurnStep,
+    end: End,
+) -> Result<(), AllocError> {
+    let mut steps = mem::replace(&mut desk.steps, List::new(alloc));
+    steps.clear();
+    steps.push(first)?;
+    steps.push(second)?;
+    let event = Event::Turn(steps, end);
+    let report = desk.exec.apply_reusing(alloc, &event, &mut desk.replies)?;
+    if let Event::Turn(steps, _) = event {
+        desk.steps = steps;
+    }
+    if let Report::Turn(_, replies, _) = report {
+        desk.replies = replies;
+    }
+    Ok(())
+}
+
+// A task comes, and sleeps until a tick. It has the number of its sleep.
+fn come(alloc: Global, desk: &mut Desk, task: u64, tick: u64) -> Result<(), AllocError> {
+    let spawn = Event::Act(Act::Spawn);
+    desk.exec.apply_reusing(alloc, &spawn, &mut desk.replies)?;
+    let sleep = TurnStep::Act(Act::NewSleep(u128::from(tick) * 1000000));
+    turn(
+        alloc,
+        desk,
+        sleep,
+        TurnStep::Query(Query::Sleep(task)),
+        End::Pending,
+    )
+}
+
+// The task of a sleep that fired drops it and its own handle, and is gone.
+fn go(alloc: Global, desk: &mut Desk, sleep: u64) -> Result<(), AllocError> {
+    desk.fired = desk.fired.wrapping_add(1);
+    desk.sum = desk.sum.wrapping_add(sleep);
+    let drop_sleep = TurnStep::Act(Act::DropSleep(sleep));
+    turn(
+        alloc,
+        desk,
+        drop_sleep,
+        TurnStep::Act(Act::DropJoin(sleep)),
+        End::Ready(0),
+    )
+}
+
+// The clock shows a tick, and the tasks whose sleeps fire go.
+fn tick_to(alloc: Global, desk: &mut Desk, tick: u64) -> Result<(), AllocError> {
+    let clock = Event::Clock(u128::from(tick) * 1000000);
+    let report = desk.exec.apply_reusing(alloc, &clock, &mut desk.replies)?;
+    if let Report::Fired(fired) = report {
+        for sleep in fired.as_slice() {
+            go(alloc, desk, *sleep)?;
+        }
+    }
+    Ok(())
+}
+
+// Each millisecond a task comes, and the one that came so many before goes. The first goes last.
+fn come_and_go(alloc: Global, tasks: u64, alive: u64) -> Result<(u64, u64), AllocError> {
+    let most = alive.saturating_add(2);
+    let limits = Limits {
+        tasks: most,
+        jobs: 0,
+        sleeps: most,
+    };
+    let mut desk = Desk {
+        exec: Exec::new(alloc, limits, Blocking::Panic)?,
+        steps: List::new(alloc),
+        replies: List::new(alloc),
+        fired: 0,
+        sum: 0,
+    };
+    let last = tasks.saturating_add(alive);
+    come(alloc, &mut desk, 0, last)?;
+    for task in 1..tasks {
+        come(alloc, &mut desk, task, task.saturating_add(alive))?;
+        tick_to(alloc, &mut desk, task)?;
+    }
+    for tick in tasks..last {
+        tick_to(alloc, &mut desk, tick)?;
+    }
+    tick_to(alloc, &mut desk, last)?;
+    Ok((desk.fired, desk.sum))
+}
+
+fn run_words(rt: &HostRuntime, words: &Vec<String>) -> io::Result<bool> {
+    let (tasks, alive) = match words.as_slice() {
+        [tasks, alive] => (tasks.parse::<u64>(), alive.parse::<u64>()),
+        _ => return Ok(false),
+    };
+    let (Ok(tasks), Ok(alive)) = (tasks, alive) else {
+        return Ok(false);
+    };
+    match come_and_go(rt.alloc(), tasks, alive) {
+        Err(_) => println!(rt; "no memory for {tasks} tasks")?,
+        Ok((fired, sum)) => println!(rt; "{tasks} tasks, {fired} sleeps fired, sum {sum}")?,
+    }
+    Ok(true)
+}
+
+fn main(rt: HostRuntime) -> io::Result<ExitCode> {
+    let words: Vec<String> = env::args(&rt)?.skip(1).collect(rt.alloc())?;
+    if run_words(&rt, &words)? {
+        return Ok(ExitCode::SUCCESS);
+    }
+    println!(rt; "{HELP}")?;
+    Ok(ExitCode::from(2))
+}

@@ -1,0 +1,47 @@
+// A check of a journal, and the line of its answer.
+ghost use Rattle.std.specs.Prelude.{◌≡◌, IfOk};
+ghost use Rattle.mono_script.specs.Ending.{IsOutput};
+ghost use Rattle.mono_script.specs.Checked.{checking, yes_line, no_line};
+
+use crate::ends::{Output, Status, bad_line};
+use mono_exec::{Blocking, Limits};
+use mono_trace_lines::{Answer, check_lines};
+use std::alloc::{AllocError, Global};
+
+fn yes(alloc: Global) -> Result<Vec<u8>, AllocError>
+    ensures { IfOk result (λ text. text.items ≡ yes_line) }
+{
+    Vec::from_slice(alloc, b"yes\n")
+}
+
+fn no(alloc: Global, n: usize) -> Result<Vec<u8>, AllocError>
+    ensures { IfOk result (λ text. text.items ≡ no_line n) }
+{
+    let mut buffer = itoa::Buffer::new();
+    let mut text = Vec::from_slice(alloc, b"no ")?;
+    text.extend_from_slice(buffer.format(n).as_bytes())?;
+    text.extend_from_slice(b"\n")?;
+    Ok(text)
+}
+
+// What a check writes.
+pub(crate) fn output_of_check(
+    alloc: Global,
+    limits: Limits,
+    blocking: Blocking,
+    input: &[u8],
+) -> Result<Output, AllocError>
+    ensures { IfOk result (λ o. IsOutput (checking limits blocking) input.now o.status o.text.items) }
+{
+    match check_lines(alloc, limits, blocking, input)? {
+        Answer::BadLine(n) => bad_line(alloc, n),
+        Answer::Yes => Ok(Output {
+            status: Status::Done,
+            text: yes(alloc)?,
+        }),
+        Answer::No(n) => Ok(Output {
+            status: Status::NotARun,
+            text: no(alloc, n)?,
+        }),
+    }
+}

@@ -1,0 +1,21 @@
+// What the sessions answer, as an output.
+ghost use Rattle.std.specs.Prelude.{IfOk};
+ghost use Rattle.mono_script.specs.Ending.{IsOutput};
+ghost use Rattle.mono_script.specs.Meanings.{keeping_sessions};
+
+use crate::ends::Output;
+use crate::served::output_of;
+use mono_session_lines::sessions;
+use std::alloc::{AllocError, Global};
+
+pub(crate) fn output_of_sessions(
+    alloc: Global,
+    most_sessions: u64,
+    most_entries: u64,
+    input: &[u8],
+) -> Result<Output, AllocError>
+    ensures { IfOk result (λ o. IsOutput (keeping_sessions most_sessions most_entries) input.now o.status o.text.items) }
+{
+    let served = sessions(alloc, most_sessions, most_entries, input)?;
+    output_of(alloc, served)
+}

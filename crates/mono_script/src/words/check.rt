@@ -1,0 +1,15 @@
+// The words of a check.
+ghost use Rattle.std.specs.Prelude.{IfSome, IfNone, map, string_bytes};
+ghost use Rattle.mono_script.specs.Command.{IsCommand, IsNoCheck};
+
+use crate::command::Command;
+use crate::words::limits::strategy_and_limits;
+
+// The check that the words say, or none.
+pub(crate) fn read_check(words: &Vec<String>) -> Option<Command>
+    ensures found { IfSome result (λ c. IsCommand (map string_bytes words.now.items) c) }
+    ensures none { IfNone result (IsNoCheck (map string_bytes words.now.items)) }
+{
+    let (limits, blocking) = strategy_and_limits(words, b"check".as_slice())?;
+    Some(Command::Check(limits, blocking))
+}

@@ -1,0 +1,12 @@
+use Rattle.std.proofs.Common.{length}
+use Rattle.mono_trace.specs.Stands.{machine_of}
+use Rattle.mono_trace_lines.specs.Taking.{HasFewArms}
+use Rattle.mono_trace_lines.proofs.Checking.{Progress}
+use Rattle.mono_trace_lines.proofs.checks.check_lines.Given as goal
+
+abbrev pub invariant-lines : goal.invariant-lines
+invariant-lines l =
+    Progress l.fn.limits l.fn.blocking l.input l.count l.checking.failed (machine_of l.checking.trace) l.reader.rest.now × HasFewArms l.count (machine_of l.checking.trace)
+
+abbrev pub decreases-lines : goal.decreases-lines
+decreases-lines l = length l.reader.rest.now

@@ -1,0 +1,5 @@
+use Rattle.mono_trace_lines.proofs.Lines.{one_report}
+use Rattle.mono_trace_lines.proofs.laws.one_report.Goals as goal
+
+pub returns : goal.returns
+returns c = λ bytes r other rest behind f g b d. one_report bytes r other rest behind f g b d
