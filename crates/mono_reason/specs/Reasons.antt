@@ -65,3 +65,11 @@ reason_in names (Some line) = Some (reason_of names line)
 
 abbrev pub reason_at : List (List ℕ) → List ℕ → ℕ → Option Reason
 reason_at names input n = reason_in names (line_at n (lines input))
+
+abbrev pub first_word_in : Option Line → Option (List ℕ)
+first_word_in None = None
+first_word_in (Some line) = Some (first_of (words line.bytes))
+
+-- the first word of line n, counted from 1, of the input
+abbrev pub first_word_at : List ℕ → ℕ → Option (List ℕ)
+first_word_at input n = first_word_in (line_at n (lines input))

@@ -1,5 +1,5 @@
 // Reasons of lines.
-use crate::{Reason, reason_of_line};
+use crate::{Reason, first_word_of_line, reason_of_line};
 
 const NAMES: &[u8] = b"spawn wake sleep reset clock turn";
 
@@ -56,4 +56,14 @@ fn lines_are_counted_from_one(rt: HostRuntime) {
     assert_eq!(&rt; reason_of_line(NAMES, input, 4), Some(Reason::NoLineFeed));
     assert_eq!(&rt; reason_of_line(NAMES, input, 5), None);
     assert_eq!(&rt; reason_of_line(NAMES, b"", 1), None);
+}
+
+#[test]
+fn the_first_word_is_told(rt: HostRuntime) {
+    let input = b"spawn\n\nturn; pending\npoll9 1";
+    assert_eq!(&rt; first_word_of_line(input, 1), Some(b"spawn".as_slice()));
+    assert_eq!(&rt; first_word_of_line(input, 2), Some(b"".as_slice()));
+    assert_eq!(&rt; first_word_of_line(input, 3), Some(b"turn".as_slice()));
+    assert_eq!(&rt; first_word_of_line(input, 4), Some(b"poll9".as_slice()));
+    assert_eq!(&rt; first_word_of_line(input, 5), None);
 }
