@@ -54,8 +54,8 @@ abbrev pub reason_of : List (List ℕ) → Line → Reason
 reason_of names line =
     if line.is_ended
     then (if ends_in_return line.bytes then CarriageReturn
-        else if is_among (first_of (words line.bytes)) names then or_else (first_great [] [] (words line.bytes)) OtherForm
-        else UnknownWord)
+    else if is_among (first_of (words line.bytes)) names then or_else (first_great [] [] (words line.bytes)) OtherForm
+    else UnknownWord)
     else NoLineFeed
 
 -- the reason of line n, counted from 1, of the input

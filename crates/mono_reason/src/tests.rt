@@ -13,12 +13,27 @@ fn each_line_has_its_reason(rt: HostRuntime) {
         (b"poll9\n".as_slice(), Reason::UnknownWord),
         (b"\n".as_slice(), Reason::UnknownWord),
         (b" spawn\n".as_slice(), Reason::UnknownWord),
-        (b"spawn2 99999999999999999999\n".as_slice(), Reason::UnknownWord),
+        (
+            b"spawn2 99999999999999999999\n".as_slice(),
+            Reason::UnknownWord,
+        ),
         (b"wake 18446744073709551615\n".as_slice(), Reason::OtherForm),
-        (b"wake 18446744073709551616\n".as_slice(), Reason::GreatNumber),
-        (b"wake 018446744073709551616\n".as_slice(), Reason::OtherForm),
-        (b"wake 99999999999999999999x\n".as_slice(), Reason::OtherForm),
-        (b"sleep 18446744073709551616 \n".as_slice(), Reason::OtherForm),
+        (
+            b"wake 18446744073709551616\n".as_slice(),
+            Reason::GreatNumber,
+        ),
+        (
+            b"wake 018446744073709551616\n".as_slice(),
+            Reason::OtherForm,
+        ),
+        (
+            b"wake 99999999999999999999x\n".as_slice(),
+            Reason::OtherForm,
+        ),
+        (
+            b"sleep 18446744073709551616 \n".as_slice(),
+            Reason::OtherForm,
+        ),
         (
             b"sleep 340282366920938463463374607431768211455\n".as_slice(),
             Reason::OtherForm,
@@ -50,7 +65,10 @@ fn each_line_has_its_reason(rt: HostRuntime) {
 fn lines_are_counted_from_one(rt: HostRuntime) {
     let input = b"spawn\r\n\nwake 18446744073709551616\nspawn";
     assert_eq!(&rt; reason_of_line(NAMES, input, 0), None);
-    assert_eq!(&rt; reason_of_line(NAMES, input, 1), Some(Reason::CarriageReturn));
+    assert_eq!(&rt;
+        reason_of_line(NAMES, input, 1),
+        Some(Reason::CarriageReturn)
+    );
     assert_eq!(&rt; reason_of_line(NAMES, input, 2), Some(Reason::UnknownWord));
     assert_eq!(&rt; reason_of_line(NAMES, input, 3), Some(Reason::GreatNumber));
     assert_eq!(&rt; reason_of_line(NAMES, input, 4), Some(Reason::NoLineFeed));

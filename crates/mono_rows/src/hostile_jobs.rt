@@ -115,7 +115,9 @@ fn a_job_on_the_caller(rt: HostRuntime) -> Result<(), AllocError> {
 
 // a place is free once its job is dropped, running or not, and its number is not given again
 #[test]
-fn a_place_is_free_once_its_job_is_dropped_running_or_not_and_its_number_is_not_given_again(rt: HostRuntime) -> Result<(), AllocError> {
+fn a_place_is_free_once_its_job_is_dropped_running_or_not_and_its_number_is_not_given_again(
+    rt: HostRuntime,
+) -> Result<(), AllocError> {
     let table = [
         ("block 5", "job 0"),
         ("block 6", "refused at-capacity"),

@@ -13,7 +13,10 @@ fn a_sleep_that_was_never_polled(rt: HostRuntime) -> Result<(), AllocError> {
         ("reset 0 9000000", "refused no-timer"),
         ("drop-sleep 0", "refused no-timer"),
         ("wake 0", "queued"),
-        ("turn; poll 0; reset 0 1; pending", "turn 0; refused no-timer; refused no-timer; idle"),
+        (
+            "turn; poll 0; reset 0 1; pending",
+            "turn 0; refused no-timer; refused no-timer; idle",
+        ),
         ("clock 10000000", "fired"),
         ("sleep 0", "sleep 1"),
     ];
@@ -36,7 +39,10 @@ fn an_armed_sleep_between_two_others(rt: HostRuntime) -> Result<(), AllocError> 
         ("elapsed 1", "refused no-timer"),
         ("drop-sleep 1", "refused no-timer"),
         ("clock 7000000", "fired 0 2"),
-        ("turn; poll 1; poll 0; poll 2; ready 0", "turn 0; refused no-timer; ready; ready; done"),
+        (
+            "turn; poll 1; poll 0; poll 2; ready 0",
+            "turn 0; refused no-timer; ready; ready; done",
+        ),
         ("clock 9000000", "fired"),
     ];
     let ran = answered(rt.alloc(), WORDS, &table)?;
@@ -49,7 +55,10 @@ fn an_armed_sleep_between_two_others(rt: HostRuntime) -> Result<(), AllocError> 
 fn an_armed_sleep_whose_task_is_woken_by_nothing_else(rt: HostRuntime) -> Result<(), AllocError> {
     let table = [
         ("spawn", "task 0"),
-        ("turn; sleep 5000000; poll 0; pending", "turn 0; sleep 0; pending; idle"),
+        (
+            "turn; sleep 5000000; poll 0; pending",
+            "turn 0; sleep 0; pending; idle",
+        ),
         ("drop-sleep 0", "dropped"),
         ("turn; pending", "refused idle"),
         ("clock 5000000", "fired"),
@@ -86,7 +95,10 @@ fn an_armed_sleep_that_was_moved(rt: HostRuntime) -> Result<(), AllocError> {
 fn an_elapsed_sleep(rt: HostRuntime) -> Result<(), AllocError> {
     let table = [
         ("spawn", "task 0"),
-        ("turn; sleep 5000000; poll 0; pending", "turn 0; sleep 0; pending; idle"),
+        (
+            "turn; sleep 5000000; poll 0; pending",
+            "turn 0; sleep 0; pending; idle",
+        ),
         ("clock 5000000", "fired 0"),
         ("elapsed 0", "yes"),
         ("drop-sleep 0", "dropped"),
@@ -107,7 +119,10 @@ fn an_elapsed_sleep(rt: HostRuntime) -> Result<(), AllocError> {
 fn a_sleep_that_elapsed_by_a_reset(rt: HostRuntime) -> Result<(), AllocError> {
     let table = [
         ("spawn", "task 0"),
-        ("turn; sleep 5000000; poll 0; pending", "turn 0; sleep 0; pending; idle"),
+        (
+            "turn; sleep 5000000; poll 0; pending",
+            "turn 0; sleep 0; pending; idle",
+        ),
         ("reset 0 0", "elapsed"),
         ("drop-sleep 0", "dropped"),
         ("reset 0 0", "refused no-timer"),
@@ -121,7 +136,9 @@ fn a_sleep_that_elapsed_by_a_reset(rt: HostRuntime) -> Result<(), AllocError> {
 
 // of four sleeps an elapsed, an armed and a moved one are dropped: a later clock step names the other
 #[test]
-fn of_four_sleeps_an_elapsed_an_armed_and_a_moved_one_are_dropped(rt: HostRuntime) -> Result<(), AllocError> {
+fn of_four_sleeps_an_elapsed_an_armed_and_a_moved_one_are_dropped(
+    rt: HostRuntime,
+) -> Result<(), AllocError> {
     let table = [
         ("spawn", "task 0"),
         (
@@ -143,7 +160,9 @@ fn of_four_sleeps_an_elapsed_an_armed_and_a_moved_one_are_dropped(rt: HostRuntim
 
 // a place is free once its sleep is dropped, and its number is not given again
 #[test]
-fn a_place_is_free_once_its_sleep_is_dropped_and_its_number_is_not_given_again(rt: HostRuntime) -> Result<(), AllocError> {
+fn a_place_is_free_once_its_sleep_is_dropped_and_its_number_is_not_given_again(
+    rt: HostRuntime,
+) -> Result<(), AllocError> {
     let table = [
         ("sleep 1000000", "sleep 0"),
         ("sleep 1000000", "refused at-capacity"),
@@ -176,7 +195,9 @@ fn a_sleep_that_never_was(rt: HostRuntime) -> Result<(), AllocError> {
 
 // the clock goes to the end of the type with a sleep in each level, and back
 #[test]
-fn the_clock_goes_to_the_end_of_the_type_with_a_sleep_in_each_level_and_back(rt: HostRuntime) -> Result<(), AllocError> {
+fn the_clock_goes_to_the_end_of_the_type_with_a_sleep_in_each_level_and_back(
+    rt: HostRuntime,
+) -> Result<(), AllocError> {
     let table = [
         ("spawn", "task 0"),
         (
@@ -188,7 +209,10 @@ fn the_clock_goes_to_the_end_of_the_type_with_a_sleep_in_each_level_and_back(rt:
         ("elapsed 0", "yes"),
         ("sleep 9223372036854775807000000", "sleep 8"),
         ("reset 8 9223372036854775807000000", "elapsed"),
-        ("turn; sleep 0; poll 9; poll 0; ready 1", "turn 0; sleep 9; ready; ready; done"),
+        (
+            "turn; sleep 0; poll 9; poll 0; ready 1",
+            "turn 0; sleep 9; ready; ready; done",
+        ),
     ];
     let ran = answered(rt.alloc(), WORDS, &table)?;
     assert_eq!(&rt; ran.0, ran.1);
@@ -200,7 +224,10 @@ fn the_clock_goes_to_the_end_of_the_type_with_a_sleep_in_each_level_and_back(rt:
 fn a_jump_over_five_rotations_of_six_levels(rt: HostRuntime) -> Result<(), AllocError> {
     let table = [
         ("spawn", "task 0"),
-        ("turn; sleep 343597383683000000; poll 0; pending", "turn 0; sleep 0; pending; idle"),
+        (
+            "turn; sleep 343597383683000000; poll 0; pending",
+            "turn 0; sleep 0; pending; idle",
+        ),
         ("clock 343597383682999999", "fired"),
         ("clock 343597383683000000", "fired 0"),
     ];

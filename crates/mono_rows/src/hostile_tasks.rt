@@ -187,10 +187,15 @@ fn a_task_that_never_was(rt: HostRuntime) -> Result<(), AllocError> {
 
 // a finished task is woken by its sleep, locally and from outside
 #[test]
-fn a_finished_task_is_woken_by_its_sleep_locally_and_from_outside(rt: HostRuntime) -> Result<(), AllocError> {
+fn a_finished_task_is_woken_by_its_sleep_locally_and_from_outside(
+    rt: HostRuntime,
+) -> Result<(), AllocError> {
     let table = [
         ("spawn", "task 0"),
-        ("turn; sleep 5000000; poll 0; ready 1", "turn 0; sleep 0; pending; done"),
+        (
+            "turn; sleep 5000000; poll 0; ready 1",
+            "turn 0; sleep 0; pending; done",
+        ),
         ("wake 0", "nothing"),
         ("remote 0", "unlisted"),
         ("clock 5000000", "fired 0"),
@@ -207,7 +212,9 @@ fn a_finished_task_is_woken_by_its_sleep_locally_and_from_outside(rt: HostRuntim
 
 // a task that ends between its wake from outside and the drain
 #[test]
-fn a_task_that_ends_between_its_wake_from_outside_and_the_drain(rt: HostRuntime) -> Result<(), AllocError> {
+fn a_task_that_ends_between_its_wake_from_outside_and_the_drain(
+    rt: HostRuntime,
+) -> Result<(), AllocError> {
     let table = [
         ("spawn", "task 0"),
         ("remote 0", "listed"),

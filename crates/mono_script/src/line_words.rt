@@ -4,9 +4,11 @@ ghost use Rattle.mono_script.specs.LineWords.{line_words};
 
 use crate::command::Command;
 
-const EVENT_WORDS: &[u8] = b"spawn wake sleep reset drop-sleep elapsed drop-join finished block drop-job job-finished job-end turn clock remote drain";
+const EVENT_WORDS: &[u8] =
+    b"spawn wake sleep reset drop-sleep elapsed drop-join finished block drop-job job-finished job-end turn clock remote drain";
 
-const JOURNAL_WORDS: &[u8] = b"spawn wake sleep reset drop-sleep elapsed drop-join finished block drop-job job-finished job-end turn clock remote drain now park main";
+const JOURNAL_WORDS: &[u8] =
+    b"spawn wake sleep reset drop-sleep elapsed drop-join finished block drop-job job-finished job-end turn clock remote drain now park main";
 
 /// The words with which the lines of a command begin, with blanks between them.
 pub(crate) fn first_words(command: Command) -> &'static [u8]

@@ -36,7 +36,9 @@ fn complaint_at(
             let expected = expected(alloc, place)?;
             Ok(Some(format!(in alloc; "{command}: a word is missing: {expected}")?))
         }
-        (None, Some(word)) => Ok(Some(format!(in alloc; "{command}: \"{word}\" is a word too many")?)),
+        (None, Some(word)) => Ok(Some(format!(in alloc;
+            "{command}: \"{word}\" is a word too many"
+        )?)),
         (None, None) => Ok(None),
     }
 }

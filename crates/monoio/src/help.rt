@@ -38,7 +38,10 @@ pub(crate) fn is_only(words: &Vec<String>, word: &str) -> bool {
 }
 
 fn is_command(word: &str) -> bool {
-    matches!(word, "replay" | "load" | "sessions" | "limiter" | "actors" | "check")
+    matches!(
+        word,
+        "replay" | "load" | "sessions" | "limiter" | "actors" | "check"
+    )
 }
 
 /// Whether the words ask for help: one word that does, or such a word behind a command.

@@ -80,10 +80,16 @@ fn tell(rt: &HostRuntime, ended: &Ended, source: &StdinSource, sink: &StdoutSink
     match ended.status() {
         Status::Done => {}
         Status::BadLine => say(rt, bad_line_text(alloc, ended)),
-        Status::ReadFault => say(rt, system_text(alloc, "standard input can't be read", source.error())),
+        Status::ReadFault => say(
+            rt,
+            system_text(alloc, "standard input can't be read", source.error()),
+        ),
         Status::WriteFault => {
             if !is_closed_pipe(sink.error()) {
-                say(rt, system_text(alloc, "standard output can't be written", sink.error()));
+                say(
+                    rt,
+                    system_text(alloc, "standard output can't be written", sink.error()),
+                );
             }
         }
         Status::NotARun => say(
@@ -93,7 +99,10 @@ fn tell(rt: &HostRuntime, ended: &Ended, source: &StdinSource, sink: &StdoutSink
                 "the journal is no run; the output names the first line that no step allows",
             ),
         ),
-        Status::TooLong => say(rt, String::from_str(alloc, "the input has more than 16777216 bytes")),
+        Status::TooLong => say(
+            rt,
+            String::from_str(alloc, "the input has more than 16777216 bytes"),
+        ),
         _ => say(rt, String::from_str(alloc, "out of memory")),
     }
 }
@@ -127,7 +136,10 @@ fn main(rt: HostRuntime) -> ExitCode {
                 io::ErrorKind::OutOfMemory => Status::OutOfMemory,
                 _ => Status::Usage,
             };
-            say(&rt, format!(in rt.alloc(); "the words can't be read: {error}"));
+            say(
+                &rt,
+                format!(in rt.alloc(); "the words can't be read: {error}"),
+            );
             ExitCode::from(status.code())
         }
     }
