@@ -4,7 +4,8 @@
 #   make run         proves and builds the program where that is not done, and replays the example
 #   make build       proves and builds the program, and leaves it as bin/monoio
 #   make test        the gate: every proof, wrong body, test and program; it ends in `rt ci`
-#   make examples    builds the program, and compares each example's reports with those stored beside it
+#   make examples    builds the program, and compares each example's reports with those stored beside it, and the
+#                    manual page with --help
 #   make soak        random inputs for a minute (SECONDS=n), each report checked by an independent machine; their journals
 #                    too; then each allocation, read and write fails in turn
 #   make planted     tries the wrong bodies of crates/*/planted on a copy (CRATE=name: of one crate)
@@ -44,6 +45,7 @@ examples: build
 	    bin/monoio $$words < $$input | cmp -s - $${input%.events}.reports \
 	        || { echo "$$input: not the stored reports"; exit 1; }; \
 	done; echo 'each example has its stored reports'
+	@python3 tools/man_page.py bin/monoio
 
 soak: build
 	python3 tools/soak/soak.py bin/monoio $(SECONDS)

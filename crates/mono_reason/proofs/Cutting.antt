@@ -26,30 +26,30 @@ word_ends xs i less none here =
 pub one_word : (xs : List ℕ) → ((k : ℕ) → k < length xs → is_gap (get_or xs k 0) ≡ false) → words xs ≡ xs ∷ []
 one_word xs none = slice_split_none is_gap xs (λ k d less. ap is_gap (get_or_default_zero xs k d less) ∙ none k less)
 
-first_feed : (b : ℕ) (bs : List ℕ) → (b == 10) ≡ true → lines (b ∷ bs) ≡ record { bytes = []; is_ended = true; } ∷ lines bs
-first_feed b bs is = ap (λ t. cond t (record { bytes = []; is_ended = true; } ∷ lines bs) (onto_first b (lines bs))) is
+first_feed : (b : ℕ) (bs : List ℕ) → (b == 10) ≡ true → lines (b ∷ bs) ≡ record { bytes = []; is_ended = true } ∷ lines bs
+first_feed b bs is = ap (λ t. cond t (record { bytes = []; is_ended = true } ∷ lines bs) (onto_first b (lines bs))) is
 
 no_feed : (b : ℕ) (bs : List ℕ) → (b == 10) ≡ false → lines (b ∷ bs) ≡ onto_first b (lines bs)
-no_feed b bs is = ap (λ t. cond t (record { bytes = []; is_ended = true; } ∷ lines bs) (onto_first b (lines bs))) is
+no_feed b bs is = ap (λ t. cond t (record { bytes = []; is_ended = true } ∷ lines bs) (onto_first b (lines bs))) is
 
 line_ends_at : (xs : List ℕ) (i : ℕ) → i < length xs → ((k : ℕ) → k < i → (get_or xs k 0 == 10) ≡ false) → (get_or xs i 0 == 10) ≡ true
-    → lines xs ≡ record { bytes = take i xs; is_ended = true; } ∷ lines (drop (suc i) xs)
+    → lines xs ≡ record { bytes = take i xs; is_ended = true } ∷ lines (drop (suc i) xs)
 line_ends_at [] i less none here = absurd (omega (arith, less))
 line_ends_at (b ∷ bs) zero less none here = first_feed b bs here
 line_ends_at (b ∷ bs) (suc i) less none here =
     no_feed b bs (none 0 (omega arith)) ∙ ap (onto_first b) (line_ends_at bs i (omega (arith, less)) (λ k below. none (suc k) (omega (arith, below))) here)
 
 pub line_ends : (xs : List ℕ) (i : ℕ) → i < length xs → ((k : ℕ) → k < i → (get_or xs k 0 == 10) ≡ false) → get_or xs i 0 ≡ 10
-    → lines xs ≡ record { bytes = take i xs; is_ended = true; } ∷ lines (drop (i + 1) xs)
+    → lines xs ≡ record { bytes = take i xs; is_ended = true } ∷ lines (drop (i + 1) xs)
 line_ends xs i less none here =
     let next : suc i ≡ i + 1 = omega arith in
-    subst (λ n. lines xs ≡ record { bytes = take i xs; is_ended = true; } ∷ lines (drop n xs)) next (line_ends_at xs i less none (eq-eqb (get_or xs i 0) 10 here))
+    subst (λ n. lines xs ≡ record { bytes = take i xs; is_ended = true } ∷ lines (drop n xs)) next (line_ends_at xs i less none (eq-eqb (get_or xs i 0) 10 here))
 
-pub one_line : (b : ℕ) (bs : List ℕ) → ((k : ℕ) → k < length (b ∷ bs) → (get_or (b ∷ bs) k 0 == 10) ≡ false) → lines (b ∷ bs) ≡ record { bytes = b ∷ bs; is_ended = false; } ∷ []
+pub one_line : (b : ℕ) (bs : List ℕ) → ((k : ℕ) → k < length (b ∷ bs) → (get_or (b ∷ bs) k 0 == 10) ≡ false) → lines (b ∷ bs) ≡ record { bytes = b ∷ bs; is_ended = false } ∷ []
 one_line b [] none = no_feed b [] (none 0 (omega arith))
 one_line b (c ∷ bs) none = no_feed b (c ∷ bs) (none 0 (omega arith)) ∙ ap (onto_first b) (one_line c bs (λ k below. none (suc k) (omega (arith, below))))
 
-pub only_line : (xs : List ℕ) → 0 < length xs → ((k : ℕ) → k < length xs → (get_or xs k 0 == 10) ≡ false) → lines xs ≡ record { bytes = xs; is_ended = false; } ∷ []
+pub only_line : (xs : List ℕ) → 0 < length xs → ((k : ℕ) → k < length xs → (get_or xs k 0 == 10) ≡ false) → lines xs ≡ record { bytes = xs; is_ended = false } ∷ []
 only_line [] some none = absurd (omega (arith, some))
 only_line (b ∷ bs) some none = one_line b bs none
 

@@ -54,8 +54,8 @@ abbrev pub reason_of : List (List ℕ) → Line → Reason
 reason_of names line =
     if line.is_ended
     then (if ends_in_return line.bytes then CarriageReturn
-        else if is_among (first_of (words line.bytes)) names then or_else (first_great [] [] (words line.bytes)) OtherForm
-        else UnknownWord)
+    else if is_among (first_of (words line.bytes)) names then or_else (first_great [] [] (words line.bytes)) OtherForm
+    else UnknownWord)
     else NoLineFeed
 
 -- the reason of line n, counted from 1, of the input
@@ -65,3 +65,11 @@ reason_in names (Some line) = Some (reason_of names line)
 
 abbrev pub reason_at : List (List ℕ) → List ℕ → ℕ → Option Reason
 reason_at names input n = reason_in names (line_at n (lines input))
+
+abbrev pub first_word_in : Option Line → Option (List ℕ)
+first_word_in None = None
+first_word_in (Some line) = Some (first_of (words line.bytes))
+
+-- the first word of line n, counted from 1, of the input
+abbrev pub first_word_at : List ℕ → ℕ → Option (List ℕ)
+first_word_at input n = first_word_in (line_at n (lines input))

@@ -5,7 +5,7 @@ mod lines;
 mod reasons;
 mod words;
 
-pub use reasons::{Reason, reason_of_line};
+pub use reasons::{Reason, first_word_of_line, reason_of_line};
 
 #[cfg(test)]
 mod tests;

@@ -1,5 +1,6 @@
 // Why a line says no call.
 ghost use Rattle.std.specs.Prelude.{◌≡◌, ◌∷◌, []};
+ghost use Rattle.std.specs.Option.{option_map};
 ghost use Rattle.mono_reason.specs.Words.{words};
 ghost use Rattle.mono_reason.specs.Reasons as spec;
 
@@ -111,6 +112,16 @@ pub fn reason_of_line(names: &[u8], input: &[u8], n: usize) -> Option<Reason>
 {
     match line_at(input, n) {
         Some((line, is_ended)) => Some(reason_of(names, line, is_ended)),
+        None => None,
+    }
+}
+
+/// The first word of line n of the input, counted from 1; none where there is no such line.
+pub fn first_word_of_line(input: &[u8], n: usize) -> Option<&[u8]>
+    ensures { option_map (λ word. word.now) result ≡ spec.first_word_at input.now n }
+{
+    match line_at(input, n) {
+        Some((line, _)) => Some(cut(line).0),
         None => None,
     }
 }

@@ -1,5 +1,5 @@
 // Reasons of lines.
-use crate::{Reason, reason_of_line};
+use crate::{Reason, first_word_of_line, reason_of_line};
 
 const NAMES: &[u8] = b"spawn wake sleep reset clock turn";
 
@@ -13,12 +13,27 @@ fn each_line_has_its_reason(rt: HostRuntime) {
         (b"poll9\n".as_slice(), Reason::UnknownWord),
         (b"\n".as_slice(), Reason::UnknownWord),
         (b" spawn\n".as_slice(), Reason::UnknownWord),
-        (b"spawn2 99999999999999999999\n".as_slice(), Reason::UnknownWord),
+        (
+            b"spawn2 99999999999999999999\n".as_slice(),
+            Reason::UnknownWord,
+        ),
         (b"wake 18446744073709551615\n".as_slice(), Reason::OtherForm),
-        (b"wake 18446744073709551616\n".as_slice(), Reason::GreatNumber),
-        (b"wake 018446744073709551616\n".as_slice(), Reason::OtherForm),
-        (b"wake 99999999999999999999x\n".as_slice(), Reason::OtherForm),
-        (b"sleep 18446744073709551616 \n".as_slice(), Reason::OtherForm),
+        (
+            b"wake 18446744073709551616\n".as_slice(),
+            Reason::GreatNumber,
+        ),
+        (
+            b"wake 018446744073709551616\n".as_slice(),
+            Reason::OtherForm,
+        ),
+        (
+            b"wake 99999999999999999999x\n".as_slice(),
+            Reason::OtherForm,
+        ),
+        (
+            b"sleep 18446744073709551616 \n".as_slice(),
+            Reason::OtherForm,
+        ),
         (
             b"sleep 340282366920938463463374607431768211455\n".as_slice(),
             Reason::OtherForm,
@@ -50,10 +65,23 @@ fn each_line_has_its_reason(rt: HostRuntime) {
 fn lines_are_counted_from_one(rt: HostRuntime) {
     let input = b"spawn\r\n\nwake 18446744073709551616\nspawn";
     assert_eq!(&rt; reason_of_line(NAMES, input, 0), None);
-    assert_eq!(&rt; reason_of_line(NAMES, input, 1), Some(Reason::CarriageReturn));
+    assert_eq!(&rt;
+        reason_of_line(NAMES, input, 1),
+        Some(Reason::CarriageReturn)
+    );
     assert_eq!(&rt; reason_of_line(NAMES, input, 2), Some(Reason::UnknownWord));
     assert_eq!(&rt; reason_of_line(NAMES, input, 3), Some(Reason::GreatNumber));
     assert_eq!(&rt; reason_of_line(NAMES, input, 4), Some(Reason::NoLineFeed));
     assert_eq!(&rt; reason_of_line(NAMES, input, 5), None);
     assert_eq!(&rt; reason_of_line(NAMES, b"", 1), None);
+}
+
+#[test]
+fn the_first_word_is_told(rt: HostRuntime) {
+    let input = b"spawn\n\nturn; pending\npoll9 1";
+    assert_eq!(&rt; first_word_of_line(input, 1), Some(b"spawn".as_slice()));
+    assert_eq!(&rt; first_word_of_line(input, 2), Some(b"".as_slice()));
+    assert_eq!(&rt; first_word_of_line(input, 3), Some(b"turn".as_slice()));
+    assert_eq!(&rt; first_word_of_line(input, 4), Some(b"poll9".as_slice()));
+    assert_eq!(&rt; first_word_of_line(input, 5), None);
 }

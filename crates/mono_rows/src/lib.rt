@@ -7,6 +7,12 @@ mod caller;
 #[cfg(test)]
 mod faults;
 #[cfg(test)]
+mod hostile_jobs;
+#[cfg(test)]
+mod hostile_sleeps;
+#[cfg(test)]
+mod hostile_tasks;
+#[cfg(test)]
 mod journals;
 #[cfg(test)]
 mod limiters;

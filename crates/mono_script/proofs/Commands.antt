@@ -127,6 +127,7 @@ sessions_from x y = None
 abbrev sessions_of : List (List ℕ) → Option Command
 sessions_of (a ∷ b ∷ []) = sessions_from (number_of a) (number_of b)
 sessions_of other = None
+
 abbrev limiter_from : Option ℕ → Option ℕ → Option Command
 limiter_from (Some buckets) (Some retries) = Some (command.Limiter buckets retries)
 limiter_from x y = None

@@ -3,5 +3,4 @@ pub mod Serving
 pub mod Statuses
 pub mod Commands
 pub mod Replaying
-pub mod Serving
 pub mod Checked

@@ -1,6 +1,6 @@
 -- How a command ends. Of the source, left is what it had left before and rest what it has left afterwards; of the
 -- sink, before and after are what was written before and afterwards.
-use Rattle.std.specs.Prelude.{◌≡◌, ◌≢◌, ℕ, ◌≤◌, ◌⊎◌, Bool, true, false, List, [], ◌∷◌, ◌++◌, length, Option, Some, codes, decimal}
+use Rattle.std.specs.Prelude.{◌≡◌, ◌≢◌, ℕ, ◌≤◌, ◌⊎◌, Bool, true, false, List, [], ◌∷◌, ◌++◌, length, Option, Some, None, codes, decimal}
 use Rattle.mono_text.specs.Outside.{HasReadAll, IsLongerThan, HasWritten, HasWrittenPrefix}
 use Rattle.mono_script.specs.declared.ends.Status.{Status}
 use Rattle.mono_script.specs.declared.ends.Status.TheVariants as status
@@ -69,6 +69,12 @@ IsOutput m input status.ReadFault output = ⊥
 IsOutput m input status.WriteFault output = ⊥
 IsOutput m input status.OutOfMemory output = ⊥
 IsOutput m input status.TooLong output = ⊥
+
+-- The line that is named beside what is to be written: the first bad one, where a line is bad.
+abbrev pub IsLine : Meaning → List ℕ → Status → Option ℕ → Type 0
+IsLine m input status.BadLine (Some n) = m.IsFirstBad input n
+IsLine m input status.BadLine None = ⊥
+IsLine m input s line = line ≡ None
 
 -- The command had its input, and of an output for it the first few bytes were written.
 pub record IsCutShort (m : Meaning) (left rest before after : Option (List ℕ)) : Type 0 where

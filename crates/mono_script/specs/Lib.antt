@@ -4,4 +4,5 @@ pub mod Command
 pub mod Ending
 pub mod Served
 pub mod Meanings
+pub mod LineWords
 pub mod Checked

@@ -1,5 +1,5 @@
 -- A command whose lines are the calls of a value, each of which is answered by a line.
-use Rattle.std.specs.Prelude.{◌≡◌, ℕ, true, List}
+use Rattle.std.specs.Prelude.{◌≡◌, ℕ, true, List, Option, Some, None}
 use Rattle.mono_text.specs.Lines.{lines, AreLines, IsFirstWrong}
 use Rattle.mono_text.specs.Serving.{Says, IsServed}
 use Rattle.mono_text.specs.declared.services.Served.{Served}
@@ -22,3 +22,8 @@ serving {S} {A} text Fits Answers start = record {
 abbrev pub IsToldAs : Served → Status → List ℕ → Type 0
 IsToldAs (served.BadLine n) s output = (s ≡ status.BadLine) × (output ≡ bad_line_text n)
 IsToldAs (served.Output bytes) s output = (s ≡ status.Done) × (output ≡ bytes.items)
+
+-- the line that is named beside it
+abbrev pub IsLineOf : Served → Option ℕ → Type 0
+IsLineOf (served.BadLine n) line = line ≡ Some n
+IsLineOf (served.Output bytes) line = line ≡ None

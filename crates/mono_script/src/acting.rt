@@ -1,6 +1,6 @@
 // Actors, call by call.
 ghost use Rattle.std.specs.Prelude.{IfOk};
-ghost use Rattle.mono_script.specs.Ending.{IsOutput};
+ghost use Rattle.mono_script.specs.Ending.{IsOutput, IsLine};
 ghost use Rattle.mono_script.specs.Meanings.{acting};
 
 use crate::ends::Output;
@@ -14,7 +14,8 @@ pub(crate) fn output_of_actors(
     messages: u64,
     input: &[u8],
 ) -> Result<Output, AllocError>
-    ensures { IfOk result (λ o. IsOutput (acting actors messages) input.now o.status o.text.items) }
+    ensures output { IfOk result (λ o. IsOutput (acting actors messages) input.now o.status o.text.items) }
+    ensures line { IfOk result (λ o. IsLine (acting actors messages) input.now o.status o.bad_line) }
 {
     let served = mono_actor_lines::actors(alloc, actors, messages, input)?;
     output_of(alloc, served)

@@ -1,6 +1,6 @@
 // A check of a journal, and the line of its answer.
 ghost use Rattle.std.specs.Prelude.{◌≡◌, IfOk};
-ghost use Rattle.mono_script.specs.Ending.{IsOutput};
+ghost use Rattle.mono_script.specs.Ending.{IsOutput, IsLine};
 ghost use Rattle.mono_script.specs.Checked.{checking, yes_line, no_line};
 
 use crate::ends::{Output, Status, bad_line};
@@ -31,17 +31,20 @@ pub(crate) fn output_of_check(
     blocking: Blocking,
     input: &[u8],
 ) -> Result<Output, AllocError>
-    ensures { IfOk result (λ o. IsOutput (checking limits blocking) input.now o.status o.text.items) }
+    ensures output { IfOk result (λ o. IsOutput (checking limits blocking) input.now o.status o.text.items) }
+    ensures line { IfOk result (λ o. IsLine (checking limits blocking) input.now o.status o.bad_line) }
 {
     match check_lines(alloc, limits, blocking, input)? {
         Answer::BadLine(n) => bad_line(alloc, n),
         Answer::Yes => Ok(Output {
             status: Status::Done,
             text: yes(alloc)?,
+            bad_line: None,
         }),
         Answer::No(n) => Ok(Output {
             status: Status::NotARun,
             text: no(alloc, n)?,
+            bad_line: None,
         }),
     }
 }

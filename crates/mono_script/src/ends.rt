@@ -1,7 +1,14 @@
 // How a command ends.
-ghost use Rattle.std.specs.Prelude.{◌≡◌, IfOk};
+ghost use Rattle.std.specs.Prelude.{◌≡◌, IfOk, IfSome, IfNone, Some, None};
+ghost use Rattle.std.specs.Option.{option_map};
+ghost use Rattle.mono_reason.specs.Words.{words};
+ghost use Rattle.mono_reason.specs.Reasons.{reason_at, first_word_at};
 ghost use Rattle.mono_script.specs.Ending.{bad_line_text, status_code};
+ghost use Rattle.mono_script.specs.LineWords.{line_words};
 
+use crate::command::Command;
+use crate::line_words::first_words;
+use mono_reason::{Reason, first_word_of_line, reason_of_line};
 use std::alloc::{AllocError, Global};
 
 /// How the program ends.
@@ -43,17 +50,77 @@ impl Status {
     }
 }
 
-// All that is to be written, and the status that it then ends with.
+// All that is to be written, the status that it then ends with, and the first bad line where one is named.
 #[derive(Drop)]
 pub(crate) struct Output {
     pub status: Status,
     pub text: Vec<u8>,
+    pub bad_line: Option<usize>,
+}
+
+/// How a command ended.
+#[derive(Drop)]
+pub struct Ended {
+    /// Which command.
+    pub(crate) command: Command,
+    /// The status.
+    pub(crate) status: Status,
+    /// The input that was read, where it was read to its end.
+    pub(crate) input: Vec<u8>,
+    /// The first bad line, where one was named.
+    pub(crate) bad_line: Option<usize>,
+}
+
+impl Ended {
+    // An end without an input that was read to its end.
+    pub(crate) fn without_input(alloc: Global, command: Command, status: Status) -> Ended
+        ensures command { result.command ≡ command }
+        ensures status { result.status ≡ status }
+    {
+        Ended {
+            command,
+            status,
+            input: Vec::new(alloc),
+            bad_line: None,
+        }
+    }
+
+    /// The status.
+    pub fn status(&self) -> Status
+        ensures { result ≡ self.now.status }
+    {
+        self.status
+    }
+
+    /// The first bad line, counted from 1, where one was named.
+    pub fn bad_line(&self) -> Option<usize>
+        ensures { result ≡ self.now.bad_line }
+    {
+        self.bad_line
+    }
+
+    /// Why the first bad line says nothing of the command, by its bytes alone.
+    pub fn reason(&self) -> Option<Reason>
+        ensures some { IfSome self.now.bad_line (λ n. result ≡ reason_at (words (line_words self.now.command)) self.now.input.items n) }
+        ensures none { IfNone self.now.bad_line (result ≡ None) }
+    {
+        reason_of_line(first_words(self.command), &self.input, self.bad_line?)
+    }
+
+    /// The first word of the first bad line, without the blank behind it.
+    pub fn first_word(&self) -> Option<&[u8]>
+        ensures some { IfSome self.now.bad_line (λ n. option_map (λ word. word.now) result ≡ first_word_at self.now.input.items n) }
+        ensures none { IfNone self.now.bad_line (result ≡ None) }
+    {
+        first_word_of_line(&self.input, self.bad_line?)
+    }
 }
 
 // What names a bad line.
 pub(crate) fn bad_line(alloc: Global, n: usize) -> Result<Output, AllocError>
     ensures status { IfOk result (λ o. o.status ≡ Status.BadLine) }
     ensures text { IfOk result (λ o. o.text.items ≡ bad_line_text n) }
+    ensures line { IfOk result (λ o. o.bad_line ≡ Some n) }
 {
     let mut buffer = itoa::Buffer::new();
     let mut text = Vec::from_slice(alloc, b"bad line ")?;
@@ -62,5 +129,6 @@ pub(crate) fn bad_line(alloc: Global, n: usize) -> Result<Output, AllocError>
     Ok(Output {
         status: Status::BadLine,
         text,
+        bad_line: Some(n),
     })
 }

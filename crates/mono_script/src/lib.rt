@@ -6,6 +6,7 @@ mod check_line;
 mod command;
 mod ends;
 mod limiter_lines;
+mod line_words;
 mod load_line;
 mod replay;
 mod served;
@@ -14,10 +15,11 @@ mod top;
 mod words;
 
 pub use command::Command;
-pub use ends::Status;
+pub use ends::{Ended, Status};
+pub use mono_reason::Reason;
 pub use mono_text::{
     InputError, MAX_INPUT, MemSink, MemSource, PlainSink, PlainSource, Reader, Sink, SinkFault,
     Source, SourceFault, StdinSource, StdoutSink, read_all, report_line, write_all,
 };
 pub use replay::{Replayed, answer};
-pub use top::program;
+pub use top::{explained, program};

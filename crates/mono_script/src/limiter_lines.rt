@@ -1,6 +1,6 @@
 // What the lines of a limiter are answered, as an output.
 ghost use Rattle.std.specs.Prelude.{IfOk};
-ghost use Rattle.mono_script.specs.Ending.{IsOutput};
+ghost use Rattle.mono_script.specs.Ending.{IsOutput, IsLine};
 ghost use Rattle.mono_script.specs.Meanings.{limiting};
 
 use crate::ends::Output;
@@ -15,7 +15,8 @@ pub(crate) fn output_of_limiter(
     retries: u64,
     input: &[u8],
 ) -> Result<Output, AllocError>
-    ensures { IfOk result (λ o. IsOutput (limiting buckets retries) input.now o.status o.text.items) }
+    ensures output { IfOk result (λ o. IsOutput (limiting buckets retries) input.now o.status o.text.items) }
+    ensures line { IfOk result (λ o. IsLine (limiting buckets retries) input.now o.status o.bad_line) }
 {
     let served = limiter(alloc, buckets, retries, input)?;
     output_of(alloc, served)

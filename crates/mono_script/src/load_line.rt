@@ -1,6 +1,6 @@
 // A load, and the line of its summary.
 ghost use Rattle.std.specs.Prelude.{◌≡◌, ◌≤◌, ◌++◌, ℕ, List, IfOk, OnOk, decimal, codes};
-ghost use Rattle.mono_script.specs.Ending.{IsOutput};
+ghost use Rattle.mono_script.specs.Ending.{IsOutput, IsLine};
 ghost use Rattle.mono_script.specs.Meanings.{loading, summary_line};
 
 use crate::ends::{Output, Status};
@@ -36,12 +36,14 @@ pub(crate) fn output_of_load(
     input: &[u8],
 ) -> Result<Output, AllocError>
     requires { count ≤ 100000 }
-    ensures { IfOk result (λ o. IsOutput (loading seed count) input.now o.status o.text.items) }
+    ensures output { IfOk result (λ o. IsOutput (loading seed count) input.now o.status o.text.items) }
+    ensures line { IfOk result (λ o. IsLine (loading seed count) input.now o.status o.bad_line) }
 {
     let _ = input;
     let sum = load(alloc, seed, count)?;
     Ok(Output {
         status: Status::Done,
         text: line_of(alloc, sum)?,
+        bad_line: None,
     })
 }

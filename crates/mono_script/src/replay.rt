@@ -3,7 +3,7 @@ ghost use Rattle.std.specs.Prelude.{IfOk, OnOk};
 ghost use Rattle.mono_machine.specs.Machine.{Machine};
 ghost use Rattle.mono_exec.specs.Stands.{Stands};
 ghost use Rattle.mono_script.specs.Answers.{IsAnswer, Answers};
-ghost use Rattle.mono_script.specs.Ending.{IsOutput};
+ghost use Rattle.mono_script.specs.Ending.{IsOutput, IsLine};
 ghost use Rattle.mono_script.specs.Meanings.{replaying};
 
 use crate::ends::{Output, Status, bad_line};
@@ -90,13 +90,15 @@ pub(crate) fn output_of_replay(
     blocking: Blocking,
     input: &[u8],
 ) -> Result<Output, AllocError>
-    ensures { IfOk result (λ o. IsOutput (replaying limits blocking) input.now o.status o.text.items) }
+    ensures output { IfOk result (λ o. IsOutput (replaying limits blocking) input.now o.status o.text.items) }
+    ensures line { IfOk result (λ o. IsLine (replaying limits blocking) input.now o.status o.bad_line) }
 {
     match answer(alloc, limits, blocking, input)? {
         Replayed::BadLine(n) => bad_line(alloc, n),
         Replayed::Output(text) => Ok(Output {
             status: Status::Done,
             text,
+            bad_line: None,
         }),
     }
 }

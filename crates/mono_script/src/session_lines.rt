@@ -1,6 +1,6 @@
 // What the sessions answer, as an output.
 ghost use Rattle.std.specs.Prelude.{IfOk};
-ghost use Rattle.mono_script.specs.Ending.{IsOutput};
+ghost use Rattle.mono_script.specs.Ending.{IsOutput, IsLine};
 ghost use Rattle.mono_script.specs.Meanings.{keeping_sessions};
 
 use crate::ends::Output;
@@ -14,7 +14,8 @@ pub(crate) fn output_of_sessions(
     most_entries: u64,
     input: &[u8],
 ) -> Result<Output, AllocError>
-    ensures { IfOk result (λ o. IsOutput (keeping_sessions most_sessions most_entries) input.now o.status o.text.items) }
+    ensures output { IfOk result (λ o. IsOutput (keeping_sessions most_sessions most_entries) input.now o.status o.text.items) }
+    ensures line { IfOk result (λ o. IsLine (keeping_sessions most_sessions most_entries) input.now o.status o.bad_line) }
 {
     let served = sessions(alloc, most_sessions, most_entries, input)?;
     output_of(alloc, served)

@@ -1,8 +1,8 @@
 // The top call: words, source and sink to a status.
-ghost use Rattle.std.specs.Prelude.{◌≡◌, ◌≢◌, ◌≤◌, ◌<◌, ◌↔◌, ◌⊎◌, true, false, List, ℕ, Some, length, IfOk, OnOk, IsErrOf, map, string_bytes};
+ghost use Rattle.std.specs.Prelude.{◌≡◌, ◌≢◌, ◌≤◌, ◌<◌, ◌↔◌, ◌⊎◌, true, false, List, ℕ, Some, length, IfOk, OnOk, IfSome, IfNone, IsErrOf, map, string_bytes};
 ghost use Rattle.mono_text.specs.Outside.{HasRisen, IsLongerThan};
 ghost use Rattle.mono_script.specs.Command.{FitsCommand, IsCommand, IsNoCommand};
-ghost use Rattle.mono_script.specs.Ending.{HasInput, IsInput, HasAnswered, NamesBadLine, IsCutShort, IsRead, IsOutput, IsAnswered, Ends, IsWritten, status_code, max_input};
+ghost use Rattle.mono_script.specs.Ending.{HasInput, IsInput, HasAnswered, NamesBadLine, IsCutShort, IsRead, IsLine, IsOutput, IsAnswered, Ends, IsWritten, status_code, max_input};
 ghost use Rattle.mono_script.specs.Meanings.{meaning};
 ghost use Rattle.mono_script.specs.declared.ends.Status.TheVariants as status;
 ghost use Rattle.mono_text.specs.declared.source.InputError.TheVariants as input_error;
@@ -10,7 +10,7 @@ ghost use Rattle.mono_text.specs.declared.source.InputError.TheVariants as input
 use crate::acting::output_of_actors;
 use crate::check_line::output_of_check;
 use crate::command::{Command, read_command};
-use crate::ends::{Output, Status};
+use crate::ends::{Ended, Output, Status};
 use crate::limiter_lines::output_of_limiter;
 use crate::load_line::output_of_load;
 use crate::replay::output_of_replay;
@@ -21,7 +21,8 @@ use std::alloc::{AllocError, Global};
 // What the command is to write for the input.
 fn made(alloc: Global, command: Command, input: &[u8]) -> Result<Output, AllocError>
     requires { FitsCommand command }
-    ensures { IfOk result (λ o. IsOutput (meaning command) input.now o.status o.text.items) }
+    ensures output { IfOk result (λ o. IsOutput (meaning command) input.now o.status o.text.items) }
+    ensures line { IfOk result (λ o. IsLine (meaning command) input.now o.status o.bad_line) }
 {
     match command {
         Command::Replay(limits, blocking) => output_of_replay(alloc, limits, blocking, input),
@@ -87,23 +88,56 @@ fn carry_out<S: Source, K: Sink>(
     command: Command,
     source: &mut S,
     sink: &mut K,
-) -> Status
+) -> Ended
     requires { FitsCommand command }
-    ensures ends { Ends (meaning command) (S.left source.old) (S.left source.new) (K.written sink.old) (K.written sink.new) (HasRisen (S.faults source.old) (S.faults source.new)) (HasRisen (K.faults sink.old) (K.faults sink.new)) result }
+    ensures command { result.command ≡ command }
+    ensures ends { Ends (meaning command) (S.left source.old) (S.left source.new) (K.written sink.old) (K.written sink.new) (HasRisen (S.faults source.old) (S.faults source.new)) (HasRisen (K.faults sink.old) (K.faults sink.new)) result.status }
+    ensures line { result.status ≡ status.BadLine → IsLine (meaning command) result.input.items status.BadLine result.bad_line }
+    ensures input { result.status ≡ status.BadLine → HasInput (meaning command).reads (S.left source.old) result.input.items (S.left source.new) }
     ensures later { (S.faults source.old ≤ S.faults source.new) × (K.faults sink.old ≤ K.faults sink.new) }
-    ensures read_stays { result ≢ status.ReadFault → S.faults source.new ≡ S.faults source.old }
-    ensures write_stays { result ≢ status.WriteFault → K.faults sink.new ≡ K.faults sink.old }
+    ensures read_stays { result.status ≢ status.ReadFault → S.faults source.new ≡ S.faults source.old }
+    ensures write_stays { result.status ≢ status.WriteFault → K.faults sink.new ≡ K.faults sink.old }
     ensures unread { (meaning command).reads ≡ false → S.left source.new ≡ S.left source.old }
 {
     let input = match input_of(alloc, command, source) {
         Ok(input) => input,
-        Err(InputError::Memory) => return Status::OutOfMemory,
-        Err(InputError::Fault) => return Status::ReadFault,
-        Err(InputError::TooLong) => return Status::TooLong,
+        Err(InputError::Memory) => return Ended::without_input(alloc, command, Status::OutOfMemory),
+        Err(InputError::Fault) => return Ended::without_input(alloc, command, Status::ReadFault),
+        Err(InputError::TooLong) => return Ended::without_input(alloc, command, Status::TooLong),
     };
     match made(alloc, command, &input) {
-        Ok(output) => write_output(sink, output.status, &output.text),
-        Err(_) => Status::OutOfMemory,
+        Ok(output) => Ended {
+            command,
+            status: write_output(sink, output.status, &output.text),
+            input,
+            bad_line: output.bad_line,
+        },
+        Err(_) => Ended::without_input(alloc, command, Status::OutOfMemory),
+    }
+}
+
+/// As [`program`], and tells how the command ended: beside the status also the input that was read, and the first bad line
+/// where one was named. None exactly where the words are no command (`none`, `command`), and then nothing is read or written.
+pub fn explained<S: Source, K: Sink>(
+    alloc: Global,
+    words: &Vec<String>,
+    source: &mut S,
+    sink: &mut K,
+) -> Option<Ended>
+    ensures none { IfNone result (IsNoCommand (map string_bytes words.now.items)) }
+    ensures untouched { IfNone result ((S.left source.new ≡ S.left source.old) × (S.faults source.new ≡ S.faults source.old) × (K.written sink.new ≡ K.written sink.old) × (K.faults sink.new ≡ K.faults sink.old)) }
+    ensures command { IfSome result (λ e. IsCommand (map string_bytes words.now.items) e.command) }
+    ensures ends { IfSome result (λ e. Ends (meaning e.command) (S.left source.old) (S.left source.new) (K.written sink.old) (K.written sink.new) (HasRisen (S.faults source.old) (S.faults source.new)) (HasRisen (K.faults sink.old) (K.faults sink.new)) e.status) }
+    ensures line { IfSome result (λ e. e.status ≡ status.BadLine → IsLine (meaning e.command) e.input.items status.BadLine e.bad_line) }
+    ensures input { IfSome result (λ e. e.status ≡ status.BadLine → HasInput (meaning e.command).reads (S.left source.old) e.input.items (S.left source.new)) }
+    ensures later { (S.faults source.old ≤ S.faults source.new) × (K.faults sink.old ≤ K.faults sink.new) }
+    ensures read_stays { IfSome result (λ e. e.status ≢ status.ReadFault → S.faults source.new ≡ S.faults source.old) }
+    ensures write_stays { IfSome result (λ e. e.status ≢ status.WriteFault → K.faults sink.new ≡ K.faults sink.old) }
+    ensures unread { IfSome result (λ e. (meaning e.command).reads ≡ false → S.left source.new ≡ S.left source.old) }
+{
+    match read_command(words) {
+        Some(command) => Some(carry_out(alloc, command, source, sink)),
+        None => None,
     }
 }
 
@@ -141,8 +175,8 @@ pub fn program<S: Source, K: Sink>(
     ensures write_fault_where { K.faults sink.old < K.faults sink.new → result ≡ 5 }
     ensures counts { (S.faults source.old ≤ S.faults source.new) × (K.faults sink.old ≤ K.faults sink.new) }
 {
-    match read_command(words) {
-        Some(command) => carry_out(alloc, command, source, sink).code(),
+    match explained(alloc, words, source, sink) {
+        Some(ended) => ended.status.code(),
         None => Status::Usage.code(),
     }
 }

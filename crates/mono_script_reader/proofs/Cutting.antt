@@ -102,6 +102,6 @@ unended (b ∷ bytes) none some =
       more = f.1;
       are = f.2;
       not_ended = λ text e.
-      let k = line_in (b ∷ bytes) f.0 f.1 f.2 (ap (λ (l : Line). l.is_ended) e) in
-      feed_inside f.0.bytes k.0 (subst HasNoFeed k.1 none);
+          let k = line_in (b ∷ bytes) f.0 f.1 f.2 (ap (λ (l : Line). l.is_ended) e) in
+          feed_inside f.0.bytes k.0 (subst HasNoFeed k.1 none);
     }

@@ -55,8 +55,7 @@ closed kinds x ks bs o sound fits =
     let k : Kind = record { body = bs; output = o } in
     let all : flat_map kind_texts (ks ++ k ∷ []) ≡ flat_map kind_texts ks ++ kind_texts k = flat_map-append kind_texts ks (k ∷ []) ∙ ap (λ r. flat_map kind_texts ks ++ r) (append-nil (kind_texts k)) in
     let text : flat_map kind_texts (ks ++ k ∷ []) ++ [] ≡ (flat_map kind_texts ks ++ codes "task" ∷ map body_text bs) ++ done_text o ∷ [] =
-    append-nil (flat_map kind_texts (ks ++ k ∷ [])) ∙ all ∙ sym (append_assoc (flat_map kind_texts ks) (codes "task" ∷ map body_text bs) (done_text o ∷ [])) in
-    (
+    append-nil (flat_map kind_texts (ks ++ k ∷ [])) ∙ all ∙ sym (append_assoc (flat_map kind_texts ks) (codes "task" ∷ map body_text bs) (done_text o ∷ [])) in (
       record { limits = sound.limits; each = sound_more kinds ks k sound.each (record { few = sound.inside.1; each = sound.inside.2; output = fits }); inside = omega (arith, sound.inside.0, length-append ks (k ∷ [])) },
       ap (λ r. limits_text x ∷ r) text,
     )

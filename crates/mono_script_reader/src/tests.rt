@@ -29,7 +29,8 @@ fn repeated(
 #[test]
 fn a_script_is_read(rt: HostRuntime) -> Result<(), AllocError> {
     let alloc = rt.alloc();
-    let input = b"limits 16 8 4\ntask\nspawn 1\nawait-sleep 18446744073709551615\nblock 7\nawait-job 0\njoin 0\nyield\ndone 5\ntask\ndone 18446744073709551615\n";
+    let input =
+        b"limits 16 8 4\ntask\nspawn 1\nawait-sleep 18446744073709551615\nblock 7\nawait-job 0\njoin 0\nyield\ndone 5\ntask\ndone 18446744073709551615\n";
     match read_script(alloc, input.as_slice())? {
         ScriptRead::BadLine(_) => assert!(&rt; false),
         ScriptRead::Script(script) => {
@@ -60,48 +61,153 @@ fn lines_that_are_missing(rt: HostRuntime) -> Result<(), AllocError> {
     assert_eq!(&rt; bad_line_of(alloc, b"limits 1 1 1".as_slice())?, 1);
     assert_eq!(&rt; bad_line_of(alloc, b"limits 1 1 1\n".as_slice())?, 2);
     assert_eq!(&rt; bad_line_of(alloc, b"limits 1 1 1\ntask\n".as_slice())?, 3);
-    assert_eq!(&rt; bad_line_of(alloc, b"limits 1 1 1\ntask\nyield\n".as_slice())?, 4);
-    assert_eq!(&rt; bad_line_of(alloc, b"limits 1 1 1\ntask\ndone 1".as_slice())?, 3);
-    assert_eq!(&rt; bad_line_of(alloc, b"limits 1 1 1\ntask\ndone 1\n".as_slice())?, 0);
-    assert_eq!(&rt; bad_line_of(alloc, b"limits 1 1 1\ntask\ndone 1\n\n".as_slice())?, 4);
+    assert_eq!(&rt;
+        bad_line_of(alloc, b"limits 1 1 1\ntask\nyield\n".as_slice())?,
+        4
+    );
+    assert_eq!(&rt;
+        bad_line_of(alloc, b"limits 1 1 1\ntask\ndone 1".as_slice())?,
+        3
+    );
+    assert_eq!(&rt;
+        bad_line_of(alloc, b"limits 1 1 1\ntask\ndone 1\n".as_slice())?,
+        0
+    );
+    assert_eq!(&rt;
+        bad_line_of(alloc, b"limits 1 1 1\ntask\ndone 1\n\n".as_slice())?,
+        4
+    );
     Ok(())
 }
 
 #[test]
 fn limits_that_are_bad(rt: HostRuntime) -> Result<(), AllocError> {
     let alloc = rt.alloc();
-    assert_eq!(&rt; bad_line_of(alloc, b"limits 01 1 1\ntask\ndone 1\n".as_slice())?, 1);
-    assert_eq!(&rt; bad_line_of(alloc, b"limits 1 1\ntask\ndone 1\n".as_slice())?, 1);
-    assert_eq!(&rt; bad_line_of(alloc, b"limits 1 1 1 1\ntask\ndone 1\n".as_slice())?, 1);
-    assert_eq!(&rt; bad_line_of(alloc, b"limits 1 1 18446744073709551616\ntask\ndone 1\n".as_slice())?, 1);
-    assert_eq!(&rt; bad_line_of(alloc, b"limits 1 1 18446744073709551615\ntask\ndone 1\n".as_slice())?, 0);
+    assert_eq!(&rt;
+        bad_line_of(alloc, b"limits 01 1 1\ntask\ndone 1\n".as_slice())?,
+        1
+    );
+    assert_eq!(&rt;
+        bad_line_of(alloc, b"limits 1 1\ntask\ndone 1\n".as_slice())?,
+        1
+    );
+    assert_eq!(&rt;
+        bad_line_of(alloc, b"limits 1 1 1 1\ntask\ndone 1\n".as_slice())?,
+        1
+    );
+    assert_eq!(&rt;
+        bad_line_of(
+            alloc,
+            b"limits 1 1 18446744073709551616\ntask\ndone 1\n".as_slice()
+        )?,
+        1
+    );
+    assert_eq!(&rt;
+        bad_line_of(
+            alloc,
+            b"limits 1 1 18446744073709551615\ntask\ndone 1\n".as_slice()
+        )?,
+        0
+    );
     Ok(())
 }
 
 #[test]
 fn handles_that_are_not_there(rt: HostRuntime) -> Result<(), AllocError> {
     let alloc = rt.alloc();
-    assert_eq!(&rt; bad_line_of(alloc, b"limits 1 1 1\ntask\nspawn 1\ndone 0\n".as_slice())?, 3);
-    assert_eq!(&rt; bad_line_of(alloc, b"limits 1 1 1\ntask\nspawn 0\njoin 0\njoin 0\ndone 0\n".as_slice())?, 5);
-    assert_eq!(&rt; bad_line_of(alloc, b"limits 1 1 1\ntask\nspawn 0\ndetach 0\njoin 0\ndone 0\n".as_slice())?, 5);
-    assert_eq!(&rt; bad_line_of(alloc, b"limits 1 1 1\ntask\nspawn 0\njoin 1\ndone 0\n".as_slice())?, 4);
-    assert_eq!(&rt; bad_line_of(alloc, b"limits 1 1 1\ntask\njoin 0\nspawn 0\ndone 0\n".as_slice())?, 3);
-    assert_eq!(&rt; bad_line_of(alloc, b"limits 1 1 1\ntask\nblock 0\nawait-job 1\ndone 0\n".as_slice())?, 4);
-    assert_eq!(&rt; bad_line_of(alloc, b"limits 1 1 1\ntask\nblock 0\nawait-job 0\ndrop-job 0\ndone 0\n".as_slice())?, 5);
-    assert_eq!(&rt; bad_line_of(alloc, b"limits 1 1 1\ntask\nblock 0\nspawn 0\ndrop-job 0\njoin 0\ndone 0\n".as_slice())?, 0);
-    assert_eq!(&rt; bad_line_of(alloc, b"limits 1 1 1\ntask\nspawn 0\nspawn 0\njoin 1\ndetach 0\ndone 0\n".as_slice())?, 0);
+    assert_eq!(&rt;
+        bad_line_of(alloc, b"limits 1 1 1\ntask\nspawn 1\ndone 0\n".as_slice())?,
+        3
+    );
+    assert_eq!(&rt;
+        bad_line_of(
+            alloc,
+            b"limits 1 1 1\ntask\nspawn 0\njoin 0\njoin 0\ndone 0\n".as_slice()
+        )?,
+        5
+    );
+    assert_eq!(&rt;
+        bad_line_of(
+            alloc,
+            b"limits 1 1 1\ntask\nspawn 0\ndetach 0\njoin 0\ndone 0\n".as_slice()
+        )?,
+        5
+    );
+    assert_eq!(&rt;
+        bad_line_of(
+            alloc,
+            b"limits 1 1 1\ntask\nspawn 0\njoin 1\ndone 0\n".as_slice()
+        )?,
+        4
+    );
+    assert_eq!(&rt;
+        bad_line_of(
+            alloc,
+            b"limits 1 1 1\ntask\njoin 0\nspawn 0\ndone 0\n".as_slice()
+        )?,
+        3
+    );
+    assert_eq!(&rt;
+        bad_line_of(
+            alloc,
+            b"limits 1 1 1\ntask\nblock 0\nawait-job 1\ndone 0\n".as_slice()
+        )?,
+        4
+    );
+    assert_eq!(&rt;
+        bad_line_of(
+            alloc,
+            b"limits 1 1 1\ntask\nblock 0\nawait-job 0\ndrop-job 0\ndone 0\n".as_slice()
+        )?,
+        5
+    );
+    assert_eq!(&rt;
+        bad_line_of(
+            alloc,
+            b"limits 1 1 1\ntask\nblock 0\nspawn 0\ndrop-job 0\njoin 0\ndone 0\n".as_slice()
+        )?,
+        0
+    );
+    assert_eq!(&rt;
+        bad_line_of(
+            alloc,
+            b"limits 1 1 1\ntask\nspawn 0\nspawn 0\njoin 1\ndetach 0\ndone 0\n".as_slice()
+        )?,
+        0
+    );
     Ok(())
 }
 
 #[test]
 fn words_that_are_none(rt: HostRuntime) -> Result<(), AllocError> {
     let alloc = rt.alloc();
-    assert_eq!(&rt; bad_line_of(alloc, b"limits 1 1 1\ntask\nawait-sleep 18446744073709551616\ndone 0\n".as_slice())?, 3);
-    assert_eq!(&rt; bad_line_of(alloc, b"limits 1 1 1\ntask\nyield \ndone 0\n".as_slice())?, 3);
-    assert_eq!(&rt; bad_line_of(alloc, b"limits 1 1 1\ntask\nblock\ndone 0\n".as_slice())?, 3);
-    assert_eq!(&rt; bad_line_of(alloc, b"limits 1 1 1\ntask\ntask\ndone 0\n".as_slice())?, 3);
-    assert_eq!(&rt; bad_line_of(alloc, b"limits 1 1 1\ndone 0\n".as_slice())?, 2);
-    assert_eq!(&rt; bad_line_of(alloc, b"limits 1 1 1\ntask\ndone 00\n".as_slice())?, 3);
+    assert_eq!(&rt;
+        bad_line_of(
+            alloc,
+            b"limits 1 1 1\ntask\nawait-sleep 18446744073709551616\ndone 0\n".as_slice()
+        )?,
+        3
+    );
+    assert_eq!(&rt;
+        bad_line_of(alloc, b"limits 1 1 1\ntask\nyield \ndone 0\n".as_slice())?,
+        3
+    );
+    assert_eq!(&rt;
+        bad_line_of(alloc, b"limits 1 1 1\ntask\nblock\ndone 0\n".as_slice())?,
+        3
+    );
+    assert_eq!(&rt;
+        bad_line_of(alloc, b"limits 1 1 1\ntask\ntask\ndone 0\n".as_slice())?,
+        3
+    );
+    assert_eq!(&rt;
+        bad_line_of(alloc, b"limits 1 1 1\ndone 0\n".as_slice())?,
+        2
+    );
+    assert_eq!(&rt;
+        bad_line_of(alloc, b"limits 1 1 1\ntask\ndone 00\n".as_slice())?,
+        3
+    );
     Ok(())
 }
 
@@ -110,15 +216,33 @@ fn the_bounds_of_a_script(rt: HostRuntime) -> Result<(), AllocError> {
     let alloc = rt.alloc();
     let begin = b"limits 1 1 1\n".as_slice();
     let kind = b"task\ndone 0\n".as_slice();
-    assert_eq!(&rt; bad_line_of(alloc, &repeated(alloc, begin, kind, 64, b"".as_slice())?)?, 0);
-    assert_eq!(&rt; bad_line_of(alloc, &repeated(alloc, begin, kind, 65, b"".as_slice())?)?, 130);
+    assert_eq!(&rt;
+        bad_line_of(alloc, &repeated(alloc, begin, kind, 64, b"".as_slice())?)?,
+        0
+    );
+    assert_eq!(&rt;
+        bad_line_of(alloc, &repeated(alloc, begin, kind, 65, b"".as_slice())?)?,
+        130
+    );
     let open = b"limits 1 1 1\ntask\n".as_slice();
     let line = b"block 3\n".as_slice();
     let end = b"done 0\n".as_slice();
-    assert_eq!(&rt; bad_line_of(alloc, &repeated(alloc, open, line, 127, end)?)?, 0);
-    assert_eq!(&rt; bad_line_of(alloc, &repeated(alloc, open, line, 128, end)?)?, 130);
+    assert_eq!(&rt;
+        bad_line_of(alloc, &repeated(alloc, open, line, 127, end)?)?,
+        0
+    );
+    assert_eq!(&rt;
+        bad_line_of(alloc, &repeated(alloc, open, line, 128, end)?)?,
+        130
+    );
     let last = b"task\nspawn 63\ndone 0\n".as_slice();
-    assert_eq!(&rt; bad_line_of(alloc, &repeated(alloc, begin, kind, 63, last)?)?, 0);
-    assert_eq!(&rt; bad_line_of(alloc, &repeated(alloc, begin, kind, 62, last)?)?, 127);
+    assert_eq!(&rt;
+        bad_line_of(alloc, &repeated(alloc, begin, kind, 63, last)?)?,
+        0
+    );
+    assert_eq!(&rt;
+        bad_line_of(alloc, &repeated(alloc, begin, kind, 62, last)?)?,
+        127
+    );
     Ok(())
 }

@@ -43,8 +43,8 @@ module _ {S F C X Y : Type 0} (stream : StreamOf S C X) (call : Mut F (X × Unit
   maps zero old ys has_ended new (none, unended, same) =
       ([], (refl, unended, ap (λ m. m.stream) same), subst (λ l. AreImages call old.f [] l new.f) (sym none) (ap (λ m. m.f) same))
   maps (suc n) old ys has_ended new (r, mid, polled, after) =
-      one_more n old mid new polled.polled.answer r ys has_ended (record { before = polled.before; after = polled.after; polled = polled.polled.polled; })
-          polled.polled.answers (λ zs. maps n mid zs has_ended new) after
+      one_more n old mid new polled.polled.answer r ys has_ended (record { before = polled.before; after = polled.after; polled = polled.polled.polled })
+      polled.polled.answers (λ zs. maps n mid zs has_ended new) after
 
 -- ---- an iterator's
 
@@ -71,7 +71,7 @@ module _ (C : Type 0) {I X : Type 0} (next : I → Option X → I → Type 0) wh
 
 module _ {S C : Type 0} (polls : Polls S C) where
   one : (s : S) (c : C) (r : Poll (Option ⊤)) (t : S) (d : C) → polls s c r t d → IsPolled polls s r t
-  one s c r t d polled = record { before = c; after = d; polled = polled; }
+  one s c r t d polled = record { before = c; after = d; polled = polled }
 
   to_the_end : (n : ℕ) (s : S) (c : C) (before : S) (middle : C) (new : S) (d : C) → Items polls n s c before middle → polls before middle (Ready None) new d → Gives polls (suc n) s (blank n) true new
   to_the_end zero s c before middle new d (same, still) last = (Ready None, new, one s c (Ready None) new d (subst (λ x. polls x c (Ready None) new d) same (subst (λ x. polls before x (Ready None) new d) still last)), (refl, refl, refl))
@@ -109,12 +109,12 @@ module _ {F Fut C X Y : Type 0} (future : FutureOf Fut C Y) (call : Mut F (X × 
 
   nothing_yet : (made : Option Fut) (f : F) → From made f [] [] made f
   nothing_yet None f = refl
-  nothing_yet (Some g) f = (record { count = zero; waited = refl; }, refl)
+  nothing_yet (Some g) f = (record { count = zero; waited = refl }, refl)
 
   waits_longer : (g left : Fut) (f : F) (xs : List X) (ys : List Y) (made : Option Fut) (f' : F) → IsTried future g Pending left → FromHeld left f xs ys made f' → FromHeld g f xs ys made f'
   waits_longer g left f xs (y ∷ ys) made f' tried (output, rest) =
-      (record { count = suc output.count; waiting = output.waiting; waited = (left, tried, output.waited); left = output.left; ready = output.ready; }, rest)
-  waits_longer g left f [] [] (Some last) f' tried (waits, same) = (record { count = suc waits.count; waited = (left, tried, waits.waited); }, same)
+      (record { count = suc output.count; waiting = output.waiting; waited = (left, tried, output.waited); left = output.left; ready = output.ready }, rest)
+  waits_longer g left f [] [] (Some last) f' tried (waits, same) = (record { count = suc waits.count; waited = (left, tried, waits.waited) }, same)
   waits_longer g left f [] [] None f' tried never = absurd never
   waits_longer g left f (x ∷ xs) [] made f' tried never = absurd never
 
@@ -137,13 +137,21 @@ module _ {S F Fut C X Y : Type 0} (stream : StreamOf S C X) (future : FutureOf F
       → Later n mid has_ended new → After r mid (Gives (ThenPolls stream future call) n mid) ys has_ended new → Chained (Some g) mid.stream mid.f ys has_ended new
   goes_on n mid new g left c e d (Ready y) r ys has_ended polled (cancelled, is, gone) later after =
       let (zs, first, given) = subst (λ q. After q mid (Gives (ThenPolls stream future call) n mid) ys has_ended new) is after in
-      let (count, items, gives, outputs) = later zs given in
-      (count, items, gives, subst (λ l. FromHeld future call g mid.f items l new.made new.f) (sym first)
-          (record { count = zero; waiting = g; waited = refl; left = left; ready = record { before = c; after = e; polled = polled; }; }, subst (λ made. From future call made mid.f items zs new.made new.f) gone outputs))
+      let (count, items, gives, outputs) = later zs given in (
+        count,
+        items,
+        gives,
+        subst (λ l. FromHeld future call g mid.f items l new.made new.f) (sym first)
+            (record { count = zero; waiting = g; waited = refl; left = left; ready = record { before = c; after = e; polled = polled } }, subst (λ made. From future call made mid.f items zs new.made new.f) gone outputs),
+      )
   goes_on n mid new g left c e d Pending r ys has_ended polled (is, there, still) later after =
-      let (count, items, gives, outputs) = later ys (subst (λ q. After q mid (Gives (ThenPolls stream future call) n mid) ys has_ended new) is after) in
-      (count, items, gives, waits_longer future call g left mid.f items ys new.made new.f (record { before = c; after = e; polled = polled; })
-          (subst (λ made. From future call made mid.f items ys new.made new.f) there outputs))
+      let (count, items, gives, outputs) = later ys (subst (λ q. After q mid (Gives (ThenPolls stream future call) n mid) ys has_ended new) is after) in (
+        count,
+        items,
+        gives,
+        waits_longer future call g left mid.f items ys new.made new.f (record { before = c; after = e; polled = polled })
+            (subst (λ made. From future call made mid.f items ys new.made new.f) there outputs),
+      )
 
   finishes : (n : ℕ) (mid new : Then S F Fut) (g : Fut) (c d : C) (r : Poll (Option Y)) (ys : List Y) (has_ended : Bool) → Finishes future g c r mid.made d → Later n mid has_ended new
       → After r mid (Gives (ThenPolls stream future call) n mid) ys has_ended new → Chained (Some g) mid.stream mid.f ys has_ended new
@@ -156,14 +164,20 @@ module _ {S F Fut C X Y : Type 0} (stream : StreamOf S C X) (future : FutureOf F
       let (count, items, gives, outputs) = finishes n mid new g e d r ys has_ended done later after in
       (suc count, x ∷ items, (Ready (Some x), mid.stream, polled, (items, refl, gives)), is_made future call old.f mid.f x g items ys new.made new.f called outputs)
   takes n old mid new (Ready None) e d r ys has_ended polled (is, same, none, still) later after =
-      let (no_more, ended, last) = subst (λ q. After q mid (Gives (ThenPolls stream future call) n mid) ys has_ended new) is after in
-      (suc zero, [], (Ready None, mid.stream, polled, (refl, ended, ap (λ t. t.stream) last)),
-          subst (λ l. AreOutputs future call old.f [] l new.made new.f) (sym no_more)
-              (subst (λ made. AreOutputs future call old.f [] [] made new.f) (sym (ap (λ t. t.made) last ∙ none)) (ap (λ t. t.f) last ∙ same)))
+      let (no_more, ended, last) = subst (λ q. After q mid (Gives (ThenPolls stream future call) n mid) ys has_ended new) is after in (
+        suc zero,
+        [],
+        (Ready None, mid.stream, polled, (refl, ended, ap (λ t. t.stream) last)),
+        subst (λ l. AreOutputs future call old.f [] l new.made new.f) (sym no_more)
+            (subst (λ made. AreOutputs future call old.f [] [] made new.f) (sym (ap (λ t. t.made) last ∙ none)) (ap (λ t. t.f) last ∙ same)),
+      )
   takes n old mid new Pending e d r ys has_ended polled (is, same, none, still) later after =
-      let (count, items, gives, outputs) = later ys (subst (λ q. After q mid (Gives (ThenPolls stream future call) n mid) ys has_ended new) is after) in
-      (suc count, items, (Pending, mid.stream, polled, gives),
-          subst (λ f. AreOutputs future call f items ys new.made new.f) same (subst (λ made. From future call made mid.f items ys new.made new.f) none outputs))
+      let (count, items, gives, outputs) = later ys (subst (λ q. After q mid (Gives (ThenPolls stream future call) n mid) ys has_ended new) is after) in (
+        suc count,
+        items,
+        (Pending, mid.stream, polled, gives),
+        subst (λ f. AreOutputs future call f items ys new.made new.f) same (subst (λ made. From future call made mid.f items ys new.made new.f) none outputs),
+      )
 
   by_made : (n : ℕ) (made : Option Fut) (old mid new : Then S F Fut) (c d : C) (r : Poll (Option Y)) (ys : List Y) (has_ended : Bool) → ByMade stream future call made old c r mid d → Later n mid has_ended new
       → After r mid (Gives (ThenPolls stream future call) n mid) ys has_ended new → Chained made old.stream old.f ys has_ended new
@@ -171,12 +185,16 @@ module _ {S F Fut C X Y : Type 0} (stream : StreamOf S C X) (future : FutureOf F
       let (count, items, gives, outputs) = finishes n mid new g c d r ys has_ended done later after in
       (count, items, subst (λ s. Gives stream.polls count s items has_ended new.stream) same gives, subst (λ f. FromHeld future call g f items ys new.made new.f) still outputs)
   by_made n None old mid new c d r ys has_ended next later after =
-      takes n old mid new next.answer next.middle d r ys has_ended (record { before = c; after = next.middle; polled = next.polled; }) next.rest later after
+      takes n old mid new next.answer next.middle d r ys has_ended (record { before = c; after = next.middle; polled = next.polled }) next.rest later after
 
   chains_from : (n : ℕ) (old : Then S F Fut) (ys : List Y) (has_ended : Bool) (new : Then S F Fut) → Gives (ThenPolls stream future call) n old ys has_ended new → Chained old.made old.stream old.f ys has_ended new
-  chains_from zero old ys has_ended new (none, unended, same) =
-      (zero, [], (refl, unended, ap (λ t. t.stream) same), subst (λ l. From future call old.made old.f [] l new.made new.f) (sym none)
-          (subst (λ t. From future call old.made old.f [] [] t.made t.f) (sym same) (nothing_yet future call old.made old.f)))
+  chains_from zero old ys has_ended new (none, unended, same) = (
+    zero,
+    [],
+    (refl, unended, ap (λ t. t.stream) same),
+    subst (λ l. From future call old.made old.f [] l new.made new.f) (sym none)
+        (subst (λ t. From future call old.made old.f [] [] t.made t.f) (sym same) (nothing_yet future call old.made old.f)),
+  )
   chains_from (suc n) old ys has_ended new (r, mid, polled, after) =
       by_made n old.made old mid new polled.before polled.after r ys has_ended polled.polled (λ zs. chains_from n mid zs has_ended new) after
 

@@ -3,7 +3,7 @@ ghost use Rattle.std.specs.Prelude.{◌≡◌};
 
 use crate::sink::{Sink, SinkFault};
 use crate::source::{Source, SourceFault};
-use std::io::{Read, Write};
+use std::io::{self, Read, Write};
 use std::rt::{Stdin, Stdout};
 
 /// Standard input. It tells nothing of its bytes, and its count of faults starts at 0.
@@ -11,6 +11,7 @@ use std::rt::{Stdin, Stdout};
 pub struct StdinSource {
     stdin: Stdin,
     faults: u64,
+    error: Option<io::Error>,
 }
 
 impl StdinSource {
@@ -18,7 +19,16 @@ impl StdinSource {
     pub fn new(stdin: Stdin) -> StdinSource
         ensures { result.faults ≡ 0 }
     {
-        StdinSource { stdin, faults: 0 }
+        StdinSource {
+            stdin,
+            faults: 0,
+            error: None,
+        }
+    }
+
+    /// The system's error of the last read that failed.
+    pub fn error(&self) -> Option<&io::Error> {
+        self.error.as_ref()
     }
 }
 
@@ -32,8 +42,9 @@ impl Source for StdinSource {
     fn read(&mut self, buffer: &mut [u8]) -> Result<usize, SourceFault> {
         match self.stdin.read(buffer) {
             Ok(n) => Ok(n),
-            Err(_) => {
+            Err(error) => {
                 self.faults = self.faults.saturating_add(1);
+                self.error = Some(error);
                 Err(SourceFault)
             }
         }
@@ -47,6 +58,7 @@ impl Source for StdinSource {
 pub struct StdoutSink {
     stdout: Stdout,
     faults: u64,
+    error: Option<io::Error>,
 }
 
 impl StdoutSink {
@@ -54,7 +66,16 @@ impl StdoutSink {
     pub fn new(stdout: Stdout) -> StdoutSink
         ensures { result.faults ≡ 0 }
     {
-        StdoutSink { stdout, faults: 0 }
+        StdoutSink {
+            stdout,
+            faults: 0,
+            error: None,
+        }
+    }
+
+    /// The system's error of the last write that failed; none where it took no byte.
+    pub fn error(&self) -> Option<&io::Error> {
+        self.error.as_ref()
     }
 }
 
@@ -66,10 +87,13 @@ impl Sink for StdoutSink {
     ghost written = { λ sink. None };
 
     fn write(&mut self, piece: &[u8]) -> Result<usize, SinkFault> {
-        if let Ok(n) = self.stdout.write(piece) {
-            if n > 0 || piece.is_empty() {
-                return Ok(n);
+        match self.stdout.write(piece) {
+            Ok(n) => {
+                if n > 0 || piece.is_empty() {
+                    return Ok(n);
+                }
             }
+            Err(error) => self.error = Some(error),
         }
         self.faults = self.faults.saturating_add(1);
         Err(SinkFault)

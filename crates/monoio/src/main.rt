@@ -1,61 +1,19 @@
 //! The program: standard input to standard output, by the words behind its name.
 #![tactic(auto)]
 
-use mono_script::{Status, StdinSource, StdoutSink, program};
+mod help;
+
+use help::{HELP, VERSION, asks_for_help, is_only};
+use mono_script::{Ended, Reason, Status, StdinSource, StdoutSink, explained};
+use mono_usage::complaint;
+use std::alloc::{AllocError, Global};
 use std::process::ExitCode;
-use std::{env, io};
-
-const HELP: &str = "usage:
-  monoio replay STRATEGY TASKS JOBS SLEEPS
-      replays the event lines of standard input and writes a report line for each
-      STRATEGY: attached, local or panic; TASKS, JOBS, SLEEPS: limits, numbers below 2^64
-  monoio load SEED COUNT
-      replays a long input that the seed gives, and writes one line that sums up its reports
-      SEED: a number below 2^64; COUNT: at most 100000
-  monoio sessions SESSIONS ENTRIES
-      reads lines that say calls on sessions and locks, and writes the answer of each
-      SESSIONS: how many may be open; ENTRIES: how many may stand in all queues; numbers below 2^64
-  monoio limiter BUCKETS RETRIES
-      answers lines that make and use token buckets and retries, a line for each
-      BUCKETS, RETRIES: limits, numbers below 2^64
-  monoio actors ACTORS MESSAGES
-      makes the calls on actors that the lines of standard input say, and writes a line of answers for each
-      ACTORS, MESSAGES: limits, numbers below 2^64
-  monoio check STRATEGY TASKS JOBS SLEEPS
-      reads a journal, event lines with their report lines, and writes yes where it is a run of the machine,
-      or no and the number of the first line that no step allows
-  monoio --help
-  monoio --version
-exit status: 0 done, 2 no such command, 3 a bad line, 4 a read failed, 5 a write failed, 6 out of memory,
-      7 more than 16777216 bytes of input, 11 a journal that is no run";
-
-const VERSION: &str = "monoio 0.1.0, after the crate monoio 0.2.4";
-
-// What went wrong, by the status.
-fn cause(status: u8) -> &'static str {
-    match status {
-        3 => "a line of the input is bad; the output names the first one",
-        4 => "standard input can't be read",
-        5 => "standard output can't be written",
-        6 => "out of memory",
-        7 => "the input has more than 16777216 bytes",
-        11 => "the journal is no run; the output names the first line that no step allows",
-        _ =>
-            "usage: monoio replay attached|local|panic TASKS JOBS SLEEPS, monoio load SEED COUNT, monoio sessions SESSIONS ENTRIES, monoio limiter BUCKETS RETRIES, monoio actors ACTORS MESSAGES, monoio check attached|local|panic TASKS JOBS SLEEPS, monoio --help, monoio --version",
-    }
-}
+use std::{env, format, io};
 
 // The words behind the program's name.
 fn words(rt: &HostRuntime) -> io::Result<Vec<String>> {
     let words: Vec<String> = env::args(rt)?.skip(1).collect(rt.alloc())?;
     Ok(words)
-}
-
-fn is_only(words: &Vec<String>, word: &str) -> bool {
-    match words.as_slice() {
-        [one] => one.as_str() == word,
-        _ => false,
-    }
 }
 
 fn shown(rt: &HostRuntime, text: &str) -> u8 {
@@ -65,8 +23,92 @@ fn shown(rt: &HostRuntime, text: &str) -> u8 {
     }
 }
 
+// Says a cause on standard error, where there was memory for it. A cause that cannot be said changes no status.
+fn say(rt: &HostRuntime, cause: Result<String, AllocError>) {
+    let _ = match cause {
+        Ok(cause) => eprintln!(rt; "monoio: {cause}"),
+        Err(_) => eprintln!(rt; "monoio: out of memory"),
+    };
+}
+
+// Why a line says nothing of the command.
+fn reason_text(alloc: Global, ended: &Ended) -> Result<String, AllocError> {
+    let text = match ended.reason() {
+        Some(Reason::NoLineFeed) => "no line feed at the end",
+        Some(Reason::CarriageReturn) => "a carriage return before the line feed",
+        Some(Reason::GreatNumber) => "a number above 18446744073709551615",
+        Some(Reason::GreatNanos) => "a number above 340282366920938463463374607431768211455",
+        Some(Reason::UnknownWord) => {
+            return match ended.first_word() {
+                Some(word) => {
+                    let word = String::from_utf8_lossy(alloc, word)?;
+                    format!(in alloc; "unknown word \"{word}\"")
+                }
+                None => String::from_str(alloc, "unknown word"),
+            };
+        }
+        _ => "not in the form that its first word has",
+    };
+    String::from_str(alloc, text)
+}
+
+fn bad_line_text(alloc: Global, ended: &Ended) -> Result<String, AllocError> {
+    let reason = reason_text(alloc, ended)?;
+    match ended.bad_line() {
+        Some(line) => format!(in alloc; "line {line}: {reason}"),
+        None => Ok(reason),
+    }
+}
+
+fn system_text(alloc: Global, what: &str, error: Option<&io::Error>) -> Result<String, AllocError> {
+    match error {
+        Some(error) => format!(in alloc; "{what}: {error}"),
+        None => String::from_str(alloc, what),
+    }
+}
+
+fn is_closed_pipe(error: Option<&io::Error>) -> bool {
+    match error {
+        Some(error) => error.kind() == io::ErrorKind::BrokenPipe,
+        None => false,
+    }
+}
+
+// Says why the command ended so. A closed pipe downstream is no news.
+fn tell(rt: &HostRuntime, ended: &Ended, source: &StdinSource, sink: &StdoutSink) {
+    let alloc = rt.alloc();
+    match ended.status() {
+        Status::Done => {}
+        Status::BadLine => say(rt, bad_line_text(alloc, ended)),
+        Status::ReadFault => say(
+            rt,
+            system_text(alloc, "standard input can't be read", source.error()),
+        ),
+        Status::WriteFault => {
+            if !is_closed_pipe(sink.error()) {
+                say(
+                    rt,
+                    system_text(alloc, "standard output can't be written", sink.error()),
+                );
+            }
+        }
+        Status::NotARun => say(
+            rt,
+            String::from_str(
+                alloc,
+                "the journal is no run; the output names the first line that no step allows",
+            ),
+        ),
+        Status::TooLong => say(
+            rt,
+            String::from_str(alloc, "the input has more than 16777216 bytes"),
+        ),
+        _ => say(rt, String::from_str(alloc, "out of memory")),
+    }
+}
+
 fn run(rt: &HostRuntime, words: &Vec<String>) -> u8 {
-    if is_only(words, "--help") {
+    if asks_for_help(words) {
         return shown(rt, HELP);
     }
     if is_only(words, "--version") {
@@ -74,19 +116,31 @@ fn run(rt: &HostRuntime, words: &Vec<String>) -> u8 {
     }
     let mut source = StdinSource::new(rt.stdin());
     let mut sink = StdoutSink::new(rt.stdout());
-    program(rt.alloc(), words, &mut source, &mut sink)
+    match explained(rt.alloc(), words, &mut source, &mut sink) {
+        Some(ended) => {
+            tell(rt, &ended, &source, &sink);
+            ended.status().code()
+        }
+        None => {
+            say(rt, complaint(rt.alloc(), words));
+            Status::Usage.code()
+        }
+    }
 }
 
 fn main(rt: HostRuntime) -> ExitCode {
-    let status = match words(&rt) {
-        Ok(words) => run(&rt, &words),
-        Err(error) => match error.kind() {
-            io::ErrorKind::OutOfMemory => Status::OutOfMemory.code(),
-            _ => Status::Usage.code(),
-        },
-    };
-    if status != Status::Done.code() {
-        let _ = eprintln!(rt; "monoio: {}", cause(status));
+    match words(&rt) {
+        Ok(words) => ExitCode::from(run(&rt, &words)),
+        Err(error) => {
+            let status = match error.kind() {
+                io::ErrorKind::OutOfMemory => Status::OutOfMemory,
+                _ => Status::Usage,
+            };
+            say(
+                &rt,
+                format!(in rt.alloc(); "the words can't be read: {error}"),
+            );
+            ExitCode::from(status.code())
+        }
     }
-    ExitCode::from(status)
 }

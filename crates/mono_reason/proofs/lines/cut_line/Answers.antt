@@ -6,7 +6,7 @@ use Rattle.mono_reason.proofs.lines.cut_line.Goals as goal
 pub returns-then-bytes-place-eq10-clause-behind : goal.returns-then-bytes-place-eq10-clause-behind
 returns-then-bytes-place-eq10-clause-behind c =
     line_ends c.args.bytes.now c.bytes.place c.bytes-test.true c.bytes.invariant.none c.if-bytes-place-eq10.true
-    ∙ ap (λ rest. record { bytes = take c.bytes.place c.args.bytes.now; is_ended = true; } ∷ lines rest) (sym (all_behind c.args.bytes.now c.bytes.place))
+    ∙ ap (λ rest. record { bytes = take c.bytes.place c.args.bytes.now; is_ended = true } ∷ lines rest) (sym (all_behind c.args.bytes.now c.bytes.place))
 
 pub returns-clause-last : goal.returns-clause-last
 returns-clause-last c = only_line c.args.bytes.now c.requires (λ k less. c.bytes.invariant.none k (omega (arith, less, c.bytes-test.false)))

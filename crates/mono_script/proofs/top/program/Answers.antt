@@ -9,79 +9,79 @@ use Rattle.mono_script.proofs.top.program.Goals as goal
 
 pub returns-in-Some-clause-done : goal.returns-in-Some-clause-done
 returns-in-Some-clause-done g c = λ is d words.
-    let same = command_once (map string_bytes c.args.words.now.items) d c.in-Some.command words c.in-Some.ensures.found in
-    let ended = says (meaning c.in-Some.command)
-    (g.S.Source.left c.args.source.now) (g.S.Source.left c.carry_out.new.source) (g.K.Sink.written c.args.sink.now) (g.K.Sink.written c.carry_out.new.sink)
-    (HasRisen (g.S.Source.faults c.args.source.now) (g.S.Source.faults c.carry_out.new.source)) (HasRisen (g.K.Sink.faults c.args.sink.now) (g.K.Sink.faults c.carry_out.new.sink))
-    c.code.result 0 c.carry_out.result status.Done c.code.ensures c.carry_out.ensures.ends is (done c.carry_out.result) in
+    let same = command_once (map string_bytes c.args.words.now.items) d c.in-Some.ended.command words c.in-Some.ensures.command in
+    let ended = says (meaning c.in-Some.ended.command)
+    (g.S.Source.left c.args.source.now) (g.S.Source.left c.explained.new.source) (g.K.Sink.written c.args.sink.now) (g.K.Sink.written c.explained.new.sink)
+    (HasRisen (g.S.Source.faults c.args.source.now) (g.S.Source.faults c.explained.new.source)) (HasRisen (g.K.Sink.faults c.args.sink.now) (g.K.Sink.faults c.explained.new.sink))
+    c.code.result 0 c.in-Some.ended.status status.Done c.code.ensures c.in-Some.ensures.ends is (done c.in-Some.ended.status) in
     rw same ended
 
 pub returns-in-Some-clause-not_a_run : goal.returns-in-Some-clause-not_a_run
 returns-in-Some-clause-not_a_run g c = λ is d words.
-    let same = command_once (map string_bytes c.args.words.now.items) d c.in-Some.command words c.in-Some.ensures.found in
-    let ended = says (meaning c.in-Some.command)
-    (g.S.Source.left c.args.source.now) (g.S.Source.left c.carry_out.new.source) (g.K.Sink.written c.args.sink.now) (g.K.Sink.written c.carry_out.new.sink)
-    (HasRisen (g.S.Source.faults c.args.source.now) (g.S.Source.faults c.carry_out.new.source)) (HasRisen (g.K.Sink.faults c.args.sink.now) (g.K.Sink.faults c.carry_out.new.sink))
-    c.code.result 11 c.carry_out.result status.NotARun c.code.ensures c.carry_out.ensures.ends is (not_a_run c.carry_out.result) in
+    let same = command_once (map string_bytes c.args.words.now.items) d c.in-Some.ended.command words c.in-Some.ensures.command in
+    let ended = says (meaning c.in-Some.ended.command)
+    (g.S.Source.left c.args.source.now) (g.S.Source.left c.explained.new.source) (g.K.Sink.written c.args.sink.now) (g.K.Sink.written c.explained.new.sink)
+    (HasRisen (g.S.Source.faults c.args.source.now) (g.S.Source.faults c.explained.new.source)) (HasRisen (g.K.Sink.faults c.args.sink.now) (g.K.Sink.faults c.explained.new.sink))
+    c.code.result 11 c.in-Some.ended.status status.NotARun c.code.ensures c.in-Some.ensures.ends is (not_a_run c.in-Some.ended.status) in
     rw same ended
 
 pub returns-in-Some-clause-bad_line : goal.returns-in-Some-clause-bad_line
 returns-in-Some-clause-bad_line g c = λ is d words.
-    let same = command_once (map string_bytes c.args.words.now.items) d c.in-Some.command words c.in-Some.ensures.found in
-    let ended = says (meaning c.in-Some.command)
-    (g.S.Source.left c.args.source.now) (g.S.Source.left c.carry_out.new.source) (g.K.Sink.written c.args.sink.now) (g.K.Sink.written c.carry_out.new.sink)
-    (HasRisen (g.S.Source.faults c.args.source.now) (g.S.Source.faults c.carry_out.new.source)) (HasRisen (g.K.Sink.faults c.args.sink.now) (g.K.Sink.faults c.carry_out.new.sink))
-    c.code.result 3 c.carry_out.result status.BadLine c.code.ensures c.carry_out.ensures.ends is (bad_line c.carry_out.result) in
+    let same = command_once (map string_bytes c.args.words.now.items) d c.in-Some.ended.command words c.in-Some.ensures.command in
+    let ended = says (meaning c.in-Some.ended.command)
+    (g.S.Source.left c.args.source.now) (g.S.Source.left c.explained.new.source) (g.K.Sink.written c.args.sink.now) (g.K.Sink.written c.explained.new.sink)
+    (HasRisen (g.S.Source.faults c.args.source.now) (g.S.Source.faults c.explained.new.source)) (HasRisen (g.K.Sink.faults c.args.sink.now) (g.K.Sink.faults c.explained.new.sink))
+    c.code.result 3 c.in-Some.ended.status status.BadLine c.code.ensures c.in-Some.ensures.ends is (bad_line c.in-Some.ended.status) in
     rw same ended
 
 pub returns-in-Some-clause-write_fault : goal.returns-in-Some-clause-write_fault
 returns-in-Some-clause-write_fault g c = λ is.
-    let ended = says (meaning c.in-Some.command)
-    (g.S.Source.left c.args.source.now) (g.S.Source.left c.carry_out.new.source) (g.K.Sink.written c.args.sink.now) (g.K.Sink.written c.carry_out.new.sink)
-    (HasRisen (g.S.Source.faults c.args.source.now) (g.S.Source.faults c.carry_out.new.source)) (HasRisen (g.K.Sink.faults c.args.sink.now) (g.K.Sink.faults c.carry_out.new.sink))
-    c.code.result 5 c.carry_out.result status.WriteFault c.code.ensures c.carry_out.ensures.ends is (write_fault c.carry_out.result) in (
+    let ended = says (meaning c.in-Some.ended.command)
+    (g.S.Source.left c.args.source.now) (g.S.Source.left c.explained.new.source) (g.K.Sink.written c.args.sink.now) (g.K.Sink.written c.explained.new.sink)
+    (HasRisen (g.S.Source.faults c.args.source.now) (g.S.Source.faults c.explained.new.source)) (HasRisen (g.K.Sink.faults c.args.sink.now) (g.K.Sink.faults c.explained.new.sink))
+    c.code.result 5 c.in-Some.ended.status status.WriteFault c.code.ensures c.in-Some.ensures.ends is (write_fault c.in-Some.ended.status) in (
       ended.0,
       λ d words.
-          let same = command_once (map string_bytes c.args.words.now.items) d c.in-Some.command words c.in-Some.ensures.found in
+          let same = command_once (map string_bytes c.args.words.now.items) d c.in-Some.ended.command words c.in-Some.ensures.command in
           rw same ended.1,
     )
 
 pub returns-in-Some-clause-too_long_where : goal.returns-in-Some-clause-too_long_where
 returns-in-Some-clause-too_long_where g c = λ d input words told read.
-    let same = command_once (map string_bytes c.args.words.now.items) d c.in-Some.command words c.in-Some.ensures.found in
-    let where_long = long_where (meaning c.in-Some.command)
-    (g.S.Source.left c.args.source.now) (g.S.Source.left c.carry_out.new.source) (g.K.Sink.written c.args.sink.now) (g.K.Sink.written c.carry_out.new.sink)
-    (HasRisen (g.S.Source.faults c.args.source.now) (g.S.Source.faults c.carry_out.new.source)) (HasRisen (g.K.Sink.faults c.args.sink.now) (g.K.Sink.faults c.carry_out.new.sink))
-    input c.carry_out.result c.carry_out.ensures.ends (rw same at told) (subst IsRead c.code.ensures read) in
+    let same = command_once (map string_bytes c.args.words.now.items) d c.in-Some.ended.command words c.in-Some.ensures.command in
+    let where_long = long_where (meaning c.in-Some.ended.command)
+    (g.S.Source.left c.args.source.now) (g.S.Source.left c.explained.new.source) (g.K.Sink.written c.args.sink.now) (g.K.Sink.written c.explained.new.sink)
+    (HasRisen (g.S.Source.faults c.args.source.now) (g.S.Source.faults c.explained.new.source)) (HasRisen (g.K.Sink.faults c.args.sink.now) (g.K.Sink.faults c.explained.new.sink))
+    input c.in-Some.ended.status c.in-Some.ensures.ends (rw same at told) (subst IsRead c.code.ensures read) in
     rw c.code.ensures where_long
 
 pub returns-in-Some-clause-bad_line_where : goal.returns-in-Some-clause-bad_line_where
 returns-in-Some-clause-bad_line_where g c = λ d input words told read wrote.
-    let same = command_once (map string_bytes c.args.words.now.items) d c.in-Some.command words c.in-Some.ensures.found in
-    let where_bad = bad_where (meaning c.in-Some.command) (sound c.in-Some.command)
-    (g.S.Source.left c.args.source.now) (g.S.Source.left c.carry_out.new.source) (g.K.Sink.written c.args.sink.now) (g.K.Sink.written c.carry_out.new.sink)
-    (HasRisen (g.S.Source.faults c.args.source.now) (g.S.Source.faults c.carry_out.new.source)) (HasRisen (g.K.Sink.faults c.args.sink.now) (g.K.Sink.faults c.carry_out.new.sink))
-    input c.carry_out.result c.carry_out.ensures.ends (rw same at told) (subst IsRead c.code.ensures read) (rw c.code.ensures at wrote) in
+    let same = command_once (map string_bytes c.args.words.now.items) d c.in-Some.ended.command words c.in-Some.ensures.command in
+    let where_bad = bad_where (meaning c.in-Some.ended.command) (sound c.in-Some.ended.command)
+    (g.S.Source.left c.args.source.now) (g.S.Source.left c.explained.new.source) (g.K.Sink.written c.args.sink.now) (g.K.Sink.written c.explained.new.sink)
+    (HasRisen (g.S.Source.faults c.args.source.now) (g.S.Source.faults c.explained.new.source)) (HasRisen (g.K.Sink.faults c.args.sink.now) (g.K.Sink.faults c.explained.new.sink))
+    input c.in-Some.ended.status c.in-Some.ensures.ends (rw same at told) (subst IsRead c.code.ensures read) (rw c.code.ensures at wrote) in
     rw (same, c.code.ensures) where_bad
 
 pub returns-in-Some-clause-complete : goal.returns-in-Some-clause-complete
 returns-in-Some-clause-complete g c = λ d input words told short good no_read no_write.
-    let same = command_once (map string_bytes c.args.words.now.items) d c.in-Some.command words c.in-Some.ensures.found in
-    let ended = completed (meaning c.in-Some.command) (sound c.in-Some.command)
-    (g.S.Source.left c.args.source.now) (g.S.Source.left c.carry_out.new.source) (g.K.Sink.written c.args.sink.now) (g.K.Sink.written c.carry_out.new.sink)
-    (HasRisen (g.S.Source.faults c.args.source.now) (g.S.Source.faults c.carry_out.new.source)) (HasRisen (g.K.Sink.faults c.args.sink.now) (g.K.Sink.faults c.carry_out.new.sink))
-    input c.carry_out.result c.carry_out.ensures.ends (rw same at told) short (rw same at good) (rw same at no_read) no_write in
+    let same = command_once (map string_bytes c.args.words.now.items) d c.in-Some.ended.command words c.in-Some.ensures.command in
+    let ended = completed (meaning c.in-Some.ended.command) (sound c.in-Some.ended.command)
+    (g.S.Source.left c.args.source.now) (g.S.Source.left c.explained.new.source) (g.K.Sink.written c.args.sink.now) (g.K.Sink.written c.explained.new.sink)
+    (HasRisen (g.S.Source.faults c.args.source.now) (g.S.Source.faults c.explained.new.source)) (HasRisen (g.K.Sink.faults c.args.sink.now) (g.K.Sink.faults c.explained.new.sink))
+    input c.in-Some.ended.status c.in-Some.ensures.ends (rw same at told) short (rw same at good) (rw same at no_read) no_write in
     rw (same, c.code.ensures) ended
 
 pub returns-in-Some-clause-unread : goal.returns-in-Some-clause-unread
 returns-in-Some-clause-unread g c = λ d words off.
-    let same = command_once (map string_bytes c.args.words.now.items) d c.in-Some.command words c.in-Some.ensures.found in
-    c.carry_out.ensures.unread (rw same at off)
+    let same = command_once (map string_bytes c.args.words.now.items) d c.in-Some.ended.command words c.in-Some.ensures.command in
+    c.in-Some.ensures.unread (rw same at off)
 
 pub returns-in-Some-clause-read_fault_where : goal.returns-in-Some-clause-read_fault_where
 returns-in-Some-clause-read_fault_where g c = λ less.
-    c.code.ensures ∙ rose_in_reading c.carry_out.result (g.S.Source.faults c.args.source.now) (g.S.Source.faults c.carry_out.new.source) c.carry_out.ensures.read_stays less
+    c.code.ensures ∙ rose_in_reading c.in-Some.ended.status (g.S.Source.faults c.args.source.now) (g.S.Source.faults c.explained.new.source) c.in-Some.ensures.read_stays less
 
 pub returns-in-Some-clause-write_fault_where : goal.returns-in-Some-clause-write_fault_where
 returns-in-Some-clause-write_fault_where g c = λ less.
-    c.code.ensures ∙ rose_in_writing c.carry_out.result (g.K.Sink.faults c.args.sink.now) (g.K.Sink.faults c.carry_out.new.sink) c.carry_out.ensures.write_stays less
+    c.code.ensures ∙ rose_in_writing c.in-Some.ended.status (g.K.Sink.faults c.args.sink.now) (g.K.Sink.faults c.explained.new.sink) c.in-Some.ensures.write_stays less

@@ -7,7 +7,7 @@ use Rattle.mono_machine.specs.declared.events.Report.TheVariants as report
 use Rattle.mono_rt.specs.declared.journals.Entry.TheVariants.{Ran}
 use Rattle.mono_rt.specs.Journals.{pushed}
 use Rattle.mono_rt.specs.Rounds.{IsClock}
-use Rattle.mono_rt.proofs.Going.{goes_of, does_stay, does_clock}
+use Rattle.mono_rt.proofs.Going.{goes_nowhere, goes_of, does_stay, does_clock}
 use Rattle.mono_rt.proofs.Doing.{stay_on, does_more}
 use Rattle.mono_rt.proofs.runtimes.Runtime.clock_step.Goals as goal
 
@@ -27,3 +27,10 @@ returns-clause-clocked g c =
 
 pub returns-clause-goes : goal.returns-clause-goes
 returns-clause-goes g c = goes_of g.O.Outcome.output_number IsClock c.args.self.now.cx.parts _ c.args.self.now.journal c.push.new.self (returns-clause-clocked g c)
+
+pub returns-in_default-clause-goes : goal.returns-in_default-clause-goes
+returns-in_default-clause-goes g c =
+    let old = c.args.self.now in
+    let opened = c.open_clock.new.self in
+    let same = c.open_clock.ensures.same in
+    goes_nowhere g.O.Outcome.output_number old.cx.parts opened.cx.parts old.journal opened.journal (ap (λ x. x.parts.tasks) same) (ap (λ x. x.parts.timers) same) (ap (λ x. x.parts.has_timers) same) (ap (λ x. x.parts.blocking) same) c.open_clock.ensures.entries c.open_clock.ensures.full

@@ -6,7 +6,7 @@ use Rattle.mono_rt.specs.Journals.{pushed}
 use Rattle.mono_rt.specs.Rounds.{Drained}
 use Rattle.mono_rt.proofs.Doing.{does_drain}
 use Rattle.mono_rt.proofs.Draining.{longer}
-use Rattle.mono_rt.proofs.Going.{goes_of}
+use Rattle.mono_rt.proofs.Going.{goes_nowhere, goes_of}
 use Rattle.mono_rt.proofs.runtimes.Runtime.wake_taken.Goals as goal
 
 pub returns-in-Some-clause-drained : goal.returns-in-Some-clause-drained
@@ -35,3 +35,10 @@ returns-in-Some-clause-longer g c =
     let told = c.tell_remotes.new.self in
     subst (λ x. length x.parts.tasks.tasks.queue ≤ length c.wake_all.new.tasks.tasks.queue) (c.tell_remotes.ensures.same ∙ c.open_drain.ensures.same)
     (subst (λ x. length told.cx.parts.tasks.tasks.queue ≤ length x.tasks.queue) (sym c.wake_all.ensures) (longer told.cx.parts.tasks.tasks c.deref.result.now))
+
+pub returns-in-None-clause-goes : goal.returns-in-None-clause-goes
+returns-in-None-clause-goes g c =
+    let old = c.args.self.now in
+    let opened = c.open_drain.new.self in
+    let same = c.open_drain.ensures.same in
+    goes_nowhere g.O.Outcome.output_number old.cx.parts opened.cx.parts old.journal opened.journal (ap (λ x. x.parts.tasks) same) (ap (λ x. x.parts.timers) same) (ap (λ x. x.parts.has_timers) same) (ap (λ x. x.parts.blocking) same) c.open_drain.ensures.entries c.open_drain.ensures.full

@@ -1,0 +1,62 @@
+// What is wrong with words that are no command.
+use crate::forms::{COMMANDS, Place, fits, is_command, place_at};
+use std::alloc::{AllocError, Global};
+use std::format;
+
+// What was expected at a place.
+fn expected(alloc: Global, place: Place) -> Result<String, AllocError> {
+    match place {
+        Place::Strategy => String::from_str(alloc, "STRATEGY is attached, local or panic"),
+        Place::Number(name, most) => {
+            if most == u64::MAX {
+                format!(in alloc; "{name} is a number below 2^64")
+            } else {
+                format!(in alloc; "{name} is a number, at most {most}")
+            }
+        }
+    }
+}
+
+// What is wrong at a place, where something is.
+fn complaint_at(
+    alloc: Global,
+    command: &str,
+    place: Option<Place>,
+    word: Option<&String>,
+) -> Result<Option<String>, AllocError> {
+    match (place, word) {
+        (Some(place), Some(word)) => {
+            if fits(place, word.as_str()) {
+                return Ok(None);
+            }
+            let expected = expected(alloc, place)?;
+            Ok(Some(format!(in alloc; "{command}: \"{word}\": {expected}")?))
+        }
+        (Some(place), None) => {
+            let expected = expected(alloc, place)?;
+            Ok(Some(format!(in alloc; "{command}: a word is missing: {expected}")?))
+        }
+        (None, Some(word)) => Ok(Some(format!(in alloc;
+            "{command}: \"{word}\" is a word too many"
+        )?)),
+        (None, None) => Ok(None),
+    }
+}
+
+/// What is wrong with words that are no command, in one sentence: which word, and what was expected there. Of words that
+/// are one it says that nothing is wrong.
+pub fn complaint(alloc: Global, words: &Vec<String>) -> Result<String, AllocError> {
+    let Some(command) = words.first() else {
+        return format!(in alloc; "a command is missing: {COMMANDS}");
+    };
+    let command = command.as_str();
+    if !is_command(command) {
+        return format!(in alloc; "\"{command}\" is no command: {COMMANDS}");
+    }
+    for at in 1..6usize {
+        if let Some(text) = complaint_at(alloc, command, place_at(command, at), words.get(at))? {
+            return Ok(text);
+        }
+    }
+    String::from_str(alloc, "nothing is wrong")
+}

@@ -1,0 +1,64 @@
+// The words that each command takes.
+use mono_text::whole_number;
+
+/// What stands at a place behind the command's name.
+#[derive(Clone, Copy)]
+pub(crate) enum Place {
+    /// The strategy for blocking jobs.
+    Strategy,
+    /// A number of this name, at most so great.
+    Number(&'static str, u64),
+}
+
+/// The names of the commands.
+pub(crate) const COMMANDS: &str = "replay, load, sessions, limiter, actors or check";
+
+/// Whether it is the name of a command.
+pub(crate) fn is_command(name: &str) -> bool {
+    place_at(name, 1).is_some()
+}
+
+fn free(name: &'static str) -> Option<Place> {
+    Some(Place::Number(name, u64::MAX))
+}
+
+fn limits(at: usize) -> Option<Place> {
+    match at {
+        1 => Some(Place::Strategy),
+        2 => free("TASKS"),
+        3 => free("JOBS"),
+        4 => free("SLEEPS"),
+        _ => None,
+    }
+}
+
+fn two(at: usize, first: Option<Place>, second: Option<Place>) -> Option<Place> {
+    match at {
+        1 => first,
+        2 => second,
+        _ => None,
+    }
+}
+
+/// What stands at a place behind a command's name, counted from 1; none behind the last.
+pub(crate) fn place_at(command: &str, at: usize) -> Option<Place> {
+    match command {
+        "replay" | "check" => limits(at),
+        "load" => two(at, free("SEED"), Some(Place::Number("COUNT", 100000))),
+        "sessions" => two(at, free("SESSIONS"), free("ENTRIES")),
+        "limiter" => two(at, free("BUCKETS"), free("RETRIES")),
+        "actors" => two(at, free("ACTORS"), free("MESSAGES")),
+        _ => None,
+    }
+}
+
+/// Whether the word may stand at the place.
+pub(crate) fn fits(place: Place, word: &str) -> bool {
+    match place {
+        Place::Strategy => word == "attached" || word == "local" || word == "panic",
+        Place::Number(_, most) => match whole_number(word.as_bytes()) {
+            Some(number) => number <= most,
+            None => false,
+        },
+    }
+}

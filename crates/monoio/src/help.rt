@@ -1,0 +1,56 @@
+// What `monoio --help` and `monoio --version` show.
+
+pub(crate) const HELP: &str = "usage:
+  monoio replay STRATEGY TASKS JOBS SLEEPS
+      replays the event lines of standard input and writes a report line for each
+      STRATEGY: attached, local or panic; TASKS, JOBS, SLEEPS: limits, numbers below 2^64
+  monoio load SEED COUNT
+      replays a long input that the seed gives, and writes one line that sums up its reports
+      SEED: a number below 2^64; COUNT: at most 100000
+  monoio sessions SESSIONS ENTRIES
+      reads lines that say calls on sessions and locks, and writes the answer of each
+      SESSIONS: how many may be open; ENTRIES: how many may stand in all queues; numbers below 2^64
+  monoio limiter BUCKETS RETRIES
+      answers lines that make and use token buckets and retries, a line for each
+      BUCKETS, RETRIES: limits, numbers below 2^64
+  monoio actors ACTORS MESSAGES
+      makes the calls on actors that the lines of standard input say, and writes a line of answers for each
+      ACTORS, MESSAGES: limits, numbers below 2^64
+  monoio check STRATEGY TASKS JOBS SLEEPS
+      reads a journal, event lines with their report lines, and writes yes where it is a run of the machine,
+      or no and the number of the first line that no step allows
+  monoio --help, -h, help, or COMMAND --help
+  monoio --version
+event lines begin with: spawn, wake, sleep, reset, drop-sleep, elapsed, drop-join, finished, block, drop-job, job-finished,
+      job-end, turn, clock, remote, drain; in a turn also poll, join, job, pending, ready
+example: printf 'spawn\\nturn; sleep 5000000; poll 0; pending\\nclock 5000000\\n' | monoio replay attached 16 16 16
+exit status: 0 done, 2 no such command, 3 a bad line, 4 a read failed, 5 a write failed, 6 out of memory,
+      7 more than 16777216 bytes of input, 11 a journal that is no run";
+
+pub(crate) const VERSION: &str = "monoio 0.1.0, after the crate monoio 0.2.4";
+
+/// Whether this word stands alone.
+pub(crate) fn is_only(words: &Vec<String>, word: &str) -> bool {
+    match words.as_slice() {
+        [one] => one.as_str() == word,
+        _ => false,
+    }
+}
+
+fn is_command(word: &str) -> bool {
+    matches!(
+        word,
+        "replay" | "load" | "sessions" | "limiter" | "actors" | "check"
+    )
+}
+
+/// Whether the words ask for help: one word that does, or such a word behind a command.
+pub(crate) fn asks_for_help(words: &Vec<String>) -> bool {
+    match words.as_slice() {
+        [one] => matches!(one.as_str(), "--help" | "-h" | "help"),
+        [command, asked] => {
+            is_command(command.as_str()) && matches!(asked.as_str(), "--help" | "-h")
+        }
+        _ => false,
+    }
+}
