@@ -1,0 +1,109 @@
+// A future that sleeps once, and a run of it.
+ghost use Rattle.std.specs.Prelude.{◌≡◌, ◌≤◌, ⊤, false, IfOk};
+ghost use Rattle.mono_machine.specs.Machine.{Machine, start_machine};
+ghost use Rattle.mono_machine.specs.Steps.{Run};
+ghost use Rattle.mono_machine.specs.declared.events.Blocking.TheVariants.{Panic};
+ghost use Rattle.mono_rt.specs.Journals.{events_in, reports_in};
+
+use crate::bounded::Bounded;
+use mono_blocking::{BlockingHandle, BlockingStrategy, ThreadPool};
+use mono_model::Host;
+use mono_rt::{Driver, Instant, Journal, Limits, RunError, run_alone};
+use mono_task::{Poll, TaskFuture};
+use mono_time::{Sleep, TimeContext, sleep};
+use std::alloc::{AllocError, Global};
+use std::time::Duration;
+
+/// Sleeps for a while, and is ready with 1; with 0 where it could not.
+#[derive(Drop)]
+pub struct Nap {
+    length: Duration,
+    delay: Option<Sleep>,
+    has_answered: bool,
+}
+
+impl Nap {
+    /// A nap of this length, which begins at the first poll.
+    pub fn new(length: Duration) -> Nap
+        ensures { result.has_answered ≡ false }
+    {
+        Nap {
+            length,
+            delay: None,
+            has_answered: false,
+        }
+    }
+}
+
+impl<C: TimeContext> TaskFuture<C> for Nap {
+    type Output = u64;
+
+    ghost is_spent = { λ f. f.has_answered };
+
+    ghost polls = { λ f c r g d. ⊤ };
+
+    ghost cancels = { λ f c d. ⊤ };
+
+    fn spent(&self) -> bool {
+        self.has_answered
+    }
+
+    fn poll<R: Host>(&mut self, rt: &R, alloc: Global, cx: &mut C) -> Poll<u64> {
+        let made = match self.delay.take() {
+            Some(delay) => Ok(delay),
+            None => sleep(alloc, cx, self.length),
+        };
+        let Ok(mut delay) = made else {
+            self.has_answered = true;
+            return Poll::Ready(0);
+        };
+        match delay.poll(rt, alloc, cx) {
+            Poll::Pending => {
+                self.delay = Some(delay);
+                Poll::Pending
+            }
+            Poll::Ready(answer) => {
+                delay.cancel(cx);
+                self.has_answered = true;
+                Poll::Ready(if answer.is_ok() { 1 } else { 0 })
+            }
+        }
+    }
+
+    fn cancel(self, cx: &mut C) {
+        if let Some(delay) = self.delay {
+            delay.cancel(cx);
+        }
+    }
+}
+
+/// One nap on a runtime of its own, whose driver parks at most so many times: the answer, and the journal, whose entries
+/// are a run of the plain machine (`run`).
+pub fn nap_within<D: Driver, P: ThreadPool + Drop, R: Host>(
+    rt: &R,
+    alloc: Global,
+    driver: D,
+    parks: u64,
+    length: Duration,
+    start: Instant,
+) -> Result<(Result<u64, RunError>, Journal), AllocError>
+    ensures run { IfOk result (λ r. r.1.is_full ≡ false → (new : Machine) × Run (start_machine (record { tasks = 1; jobs = 0; sleeps = 1 }) Panic) (events_in r.1.entries.items) (reports_in r.1.entries.items) new) }
+{
+    let limits = Limits {
+        tasks: 1,
+        jobs: 0,
+        sleeps: 1,
+    };
+    let pool: BlockingHandle<P> = BlockingHandle::Empty(BlockingStrategy::Panic);
+    let driver = Bounded::new(driver, parks);
+    run_alone(
+        rt,
+        alloc,
+        driver,
+        pool,
+        limits,
+        start,
+        Nap::new(length),
+        100,
+    )
+}
