@@ -212,7 +212,13 @@ fn usages() -> [Row; 7] {
 fn actors_have_their_answers(rt: HostRuntime) -> Result<(), AllocError> {
     let alloc = rt.alloc();
     for row in rows() {
-        let ran = run(alloc, row.words, Vec::from_slice(alloc, row.input)?, PLAIN)?;
+        let ran = run(
+            &rt,
+            alloc,
+            row.words,
+            Vec::from_slice(alloc, row.input)?,
+            PLAIN,
+        )?;
         assert_eq!(&rt; ran.output.as_slice(), row.output);
         assert_eq!(&rt; ran.status, row.status);
     }
@@ -223,12 +229,24 @@ fn actors_have_their_answers(rt: HostRuntime) -> Result<(), AllocError> {
 fn bad_lines_and_words_of_actors(rt: HostRuntime) -> Result<(), AllocError> {
     let alloc = rt.alloc();
     for row in bad_lines() {
-        let ran = run(alloc, row.words, Vec::from_slice(alloc, row.input)?, PLAIN)?;
+        let ran = run(
+            &rt,
+            alloc,
+            row.words,
+            Vec::from_slice(alloc, row.input)?,
+            PLAIN,
+        )?;
         assert_eq!(&rt; ran.output.as_slice(), row.output);
         assert_eq!(&rt; ran.status, row.status);
     }
     for row in usages() {
-        let ran = run(alloc, row.words, Vec::from_slice(alloc, row.input)?, PLAIN)?;
+        let ran = run(
+            &rt,
+            alloc,
+            row.words,
+            Vec::from_slice(alloc, row.input)?,
+            PLAIN,
+        )?;
         assert_eq!(&rt; ran.output.as_slice(), row.output);
         assert_eq!(&rt; ran.status, row.status);
     }
@@ -284,7 +302,7 @@ fn answers(alloc: Global, count: u64) -> Result<Vec<u8>, AllocError> {
 #[test]
 fn many_actors(rt: HostRuntime) -> Result<(), AllocError> {
     let alloc = rt.alloc();
-    let ran = run(alloc, "actors 1000 1000", round(alloc, 1000)?, PLAIN)?;
+    let ran = run(&rt, alloc, "actors 1000 1000", round(alloc, 1000)?, PLAIN)?;
     assert_eq!(&rt; ran.status, 0);
     assert_eq!(&rt; ran.output.as_slice(), answers(alloc, 1000)?.as_slice());
     Ok(())

@@ -8,14 +8,22 @@ ghost use Rattle.mono_script.specs.Command.{IsCommand, IsNoCommand};
 ghost use Rattle.mono_text.specs.Lines.{lines, AreEventLines};
 ghost use Rattle.mono_script.specs.Ending.{max_input};
 
-use mono_script::{PlainSink, PlainSource, program};
+use mono_model::Host;
+use mono_script::{Clock, PlainSink, PlainSource, Spawner, program};
 use std::alloc::Global;
 
 /// The status of the top call over an input in memory, whose output is thrown away.
 ///
 /// Such a source and such a sink never fail, so no fault is answered (`no_read_fault`, `no_write_fault`), and a good
 /// command over good input ends with 0, or with 6 where memory is refused (`complete`).
-pub fn status_of(alloc: Global, words: &Vec<String>, input: Vec<u8>) -> u8
+pub fn status_of<C: Clock + Drop, P: Spawner, R: Host + Send + 'static>(
+    rt: &R,
+    alloc: Global,
+    words: &Vec<String>,
+    input: Vec<u8>,
+    clock: C,
+    spawner: &mut P,
+) -> u8
     ensures usage { result ≡ 2 ↔ IsNoCommand (map string_bytes words.now.items) }
     ensures no_read_fault { result ≢ 4 }
     ensures no_write_fault { result ≢ 5 }
@@ -23,5 +31,5 @@ pub fn status_of(alloc: Global, words: &Vec<String>, input: Vec<u8>) -> u8
 {
     let mut source = PlainSource::new(input);
     let mut sink = PlainSink::new();
-    program(alloc, words, &mut source, &mut sink)
+    program(rt, alloc, words, &mut source, &mut sink, clock, spawner)
 }

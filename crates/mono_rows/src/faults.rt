@@ -59,7 +59,7 @@ fn a_listed_call_fails(rt: HostRuntime) -> Result<(), AllocError> {
     let alloc = rt.alloc();
     for row in table() {
         let input = Vec::from_slice(alloc, DEADLINE_IS_NOW)?;
-        let ran = run(alloc, WORDS, input, row.outside)?;
+        let ran = run(&rt, alloc, WORDS, input, row.outside)?;
         assert_eq!(&rt; ran.status, row.status);
         assert_eq!(&rt; ran.output.as_slice(), row.output);
     }
@@ -73,9 +73,9 @@ fn feeds(alloc: Global, len: usize) -> Result<Vec<u8>, AllocError> {
 #[test]
 fn one_byte_is_too_many(rt: HostRuntime) -> Result<(), AllocError> {
     let alloc = rt.alloc();
-    let most = run(alloc, WORDS, feeds(alloc, 16777216)?, PLAIN)?;
+    let most = run(&rt, alloc, WORDS, feeds(alloc, 16777216)?, PLAIN)?;
     assert_eq!(&rt; most.status, 3);
-    let more = run(alloc, WORDS, feeds(alloc, 16777217)?, PLAIN)?;
+    let more = run(&rt, alloc, WORDS, feeds(alloc, 16777217)?, PLAIN)?;
     assert_eq!(&rt; more.status, 7);
     assert!(&rt; more.output.is_empty());
     Ok(())

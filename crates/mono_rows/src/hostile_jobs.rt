@@ -19,7 +19,7 @@ fn a_job_that_runs(rt: HostRuntime) -> Result<(), AllocError> {
         ),
         ("block 6", "job 1"),
     ];
-    let ran = answered(rt.alloc(), WORDS, &table)?;
+    let ran = answered(&rt, rt.alloc(), WORDS, &table)?;
     assert_eq!(&rt; ran.0, ran.1);
     Ok(())
 }
@@ -38,7 +38,7 @@ fn a_job_that_has_run(rt: HostRuntime) -> Result<(), AllocError> {
         ("spawn", "task 0"),
         ("turn; job 0; pending", "turn 0; refused no-handle; idle"),
     ];
-    let ran = answered(rt.alloc(), WORDS, &table)?;
+    let ran = answered(&rt, rt.alloc(), WORDS, &table)?;
     assert_eq!(&rt; ran.0, ran.1);
     Ok(())
 }
@@ -56,7 +56,7 @@ fn a_job_that_was_canceled(rt: HostRuntime) -> Result<(), AllocError> {
         ("drop-job 0", "refused no-handle"),
         ("job-end 0 ran", "ended"),
     ];
-    let ran = answered(rt.alloc(), WORDS, &table)?;
+    let ran = answered(&rt, rt.alloc(), WORDS, &table)?;
     assert_eq!(&rt; ran.0, ran.1);
     Ok(())
 }
@@ -75,7 +75,7 @@ fn a_job_whose_output_was_taken(rt: HostRuntime) -> Result<(), AllocError> {
         ("job-end 0 canceled", "ended"),
         ("drop-job 0", "refused no-handle"),
     ];
-    let ran = answered(rt.alloc(), WORDS, &table)?;
+    let ran = answered(&rt, rt.alloc(), WORDS, &table)?;
     assert_eq!(&rt; ran.0, ran.1);
     Ok(())
 }
@@ -92,7 +92,7 @@ fn a_job_for_which_a_task_waits(rt: HostRuntime) -> Result<(), AllocError> {
         ("drain", "drained"),
         ("turn; pending", "refused idle"),
     ];
-    let ran = answered(rt.alloc(), WORDS, &table)?;
+    let ran = answered(&rt, rt.alloc(), WORDS, &table)?;
     assert_eq!(&rt; ran.0, ran.1);
     Ok(())
 }
@@ -108,7 +108,7 @@ fn a_job_on_the_caller(rt: HostRuntime) -> Result<(), AllocError> {
         ("job-finished 0", "refused no-handle"),
         ("job-end 0 ran", "ended"),
     ];
-    let ran = answered(rt.alloc(), "replay local 16 16 16", &table)?;
+    let ran = answered(&rt, rt.alloc(), "replay local 16 16 16", &table)?;
     assert_eq!(&rt; ran.0, ran.1);
     Ok(())
 }
@@ -130,7 +130,7 @@ fn a_place_is_free_once_its_job_is_dropped_running_or_not_and_its_number_is_not_
         ("block 7", "job 2"),
         ("drop-job 1", "refused no-handle"),
     ];
-    let ran = answered(rt.alloc(), "replay attached 16 1 16", &table)?;
+    let ran = answered(&rt, rt.alloc(), "replay attached 16 1 16", &table)?;
     assert_eq!(&rt; ran.0, ran.1);
     Ok(())
 }
@@ -148,7 +148,7 @@ fn a_job_that_never_was(rt: HostRuntime) -> Result<(), AllocError> {
             "turn 0; refused no-task; refused no-task; refused no-task; idle",
         ),
     ];
-    let ran = answered(rt.alloc(), WORDS, &table)?;
+    let ran = answered(&rt, rt.alloc(), WORDS, &table)?;
     assert_eq!(&rt; ran.0, ran.1);
     Ok(())
 }

@@ -20,7 +20,7 @@ fn a_sleep_that_was_never_polled(rt: HostRuntime) -> Result<(), AllocError> {
         ("clock 10000000", "fired"),
         ("sleep 0", "sleep 1"),
     ];
-    let ran = answered(rt.alloc(), WORDS, &table)?;
+    let ran = answered(&rt, rt.alloc(), WORDS, &table)?;
     assert_eq!(&rt; ran.0, ran.1);
     Ok(())
 }
@@ -45,7 +45,7 @@ fn an_armed_sleep_between_two_others(rt: HostRuntime) -> Result<(), AllocError> 
         ),
         ("clock 9000000", "fired"),
     ];
-    let ran = answered(rt.alloc(), WORDS, &table)?;
+    let ran = answered(&rt, rt.alloc(), WORDS, &table)?;
     assert_eq!(&rt; ran.0, ran.1);
     Ok(())
 }
@@ -64,7 +64,7 @@ fn an_armed_sleep_whose_task_is_woken_by_nothing_else(rt: HostRuntime) -> Result
         ("clock 5000000", "fired"),
         ("turn; pending", "refused idle"),
     ];
-    let ran = answered(rt.alloc(), WORDS, &table)?;
+    let ran = answered(&rt, rt.alloc(), WORDS, &table)?;
     assert_eq!(&rt; ran.0, ran.1);
     Ok(())
 }
@@ -85,7 +85,7 @@ fn an_armed_sleep_that_was_moved(rt: HostRuntime) -> Result<(), AllocError> {
         ("reset 0 9000000", "refused no-timer"),
         ("elapsed 0", "refused no-timer"),
     ];
-    let ran = answered(rt.alloc(), WORDS, &table)?;
+    let ran = answered(&rt, rt.alloc(), WORDS, &table)?;
     assert_eq!(&rt; ran.0, ran.1);
     Ok(())
 }
@@ -109,7 +109,7 @@ fn an_elapsed_sleep(rt: HostRuntime) -> Result<(), AllocError> {
         ),
         ("clock 9000000", "fired"),
     ];
-    let ran = answered(rt.alloc(), WORDS, &table)?;
+    let ran = answered(&rt, rt.alloc(), WORDS, &table)?;
     assert_eq!(&rt; ran.0, ran.1);
     Ok(())
 }
@@ -129,7 +129,7 @@ fn a_sleep_that_elapsed_by_a_reset(rt: HostRuntime) -> Result<(), AllocError> {
         ("clock 5000000", "fired"),
         ("turn; poll 0; pending", "turn 0; refused no-timer; idle"),
     ];
-    let ran = answered(rt.alloc(), WORDS, &table)?;
+    let ran = answered(&rt, rt.alloc(), WORDS, &table)?;
     assert_eq!(&rt; ran.0, ran.1);
     Ok(())
 }
@@ -153,7 +153,7 @@ fn of_four_sleeps_an_elapsed_an_armed_and_a_moved_one_are_dropped(
         ("clock 9000000", "fired 3"),
         ("clock 9223372036854775807000000", "fired"),
     ];
-    let ran = answered(rt.alloc(), WORDS, &table)?;
+    let ran = answered(&rt, rt.alloc(), WORDS, &table)?;
     assert_eq!(&rt; ran.0, ran.1);
     Ok(())
 }
@@ -172,7 +172,7 @@ fn a_place_is_free_once_its_sleep_is_dropped_and_its_number_is_not_given_again(
         ("elapsed 1", "no"),
         ("elapsed 2", "refused no-timer"),
     ];
-    let ran = answered(rt.alloc(), "replay attached 16 16 1", &table)?;
+    let ran = answered(&rt, rt.alloc(), "replay attached 16 16 1", &table)?;
     assert_eq!(&rt; ran.0, ran.1);
     Ok(())
 }
@@ -188,7 +188,7 @@ fn a_sleep_that_never_was(rt: HostRuntime) -> Result<(), AllocError> {
         ("spawn", "task 0"),
         ("turn; poll 7; pending", "turn 0; refused no-timer; idle"),
     ];
-    let ran = answered(rt.alloc(), WORDS, &table)?;
+    let ran = answered(&rt, rt.alloc(), WORDS, &table)?;
     assert_eq!(&rt; ran.0, ran.1);
     Ok(())
 }
@@ -214,7 +214,7 @@ fn the_clock_goes_to_the_end_of_the_type_with_a_sleep_in_each_level_and_back(
             "turn 0; sleep 9; ready; ready; done",
         ),
     ];
-    let ran = answered(rt.alloc(), WORDS, &table)?;
+    let ran = answered(&rt, rt.alloc(), WORDS, &table)?;
     assert_eq!(&rt; ran.0, ran.1);
     Ok(())
 }
@@ -231,7 +231,7 @@ fn a_jump_over_five_rotations_of_six_levels(rt: HostRuntime) -> Result<(), Alloc
         ("clock 343597383682999999", "fired"),
         ("clock 343597383683000000", "fired 0"),
     ];
-    let ran = answered(rt.alloc(), WORDS, &table)?;
+    let ran = answered(&rt, rt.alloc(), WORDS, &table)?;
     assert_eq!(&rt; ran.0, ran.1);
     Ok(())
 }

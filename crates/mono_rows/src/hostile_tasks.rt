@@ -24,7 +24,7 @@ fn a_queued_task(rt: HostRuntime) -> Result<(), AllocError> {
         ),
         ("turn; pending", "refused idle"),
     ];
-    let ran = answered(rt.alloc(), WORDS, &table)?;
+    let ran = answered(&rt, rt.alloc(), WORDS, &table)?;
     assert_eq!(&rt; ran.0, ran.1);
     Ok(())
 }
@@ -45,7 +45,7 @@ fn an_idle_task(rt: HostRuntime) -> Result<(), AllocError> {
         ("drain", "drained"),
         ("spawn", "task 1"),
     ];
-    let ran = answered(rt.alloc(), WORDS, &table)?;
+    let ran = answered(&rt, rt.alloc(), WORDS, &table)?;
     assert_eq!(&rt; ran.0, ran.1);
     Ok(())
 }
@@ -65,7 +65,7 @@ fn a_running_task(rt: HostRuntime) -> Result<(), AllocError> {
         ("turn; pending", "refused idle"),
         ("spawn", "task 1"),
     ];
-    let ran = answered(rt.alloc(), WORDS, &table)?;
+    let ran = answered(&rt, rt.alloc(), WORDS, &table)?;
     assert_eq!(&rt; ran.0, ran.1);
     Ok(())
 }
@@ -82,7 +82,7 @@ fn a_noted_task(rt: HostRuntime) -> Result<(), AllocError> {
         ("turn; pending", "refused idle"),
         ("wake 0", "nothing"),
     ];
-    let ran = answered(rt.alloc(), WORDS, &table)?;
+    let ran = answered(&rt, rt.alloc(), WORDS, &table)?;
     assert_eq!(&rt; ran.0, ran.1);
     Ok(())
 }
@@ -103,7 +103,7 @@ fn a_finished_task(rt: HostRuntime) -> Result<(), AllocError> {
         ("spawn", "task 1"),
         ("turn; join 0; pending", "turn 1; refused no-handle; idle"),
     ];
-    let ran = answered(rt.alloc(), WORDS, &table)?;
+    let ran = answered(&rt, rt.alloc(), WORDS, &table)?;
     assert_eq!(&rt; ran.0, ran.1);
     Ok(())
 }
@@ -122,7 +122,7 @@ fn a_finished_task_whose_output_was_taken(rt: HostRuntime) -> Result<(), AllocEr
         ("drop-join 0", "refused no-handle"),
         ("remote 0", "unlisted"),
     ];
-    let ran = answered(rt.alloc(), WORDS, &table)?;
+    let ran = answered(&rt, rt.alloc(), WORDS, &table)?;
     assert_eq!(&rt; ran.0, ran.1);
     Ok(())
 }
@@ -142,7 +142,7 @@ fn the_handle_of_a_task_for_which_another_waits(rt: HostRuntime) -> Result<(), A
         ("wake 1", "queued"),
         ("turn; join 0; ready 1", "turn 1; refused no-handle; done"),
     ];
-    let ran = answered(rt.alloc(), WORDS, &table)?;
+    let ran = answered(&rt, rt.alloc(), WORDS, &table)?;
     assert_eq!(&rt; ran.0, ran.1);
     Ok(())
 }
@@ -161,7 +161,7 @@ fn a_dropped_task_that_has_not_finished_counts_as_live(rt: HostRuntime) -> Resul
         ("drop-join 1", "dropped 1"),
         ("spawn", "task 2"),
     ];
-    let ran = answered(rt.alloc(), "replay attached 1 16 16", &table)?;
+    let ran = answered(&rt, rt.alloc(), "replay attached 1 16 16", &table)?;
     assert_eq!(&rt; ran.0, ran.1);
     Ok(())
 }
@@ -180,7 +180,7 @@ fn a_task_that_never_was(rt: HostRuntime) -> Result<(), AllocError> {
             "turn 0; refused no-task; refused no-task; refused no-task; refused no-task; idle",
         ),
     ];
-    let ran = answered(rt.alloc(), WORDS, &table)?;
+    let ran = answered(&rt, rt.alloc(), WORDS, &table)?;
     assert_eq!(&rt; ran.0, ran.1);
     Ok(())
 }
@@ -205,7 +205,7 @@ fn a_finished_task_is_woken_by_its_sleep_locally_and_from_outside(
         ("remote 0", "unlisted"),
         ("drain", "drained"),
     ];
-    let ran = answered(rt.alloc(), WORDS, &table)?;
+    let ran = answered(&rt, rt.alloc(), WORDS, &table)?;
     assert_eq!(&rt; ran.0, ran.1);
     Ok(())
 }
@@ -223,7 +223,7 @@ fn a_task_that_ends_between_its_wake_from_outside_and_the_drain(
         ("drain", "drained 0"),
         ("turn; pending", "refused idle"),
     ];
-    let ran = answered(rt.alloc(), WORDS, &table)?;
+    let ran = answered(&rt, rt.alloc(), WORDS, &table)?;
     assert_eq!(&rt; ran.0, ran.1);
     Ok(())
 }
@@ -239,7 +239,7 @@ fn a_name_that_is_stale(rt: HostRuntime) -> Result<(), AllocError> {
         ("finished 0", "refused no-handle"),
         ("spawn", "task 1"),
     ];
-    let ran = answered(rt.alloc(), WORDS, &table)?;
+    let ran = answered(&rt, rt.alloc(), WORDS, &table)?;
     assert_eq!(&rt; ran.0, ran.1);
     Ok(())
 }

@@ -231,7 +231,13 @@ fn words() -> [Row; 11] {
 fn journals_are_answered(rt: HostRuntime) -> Result<(), AllocError> {
     let alloc = rt.alloc();
     for row in verdicts() {
-        let ran = run(alloc, row.words, Vec::from_slice(alloc, row.input)?, PLAIN)?;
+        let ran = run(
+            &rt,
+            alloc,
+            row.words,
+            Vec::from_slice(alloc, row.input)?,
+            PLAIN,
+        )?;
         assert_eq!(rt; ran.output.as_slice(), row.output);
         assert_eq!(rt; ran.status, row.status);
     }
@@ -242,7 +248,13 @@ fn journals_are_answered(rt: HostRuntime) -> Result<(), AllocError> {
 fn bad_lines_of_journals_are_named(rt: HostRuntime) -> Result<(), AllocError> {
     let alloc = rt.alloc();
     for row in bad_lines() {
-        let ran = run(alloc, row.words, Vec::from_slice(alloc, row.input)?, PLAIN)?;
+        let ran = run(
+            &rt,
+            alloc,
+            row.words,
+            Vec::from_slice(alloc, row.input)?,
+            PLAIN,
+        )?;
         assert_eq!(rt; ran.output.as_slice(), row.output);
         assert_eq!(rt; ran.status, row.status);
     }
@@ -253,7 +265,13 @@ fn bad_lines_of_journals_are_named(rt: HostRuntime) -> Result<(), AllocError> {
 fn words_of_a_check(rt: HostRuntime) -> Result<(), AllocError> {
     let alloc = rt.alloc();
     for row in words() {
-        let ran = run(alloc, row.words, Vec::from_slice(alloc, row.input)?, PLAIN)?;
+        let ran = run(
+            &rt,
+            alloc,
+            row.words,
+            Vec::from_slice(alloc, row.input)?,
+            PLAIN,
+        )?;
         assert_eq!(rt; ran.output.as_slice(), row.output);
         assert_eq!(rt; ran.status, row.status);
     }
@@ -278,7 +296,7 @@ fn faults_of_a_check(rt: HostRuntime) -> Result<(), AllocError> {
         status,
         output: Vec::new(alloc),
     };
-    assert_eq!(rt; run(alloc, CHECK, input()?, unread)?, nothing(4));
-    assert_eq!(rt; run(alloc, CHECK, input()?, unwritten)?, nothing(5));
+    assert_eq!(rt; run(&rt, alloc, CHECK, input()?, unread)?, nothing(4));
+    assert_eq!(rt; run(&rt, alloc, CHECK, input()?, unwritten)?, nothing(5));
     Ok(())
 }

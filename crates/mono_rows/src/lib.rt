@@ -23,6 +23,8 @@ mod replays;
 #[cfg(test)]
 mod running;
 #[cfg(test)]
+mod runs;
+#[cfg(test)]
 mod sessions;
 #[cfg(test)]
 mod waits;

@@ -1,5 +1,6 @@
 // What the lines of a limiter are answered.
 use crate::running::{PLAIN, Row, run};
+use mono_model::Host;
 use std::alloc::{AllocError, Global};
 
 // Each line says a call of a limiter with these words.
@@ -197,8 +198,18 @@ fn no_commands() -> [Row; 9] {
     ]
 }
 
-fn is_answered(alloc: Global, row: Row) -> Result<bool, AllocError> {
-    let ran = run(alloc, row.words, Vec::from_slice(alloc, row.input)?, PLAIN)?;
+fn is_answered<R: Host + Send + 'static>(
+    rt: &R,
+    alloc: Global,
+    row: Row,
+) -> Result<bool, AllocError> {
+    let ran = run(
+        rt,
+        alloc,
+        row.words,
+        Vec::from_slice(alloc, row.input)?,
+        PLAIN,
+    )?;
     Ok(ran.output.as_slice() == row.output && ran.status == row.status)
 }
 
@@ -206,10 +217,10 @@ fn is_answered(alloc: Global, row: Row) -> Result<bool, AllocError> {
 fn calls_on_a_limiter(rt: HostRuntime) -> Result<(), AllocError> {
     let alloc = rt.alloc();
     for row in buckets() {
-        assert!(&rt; is_answered(alloc, row)?);
+        assert!(&rt; is_answered(&rt, alloc, row)?);
     }
     for row in retries() {
-        assert!(&rt; is_answered(alloc, row)?);
+        assert!(&rt; is_answered(&rt, alloc, row)?);
     }
     Ok(())
 }
@@ -218,10 +229,10 @@ fn calls_on_a_limiter(rt: HostRuntime) -> Result<(), AllocError> {
 fn no_calls_on_a_limiter(rt: HostRuntime) -> Result<(), AllocError> {
     let alloc = rt.alloc();
     for row in bad_lines() {
-        assert!(&rt; is_answered(alloc, row)?);
+        assert!(&rt; is_answered(&rt, alloc, row)?);
     }
     for row in no_commands() {
-        assert!(&rt; is_answered(alloc, row)?);
+        assert!(&rt; is_answered(&rt, alloc, row)?);
     }
     Ok(())
 }
@@ -250,6 +261,7 @@ fn many_buckets_and_retries(rt: HostRuntime) -> Result<(), AllocError> {
     let alloc = rt.alloc();
     let (input, output) = many(alloc, 1000)?;
     let ran = run(
+        &rt,
         alloc,
         "limiter 1000 1000",
         Vec::from_slice(alloc, input.as_bytes())?,

@@ -144,7 +144,13 @@ fn rows() -> [Row; 38] {
 fn bad_lines_and_words(rt: HostRuntime) -> Result<(), AllocError> {
     let alloc = rt.alloc();
     for row in rows() {
-        let ran = run(alloc, row.words, Vec::from_slice(alloc, row.input)?, PLAIN)?;
+        let ran = run(
+            &rt,
+            alloc,
+            row.words,
+            Vec::from_slice(alloc, row.input)?,
+            PLAIN,
+        )?;
         assert_eq!(&rt; ran.output.as_slice(), row.output);
         assert_eq!(&rt; ran.status, row.status);
     }

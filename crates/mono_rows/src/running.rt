@@ -1,5 +1,6 @@
 // One call of the top call over memory.
-use mono_script::{MemSink, MemSource, program};
+use mono_model::Host;
+use mono_script::{Instant, ListClock, MemSink, MemSource, NoSpawner, program};
 use std::alloc::{AllocError, Global};
 
 /// The words of most rows.
@@ -75,24 +76,58 @@ pub(crate) const PLAIN: Outside = Outside {
     room: ROOM,
 };
 
-/// The top call with these words over this input.
-pub(crate) fn run(
+/// A clock that always reads this instant.
+pub(crate) fn clock_at(alloc: Global, instant: Instant) -> Result<ListClock, AllocError> {
+    let mut readings = Vec::new(alloc);
+    readings.push(instant)?;
+    Ok(ListClock::new(readings))
+}
+
+/// The top call with these words over this input, with a clock that reads so many milliseconds and no threads.
+pub(crate) fn run_at<R: Host + Send + 'static>(
+    rt: &R,
+    alloc: Global,
+    words: &str,
+    input: Vec<u8>,
+    outside: Outside,
+    millis: u64,
+) -> Result<Ran, AllocError> {
+    let words = split(alloc, words)?;
+    let mut source = MemSource::new(input, listed(alloc, outside.read)?);
+    let mut sink = MemSink::new(alloc, outside.room, listed(alloc, outside.write)?)?;
+    let Some(instant) = Instant::from_nanos(u128::from(millis) * 1000000) else {
+        return Err(AllocError);
+    };
+    let clock = clock_at(alloc, instant)?;
+    let mut spawner = NoSpawner::new();
+    let status = program(
+        rt,
+        alloc,
+        &words,
+        &mut source,
+        &mut sink,
+        clock,
+        &mut spawner,
+    );
+    let output = Vec::from_slice(alloc, sink.bytes())?;
+    Ok(Ran { status, output })
+}
+
+/// The same at the clock's beginning.
+pub(crate) fn run<R: Host + Send + 'static>(
+    rt: &R,
     alloc: Global,
     words: &str,
     input: Vec<u8>,
     outside: Outside,
 ) -> Result<Ran, AllocError> {
-    let words = split(alloc, words)?;
-    let mut source = MemSource::new(input, listed(alloc, outside.read)?);
-    let mut sink = MemSink::new(alloc, outside.room, listed(alloc, outside.write)?)?;
-    let status = program(alloc, &words, &mut source, &mut sink);
-    let output = Vec::from_slice(alloc, sink.bytes())?;
-    Ok(Ran { status, output })
+    run_at(rt, alloc, words, input, outside, 0)
 }
 
 /// What the top call answers the lines of a table, each an event with its report, and what it is to answer: its status and
 /// its output beside 0 and the reports' lines.
-pub(crate) fn answered(
+pub(crate) fn answered<R: Host + Send + 'static>(
+    rt: &R,
     alloc: Global,
     words: &str,
     table: &[(&str, &str)],
@@ -105,5 +140,8 @@ pub(crate) fn answered(
         output.extend_from_slice(report.as_bytes())?;
         output.push(b'\n')?;
     }
-    Ok((run(alloc, words, input, PLAIN)?, Ran { status: 0, output }))
+    Ok((
+        run(rt, alloc, words, input, PLAIN)?,
+        Ran { status: 0, output },
+    ))
 }

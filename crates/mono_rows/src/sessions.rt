@@ -1,5 +1,6 @@
 // What the sessions write: worked inputs, bad lines, and words that are no command.
 use crate::running::{Outside, PLAIN, ROOM, Row, run};
+use mono_model::Host;
 use mono_text::{put_list, put_word};
 use std::alloc::{AllocError, Global};
 
@@ -129,8 +130,14 @@ fn no_command() -> [Row; 6] {
     ]
 }
 
-fn is_as_told(alloc: Global, row: Row, outside: Outside) -> Result<bool, AllocError> {
+fn is_as_told<R: Host + Send + 'static>(
+    rt: &R,
+    alloc: Global,
+    row: Row,
+    outside: Outside,
+) -> Result<bool, AllocError> {
     let ran = run(
+        rt,
         alloc,
         row.words,
         Vec::from_slice(alloc, row.input)?,
@@ -142,7 +149,7 @@ fn is_as_told(alloc: Global, row: Row, outside: Outside) -> Result<bool, AllocEr
 #[test]
 fn each_line_has_its_answer(rt: HostRuntime) -> Result<(), AllocError> {
     for row in rows() {
-        assert!(&rt; is_as_told(rt.alloc(), row, PLAIN)?);
+        assert!(&rt; is_as_told(&rt, rt.alloc(), row, PLAIN)?);
     }
     Ok(())
 }
@@ -150,10 +157,10 @@ fn each_line_has_its_answer(rt: HostRuntime) -> Result<(), AllocError> {
 #[test]
 fn the_first_bad_line_is_named(rt: HostRuntime) -> Result<(), AllocError> {
     for row in bad_rows() {
-        assert!(&rt; is_as_told(rt.alloc(), row, PLAIN)?);
+        assert!(&rt; is_as_told(&rt, rt.alloc(), row, PLAIN)?);
     }
     for row in no_command() {
-        assert!(&rt; is_as_told(rt.alloc(), row, PLAIN)?);
+        assert!(&rt; is_as_told(&rt, rt.alloc(), row, PLAIN)?);
     }
     Ok(())
 }
@@ -169,6 +176,7 @@ fn a_fault_ends_the_sessions(rt: HostRuntime) -> Result<(), AllocError> {
     };
     assert!(&rt;
         is_as_told(
+            &rt,
             alloc,
             row("sessions 4 4", b"open 1\n".as_slice(), b"".as_slice(), 4),
             unread
@@ -181,6 +189,7 @@ fn a_fault_ends_the_sessions(rt: HostRuntime) -> Result<(), AllocError> {
     };
     assert!(&rt;
         is_as_told(
+            &rt,
             alloc,
             row("sessions 4 4", b"open 1\n".as_slice(), b"".as_slice(), 5),
             unwritten
@@ -193,6 +202,7 @@ fn a_fault_ends_the_sessions(rt: HostRuntime) -> Result<(), AllocError> {
     };
     assert!(&rt;
         is_as_told(
+            &rt,
             alloc,
             row(
                 "sessions 4 4",
@@ -240,7 +250,7 @@ fn three_hundred(alloc: Global) -> Result<(Vec<u8>, Vec<u8>), AllocError> {
 fn many_sessions(rt: HostRuntime) -> Result<(), AllocError> {
     let alloc = rt.alloc();
     let (input, output) = three_hundred(alloc)?;
-    let ran = run(alloc, "sessions 300 300", input, PLAIN)?;
+    let ran = run(&rt, alloc, "sessions 300 300", input, PLAIN)?;
     assert_eq!(&rt; ran.output.as_slice(), output.as_slice());
     assert_eq!(&rt; ran.status, 0);
     Ok(())

@@ -64,7 +64,13 @@ fn rows() -> [Row; 10] {
 fn outputs_and_wakes_from_outside(rt: HostRuntime) -> Result<(), AllocError> {
     let alloc = rt.alloc();
     for row in rows() {
-        let ran = run(alloc, row.words, Vec::from_slice(alloc, row.input)?, PLAIN)?;
+        let ran = run(
+            &rt,
+            alloc,
+            row.words,
+            Vec::from_slice(alloc, row.input)?,
+            PLAIN,
+        )?;
         assert_eq!(&rt; ran.output.as_slice(), row.output);
         assert_eq!(&rt; ran.status, row.status);
     }

@@ -21,6 +21,8 @@ good_journal limits strategy input status.ReadFault output a = absurd a
 good_journal limits strategy input status.WriteFault output a = absurd a
 good_journal limits strategy input status.OutOfMemory output a = absurd a
 good_journal limits strategy input status.TooLong output a = absurd a
+good_journal limits strategy input status.Turns output a = absurd a
+good_journal limits strategy input status.Capacity output a = absurd a
 
 pub sound_checking : (limits : Limits) (strategy : Blocking) → Sound (checking limits strategy)
 sound_checking limits strategy = record {

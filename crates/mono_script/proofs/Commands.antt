@@ -10,7 +10,7 @@ use Rattle.mono_text.specs.Reading.{Read, number_at}
 use Rattle.mono_script.specs.declared.command.Command.{Command}
 use Rattle.mono_script.specs.declared.command.Command.TheVariants as command
 use Rattle.mono_script.specs.Words.{strategy_text, two_words, SayTwo, SayLimits, AreLimits}
-use Rattle.mono_script.specs.Command.{command_words, FitsCommand, IsCommand, IsNoReplay, IsNoLoad, IsNoSessions, IsNoLimiter, IsNoActors, IsNoCheck, IsNoCommand}
+use Rattle.mono_script.specs.Command.{command_words, FitsCommand, IsCommand, IsNoReplay, IsNoRun, IsNoLoad, IsNoSessions, IsNoLimiter, IsNoActors, IsNoCheck, IsNoCommand}
 use Rattle.mono_text.proofs.Numbers.{reads_whole}
 
 -- ---- lists of words of one length
@@ -38,6 +38,11 @@ pub not_two : (name word first second : List ℕ) → ((a b : ℕ) → a < 2 ^ 6
     → (a b : ℕ) → SayTwo name (word ∷ first ∷ second ∷ []) a b → ⊥
 not_two name word first second none a b say = none a b say.first_fits say.second_fits (ap (λ ws. get_or ws 1 first) say.text) (ap (λ ws. get_or ws 2 first) say.text)
 
+-- the first number is told by the words
+pub first_once : (name other : List ℕ) (words : List (List ℕ)) (a b c d : ℕ) → SayTwo name words a b → words ≡ two_words other c d → c < 2 ^ 64 → a ≡ c
+first_once name other words a b c d say text fits =
+    decimal_injective a c (omega (arith, say.first_fits)) (omega (arith, fits)) (ap (λ ws. get_or ws 1 name) (sym say.text ∙ text))
+
 -- the second number is told by the words
 pub second_once : (name other : List ℕ) (words : List (List ℕ)) (a b c d : ℕ) → SayTwo name words a b → words ≡ two_words other c d → d < 2 ^ 64 → b ≡ d
 second_once name other words a b c d say text fits =
@@ -57,13 +62,14 @@ not_limits name a b c d e none l s say =
 
 -- ---- every command
 
-pub no_command : (words : List (List ℕ)) → IsNoReplay words → IsNoLoad words → IsNoSessions words → IsNoLimiter words → IsNoActors words → IsNoCheck words → IsNoCommand words
-no_command words replay load sessions limiter actors check (command.Replay limits g) is = replay limits g is
-no_command words replay load sessions limiter actors check (command.Load a b) is = load a b is
-no_command words replay load sessions limiter actors check (command.Sessions a b) is = sessions a b is
-no_command words replay load sessions limiter actors check (command.Limiter a b) is = limiter a b is
-no_command words replay load sessions limiter actors check (command.Actors a b) is = actors a b is
-no_command words replay load sessions limiter actors check (command.Check limits g) is = check limits g is
+pub no_command : (words : List (List ℕ)) → IsNoReplay words → IsNoRun words → IsNoLoad words → IsNoSessions words → IsNoLimiter words → IsNoActors words → IsNoCheck words → IsNoCommand words
+no_command words replay run load sessions limiter actors check (command.Replay limits g) is = replay limits g is
+no_command words replay run load sessions limiter actors check (command.Run a b) is = run a b is
+no_command words replay run load sessions limiter actors check (command.Load a b) is = load a b is
+no_command words replay run load sessions limiter actors check (command.Sessions a b) is = sessions a b is
+no_command words replay run load sessions limiter actors check (command.Limiter a b) is = limiter a b is
+no_command words replay run load sessions limiter actors check (command.Actors a b) is = actors a b is
+no_command words replay run load sessions limiter actors check (command.Check limits g) is = check limits g is
 
 -- ---- the words of one command are those of no other: each command is read back from its words
 
@@ -112,6 +118,14 @@ abbrev check_of : List (List ℕ) → Option Command
 check_of (g ∷ t ∷ j ∷ s ∷ []) = check_from (strategy_of g) (number_of t) (number_of j) (number_of s)
 check_of other = None
 
+abbrev run_from : Option ℕ → Option ℕ → Option Command
+run_from (Some workers) (Some turns) = Some (command.Run workers turns)
+run_from x y = None
+
+abbrev run_of : List (List ℕ) → Option Command
+run_of (a ∷ b ∷ []) = run_from (number_of a) (number_of b)
+run_of other = None
+
 abbrev load_from : Option ℕ → Option ℕ → Option Command
 load_from (Some seed) (Some count) = Some (command.Load seed count)
 load_from x y = None
@@ -148,6 +162,7 @@ abbrev command_of : List (List ℕ) → Option Command
 command_of [] = None
 command_of (w ∷ ws) =
     if same_text w (codes "replay") then replay_of ws
+    else if same_text w (codes "run") then run_of ws
     else if same_text w (codes "load") then load_of ws
     else if same_text w (codes "sessions") then sessions_of ws
     else if same_text w (codes "limiter") then limiter_of ws
@@ -158,6 +173,7 @@ command_of (w ∷ ws) =
 -- one clause a command
 read_back : (c : Command) → FitsCommand c → command_of (command_words c) ≡ Some c
 read_back (command.Replay l g) fit = rw (strategy_back g, of_text l.tasks fit.tasks, of_text l.jobs fit.jobs, of_text l.sleeps fit.sleeps) refl
+read_back (command.Run workers turns) fit = rw (of_text workers (omega (arith, fit.0)), of_text turns (omega (arith, fit.1))) refl
 read_back (command.Load seed count) fit = rw (of_text seed fit.0, of_text count (omega (arith, fit.1))) refl
 read_back (command.Sessions sessions entries) fit = rw (of_text sessions fit.0, of_text entries fit.1) refl
 read_back (command.Limiter buckets retries) fit = rw (of_text buckets fit.0, of_text retries fit.1) refl

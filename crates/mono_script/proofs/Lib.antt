@@ -4,3 +4,4 @@ pub mod Statuses
 pub mod Commands
 pub mod Replaying
 pub mod Checked
+pub mod Naming

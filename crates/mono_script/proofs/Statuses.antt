@@ -10,6 +10,8 @@ use Rattle.mono_script.specs.declared.ends.Status.{Status}
 use Rattle.mono_script.specs.declared.ends.Status.TheVariants as status
 use Rattle.mono_text.proofs.Lined.{not_both}
 use Rattle.mono_script.proofs.Sound.{Sound}
+use Rattle.mono_scripts.specs.Written.{IsScript, task_lines}
+use Rattle.mono_scripts.proofs.Beginnings.{not_out}
 use Rattle.mono_script.proofs.Serving.{sound_serving}
 use Rattle.mono_session.specs.Keeper.{no_sessions}
 use Rattle.mono_session_lines.specs.Lines as session_line
@@ -26,6 +28,10 @@ pub sound : (c : Command) → Sound (meaning c)
 sound (command.Replay l g) = record {
   apart = λ input n good bad. not_both good.0 (lines input) n good.1 bad;
   good = λ input s output a. (a.1.events, a.1.are_lines);
+}
+sound (command.Run workers turns) = record {
+  apart = λ input n good bad. not_out (IsScript (task_lines (lines input))) (lines input) n (good.0, good.1.sound, good.1.text) bad;
+  good = λ input s output a. (a.0, a.1);
 }
 sound (command.Load seed count) = record {
   apart = λ input n good bad. bad;
@@ -46,6 +52,8 @@ done status.ReadFault e = absurd (omega (arith, e))
 done status.WriteFault e = absurd (omega (arith, e))
 done status.OutOfMemory e = absurd (omega (arith, e))
 done status.TooLong e = absurd (omega (arith, e))
+done status.Turns e = absurd (omega (arith, e))
+done status.Capacity e = absurd (omega (arith, e))
 done status.NotARun e = absurd (omega (arith, e))
 
 pub not_a_run : (s : Status) → status_code s ≡ 11 → s ≡ status.NotARun
@@ -57,6 +65,8 @@ not_a_run status.ReadFault e = absurd (omega (arith, e))
 not_a_run status.WriteFault e = absurd (omega (arith, e))
 not_a_run status.OutOfMemory e = absurd (omega (arith, e))
 not_a_run status.TooLong e = absurd (omega (arith, e))
+not_a_run status.Turns e = absurd (omega (arith, e))
+not_a_run status.Capacity e = absurd (omega (arith, e))
 
 pub bad_line : (s : Status) → status_code s ≡ 3 → s ≡ status.BadLine
 bad_line status.BadLine e = refl
@@ -66,6 +76,8 @@ bad_line status.ReadFault e = absurd (omega (arith, e))
 bad_line status.WriteFault e = absurd (omega (arith, e))
 bad_line status.OutOfMemory e = absurd (omega (arith, e))
 bad_line status.TooLong e = absurd (omega (arith, e))
+bad_line status.Turns e = absurd (omega (arith, e))
+bad_line status.Capacity e = absurd (omega (arith, e))
 bad_line status.NotARun e = absurd (omega (arith, e))
 
 pub write_fault : (s : Status) → status_code s ≡ 5 → s ≡ status.WriteFault
@@ -76,7 +88,33 @@ write_fault status.BadLine e = absurd (omega (arith, e))
 write_fault status.ReadFault e = absurd (omega (arith, e))
 write_fault status.OutOfMemory e = absurd (omega (arith, e))
 write_fault status.TooLong e = absurd (omega (arith, e))
+write_fault status.Turns e = absurd (omega (arith, e))
+write_fault status.Capacity e = absurd (omega (arith, e))
 write_fault status.NotARun e = absurd (omega (arith, e))
+
+pub turns : (s : Status) → status_code s ≡ 8 → s ≡ status.Turns
+turns status.Turns e = refl
+turns status.Done e = absurd (omega (arith, e))
+turns status.Usage e = absurd (omega (arith, e))
+turns status.BadLine e = absurd (omega (arith, e))
+turns status.ReadFault e = absurd (omega (arith, e))
+turns status.WriteFault e = absurd (omega (arith, e))
+turns status.OutOfMemory e = absurd (omega (arith, e))
+turns status.TooLong e = absurd (omega (arith, e))
+turns status.Capacity e = absurd (omega (arith, e))
+turns status.NotARun e = absurd (omega (arith, e))
+
+pub capacity : (s : Status) → status_code s ≡ 10 → s ≡ status.Capacity
+capacity status.Capacity e = refl
+capacity status.Done e = absurd (omega (arith, e))
+capacity status.Usage e = absurd (omega (arith, e))
+capacity status.BadLine e = absurd (omega (arith, e))
+capacity status.ReadFault e = absurd (omega (arith, e))
+capacity status.WriteFault e = absurd (omega (arith, e))
+capacity status.OutOfMemory e = absurd (omega (arith, e))
+capacity status.TooLong e = absurd (omega (arith, e))
+capacity status.Turns e = absurd (omega (arith, e))
+capacity status.NotARun e = absurd (omega (arith, e))
 
 -- ---- where a status comes
 
@@ -101,6 +139,10 @@ long_where m left rest b a R W input status.Done p told read =
     let h = had m.reads left input p.input rest told p.read in (λ e. absurd (omega (arith, e)), λ long. absurd (omega (arith, long, h.1)))
 long_where m left rest b a R W input status.NotARun p told read =
     let h = had m.reads left input p.input rest told p.read in (λ e. absurd (omega (arith, e)), λ long. absurd (omega (arith, long, h.1)))
+long_where m left rest b a R W input status.Turns p told read =
+    let h = had m.reads left input p.input rest told p.read in (λ e. absurd (omega (arith, e)), λ long. absurd (omega (arith, long, h.1)))
+long_where m left rest b a R W input status.Capacity p told read =
+    let h = had m.reads left input p.input rest told p.read in (λ e. absurd (omega (arith, e)), λ long. absurd (omega (arith, long, h.1)))
 long_where m left rest b a R W input status.BadLine p told read =
     let h = had m.reads left input p.input rest told p.read in (λ e. absurd (omega (arith, e)), λ long. absurd (omega (arith, long, h.1)))
 long_where m left rest b a R W input status.WriteFault p told read =
@@ -124,6 +166,10 @@ bad_where m sound left rest b a R W input status.Done p told read wrote =
     (λ e. absurd (omega (arith, e)), λ bad. absurd (answered m sound status.Done left rest b a input p told bad.1.0 bad.1.1))
 bad_where m sound left rest b a R W input status.NotARun p told read wrote =
     (λ e. absurd (omega (arith, e)), λ bad. absurd (answered m sound status.NotARun left rest b a input p told bad.1.0 bad.1.1))
+bad_where m sound left rest b a R W input status.Turns p told read wrote =
+    (λ e. absurd (omega (arith, e)), λ bad. absurd (answered m sound status.Turns left rest b a input p told bad.1.0 bad.1.1))
+bad_where m sound left rest b a R W input status.Capacity p told read wrote =
+    (λ e. absurd (omega (arith, e)), λ bad. absurd (answered m sound status.Capacity left rest b a input p told bad.1.0 bad.1.1))
 bad_where m sound left rest b a R W input status.BadLine p told read wrote =
     let h = had m.reads left input p.input rest told p.read in
     (λ _. (h.1, (p.line, subst (λ x. m.IsFirstBad x p.line) (sym h.0) p.first)), λ _. refl)
@@ -144,6 +190,8 @@ pub completed : (m : Meaning) → Sound m → (left rest before after : Option (
     → (status_code s ≡ 6) ⊎ IsAnswered m input (status_code s)
 completed m sound left rest b a R W input status.Done p told short good no_read no_write = inr (was_answered m status.Done left rest b a input p told)
 completed m sound left rest b a R W input status.NotARun p told short good no_read no_write = inr (was_answered m status.NotARun left rest b a input p told)
+completed m sound left rest b a R W input status.Turns p told short good no_read no_write = inr (was_answered m status.Turns left rest b a input p told)
+completed m sound left rest b a R W input status.Capacity p told short good no_read no_write = inr (was_answered m status.Capacity left rest b a input p told)
 completed m sound left rest b a R W input status.OutOfMemory p told short good no_read no_write = inl refl
 completed m sound left rest b a R W input status.BadLine p told short good no_read no_write =
     let h = had m.reads left input p.input rest told p.read in
@@ -164,6 +212,8 @@ rose_in_reading status.WriteFault old new stays less = absurd (omega (arith, les
 rose_in_reading status.OutOfMemory old new stays less = absurd (omega (arith, less, stays (λ e. omega (arith, ap status_code e))))
 rose_in_reading status.TooLong old new stays less = absurd (omega (arith, less, stays (λ e. omega (arith, ap status_code e))))
 rose_in_reading status.NotARun old new stays less = absurd (omega (arith, less, stays (λ e. omega (arith, ap status_code e))))
+rose_in_reading status.Turns old new stays less = absurd (omega (arith, less, stays (λ e. omega (arith, ap status_code e))))
+rose_in_reading status.Capacity old new stays less = absurd (omega (arith, less, stays (λ e. omega (arith, ap status_code e))))
 
 pub rose_in_writing : (s : Status) (old new : ℕ) → (s ≢ status.WriteFault → new ≡ old) → old < new → status_code s ≡ 5
 rose_in_writing status.WriteFault old new stays less = refl
@@ -174,6 +224,8 @@ rose_in_writing status.ReadFault old new stays less = absurd (omega (arith, less
 rose_in_writing status.OutOfMemory old new stays less = absurd (omega (arith, less, stays (λ e. omega (arith, ap status_code e))))
 rose_in_writing status.TooLong old new stays less = absurd (omega (arith, less, stays (λ e. omega (arith, ap status_code e))))
 rose_in_writing status.NotARun old new stays less = absurd (omega (arith, less, stays (λ e. omega (arith, ap status_code e))))
+rose_in_writing status.Turns old new stays less = absurd (omega (arith, less, stays (λ e. omega (arith, ap status_code e))))
+rose_in_writing status.Capacity old new stays less = absurd (omega (arith, less, stays (λ e. omega (arith, ap status_code e))))
 
 -- ---- what a number says
 

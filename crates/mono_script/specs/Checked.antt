@@ -25,6 +25,8 @@ IsChecked limits strategy input status.ReadFault output = ⊥
 IsChecked limits strategy input status.WriteFault output = ⊥
 IsChecked limits strategy input status.OutOfMemory output = ⊥
 IsChecked limits strategy input status.TooLong output = ⊥
+IsChecked limits strategy input status.Turns output = ⊥
+IsChecked limits strategy input status.Capacity output = ⊥
 
 abbrev pub checking : Limits → Blocking → Meaning
 checking limits strategy = record {

@@ -9,6 +9,7 @@ use Rattle.mono_script.specs.Words.{two_words, limit_words}
 
 abbrev pub command_words : Command → List (List ℕ)
 command_words (command.Replay limits strategy) = limit_words (codes "replay") limits strategy
+command_words (command.Run workers turns) = two_words (codes "run") workers turns
 command_words (command.Load seed count) = two_words (codes "load") seed count
 command_words (command.Sessions sessions entries) = two_words (codes "sessions") sessions entries
 command_words (command.Limiter buckets retries) = two_words (codes "limiter") buckets retries
@@ -18,6 +19,7 @@ command_words (command.Check limits strategy) = limit_words (codes "check") limi
 -- the numbers are within their bounds
 abbrev pub FitsCommand : Command → Type 0
 FitsCommand (command.Replay limits strategy) = FitLimits limits
+FitsCommand (command.Run workers turns) = (workers ≤ 64) × (turns ≤ 65536)
 FitsCommand (command.Load seed count) = (seed < 2 ^ 64) × (count ≤ 100000)
 FitsCommand (command.Sessions sessions entries) = (sessions < 2 ^ 64) × (entries < 2 ^ 64)
 FitsCommand (command.Limiter buckets retries) = (buckets < 2 ^ 64) × (retries < 2 ^ 64)
@@ -37,6 +39,9 @@ IsNoCommand words = (c : Command) → IsCommand words c → ⊥
 
 abbrev pub IsNoReplay : List (List ℕ) → Type 0
 IsNoReplay words = (limits : Limits) (strategy : Blocking) → IsCommand words (command.Replay limits strategy) → ⊥
+
+abbrev pub IsNoRun : List (List ℕ) → Type 0
+IsNoRun words = (workers turns : ℕ) → IsCommand words (command.Run workers turns) → ⊥
 
 abbrev pub IsNoLoad : List (List ℕ) → Type 0
 IsNoLoad words = (seed count : ℕ) → IsCommand words (command.Load seed count) → ⊥

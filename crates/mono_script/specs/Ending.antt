@@ -20,6 +20,8 @@ status_code status.ReadFault = 4
 status_code status.WriteFault = 5
 status_code status.OutOfMemory = 6
 status_code status.TooLong = 7
+status_code status.Turns = 8
+status_code status.Capacity = 10
 status_code status.NotARun = 11
 
 -- What a command is.
@@ -63,6 +65,8 @@ pub record NamesBadLine (m : Meaning) (left rest before after : Option (List ℕ
 abbrev pub IsOutput : Meaning → List ℕ → Status → List ℕ → Type 0
 IsOutput m input status.Done output = m.Answers input status.Done output
 IsOutput m input status.BadLine output = (n : ℕ) × m.IsFirstBad input n × (output ≡ bad_line_text n)
+IsOutput m input status.Turns output = m.Answers input status.Turns output
+IsOutput m input status.Capacity output = m.Answers input status.Capacity output
 IsOutput m input status.NotARun output = m.Answers input status.NotARun output
 IsOutput m input status.Usage output = ⊥
 IsOutput m input status.ReadFault output = ⊥
@@ -94,6 +98,8 @@ pub record IsRead (code : ℕ) : Type 0 where
 -- what each status says of the outside; reading and writing say that a count of faults rose
 abbrev pub Ends : Meaning → Option (List ℕ) → Option (List ℕ) → Option (List ℕ) → Option (List ℕ) → Type 0 → Type 0 → Status → Type 0
 Ends m left rest before after reading writing status.Done = HasAnswered m status.Done left rest before after
+Ends m left rest before after reading writing status.Turns = HasAnswered m status.Turns left rest before after
+Ends m left rest before after reading writing status.Capacity = HasAnswered m status.Capacity left rest before after
 Ends m left rest before after reading writing status.NotARun = HasAnswered m status.NotARun left rest before after
 Ends m left rest before after reading writing status.BadLine = NamesBadLine m left rest before after
 Ends m left rest before after reading writing status.ReadFault = (m.reads ≡ true) × reading × (after ≡ before)

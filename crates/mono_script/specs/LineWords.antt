@@ -13,6 +13,7 @@ journal_words = codes "spawn wake sleep reset drop-sleep elapsed drop-join finis
 -- with blanks between them
 abbrev pub line_words : Command → List ℕ
 line_words (command.Replay limits strategy) = event_words
+line_words (command.Run workers turns) = codes "limits task spawn join detach await-sleep block await-job drop-job yield done"
 line_words (command.Load seed count) = codes ""
 line_words (command.Sessions sessions entries) = codes "open beat close acquire release owner clock"
 line_words (command.Limiter buckets retries) = codes "bucket take retry fail done clock"

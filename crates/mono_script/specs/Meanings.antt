@@ -8,6 +8,13 @@ use Rattle.mono_script.specs.declared.command.Command.TheVariants as command
 use Rattle.mono_script.specs.declared.ends.Status.TheVariants as status
 use Rattle.mono_load.specs.Load.{IsSummary}
 use Rattle.mono_load.specs.declared.loads.Summary.{Summary}
+use Rattle.mono_script.specs.declared.ends.Status.{Status}
+use Rattle.mono_scripts.specs.Script.{Script}
+use Rattle.mono_scripts.specs.Written.{Spells}
+use Rattle.mono_scripts.specs.Written as scripts
+use Rattle.mono_run.specs.Told.{Ran}
+use Rattle.mono_run.specs.declared.runs.RunEnd.{RunEnd}
+use Rattle.mono_run.specs.declared.runs.RunEnd.TheVariants as ran
 use Rattle.mono_script.specs.Ending.{Meaning}
 use Rattle.mono_text.specs.Lines.{lines, AreEventLines, IsFirstBad}
 use Rattle.mono_actor.specs.Actors.{no_actors}
@@ -28,6 +35,20 @@ replaying limits strategy = record {
   IsGood = λ input. (events : List Event) × AreEventLines events (lines input);
   IsFirstBad = λ input n. IsFirstBad (lines input) n;
   Answers = λ input s output. (s ≡ status.Done) × IsReplayed limits strategy input output;
+}
+
+-- a run: a script in, and the lines of a journal; the status goes with how the run ended
+abbrev pub run_status : RunEnd → Status
+run_status (ran.Output o) = status.Done
+run_status ran.Turns = status.Turns
+run_status ran.Capacity = status.Capacity
+
+abbrev pub running : ℕ → Meaning
+running turns = record {
+  reads = true;
+  IsGood = λ input. (script : Script) × Spells input script;
+  IsFirstBad = λ input n. scripts.IsFirstBad input n;
+  Answers = λ input s output. (script : Script) × Spells input script × ((e : RunEnd) × (s ≡ run_status e) × Ran script.limits turns e output);
 }
 
 -- a load: the source is not read, and one line sums up the reports of a run
@@ -56,6 +77,7 @@ acting actors messages = serving line_text FitsLine Answers (no_actors actors me
 
 abbrev pub meaning : Command → Meaning
 meaning (command.Replay limits strategy) = replaying limits strategy
+meaning (command.Run workers turns) = running turns
 meaning (command.Load seed count) = loading seed count
 meaning (command.Sessions sessions entries) = keeping_sessions sessions entries
 meaning (command.Limiter buckets retries) = limiting buckets retries

@@ -7,6 +7,7 @@ use crate::words::check::read_check;
 use crate::words::limiter::read_limiter;
 use crate::words::load::read_load;
 use crate::words::replay::read_replay;
+use crate::words::run::read_run;
 use crate::words::sessions::read_sessions;
 use mono_exec::{Blocking, Limits};
 
@@ -15,6 +16,8 @@ use mono_exec::{Blocking, Limits};
 pub enum Command {
     /// A replay with these limits, and this strategy for blocking jobs.
     Replay(Limits, Blocking),
+    /// A run of a script with so many workers and units.
+    Run(u64, u64),
     /// The load of this seed and count.
     Load(u64, u64),
     /// Sessions, of which at most so many may be open, with at most so many entries in all queues.
@@ -33,6 +36,9 @@ pub(crate) fn read_command(words: &Vec<String>) -> Option<Command>
     ensures none { IfNone result (IsNoCommand (map string_bytes words.now.items)) }
 {
     if let Some(command) = read_replay(words) {
+        return Some(command);
+    }
+    if let Some(command) = read_run(words) {
         return Some(command);
     }
     if let Some(command) = read_load(words) {

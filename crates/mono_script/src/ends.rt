@@ -28,6 +28,10 @@ pub enum Status {
     OutOfMemory,
     /// 7: the input has more than 2^24 bytes.
     TooLong,
+    /// 8: a run had no unit left, and its journal was written.
+    Turns,
+    /// 10: there was no place for a run's main task, and its journal was written.
+    Capacity,
     /// 11: a journal is no run; `no n` was written.
     NotARun,
 }
@@ -45,6 +49,8 @@ impl Status {
             Status::WriteFault => 5,
             Status::OutOfMemory => 6,
             Status::TooLong => 7,
+            Status::Turns => 8,
+            Status::Capacity => 10,
             Status::NotARun => 11,
         }
     }

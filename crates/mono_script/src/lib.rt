@@ -9,17 +9,22 @@ mod limiter_lines;
 mod line_words;
 mod load_line;
 mod replay;
+mod script_run;
 mod served;
 mod session_lines;
+mod std_clock;
 mod top;
 mod words;
 
 pub use command::Command;
 pub use ends::{Ended, Status};
+pub use mono_blocking::{NoSpawner, Spawner, ThreadSpawner};
+pub use mono_driver::{Clock, Instant, ListClock};
 pub use mono_reason::Reason;
 pub use mono_text::{
     InputError, MAX_INPUT, MemSink, MemSource, PlainSink, PlainSource, Reader, Sink, SinkFault,
     Source, SourceFault, StdinSource, StdoutSink, read_all, report_line, write_all,
 };
 pub use replay::{Replayed, answer};
+pub use std_clock::StdClock;
 pub use top::{explained, program};

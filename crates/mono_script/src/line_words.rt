@@ -17,6 +17,9 @@ pub(crate) fn first_words(command: Command) -> &'static [u8]
     match command {
         Command::Replay(_, _) => EVENT_WORDS,
         Command::Check(_, _) => JOURNAL_WORDS,
+        Command::Run(_, _) => {
+            b"limits task spawn join detach await-sleep block await-job drop-job yield done".as_slice()
+        }
         Command::Load(_, _) => b"".as_slice(),
         Command::Sessions(_, _) => b"open beat close acquire release owner clock".as_slice(),
         Command::Limiter(_, _) => b"bucket take retry fail done clock".as_slice(),

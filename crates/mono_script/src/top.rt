@@ -14,18 +14,32 @@ use crate::ends::{Ended, Output, Status};
 use crate::limiter_lines::output_of_limiter;
 use crate::load_line::output_of_load;
 use crate::replay::output_of_replay;
+use crate::script_run::output_of_run;
 use crate::session_lines::output_of_sessions;
+use mono_blocking::Spawner;
+use mono_driver::Clock;
+use mono_model::Host;
 use mono_text::{InputError, Sink, Source, read_all, write_all};
 use std::alloc::{AllocError, Global};
 
 // What the command is to write for the input.
-fn made(alloc: Global, command: Command, input: &[u8]) -> Result<Output, AllocError>
+fn made<R: Host + Send + 'static, C: Clock + Drop, P: Spawner>(
+    rt: &R,
+    alloc: Global,
+    command: Command,
+    input: &[u8],
+    clock: C,
+    spawner: &mut P,
+) -> Result<Output, AllocError>
     requires { FitsCommand command }
     ensures output { IfOk result (λ o. IsOutput (meaning command) input.now o.status o.text.items) }
     ensures line { IfOk result (λ o. IsLine (meaning command) input.now o.status o.bad_line) }
 {
     match command {
         Command::Replay(limits, blocking) => output_of_replay(alloc, limits, blocking, input),
+        Command::Run(workers, turns) => {
+            output_of_run(rt, alloc, workers, turns, input, clock, spawner)
+        }
         Command::Load(seed, count) => output_of_load(alloc, seed, count, input),
         Command::Sessions(sessions, entries) => {
             output_of_sessions(alloc, sessions, entries, input)
@@ -42,6 +56,7 @@ fn reads(command: Command) -> bool
 {
     match command {
         Command::Replay(_, _) => true,
+        Command::Run(_, _) => true,
         Command::Load(_, _) => false,
         Command::Sessions(_, _) => true,
         Command::Limiter(_, _) => true,
@@ -83,11 +98,14 @@ fn write_output<K: Sink>(sink: &mut K, meant: Status, text: &[u8]) -> Status
 }
 
 // The command over its input, to the sink.
-fn carry_out<S: Source, K: Sink>(
+fn carry_out<S: Source, K: Sink, R: Host + Send + 'static, C: Clock + Drop, P: Spawner>(
+    rt: &R,
     alloc: Global,
     command: Command,
     source: &mut S,
     sink: &mut K,
+    clock: C,
+    spawner: &mut P,
 ) -> Ended
     requires { FitsCommand command }
     ensures command { result.command ≡ command }
@@ -105,7 +123,7 @@ fn carry_out<S: Source, K: Sink>(
         Err(InputError::Fault) => return Ended::without_input(alloc, command, Status::ReadFault),
         Err(InputError::TooLong) => return Ended::without_input(alloc, command, Status::TooLong),
     };
-    match made(alloc, command, &input) {
+    match made(rt, alloc, command, &input, clock, spawner) {
         Ok(output) => Ended {
             command,
             status: write_output(sink, output.status, &output.text),
@@ -118,11 +136,14 @@ fn carry_out<S: Source, K: Sink>(
 
 /// As [`program`], and tells how the command ended: beside the status also the input that was read, and the first bad line
 /// where one was named. None exactly where the words are no command (`none`, `command`), and then nothing is read or written.
-pub fn explained<S: Source, K: Sink>(
+pub fn explained<S: Source, K: Sink, C: Clock + Drop, P: Spawner, R: Host + Send + 'static>(
+    rt: &R,
     alloc: Global,
     words: &Vec<String>,
     source: &mut S,
     sink: &mut K,
+    clock: C,
+    spawner: &mut P,
 ) -> Option<Ended>
     ensures none { IfNone result (IsNoCommand (map string_bytes words.now.items)) }
     ensures untouched { IfNone result ((S.left source.new ≡ S.left source.old) × (S.faults source.new ≡ S.faults source.old) × (K.written sink.new ≡ K.written sink.old) × (K.faults sink.new ≡ K.faults sink.old)) }
@@ -136,7 +157,7 @@ pub fn explained<S: Source, K: Sink>(
     ensures unread { IfSome result (λ e. (meaning e.command).reads ≡ false → S.left source.new ≡ S.left source.old) }
 {
     match read_command(words) {
-        Some(command) => Some(carry_out(alloc, command, source, sink)),
+        Some(command) => Some(carry_out(rt, alloc, command, source, sink, clock, spawner)),
         None => None,
     }
 }
@@ -151,16 +172,21 @@ pub fn explained<S: Source, K: Sink>(
 /// object rose in this call, and wherever it rose (`read_fault_where`, `write_fault_where`). Want of memory may come at
 /// any time before the first write. `complete` says that a good command over good input ends with an answer, but for a
 /// fault or want of memory.
-pub fn program<S: Source, K: Sink>(
+pub fn program<S: Source, K: Sink, C: Clock + Drop, P: Spawner, R: Host + Send + 'static>(
+    rt: &R,
     alloc: Global,
     words: &Vec<String>,
     source: &mut S,
     sink: &mut K,
+    clock: C,
+    spawner: &mut P,
 ) -> u8
     ensures usage { result ≡ 2 ↔ IsNoCommand (map string_bytes words.now.items) }
     ensures untouched { result ≡ 2 → (S.left source.new ≡ S.left source.old) × (K.written sink.new ≡ K.written sink.old) }
     ensures done { result ≡ 0 → (c : Command) → IsCommand (map string_bytes words.now.items) c → HasAnswered (meaning c) status.Done (S.left source.old) (S.left source.new) (K.written sink.old) (K.written sink.new) }
     ensures not_a_run { result ≡ 11 → (c : Command) → IsCommand (map string_bytes words.now.items) c → HasAnswered (meaning c) status.NotARun (S.left source.old) (S.left source.new) (K.written sink.old) (K.written sink.new) }
+    ensures turns { result ≡ 8 → (c : Command) → IsCommand (map string_bytes words.now.items) c → HasAnswered (meaning c) status.Turns (S.left source.old) (S.left source.new) (K.written sink.old) (K.written sink.new) }
+    ensures capacity { result ≡ 10 → (c : Command) → IsCommand (map string_bytes words.now.items) c → HasAnswered (meaning c) status.Capacity (S.left source.old) (S.left source.new) (K.written sink.old) (K.written sink.new) }
     ensures bad_line { result ≡ 3 → (c : Command) → IsCommand (map string_bytes words.now.items) c → NamesBadLine (meaning c) (S.left source.old) (S.left source.new) (K.written sink.old) (K.written sink.new) }
     ensures read_fault { result ≡ 4 → HasRisen (S.faults source.old) (S.faults source.new) × (K.written sink.new ≡ K.written sink.old) }
     ensures write_fault { result ≡ 5 → HasRisen (K.faults sink.old) (K.faults sink.new) × ((c : Command) → IsCommand (map string_bytes words.now.items) c → IsCutShort (meaning c) (S.left source.old) (S.left source.new) (K.written sink.old) (K.written sink.new)) }
@@ -175,7 +201,7 @@ pub fn program<S: Source, K: Sink>(
     ensures write_fault_where { K.faults sink.old < K.faults sink.new → result ≡ 5 }
     ensures counts { (S.faults source.old ≤ S.faults source.new) × (K.faults sink.old ≤ K.faults sink.new) }
 {
-    match explained(alloc, words, source, sink) {
+    match explained(rt, alloc, words, source, sink, clock, spawner) {
         Some(ended) => ended.status.code(),
         None => Status::Usage.code(),
     }

@@ -6,4 +6,5 @@ pub(crate) mod limits;
 pub(crate) mod load;
 pub(crate) mod numbers;
 pub(crate) mod replay;
+pub(crate) mod run;
 pub(crate) mod sessions;

@@ -11,7 +11,7 @@ pub(crate) enum Place {
 }
 
 /// The names of the commands.
-pub(crate) const COMMANDS: &str = "replay, load, sessions, limiter, actors or check";
+pub(crate) const COMMANDS: &str = "replay, run, load, sessions, limiter, actors or check";
 
 /// Whether it is the name of a command.
 pub(crate) fn is_command(name: &str) -> bool {
@@ -44,6 +44,11 @@ fn two(at: usize, first: Option<Place>, second: Option<Place>) -> Option<Place> 
 pub(crate) fn place_at(command: &str, at: usize) -> Option<Place> {
     match command {
         "replay" | "check" => limits(at),
+        "run" => two(
+            at,
+            Some(Place::Number("WORKERS", 64)),
+            Some(Place::Number("TURNS", 65536)),
+        ),
         "load" => two(at, free("SEED"), Some(Place::Number("COUNT", 100000))),
         "sessions" => two(at, free("SESSIONS"), free("ENTRIES")),
         "limiter" => two(at, free("BUCKETS"), free("RETRIES")),

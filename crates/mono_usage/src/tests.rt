@@ -14,12 +14,12 @@ fn said(alloc: Global, text: &str) -> Result<String, AllocError> {
 
 #[test]
 fn the_wrong_word_is_named(rt: HostRuntime) -> Result<(), AllocError> {
-    let missing = "a command is missing: replay, load, sessions, limiter, actors or check";
+    let missing = "a command is missing: replay, run, load, sessions, limiter, actors or check";
     let table = [
         ("", missing),
         (
             "reply attached 1 1 1",
-            "\"reply\" is no command: replay, load, sessions, limiter, actors or check",
+            "\"reply\" is no command: replay, run, load, sessions, limiter, actors or check",
         ),
         (
             "replay detached 1 1 1",
@@ -41,6 +41,11 @@ fn the_wrong_word_is_named(rt: HostRuntime) -> Result<(), AllocError> {
         (
             "load 18446744073709551616 1",
             "load: \"18446744073709551616\": SEED is a number below 2^64",
+        ),
+        ("run 65 1", "run: \"65\": WORKERS is a number, at most 64"),
+        (
+            "run 0 65537",
+            "run: \"65537\": TURNS is a number, at most 65536",
         ),
         ("sessions 1 1 x", "sessions: \"x\" is a word too many"),
         (

@@ -4,6 +4,9 @@ pub(crate) const HELP: &str = "usage:
   monoio replay STRATEGY TASKS JOBS SLEEPS
       replays the event lines of standard input and writes a report line for each
       STRATEGY: attached, local or panic; TASKS, JOBS, SLEEPS: limits, numbers below 2^64
+  monoio run WORKERS TURNS
+      runs the script of standard input, and writes the journal of what was done
+      WORKERS: threads for blocking jobs, at most 64, and with 0 time is only counted; TURNS: at most 65536
   monoio load SEED COUNT
       replays a long input that the seed gives, and writes one line that sums up its reports
       SEED: a number below 2^64; COUNT: at most 100000
@@ -25,7 +28,8 @@ event lines begin with: spawn, wake, sleep, reset, drop-sleep, elapsed, drop-joi
       job-end, turn, clock, remote, drain; in a turn also poll, join, job, pending, ready
 example: printf 'spawn\\nturn; sleep 5000000; poll 0; pending\\nclock 5000000\\n' | monoio replay attached 16 16 16
 exit status: 0 done, 2 no such command, 3 a bad line, 4 a read failed, 5 a write failed, 6 out of memory,
-      7 more than 16777216 bytes of input, 11 a journal that is no run";
+      7 more than 16777216 bytes of input, 8 a run had no turn left, 10 no place for a run's main task,
+      11 a journal that is no run";
 
 pub(crate) const VERSION: &str = "monoio 0.1.0, after the crate monoio 0.2.4";
 
@@ -40,7 +44,7 @@ pub(crate) fn is_only(words: &Vec<String>, word: &str) -> bool {
 fn is_command(word: &str) -> bool {
     matches!(
         word,
-        "replay" | "load" | "sessions" | "limiter" | "actors" | "check"
+        "replay" | "run" | "load" | "sessions" | "limiter" | "actors" | "check"
     )
 }
 

@@ -4,7 +4,9 @@
 mod help;
 
 use help::{HELP, VERSION, asks_for_help, is_only};
-use mono_script::{Ended, Reason, Status, StdinSource, StdoutSink, explained};
+use mono_script::{
+    Ended, Reason, Status, StdClock, StdinSource, StdoutSink, ThreadSpawner, explained,
+};
 use mono_usage::complaint;
 use std::alloc::{AllocError, Global};
 use std::process::ExitCode;
@@ -92,6 +94,17 @@ fn tell(rt: &HostRuntime, ended: &Ended, source: &StdinSource, sink: &StdoutSink
                 );
             }
         }
+        Status::Turns => say(
+            rt,
+            String::from_str(alloc, "the run had no turn left; the output is what it did"),
+        ),
+        Status::Capacity => say(
+            rt,
+            String::from_str(
+                alloc,
+                "there is no place for the main task: the script's limit of tasks is 0",
+            ),
+        ),
         Status::NotARun => say(
             rt,
             String::from_str(
@@ -107,18 +120,36 @@ fn tell(rt: &HostRuntime, ended: &Ended, source: &StdinSource, sink: &StdoutSink
     }
 }
 
-fn run(rt: &HostRuntime, words: &Vec<String>) -> u8 {
+// Whether memory was refused: a pool may then be open, and its workers wait.
+fn lacks_memory(ended: &Option<Ended>) -> bool {
+    match ended {
+        Some(ended) => ended.status() == Status::OutOfMemory,
+        None => false,
+    }
+}
+
+// The status of words that ask what the program is, once that is shown; none of other words.
+fn shown_of(rt: &HostRuntime, words: &Vec<String>) -> Option<u8> {
     if asks_for_help(words) {
-        return shown(rt, HELP);
+        return Some(shown(rt, HELP));
     }
     if is_only(words, "--version") {
-        return shown(rt, VERSION);
+        return Some(shown(rt, VERSION));
     }
-    let mut source = StdinSource::new(rt.stdin());
-    let mut sink = StdoutSink::new(rt.stdout());
-    match explained(rt.alloc(), words, &mut source, &mut sink) {
+    None
+}
+
+// The status with which the program ends, once its cause is said.
+fn told(
+    rt: &HostRuntime,
+    words: &Vec<String>,
+    ended: &Option<Ended>,
+    source: &StdinSource,
+    sink: &StdoutSink,
+) -> u8 {
+    match ended {
         Some(ended) => {
-            tell(rt, &ended, &source, &sink);
+            tell(rt, ended, source, sink);
             ended.status().code()
         }
         None => {
@@ -128,19 +159,44 @@ fn run(rt: &HostRuntime, words: &Vec<String>) -> u8 {
     }
 }
 
-fn main(rt: HostRuntime) -> ExitCode {
-    match words(&rt) {
-        Ok(words) => ExitCode::from(run(&rt, &words)),
-        Err(error) => {
-            let status = match error.kind() {
-                io::ErrorKind::OutOfMemory => Status::OutOfMemory,
-                _ => Status::Usage,
-            };
-            say(
-                &rt,
-                format!(in rt.alloc(); "the words can't be read: {error}"),
-            );
-            ExitCode::from(status.code())
-        }
+// The status where the words can't be read.
+fn unread(rt: &HostRuntime, error: &io::Error) -> u8 {
+    say(
+        rt,
+        format!(in rt.alloc(); "the words can't be read: {error}"),
+    );
+    match error.kind() {
+        io::ErrorKind::OutOfMemory => Status::OutOfMemory.code(),
+        _ => Status::Usage.code(),
     }
+}
+
+fn main(rt: HostRuntime) -> ExitCode {
+    let words = match words(&rt) {
+        Ok(words) => words,
+        Err(error) => return ExitCode::from(unread(&rt, &error)),
+    };
+    if let Some(status) = shown_of(&rt, &words) {
+        return ExitCode::from(status);
+    }
+    let Ok(theirs) = rt.clone() else {
+        return ExitCode::from(Status::OutOfMemory.code());
+    };
+    let mut source = StdinSource::new(rt.stdin());
+    let mut sink = StdoutSink::new(rt.stdout());
+    let mut spawner = ThreadSpawner::new(rt.alloc());
+    let clock = StdClock::new(theirs);
+    let ended = explained(
+        &rt,
+        rt.alloc(),
+        &words,
+        &mut source,
+        &mut sink,
+        clock,
+        &mut spawner,
+    );
+    if !lacks_memory(&ended) {
+        spawner.join(&rt);
+    }
+    ExitCode::from(told(&rt, &words, &ended, &source, &sink))
 }

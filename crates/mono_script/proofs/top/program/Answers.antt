@@ -4,7 +4,7 @@ use Rattle.mono_script.specs.Ending.{IsRead}
 use Rattle.mono_script.specs.Meanings.{meaning}
 use Rattle.mono_script.specs.declared.ends.Status.TheVariants as status
 use Rattle.mono_script.proofs.Commands.{command_once}
-use Rattle.mono_script.proofs.Statuses.{says, sound, done, not_a_run, bad_line, write_fault, long_where, bad_where, completed, rose_in_reading, rose_in_writing}
+use Rattle.mono_script.proofs.Statuses.{says, sound, done, turns, capacity, not_a_run, bad_line, write_fault, long_where, bad_where, completed, rose_in_reading, rose_in_writing}
 use Rattle.mono_script.proofs.top.program.Goals as goal
 
 pub returns-in-Some-clause-done : goal.returns-in-Some-clause-done
@@ -14,6 +14,24 @@ returns-in-Some-clause-done g c = λ is d words.
     (g.S.Source.left c.args.source.now) (g.S.Source.left c.explained.new.source) (g.K.Sink.written c.args.sink.now) (g.K.Sink.written c.explained.new.sink)
     (HasRisen (g.S.Source.faults c.args.source.now) (g.S.Source.faults c.explained.new.source)) (HasRisen (g.K.Sink.faults c.args.sink.now) (g.K.Sink.faults c.explained.new.sink))
     c.code.result 0 c.in-Some.ended.status status.Done c.code.ensures c.in-Some.ensures.ends is (done c.in-Some.ended.status) in
+    rw same ended
+
+pub returns-in-Some-clause-turns : goal.returns-in-Some-clause-turns
+returns-in-Some-clause-turns g c = λ is d words.
+    let same = command_once (map string_bytes c.args.words.now.items) d c.in-Some.ended.command words c.in-Some.ensures.command in
+    let ended = says (meaning c.in-Some.ended.command)
+    (g.S.Source.left c.args.source.now) (g.S.Source.left c.explained.new.source) (g.K.Sink.written c.args.sink.now) (g.K.Sink.written c.explained.new.sink)
+    (HasRisen (g.S.Source.faults c.args.source.now) (g.S.Source.faults c.explained.new.source)) (HasRisen (g.K.Sink.faults c.args.sink.now) (g.K.Sink.faults c.explained.new.sink))
+    c.code.result 8 c.in-Some.ended.status status.Turns c.code.ensures c.in-Some.ensures.ends is (turns c.in-Some.ended.status) in
+    rw same ended
+
+pub returns-in-Some-clause-capacity : goal.returns-in-Some-clause-capacity
+returns-in-Some-clause-capacity g c = λ is d words.
+    let same = command_once (map string_bytes c.args.words.now.items) d c.in-Some.ended.command words c.in-Some.ensures.command in
+    let ended = says (meaning c.in-Some.ended.command)
+    (g.S.Source.left c.args.source.now) (g.S.Source.left c.explained.new.source) (g.K.Sink.written c.args.sink.now) (g.K.Sink.written c.explained.new.sink)
+    (HasRisen (g.S.Source.faults c.args.source.now) (g.S.Source.faults c.explained.new.source)) (HasRisen (g.K.Sink.faults c.args.sink.now) (g.K.Sink.faults c.explained.new.sink))
+    c.code.result 10 c.in-Some.ended.status status.Capacity c.code.ensures c.in-Some.ensures.ends is (capacity c.in-Some.ended.status) in
     rw same ended
 
 pub returns-in-Some-clause-not_a_run : goal.returns-in-Some-clause-not_a_run

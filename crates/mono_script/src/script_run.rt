@@ -1,0 +1,48 @@
+// A script, run and told as an output.
+ghost use Rattle.std.specs.Prelude.{◌≡◌, IfOk};
+ghost use Rattle.mono_script.specs.Ending.{IsOutput, IsLine};
+ghost use Rattle.mono_script.specs.Meanings.{running, run_status};
+
+use crate::ends::{Output, Status, bad_line};
+use mono_blocking::Spawner;
+use mono_driver::Clock;
+use mono_model::Host;
+use mono_run::{RunEnd, run_script};
+use mono_script_reader::{ScriptRead, read_script};
+use std::alloc::{AllocError, Global};
+
+fn status_of(end: RunEnd) -> Status
+    ensures { result ≡ run_status end }
+{
+    match end {
+        RunEnd::Output(_) => Status::Done,
+        RunEnd::Turns => Status::Turns,
+        RunEnd::Capacity => Status::Capacity,
+    }
+}
+
+// The run of the script that the input spells, or its first bad line, as an output.
+pub(crate) fn output_of_run<R: Host + Send + 'static, C: Clock + Drop, P: Spawner>(
+    rt: &R,
+    alloc: Global,
+    workers: u64,
+    turns: u64,
+    input: &[u8],
+    clock: C,
+    spawner: &mut P,
+) -> Result<Output, AllocError>
+    ensures output { IfOk result (λ o. IsOutput (running turns) input.now o.status o.text.items) }
+    ensures line { IfOk result (λ o. IsLine (running turns) input.now o.status o.bad_line) }
+{
+    match read_script(alloc, input)? {
+        ScriptRead::BadLine(n) => bad_line(alloc, n),
+        ScriptRead::Script(script) => {
+            let run = run_script(rt, alloc, &script, workers as usize, turns, clock, spawner)?;
+            Ok(Output {
+                status: status_of(run.end),
+                text: run.text,
+                bad_line: None,
+            })
+        }
+    }
+}
