@@ -32,8 +32,12 @@ pub struct ScriptRun {
     pub text: Vec<u8>,
 }
 
-type ScriptRuntime<'a, C> =
-    Runtime<ScriptTask<'a>, u64, ScriptDriver<C>, DefaultThreadPool<ScriptJob>>;
+type ScriptRuntime<'a, C> = Runtime<
+    ScriptTask<'a>,
+    u64,
+    ScriptDriver<C>,
+    DefaultThreadPool<ScriptJob>,
+>;
 
 // Without workers a driver that never waits; else one that parks its thread, over the clock.
 fn driver_for<C: Clock + Drop>(
@@ -131,8 +135,14 @@ pub fn run_script<R: Host + Send + 'static, C: Clock + Drop, P: Spawner>(
     let driver = driver_for(alloc, workers, clock)?;
     let pool = DefaultThreadPool::new(rt, alloc, workers, spawner)?;
     let handle = BlockingHandle::Attached(pool);
-    let made: Result<ScriptRuntime<C>, AllocError> =
-        Runtime::new(alloc, driver, handle, script.limits, true, zero());
+    let made: Result<ScriptRuntime<C>, AllocError> = Runtime::new(
+        alloc,
+        driver,
+        handle,
+        script.limits,
+        true,
+        zero(),
+    );
     let mut runtime = made?;
     let main = ScriptTask::new(&script.kinds, 0);
     let answer = runtime.block_on(rt, alloc, main, turns);
