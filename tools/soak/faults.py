@@ -25,6 +25,11 @@ ROWS = (
         "replay attached 4 4 4",
         "spawn\nturn; block 3; job 0; pending\njob-end 0 canceled\nremote 0\ndrain\nturn; job 0; drop-job 0; job-end 0 ran; ready 1\n",
     ),
+    # a script of a main task with two children that sleep
+    (
+        "run 0 1000",
+        "limits 16 16 16\ntask\nspawn 1\nspawn 1\njoin 0\njoin 1\ndone 3\ntask\nawait-sleep 1000000\ndone 7\n",
+    ),
     # past the first room of each table
     ("replay attached 999 999 999", "spawn\nblock 1\nsleep 5000000\n" * 300 + "turn; poll 0; poll 1; pending\nclock 9000000\n"),
     # a bad line, no command, and one that reads nothing
