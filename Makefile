@@ -7,7 +7,7 @@
 #   make examples    builds the program, and compares each example's reports with those stored beside it, and the
 #                    manual page with --help
 #   make soak        random inputs for a minute (SECONDS=n), each report checked by an independent machine; their journals
-#                    too; then each allocation, read and write fails in turn
+#                    too; then each allocation, read and write fails in turn, and scripts run with workers
 #   make planted     tries the wrong bodies of crates/*/planted on a copy (CRATE=name: of one crate)
 #   make gate-times  the gate from nothing, with the processor seconds of each crate
 
@@ -50,6 +50,7 @@ examples: build
 soak: build
 	python3 tools/soak/soak.py bin/monoio $(SECONDS)
 	python3 tools/soak/faults.py bin/monoio
+	python3 tools/soak/scripts.py bin/monoio
 
 try: has-rt
 	@echo 'unproved: this runs the program before any proof'
