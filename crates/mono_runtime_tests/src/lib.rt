@@ -2,4 +2,8 @@
 #![tactic(auto)]
 
 #[cfg(test)]
+mod jobs;
+#[cfg(test)]
+mod pools;
+#[cfg(test)]
 mod runtimes;
