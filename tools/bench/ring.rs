@@ -1,6 +1,6 @@
 //! The plain ring beside `mono_ring`: a `VecDeque` for each mailbox and one for the queue, without timeouts.
 //!
-//! rustc -O -C opt-level=3 tools/bench/ring.rs -o /tmp/ring && /tmp/ring ACTORS TURNS
+//! rustc -O -C opt-level=3 tools/bench/ring.rs -o ring && ./ring ACTORS TURNS
 //!
 //! It prints the line that `mono_ring ACTORS TURNS` prints.
 use std::collections::VecDeque;
