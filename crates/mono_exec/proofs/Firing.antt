@@ -54,10 +54,10 @@ pub same_clock : (sleeps : Sleeps) (n s : ℕ) → sleep.at_clock (sleep.fired (
 same_clock sleeps n s = ap (with_greatest (sleep.fired (sleep.at_clock sleeps n) s)) (max_again sleeps.greatest (down n))
 
 -- the timers are there in a clock step as before
-pub keeps_none : (old new : Timers) (sleeps : Sleeps) (n : ℕ) → Keeps old sleeps → sleeps_of new ≡ table.at_clock (sleeps_of old) n → StandsForSleeps new (sleep.at_clock sleeps n) → Keeps new (sleep.at_clock sleeps n)
+pub keeps_none : (old new : Timers) (sleeps : Sleeps) (n : ℕ) → Keeps old sleeps → sleeps_of new ≡ table.at_clock_tick (sleeps_of old) n → StandsForSleeps new (sleep.at_clock sleeps n) → Keeps new (sleep.at_clock sleeps n)
 keeps_none old new sleeps n st is stands = record { stands = stands; is_enabled = ap (λ x. x.is_enabled) is ∙ st.is_enabled }
 
-pub keeps_some : (old new : Timers) (sleeps : Sleeps) (n s : ℕ) → Keeps old sleeps → sleeps_of new ≡ table.fired (table.at_clock (sleeps_of old) n) s → StandsForSleeps new (sleep.fired (sleep.at_clock sleeps n) s) → Keeps new (sleep.fired (sleep.at_clock sleeps n) s)
+pub keeps_some : (old new : Timers) (sleeps : Sleeps) (n s : ℕ) → Keeps old sleeps → sleeps_of new ≡ table.with_fired_sleep (table.at_clock_tick (sleeps_of old) n) s → StandsForSleeps new (sleep.fired (sleep.at_clock sleeps n) s) → Keeps new (sleep.fired (sleep.at_clock sleeps n) s)
 keeps_some old new sleeps n s st is stands = record { stands = stands; is_enabled = ap (λ x. x.is_enabled) is ∙ st.is_enabled }
 
 -- all but the sleeps, and which tasks have finished, stays

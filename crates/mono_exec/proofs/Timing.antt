@@ -12,7 +12,7 @@ use Rattle.mono_task.specs.Schedule as schedule
 use Rattle.mono_model.specs.Sleeps.{Sleeps, Sleep, woken_by_arming}
 use Rattle.mono_model.specs.Sleeps as model
 use Rattle.mono_model.specs.Valid.{AreValidSleeps, IsValidSleep}
-use Rattle.mono_time.specs.Sleeps.{Kept, SleepTable, armed, polled, polled_kept, reset, changed_value, removed, removed_value, added, IsNoneArmedUpTo}
+use Rattle.mono_time.specs.Sleeps.{Kept, SleepTable, armed, with_polled_sleep, polled_kept, with_reset_sleep, changed_value, with_removed_sleep, removed_value, with_added_sleep, IsNoneArmedUpTo}
 use Rattle.mono_model.specs.SleepAnswers.{waker_in}
 use Rattle.mono_model.specs.SleepActs as machine
 use Rattle.mono_time.specs.Timers.{sleeps_of, elapsed_tick}
@@ -37,20 +37,20 @@ alike_changed : (v : Option Kept) (sleeps : SleepTable) (s : ℕ) (change : Kept
 alike_changed None sleeps s change = record { greatest = refl; is_enabled = refl }
 alike_changed (Some kept) sleeps s change = record { greatest = refl; is_enabled = refl }
 
-pub alike_polled : (sleeps : SleepTable) (s by : ℕ) → Alike sleeps (polled sleeps s by)
+pub alike_polled : (sleeps : SleepTable) (s by : ℕ) → Alike sleeps (with_polled_sleep sleeps s by)
 alike_polled sleeps s by = alike_changed (value_at sleeps.table s) sleeps s (polled_kept sleeps.greatest by)
 
-pub alike_reset : (sleeps : SleepTable) (s nanos : ℕ) → Alike sleeps (reset sleeps s nanos)
+pub alike_reset : (sleeps : SleepTable) (s nanos : ℕ) → Alike sleeps (with_reset_sleep sleeps s nanos)
 alike_reset sleeps s nanos = alike_changed (value_at sleeps.table s) sleeps s _
 
 alike_gone : (v : Option Kept) (sleeps : SleepTable) (s : ℕ) → Alike sleeps (removed_value v sleeps s)
 alike_gone None sleeps s = record { greatest = refl; is_enabled = refl }
 alike_gone (Some kept) sleeps s = record { greatest = refl; is_enabled = refl }
 
-pub alike_removed : (sleeps : SleepTable) (s : ℕ) → Alike sleeps (removed sleeps s)
+pub alike_removed : (sleeps : SleepTable) (s : ℕ) → Alike sleeps (with_removed_sleep sleeps s)
 alike_removed sleeps s = alike_gone (value_at sleeps.table s) sleeps s
 
-pub alike_added : (sleeps : SleepTable) (tick : ℕ) → Alike sleeps (added sleeps tick)
+pub alike_added : (sleeps : SleepTable) (tick : ℕ) → Alike sleeps (with_added_sleep sleeps tick)
 alike_added sleeps tick = record { greatest = refl; is_enabled = refl }
 
 -- a call that is no clock step

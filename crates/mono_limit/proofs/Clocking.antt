@@ -4,7 +4,7 @@ use Rattle.std.specs.Prelude.{max}
 use Rattle.mono_model.specs.Ticks.{down}
 use Rattle.mono_model.specs.Table.{Table, value_at}
 use Rattle.mono_model.specs.Due.{ListsDue}
-use Rattle.mono_time.specs.Sleeps.{SleepTable, at_clock, fired, IsFiredFirst, IsNoneArmedUpTo}
+use Rattle.mono_time.specs.Sleeps.{SleepTable, at_clock_tick, with_fired_sleep, IsFiredFirst, IsNoneArmedUpTo}
 use Rattle.mono_limit.specs.Schedules.{waiting_value, ended_row, ended_rows, EndsWaits}
 use Rattle.mono_limit.specs.Holding.{Holds}
 use Rattle.mono_limit.specs.declared.schedules.Schedule.{Schedule}
@@ -12,7 +12,7 @@ use Rattle.mono_limit.proofs.Sleeping.{waits_there, armed_there, fired_holds}
 use Rattle.mono_limit.proofs.Ending.{EndsFirst, NoneEnds, ends_before, none_ends, ended-push}
 
 -- the sleep that fires first is that of a retry whose wait ends first
-pub ends_first : (rows : Table Schedule) (sleeps : SleepTable) (live n : ℕ) → Holds rows sleeps live → (r : ℕ) (waker : Option ℕ) → IsFiredFirst (at_clock sleeps n) r waker → EndsFirst rows (max sleeps.greatest (down n)) r
+pub ends_first : (rows : Table Schedule) (sleeps : SleepTable) (live n : ℕ) → Holds rows sleeps live → (r : ℕ) (waker : Option ℕ) → IsFiredFirst (at_clock_tick sleeps n) r waker → EndsFirst rows (max sleeps.greatest (down n)) r
 ends_first rows sleeps live n holds r waker first = record {
   tick = first.tick;
   waits = waits_there rows sleeps live holds r first.tick waker first.is_armed_there;
@@ -20,10 +20,10 @@ ends_first rows sleeps live n holds r waker first = record {
   is_least = λ q later waits. let (task, there) = armed_there rows sleeps live holds q later waits in first.is_least q later task there;
 }
 
-pub ends_none : (rows : Table Schedule) (sleeps : SleepTable) (live n : ℕ) → Holds rows sleeps live → IsNoneArmedUpTo (at_clock sleeps n) → NoneEnds rows (max sleeps.greatest (down n))
+pub ends_none : (rows : Table Schedule) (sleeps : SleepTable) (live n : ℕ) → Holds rows sleeps live → IsNoneArmedUpTo (at_clock_tick sleeps n) → NoneEnds rows (max sleeps.greatest (down n))
 ends_none rows sleeps live n holds none = λ r tick waits. let (task, there) = armed_there rows sleeps live holds r tick waits in none r tick task there
 
-pub holds_on : (rows : Table Schedule) (sleeps after : SleepTable) (live n : ℕ) → Holds rows sleeps live → (r : ℕ) (waker : Option ℕ) → IsFiredFirst (at_clock sleeps n) r waker → after ≡ fired (at_clock sleeps n) r
+pub holds_on : (rows : Table Schedule) (sleeps after : SleepTable) (live n : ℕ) → Holds rows sleeps live → (r : ℕ) (waker : Option ℕ) → IsFiredFirst (at_clock_tick sleeps n) r waker → after ≡ with_fired_sleep (at_clock_tick sleeps n) r
     → (left : Table Schedule) → left ≡ ended_row (value_at rows r) rows r → Holds left after live
 holds_on rows sleeps after live n holds r waker first same left is =
     subst (λ x. Holds x after live) (sym is) (subst (λ x. Holds (ended_row (value_at rows r) rows r) x live) (sym same) (fired_holds rows sleeps live holds r n first.tick waker first.is_armed_there))

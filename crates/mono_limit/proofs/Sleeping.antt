@@ -8,7 +8,7 @@ use Rattle.std.proofs.lemmas.List.Sums.{sum_by-set}
 use Rattle.mono_model.specs.Ticks.{up}
 use Rattle.mono_model.specs.Table.{Table, value_at, count_of, with_value, without}
 use Rattle.mono_model.proofs.Counts.{count_of-with_value}
-use Rattle.mono_time.specs.Sleeps.{SleepTable, Kept, fresh, armed, elapsed, waker_of, at_tick, with_table, changed_value, reset, removed_value, removed, at_clock, fired}
+use Rattle.mono_time.specs.Sleeps.{SleepTable, Kept, fresh, armed, elapsed, kept_waker, at_tick, with_table, changed_value, with_reset_sleep, removed_value, with_removed_sleep, at_clock_tick, with_fired_sleep}
 use Rattle.mono_limit.specs.Schedules.{IsSound, failed_until, at_once, waiting_value, ended_row}
 use Rattle.mono_limit.specs.Holding.{Holds, wait_of, armed_tick}
 use Rattle.mono_limit.specs.declared.schedules.Schedule.{Schedule}
@@ -82,10 +82,10 @@ module _ (rows : Table Schedule) (sleeps : SleepTable) (live : ℕ) (holds : Hol
     pub some_live : 0 < live
     some_live = omega (arith, one_fewer, holds.live_count)
 
-    pub without_holds : Holds (without rows r) (removed sleeps r) (live - 1)
+    pub without_holds : Holds (without rows r) (with_removed_sleep sleeps r) (live - 1)
     without_holds =
         let (kept, there) = sleeps_at r retry at in
-        let same : removed sleeps r ≡ with_table sleeps (without sleeps.table r) = ap (λ v. removed_value v sleeps r) there in
+        let same : with_removed_sleep sleeps r ≡ with_table sleeps (without sleeps.table r) = ap (λ v. removed_value v sleeps r) there in
         rw same (record {
           waits = map-set (option_map wait_of) rows r None ∙ ap (λ xs. set xs r None) holds.waits ∙ sym (map-set (option_map armed_tick) sleeps.table r None);
           sound = set_all IsSound rows r None holds.sound (λ v e. absurd (none-some v e));
@@ -99,26 +99,26 @@ module _ (rows : Table Schedule) (sleeps : SleepTable) (live : ℕ) (holds : Hol
         ap (λ t. armed_tick (at_tick sleeps.greatest t waker)) is ∙ ap (λ b. armed_tick (cond b elapsed (armed tick waker))) (lt-leb tick sleeps.greatest later)
 
     pub waiting_holds : (tick : ℕ) → sleeps.greatest < tick → retry.failures + 1 < retry.most
-        → Holds (with_value rows r (failed_until retry (retry.failures + 1) tick)) (reset sleeps r (tick * 1000000)) live
+        → Holds (with_value rows r (failed_until retry (retry.failures + 1) tick)) (with_reset_sleep sleeps r (tick * 1000000)) live
     waiting_holds tick later more =
         let (kept, there) = sleeps_at r retry at in
         let new : Schedule = failed_until retry (retry.failures + 1) tick in
-        let to : Kept = at_tick sleeps.greatest (up (tick * 1000000)) (waker_of kept) in
-        let same : reset sleeps r (tick * 1000000) ≡ with_table sleeps (with_value sleeps.table r to) =
-        ap (λ v. changed_value v sleeps r (λ k. at_tick sleeps.greatest (up (tick * 1000000)) (waker_of k))) there in
+        let to : Kept = at_tick sleeps.greatest (up (tick * 1000000)) (kept_waker kept) in
+        let same : with_reset_sleep sleeps r (tick * 1000000) ≡ with_table sleeps (with_value sleeps.table r to) =
+        ap (λ v. changed_value v sleeps r (λ k. at_tick sleeps.greatest (up (tick * 1000000)) (kept_waker k))) there in
         rw same (record {
           waits = map-set (option_map wait_of) rows r (Some new) ∙ ap (λ xs. set xs r (Some (Some tick))) holds.waits
-              ∙ sym (map-set (option_map armed_tick) sleeps.table r (Some to) ∙ ap (λ w. set (map (option_map armed_tick) sleeps.table) r (Some w)) (armed_then tick (waker_of kept) later));
+              ∙ sym (map-set (option_map armed_tick) sleeps.table r (Some to) ∙ ap (λ w. set (map (option_map armed_tick) sleeps.table) r (Some w)) (armed_then tick (kept_waker kept) later));
           sound = set_all IsSound rows r (Some new) holds.sound (λ v e. subst IsSound (same-some new v e) (record { has_base = (holds.sound r retry at).has_base; has_cap = (holds.sound r retry at).has_cap; goes_on = more }));
           live_count = holds.live_count ∙ sym (count_of-with_value rows r retry new at);
         })
 
   -- the wait of a retry ends, whose sleep fires
   pub fired_holds : (r n tick : ℕ) (waker : Option ℕ) → value_at sleeps.table r ≡ Some (armed tick waker)
-      → Holds (ended_row (value_at rows r) rows r) (fired (at_clock sleeps n) r) live
+      → Holds (ended_row (value_at rows r) rows r) (with_fired_sleep (at_clock_tick sleeps n) r) live
   fired_holds r n tick waker there = by_row (value_at rows r) refl (waits_there r tick waker there)
     where
-      by_row : (v : Option Schedule) → value_at rows r ≡ v → waiting_value v ≡ Some tick → Holds (ended_row v rows r) (fired (at_clock sleeps n) r) live
+      by_row : (v : Option Schedule) → value_at rows r ≡ v → waiting_value v ≡ Some tick → Holds (ended_row v rows r) (with_fired_sleep (at_clock_tick sleeps n) r) live
       by_row None at w = absurd (none-some tick w)
       by_row (Some retry) at w = record {
         waits = map-set (option_map wait_of) rows r (Some (at_once retry)) ∙ ap (λ xs. set xs r (Some None)) holds.waits ∙ sym (map-set (option_map armed_tick) sleeps.table r (Some elapsed));

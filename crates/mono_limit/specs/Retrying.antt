@@ -9,7 +9,7 @@ use Rattle.mono_model.specs.declared.poll.Poll.TheVariants.{Ready, Pending}
 use Rattle.mono_model.specs.declared.error.Error.{Error}
 use Rattle.mono_task.specs.Members.{FutureOf}
 use Rattle.mono_time.specs.Instants.{nanos_of}
-use Rattle.mono_time.specs.Sleeps.{SleepTable, reset, reset_answer}
+use Rattle.mono_time.specs.Sleeps.{SleepTable, with_reset_sleep, sleep_reset_answer}
 use Rattle.mono_time.specs.Futures.{SleepPolls, SleepCancels}
 use Rattle.mono_time.specs.declared.instant.Instant.{Instant}
 use Rattle.mono_time.specs.declared.sleeps.Sleep.{Sleep}
@@ -86,12 +86,12 @@ module _ {G F C Y : Type 0} (call : Mut G (ℕ × Unit {0}) F) (future : FutureO
 module _ {C : Type 0} (sleeps : C → SleepTable) (work : C → Tasks ⊤) (reaches : C → C → Type 0) where
   -- The sleep is reset to a deadline, or the context refuses that.
   pub record Resets (sleep : Sleep) (c : C) (nanos : ℕ) (result : Result ⊤ Error) (s : Sleep) (d : C) : Type 0 where
-    pub answer : result ≡ without_waker (reset_answer (sleeps c) sleep.number nanos)
+    pub answer : result ≡ without_waker (sleep_reset_answer (sleeps c) sleep.number nanos)
     pub number : s.number ≡ sleep.number
     pub deadline : OnOk result (nanos_of s.deadline ≡ nanos)
     pub refused : OnErr result (s ≡ sleep)
-    pub sleeps_after : sleeps d ≡ reset (sleeps c) sleep.number nanos
-    pub work_after : work d ≡ woken_if_any (work c) (waker_in (reset_answer (sleeps c) sleep.number nanos))
+    pub sleeps_after : sleeps d ≡ with_reset_sleep (sleeps c) sleep.number nanos
+    pub work_after : work d ≡ woken_if_any (work c) (waker_in (sleep_reset_answer (sleeps c) sleep.number nanos))
     pub reached : reaches c d
 
 module _ {G F C X E : Type 0} (sleeps : C → SleepTable) (work : C → Tasks ⊤) (reaches : C → C → Type 0) where

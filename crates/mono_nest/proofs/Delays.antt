@@ -7,7 +7,7 @@ use Rattle.mono_model.specs.declared.poll.Poll.{Poll}
 use Rattle.mono_model.specs.declared.poll.Poll.TheVariants.{Pending}
 use Rattle.mono_model.specs.declared.error.Error.{Error}
 use Rattle.mono_model.specs.Table.{value_at}
-use Rattle.mono_time.specs.Sleeps.{Kept, SleepTable, fresh, armed, elapsed, polled_kept, is_ready_at, of_live, poll_answer, changed_value, polled, removed, removed_value}
+use Rattle.mono_time.specs.Sleeps.{Kept, SleepTable, fresh, armed, elapsed, polled_kept, is_kept_ready, of_live_sleep, sleep_poll_answer, changed_value, with_polled_sleep, with_removed_sleep, removed_value}
 use Rattle.mono_model.specs.SleepAnswers.{poll_of}
 use Rattle.mono_time.proofs.Holding.{given_inside, none-some}
 use Rattle.mono_nest.specs.Nests.{all_removed}
@@ -16,54 +16,54 @@ use Rattle.mono_nest.specs.Nests.{all_removed}
 abbrev fine : Poll ⊤ → Result (Poll ⊤) Error
 fine answer = Ok answer
 
-kept_waits : (greatest by : ℕ) (kept : Kept) → fine (poll_of (is_ready_at greatest kept)) ≡ Ok Pending → poll_of (is_ready_at greatest (polled_kept greatest by kept)) ≡ Pending
+kept_waits : (greatest by : ℕ) (kept : Kept) → fine (poll_of (is_kept_ready greatest kept)) ≡ Ok Pending → poll_of (is_kept_ready greatest (polled_kept greatest by kept)) ≡ Pending
 kept_waits greatest by (fresh tick) waits = at _ waits
   where
-    at : (b : Bool) → fine (poll_of b) ≡ Ok Pending → poll_of (is_ready_at greatest (cond b elapsed (armed tick (Some by)))) ≡ Pending
+    at : (b : Bool) → fine (poll_of b) ≡ Ok Pending → poll_of (is_kept_ready greatest (cond b elapsed (armed tick (Some by)))) ≡ Pending
     at true e = absurd (cc)
     at false e = refl
 kept_waits greatest by (armed tick waker) waits = refl
 kept_waits greatest by elapsed waits = absurd (cc)
 
 -- a delay that is not due stays so where one is polled
-pub still_waits : (sleeps : SleepTable) (s q by : ℕ) → poll_answer sleeps q ≡ Ok Pending → poll_answer (polled sleeps s by) q ≡ Ok Pending
+pub still_waits : (sleeps : SleepTable) (s q by : ℕ) → sleep_poll_answer sleeps q ≡ Ok Pending → sleep_poll_answer (with_polled_sleep sleeps s by) q ≡ Ok Pending
 still_waits sleeps s q by waits = at (value_at sleeps.table s) refl
   where
-    at : (v : Option Kept) → value_at sleeps.table s ≡ v → poll_answer (changed_value v sleeps s (polled_kept sleeps.greatest by)) q ≡ Ok Pending
+    at : (v : Option Kept) → value_at sleeps.table s ≡ v → sleep_poll_answer (changed_value v sleeps s (polled_kept sleeps.greatest by)) q ≡ Ok Pending
     at None is = waits
     at (Some kept) is = elim (cases_eq q s) [
       | inl here ↦
-          let was : of_live (Some kept) (λ k. poll_of (is_ready_at sleeps.greatest k)) ≡ Ok Pending = ap (λ v. of_live v (λ k. poll_of (is_ready_at sleeps.greatest k))) (sym (ap (value_at sleeps.table) here ∙ is)) ∙ waits in
-          ap (λ v. of_live v (λ k. poll_of (is_ready_at sleeps.greatest k)))
+          let was : of_live_sleep (Some kept) (λ k. poll_of (is_kept_ready sleeps.greatest k)) ≡ Ok Pending = ap (λ v. of_live_sleep v (λ k. poll_of (is_kept_ready sleeps.greatest k))) (sym (ap (value_at sleeps.table) here ∙ is)) ∙ waits in
+          ap (λ v. of_live_sleep v (λ k. poll_of (is_kept_ready sleeps.greatest k)))
           (ap (value_at (set sleeps.table s (Some (polled_kept sleeps.greatest by kept)))) here ∙ get_or-set_same sleeps.table s (Some (polled_kept sleeps.greatest by kept)) None (given_inside sleeps.table s kept is))
           ∙ ap Ok (kept_waits sleeps.greatest by kept was)
-      | inr apart ↦ ap (λ v. of_live v (λ k. poll_of (is_ready_at sleeps.greatest k))) (get_or-set_other sleeps.table s q (Some (polled_kept sleeps.greatest by kept)) None apart) ∙ waits
+      | inr apart ↦ ap (λ v. of_live_sleep v (λ k. poll_of (is_kept_ready sleeps.greatest k))) (get_or-set_other sleeps.table s q (Some (polled_kept sleeps.greatest by kept)) None apart) ∙ waits
     ]
 
 -- what is answered of a delay stays where another is polled or removed
-pub apart-polled : (sleeps : SleepTable) (s q by : ℕ) → q ≢ s → poll_answer (polled sleeps s by) q ≡ poll_answer sleeps q
+pub apart-polled : (sleeps : SleepTable) (s q by : ℕ) → q ≢ s → sleep_poll_answer (with_polled_sleep sleeps s by) q ≡ sleep_poll_answer sleeps q
 apart-polled sleeps s q by apart = at (value_at sleeps.table s)
   where
-    at : (v : Option Kept) → poll_answer (changed_value v sleeps s (polled_kept sleeps.greatest by)) q ≡ poll_answer sleeps q
+    at : (v : Option Kept) → sleep_poll_answer (changed_value v sleeps s (polled_kept sleeps.greatest by)) q ≡ sleep_poll_answer sleeps q
     at None = refl
-    at (Some kept) = ap (λ v. of_live v (λ k. poll_of (is_ready_at sleeps.greatest k))) (get_or-set_other sleeps.table s q (Some (polled_kept sleeps.greatest by kept)) None apart)
+    at (Some kept) = ap (λ v. of_live_sleep v (λ k. poll_of (is_kept_ready sleeps.greatest k))) (get_or-set_other sleeps.table s q (Some (polled_kept sleeps.greatest by kept)) None apart)
 
-pub apart-removed : (sleeps : SleepTable) (s q : ℕ) → q ≢ s → poll_answer (removed sleeps s) q ≡ poll_answer sleeps q
+pub apart-removed : (sleeps : SleepTable) (s q : ℕ) → q ≢ s → sleep_poll_answer (with_removed_sleep sleeps s) q ≡ sleep_poll_answer sleeps q
 apart-removed sleeps s q apart = at (value_at sleeps.table s)
   where
-    at : (v : Option Kept) → poll_answer (removed_value v sleeps s) q ≡ poll_answer sleeps q
+    at : (v : Option Kept) → sleep_poll_answer (removed_value v sleeps s) q ≡ sleep_poll_answer sleeps q
     at None = refl
-    at (Some kept) = ap (λ v. of_live v (λ k. poll_of (is_ready_at sleeps.greatest k))) (get_or-set_other sleeps.table s q None None apart)
+    at (Some kept) = ap (λ v. of_live_sleep v (λ k. poll_of (is_kept_ready sleeps.greatest k))) (get_or-set_other sleeps.table s q None None apart)
 
 -- what was removed is gone, and stays so
-pub gone-removed : (sleeps : SleepTable) (s : ℕ) → value_at (removed sleeps s).table s ≡ None
+pub gone-removed : (sleeps : SleepTable) (s : ℕ) → value_at (with_removed_sleep sleeps s).table s ≡ None
 gone-removed sleeps s = at (value_at sleeps.table s) refl
   where
     at : (v : Option Kept) → value_at sleeps.table s ≡ v → value_at (removed_value v sleeps s).table s ≡ None
     at None is = is
     at (Some kept) is = get_or-set_same sleeps.table s None None (given_inside sleeps.table s kept is)
 
-pub stays_gone-removed : (sleeps : SleepTable) (s q : ℕ) → value_at sleeps.table q ≡ None → value_at (removed sleeps s).table q ≡ None
+pub stays_gone-removed : (sleeps : SleepTable) (s q : ℕ) → value_at sleeps.table q ≡ None → value_at (with_removed_sleep sleeps s).table q ≡ None
 stays_gone-removed sleeps s q gone = at (value_at sleeps.table s) refl
   where
     at : (v : Option Kept) → value_at sleeps.table s ≡ v → value_at (removed_value v sleeps s).table q ≡ None
@@ -73,7 +73,7 @@ stays_gone-removed sleeps s q gone = at (value_at sleeps.table s) refl
       | inr apart ↦ get_or-set_other sleeps.table s q None None apart ∙ gone
     ]
 
-pub stays_gone-polled : (sleeps : SleepTable) (s q by : ℕ) → value_at sleeps.table q ≡ None → value_at (polled sleeps s by).table q ≡ None
+pub stays_gone-polled : (sleeps : SleepTable) (s q by : ℕ) → value_at sleeps.table q ≡ None → value_at (with_polled_sleep sleeps s by).table q ≡ None
 stays_gone-polled sleeps s q by gone = at (value_at sleeps.table s) refl
   where
     at : (v : Option Kept) → value_at sleeps.table s ≡ v → value_at (changed_value v sleeps s (polled_kept sleeps.greatest by)).table q ≡ None
@@ -86,4 +86,4 @@ stays_gone-polled sleeps s q by gone = at (value_at sleeps.table s) refl
 -- one after the other
 pub removed-append : (sleeps : SleepTable) (first later : List ℕ) → all_removed sleeps (first ++ later) ≡ all_removed (all_removed sleeps first) later
 removed-append sleeps [] later = refl
-removed-append sleeps (s ∷ first) later = removed-append (removed sleeps s) first later
+removed-append sleeps (s ∷ first) later = removed-append (with_removed_sleep sleeps s) first later

@@ -8,7 +8,7 @@ use Rattle.mono_model.specs.declared.task_error.TaskError.{TaskError}
 use Rattle.mono_model.specs.declared.poll.Poll.{Poll}
 use Rattle.mono_model.specs.declared.poll.Poll.TheVariants.{Ready, Pending}
 use Rattle.mono_task.specs.Members.{FutureOf}
-use Rattle.mono_time.specs.Sleeps.{SleepTable, poll_answer, polled, removed}
+use Rattle.mono_time.specs.Sleeps.{SleepTable, sleep_poll_answer, with_polled_sleep, with_removed_sleep}
 use Rattle.mono_time.specs.Timeouts.{TimeoutPolls, TimeoutCancels, AfterValue, late_answer}
 use Rattle.mono_model.specs.declared.error.Error.{Error}
 use Rattle.mono_time.specs.declared.error.TimeoutError.{TimeoutError}
@@ -61,7 +61,7 @@ module _ {C : Type 0} (number : C → ℕ) (sleeps : C → SleepTable) (work : C
   pub record LimitWaits (t : Limited) (c : C) (r : Poll Answer) (left : Limited) (d : C) : Type 0 where
     pub answer : r ≡ Pending
     pub left_is : left ≡ polled_once t
-    pub sleeps_after : sleeps d ≡ polled (sleeps c) t.delay.number (number c)
+    pub sleeps_after : sleeps d ≡ with_polled_sleep (sleeps c) t.delay.number (number c)
     pub work_after : work d ≡ woken (work c) (number c)
     pub same_number : number d ≡ number c
 
@@ -74,40 +74,40 @@ module _ {C : Type 0} (number : C → ℕ) (sleeps : C → SleepTable) (work : C
       let rest : AfterValue (countdown number sleeps work wakes reaches) number sleeps work reaches Pending t.delay polls.middle r left.delay d = subst (λ k. AfterValue (countdown number sleeps work wakes reaches) number sleeps work reaches k t.delay polls.middle r left.delay d) pending polls.rest in
       let still : sleeps polls.middle ≡ sleeps c = keeps c polls.middle (number c) step.1.woke step.1.wake in
       let num : number polls.middle ≡ number c = same c polls.middle polls.value.reached in
-      let p_is : rest.0 ≡ Pending = pending-call rest.0 (rest.1.answer ∙ ap (λ s. poll_answer s t.delay.number) still ∙ waits.not_due) in
+      let p_is : rest.0 ≡ Pending = pending-call rest.0 (rest.1.answer ∙ ap (λ s. sleep_poll_answer s t.delay.number) still ∙ waits.not_due) in
       record {
         answer = rest.2 ∙ ap late_answer p_is;
         left_is = ap (λ v. timed v left.delay) step.0 ∙ ap (timed (one_fewer t.value)) rest.1.sleep;
-        sleeps_after = rest.1.sleeps_after ∙ ap (λ s. polled s t.delay.number (number polls.middle)) still ∙ ap (λ n. polled (sleeps c) t.delay.number n) num;
+        sleeps_after = rest.1.sleeps_after ∙ ap (λ s. with_polled_sleep s t.delay.number (number polls.middle)) still ∙ ap (λ n. with_polled_sleep (sleeps c) t.delay.number n) num;
         work_after = rest.1.work_after ∙ step.1.work_after;
         same_number = same polls.middle d rest.1.reached ∙ num;
       }
 
-  pub limit_cancels : (t : Limited) (c d : C) → (limited number sleeps work wakes reaches).cancels t c d → (sleeps d ≡ removed (sleeps c) t.delay.number) × (work d ≡ work c) × (number d ≡ number c)
+  pub limit_cancels : (t : Limited) (c d : C) → (limited number sleeps work wakes reaches).cancels t c d → (sleeps d ≡ with_removed_sleep (sleeps c) t.delay.number) × (work d ≡ work c) × (number d ≡ number c)
   limit_cancels t c d gives =
-      (gives.2.sleeps_after ∙ ap (λ m. removed (sleeps m) t.delay.number) gives.1, gives.2.work_after ∙ ap work gives.1, same gives.0 d gives.2.reached ∙ ap number gives.1)
+      (gives.2.sleeps_after ∙ ap (λ m. with_removed_sleep (sleeps m) t.delay.number) gives.1, gives.2.work_after ∙ ap work gives.1, same gives.0 d gives.2.reached ∙ ap number gives.1)
 
   -- a poll of a countdown with no polls left: the value wins, and the delay is given up
   pub limit_ready : (t : Limited) (c : C) (r : Poll Answer) (left : Limited) (d : C) → (limited number sleeps work wakes reaches).polls t c r left d → is_over t.value ≡ true
-      → (r ≡ Ready (Ok t.value.value)) × (left.delay ≡ t.delay) × (sleeps d ≡ removed (sleeps c) t.delay.number) × (number d ≡ number c)
+      → (r ≡ Ready (Ok t.value.value)) × (left.delay ≡ t.delay) × (sleeps d ≡ with_removed_sleep (sleeps c) t.delay.number) × (number d ≡ number c)
   limit_ready t c r left d polls over =
       let ready : polls.answer ≡ Ready t.value.value = polls.value.answer ∙ answer-over t.value over in
       let step : (left.value ≡ answered t.value) × (polls.middle ≡ c) = subst (λ k. OnReady k ((left.value ≡ answered t.value) × (polls.middle ≡ c))) ready polls.value.ends in
       let rest : AfterValue (countdown number sleeps work wakes reaches) number sleeps work reaches (Ready t.value.value) t.delay polls.middle r left.delay d = subst (λ k. AfterValue (countdown number sleeps work wakes reaches) number sleeps work reaches k t.delay polls.middle r left.delay d) ready polls.rest in
-      (rest.0, rest.1, rest.2.sleeps_after ∙ ap (λ m. removed (sleeps m) t.delay.number) step.1, same polls.middle d rest.2.reached ∙ ap number step.1)
+      (rest.0, rest.1, rest.2.sleeps_after ∙ ap (λ m. with_removed_sleep (sleeps m) t.delay.number) step.1, same polls.middle d rest.2.reached ∙ ap number step.1)
 
   -- a poll of a countdown with polls left whose delay is due: the time has elapsed, and the delay stays
   pub limit_late : (t : Limited) (c : C) (r : Poll Answer) (left : Limited) (d : C) → (limited number sleeps work wakes reaches).polls t c r left d → IsLate (sleeps c) t
-      → (r ≡ Ready (Err (Elapsed (record {})))) × (left.delay ≡ t.delay) × (sleeps d ≡ polled (sleeps c) t.delay.number (number c)) × (number d ≡ number c)
+      → (r ≡ Ready (Err (Elapsed (record {})))) × (left.delay ≡ t.delay) × (sleeps d ≡ with_polled_sleep (sleeps c) t.delay.number (number c)) × (number d ≡ number c)
   limit_late t c r left d polls late =
       let pending : polls.answer ≡ Pending = polls.value.answer ∙ answer-counts t.value late.counts in
       let step : (left.value ≡ one_fewer t.value) × WakesItself number work wakes reaches c polls.middle = subst (λ k. OnPending k ((left.value ≡ one_fewer t.value) × WakesItself number work wakes reaches c polls.middle)) pending polls.value.waits in
       let rest : AfterValue (countdown number sleeps work wakes reaches) number sleeps work reaches Pending t.delay polls.middle r left.delay d = subst (λ k. AfterValue (countdown number sleeps work wakes reaches) number sleeps work reaches k t.delay polls.middle r left.delay d) pending polls.rest in
       let still : sleeps polls.middle ≡ sleeps c = keeps c polls.middle (number c) step.1.woke step.1.wake in
       let num : number polls.middle ≡ number c = same c polls.middle polls.value.reached in
-      let p_is : rest.0 ≡ Ready (Ok tt) = ready-call rest.0 (rest.1.answer ∙ ap (λ s. poll_answer s t.delay.number) still ∙ late.due) in (
+      let p_is : rest.0 ≡ Ready (Ok tt) = ready-call rest.0 (rest.1.answer ∙ ap (λ s. sleep_poll_answer s t.delay.number) still ∙ late.due) in (
         rest.2 ∙ ap late_answer p_is,
         rest.1.sleep,
-        rest.1.sleeps_after ∙ ap (λ s. polled s t.delay.number (number polls.middle)) still ∙ ap (λ n. polled (sleeps c) t.delay.number n) num,
+        rest.1.sleeps_after ∙ ap (λ s. with_polled_sleep s t.delay.number (number polls.middle)) still ∙ ap (λ n. with_polled_sleep (sleeps c) t.delay.number n) num,
         same polls.middle d rest.1.reached ∙ num,
       )

@@ -7,7 +7,7 @@ use Rattle.std.proofs.lemmas.List.{get_or_append_left}
 use Rattle.mono_model.specs.Ticks.{up}
 use Rattle.mono_model.specs.Table.{value_at, next_number}
 use Rattle.mono_model.specs.declared.poll.Poll.TheVariants.{Pending}
-use Rattle.mono_time.specs.Sleeps.{Kept, SleepTable, Added, fresh, is_ready_at, of_live, poll_answer, added}
+use Rattle.mono_time.specs.Sleeps.{Kept, SleepTable, Added, fresh, is_kept_ready, of_live_sleep, sleep_poll_answer, with_added_sleep}
 use Rattle.mono_model.specs.SleepAnswers.{poll_of}
 use Rattle.mono_time.specs.Futures.{SleepMade}
 use Rattle.mono_time.specs.declared.sleeps.Sleep.{Sleep}
@@ -20,26 +20,26 @@ use Rattle.mono_nest.specs.Nests.{Limited, Waits, MayBegin}
 use Rattle.mono_nest.specs.declared.by_hand.Countdown.{Countdown}
 
 kept-waits : (old new : SleepTable) → new ≡ old → (t : Limited) → Waits old t → Waits new t
-kept-waits old new same t waits = record { counts = waits.counts; not_due = ap (λ s. poll_answer s t.delay.number) same ∙ waits.not_due }
+kept-waits old new same t waits = record { counts = waits.counts; not_due = ap (λ s. sleep_poll_answer s t.delay.number) same ∙ waits.not_due }
 
-added-waits : (sleeps : SleepTable) (nanos number : ℕ) → number ≡ next_number sleeps.table → sleeps.greatest < up nanos → poll_answer (added sleeps (up nanos)) number ≡ Ok Pending
+added-waits : (sleeps : SleepTable) (nanos number : ℕ) → number ≡ next_number sleeps.table → sleeps.greatest < up nanos → sleep_poll_answer (with_added_sleep sleeps (up nanos)) number ≡ Ok Pending
 added-waits sleeps nanos number is later =
-    ap (λ v. of_live v (λ k. poll_of (is_ready_at sleeps.greatest k)))
+    ap (λ v. of_live_sleep v (λ k. poll_of (is_kept_ready sleeps.greatest k)))
     (ap (value_at (sleeps.table ++ Some (fresh (up nanos)) ∷ [])) is ∙ get_or-append_seam sleeps.table (Some (fresh (up nanos))) [] None)
     ∙ ap (λ b. Ok (poll_of b)) (lt-leb (up nanos) sleeps.greatest later)
 
-pub stays-added : (sleeps : SleepTable) (tick q : ℕ) → poll_answer sleeps q ≡ Ok Pending → poll_answer (added sleeps tick) q ≡ Ok Pending
+pub stays-added : (sleeps : SleepTable) (tick q : ℕ) → sleep_poll_answer sleeps q ≡ Ok Pending → sleep_poll_answer (with_added_sleep sleeps tick) q ≡ Ok Pending
 stays-added sleeps tick q waits = at (value_at sleeps.table q) refl
   where
-    at : (v : Option Kept) → value_at sleeps.table q ≡ v → poll_answer (added sleeps tick) q ≡ Ok Pending
-    at None is = absurd (cc (ap (λ v. of_live v (λ k. poll_of (is_ready_at sleeps.greatest k))) is, waits))
-    at (Some kept) is = ap (λ v. of_live v (λ k. poll_of (is_ready_at sleeps.greatest k))) (get_or_append_left sleeps.table (Some (fresh tick) ∷ []) None q (given_inside sleeps.table q kept is)) ∙ waits
+    at : (v : Option Kept) → value_at sleeps.table q ≡ v → sleep_poll_answer (with_added_sleep sleeps tick) q ≡ Ok Pending
+    at None is = absurd (cc (ap (λ v. of_live_sleep v (λ k. poll_of (is_kept_ready sleeps.greatest k))) is, waits))
+    at (Some kept) is = ap (λ v. of_live_sleep v (λ k. poll_of (is_kept_ready sleeps.greatest k))) (get_or_append_left sleeps.table (Some (fresh tick) ∷ []) None q (given_inside sleeps.table q kept is)) ∙ waits
 
 -- what an addition leaves of the others
 pub others-added : (old new : SleepTable) (nanos : ℕ) (result : Result ℕ SleepError) → Added old nanos result new → (t : Limited) → Waits old t → Waits new t
 others-added old new nanos (Ok number) made t waits = record {
   counts = waits.counts;
-  not_due = ap (λ s. poll_answer s t.delay.number) made.3 ∙ stays-added old (up nanos) t.delay.number waits.not_due;
+  not_due = ap (λ s. sleep_poll_answer s t.delay.number) made.3 ∙ stays-added old (up nanos) t.delay.number waits.not_due;
 }
 others-added old new nanos (Err (Timer Shutdown)) made t waits = kept-waits old new made.1 t waits
 others-added old new nanos (Err (Timer AtCapacity)) made t waits = kept-waits old new made.2 t waits
@@ -63,8 +63,8 @@ greatest-made old new nanos (Ok sleep) made = greatest-added old new nanos (Ok s
 greatest-made old new nanos (Err error) made = greatest-added old new nanos (Err error) made
 
 -- a sleep that was made is not due
-pub waits-made : (old new : SleepTable) (nanos : ℕ) (sleep : Sleep) → SleepMade old nanos (Ok sleep) new → old.greatest < up nanos → poll_answer new sleep.number ≡ Ok Pending
-waits-made old new nanos sleep made later = ap (λ s. poll_answer s sleep.number) made.1.3 ∙ added-waits old nanos sleep.number made.1.2 later
+pub waits-made : (old new : SleepTable) (nanos : ℕ) (sleep : Sleep) → SleepMade old nanos (Ok sleep) new → old.greatest < up nanos → sleep_poll_answer new sleep.number ≡ Ok Pending
+waits-made old new nanos sleep made later = ap (λ s. sleep_poll_answer s sleep.number) made.1.3 ∙ added-waits old nanos sleep.number made.1.2 later
 
 -- a countdown with polls left and a deadline that is not due, as it is made
 pub begins-made : (old new : SleepTable) (nanos left : ℕ) (t : Limited) (f : Countdown) → t.value ≡ f → f.left ≡ left → f.has_answered ≡ false → 0 < left → SleepMade old nanos (Ok t.delay) new → old.greatest < up nanos → MayBegin new t

@@ -10,7 +10,7 @@ use Rattle.mono_model.specs.declared.task_error.TaskError.{TaskError}
 use Rattle.mono_model.specs.declared.poll.Poll.{Poll}
 use Rattle.mono_model.specs.declared.poll.Poll.TheVariants.{Ready, Pending}
 use Rattle.mono_task.specs.Members.{FutureOf}
-use Rattle.mono_time.specs.Sleeps.{SleepTable, poll_answer, polled, removed}
+use Rattle.mono_time.specs.Sleeps.{SleepTable, sleep_poll_answer, with_polled_sleep, with_removed_sleep}
 use Rattle.mono_combine.specs.declared.joins.Join2.{Join2}
 use Rattle.mono_combine.specs.declared.maybe.MaybeDone.{MaybeDone}
 use Rattle.mono_combine.specs.declared.maybe.MaybeDone.TheVariants as maybe
@@ -54,18 +54,18 @@ ready-list (Ready (v, w)) x y e = same v w x y (cc) (cc)
 ready-list Pending x y e = absurd (cc)
 
 -- what is answered of a third delay
-unmoved : (sleeps : SleepTable) (a b q : ℕ) → q ≢ a → q ≢ b → poll_answer (removed (removed (removed sleeps a) a) b) q ≡ poll_answer sleeps q
-unmoved sleeps a b q apart_a apart_b = apart-removed (removed (removed sleeps a) a) b q apart_b ∙ apart-removed (removed sleeps a) a q apart_a ∙ apart-removed sleeps a q apart_a
+unmoved : (sleeps : SleepTable) (a b q : ℕ) → q ≢ a → q ≢ b → sleep_poll_answer (with_removed_sleep (with_removed_sleep (with_removed_sleep sleeps a) a) b) q ≡ sleep_poll_answer sleeps q
+unmoved sleeps a b q apart_a apart_b = apart-removed (with_removed_sleep (with_removed_sleep sleeps a) a) b q apart_b ∙ apart-removed (with_removed_sleep sleeps a) a q apart_a ∙ apart-removed sleeps a q apart_a
 
 -- none of the four is left
 pub end_gone : (sleeps : SleepTable) (a b e f by : ℕ) → (value_at (after_end sleeps a b e f by).table a ≡ None) × (value_at (after_end sleeps a b e f by).table b ≡ None) × (value_at (after_end sleeps a b e f by).table e ≡ None) × (value_at (after_end sleeps a b e f by).table f ≡ None)
 end_gone sleeps a b e f by =
-    let s2 = removed (removed sleeps a) a in
-    let s3 = removed s2 b in
-    let s4 = polled s3 e by in
-    let s5 = polled s4 f by in
-    let s6 = removed s5 f in (
-      stays_gone-removed s6 e a (stays_gone-removed s5 f a (stays_gone-polled s4 f a by (stays_gone-polled s3 e a by (stays_gone-removed s2 b a (gone-removed (removed sleeps a) a))))),
+    let s2 = with_removed_sleep (with_removed_sleep sleeps a) a in
+    let s3 = with_removed_sleep s2 b in
+    let s4 = with_polled_sleep s3 e by in
+    let s5 = with_polled_sleep s4 f by in
+    let s6 = with_removed_sleep s5 f in (
+      stays_gone-removed s6 e a (stays_gone-removed s5 f a (stays_gone-polled s4 f a by (stays_gone-polled s3 e a by (stays_gone-removed s2 b a (gone-removed (with_removed_sleep sleeps a) a))))),
       stays_gone-removed s6 e b (stays_gone-removed s5 f b (stays_gone-polled s4 f b by (stays_gone-polled s3 e b by (gone-removed s2 b)))),
       gone-removed s6 e,
       stays_gone-removed s6 e f (gone-removed s5 f),
@@ -75,11 +75,11 @@ module _ {C : Type 0} (number : C → ℕ) (sleeps : C → SleepTable) (work : C
     (same : (c d : C) → reaches c d → number d ≡ number c) (keeps : (c d : C) (t : ℕ) (w : Result Woke TaskError) → wakes c t w d → sleeps d ≡ sleeps c)
     {G H I J : Type 0} (g : Shared G (Bor Answer × Unit {0}) Bool) (h : Shared H (Bor Answer × Unit {0}) Bool) (i : Shared I (Bor Answer × Unit {0}) Bool) (j : Shared J (Bor Answer × Unit {0}) Bool)
     (first : FutureOf (Select2 Limited Limited G H) C Raced) (second : FutureOf (Select2 Limited Limited I J) C Raced) where
-  waits_later : (a b t : Limited) (c d : C) → sleeps d ≡ polled (polled (sleeps c) a.delay.number (number c)) b.delay.number (number c) → Waits (sleeps c) t → Waits (sleeps d) t
+  waits_later : (a b t : Limited) (c d : C) → sleeps d ≡ with_polled_sleep (with_polled_sleep (sleeps c) a.delay.number (number c)) b.delay.number (number c) → Waits (sleeps c) t → Waits (sleeps d) t
   waits_later a b t c d after waits = record {
     counts = waits.counts;
-    not_due = ap (λ s. poll_answer s t.delay.number) after
-        ∙ still_waits (polled (sleeps c) a.delay.number (number c)) b.delay.number t.delay.number (number c) (still_waits (sleeps c) a.delay.number t.delay.number (number c) waits.not_due);
+    not_due = ap (λ s. sleep_poll_answer s t.delay.number) after
+        ∙ still_waits (with_polled_sleep (sleeps c) a.delay.number (number c)) b.delay.number t.delay.number (number c) (still_waits (sleeps c) a.delay.number t.delay.number (number c) waits.not_due);
   }
 
   pub nest_waits : ((s : Select2 Limited Limited G H) (c : C) (r : Poll Raced) (s' : Select2 Limited Limited G H) (d : C) → first.polls s c r s' d → SelectPolls (limited number sleeps work wakes reaches) (limited number sleeps work wakes reaches) g h s c r s' d)
@@ -93,7 +93,7 @@ module _ {C : Type 0} (number : C → ℕ) (sleeps : C → SleepTable) (work : C
   nest_waits first_is second_is a b e f p q u v c r left d polls wa wb we wf =
       let x = race_waits number sleeps work wakes reaches same keeps g h p q a b c polls.a_polled.answer polls.a_polled.left polls.a_polled.middle (first_is (race_of a b p q) c polls.a_polled.answer polls.a_polled.left polls.a_polled.middle polls.a_polled.polled) wa wb in
       let m = branch_waits first (race_of a b p q) c polls.first polls.middle polls.a_polled x.answer in
-      let after : sleeps polls.middle ≡ polled (polled (sleeps c) a.delay.number (number c)) b.delay.number (number c) = ap sleeps m.1 ∙ x.sleeps_after in
+      let after : sleeps polls.middle ≡ with_polled_sleep (with_polled_sleep (sleeps c) a.delay.number (number c)) b.delay.number (number c) = ap sleeps m.1 ∙ x.sleeps_after in
       let num : number polls.middle ≡ number c = ap number m.1 ∙ x.same_number in
       let y = race_waits number sleeps work wakes reaches same keeps i j u v e f polls.middle polls.b_polled.answer polls.b_polled.left polls.b_polled.middle (second_is (race_of e f u v) polls.middle polls.b_polled.answer polls.b_polled.left polls.b_polled.middle polls.b_polled.polled) (waits_later a b e c polls.middle after we) (waits_later a b f c polls.middle after wf) in
       let n = branch_waits second (race_of e f u v) polls.middle polls.second d polls.b_polled y.answer in
@@ -103,7 +103,7 @@ module _ {C : Type 0} (number : C → ℕ) (sleeps : C → SleepTable) (work : C
       let stays : left ≡ record { a = polls.first; b = polls.second } = subst (λ k. OnPending k (left ≡ record { a = polls.first; b = polls.second })) pending polls.waits in (
         pending,
         stays ∙ rw (first_left, second_left) refl,
-        ap sleeps n.1 ∙ y.sleeps_after ∙ ap (λ k. polled (polled (sleeps polls.middle) e.delay.number k) f.delay.number k) num ∙ ap (λ s. polled (polled s e.delay.number (number c)) f.delay.number (number c)) after,
+        ap sleeps n.1 ∙ y.sleeps_after ∙ ap (λ k. with_polled_sleep (with_polled_sleep (sleeps polls.middle) e.delay.number k) f.delay.number k) num ∙ ap (λ s. with_polled_sleep (with_polled_sleep s e.delay.number (number c)) f.delay.number (number c)) after,
         ap work n.1 ∙ y.work_after ∙ ap (λ k. woken (woken (work polls.middle) k) k) num ∙ ap (λ s. woken (woken s (number c)) (number c)) (ap work m.1 ∙ x.work_after),
       )
 
@@ -122,18 +122,18 @@ module _ {C : Type 0} (number : C → ℕ) (sleeps : C → SleepTable) (work : C
       let m = branch_ends first (race_of a b p q) c polls.first polls.middle polls.a_polled (First (Ok a.value.value)) x.0 in
       let up = race_cancels number sleeps work wakes reaches same keeps polls.a_polled.left polls.a_polled.middle polls.middle (first_up polls.a_polled.left polls.a_polled.middle polls.middle m.0) in
       let none : delays_in_race polls.a_polled.left ≡ [] = ap (λ k. delay_in k ++ delay_in polls.a_polled.left.second) x.1 ∙ ap (λ k. [] ++ delay_in k) x.2 in
-      let after : sleeps polls.middle ≡ removed (removed (removed (sleeps c) a.delay.number) a.delay.number) b.delay.number = up.0 ∙ ap (λ k. all_removed (sleeps polls.a_polled.middle) k) none ∙ x.3 in
+      let after : sleeps polls.middle ≡ with_removed_sleep (with_removed_sleep (with_removed_sleep (sleeps c) a.delay.number) a.delay.number) b.delay.number = up.0 ∙ ap (λ k. all_removed (sleeps polls.a_polled.middle) k) none ∙ x.3 in
       let num : number polls.middle ≡ number c = up.2 ∙ x.4 in
       let y = race_late number sleeps work wakes reaches same keeps i j u v e f polls.middle polls.b_polled.answer polls.b_polled.left polls.b_polled.middle (second_is (race_of e f u v) polls.middle polls.b_polled.answer polls.b_polled.left polls.b_polled.middle polls.b_polled.polled)
-      (record { counts = we.counts; not_due = ap (λ s. poll_answer s e.delay.number) after ∙ unmoved (sleeps c) a.delay.number b.delay.number e.delay.number apart.e_a apart.e_b ∙ we.not_due })
-      (record { counts = lf.counts; due = ap (λ s. poll_answer s f.delay.number) after ∙ unmoved (sleeps c) a.delay.number b.delay.number f.delay.number apart.f_a apart.f_b ∙ lf.due })
+      (record { counts = we.counts; not_due = ap (λ s. sleep_poll_answer s e.delay.number) after ∙ unmoved (sleeps c) a.delay.number b.delay.number e.delay.number apart.e_a apart.e_b ∙ we.not_due })
+      (record { counts = lf.counts; due = ap (λ s. sleep_poll_answer s f.delay.number) after ∙ unmoved (sleeps c) a.delay.number b.delay.number f.delay.number apart.f_a apart.f_b ∙ lf.due })
       apart.f_e passes' in
       let n = branch_ends second (race_of e f u v) polls.middle polls.second d polls.b_polled (Second late) y.0 in
       let up' = race_cancels number sleeps work wakes reaches same keeps polls.b_polled.left polls.b_polled.middle d (second_up polls.b_polled.left polls.b_polled.middle d n.0) in
       let none' : delays_in_race polls.b_polled.left ≡ [] = ap (λ k. delay_in k ++ delay_in polls.b_polled.left.second) y.1 ∙ ap (λ k. [] ++ delay_in k) y.2 in (
         ready-list r (First (Ok a.value.value)) (Second late) (polls.answer ∙ ap (λ k. join_rule (both (output_of k) (output_of polls.second))) m.1 ∙ ap (λ k. join_rule (both (Some (First (Ok a.value.value))) (output_of k))) n.1),
-        up'.0 ∙ ap (λ k. all_removed (sleeps polls.b_polled.middle) k) none' ∙ y.3 ∙ ap (λ k. removed (removed (polled (polled (sleeps polls.middle) e.delay.number k) f.delay.number k) f.delay.number) e.delay.number) num
-            ∙ ap (λ s. removed (removed (polled (polled s e.delay.number (number c)) f.delay.number (number c)) f.delay.number) e.delay.number) after,
+        up'.0 ∙ ap (λ k. all_removed (sleeps polls.b_polled.middle) k) none' ∙ y.3 ∙ ap (λ k. with_removed_sleep (with_removed_sleep (with_polled_sleep (with_polled_sleep (sleeps polls.middle) e.delay.number k) f.delay.number k) f.delay.number) e.delay.number) num
+            ∙ ap (λ s. with_removed_sleep (with_removed_sleep (with_polled_sleep (with_polled_sleep s e.delay.number (number c)) f.delay.number (number c)) f.delay.number) e.delay.number) after,
       )
 
   maybe_cancels : {P Q : Type 0} (future : FutureOf (Select2 Limited Limited P Q) C Raced)

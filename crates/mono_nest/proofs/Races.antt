@@ -9,7 +9,7 @@ use Rattle.mono_model.specs.declared.Woke.{Woke}
 use Rattle.mono_model.specs.declared.task_error.TaskError.{TaskError}
 use Rattle.mono_model.specs.declared.poll.Poll.{Poll}
 use Rattle.mono_model.specs.declared.poll.Poll.TheVariants.{Ready, Pending}
-use Rattle.mono_time.specs.Sleeps.{SleepTable, poll_answer, polled, removed}
+use Rattle.mono_time.specs.Sleeps.{SleepTable, sleep_poll_answer, with_polled_sleep, with_removed_sleep}
 use Rattle.mono_combine.specs.declared.branch.Branch.{Branch}
 use Rattle.mono_combine.specs.declared.branch.Branch.TheVariants.{Live, Out, Gone}
 use Rattle.mono_combine.specs.declared.branch.Look.{Look}
@@ -30,7 +30,7 @@ module _ {C : Type 0} (number : C → ℕ) (sleeps : C → SleepTable) (work : C
   pub record TurnWaits (t : Limited) (c : C) (x : Look Answer) (b : Branch Limited) (d : C) : Type 0 where
     pub look_is : x ≡ look.Waits
     pub left_is : b ≡ Live (polled_once t)
-    pub sleeps_after : sleeps d ≡ polled (sleeps c) t.delay.number (number c)
+    pub sleeps_after : sleeps d ≡ with_polled_sleep (sleeps c) t.delay.number (number c)
     pub work_after : work d ≡ woken (work c) (number c)
     pub same_number : number d ≡ number c
 
@@ -39,7 +39,7 @@ module _ {C : Type 0} (number : C → ℕ) (sleeps : C → SleepTable) (work : C
     pub picked_is : picked ≡ Pending
     pub first_is : t.first ≡ Live (polled_once a)
     pub second_is : t.second ≡ Live (polled_once b)
-    pub sleeps_after : sleeps t.cx ≡ polled (polled (sleeps c) a.delay.number (number c)) b.delay.number (number c)
+    pub sleeps_after : sleeps t.cx ≡ with_polled_sleep (with_polled_sleep (sleeps c) a.delay.number (number c)) b.delay.number (number c)
     pub work_after : work t.cx ≡ woken (woken (work c) (number c)) (number c)
     pub same_number : number t.cx ≡ number c
 
@@ -47,7 +47,7 @@ module _ {C : Type 0} (number : C → ℕ) (sleeps : C → SleepTable) (work : C
   pub record RaceWaits {G H : Type 0} (a b : Limited) (p : G) (q : H) (c : C) (r : Poll (Out2 Answer Answer)) (s : Select2 Limited Limited G H) (d : C) : Type 0 where
     pub answer : r ≡ Pending
     pub left_is : s ≡ race_of (polled_once a) (polled_once b) p q
-    pub sleeps_after : sleeps d ≡ polled (polled (sleeps c) a.delay.number (number c)) b.delay.number (number c)
+    pub sleeps_after : sleeps d ≡ with_polled_sleep (with_polled_sleep (sleeps c) a.delay.number (number c)) b.delay.number (number c)
     pub work_after : work d ≡ woken (woken (work c) (number c)) (number c)
     pub same_number : number d ≡ number c
 
@@ -82,10 +82,10 @@ module _ {C : Type 0} (number : C → ℕ) (sleeps : C → SleepTable) (work : C
         same_number = ap number rest.2 ∙ w.same_number;
       }
 
-  moved : (a b : Limited) (c d : C) → sleeps d ≡ polled (sleeps c) a.delay.number (number c) → Waits (sleeps c) b → Waits (sleeps d) b
+  moved : (a b : Limited) (c d : C) → sleeps d ≡ with_polled_sleep (sleeps c) a.delay.number (number c) → Waits (sleeps c) b → Waits (sleeps d) b
   moved a b c d after waits = record {
     counts = waits.counts;
-    not_due = ap (λ s. poll_answer s b.delay.number) after ∙ still_waits (sleeps c) a.delay.number b.delay.number (number c) waits.not_due;
+    not_due = ap (λ s. sleep_poll_answer s b.delay.number) after ∙ still_waits (sleeps c) a.delay.number b.delay.number (number c) waits.not_due;
   }
 
   module _ {G H : Type 0} (g : Shared G (Bor Answer × Unit {0}) Bool) (h : Shared H (Bor Answer × Unit {0}) Bool) (p : G) (q : H) (a b : Limited) (c : C) where
@@ -111,7 +111,7 @@ module _ {C : Type 0} (number : C → ℕ) (sleeps : C → SleepTable) (work : C
           picked_is = picks;
           first_is = ap (λ s. s.first) last ∙ turns.2.1.1 ∙ first.left_is;
           second_is = ap (λ s. s.second) last ∙ second.left_is;
-          sleeps_after = ap (λ s. sleeps s.cx) last ∙ second.sleeps_after ∙ ap (λ s. polled s b.delay.number (number turns.0.cx)) first.sleeps_after ∙ ap (λ n. polled (polled (sleeps c) a.delay.number (number c)) b.delay.number n) first.same_number;
+          sleeps_after = ap (λ s. sleeps s.cx) last ∙ second.sleeps_after ∙ ap (λ s. with_polled_sleep s b.delay.number (number turns.0.cx)) first.sleeps_after ∙ ap (λ n. with_polled_sleep (with_polled_sleep (sleeps c) a.delay.number (number c)) b.delay.number n) first.same_number;
           work_after = ap (λ s. work s.cx) last ∙ second.work_after ∙ ap (λ s. woken s (number turns.0.cx)) first.work_after ∙ ap (λ n. woken (woken (work c) (number c)) n) first.same_number;
           same_number = ap (λ s. number s.cx) last ∙ second.same_number ∙ first.same_number;
         }
@@ -133,7 +133,7 @@ module _ {C : Type 0} (number : C → ℕ) (sleeps : C → SleepTable) (work : C
   turn_passes : {P : Type 0} (call : Shared P (Bor Answer × Unit {0}) Bool) (test : P) (t : Limited) (b b' : Branch Limited) (c d : C) (x : Look Answer) (w : Answer) (after : SleepTable)
       → b ≡ Live t → HasTurn (limited number sleeps work wakes reaches) call test b c x b' d → Passes call test w
       → ((r : Poll Answer) (left : Limited) (m : C) → (limited number sleeps work wakes reaches).polls t c r left m → (r ≡ Ready w) × (left.delay ≡ t.delay) × (sleeps m ≡ after) × (number m ≡ number c))
-      → (x ≡ look.Passes w) × (b' ≡ Gone) × (sleeps d ≡ removed after t.delay.number) × (number d ≡ number c)
+      → (x ≡ look.Passes w) × (b' ≡ Gone) × (sleeps d ≡ with_removed_sleep after t.delay.number) × (number d ≡ number c)
   turn_passes call test t b b' c d x w after is turn passes answers =
       let turn' : HasTurn (limited number sleeps work wakes reaches) call test (Live t) c x b' d = subst (λ v. HasTurn (limited number sleeps work wakes reaches) call test v c x b' d) is turn in
       let a = answers turn'.answer turn'.left turn'.middle turn'.polled in
@@ -142,7 +142,7 @@ module _ {C : Type 0} (number : C → ℕ) (sleeps : C → SleepTable) (work : C
       let true_is : rest.2.0 ≡ true = passes rest.2.0 rest.2.1 in (
         rest.2.2 ∙ ap (λ v. passes_if v w) true_is,
         rest.1,
-        k.0 ∙ ap (λ s. removed s turn'.left.delay.number) a.2 ∙ ap (λ s. removed after s.number) a.1,
+        k.0 ∙ ap (λ s. with_removed_sleep s turn'.left.delay.number) a.2 ∙ ap (λ s. with_removed_sleep after s.number) a.1,
         k.2 ∙ a.3,
       )
 
@@ -152,15 +152,15 @@ module _ {C : Type 0} (number : C → ℕ) (sleeps : C → SleepTable) (work : C
         → FoldsTo (TurnOf (limited number sleeps work wakes reaches) (limited number sleeps work wakes reaches) g h p q x y) (record { first = Live a; second = Live b; cx = c }) (select_turns (false ∷ false ∷ []) 0 (looks x y)) t
         → picked ≡ without_number (select_rule (false ∷ false ∷ []) 0 (looks x y))
         → is_over a.value ≡ true → Passes g p (Ok a.value.value)
-        → (picked ≡ Ready (Some (First (Ok a.value.value)))) × (t.first ≡ Gone) × (t.second ≡ Live b) × (sleeps t.cx ≡ removed (removed (sleeps c) a.delay.number) a.delay.number) × (number t.cx ≡ number c)
+        → (picked ≡ Ready (Some (First (Ok a.value.value)))) × (t.first ≡ Gone) × (t.second ≡ Live b) × (sleeps t.cx ≡ with_removed_sleep (with_removed_sleep (sleeps c) a.delay.number) a.delay.number) × (number t.cx ≡ number c)
     first_picked look.Waits y picked t turns picks over passes =
-        absurd (passes-waits (Ok a.value.value) look.Waits refl (turn_passes g p a (Live a) turns.0.first c turns.0.cx look.Waits (Ok a.value.value) (removed (sleeps c) a.delay.number) refl turns.1.0 passes
+        absurd (passes-waits (Ok a.value.value) look.Waits refl (turn_passes g p a (Live a) turns.0.first c turns.0.cx look.Waits (Ok a.value.value) (with_removed_sleep (sleeps c) a.delay.number) refl turns.1.0 passes
         (λ r left m polls. limit_ready number sleeps work wakes reaches same keeps a c r left m polls over)).0)
     first_picked look.Rests y picked t turns picks over passes =
-        absurd (passes-rests (Ok a.value.value) look.Rests refl (turn_passes g p a (Live a) turns.0.first c turns.0.cx look.Rests (Ok a.value.value) (removed (sleeps c) a.delay.number) refl turns.1.0 passes
+        absurd (passes-rests (Ok a.value.value) look.Rests refl (turn_passes g p a (Live a) turns.0.first c turns.0.cx look.Rests (Ok a.value.value) (with_removed_sleep (sleeps c) a.delay.number) refl turns.1.0 passes
         (λ r left m polls. limit_ready number sleeps work wakes reaches same keeps a c r left m polls over)).0)
     first_picked (look.Passes v) y picked t turns picks over passes =
-        let k = turn_passes g p a (Live a) turns.0.first c turns.0.cx (look.Passes v) (Ok a.value.value) (removed (sleeps c) a.delay.number) refl turns.1.0 passes
+        let k = turn_passes g p a (Live a) turns.0.first c turns.0.cx (look.Passes v) (Ok a.value.value) (with_removed_sleep (sleeps c) a.delay.number) refl turns.1.0 passes
         (λ r left m polls. limit_ready number sleeps work wakes reaches same keeps a c r left m polls over) in
         let last : t ≡ turns.0 = sym turns.2 in (
           picks ∙ ap (λ w. Ready (Some (First w))) (passes-same (Ok a.value.value) v k.0),
@@ -174,19 +174,19 @@ module _ {C : Type 0} (number : C → ℕ) (sleeps : C → SleepTable) (work : C
     second_turn : (x y : Look Answer) (s t : Seats Limited Limited C)
         → HasTurn (limited number sleeps work wakes reaches) g p (Live a) c x s.first s.cx → s.second ≡ Live b → HasTurn (limited number sleeps work wakes reaches) h q s.second s.cx y t.second t.cx
         → Waits (sleeps c) a → IsLate (sleeps c) b → b.delay.number ≢ a.delay.number → Passes h q late
-        → (y ≡ look.Passes late) × (t.second ≡ Gone) × (sleeps t.cx ≡ removed (polled (polled (sleeps c) a.delay.number (number c)) b.delay.number (number c)) b.delay.number) × (number t.cx ≡ number c)
+        → (y ≡ look.Passes late) × (t.second ≡ Gone) × (sleeps t.cx ≡ with_removed_sleep (with_polled_sleep (with_polled_sleep (sleeps c) a.delay.number (number c)) b.delay.number (number c)) b.delay.number) × (number t.cx ≡ number c)
     second_turn x y s t turn stays turn' wa lb apart passes =
         let first = turn_waits g p a (Live a) s.first c s.cx x refl turn wa in
         let later : IsLate (sleeps s.cx) b = record {
           counts = lb.counts;
-          due = ap (λ v. poll_answer v b.delay.number) first.sleeps_after ∙ apart-polled (sleeps c) a.delay.number b.delay.number (number c) apart ∙ lb.due;
+          due = ap (λ v. sleep_poll_answer v b.delay.number) first.sleeps_after ∙ apart-polled (sleeps c) a.delay.number b.delay.number (number c) apart ∙ lb.due;
         } in
-        let k = turn_passes h q b s.second t.second s.cx t.cx y late (polled (sleeps s.cx) b.delay.number (number s.cx)) stays turn' passes
+        let k = turn_passes h q b s.second t.second s.cx t.cx y late (with_polled_sleep (sleeps s.cx) b.delay.number (number s.cx)) stays turn' passes
         (λ r left m polls. limit_late number sleeps work wakes reaches same keeps b s.cx r left m polls later) in (
           k.0,
           k.1,
-          k.2 ∙ ap (λ v. removed (polled v b.delay.number (number s.cx)) b.delay.number) first.sleeps_after
-              ∙ ap (λ n. removed (polled (polled (sleeps c) a.delay.number (number c)) b.delay.number n) b.delay.number) first.same_number,
+          k.2 ∙ ap (λ v. with_removed_sleep (with_polled_sleep v b.delay.number (number s.cx)) b.delay.number) first.sleeps_after
+              ∙ ap (λ n. with_removed_sleep (with_polled_sleep (with_polled_sleep (sleeps c) a.delay.number (number c)) b.delay.number n) b.delay.number) first.same_number,
           k.3 ∙ first.same_number,
         )
 
@@ -196,7 +196,7 @@ module _ {C : Type 0} (number : C → ℕ) (sleeps : C → SleepTable) (work : C
         → picked ≡ without_number (select_rule (false ∷ false ∷ []) 0 (looks x y))
         → Waits (sleeps c) a → IsLate (sleeps c) b → b.delay.number ≢ a.delay.number → Passes h q late
         → (picked ≡ Ready (Some (Second late))) × (t.first ≡ Live (polled_once a)) × (t.second ≡ Gone)
-        × (sleeps t.cx ≡ removed (polled (polled (sleeps c) a.delay.number (number c)) b.delay.number (number c)) b.delay.number) × (number t.cx ≡ number c)
+        × (sleeps t.cx ≡ with_removed_sleep (with_polled_sleep (with_polled_sleep (sleeps c) a.delay.number (number c)) b.delay.number (number c)) b.delay.number) × (number t.cx ≡ number c)
     second_picked (look.Passes v) y picked t turns picks wa lb apart passes =
         absurd (waits-passes v (turn_waits g p a (Live a) turns.0.first c turns.0.cx (look.Passes v) refl turns.1.0 wa).look_is)
     second_picked look.Rests y picked t turns picks wa lb apart passes =
@@ -218,7 +218,7 @@ module _ {C : Type 0} (number : C → ℕ) (sleeps : C → SleepTable) (work : C
 
     pub race_first : (r : Poll (Out2 Answer Answer)) (s : Select2 Limited Limited G H) (d : C) → SelectPolls (limited number sleeps work wakes reaches) (limited number sleeps work wakes reaches) g h (race_of a b p q) c r s d
         → is_over a.value ≡ true → Passes g p (Ok a.value.value)
-        → (r ≡ Ready (First (Ok a.value.value))) × (s.first ≡ Gone) × (s.second ≡ Gone) × (sleeps d ≡ removed (removed (removed (sleeps c) a.delay.number) a.delay.number) b.delay.number) × (number d ≡ number c)
+        → (r ≡ Ready (First (Ok a.value.value))) × (s.first ≡ Gone) × (s.second ≡ Gone) × (sleeps d ≡ with_removed_sleep (with_removed_sleep (with_removed_sleep (sleeps c) a.delay.number) a.delay.number) b.delay.number) × (number d ≡ number c)
     race_first r s d polls over passes =
         let k = first_picked polls.selects.x polls.selects.y polls.picked polls.left polls.selects.turns polls.selects.picks over passes in
         let ends : SelectEnds (limited number sleeps work wakes reaches) (limited number sleeps work wakes reaches) (Ready (Some (First (Ok a.value.value)))) polls.left (race_of a b p q) r s d = subst (λ v. SelectEnds (limited number sleeps work wakes reaches) (limited number sleeps work wakes reaches) v polls.left (race_of a b p q) r s d) k.0 polls.ends in
@@ -227,13 +227,13 @@ module _ {C : Type 0} (number : C → ℕ) (sleeps : C → SleepTable) (work : C
           ends.0,
           ap (λ v. v.first) ends.1,
           ap (λ v. v.second) ends.1,
-          up.0 ∙ ap (λ m. removed (sleeps m) b.delay.number) gone ∙ ap (λ v. removed v b.delay.number) k.3,
+          up.0 ∙ ap (λ m. with_removed_sleep (sleeps m) b.delay.number) gone ∙ ap (λ v. with_removed_sleep v b.delay.number) k.3,
           up.2 ∙ ap number gone ∙ k.4,
         )
 
     pub race_late : (r : Poll (Out2 Answer Answer)) (s : Select2 Limited Limited G H) (d : C) → SelectPolls (limited number sleeps work wakes reaches) (limited number sleeps work wakes reaches) g h (race_of a b p q) c r s d
         → Waits (sleeps c) a → IsLate (sleeps c) b → b.delay.number ≢ a.delay.number → Passes h q late
-        → (r ≡ Ready (Second late)) × (s.first ≡ Gone) × (s.second ≡ Gone) × (sleeps d ≡ removed (removed (polled (polled (sleeps c) a.delay.number (number c)) b.delay.number (number c)) b.delay.number) a.delay.number) × (number d ≡ number c)
+        → (r ≡ Ready (Second late)) × (s.first ≡ Gone) × (s.second ≡ Gone) × (sleeps d ≡ with_removed_sleep (with_removed_sleep (with_polled_sleep (with_polled_sleep (sleeps c) a.delay.number (number c)) b.delay.number (number c)) b.delay.number) a.delay.number) × (number d ≡ number c)
     race_late r s d polls wa lb apart passes =
         let k = second_picked polls.selects.x polls.selects.y polls.picked polls.left polls.selects.turns polls.selects.picks wa lb apart passes in
         let ends : SelectEnds (limited number sleeps work wakes reaches) (limited number sleeps work wakes reaches) (Ready (Some (Second late))) polls.left (race_of a b p q) r s d = subst (λ v. SelectEnds (limited number sleeps work wakes reaches) (limited number sleeps work wakes reaches) v polls.left (race_of a b p q) r s d) k.0 polls.ends in
@@ -242,7 +242,7 @@ module _ {C : Type 0} (number : C → ℕ) (sleeps : C → SleepTable) (work : C
           ends.0,
           ap (λ v. v.first) ends.1,
           ap (λ v. v.second) ends.1,
-          ap sleeps gone ∙ up.0 ∙ ap (λ v. removed v a.delay.number) k.3,
+          ap sleeps gone ∙ up.0 ∙ ap (λ v. with_removed_sleep v a.delay.number) k.3,
           ap number gone ∙ up.2 ∙ k.4,
         )
 

@@ -3,7 +3,7 @@ use Rattle.std.specs.Prelude.{◌≡◌, ◌≢◌, ℕ, Bool, true, false, List
 use Rattle.std.specs.Fn.{Shared, FnReturnsAt}
 use denote.Ref.{Bor}
 use Rattle.mono_model.specs.declared.poll.Poll.TheVariants.{Ready, Pending}
-use Rattle.mono_time.specs.Sleeps.{SleepTable, poll_answer, polled, removed}
+use Rattle.mono_time.specs.Sleeps.{SleepTable, sleep_poll_answer, with_polled_sleep, with_removed_sleep}
 use Rattle.mono_model.specs.Table.{value_at}
 use Rattle.mono_time.specs.declared.timeouts.Timeout.{Timeout}
 use Rattle.mono_time.specs.declared.error.TimeoutError.{TimeoutError}
@@ -33,7 +33,7 @@ nest_of a b = record { a = maybe.Future a; b = maybe.Future b }
 -- polls of the countdown are left, and the delay is not due
 pub record Waits (sleeps : SleepTable) (t : Limited) : Type 0 where
   pub counts : is_over t.value ≡ false
-  pub not_due : poll_answer sleeps t.delay.number ≡ Ok Pending
+  pub not_due : sleep_poll_answer sleeps t.delay.number ≡ Ok Pending
 
 -- it has not answered, and waits
 abbrev pub MayBegin : SleepTable → Limited → Type 0
@@ -42,7 +42,7 @@ MayBegin sleeps t = (t.value.has_answered ≡ false) × Waits sleeps t
 -- polls of the countdown are left, and the delay is due
 pub record IsLate (sleeps : SleepTable) (t : Limited) : Type 0 where
   pub counts : is_over t.value ≡ false
-  pub due : poll_answer sleeps t.delay.number ≡ Ok (Ready tt)
+  pub due : sleep_poll_answer sleeps t.delay.number ≡ Ok (Ready tt)
 
 -- what a countdown answers whose time has elapsed
 abbrev pub late : Result ℕ TimeoutError
@@ -71,11 +71,11 @@ polled_once t = record { value = one_fewer t.value; delay = t.delay }
 -- the sleeps after one poll of each of these by the task, and after each was given up, in order
 abbrev pub all_polled : SleepTable → List ℕ → ℕ → SleepTable
 all_polled sleeps [] by = sleeps
-all_polled sleeps (s ∷ later) by = all_polled (polled sleeps s by) later by
+all_polled sleeps (s ∷ later) by = all_polled (with_polled_sleep sleeps s by) later by
 
 abbrev pub all_removed : SleepTable → List ℕ → SleepTable
 all_removed sleeps [] = sleeps
-all_removed sleeps (s ∷ later) = all_removed (removed sleeps s) later
+all_removed sleeps (s ∷ later) = all_removed (with_removed_sleep sleeps s) later
 
 -- The sleeps after the first race was won by its first value, and the second by the time of its second: the delay of each
 -- value that was ready is given up by its timeout, that of each branch that was ready or late by its select, and then that

@@ -6,7 +6,7 @@ ghost use Rattle.mono_model.specs.Joins.{wake_answer, join_answer, joined, drop_
 ghost use Rattle.mono_task.specs.Schedule as schedule;
 ghost use Rattle.mono_time.specs.Instants.{nanos_of};
 ghost use Rattle.mono_model.specs.SleepAnswers.{without_waker, waker_in};
-ghost use Rattle.mono_time.specs.Sleeps.{Added, poll_answer, polled, reset_answer, reset, remove_answer, removed};
+ghost use Rattle.mono_time.specs.Sleeps.{Added, sleep_poll_answer, with_polled_sleep, sleep_reset_answer, with_reset_sleep, sleep_remove_answer, with_removed_sleep};
 ghost use Rattle.mono_time.specs.Timers.{sleeps_of};
 ghost use Rattle.mono_model.specs.declared.error.SleepError.TheVariants.{Memory};
 ghost use Rattle.mono_machine.specs.JoinCalls as replies;
@@ -141,8 +141,8 @@ impl<O: Outcome + Drop, B: Drop> Parts<O, B> {
 
     /// Polls a sleep, for the running task.
     pub fn poll_sleep(&mut self, sleep: u64) -> Result<Poll<()>, Error>
-        ensures answer { result ≡ poll_answer (sleeps_of self.old.timers) sleep }
-        ensures sleeps { sleeps_of self.new.timers ≡ polled (sleeps_of self.old.timers) sleep self.old.me }
+        ensures answer { result ≡ sleep_poll_answer (sleeps_of self.old.timers) sleep }
+        ensures sleeps { sleeps_of self.new.timers ≡ with_polled_sleep (sleeps_of self.old.timers) sleep self.old.me }
         ensures tasks { self.new.tasks ≡ self.old.tasks }
         ensures leads { (hosting : B → Hosting) → Leads O.output_number hosting self.old self.new }
     {
@@ -155,8 +155,8 @@ impl<O: Outcome + Drop, B: Drop> Parts<O, B> {
 
     /// Gives a sleep up.
     pub fn drop_sleep(&mut self, sleep: u64) -> Result<(), Error>
-        ensures answer { result ≡ remove_answer (sleeps_of self.old.timers) sleep }
-        ensures sleeps { sleeps_of self.new.timers ≡ removed (sleeps_of self.old.timers) sleep }
+        ensures answer { result ≡ sleep_remove_answer (sleeps_of self.old.timers) sleep }
+        ensures sleeps { sleeps_of self.new.timers ≡ with_removed_sleep (sleeps_of self.old.timers) sleep }
         ensures tasks { self.new.tasks ≡ self.old.tasks }
         ensures leads { (hosting : B → Hosting) → Leads O.output_number hosting self.old self.new }
     {
@@ -169,9 +169,9 @@ impl<O: Outcome + Drop, B: Drop> Parts<O, B> {
 
     /// Arms a sleep anew.
     pub fn reset_sleep(&mut self, sleep: u64, deadline: Instant) -> Result<(), Error>
-        ensures answer { result ≡ without_waker (reset_answer (sleeps_of self.old.timers) sleep (nanos_of deadline)) }
-        ensures sleeps { sleeps_of self.new.timers ≡ reset (sleeps_of self.old.timers) sleep (nanos_of deadline) }
-        ensures tasks { self.new.tasks ≡ schedule.with_tasks self.old.tasks (woken_if_any self.old.tasks.tasks (waker_in (reset_answer (sleeps_of self.old.timers) sleep (nanos_of deadline)))) }
+        ensures answer { result ≡ without_waker (sleep_reset_answer (sleeps_of self.old.timers) sleep (nanos_of deadline)) }
+        ensures sleeps { sleeps_of self.new.timers ≡ with_reset_sleep (sleeps_of self.old.timers) sleep (nanos_of deadline) }
+        ensures tasks { self.new.tasks ≡ schedule.with_tasks self.old.tasks (woken_if_any self.old.tasks.tasks (waker_in (sleep_reset_answer (sleeps_of self.old.timers) sleep (nanos_of deadline)))) }
         ensures leads { (hosting : B → Hosting) → Leads O.output_number hosting self.old self.new }
     {
         self.timers.registers_armed();

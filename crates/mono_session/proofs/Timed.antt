@@ -12,7 +12,7 @@ use Rattle.mono_model.specs.Table.{Table, value_at, next_number, with_next, coun
 use Rattle.mono_model.specs.declared.error.SleepError.{SleepError}
 use Rattle.mono_model.specs.declared.error.SleepError.TheVariants as why
 use Rattle.mono_model.specs.declared.error.Error.TheVariants as cause
-use Rattle.mono_time.specs.Sleeps.{SleepTable, Added, added, armed, fresh, elapsed, with_table, at_tick, changed_value, removed, removed_value, fired, waker_of}
+use Rattle.mono_time.specs.Sleeps.{SleepTable, Added, with_added_sleep, armed, fresh, elapsed, with_table, at_tick, changed_value, with_removed_sleep, removed_value, with_fired_sleep, kept_waker}
 use Rattle.mono_time.specs.Timers.{sleeps_of, elapsed_tick}
 use Rattle.mono_session.specs.Keeper.{Session, Keeper, closing_tick, last_tick, with_sessions, with_greatest, without_session, if_granted, is_open, open_answer, opened, beat_answer, beaten, beaten_value, close_answer, closed}
 use Rattle.mono_session.specs.Memory.{OrLacksMemory}
@@ -24,14 +24,14 @@ use Rattle.mono_session.specs.declared.keeper.Sessions.{Sessions}
 use Rattle.mono_session.proofs.Closing.{value_before, value_last, value_past, given, open_timely, beat_timely, close_timely}
 
 -- ---- a sleep that is armed as it is made
-pub arms : (old mid new : SleepTable) (nanos-tick s : ℕ) → is_full old.table old.limit ≡ false → s ≡ next_number old.table → mid ≡ added old nanos-tick
-    → new ≡ changed_value (value_at mid.table s) mid s (λ kept. at_tick mid.greatest nanos-tick (waker_of kept)) → Arms old nanos-tick (Ok s) new
+pub arms : (old mid new : SleepTable) (nanos-tick s : ℕ) → is_full old.table old.limit ≡ false → s ≡ next_number old.table → mid ≡ with_added_sleep old nanos-tick
+    → new ≡ changed_value (value_at mid.table s) mid s (λ kept. at_tick mid.greatest nanos-tick (kept_waker kept)) → Arms old nanos-tick (Ok s) new
 arms old mid new tick s full number is e = (
   full,
   number,
-  e ∙ ap (λ m. changed_value (value_at m.table s) m s (λ kept. at_tick m.greatest tick (waker_of kept))) is
-      ∙ ap (λ q. changed_value (value_at (with_next old.table (fresh tick)) q) (added old tick) q (λ kept. at_tick old.greatest tick (waker_of kept))) number
-      ∙ ap (λ v. changed_value v (added old tick) (length old.table) (λ kept. at_tick old.greatest tick (waker_of kept))) (value_last old.table (fresh tick))
+  e ∙ ap (λ m. changed_value (value_at m.table s) m s (λ kept. at_tick m.greatest tick (kept_waker kept))) is
+      ∙ ap (λ q. changed_value (value_at (with_next old.table (fresh tick)) q) (with_added_sleep old tick) q (λ kept. at_tick old.greatest tick (kept_waker kept))) number
+      ∙ ap (λ v. changed_value v (with_added_sleep old tick) (length old.table) (λ kept. at_tick old.greatest tick (kept_waker kept))) (value_last old.table (fresh tick))
       ∙ ap (with_table old) (set-append_seam old.table (Some (fresh tick)) [] (Some (at_tick old.greatest tick None))),
 )
 
@@ -57,20 +57,20 @@ above g tick less = ap (λ b. cond b elapsed (armed tick None)) (by (leb_tells t
     by (inl t) = absurd (omega (arith, less, t.1))
     by (inr t) = t.0
 
-pub sleep_removed : (k : Keeper) (s : ℕ) (session : Session) → value_at k.sessions s ≡ Some session → removed (sleeps_from k) s ≡ sleeps_from (without_session k s)
+pub sleep_removed : (k : Keeper) (s : ℕ) (session : Session) → value_at k.sessions s ≡ Some session → with_removed_sleep (sleeps_from k) s ≡ sleeps_from (without_session k s)
 sleep_removed k s session at =
     ap (λ v. removed_value v (sleeps_from k) s) (value-map k.sessions s ∙ ap sleep_of at)
     ∙ ap (with_table (sleeps_from k)) (sym (map-set sleep_of k.sessions s None))
 
-pub sleep_closed : (k : Keeper) (s : ℕ) → s < length k.sessions → removed (fired (sleeps_from k) s) s ≡ sleeps_from (without_session k s)
+pub sleep_closed : (k : Keeper) (s : ℕ) → s < length k.sessions → with_removed_sleep (with_fired_sleep (sleeps_from k) s) s ≡ sleeps_from (without_session k s)
 sleep_closed k s inside =
-    ap (λ v. removed_value v (fired (sleeps_from k) s) s) (get_or-set_same (map sleep_of k.sessions) s (Some elapsed) None (omega (arith, inside, length-map k.sessions sleep_of)))
+    ap (λ v. removed_value v (with_fired_sleep (sleeps_from k) s) s) (get_or-set_same (map sleep_of k.sessions) s (Some elapsed) None (omega (arith, inside, length-map k.sessions sleep_of)))
     ∙ ap (with_table (sleeps_from k)) (set-set (map sleep_of k.sessions) s (Some elapsed) None ∙ sym (map-set sleep_of k.sessions s None))
 
 sleep_beaten : (k : Keeper) (s tick : ℕ) (session : Session) → value_at k.sessions s ≡ Some session → tick ≡ k.greatest + session.limit → k.greatest < tick
-    → changed_value (value_at (map sleep_of k.sessions) s) (sleeps_from k) s (λ kept. at_tick k.greatest tick (waker_of kept)) ≡ sleeps_from (beaten_value (Some session) k s)
+    → changed_value (value_at (map sleep_of k.sessions) s) (sleeps_from k) s (λ kept. at_tick k.greatest tick (kept_waker kept)) ≡ sleeps_from (beaten_value (Some session) k s)
 sleep_beaten k s tick session at is less =
-    ap (λ v. changed_value v (sleeps_from k) s (λ kept. at_tick k.greatest tick (waker_of kept))) (value-map k.sessions s ∙ ap sleep_of at)
+    ap (λ v. changed_value v (sleeps_from k) s (λ kept. at_tick k.greatest tick (kept_waker kept))) (value-map k.sessions s ∙ ap sleep_of at)
     ∙ ap (λ kept. with_table (sleeps_from k) (set (map sleep_of k.sessions) s (Some kept))) (above k.greatest tick less ∙ ap (λ t. armed t None) is)
     ∙ ap (with_table (sleeps_from k)) (sym (map-set sleep_of k.sessions s (Some record { last_beat = k.greatest; limit = session.limit })))
 
@@ -178,7 +178,7 @@ opens old new k limit session tick stands full late none armed-so is limits coun
 
 -- ---- beat
 pub beats : (old new : Sessions) (k : Keeper) (s limit tick : ℕ) → StandsFor old k → get nat_eq old.limits s ≡ Some limit → nat_lt last_tick (k.greatest + limit) ≡ false → tick ≡ k.greatest + limit
-    → sleeps_of new.timers ≡ changed_value (value_at (sleeps_of old.timers).table s) (sleeps_of old.timers) s (λ kept. at_tick (sleeps_of old.timers).greatest tick (waker_of kept))
+    → sleeps_of new.timers ≡ changed_value (value_at (sleeps_of old.timers).table s) (sleeps_of old.timers) s (λ kept. at_tick (sleeps_of old.timers).greatest tick (kept_waker kept))
     → new.limits ≡ old.limits → new.entries ≡ old.entries → new.most_entries ≡ old.most_entries → elapsed_tick new.timers ≡ elapsed_tick old.timers
     → (Ok tt ≡ beat_answer k s) × StandsFor new (beaten k s)
 beats old new k s limit tick stands at late is sleeps limits entries most rests = by (value_at k.sessions s) refl (sym at ∙ stands.matches.beside.limits s)
@@ -194,7 +194,7 @@ beats old new k s limit tick stands at late is sleeps limits entries most rests 
           sym told,
           subst (StandsFor new) (sym granted) (record {
             matches = record {
-              sleeps = sleeps ∙ ap (λ sl. changed_value (value_at sl.table s) sl s (λ kept. at_tick sl.greatest tick (waker_of kept))) stands.matches.sleeps
+              sleeps = sleeps ∙ ap (λ sl. changed_value (value_at sl.table s) sl s (λ kept. at_tick sl.greatest tick (kept_waker kept))) stands.matches.sleeps
                   ∙ sleep_beaten k s tick session here (is ∙ ap (λ n. k.greatest + n) same) above-now;
               beside = record {
                 limits = λ q. ap (λ m. get nat_eq m q) limits ∙ stands.matches.beside.limits q ∙ stays q session here;
@@ -216,7 +216,7 @@ beats old new k s limit tick stands at late is sleeps limits entries most rests 
         ]
 
 -- ---- close
-pub closes : (old new : Sessions) (k : Keeper) (s : ℕ) → StandsFor old k → is_some (get nat_eq old.limits s) ≡ true → sleeps_of new.timers ≡ removed (sleeps_of old.timers) s → Beside new (without_session k s) → elapsed_tick new.timers ≡ elapsed_tick old.timers
+pub closes : (old new : Sessions) (k : Keeper) (s : ℕ) → StandsFor old k → is_some (get nat_eq old.limits s) ≡ true → sleeps_of new.timers ≡ with_removed_sleep (sleeps_of old.timers) s → Beside new (without_session k s) → elapsed_tick new.timers ≡ elapsed_tick old.timers
     → (Ok tt ≡ close_answer k s) × StandsFor new (closed k s)
 closes old new k s stands at sleeps beside rests = by (value_at k.sessions s) refl (sym at ∙ ap is_some (stands.matches.beside.limits s))
   where
@@ -226,7 +226,7 @@ closes old new k s stands at sleeps beside rests = by (value_at k.sessions s) re
         let told : close_answer k s ≡ Ok tt = ap (λ v. Rattle.mono_session.specs.Keeper.of_open v (λ x. Ok tt)) here in (
           sym told,
           subst (StandsFor new) (sym (granted-by (close_answer k s) tt k (without_session k s) told)) (record {
-            matches = record { sleeps = sleeps ∙ ap (λ sl. removed sl s) stands.matches.sleeps ∙ sleep_removed k s session here; beside = beside };
+            matches = record { sleeps = sleeps ∙ ap (λ sl. with_removed_sleep sl s) stands.matches.sleeps ∙ sleep_removed k s session here; beside = beside };
             timely = close_timely k s stands.timely;
             rests = rests ∙ stands.rests;
           }),

@@ -3,7 +3,7 @@ ghost use Rattle.std.specs.Prelude.{◌≡◌, ◌≤◌, ◌+◌, ◌++◌, ◌
 ghost use Rattle.mono_model.specs.Due.{ListsDue};
 ghost use Rattle.mono_model.specs.Table.{value_at, count_of};
 ghost use Rattle.mono_time.specs.Instants.{nanos_of};
-ghost use Rattle.mono_time.specs.Sleeps.{removed};
+ghost use Rattle.mono_time.specs.Sleeps.{with_removed_sleep};
 ghost use Rattle.mono_time.specs.Timers.{sleeps_of, elapsed_tick};
 ghost use Rattle.mono_wheel.specs.Credit.{most_takes};
 ghost use Rattle.mono_session.specs.Keeper.{Keeper, Session, no_sessions, is_open, open_answer, opened, beat_answer, beaten, close_answer, closed, acquire_answer, acquired, release_answer, released, owner_answer, with_greatest, without_session};
@@ -126,7 +126,7 @@ impl Sessions {
     // The session is not open any more. The answer says whether it was.
     fn forget(&mut self, session: u64) -> bool
         ensures was { (k : Keeper) → Beside self.old k → result ≡ is_open k session }
-        ensures sleeps { sleeps_of self.new.timers ≡ removed (sleeps_of self.old.timers) session }
+        ensures sleeps { sleeps_of self.new.timers ≡ with_removed_sleep (sleeps_of self.old.timers) session }
         ensures beside { (k : Keeper) → Beside self.old k → Beside self.new (without_session k session) }
         ensures count { open_count self.new + (if result then 1 else 0) ≡ open_count self.old }
         ensures elapsed { elapsed_tick self.new.timers ≡ elapsed_tick self.old.timers }
@@ -213,7 +213,7 @@ impl Sessions {
         requires { vec_len closed.old + open_count self.old ≤ vec_capacity closed.old }
         ensures room { vec_len closed.new + open_count self.new ≤ vec_capacity closed.new }
         ensures listed { (k : Keeper) → Beside self.old k → is_open k session ≡ true → closed.new.items ≡ closed.old.items ++ session ∷ [] }
-        ensures sleeps { sleeps_of self.new.timers ≡ removed (sleeps_of self.old.timers) session }
+        ensures sleeps { sleeps_of self.new.timers ≡ with_removed_sleep (sleeps_of self.old.timers) session }
         ensures beside { (k : Keeper) → Beside self.old k → Beside self.new (without_session k session) }
         ensures raise { steps_left self.new ≤ steps_left self.old }
     {

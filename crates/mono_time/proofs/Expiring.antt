@@ -3,7 +3,7 @@ use Rattle.std.proofs.Common.{◌≡◌, ◌++◌, ◌∷◌, [], ℕ, List, Som
 use Rattle.mono_model.specs.Ticks.{down}
 use Rattle.mono_model.specs.Sleeps.{Sleeps, with_greatest}
 use Rattle.mono_model.specs.SleepActs as machine
-use Rattle.mono_time.specs.Sleeps.{SleepTable, fired, at_clock, IsNoneArmedUpTo, IsFiredFirst}
+use Rattle.mono_time.specs.Sleeps.{SleepTable, with_fired_sleep, at_clock_tick, IsNoneArmedUpTo, IsFiredFirst}
 use Rattle.mono_time.specs.Stands.{StandsForSleeps}
 use Rattle.mono_time.specs.Timers.{sleeps_of}
 use Rattle.mono_time.specs.Firing.{FireEach, MachineFires, FiredAll}
@@ -13,7 +13,7 @@ use Rattle.mono_time.specs.declared.timers.Timers.{Timers}
 pub record SoFar (old now : Timers) (nanos : ℕ) (before after : List (ℕ × Option ℕ)) : Type 0 where
   pub all : List (ℕ × Option ℕ)
   pub behind : after ≡ before ++ all
-  pub fires : (more : List (ℕ × Option ℕ)) (left : SleepTable) → FireEach (at_clock (sleeps_of now) nanos) more left → FireEach (at_clock (sleeps_of old) nanos) (all ++ more) left
+  pub fires : (more : List (ℕ × Option ℕ)) (left : SleepTable) → FireEach (at_clock_tick (sleeps_of now) nanos) more left → FireEach (at_clock_tick (sleeps_of old) nanos) (all ++ more) left
   pub stands : (m : Sleeps) → StandsForSleeps old m → (here : Sleeps) × StandsForSleeps now here
       × ((more : List (ℕ × Option ℕ)) (left : Sleeps) → MachineFires (machine.at_clock here nanos) more left → MachineFires (machine.at_clock m nanos) (all ++ more) left)
 
@@ -21,8 +21,8 @@ max_again : (g d : ℕ) → max (max g d) d ≡ max g d
 max_again g d = omega arith
 
 -- a clock that shows the same again
-same_table : (sleeps : SleepTable) (n s : ℕ) → at_clock (fired (at_clock sleeps n) s) n ≡ fired (at_clock sleeps n) s
-same_table sleeps n s = ap (λ g. record (fired (at_clock sleeps n) s) { greatest = g }) (max_again sleeps.greatest (down n))
+same_table : (sleeps : SleepTable) (n s : ℕ) → at_clock_tick (with_fired_sleep (at_clock_tick sleeps n) s) n ≡ with_fired_sleep (at_clock_tick sleeps n) s
+same_table sleeps n s = ap (λ g. record (with_fired_sleep (at_clock_tick sleeps n) s) { greatest = g }) (max_again sleeps.greatest (down n))
 
 same_machine : (sleeps : Sleeps) (n s : ℕ) → machine.at_clock (machine.fired (machine.at_clock sleeps n) s) n ≡ machine.fired (machine.at_clock sleeps n) s
 same_machine sleeps n s = ap (with_greatest (machine.fired (machine.at_clock sleeps n) s)) (max_again sleeps.greatest (down n))
@@ -36,14 +36,14 @@ so-far old nanos before = record {
 }
 
 module _ (old now next : Timers) (nanos : ℕ) (before after : List (ℕ × Option ℕ)) (so : SoFar old now nanos before after) where
-  pub one-more : (one : ℕ × Option ℕ) (after2 : List (ℕ × Option ℕ)) → after2 ≡ after ++ one ∷ [] → IsFiredFirst (at_clock (sleeps_of now) nanos) one.0 one.1 → sleeps_of next ≡ fired (at_clock (sleeps_of now) nanos) one.0
+  pub one-more : (one : ℕ × Option ℕ) (after2 : List (ℕ × Option ℕ)) → after2 ≡ after ++ one ∷ [] → IsFiredFirst (at_clock_tick (sleeps_of now) nanos) one.0 one.1 → sleeps_of next ≡ with_fired_sleep (at_clock_tick (sleeps_of now) nanos) one.0
       → ((m : Sleeps) → StandsForSleeps now m → machine.Fires (machine.at_clock m nanos) (Some one) (StandsForSleeps next)) → SoFar old next nanos before after2
   one-more one after2 pushed first is stands = record {
     all = so.all ++ one ∷ [];
     behind = pushed ∙ ap (λ xs. xs ++ one ∷ []) so.behind ∙ append_assoc before so.all (one ∷ []);
     fires = λ more left f.
-        let again : at_clock (sleeps_of next) nanos ≡ fired (at_clock (sleeps_of now) nanos) one.0 = ap (λ t. at_clock t nanos) is ∙ same_table (sleeps_of now) nanos one.0 in
-        subst (λ xs. FireEach (at_clock (sleeps_of old) nanos) xs left) (sym (append_assoc so.all (one ∷ []) more))
+        let again : at_clock_tick (sleeps_of next) nanos ≡ with_fired_sleep (at_clock_tick (sleeps_of now) nanos) one.0 = ap (λ t. at_clock_tick t nanos) is ∙ same_table (sleeps_of now) nanos one.0 in
+        subst (λ xs. FireEach (at_clock_tick (sleeps_of old) nanos) xs left) (sym (append_assoc so.all (one ∷ []) more))
         (so.fires (one ∷ more) left (first, subst (λ t. FireEach t more left) again f));
     stands = λ m st.
         let before = so.stands m st in
@@ -56,11 +56,11 @@ module _ (old now next : Timers) (nanos : ℕ) (before after : List (ℕ × Opti
         );
   }
 
-  pub all-fired : IsNoneArmedUpTo (at_clock (sleeps_of now) nanos) → sleeps_of next ≡ at_clock (sleeps_of now) nanos → ((m : Sleeps) → StandsForSleeps now m → machine.Fires (machine.at_clock m nanos) None (StandsForSleeps next)) → FiredAll old next nanos before after
+  pub all-fired : IsNoneArmedUpTo (at_clock_tick (sleeps_of now) nanos) → sleeps_of next ≡ at_clock_tick (sleeps_of now) nanos → ((m : Sleeps) → StandsForSleeps now m → machine.Fires (machine.at_clock m nanos) None (StandsForSleeps next)) → FiredAll old next nanos before after
   all-fired none is stands = record {
     all = so.all;
     behind = so.behind;
-    fires = subst (λ xs. FireEach (at_clock (sleeps_of old) nanos) xs (sleeps_of next)) (append-nil so.all) (so.fires [] (sleeps_of next) (none, is));
+    fires = subst (λ xs. FireEach (at_clock_tick (sleeps_of old) nanos) xs (sleeps_of next)) (append-nil so.all) (so.fires [] (sleeps_of next) (none, is));
     stands = λ m st.
         let before = so.stands m st in
         let last = stands before.0 before.1 in (

@@ -7,7 +7,7 @@ use Rattle.mono_model.specs.Table.{Table, value_at}
 use Rattle.mono_model.specs.Sleeps as model
 use Rattle.mono_model.specs.Sleeps.{Sleeps, Arming, with_sleep, armed_anew, armed_later, armed_above, after_arming, woken_by_arming}
 use Rattle.mono_wheel.specs.Model.{Wheel, Timed, timed_at, Changed}
-use Rattle.mono_time.specs.Sleeps.{armed, elapsed, at_tick, waker_of}
+use Rattle.mono_time.specs.Sleeps.{armed, elapsed, at_tick, kept_waker}
 use Rattle.mono_model.specs.SleepActs as machine
 use Rattle.mono_time.specs.Entries.{kept_in, tick_in, waker_in_state}
 use Rattle.mono_time.specs.Keeping.{Holds, ArmedAnew, Rearmed}
@@ -42,12 +42,12 @@ or-false : (b : Bool) → (b || false) ≡ b
 or-false true = refl
 or-false false = refl
 
-waker-seen : (sleep : model.Sleep) → model.waker_of sleep ≡ waker_of (seen sleep)
+waker-seen : (sleep : model.Sleep) → model.waker_of sleep ≡ kept_waker (seen sleep)
 waker-seen (model.fresh n) = refl
 waker-seen (model.armed a) = refl
 waker-seen model.elapsed = refl
 
-waker-in : (timed : Option Timed) (state : State) → waker_in_state state ≡ waker_of (kept_in timed state)
+waker-in : (timed : Option Timed) (state : State) → waker_in_state state ≡ kept_waker (kept_in timed state)
 waker-in timed (Fresh tick) = refl
 waker-in timed (Armed waker) = refl
 waker-in timed Elapsed = refl
@@ -110,16 +110,16 @@ module _ (wheel left : Wheel) (keys : Table ℕ) (entries : List Entry) (greates
   abbrev WasReset : model.Sleep → Type 0
   WasReset sleep = (woken ≡ woken_by_arming sleep m tick) × Left (after_arming sleep m s tick)
 
-  by_time : ResetEntry wheel left k greatest tick e.state f.state woken → Turned wheel left k e.state f.state (at_tick greatest tick (waker_of (kept_in (timed_at wheel k) e.state)))
+  by_time : ResetEntry wheel left k greatest tick e.state f.state woken → Turned wheel left k e.state f.state (at_tick greatest tick (kept_waker (kept_in (timed_at wheel k) e.state)))
       → (sleep : model.Sleep) → value_at m.table s ≡ Some sleep → seen sleep ≡ kept_in (timed_at wheel k) e.state → WasReset sleep
   by_time (inl (due, is, says, out)) turned sleep at_m sees =
       let test : nat_le tick m.greatest ≡ true = le-leb tick m.greatest (omega (arith, due, st.same_greatest)) in
-      let kept : elapsed ≡ at_tick greatest tick (waker_of (kept_in (timed_at wheel k) e.state)) = rw (le-leb tick greatest due) refl in
-      let waker : woken ≡ model.waker_of sleep = says ∙ waker-in (timed_at wheel k) e.state ∙ ap waker_of (sym sees) ∙ sym (waker-seen sleep) in
+      let kept : elapsed ≡ at_tick greatest tick (kept_waker (kept_in (timed_at wheel k) e.state)) = rw (le-leb tick greatest due) refl in
+      let waker : woken ≡ model.waker_of sleep = says ∙ waker-in (timed_at wheel k) e.state ∙ ap kept_waker (sym sees) ∙ sym (waker-seen sleep) in
       rw test (waker, stands-unarmed wheel left keys entries greatest live limit holds s k e f at was same _ turned m st model.elapsed kept elapsed-armed)
   by_time (inr (early, says, put)) turned sleep at_m sees =
       let test : nat_le tick m.greatest ≡ false = lt-leb tick m.greatest (omega (arith, early, st.same_greatest)) in
-      let kept : at_tick greatest tick (waker_of (kept_in (timed_at wheel k) e.state)) ≡ armed tick (waker_in_state e.state) = rw (lt-leb tick greatest early) (ap (armed tick) (sym (waker-in (timed_at wheel k) e.state))) in
+      let kept : at_tick greatest tick (kept_waker (kept_in (timed_at wheel k) e.state)) ≡ armed tick (waker_in_state e.state) = rw (lt-leb tick greatest early) (ap (armed tick) (sym (waker-in (timed_at wheel k) e.state))) in
       rw test (says, by_put e.state put (subst (Turned wheel left k e.state f.state) kept turned) early sleep at_m sees)
 
   pub machine-reset : (n : ℕ) → tick ≡ up n → ResetEntry wheel left k greatest tick e.state f.state woken → (answered woken ≡ machine.reset_answer m s n) × Left (machine.reset m s n)

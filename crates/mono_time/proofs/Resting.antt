@@ -5,7 +5,7 @@ use Rattle.std.proofs.lemmas.Bool.{leb-false, cases_eq, cases_lt}
 use Rattle.std.proofs.lemmas.List.{get_or-set_other, get_or-set_same, get_or_past, length-set}
 use Rattle.mono_model.specs.Ticks.{up}
 use Rattle.mono_model.specs.Table.{Table, value_at, with_value, with_next, without}
-use Rattle.mono_time.specs.Sleeps.{Kept, SleepTable, fresh, armed, elapsed, at_tick, polled_kept, waker_of, changed_value, polled, reset, removed, removed_value, added, with_table, IsNoneArmedUpTo}
+use Rattle.mono_time.specs.Sleeps.{Kept, SleepTable, fresh, armed, elapsed, at_tick, polled_kept, kept_waker, changed_value, with_polled_sleep, with_reset_sleep, with_removed_sleep, removed_value, with_added_sleep, with_table, IsNoneArmedUpTo}
 
 some-same : (a b : Kept) → Some a ≡ Some b → a ≡ b
 some-same a b e = cc
@@ -44,21 +44,21 @@ polled-ahead sleeps s by later w (fresh tick) none at is = at_tick-ahead sleeps.
 polled-ahead sleeps s by later w (armed tick waker) none at is = omega (arith, none s tick waker at, armed-tick tick later (Some by) w is)
 polled-ahead sleeps s by later w elapsed none at is = absurd (elapsed-armed later w is)
 
-pub rests-polled : (sleeps : SleepTable) (s by : ℕ) → IsNoneArmedUpTo sleeps → IsNoneArmedUpTo (polled sleeps s by)
+pub rests-polled : (sleeps : SleepTable) (s by : ℕ) → IsNoneArmedUpTo sleeps → IsNoneArmedUpTo (with_polled_sleep sleeps s by)
 rests-polled sleeps s by none = at (value_at sleeps.table s) refl
   where
     at : (v : Option Kept) → value_at sleeps.table s ≡ v → IsNoneArmedUpTo (changed_value v sleeps s (polled_kept sleeps.greatest by))
     at None is = none
     at (Some kept) is = written sleeps s _ none (λ tick waker e. polled-ahead sleeps s by tick waker kept none is e)
 
-pub rests-reset : (sleeps : SleepTable) (s nanos : ℕ) → IsNoneArmedUpTo sleeps → IsNoneArmedUpTo (reset sleeps s nanos)
+pub rests-reset : (sleeps : SleepTable) (s nanos : ℕ) → IsNoneArmedUpTo sleeps → IsNoneArmedUpTo (with_reset_sleep sleeps s nanos)
 rests-reset sleeps s nanos none = at (value_at sleeps.table s)
   where
-    at : (v : Option Kept) → IsNoneArmedUpTo (changed_value v sleeps s (λ kept. at_tick sleeps.greatest (up nanos) (waker_of kept)))
+    at : (v : Option Kept) → IsNoneArmedUpTo (changed_value v sleeps s (λ kept. at_tick sleeps.greatest (up nanos) (kept_waker kept)))
     at None = none
-    at (Some kept) = written sleeps s _ none (λ tick waker e. at_tick-ahead sleeps.greatest (up nanos) tick (waker_of kept) waker e)
+    at (Some kept) = written sleeps s _ none (λ tick waker e. at_tick-ahead sleeps.greatest (up nanos) tick (kept_waker kept) waker e)
 
-pub rests-removed : (sleeps : SleepTable) (s : ℕ) → IsNoneArmedUpTo sleeps → IsNoneArmedUpTo (removed sleeps s)
+pub rests-removed : (sleeps : SleepTable) (s : ℕ) → IsNoneArmedUpTo sleeps → IsNoneArmedUpTo (with_removed_sleep sleeps s)
 rests-removed sleeps s none = at (value_at sleeps.table s)
   where
     gone : IsNoneArmedUpTo (with_table sleeps (without sleeps.table s))
@@ -80,5 +80,5 @@ was_armed [] n (suc q) tick waker is = is
 was_armed (x ∷ xs) n zero tick waker is = is
 was_armed (x ∷ xs) n (suc q) tick waker is = was_armed xs n q tick waker is
 
-pub rests-added : (sleeps : SleepTable) (tick : ℕ) → IsNoneArmedUpTo sleeps → IsNoneArmedUpTo (added sleeps tick)
+pub rests-added : (sleeps : SleepTable) (tick : ℕ) → IsNoneArmedUpTo sleeps → IsNoneArmedUpTo (with_added_sleep sleeps tick)
 rests-added sleeps n none q tick waker is = none q tick waker (was_armed sleeps.table n q tick waker is)

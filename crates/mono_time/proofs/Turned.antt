@@ -3,7 +3,7 @@ use Rattle.std.proofs.Common.{◌≡◌, ◌≢◌, ◌<◌, ◌≤◌, ◌⊎�
 use Rattle.std.specs.Prelude.{Option, is_some, nat_le}
 use Rattle.std.proofs.lemmas.Bool.{le-leb, lt-leb}
 use Rattle.mono_wheel.specs.Model.{Wheel, Timed, timed_at, Changed}
-use Rattle.mono_time.specs.Sleeps.{Kept, armed, elapsed, polled_kept, is_ready_at, at_tick, waker_of, woken_by_reset}
+use Rattle.mono_time.specs.Sleeps.{Kept, armed, elapsed, polled_kept, is_kept_ready, at_tick, kept_waker, woken_by_reset}
 use Rattle.mono_time.specs.Entries.{is_armed_state, fresh_tick, tick_in, kept_in, waker_in_state}
 use Rattle.mono_time.specs.Keeping.{KeepsBut, ArmedAnew, Rearmed}
 use Rattle.mono_time.specs.Turning.{PolledEntry, ResetEntry, PutAt, Out}
@@ -64,7 +64,7 @@ module _ (wheel : Wheel) (k greatest : ℕ) where
       (subst (λ x. Turned wheel left k (Fresh tick) x (at_tick greatest tick (Some by))) (sym is) done, says ∙ sym test)
 
   pub turned-polled : (left : Wheel) (by : ℕ) (before after : State) (ready : Bool) → PolledEntry wheel left k greatest by before after ready → is_some (timed_at wheel k) ≡ is_armed_state before
-      → Turned wheel left k before after (polled_kept greatest by (kept_in (timed_at wheel k) before)) × (ready ≡ is_ready_at greatest (kept_in (timed_at wheel k) before))
+      → Turned wheel left k before after (polled_kept greatest by (kept_in (timed_at wheel k) before)) × (ready ≡ is_kept_ready greatest (kept_in (timed_at wheel k) before))
   turned-polled left by (Fresh tick) after ready polled is_in = polled-fresh left by tick after ready polled is_in
   turned-polled left by (Armed waker) after ready (same, is, says) is_in = (
     record {
@@ -97,7 +97,7 @@ module _ (wheel : Wheel) (k greatest : ℕ) where
       }
       by_case (inr (why, anew)) = turned-anew left before tick waker anew kept is
 
-  waker-kept : (timed : Option Timed) (state : State) → waker_in_state state ≡ waker_of (kept_in timed state)
+  waker-kept : (timed : Option Timed) (state : State) → waker_in_state state ≡ kept_waker (kept_in timed state)
   waker-kept timed (Fresh tick) = refl
   waker-kept timed (Armed waker) = refl
   waker-kept timed Elapsed = refl
@@ -108,16 +108,16 @@ module _ (wheel : Wheel) (k greatest : ℕ) where
   put-turned left tick Elapsed after (is, anew) kept at = subst (λ x. Turned wheel left k Elapsed x kept) (sym is) (turned-anew left Elapsed tick None anew kept at)
 
   pub turned-reset : (left : Wheel) (tick : ℕ) (before after : State) (woken : Option ℕ) → ResetEntry wheel left k greatest tick before after woken
-      → Turned wheel left k before after (at_tick greatest tick (waker_of (kept_in (timed_at wheel k) before))) × (woken ≡ woken_by_reset greatest tick (kept_in (timed_at wheel k) before))
+      → Turned wheel left k before after (at_tick greatest tick (kept_waker (kept_in (timed_at wheel k) before))) × (woken ≡ woken_by_reset greatest tick (kept_in (timed_at wheel k) before))
   turned-reset left tick before after woken (inl (due, is, says, out)) =
       let test : nat_le tick greatest ≡ true = le-leb tick greatest due in
-      let goal : Kept = at_tick greatest tick (waker_of (kept_in (timed_at wheel k) before)) in (
+      let goal : Kept = at_tick greatest tick (kept_waker (kept_in (timed_at wheel k) before)) in (
         subst (λ x. Turned wheel left k before x goal) (sym is) (turned-elapsed left before out goal (rw test refl)),
         says ∙ waker-kept (timed_at wheel k) before ∙ rw test refl,
       )
   turned-reset left tick before after woken (inr (early, says, put)) =
       let test : nat_le tick greatest ≡ false = lt-leb tick greatest early in
-      let goal : Kept = at_tick greatest tick (waker_of (kept_in (timed_at wheel k) before)) in (
+      let goal : Kept = at_tick greatest tick (kept_waker (kept_in (timed_at wheel k) before)) in (
         put-turned left tick before after put goal (rw test (ap (armed tick) (waker-kept (timed_at wheel k) before))),
         says ∙ rw test refl,
       )

@@ -5,7 +5,7 @@ use Rattle.mono_model.specs.Tasks.{Tasks}
 use Rattle.mono_model.specs.Poll.{call_of}
 use Rattle.mono_model.specs.declared.poll.Poll.{Poll}
 use Rattle.mono_time.specs.Instants.{nanos_of}
-use Rattle.mono_time.specs.Sleeps.{SleepTable, Added, poll_answer, polled, removed}
+use Rattle.mono_time.specs.Sleeps.{SleepTable, Added, sleep_poll_answer, with_polled_sleep, with_removed_sleep}
 use Rattle.mono_model.specs.declared.error.Error.{Error}
 use Rattle.mono_model.specs.declared.error.Error.TheVariants.{Invalid}
 use Rattle.mono_model.specs.declared.error.SleepError.{SleepError}
@@ -37,15 +37,15 @@ module _ {C : Type 0} (sleeps : C → SleepTable) where
 module _ {C : Type 0} (number : C → ℕ) (sleeps : C → SleepTable) (work : C → Tasks ⊤) (reaches : C → C → Type 0) where
   -- a poll of this sleep may give r and lead from c to d
   pub record SleepPolls (s : Sleep) (c : C) (r : Poll (Result ⊤ Error)) (t : Sleep) (d : C) : Type 0 where
-    pub answer : call_of r ≡ poll_answer (sleeps c) s.number
+    pub answer : call_of r ≡ sleep_poll_answer (sleeps c) s.number
     pub sleep : t ≡ s
-    pub sleeps_after : sleeps d ≡ polled (sleeps c) s.number (number c)
+    pub sleeps_after : sleeps d ≡ with_polled_sleep (sleeps c) s.number (number c)
     pub work_after : work d ≡ work c
     pub reached : reaches c d
 
 module _ {C : Type 0} (sleeps : C → SleepTable) (work : C → Tasks ⊤) (reaches : C → C → Type 0) where
   -- giving this sleep up may lead from c to d
   pub record SleepCancels (s : Sleep) (c d : C) : Type 0 where
-    pub sleeps_after : sleeps d ≡ removed (sleeps c) s.number
+    pub sleeps_after : sleeps d ≡ with_removed_sleep (sleeps c) s.number
     pub work_after : work d ≡ work c
     pub reached : reaches c d

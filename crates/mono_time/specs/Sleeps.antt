@@ -24,16 +24,16 @@ pub record SleepTable : Type 0 where
   pub limit : ℕ
   pub is_enabled : Bool
 
-abbrev pub no_sleeps : ℕ → Bool → SleepTable
-no_sleeps limit is_enabled = record { table = []; greatest = 0; limit = limit; is_enabled = is_enabled }
+abbrev pub empty_sleep_table : ℕ → Bool → SleepTable
+empty_sleep_table limit is_enabled = record { table = []; greatest = 0; limit = limit; is_enabled = is_enabled }
 
 abbrev pub with_table : SleepTable → Table Kept → SleepTable
 with_table sleeps table = record { table = table; greatest = sleeps.greatest; limit = sleeps.limit; is_enabled = sleeps.is_enabled }
 
-abbrev pub waker_of : Kept → Option ℕ
-waker_of (fresh tick) = None
-waker_of (armed tick waker) = waker
-waker_of elapsed = None
+abbrev pub kept_waker : Kept → Option ℕ
+kept_waker (fresh tick) = None
+kept_waker (armed tick waker) = waker
+kept_waker elapsed = None
 
 -- armed at a tick, or elapsed where the tick is not above the greatest so far
 abbrev pub at_tick : ℕ → ℕ → Option ℕ → Kept
@@ -48,18 +48,18 @@ abbrev pub changed : SleepTable → ℕ → (Kept → Kept) → SleepTable
 changed sleeps s change = changed_value (value_at sleeps.table s) sleeps s change
 
 -- what is answered of a sleep, or the refusal where no live sleep has the number
-abbrev pub of_live : {A : Type 0} → Option Kept → (Kept → A) → Result A Error
-of_live None answer = Err Shutdown
-of_live (Some kept) answer = Ok (answer kept)
+abbrev pub of_live_sleep : {A : Type 0} → Option Kept → (Kept → A) → Result A Error
+of_live_sleep None answer = Err Shutdown
+of_live_sleep (Some kept) answer = Ok (answer kept)
 
 -- A new sleep has the next number and is fresh. It is refused where there are no timers, and then where no further sleep
 -- is given out. Want of memory comes last. No refusal changes anything.
-abbrev pub added : SleepTable → ℕ → SleepTable
-added sleeps tick = with_table sleeps (with_next sleeps.table (fresh tick))
+abbrev pub with_added_sleep : SleepTable → ℕ → SleepTable
+with_added_sleep sleeps tick = with_table sleeps (with_next sleeps.table (fresh tick))
 
 abbrev pub Added : SleepTable → ℕ → Result ℕ SleepError → SleepTable → Type 0
 Added old nanos (Ok number) new =
-    (old.is_enabled ≡ true) × (is_full old.table old.limit ≡ false) × (number ≡ next_number old.table) × (new ≡ added old (up nanos))
+    (old.is_enabled ≡ true) × (is_full old.table old.limit ≡ false) × (number ≡ next_number old.table) × (new ≡ with_added_sleep old (up nanos))
 Added old nanos (Err (Timer Shutdown)) new = (old.is_enabled ≡ false) × (new ≡ old)
 Added old nanos (Err (Timer AtCapacity)) new = (old.is_enabled ≡ true) × (is_full old.table old.limit ≡ true) × (new ≡ old)
 Added old nanos (Err (Timer Invalid)) new = ⊥
@@ -71,53 +71,53 @@ polled_kept greatest by (fresh tick) = at_tick greatest tick (Some by)
 polled_kept greatest by (armed tick waker) = armed tick (Some by)
 polled_kept greatest by elapsed = elapsed
 
-abbrev pub is_ready_at : ℕ → Kept → Bool
-is_ready_at greatest (fresh tick) = nat_le tick greatest
-is_ready_at greatest (armed tick waker) = false
-is_ready_at greatest elapsed = true
+abbrev pub is_kept_ready : ℕ → Kept → Bool
+is_kept_ready greatest (fresh tick) = nat_le tick greatest
+is_kept_ready greatest (armed tick waker) = false
+is_kept_ready greatest elapsed = true
 
-abbrev pub poll_answer : SleepTable → ℕ → Result (Poll ⊤) Error
-poll_answer sleeps s = of_live (value_at sleeps.table s) (λ kept. poll_of (is_ready_at sleeps.greatest kept))
+abbrev pub sleep_poll_answer : SleepTable → ℕ → Result (Poll ⊤) Error
+sleep_poll_answer sleeps s = of_live_sleep (value_at sleeps.table s) (λ kept. poll_of (is_kept_ready sleeps.greatest kept))
 
-abbrev pub polled : SleepTable → ℕ → ℕ → SleepTable
-polled sleeps s by = changed sleeps s (polled_kept sleeps.greatest by)
+abbrev pub with_polled_sleep : SleepTable → ℕ → ℕ → SleepTable
+with_polled_sleep sleeps s by = changed sleeps s (polled_kept sleeps.greatest by)
 
 -- A reset to a tick keeps the waker, or hands it out where the sleep elapses at once.
 abbrev pub woken_by_reset : ℕ → ℕ → Kept → Option ℕ
-woken_by_reset greatest tick kept = if nat_le tick greatest then waker_of kept else None
+woken_by_reset greatest tick kept = if nat_le tick greatest then kept_waker kept else None
 
-abbrev pub reset_answer : SleepTable → ℕ → ℕ → Result (Option ℕ) Error
-reset_answer sleeps s nanos = of_live (value_at sleeps.table s) (woken_by_reset sleeps.greatest (up nanos))
+abbrev pub sleep_reset_answer : SleepTable → ℕ → ℕ → Result (Option ℕ) Error
+sleep_reset_answer sleeps s nanos = of_live_sleep (value_at sleeps.table s) (woken_by_reset sleeps.greatest (up nanos))
 
-abbrev pub reset : SleepTable → ℕ → ℕ → SleepTable
-reset sleeps s nanos = changed sleeps s (λ kept. at_tick sleeps.greatest (up nanos) (waker_of kept))
+abbrev pub with_reset_sleep : SleepTable → ℕ → ℕ → SleepTable
+with_reset_sleep sleeps s nanos = changed sleeps s (λ kept. at_tick sleeps.greatest (up nanos) (kept_waker kept))
 
 -- A removed sleep is gone, and wakes nobody.
-abbrev pub remove_answer : SleepTable → ℕ → Result ⊤ Error
-remove_answer sleeps s = of_live (value_at sleeps.table s) (λ kept. tt)
+abbrev pub sleep_remove_answer : SleepTable → ℕ → Result ⊤ Error
+sleep_remove_answer sleeps s = of_live_sleep (value_at sleeps.table s) (λ kept. tt)
 
 abbrev pub removed_value : Option Kept → SleepTable → ℕ → SleepTable
 removed_value None sleeps s = sleeps
 removed_value (Some kept) sleeps s = with_table sleeps (without sleeps.table s)
 
-abbrev pub removed : SleepTable → ℕ → SleepTable
-removed sleeps s = removed_value (value_at sleeps.table s) sleeps s
+abbrev pub with_removed_sleep : SleepTable → ℕ → SleepTable
+with_removed_sleep sleeps s = removed_value (value_at sleeps.table s) sleeps s
 
-abbrev pub is_elapsed : Kept → Bool
-is_elapsed (fresh tick) = false
-is_elapsed (armed tick waker) = false
-is_elapsed elapsed = true
+abbrev pub is_kept_elapsed : Kept → Bool
+is_kept_elapsed (fresh tick) = false
+is_kept_elapsed (armed tick waker) = false
+is_kept_elapsed elapsed = true
 
-abbrev pub elapsed_answer : SleepTable → ℕ → Result Bool Error
-elapsed_answer sleeps s = of_live (value_at sleeps.table s) is_elapsed
+abbrev pub sleep_elapsed_answer : SleepTable → ℕ → Result Bool Error
+sleep_elapsed_answer sleeps s = of_live_sleep (value_at sleeps.table s) is_kept_elapsed
 
 -- The clock shows n: the greatest tick is the greater of itself and that of n.
-abbrev pub at_clock : SleepTable → ℕ → SleepTable
-at_clock sleeps nanos = record { table = sleeps.table; greatest = max sleeps.greatest (down nanos); limit = sleeps.limit; is_enabled = sleeps.is_enabled }
+abbrev pub at_clock_tick : SleepTable → ℕ → SleepTable
+at_clock_tick sleeps nanos = record { table = sleeps.table; greatest = max sleeps.greatest (down nanos); limit = sleeps.limit; is_enabled = sleeps.is_enabled }
 
 -- a sleep fires: it has elapsed
-abbrev pub fired : SleepTable → ℕ → SleepTable
-fired sleeps s = with_table sleeps (with_value sleeps.table s elapsed)
+abbrev pub with_fired_sleep : SleepTable → ℕ → SleepTable
+with_fired_sleep sleeps s = with_table sleeps (with_value sleeps.table s elapsed)
 
 -- no armed sleep has a tick up to the greatest
 abbrev pub IsNoneArmedUpTo : SleepTable → Type 0

@@ -6,7 +6,7 @@ use Rattle.mono_model.specs.Tasks.{Tasks}
 use Rattle.mono_model.specs.declared.poll.Poll.{Poll}
 use Rattle.mono_model.specs.declared.poll.Poll.TheVariants.{Ready, Pending}
 use Rattle.mono_time.specs.Instants.{nanos_of}
-use Rattle.mono_time.specs.Sleeps.{SleepTable, Added, poll_answer, polled, reset}
+use Rattle.mono_time.specs.Sleeps.{SleepTable, Added, sleep_poll_answer, with_polled_sleep, with_reset_sleep}
 use Rattle.mono_model.specs.declared.error.Error.{Error}
 use Rattle.mono_model.specs.declared.error.Error.TheVariants.{Invalid}
 use Rattle.mono_model.specs.declared.error.SleepError.{SleepError}
@@ -33,12 +33,12 @@ module _ {C : Type 0} (number nanos : C → ℕ) (sleeps : C → SleepTable) (wo
     pub same_number : j.delay.number ≡ i.delay.number
     pub same_period : j.period ≡ i.period
     pub same_behavior : j.behavior ≡ i.behavior
-    pub sleeps_after : sleeps d ≡ reset (polled (sleeps c) i.delay.number (number c)) i.delay.number (next_of i c)
+    pub sleeps_after : sleeps d ≡ with_reset_sleep (with_polled_sleep (sleeps c) i.delay.number (number c)) i.delay.number (next_of i c)
 
   -- nothing but the delay's poll has happened
   pub record TicksNot (i : Interval) (c : C) (j : Interval) (d : C) : Type 0 where
     pub same : j ≡ i
-    pub sleeps_after : sleeps d ≡ polled (sleeps c) i.delay.number (number c)
+    pub sleeps_after : sleeps d ≡ with_polled_sleep (sleeps c) i.delay.number (number c)
 
   -- what a poll gives, by what the poll of its delay answers
   abbrev pub TickAfter : Result (Poll ⊤) Error → Interval → C → Result (Poll Instant) Error → Interval → C → Type 0
@@ -49,4 +49,4 @@ module _ {C : Type 0} (number nanos : C → ℕ) (sleeps : C → SleepTable) (wo
   TickAfter (Ok (Ready x)) i c (Err error) j d = (error ≡ Invalid) × (nat_le (next_of i c) max_nanos ≡ false) × TicksNot i c j d
 
   abbrev pub TickPolls : Interval → C → Result (Poll Instant) Error → Interval → C → Type 0
-  TickPolls i c result j d = TickAfter (poll_answer (sleeps c) i.delay.number) i c result j d × (work d ≡ work c)
+  TickPolls i c result j d = TickAfter (sleep_poll_answer (sleeps c) i.delay.number) i c result j d × (work d ≡ work c)

@@ -3,7 +3,7 @@ ghost use Rattle.std.specs.Prelude.{◌≡◌, ℕ, Bool, true, Result};
 ghost use Rattle.mono_model.specs.Tasks.{woken_if_any};
 ghost use Rattle.mono_model.specs.declared.Woke.{Woke};
 ghost use Rattle.mono_model.specs.declared.task_error.TaskError.{TaskError};
-ghost use Rattle.mono_time.specs.Sleeps.{SleepTable, Added, poll_answer, polled, reset_answer, reset, remove_answer, removed, elapsed_answer};
+ghost use Rattle.mono_time.specs.Sleeps.{SleepTable, Added, sleep_poll_answer, with_polled_sleep, sleep_reset_answer, with_reset_sleep, sleep_remove_answer, with_removed_sleep, sleep_elapsed_answer};
 ghost use Rattle.mono_model.specs.SleepAnswers.{without_waker, waker_in};
 ghost use Rattle.mono_model.specs.declared.error.SleepError.TheVariants.{Memory};
 
@@ -34,8 +34,8 @@ pub trait TimeContext: Context {
     ///
     /// Refused as shutdown exactly where no live sleep has the number (`answer`).
     fn poll_sleep(&mut self, sleep: u64) -> Result<Poll<()>, Error>
-        ensures answer { result ≡ poll_answer (sleeps self.old) sleep }
-        ensures sleeps { sleeps self.new ≡ polled (sleeps self.old) sleep (Self.number self.old) }
+        ensures answer { result ≡ sleep_poll_answer (sleeps self.old) sleep }
+        ensures sleeps { sleeps self.new ≡ with_polled_sleep (sleeps self.old) sleep (Self.number self.old) }
         ensures work { Self.work self.new ≡ Self.work self.old }
         ensures reached { Self.reaches self.old self.new };
 
@@ -43,23 +43,23 @@ pub trait TimeContext: Context {
     ///
     /// Refused as shutdown exactly where no live sleep has the number (`answer`).
     fn reset_sleep(&mut self, sleep: u64, deadline: Instant) -> Result<(), Error>
-        ensures answer { result ≡ without_waker (reset_answer (sleeps self.old) sleep (nanos_of deadline)) }
-        ensures sleeps { sleeps self.new ≡ reset (sleeps self.old) sleep (nanos_of deadline) }
-        ensures work { Self.work self.new ≡ woken_if_any (Self.work self.old) (waker_in (reset_answer (sleeps self.old) sleep (nanos_of deadline))) }
+        ensures answer { result ≡ without_waker (sleep_reset_answer (sleeps self.old) sleep (nanos_of deadline)) }
+        ensures sleeps { sleeps self.new ≡ with_reset_sleep (sleeps self.old) sleep (nanos_of deadline) }
+        ensures work { Self.work self.new ≡ woken_if_any (Self.work self.old) (waker_in (sleep_reset_answer (sleeps self.old) sleep (nanos_of deadline))) }
         ensures reached { Self.reaches self.old self.new };
 
     /// Gives a sleep up. It wakes nobody.
     ///
     /// Refused as shutdown exactly where no live sleep has the number (`answer`).
     fn drop_sleep(&mut self, sleep: u64) -> Result<(), Error>
-        ensures answer { result ≡ remove_answer (sleeps self.old) sleep }
-        ensures sleeps { sleeps self.new ≡ removed (sleeps self.old) sleep }
+        ensures answer { result ≡ sleep_remove_answer (sleeps self.old) sleep }
+        ensures sleeps { sleeps self.new ≡ with_removed_sleep (sleeps self.old) sleep }
         ensures work { Self.work self.new ≡ Self.work self.old }
         ensures reached { Self.reaches self.old self.new };
 
     /// Whether a sleep has elapsed. Refused as shutdown exactly where no live sleep has the number.
     fn sleep_elapsed(&self, sleep: u64) -> Result<bool, Error>
-        ensures { result ≡ elapsed_answer (sleeps self.now) sleep };
+        ensures { result ≡ sleep_elapsed_answer (sleeps self.now) sleep };
 
     // a wake keeps the sleeps
     ghost wakes_no_sleep: { (c d : Self) (t : ℕ) (answer : Result Woke TaskError) → Self.wakes c t answer d → sleeps d ≡ sleeps c };

@@ -6,7 +6,7 @@ ghost use Rattle.mono_model.specs.Ticks.{up, down};
 ghost use Rattle.mono_model.specs.Table.{value_at};
 ghost use Rattle.mono_time.specs.declared.instant.Instant.{Instant};
 ghost use Rattle.mono_time.specs.Instants.{nanos_of};
-ghost use Rattle.mono_time.specs.Sleeps.{SleepTable, IsNoneArmedUpTo, IsFiredFirst, armed, polled, reset, removed, added};
+ghost use Rattle.mono_time.specs.Sleeps.{SleepTable, IsNoneArmedUpTo, IsFiredFirst, armed, with_polled_sleep, with_reset_sleep, with_removed_sleep, with_added_sleep};
 
 use crate::instant::Instant;
 use std::hash::Hash;
@@ -25,8 +25,8 @@ pub fn none_fires_early()
 
 /// After a clock step every armed sleep has a tick above the greatest, and so it stays until the next clock step.
 pub fn none_is_late()
-    ensures added { (sleeps : SleepTable) (tick : ℕ) → IsNoneArmedUpTo sleeps → IsNoneArmedUpTo (added sleeps tick) }
-    ensures polled { (sleeps : SleepTable) (s by : ℕ) → IsNoneArmedUpTo sleeps → IsNoneArmedUpTo (polled sleeps s by) }
-    ensures reset { (sleeps : SleepTable) (s nanos : ℕ) → IsNoneArmedUpTo sleeps → IsNoneArmedUpTo (reset sleeps s nanos) }
-    ensures removed { (sleeps : SleepTable) (s : ℕ) → IsNoneArmedUpTo sleeps → IsNoneArmedUpTo (removed sleeps s) }
+    ensures added { (sleeps : SleepTable) (tick : ℕ) → IsNoneArmedUpTo sleeps → IsNoneArmedUpTo (with_added_sleep sleeps tick) }
+    ensures polled { (sleeps : SleepTable) (s by : ℕ) → IsNoneArmedUpTo sleeps → IsNoneArmedUpTo (with_polled_sleep sleeps s by) }
+    ensures reset { (sleeps : SleepTable) (s nanos : ℕ) → IsNoneArmedUpTo sleeps → IsNoneArmedUpTo (with_reset_sleep sleeps s nanos) }
+    ensures removed { (sleeps : SleepTable) (s : ℕ) → IsNoneArmedUpTo sleeps → IsNoneArmedUpTo (with_removed_sleep sleeps s) }
 {}

@@ -2,7 +2,7 @@
 ghost use Rattle.std.specs.Prelude.{◌≡◌, false, OnOk, OnErr};
 ghost use Rattle.mono_model.specs.Tasks.{woken_if_any};
 ghost use Rattle.mono_time.specs.Instants.{nanos_of};
-ghost use Rattle.mono_time.specs.Sleeps.{reset_answer, reset, elapsed_answer};
+ghost use Rattle.mono_time.specs.Sleeps.{sleep_reset_answer, with_reset_sleep, sleep_elapsed_answer};
 ghost use Rattle.mono_model.specs.SleepAnswers.{without_waker, waker_in};
 ghost use Rattle.mono_time.specs.Futures.{SleepPolls, SleepCancels};
 
@@ -42,7 +42,7 @@ impl Sleep {
     ///
     /// Refused as shutdown exactly where the context has no such live sleep.
     pub fn is_elapsed<C: TimeContext>(&self, cx: &C) -> Result<bool, Error>
-        ensures { result ≡ elapsed_answer (C.sleeps cx.now) self.now.number }
+        ensures { result ≡ sleep_elapsed_answer (C.sleeps cx.now) self.now.number }
     {
         cx.sleep_elapsed(self.number)
     }
@@ -51,9 +51,9 @@ impl Sleep {
     ///
     /// Refused as shutdown exactly where the context has no such live sleep; then the deadline stays (`refused`).
     pub fn reset<C: TimeContext>(&mut self, cx: &mut C, deadline: Instant) -> Result<(), Error>
-        ensures answer { result ≡ without_waker (reset_answer (C.sleeps cx.old) self.old.number (nanos_of deadline)) }
-        ensures sleeps { C.sleeps cx.new ≡ reset (C.sleeps cx.old) self.old.number (nanos_of deadline) }
-        ensures work { C.work cx.new ≡ woken_if_any (C.work cx.old) (waker_in (reset_answer (C.sleeps cx.old) self.old.number (nanos_of deadline))) }
+        ensures answer { result ≡ without_waker (sleep_reset_answer (C.sleeps cx.old) self.old.number (nanos_of deadline)) }
+        ensures sleeps { C.sleeps cx.new ≡ with_reset_sleep (C.sleeps cx.old) self.old.number (nanos_of deadline) }
+        ensures work { C.work cx.new ≡ woken_if_any (C.work cx.old) (waker_in (sleep_reset_answer (C.sleeps cx.old) self.old.number (nanos_of deadline))) }
         ensures number { self.new.number ≡ self.old.number }
         ensures deadline { OnOk result (self.new.deadline ≡ deadline) }
         ensures refused { OnErr result (self.new ≡ self.old) }

@@ -69,7 +69,7 @@ impl Timers {
     ghost use Rattle.mono_model.specs.Sleeps.{Sleeps};
     ghost use Rattle.mono_model.specs.Sleeps as model;
     ghost use Rattle.mono_time.specs.Instants.{nanos_of};
-    ghost use Rattle.mono_time.specs.Sleeps.{no_sleeps, Added, poll_answer, polled, reset_answer, reset, remove_answer, removed, elapsed_answer, at_clock, fired, IsOneArmed, IsNoneArmedUpTo, IsFiredFirst, armed_count, armed};
+    ghost use Rattle.mono_time.specs.Sleeps.{empty_sleep_table, Added, sleep_poll_answer, with_polled_sleep, sleep_reset_answer, with_reset_sleep, sleep_remove_answer, with_removed_sleep, sleep_elapsed_answer, at_clock_tick, with_fired_sleep, IsOneArmed, IsNoneArmedUpTo, IsFiredFirst, armed_count, armed};
     ghost use Rattle.mono_model.specs.SleepActs as machine;
     ghost use Rattle.mono_time.specs.Timers.{sleeps_of, elapsed_tick, registered_of, credit_left, poll_raise};
     ghost use Rattle.mono_wheel.specs.Credit.{most_takes};
@@ -78,7 +78,7 @@ impl Timers {
 
     /// Timers without sleeps, for at most `limit` live ones; without `enabled` no sleep is ever made.
     pub fn new(alloc: Global, limit: u64, enabled: bool) -> Result<Timers, AllocError>
-        ensures sleeps { IfOk result (λ timers. sleeps_of timers ≡ no_sleeps limit enabled) }
+        ensures sleeps { IfOk result (λ timers. sleeps_of timers ≡ empty_sleep_table limit enabled) }
         ensures stands { IfOk result (λ timers. StandsForSleeps timers (model.no_sleeps limit)) }
         // What shows the wheel under the table.
         ensures elapsed { IfOk result (λ timers. elapsed_tick timers ≡ 0) }
@@ -146,8 +146,8 @@ impl Timers {
     /// Polls a sleep for a task: a fresh one is armed first at the tick of its deadline. Ready where it has elapsed, and else
     /// the task is its only waker. Refused as shutdown exactly where no live sleep has the number (`answer`).
     pub fn poll(&mut self, sleep: u64, by: u64) -> Result<Poll<()>, Error>
-        ensures answer { result ≡ poll_answer (sleeps_of self.old) sleep }
-        ensures sleeps { sleeps_of self.new ≡ polled (sleeps_of self.old) sleep by }
+        ensures answer { result ≡ sleep_poll_answer (sleeps_of self.old) sleep }
+        ensures sleeps { sleeps_of self.new ≡ with_polled_sleep (sleeps_of self.old) sleep by }
         ensures stands { (m : Sleeps) → StandsForSleeps self.old m → (result ≡ machine.poll_answer m sleep) × StandsForSleeps self.new (machine.polled m sleep by) }
         // What shows the wheel under the table.
         ensures elapsed { elapsed_tick self.new ≡ elapsed_tick self.old }
@@ -167,8 +167,8 @@ impl Timers {
     /// Arms a sleep at the tick of a new deadline. Where it elapses at once, the answer is its waker, which is to be woken;
     /// else the waker stays. Refused as shutdown exactly where no live sleep has the number (`answer`).
     pub fn reset(&mut self, sleep: u64, deadline: Instant) -> Result<Option<u64>, Error>
-        ensures answer { result ≡ reset_answer (sleeps_of self.old) sleep (nanos_of deadline) }
-        ensures sleeps { sleeps_of self.new ≡ reset (sleeps_of self.old) sleep (nanos_of deadline) }
+        ensures answer { result ≡ sleep_reset_answer (sleeps_of self.old) sleep (nanos_of deadline) }
+        ensures sleeps { sleeps_of self.new ≡ with_reset_sleep (sleeps_of self.old) sleep (nanos_of deadline) }
         ensures stands { (m : Sleeps) → StandsForSleeps self.old m → (result ≡ machine.reset_answer m sleep (nanos_of deadline)) × StandsForSleeps self.new (machine.reset m sleep (nanos_of deadline)) }
         // What shows the wheel under the table.
         ensures elapsed { elapsed_tick self.new ≡ elapsed_tick self.old }
@@ -188,8 +188,8 @@ impl Timers {
     /// Gives a sleep up: it is gone, and wakes nobody. Refused as shutdown exactly where no live sleep has the number
     /// (`answer`).
     pub fn remove(&mut self, sleep: u64) -> Result<(), Error>
-        ensures answer { result ≡ remove_answer (sleeps_of self.old) sleep }
-        ensures sleeps { sleeps_of self.new ≡ removed (sleeps_of self.old) sleep }
+        ensures answer { result ≡ sleep_remove_answer (sleeps_of self.old) sleep }
+        ensures sleeps { sleeps_of self.new ≡ with_removed_sleep (sleeps_of self.old) sleep }
         ensures stands { (m : Sleeps) → StandsForSleeps self.old m → (result ≡ machine.remove_answer m sleep) × StandsForSleeps self.new (machine.removed m sleep) }
         // What shows the wheel under the table.
         ensures elapsed { elapsed_tick self.new ≡ elapsed_tick self.old }
@@ -211,7 +211,7 @@ impl Timers {
 
     /// Whether a sleep has elapsed. Refused as shutdown exactly where no live sleep has the number.
     pub fn is_elapsed(&self, sleep: u64) -> Result<bool, Error>
-        ensures answer { result ≡ elapsed_answer (sleeps_of self.now) sleep }
+        ensures answer { result ≡ sleep_elapsed_answer (sleeps_of self.now) sleep }
         ensures stands { (m : Sleeps) → StandsForSleeps self.now m → result ≡ machine.elapsed_answer m sleep }
     {
         match key_at(&self.keys, sleep) {
@@ -248,8 +248,8 @@ impl Timers {
         now: Instant,
         steps: &mut Steps<L>,
     ) -> Option<(u64, Option<u64>)>
-        ensures none { IfNone result (IsNoneArmedUpTo (at_clock (sleeps_of self.old) (nanos_of now)) × (sleeps_of self.new ≡ at_clock (sleeps_of self.old) (nanos_of now))) }
-        ensures some { IfSome result (λ x. IsFiredFirst (at_clock (sleeps_of self.old) (nanos_of now)) x.0 x.1 × (sleeps_of self.new ≡ fired (at_clock (sleeps_of self.old) (nanos_of now)) x.0)) }
+        ensures none { IfNone result (IsNoneArmedUpTo (at_clock_tick (sleeps_of self.old) (nanos_of now)) × (sleeps_of self.new ≡ at_clock_tick (sleeps_of self.old) (nanos_of now))) }
+        ensures some { IfSome result (λ x. IsFiredFirst (at_clock_tick (sleeps_of self.old) (nanos_of now)) x.0 x.1 × (sleeps_of self.new ≡ with_fired_sleep (at_clock_tick (sleeps_of self.old) (nanos_of now)) x.0)) }
         ensures fewer { OnSome result (armed_count (sleeps_of self.new) < armed_count (sleeps_of self.old)) }
         ensures stands { (m : Sleeps) → StandsForSleeps self.old m → machine.Fires (machine.at_clock m (nanos_of now)) result (StandsForSleeps self.new) }
         // What shows the wheel under the table.

@@ -4,7 +4,7 @@
 ghost use Rattle.std.specs.Prelude.{◌≡◌, ℕ, true, Option, IfOk, IfSome, IfNone, OnErr, OnOk, ◌<◌};
 ghost use Rattle.mono_model.specs.Ticks.{up};
 ghost use Rattle.mono_time.specs.Instants.{nanos_of};
-ghost use Rattle.mono_time.specs.Sleeps.{added, polled, reset, reset_answer, at_clock, removed, fired, IsNoneArmedUpTo, IsFiredFirst};
+ghost use Rattle.mono_time.specs.Sleeps.{with_added_sleep, with_polled_sleep, with_reset_sleep, sleep_reset_answer, at_clock_tick, with_removed_sleep, with_fired_sleep, IsNoneArmedUpTo, IsFiredFirst};
 ghost use Rattle.mono_model.specs.SleepAnswers.{without_waker};
 ghost use Rattle.mono_time.specs.Timers.{sleeps_of};
 ghost use Rattle.mono_time.specs.Sleeps as spec;
@@ -24,7 +24,7 @@ pub struct Sessions {
 impl Sessions {
     /// No session, and room for so many.
     pub fn new(alloc: Global, limit: u64) -> Result<Sessions, AllocError>
-        ensures { IfOk result (λ s. sleeps_of s.timers ≡ spec.no_sleeps limit true) }
+        ensures { IfOk result (λ s. sleeps_of s.timers ≡ spec.empty_sleep_table limit true) }
     {
         Ok(Sessions {
             timers: Timers::new(alloc, limit, true)?,
@@ -33,7 +33,7 @@ impl Sessions {
 
     /// A new session with a deadline, which is armed at once.
     pub fn open(&mut self, alloc: Global, deadline: Instant) -> Result<u64, SleepError>
-        ensures opened { IfOk result (λ s. sleeps_of self.new.timers ≡ polled (added (sleeps_of self.old.timers) (up (nanos_of deadline))) s s) }
+        ensures opened { IfOk result (λ s. sleeps_of self.new.timers ≡ with_polled_sleep (with_added_sleep (sleeps_of self.old.timers) (up (nanos_of deadline))) s s) }
         ensures refused { OnErr result (sleeps_of self.new.timers ≡ sleeps_of self.old.timers) }
     {
         let session = self.timers.add(alloc, deadline)?;
@@ -43,8 +43,8 @@ impl Sessions {
 
     /// Moves the session's deadline. Refused exactly where there is no such session.
     pub fn touch(&mut self, session: u64, deadline: Instant) -> Result<(), Error>
-        ensures moved { sleeps_of self.new.timers ≡ reset (sleeps_of self.old.timers) session (nanos_of deadline) }
-        ensures answer { result ≡ without_waker (reset_answer (sleeps_of self.old.timers) session (nanos_of deadline)) }
+        ensures moved { sleeps_of self.new.timers ≡ with_reset_sleep (sleeps_of self.old.timers) session (nanos_of deadline) }
+        ensures answer { result ≡ without_waker (sleep_reset_answer (sleeps_of self.old.timers) session (nanos_of deadline)) }
     {
         match self.timers.reset(session, deadline) {
             Ok(_) => Ok(()),
@@ -54,8 +54,8 @@ impl Sessions {
 
     /// The next session whose deadline has come at the clock's reading. It is gone then. None where there is none.
     pub fn expire<L: Ledger>(&mut self, now: Instant, steps: &mut Steps<L>) -> Option<u64>
-        ensures due { IfSome result (λ s. (waker : Option ℕ) × IsFiredFirst (at_clock (sleeps_of self.old.timers) (nanos_of now)) s waker) }
-        ensures gone { IfSome result (λ s. sleeps_of self.new.timers ≡ removed (fired (at_clock (sleeps_of self.old.timers) (nanos_of now)) s) s) }
+        ensures due { IfSome result (λ s. (waker : Option ℕ) × IsFiredFirst (at_clock_tick (sleeps_of self.old.timers) (nanos_of now)) s waker) }
+        ensures gone { IfSome result (λ s. sleeps_of self.new.timers ≡ with_removed_sleep (with_fired_sleep (at_clock_tick (sleeps_of self.old.timers) (nanos_of now)) s) s) }
         ensures none { IfNone result (IsNoneArmedUpTo (sleeps_of self.new.timers)) }
     {
         let (session, _) = self.timers.clock(now, steps)?;

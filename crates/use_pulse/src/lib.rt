@@ -4,7 +4,7 @@
 ghost use Rattle.std.specs.Prelude.{◌≡◌, ◌≢◌, true, false, Ok};
 ghost use Rattle.mono_model.specs.declared.poll.Poll.TheVariants.{Ready, Pending};
 ghost use Rattle.mono_time.specs.Futures.{SleepCancels};
-ghost use Rattle.mono_time.specs.Sleeps.{poll_answer};
+ghost use Rattle.mono_time.specs.Sleeps.{sleep_poll_answer};
 ghost use Rattle.use_pulse.specs.Pulses.{PulsePolls};
 
 use mono_model::{Host, Poll};
@@ -80,8 +80,8 @@ pub fn is_late<C: TimeContext, R: Host>(
     limited: &mut Timeout<Pulse>,
 ) -> bool
     requires fresh { limited.old.value.has_answered ≡ false }
-    requires waits { poll_answer (C.sleeps cx.old) limited.old.value.delay.number ≡ Ok Pending }
-    requires due { poll_answer (C.sleeps cx.old) limited.old.delay.number ≡ Ok (Ready tt) }
+    requires waits { sleep_poll_answer (C.sleeps cx.old) limited.old.value.delay.number ≡ Ok Pending }
+    requires due { sleep_poll_answer (C.sleeps cx.old) limited.old.delay.number ≡ Ok (Ready tt) }
     requires apart { limited.old.delay.number ≢ limited.old.value.delay.number }
     ensures late { result ≡ true }
     ensures reached { C.reaches cx.old cx.new }

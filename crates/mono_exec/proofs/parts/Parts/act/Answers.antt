@@ -3,7 +3,7 @@ use Rattle.std.specs.Prelude.{Result, OnOk}
 use Rattle.mono_model.specs.Tasks.{woken}
 use Rattle.mono_model.specs.Joins.{join_dropped}
 use Rattle.mono_model.specs.SleepActs as sleep
-use Rattle.mono_time.specs.Sleeps.{removed}
+use Rattle.mono_time.specs.Sleeps.{with_removed_sleep}
 use Rattle.mono_time.specs.Timers.{sleeps_of, registered_of}
 use Rattle.mono_machine.specs.SleepCalls.{gone_reply, elapsed_reply}
 use Rattle.mono_machine.proofs.Known.{alike_woken, alike_dropped}
@@ -23,7 +23,7 @@ returns-in-DropSleep-clause-matches c = λ m st.
     let old = c.args.self.now.timers in
     let s = c.in-DropSleep.s in
     rw c.in-DropSleep.is (other_timers c.args.self.now m c.remove.new.self (sleep.removed m.sleeps s) st
-    (rests old c.remove.new.self m.sleeps (sleep.removed m.sleeps s) (removed (sleeps_of old) s) st.sleeps c.remove.ensures.sleeps (alike_removed (sleeps_of old) s) c.remove.ensures.elapsed (c.remove.ensures.stands m.sleeps st.sleeps.keeps.stands).1))
+    (rests old c.remove.new.self m.sleeps (sleep.removed m.sleeps s) (with_removed_sleep (sleeps_of old) s) st.sleeps c.remove.ensures.sleeps (alike_removed (sleeps_of old) s) c.remove.ensures.elapsed (c.remove.ensures.stands m.sleeps st.sleeps.keeps.stands).1))
 
 pub returns-in-SleepElapsed-clause-reply : goal.returns-in-SleepElapsed-clause-reply
 returns-in-SleepElapsed-clause-reply c = λ m st. rw c.in-SleepElapsed.is (c.elapsed_reply.ensures ∙ ap elapsed_reply (c.is_elapsed.ensures.stands m.sleeps st.sleeps.keeps.stands))

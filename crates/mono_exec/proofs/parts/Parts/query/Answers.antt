@@ -1,7 +1,7 @@
 use Rattle.std.proofs.Common.{◌∙◌, ap}
 use Rattle.mono_model.specs.Joins.{joined}
 use Rattle.mono_model.specs.SleepActs as sleep
-use Rattle.mono_time.specs.Sleeps.{polled}
+use Rattle.mono_time.specs.Sleeps.{with_polled_sleep}
 use Rattle.mono_time.specs.Timers.{sleeps_of}
 use Rattle.mono_machine.specs.SleepCalls.{poll_reply}
 use Rattle.mono_machine.proofs.Known.{alike_joined}
@@ -19,7 +19,7 @@ returns-in-Sleep-clause-matches c = λ m st.
     let s = c.in-Sleep.s in
     let me = c.args.me in
     rw c.in-Sleep.is (other_timers c.args.self.now m c.poll.new.self (sleep.polled m.sleeps s me) st
-    (rests old c.poll.new.self m.sleeps (sleep.polled m.sleeps s me) (polled (sleeps_of old) s me) st.sleeps c.poll.ensures.sleeps (alike_polled (sleeps_of old) s me) c.poll.ensures.elapsed (c.poll.ensures.stands m.sleeps st.sleeps.keeps.stands).1))
+    (rests old c.poll.new.self m.sleeps (sleep.polled m.sleeps s me) (with_polled_sleep (sleeps_of old) s me) st.sleeps c.poll.ensures.sleeps (alike_polled (sleeps_of old) s me) c.poll.ensures.elapsed (c.poll.ensures.stands m.sleeps st.sleeps.keeps.stands).1))
 
 pub returns-in-Join-clause-matches : goal.returns-in-Join-clause-matches
 returns-in-Join-clause-matches c = λ m st.

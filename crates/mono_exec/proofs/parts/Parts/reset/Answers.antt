@@ -1,7 +1,7 @@
 use Rattle.std.proofs.Common.{◌∙◌, sym}
 use Rattle.mono_model.specs.SleepActs as sleep
 use Rattle.mono_time.specs.Instants.{nanos_of}
-use Rattle.mono_time.specs.Sleeps.{reset}
+use Rattle.mono_time.specs.Sleeps.{with_reset_sleep}
 use Rattle.mono_time.specs.Timers.{sleeps_of}
 use Rattle.mono_exec.proofs.Timing.{rests, alike_reset, reset_took}
 use Rattle.mono_exec.proofs.Registering.{sleeps-stay, registered-reset-act, invalid-sleeps}
@@ -14,7 +14,7 @@ returns-in-Ok-reset-clause-matches c = λ m st.
     let now = nanos_of c.in-Some.deadline in
     let stands = c.reset.ensures.stands m.sleeps st.sleeps.keeps.stands in
     reset_took c.args.self.now m s now c.reset.new.self c.wake_if_any.new.tasks c.in-Ok-reset.waker st c.args.n c.in-Some.ensures.some c.in-Some.deadline.in_range
-    (rests old c.reset.new.self m.sleeps (sleep.reset m.sleeps s now) (reset (sleeps_of old) s now) st.sleeps c.reset.ensures.sleeps (alike_reset (sleeps_of old) s now) c.reset.ensures.elapsed stands.1)
+    (rests old c.reset.new.self m.sleeps (sleep.reset m.sleeps s now) (with_reset_sleep (sleeps_of old) s now) st.sleeps c.reset.ensures.sleeps (alike_reset (sleeps_of old) s now) c.reset.ensures.elapsed stands.1)
     c.wake_if_any.ensures (sym c.in-Ok-reset.is ∙ stands.0)
 
 pub returns-in-Err-reset-clause-registered : goal.returns-in-Err-reset-clause-registered

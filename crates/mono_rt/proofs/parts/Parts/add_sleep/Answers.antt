@@ -11,7 +11,7 @@ use Rattle.mono_model.specs.declared.error.SleepError.{SleepError}
 use Rattle.mono_model.specs.declared.error.SleepError.TheVariants.{Memory, Timer}
 use Rattle.mono_model.specs.Ticks.{up}
 use Rattle.mono_model.specs.SleepActs as sleep
-use Rattle.mono_time.specs.Sleeps.{added}
+use Rattle.mono_time.specs.Sleeps.{with_added_sleep}
 use Rattle.mono_time.proofs.Resting.{rests-added}
 use Rattle.mono_machine.specs.declared.events.Reply.TheVariants as reply
 use Rattle.mono_exec.proofs.Timing.{alike_added}
@@ -48,7 +48,7 @@ returns-in-Ok-clause-leads g c = λ hosting.
     let old = c.args.self.now in
     let n = nanos_of c.args.deadline in
     let stands : (m : Sleeps) → StandsForSleeps old.timers m → Adds (sleeps_of old.timers).is_enabled m n (Ok c.in-Ok.s) (StandsForSleeps c.add.new.self) = c.in-Ok.ensures.stands in
-    by_sleeps number hosting old _ _ _ _ (added (sleeps_of old.timers) (up n)) (λ x. sleep.added x n) c.note.ensures
+    by_sleeps number hosting old _ _ _ _ (with_added_sleep (sleeps_of old.timers) (up n)) (λ x. sleep.added x n) c.note.ensures
     (λ m st. ap (λ o. o.machine) (added_at m c.as_nanos.result n c.as_nanos.ensures c.args.deadline.in_range (stands m.sleeps st.sleeps).1))
     (λ m st. ap reply.Sleep (stands m.sleeps st.sleeps).2 ∙ sym (ap (λ o. o.reply) (added_at m c.as_nanos.result n c.as_nanos.ensures c.args.deadline.in_range (stands m.sleeps st.sleeps).1)))
     c.in-Ok.ensures.added.3 (alike_added (sleeps_of old.timers) (up n)) c.add.ensures.elapsed (λ m st. (stands m st).3) (rests-added (sleeps_of old.timers) (up n)) (λ m st. added-follows old.timers c.add.new.self m.sleeps n c.add.ensures.registered)

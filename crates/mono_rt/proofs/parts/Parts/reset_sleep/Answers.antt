@@ -13,7 +13,7 @@ use Rattle.std.specs.Prelude.{nat_lt}
 use Rattle.mono_model.specs.Ticks.{max_nanos}
 use Rattle.mono_model.specs.Table.{value_at}
 use Rattle.mono_model.specs.Sleeps.{Sleeps, woken_by_arming}
-use Rattle.mono_time.specs.Sleeps.{reset}
+use Rattle.mono_time.specs.Sleeps.{with_reset_sleep}
 use Rattle.mono_time.specs.Stands.{StandsForSleeps}
 use Rattle.mono_machine.specs.Acts.{refused}
 use Rattle.mono_machine.specs.declared.events.Refusal.TheVariants as refusal
@@ -57,7 +57,7 @@ returns-in-Err-clause-leads g c = λ hosting.
     let answer : (m : Sleeps) → StandsForSleeps old.timers m → sleep.reset_answer m s now ≡ Err c.in-Err.error = λ m st. sym (c.reset.ensures.stands m st).0 ∙ c.in-Err.is in
     let outcome : (m : Machine) → Matches number hosting old m → act_outcome (act.Reset s n) m ≡ refused refusal.NoTimer m =
     λ m st. gone (λ value. woken_by_arming value m.sleeps (up now)) m (cond (nat_lt max_nanos n) (refused refusal.Invalid m) (resetting s n m)) (value_at m.sleeps.table s) c.in-Err.error (answer m.sleeps st.sleeps) in
-    by_sleeps number hosting old _ _ _ _ (reset (sleeps_of old.timers) s now) (λ x. x) c.note.ensures
+    by_sleeps number hosting old _ _ _ _ (with_reset_sleep (sleeps_of old.timers) s now) (λ x. x) c.note.ensures
     (λ m st. ap (λ o. o.machine) (outcome m st)) (λ m st. sym (ap (λ o. o.reply) (outcome m st)))
     c.reset.ensures.sleeps (alike_reset (sleeps_of old.timers) s now) c.reset.ensures.elapsed
     (λ m st. subst (StandsForSleeps c.reset.new.self) (unchanged (λ value. woken_by_arming value m (up now)) (value_at m.table s) c.in-Err.error m _ (answer m st)) (c.reset.ensures.stands m st).1)

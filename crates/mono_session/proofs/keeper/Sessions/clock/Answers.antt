@@ -1,6 +1,6 @@
 use Rattle.std.proofs.Common.{arith, ◌≡◌, ℕ, List, [], ◌∷◌, ◌++◌, refl, sym, ap, subst, ◌∙◌, append_assoc, append-nil}
 use Rattle.mono_time.specs.Instants.{nanos_of}
-use Rattle.mono_time.specs.Sleeps.{SleepTable, at_clock, fired, removed, IsFiredFirst, IsNoneArmedUpTo}
+use Rattle.mono_time.specs.Sleeps.{SleepTable, at_clock_tick, with_fired_sleep, with_removed_sleep, IsFiredFirst, IsNoneArmedUpTo}
 use Rattle.mono_time.specs.Timers.{sleeps_of}
 use Rattle.mono_session.specs.Keeper.{Keeper, with_greatest, without_session}
 use Rattle.mono_session.specs.Answers as answer
@@ -32,14 +32,14 @@ loop-session-preserved g c = record {
       let start : Keeper = with_greatest k tick in
       let mid : Keeper = with_greatest before (greatest_at before n) in
       let same : mid ≡ without_all start due = was.3 in
-      let told : IsFiredFirst (at_clock (sleeps_of at.timers) n) s waker × (sleeps_of c.clock.new.self ≡ fired (at_clock (sleeps_of at.timers) n) s) = c.in-Some.ensures.some in
-      let first : IsFirst mid.sessions mid.greatest s = first_due mid s waker (subst (λ x. IsFiredFirst (at_clock x n) s waker) was.2.sleeps told.0) in
+      let told : IsFiredFirst (at_clock_tick (sleeps_of at.timers) n) s waker × (sleeps_of c.clock.new.self ≡ with_fired_sleep (at_clock_tick (sleeps_of at.timers) n) s) = c.in-Some.ensures.some in
+      let first : IsFirst mid.sessions mid.greatest s = first_due mid s waker (subst (λ x. IsFiredFirst (at_clock_tick x n) s waker) was.2.sleeps told.0) in
       let beside : Beside mid_code mid = beside_clock at mid_code before (greatest_at before n) refl refl refl was.2.beside in
       let here : IsFirst (without_all start due).sessions tick s = subst (λ t. IsFirst (without_all start due).sessions t s) (all_greatest start due) (subst (λ (x : Keeper). IsFirst x.sessions x.greatest s) same first) in (
         due ++ s ∷ [],
         without_session mid s,
         record {
-          sleeps = c.close_due.ensures.sleeps ∙ ap (λ x. removed x s) (told.1 ∙ ap (λ x. fired (at_clock x n) s) was.2.sleeps) ∙ sleep_closed mid s (due_inside mid mid.greatest s first);
+          sleeps = c.close_due.ensures.sleeps ∙ ap (λ x. with_removed_sleep x s) (told.1 ∙ ap (λ x. with_fired_sleep (at_clock_tick x n) s) was.2.sleeps) ∙ sleep_closed mid s (due_inside mid mid.greatest s first);
           beside = c.close_due.ensures.beside mid beside;
         },
         clock-again before n s ∙ ap (λ x. without_session x s) same ∙ sym (all-push start due s),
@@ -62,17 +62,17 @@ returns-clause-step g c = λ k st.
     let start : Keeper = with_greatest k tick in
     let mid : Keeper = with_greatest before (greatest_at before n) in
     let same : mid ≡ without_all start due = was.3 in
-    let told : IsNoneArmedUpTo (at_clock (sleeps_of at.timers) n) × (sleeps_of c.clock.new.self ≡ at_clock (sleeps_of at.timers) n) = c.in_default.ensures.none in
-    let left : CloseInTurn mid.sessions mid.greatest [] = none_due mid (subst (λ x. IsNoneArmedUpTo (at_clock x n)) was.2.sleeps told.0) in
+    let told : IsNoneArmedUpTo (at_clock_tick (sleeps_of at.timers) n) × (sleeps_of c.clock.new.self ≡ at_clock_tick (sleeps_of at.timers) n) = c.in_default.ensures.none in
+    let left : CloseInTurn mid.sessions mid.greatest [] = none_due mid (subst (λ x. IsNoneArmedUpTo (at_clock_tick x n)) was.2.sleeps told.0) in
     let none : CloseInTurn (without_all start due).sessions tick [] = subst (λ t. CloseInTurn (without_all start due).sessions t []) (all_greatest start due) (subst (λ (x : Keeper). CloseInTurn x.sessions x.greatest []) same left) in
     let lists = lists_due k.sessions tick due (subst (CloseInTurn k.sessions tick) (append-nil due) (was.5 [] none)) in
-    let matches : Matches new mid = record { sleeps = told.1 ∙ ap (λ x. at_clock x n) was.2.sleeps; beside = beside_clock at new before (greatest_at before n) refl refl refl was.2.beside } in (
+    let matches : Matches new mid = record { sleeps = told.1 ∙ ap (λ x. at_clock_tick x n) was.2.sleeps; beside = beside_clock at new before (greatest_at before n) refl refl refl was.2.beside } in (
       due,
       was.4,
       lists,
       record {
         matches = subst (Matches new) same matches;
-        rests = c.in_default.ensures.elapsed ∙ ap (λ (x : SleepTable). x.greatest) (told.1 ∙ ap (λ x. at_clock x n) was.2.sleeps) ∙ ap (λ (x : Keeper). x.greatest) same;
+        rests = c.in_default.ensures.elapsed ∙ ap (λ (x : SleepTable). x.greatest) (told.1 ∙ ap (λ x. at_clock_tick x n) was.2.sleeps) ∙ ap (λ (x : Keeper). x.greatest) same;
         timely = clock_timely k (without_all start due) n (answer.Closed due) st.timely (c.args.now.in_range, lists, refl);
       },
     )

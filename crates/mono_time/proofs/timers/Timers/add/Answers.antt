@@ -3,7 +3,7 @@ use Rattle.std.specs.Prelude.{nat_le, ◌==◌, ◌||◌, ◌-◌}
 use Rattle.mono_model.specs.Table.{with_next}
 use Rattle.mono_model.proofs.TableOf.{length-table_of}
 use Rattle.mono_time.specs.Instants.{nanos_of}
-use Rattle.mono_time.specs.Sleeps.{with_table, added, fresh}
+use Rattle.mono_time.specs.Sleeps.{with_table, with_added_sleep, fresh}
 use Rattle.mono_time.specs.Keeping.{Holds, kept_at}
 use Rattle.mono_model.specs.SleepActs as machine
 use Rattle.mono_time.specs.Stands.{Standing}
@@ -85,7 +85,7 @@ returns-in-Ok-clause-added c =
       search rules,
       full-kept t.wheel t.keys t.entries.items t.greatest t.live t.holds t.limit ∙ room,
       number ∙ sym (length-table_of (kept_at t.wheel t.keys t.entries.items) (length t.keys)),
-      ap (with_table (sleeps_of t)) table ∙ ap (added (sleeps_of t)) c.tick.ensures.tick,
+      ap (with_table (sleeps_of t)) table ∙ ap (with_added_sleep (sleeps_of t)) c.tick.ensures.tick,
     )
 
 pub returns-in-Ok-clause-stands : goal.returns-in-Ok-clause-stands

@@ -6,7 +6,7 @@ use Rattle.mono_model.specs.Table.{value_at, with_value}
 use Rattle.mono_model.specs.Firing.{IsFirstDue}
 use Rattle.mono_wheel.specs.Model.{CameOut, NothingDue}
 use Rattle.mono_time.specs.Instants.{nanos_of}
-use Rattle.mono_time.specs.Sleeps.{armed, elapsed, Kept, is_armed, IsFiredFirst, fired, at_clock}
+use Rattle.mono_time.specs.Sleeps.{armed, elapsed, Kept, is_armed, IsFiredFirst, with_fired_sleep, at_clock_tick}
 use Rattle.mono_time.specs.Timers.{sleeps_of}
 use Rattle.mono_model.specs.SleepActs as machine
 use Rattle.mono_time.specs.Stands.{Standing}
@@ -74,16 +74,16 @@ returns-in-Some-clause-some g c =
     let inside : k < length t.entries.items = key_inside t.wheel t.keys t.entries.items t.greatest t.live t.holds owned.0 k owned.1 in
     let was : slice_get t.entries.items k ≡ Some e = slice_get_read t.entries.items _ k e refl inside c.index_mut-entry.ensures.value in
     let number : f.sleep ≡ owned.0 = fired-number t.wheel left t.keys t.entries.items t.greatest t.live t.limit t.holds now less below k came e f was c.elapse-waker.ensures.entry in
-    let first : IsFiredFirst (at_clock (sleeps_of t) (nanos_of c.args.now)) owned.0 c.elapse-waker.result = record {
+    let first : IsFiredFirst (at_clock_tick (sleeps_of t) (nanos_of c.args.now)) owned.0 c.elapse-waker.result = record {
       tick = left.elapsed;
       is_armed_there = table-armed t.wheel left t.keys t.entries.items t.greatest t.live t.limit t.holds now less below k came e f was c.elapse-waker.ensures.entry ∙ ap (λ w. Some (armed left.elapsed w)) (sym c.elapse-waker.ensures.waker);
       is_due = omega (arith, is, came.due.3);
       is_least = table-least t.wheel left t.keys t.entries.items t.greatest t.live t.limit t.holds now less below k came e f was c.elapse-waker.ensures.entry;
     } in (
-      subst (λ s. IsFiredFirst (at_clock (sleeps_of t) (nanos_of c.args.now)) s c.elapse-waker.result) (sym number) first,
+      subst (λ s. IsFiredFirst (at_clock_tick (sleeps_of t) (nanos_of c.args.now)) s c.elapse-waker.result) (sym number) first,
       ap (λ table. record { table = table; greatest = now; limit = t.limit; is_enabled = t.is_enabled }) (table-fired t.wheel left t.keys t.entries.items t.greatest t.live t.limit t.holds now less below k came e f was c.elapse-waker.ensures.entry)
           ∙ ap (λ n. record { table = with_value (table_kept t.wheel t.keys t.entries.items) owned.0 elapsed; greatest = n; limit = t.limit; is_enabled = t.is_enabled }) is
-          ∙ ap (fired (at_clock (sleeps_of t) (nanos_of c.args.now))) (sym number),
+          ∙ ap (with_fired_sleep (at_clock_tick (sleeps_of t) (nanos_of c.args.now))) (sym number),
     )
 
 pub returns-in-Some-clause-stands : goal.returns-in-Some-clause-stands
