@@ -6,4 +6,6 @@ mod inboxes;
 #[cfg(test)]
 mod jobs;
 #[cfg(test)]
+mod marks;
+#[cfg(test)]
 mod pools;
