@@ -6,6 +6,4 @@ mod inboxes;
 #[cfg(test)]
 mod jobs;
 #[cfg(test)]
-mod marks;
-#[cfg(test)]
 mod pools;
