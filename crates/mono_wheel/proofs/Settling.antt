@@ -19,7 +19,7 @@ in-last [] key a (inr e) = absurd e
 in-last (y ∷ ys) key a (inl e) = inl (inl e)
 in-last (y ∷ ys) key a (inr i) = elim (in-last ys key a i) [ inl j ↦ inl (inr j) | inr e ↦ inr e ]
 
-some-not : (o : Option Timed) (t : Timed) → o ≡ Some t → o ≡ None → ⊥
+pub some-not : (o : Option Timed) (t : Timed) → o ≡ Some t → o ≡ None → ⊥
 some-not o t e f = let g : Some t ≡ None = sym e ∙ f in cc
 
 fits-anew : (elapsed tick : ℕ) → elapsed ≤ tick → Fits elapsed (Some record { tick = tick; registered = tick })
