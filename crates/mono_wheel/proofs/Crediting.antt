@@ -10,7 +10,7 @@ use Rattle.mono_wheel.specs.Credit.{takes, credit_of, credit, most_takes, reset_
 use Rattle.mono_wheel.specs.Onward.{at_tick}
 use Rattle.mono_wheel.specs.Held.{place_of, timed_of, timed_in, StandsIn, Held, IsNextSlot, Settled}
 use Rattle.mono_wheel.specs.declared.entry.Entry.{Entry}
-use Rattle.mono_wheel.proofs.Keys.{timed-here}
+use Rattle.mono_wheel.proofs.Keys.{none_of, timed-here}
 use Rattle.mono_wheel.proofs.Due.{due-stands, due-below, stands-pending}
 use Rattle.mono_wheel.proofs.Standing.{false-true}
 use Rattle.mono_wheel.proofs.Starts.{start-le, start-same, takes-once, takes-bound, takes-later, eqb-no, ltb_tells}
@@ -224,14 +224,14 @@ module _ (elapsed begin list : ℕ) (entries : List Entry) (links taken : Lists)
       ])
 
 -- a pending key is no longer taken from a slot
-pub due-credit : (elapsed : ℕ) (entries : List Entry) (links : Lists) (key : ℕ) (front : List ℕ) (x : Entry) → Held elapsed entries links → list_at links pending_list ≡ front ++ key ∷ [] → x.is_in ≡ false →
+pub due-credit : (elapsed : ℕ) (entries : List Entry) (links : Lists) (key : ℕ) (front : List ℕ) (x : Entry) → Held elapsed entries links → list_at links pending_list ≡ front ++ key ∷ [] → x.tick ≡ 0 →
     credit_of elapsed (map timed_of (set entries key x)) ≡ credit_of elapsed (map timed_of entries)
 due-credit elapsed entries links key front x h is out =
     let stands = due-stands elapsed entries links key front h is in
     let below : key < length (map timed_of entries) = let b = due-below elapsed entries links key front h is in let n = length-map entries timed_of in omega (arith, b, n) in
     let pending = stands-pending elapsed (timed_in entries key) stands (h.fits key) in
     let zero_here : takes elapsed (timed_in entries key) ≡ 0 = ap (takes elapsed) pending.1 ∙ takes-now elapsed pending.0 pending.2 in
-    let gone : timed_of x ≡ None = rw out refl in
+    let gone : timed_of x ≡ None = none_of x out in
     let zero_then : takes elapsed (timed_of x) ≡ 0 = ap (takes elapsed) gone in
     let r = credit-set elapsed key (map timed_of entries) (timed_of x) below in
     ap (credit_of elapsed) (map-set timed_of entries key x) ∙ omega (arith, r, zero_here, zero_then)

@@ -8,7 +8,7 @@ use Rattle.mono_wheel.specs.declared.entry.Entry.{Entry}
 use Rattle.mono_wheel.proofs.Chains.{is_in-front}
 use Rattle.mono_wheel.proofs.Calls.{last-in}
 use Rattle.mono_wheel.proofs.Places.{place_in-below}
-use Rattle.mono_wheel.proofs.Keys.{timed-here, timed-other, entry-in, entry-inside, entry-below}
+use Rattle.mono_wheel.proofs.Keys.{some_of, timed-here, timed-other, entry-in, entry-inside, entry-below}
 use Rattle.mono_wheel.proofs.Order.{behind-last}
 use Rattle.mono_wheel.proofs.Holding.{list-same, list-other}
 use Rattle.mono_wheel.specs.Start.{taken_list, list_count}
@@ -85,8 +85,8 @@ module _ (elapsed : ℕ) (first entries entries2 : List Entry) (start links popp
 
     here : timed_in entries2 key ≡ Some record { tick = r.entry.tick; registered = r.entry.tick }
     here =
-        let inside : r.entry.is_in ≡ true = entry-inside entries key r.entry step-below r.was some in
-        ap (λ es. timed_in es key) r.entries_are ∙ timed-here entries key (entry_anew r.entry) step-below ∙ rw inside refl
+        let inside : r.entry.tick ≢ 0 = entry-inside entries key r.entry step-below r.was some in
+        ap (λ es. timed_in es key) r.entries_are ∙ timed-here entries key (entry_anew r.entry) step-below ∙ some_of (entry_anew r.entry) inside
 
     other : (k : ℕ) → k ≢ key → timed_in entries2 k ≡ timed_in entries k
     other k ne = ap (λ es. timed_in es k) r.entries_are ∙ timed-other entries key k (entry_anew r.entry) ne
