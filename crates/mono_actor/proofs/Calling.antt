@@ -8,7 +8,7 @@ use Rattle.mono_model.specs.Valid.{once_if}
 use Rattle.mono_actor.specs.Actors.{Mode, idle, queued, running, Actor, Actors, is_idle, mode_with, wait_from, with_letter, with_actor, in_mode, queued_last, received_value}
 use Rattle.mono_actor.specs.Steps.{waiting_in}
 use Rattle.mono_actor.specs.Standing.{is_queued, is_running}
-use Rattle.mono_actor.specs.Places.{mode_of, receipt_in, timing_in, actor_of, table_of, Becomes, receipt_of, delivered}
+use Rattle.mono_actor.specs.Places.{mode_of, receipt_in, timing_in, actor_of, table_of, Becomes, receipt_of, delivered, Place}
 use Rattle.mono_actor.specs.Alarms.{tick_at, Sets}
 use Rattle.mono_actor.specs.Keeping.{Lines, Counts, Holds}
 use Rattle.mono_actor.specs.declared.alarms.Alarms.{Alarms}
@@ -18,7 +18,6 @@ use Rattle.mono_actor.specs.declared.places.Mode.TheVariants as place
 use Rattle.mono_actor.specs.declared.places.Receipt.{Receipt}
 use Rattle.mono_actor.specs.declared.places.Receipt.TheVariants as receipt
 use Rattle.mono_actor.specs.declared.places.Timing.TheVariants as timing
-use Rattle.mono_actor.specs.declared.places.Place.{Place}
 use Rattle.mono_actor.proofs.Tying.{Retimed, ties-changed, of_same, of_sets}
 use Rattle.mono_actor.proofs.Counting.{there, table-set, counts-changed, queue-live}
 use Rattle.mono_actor.proofs.Timing.{Stands, received}
