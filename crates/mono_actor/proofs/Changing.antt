@@ -1,17 +1,17 @@
 -- The store when the mailbox or the mode of one actor changes.
-use Rattle.std.proofs.Common.{◌≡◌, ◌≢◌, ◌<◌, ◌+◌, ◌-◌, zero, suc, inl, inr, ◌⊎◌, ℕ, true, false, Bool, cond, List, [], ◌∷◌, ◌++◌, length, map, set, get_or, Some, None, Option, refl, ap, sym, subst, ◌∙◌, arith, eq-eqb, ne_eqb}
-use Rattle.std.specs.Prelude.{is_some, sum_by, ◌==◌}
+use Rattle.std.proofs.Common.{◌≡◌, ◌≢◌, ◌<◌, ◌+◌, ◌-◌, zero, suc, inl, inr, ℕ, true, false, cond, List, [], ◌∷◌, ◌++◌, length, map, set, get_or, Some, None, Option, refl, ap, sym, subst, ◌∙◌, arith, ne_eqb}
+use Rattle.std.specs.Prelude.{is_some, ◌==◌}
 use Rattle.std.specs.Option.{option_map}
 use Rattle.std.proofs.Math.ListN.{get_or-map}
-use Rattle.std.proofs.lemmas.Bool.{cases_eq, cases_lt}
-use Rattle.std.proofs.lemmas.List.{get_or-set_other, get_or-set_same, set-set, set-get_or}
+use Rattle.std.proofs.lemmas.Bool.{cases_eq}
+use Rattle.std.proofs.lemmas.List.{get_or-set_other, get_or-set_same, set-set}
 use Rattle.std.proofs.lemmas.List.Sums.{sum_by-set}
 use Rattle.mono_model.specs.Table.{value_at}
 use Rattle.mono_wheel.specs.Lists.{IsIn}
 use Rattle.mono_wheel.specs.Rings.{Distinct}
 use Rattle.mono_wheel.proofs.Chains.{is_in-pushed, distinct-pushed, is_in_equal}
 use Rattle.mono_actor.specs.Actors.{Actor}
-use Rattle.mono_actor.specs.Places.{Place, actor_of, Becomes, Changes}
+use Rattle.mono_actor.specs.Places.{Place, actor_of, Changes}
 use Rattle.mono_actor.specs.Mailboxes.{keys_from, EndsAt, count_in, slot_at, next_of, next_in, letter_of, letters_at, keys_of, keys_in, place_of, places_in, EndsIn, Sound, IsPut, IsTaken}
 use Rattle.mono_actor.specs.declared.mailboxes.Letter.{Letter}
 use Rattle.mono_actor.specs.declared.mailboxes.Link.{Link}

@@ -5,7 +5,7 @@ use Rattle.std.proofs.lemmas.Bool.{cases_eq}
 use Rattle.std.proofs.lemmas.List.{append_assoc, append-nil, length-append, get_or-set_same, get_or-set_other}
 use Rattle.mono_wheel.specs.Lists.{IsIn}
 use Rattle.mono_wheel.specs.Rings.{Distinct}
-use Rattle.mono_actor.specs.Mailboxes.{keys_from, EndsAt, slot_at, next_of, next_in, letter_of, letters_at, IsPut}
+use Rattle.mono_actor.specs.Mailboxes.{keys_from, EndsAt, slot_at, next_of, letter_of, letters_at, IsPut}
 use Rattle.mono_actor.specs.declared.mailboxes.Letter.{Letter}
 use Rattle.mono_actor.specs.declared.mailboxes.Link.{Link}
 use Rattle.mono_actor.specs.declared.mailboxes.Mailbox.{Mailbox}

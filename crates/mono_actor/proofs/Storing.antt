@@ -1,15 +1,15 @@
 -- What the calls of the store leave.
-use Rattle.std.proofs.Common.{◌≡◌, ◌≢◌, ◌<◌, ◌+◌, ◌-◌, ◌^◌, zero, suc, inl, inr, ℕ, true, false, Bool, cond, List, [], ◌∷◌, ◌++◌, length, set, get_or, Some, None, Option, refl, ap, sym, subst, ◌∙◌, arith}
-use Rattle.std.specs.Prelude.{is_some, sum_by, IfSome, ◌==◌}
+use Rattle.std.proofs.Common.{◌≡◌, ◌<◌, ◌+◌, ◌^◌, zero, suc, inl, inr, ℕ, true, false, Bool, cond, List, [], ◌∷◌, ◌++◌, length, set, get_or, Some, None, Option, refl, ap, sym, subst, ◌∙◌, arith}
+use Rattle.std.specs.Prelude.{is_some, IfSome, ◌==◌}
 use Rattle.std.specs.Option.{option_map}
-use Rattle.std.proofs.lemmas.Bool.{cases_eq, cases_lt}
+use Rattle.std.proofs.lemmas.Bool.{cases_eq}
 use Rattle.std.proofs.lemmas.List.{get_or-set_same, set-set, set-get_or, get_or_default, get_or_past}
 use Rattle.std.proofs.lemmas.List.Sums.{sum_by-append, sum_by-cons}
 use Rattle.mono_model.specs.Table.{value_at}
 use Rattle.mono_wheel.specs.Lists.{IsIn}
 use Rattle.mono_wheel.specs.Rings.{Distinct}
-use Rattle.mono_actor.specs.Actors.{Actor, idle, queued, running, in_mode, mode_with, wait_from, rest_of}
-use Rattle.mono_actor.specs.Places.{Place, mode_of, actor_of, Becomes, Changes, delivered, timed_actor, rested, rest_in, rest_of_turn, unread, first_of}
+use Rattle.mono_actor.specs.Actors.{Actor, idle, queued, in_mode, mode_with, wait_from, rest_of}
+use Rattle.mono_actor.specs.Places.{Place, mode_of, actor_of, Changes, delivered, timed_actor, rested, rest_in, rest_of_turn, unread, first_of}
 use Rattle.mono_actor.specs.Entries.{entry_with, entry_in, notified, notified_mode, timed_entry, timed_mode, rested_entry, rested_mode}
 use Rattle.mono_actor.specs.Mailboxes.{keys_from, EndsAt, count_in, slot_at, next_in, letters_at, keys_of, keys_in, place_of, places_in, EndsIn, Sound, IsPut, IsTaken}
 use Rattle.mono_actor.specs.declared.mailboxes.Letter.{Letter}

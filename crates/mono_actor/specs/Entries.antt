@@ -1,5 +1,5 @@
 -- What calls make of what is kept of an actor beside its letters.
-use Rattle.std.specs.Prelude.{ℕ, Bool, ◌==◌, if◌then◌else◌, Option}
+use Rattle.std.specs.Prelude.{ℕ, Bool, ◌==◌, if◌then◌else◌}
 use Rattle.mono_actor.specs.Actors.{wait_from}
 use Rattle.mono_actor.specs.declared.mailboxes.Mailbox.{Mailbox}
 use Rattle.mono_actor.specs.declared.places.Mode as declared

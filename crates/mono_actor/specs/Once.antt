@@ -2,7 +2,6 @@
 use mathlib.Core.HLevel.{Unit-prop, ×_prop}
 use Rattle.std.specs.Prelude.{ℕ, List, [], ◌∷◌, Some, None, Option}
 use Rattle.std.proofs.Props.{props}
-use Rattle.mono_wheel.specs.Lists.{IsIn}
 use Rattle.mono_wheel.specs.Rings.{Distinct}
 use Rattle.mono_actor.specs.Mailboxes.{EndsAt, EndsIn, keys_of}
 use Rattle.mono_actor.specs.declared.mailboxes.Link.{Link}

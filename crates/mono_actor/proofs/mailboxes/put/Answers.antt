@@ -1,5 +1,4 @@
-use Rattle.std.proofs.Common.{ap, sym, ◌∙◌, arith}
-use Rattle.std.specs.Prelude.{is_some}
+use Rattle.std.proofs.Common.{arith}
 use Rattle.mono_actor.proofs.Linked.{put-linked, known-apart}
 use Rattle.mono_actor.proofs.mailboxes.put.Goals as goal
 

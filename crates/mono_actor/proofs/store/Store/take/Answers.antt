@@ -1,4 +1,4 @@
-use Rattle.mono_actor.proofs.Storing.{first-known, take-sound, take-changes, take-first, none-changes, none-first}
+use Rattle.mono_actor.proofs.Storing.{first-known, take-sound, take-changes, take-first, none-changes}
 use Rattle.mono_actor.proofs.store.Store.take.Goals as goal
 
 pub take-requires : goal.take-requires

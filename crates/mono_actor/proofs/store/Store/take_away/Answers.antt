@@ -1,7 +1,7 @@
-use Rattle.std.proofs.Common.{ap, sym, ◌∙◌, set, None}
+use Rattle.std.proofs.Common.{◌∙◌}
 use Rattle.mono_actor.specs.Places.{unread}
 use Rattle.mono_actor.specs.Stored.{places_of}
-use Rattle.mono_actor.proofs.Storing.{changed-there, changed-gone, still-empty, fewer-left, gone-sound, gone-places, left-letters, left-alarm}
+use Rattle.mono_actor.proofs.Storing.{changed-there, changed-gone, still-empty, gone-sound, gone-places, left-letters}
 use Rattle.mono_actor.proofs.store.Store.take_away.Goals as goal
 
 pub loop-preserved-in-Some : goal.loop-preserved-in-Some
