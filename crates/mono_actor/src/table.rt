@@ -20,7 +20,8 @@ use std::sync::ledger::Ledger;
 ///
 /// An actor is idle, queued or running. What an actor does in its turn is any code between [`Actors::begin`] and
 /// [`Actors::end`]. Numbers count from 0 and are never given twice. Timeouts are in milliseconds of the clock of
-/// [`Actors::clock`]. Only `new`, `spawn` and `send` take memory; an actor without messages takes that of its place.
+/// [`Actors::clock`]. Only `new`, `spawn` and `send` take memory; an actor without messages takes that of its entry. A
+/// message takes memory of one store for all mailboxes, which can be used again once it is read.
 #[derive(Drop)]
 pub struct Actors<M> {
     // by number, what is kept of the actor while it is live
