@@ -7,6 +7,7 @@ pub mod laws;
 mod mailboxes;
 mod places;
 pub mod rows;
+mod store;
 mod table;
 #[cfg(test)]
 mod tests;
