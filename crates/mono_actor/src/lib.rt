@@ -8,8 +8,6 @@ mod mailboxes;
 mod places;
 pub mod rows;
 mod table;
-#[cfg(test)]
-mod tests;
 
 pub use answers::{ActorError, After, Got, SendRefused, Sent};
 pub use table::Actors;
