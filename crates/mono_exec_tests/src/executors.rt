@@ -19,6 +19,38 @@ fn turn(alloc: Global, steps: &[TurnStep], end: End) -> Result<Event, AllocError
     Ok(Event::Turn(list, end))
 }
 
+/// What an executor answers to an act.
+fn act(alloc: Global, exec: &mut Exec, asked: Act) -> Result<Report, AllocError> {
+    exec.apply(alloc, &Event::Act(asked))
+}
+
+/// What an executor answers to a clock step to so many nanoseconds.
+fn clock(alloc: Global, exec: &mut Exec, nanos: u128) -> Result<Report, AllocError> {
+    exec.apply(alloc, &Event::Clock(nanos))
+}
+
+/// What an executor answers to a turn of these steps.
+fn run(alloc: Global, exec: &mut Exec, steps: &[TurnStep]) -> Result<Report, AllocError> {
+    let event = turn(alloc, steps, End::Pending)?;
+    exec.apply(alloc, &event)
+}
+
+/// The next expiration after an act.
+fn next_after_act(alloc: Global, exec: &mut Exec, asked: Act) -> Result<Option<u64>, AllocError> {
+    act(alloc, exec, asked)?;
+    Ok(exec.timers().next_expiration_time())
+}
+
+/// The next expiration after a clock step.
+fn next_after_clock(
+    alloc: Global,
+    exec: &mut Exec,
+    nanos: u128,
+) -> Result<Option<u64>, AllocError> {
+    clock(alloc, exec, nanos)?;
+    Ok(exec.timers().next_expiration_time())
+}
+
 /// Whether the report is this answer to an act.
 fn is_reply(report: &Report, reply: Reply) -> bool {
     match report {
@@ -63,9 +95,8 @@ fn lists(rt: HostRuntime) -> Result<(), Fail> {
     Ok(())
 }
 
-#[test]
-fn both_roundings(rt: HostRuntime) -> Result<(), Fail> {
-    let alloc = rt.alloc();
+/// A sleep that is armed, and a clock step just before its deadline's tick and one at it.
+fn events_of_both_roundings(alloc: Global) -> Result<Vec<Event>, AllocError> {
     let steps = [
         TurnStep::Act(Act::NewSleep(1000001)),
         TurnStep::Query(Query::Sleep(0)),
@@ -75,19 +106,27 @@ fn both_roundings(rt: HostRuntime) -> Result<(), Fail> {
     events.push(turn(alloc, &steps, End::Pending)?)?;
     events.push(Event::Clock(1999999))?;
     events.push(Event::Clock(2000000))?;
-    let reports = replay(alloc, LIMITS, Blocking::Attached, &events)?;
-    assert_eq!(rt; reports.len(), 4);
-    assert!(rt; is_reply(&reports[0], Reply::Task(0)));
-    assert!(rt;
-        is_turn(
-            &reports[1],
-            0,
-            &[Reply::Sleep(0), Reply::Pending],
-            Ended::Idle
-        )
-    );
-    assert!(rt; has_fired(&reports[2], &[]));
-    assert!(rt; has_fired(&reports[3], &[0]));
+    Ok(events)
+}
+
+/// Whether these are the reports of it.
+fn are_both_roundings(reports: &[Report]) -> bool {
+    match reports {
+        [spawned, turned, before, at] => {
+            is_reply(spawned, Reply::Task(0))
+                && is_turn(turned, 0, &[Reply::Sleep(0), Reply::Pending], Ended::Idle)
+                && has_fired(before, &[])
+                && has_fired(at, &[0])
+        }
+        _ => false,
+    }
+}
+
+#[test]
+fn both_roundings(rt: HostRuntime) -> Result<(), Fail> {
+    let events = events_of_both_roundings(rt.alloc())?;
+    let reports = replay(rt.alloc(), LIMITS, Blocking::Attached, &events)?;
+    assert!(rt; are_both_roundings(reports.as_slice()));
     Ok(())
 }
 
@@ -100,11 +139,10 @@ fn next_expiration(rt: HostRuntime) -> Result<(), Fail> {
         TurnStep::Query(Query::Sleep(0)),
     ];
     let mut exec = Exec::new(alloc, LIMITS, Blocking::Attached)?;
-    exec.apply(alloc, &Event::Act(Act::Spawn))?;
-    exec.apply(alloc, &turn(alloc, &steps, End::Pending)?)?;
+    act(alloc, &mut exec, Act::Spawn)?;
+    run(alloc, &mut exec, &steps)?;
     assert_eq!(rt; exec.timers().next_expiration_time(), Some(2));
-    exec.apply(alloc, &Event::Clock(2000000))?;
-    assert_eq!(rt; exec.timers().next_expiration_time(), None);
+    assert_eq!(rt; next_after_clock(alloc, &mut exec, 2000000)?, None);
     assert_eq!(rt; exec.timers().greatest(), 2);
     Ok(())
 }
@@ -116,9 +154,9 @@ fn armed_at(alloc: Global, elapsed: u64, tick: u64) -> Result<Exec, AllocError> 
         TurnStep::Query(Query::Sleep(0)),
     ];
     let mut exec = Exec::new(alloc, LIMITS, Blocking::Attached)?;
-    exec.apply(alloc, &Event::Act(Act::Spawn))?;
-    exec.apply(alloc, &Event::Clock(u128::from(elapsed) * 1000000))?;
-    exec.apply(alloc, &turn(alloc, &steps, End::Pending)?)?;
+    act(alloc, &mut exec, Act::Spawn)?;
+    clock(alloc, &mut exec, u128::from(elapsed) * 1000000)?;
+    run(alloc, &mut exec, &steps)?;
     Ok(exec)
 }
 
@@ -146,14 +184,12 @@ fn next_expirations(rt: HostRuntime) -> Result<(), Fail> {
 fn registered_ticks(rt: HostRuntime) -> Result<(), Fail> {
     let alloc = rt.alloc();
     let mut exec = armed_at(alloc, 0, 100)?;
-    exec.apply(alloc, &Event::Act(Act::Reset(0, 130000000)))?;
-    assert_eq!(rt; exec.timers().next_expiration_time(), Some(64));
-    exec.apply(alloc, &Event::Clock(64000000))?;
-    assert_eq!(rt; exec.timers().next_expiration_time(), Some(128));
-    exec.apply(alloc, &Event::Act(Act::Reset(0, 100000000)))?;
-    assert_eq!(rt; exec.timers().next_expiration_time(), Some(100));
-    let report = exec.apply(alloc, &Event::Clock(100000000))?;
-    assert!(rt; has_fired(&report, &[0]));
+    let later = Act::Reset(0, 130000000);
+    assert_eq!(rt; next_after_act(alloc, &mut exec, later)?, Some(64));
+    assert_eq!(rt; next_after_clock(alloc, &mut exec, 64000000)?, Some(128));
+    let earlier = Act::Reset(0, 100000000);
+    assert_eq!(rt; next_after_act(alloc, &mut exec, earlier)?, Some(100));
+    assert!(rt; has_fired(&clock(alloc, &mut exec, 100000000)?, &[0]));
     assert_eq!(rt; exec.timers().next_expiration_time(), None);
     Ok(())
 }
@@ -181,8 +217,7 @@ fn refused_acts(rt: HostRuntime) -> Result<(), Fail> {
     ];
     let mut exec = Exec::new(alloc, limits, Blocking::ExecuteLocal)?;
     for case in &cases {
-        let report = exec.apply(alloc, &Event::Act(case.0))?;
-        assert!(rt; is_reply(&report, case.1));
+        assert!(rt; is_reply(&act(alloc, &mut exec, case.0)?, case.1));
     }
     Ok(())
 }
@@ -191,9 +226,9 @@ fn refused_acts(rt: HostRuntime) -> Result<(), Fail> {
 fn refused_events(rt: HostRuntime) -> Result<(), Fail> {
     let alloc = rt.alloc();
     let mut exec = Exec::new(alloc, LIMITS, Blocking::Attached)?;
-    let report = exec.apply(alloc, &Event::Clock(MAX_NANOS + 1))?;
+    let report = clock(alloc, &mut exec, MAX_NANOS + 1)?;
     assert!(rt; is_reply(&report, Reply::Refused(Refusal::Invalid)));
-    let report = exec.apply(alloc, &turn(alloc, &[], End::Pending)?)?;
+    let report = run(alloc, &mut exec, &[])?;
     assert!(rt; is_reply(&report, Reply::Refused(Refusal::Idle)));
     Ok(())
 }
@@ -223,26 +258,35 @@ fn has_fired_in_a_row(report: &Report, from: u64, to: u64) -> bool {
     next == to
 }
 
-// The lists of a clock step serve again for the next one, at which fewer fire, or more.
-#[test]
-fn clock_steps_in_a_row(rt: HostRuntime) -> Result<(), Fail> {
-    let alloc = rt.alloc();
+/// An executor with 300 sleeps, for 1 to 300 milliseconds.
+fn with_many_sleeps(alloc: Global) -> Result<Exec, AllocError> {
     let limits = Limits {
         tasks: 1,
         jobs: 0,
         sleeps: 300,
     };
+    let event = many_sleeps(alloc)?;
     let mut exec = Exec::new(alloc, limits, Blocking::Panic)?;
-    exec.apply(alloc, &Event::Act(Act::Spawn))?;
-    exec.apply(alloc, &Event::Clock(0))?;
-    exec.apply(alloc, &many_sleeps(alloc)?)?;
-    let report = exec.apply(alloc, &Event::Clock(100_000_000))?;
-    assert!(rt; has_fired_in_a_row(&report, 0, 100));
-    let report = exec.apply(alloc, &Event::Clock(105_000_000))?;
-    assert!(rt; has_fired_in_a_row(&report, 100, 105));
-    let report = exec.apply(alloc, &Event::Clock(105_000_000))?;
-    assert!(rt; has_fired(&report, &[]));
-    let report = exec.apply(alloc, &Event::Clock(300_000_000))?;
-    assert!(rt; has_fired_in_a_row(&report, 105, 300));
+    act(alloc, &mut exec, Act::Spawn)?;
+    clock(alloc, &mut exec, 0)?;
+    exec.apply(alloc, &event)?;
+    Ok(exec)
+}
+
+// The lists of a clock step serve again for the next one, at which fewer fire, or more.
+#[test]
+fn clock_steps_in_a_row(rt: HostRuntime) -> Result<(), Fail> {
+    let alloc = rt.alloc();
+    let mut exec = with_many_sleeps(alloc)?;
+    let cases = [
+        (100_000_000, 0, 100),
+        (105_000_000, 100, 105),
+        (105_000_000, 105, 105),
+        (300_000_000, 105, 300),
+    ];
+    for (nanos, from, to) in cases {
+        let report = clock(alloc, &mut exec, nanos)?;
+        assert!(rt; has_fired_in_a_row(&report, from, to));
+    }
     Ok(())
 }
