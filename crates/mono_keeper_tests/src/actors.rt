@@ -53,28 +53,37 @@ fn no_actor(message: u64) -> Result<Sent, SendRefused<u64>> {
     })
 }
 
+// Actor 1 takes the first message, and sends one back.
+fn first_turn(actors: &mut Actors<u64>) -> Result<bool, Fail> {
+    let got = begin(actors)?;
+    let sent = actors.send(1, 0, 5);
+    let after = end(actors, false)?;
+    Ok(got == (1, Got::Message(0, 7)) && sent == Ok(Sent::Queued) && after == After::Again)
+}
+
+// Actor 0 takes it.
+fn second_turn(actors: &mut Actors<u64>) -> Result<bool, Fail> {
+    let got = begin(actors)?;
+    let after = end(actors, false)?;
+    Ok(got == (0, Got::Message(1, 5)) && after == After::Idle)
+}
+
+// Actor 1 takes the second message, sends to nobody, and stops.
+fn third_turn(actors: &mut Actors<u64>) -> Result<bool, Fail> {
+    let got = begin(actors)?;
+    let sent = actors.send(1, 3, 1);
+    let after = end(actors, true)?;
+    Ok(got == (1, Got::Message(0, 8)) && sent == no_actor(1) && after == After::Stopped)
+}
+
 // Two actors that send to each other, one of which stops.
 fn passed_on(alloc: Global) -> Result<bool, Fail> {
     let mut actors: Actors<u64> = Actors::new(alloc, 4, 16)?;
     let spawned = actors.spawn(alloc) == Ok(0) && actors.spawn(alloc) == Ok(1);
     let sent = actors.send(0, 1, 7) == Ok(Sent::Queued) && actors.send(0, 1, 8) == Ok(Sent::Waits);
-    let first = begin(&mut actors)? == (1, Got::Message(0, 7))
-        && actors.send(1, 0, 5) == Ok(Sent::Queued)
-        && end(&mut actors, false)? == After::Again;
-    let second = begin(&mut actors)? == (0, Got::Message(1, 5))
-        && end(&mut actors, false)? == After::Idle;
-    let third = begin(&mut actors)? == (1, Got::Message(0, 8))
-        && actors.send(1, 3, 1) == no_actor(1)
-        && end(&mut actors, true)? == After::Stopped;
-    Ok(
-        spawned
-            && sent
-            && first
-            && second
-            && third
-            && actors.send(0, 1, 9) == no_actor(9)
-            && actors.live() == 1,
-    )
+    let turns = first_turn(&mut actors)? && second_turn(&mut actors)? && third_turn(&mut actors)?;
+    let late = actors.send(0, 1, 9) == no_actor(9);
+    Ok(spawned && sent && turns && late && actors.live() == 1)
 }
 
 // A timeout that comes together with a message, and one that comes alone.
