@@ -131,32 +131,44 @@ fn both_roundings(rt: HostRuntime) -> Result<(), Fail> {
 }
 
 // Both roundings on the table of sleeps: the deadline is rounded up to its tick.
-#[test]
-fn next_expiration(rt: HostRuntime) -> Result<(), Fail> {
-    let alloc = rt.alloc();
+/// A task sleeps to an instant.
+fn sleeps_to(alloc: Global, exec: &mut Exec, nanos: u128) -> Result<(), AllocError> {
     let steps = [
-        TurnStep::Act(Act::NewSleep(1000001)),
+        TurnStep::Act(Act::NewSleep(nanos)),
         TurnStep::Query(Query::Sleep(0)),
     ];
-    let mut exec = Exec::new(alloc, LIMITS, Blocking::Attached)?;
-    act(alloc, &mut exec, Act::Spawn)?;
-    run(alloc, &mut exec, &steps)?;
-    assert_eq!(rt; exec.timers().next_expiration_time(), Some(2));
-    assert_eq!(rt; next_after_clock(alloc, &mut exec, 2000000)?, None);
+    run(alloc, exec, &steps)?;
+    Ok(())
+}
+
+/// The next expirations around the only sleep's deadline.
+fn next_of_one(alloc: Global, exec: &mut Exec) -> Result<(Option<u64>, Option<u64>), AllocError> {
+    act(alloc, exec, Act::Spawn)?;
+    sleeps_to(alloc, exec, 1000001)?;
+    let before = exec.timers().next_expiration_time();
+    let after = next_after_clock(alloc, exec, 2000000)?;
+    Ok((before, after))
+}
+
+#[test]
+fn next_expiration(rt: HostRuntime) -> Result<(), Fail> {
+    let mut exec = Exec::new(rt.alloc(), LIMITS, Blocking::Attached)?;
+    assert_eq!(rt; next_of_one(rt.alloc(), &mut exec)?, (Some(2), None));
     assert_eq!(rt; exec.timers().greatest(), 2);
     Ok(())
 }
 
+/// The clock goes to a tick, and a sleep is then armed at a later one.
+fn arm(alloc: Global, exec: &mut Exec, elapsed: u64, tick: u64) -> Result<(), AllocError> {
+    act(alloc, exec, Act::Spawn)?;
+    clock(alloc, exec, u128::from(elapsed) * 1000000)?;
+    sleeps_to(alloc, exec, u128::from(tick) * 1000000)
+}
+
 // A new executor whose clock goes to a tick, and where a sleep is then armed at a later one.
 fn armed_at(alloc: Global, elapsed: u64, tick: u64) -> Result<Exec, AllocError> {
-    let steps = [
-        TurnStep::Act(Act::NewSleep(u128::from(tick) * 1000000)),
-        TurnStep::Query(Query::Sleep(0)),
-    ];
     let mut exec = Exec::new(alloc, LIMITS, Blocking::Attached)?;
-    act(alloc, &mut exec, Act::Spawn)?;
-    clock(alloc, &mut exec, u128::from(elapsed) * 1000000)?;
-    run(alloc, &mut exec, &steps)?;
+    arm(alloc, &mut exec, elapsed, tick)?;
     Ok(exec)
 }
 
@@ -179,29 +191,26 @@ fn next_expirations(rt: HostRuntime) -> Result<(), Fail> {
     Ok(())
 }
 
-// A sleep that is reset to a later tick stays where it is registered, until the clock comes to the start of its slot.
+/// Whether a sleep at tick 100 that is reset to a later tick stays where it is registered, until the clock comes to the
+/// start of its slot, and whether it fires at an earlier one.
+fn stays_registered(alloc: Global, exec: &mut Exec) -> Result<bool, AllocError> {
+    let later = next_after_act(alloc, exec, Act::Reset(0, 130000000))?;
+    let moved = next_after_clock(alloc, exec, 64000000)?;
+    let earlier = next_after_act(alloc, exec, Act::Reset(0, 100000000))?;
+    let fired = has_fired(&clock(alloc, exec, 100000000)?, &[0]);
+    Ok(later == Some(64) && moved == Some(128) && earlier == Some(100) && fired)
+}
+
 #[test]
 fn registered_ticks(rt: HostRuntime) -> Result<(), Fail> {
-    let alloc = rt.alloc();
-    let mut exec = armed_at(alloc, 0, 100)?;
-    let later = Act::Reset(0, 130000000);
-    assert_eq!(rt; next_after_act(alloc, &mut exec, later)?, Some(64));
-    assert_eq!(rt; next_after_clock(alloc, &mut exec, 64000000)?, Some(128));
-    let earlier = Act::Reset(0, 100000000);
-    assert_eq!(rt; next_after_act(alloc, &mut exec, earlier)?, Some(100));
-    assert!(rt; has_fired(&clock(alloc, &mut exec, 100000000)?, &[0]));
+    let mut exec = armed_at(rt.alloc(), 0, 100)?;
+    assert!(rt; stays_registered(rt.alloc(), &mut exec)?);
     assert_eq!(rt; exec.timers().next_expiration_time(), None);
     Ok(())
 }
 
-#[test]
-fn refused_acts(rt: HostRuntime) -> Result<(), Fail> {
-    let alloc = rt.alloc();
-    let limits = Limits {
-        tasks: 0,
-        jobs: 0,
-        sleeps: 1,
-    };
+/// Whether an executor without room for a task, with room for one sleep, gives each act its refusal in order.
+fn refuses_acts(alloc: Global, exec: &mut Exec) -> Result<bool, AllocError> {
     let cases = [
         (Act::Spawn, Reply::Refused(Refusal::AtCapacity)),
         (Act::Wake(0), Reply::Refused(Refusal::NoTask)),
@@ -215,21 +224,40 @@ fn refused_acts(rt: HostRuntime) -> Result<(), Fail> {
             Reply::Refused(Refusal::AtCapacity),
         ),
     ];
-    let mut exec = Exec::new(alloc, limits, Blocking::ExecuteLocal)?;
     for case in &cases {
-        assert!(rt; is_reply(&act(alloc, &mut exec, case.0)?, case.1));
+        if !is_reply(&act(alloc, exec, case.0)?, case.1) {
+            return Ok(false);
+        }
     }
+    Ok(true)
+}
+
+#[test]
+fn refused_acts(rt: HostRuntime) -> Result<(), Fail> {
+    let limits = Limits {
+        tasks: 0,
+        jobs: 0,
+        sleeps: 1,
+    };
+    let mut exec = Exec::new(rt.alloc(), limits, Blocking::ExecuteLocal)?;
+    assert!(rt; refuses_acts(rt.alloc(), &mut exec)?);
     Ok(())
+}
+
+/// Whether a clock step past the last instant and a turn without a task are refused.
+fn refuses_events(alloc: Global, exec: &mut Exec) -> Result<bool, AllocError> {
+    let late = is_reply(
+        &clock(alloc, exec, MAX_NANOS + 1)?,
+        Reply::Refused(Refusal::Invalid),
+    );
+    let idle = is_reply(&run(alloc, exec, &[])?, Reply::Refused(Refusal::Idle));
+    Ok(late && idle)
 }
 
 #[test]
 fn refused_events(rt: HostRuntime) -> Result<(), Fail> {
-    let alloc = rt.alloc();
-    let mut exec = Exec::new(alloc, LIMITS, Blocking::Attached)?;
-    let report = clock(alloc, &mut exec, MAX_NANOS + 1)?;
-    assert!(rt; is_reply(&report, Reply::Refused(Refusal::Invalid)));
-    let report = run(alloc, &mut exec, &[])?;
-    assert!(rt; is_reply(&report, Reply::Refused(Refusal::Idle)));
+    let mut exec = Exec::new(rt.alloc(), LIMITS, Blocking::Attached)?;
+    assert!(rt; refuses_events(rt.alloc(), &mut exec)?);
     Ok(())
 }
 
@@ -258,26 +286,17 @@ fn has_fired_in_a_row(report: &Report, from: u64, to: u64) -> bool {
     next == to
 }
 
-/// An executor with 300 sleeps, for 1 to 300 milliseconds.
-fn with_many_sleeps(alloc: Global) -> Result<Exec, AllocError> {
-    let limits = Limits {
-        tasks: 1,
-        jobs: 0,
-        sleeps: 300,
-    };
+/// A task makes 300 sleeps, for 1 to 300 milliseconds.
+fn sleeps_often(alloc: Global, exec: &mut Exec) -> Result<(), AllocError> {
+    act(alloc, exec, Act::Spawn)?;
+    clock(alloc, exec, 0)?;
     let event = many_sleeps(alloc)?;
-    let mut exec = Exec::new(alloc, limits, Blocking::Panic)?;
-    act(alloc, &mut exec, Act::Spawn)?;
-    clock(alloc, &mut exec, 0)?;
     exec.apply(alloc, &event)?;
-    Ok(exec)
+    Ok(())
 }
 
-// The lists of a clock step serve again for the next one, at which fewer fire, or more.
-#[test]
-fn clock_steps_in_a_row(rt: HostRuntime) -> Result<(), Fail> {
-    let alloc = rt.alloc();
-    let mut exec = with_many_sleeps(alloc)?;
+/// Whether the sleeps fire in a row at four clock steps.
+fn fire_in_a_row(alloc: Global, exec: &mut Exec) -> Result<bool, AllocError> {
     let cases = [
         (100_000_000, 0, 100),
         (105_000_000, 100, 105),
@@ -285,8 +304,23 @@ fn clock_steps_in_a_row(rt: HostRuntime) -> Result<(), Fail> {
         (300_000_000, 105, 300),
     ];
     for (nanos, from, to) in cases {
-        let report = clock(alloc, &mut exec, nanos)?;
-        assert!(rt; has_fired_in_a_row(&report, from, to));
+        if !has_fired_in_a_row(&clock(alloc, exec, nanos)?, from, to) {
+            return Ok(false);
+        }
     }
+    Ok(true)
+}
+
+// The lists of a clock step serve again for the next one, at which fewer fire, or more.
+#[test]
+fn clock_steps_in_a_row(rt: HostRuntime) -> Result<(), Fail> {
+    let limits = Limits {
+        tasks: 1,
+        jobs: 0,
+        sleeps: 300,
+    };
+    let mut exec = Exec::new(rt.alloc(), limits, Blocking::Panic)?;
+    sleeps_often(rt.alloc(), &mut exec)?;
+    assert!(rt; fire_in_a_row(rt.alloc(), &mut exec)?);
     Ok(())
 }
