@@ -1,11 +1,11 @@
 // What a builder sets, and a start on the defaults.
 ghost use Rattle.std.specs.Prelude.{false, ⊤};
 
-use crate::{RunError, RuntimeBuilder, start};
 use mono_blocking::{BlockingStrategy, Job, NoPool, Outcome};
 use mono_driver::StepDriver;
 use mono_inbox::NoUnpark;
 use mono_model::Host;
+use mono_rt::{RunError, RuntimeBuilder, start};
 use mono_task::{Context, Poll, TaskFuture};
 use std::alloc::Global;
 use std::test::Fail;
