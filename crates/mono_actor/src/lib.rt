@@ -9,8 +9,6 @@ mod places;
 pub mod rows;
 mod store;
 mod table;
-#[cfg(test)]
-mod tests;
 
 pub use answers::{ActorError, After, Got, SendRefused, Sent};
 pub use table::Actors;
