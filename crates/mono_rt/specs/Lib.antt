@@ -4,6 +4,8 @@ pub mod Stands
 pub mod Reached
 pub mod Turns
 pub mod Journals
+pub mod Telling
+pub mod Readings
 pub mod Blocked
 pub mod Drains
 pub mod Rounds

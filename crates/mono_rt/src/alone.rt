@@ -6,6 +6,7 @@ ghost use Rattle.mono_jobs.specs.Spawning.{strategy_of};
 ghost use Rattle.mono_rt.specs.Journals.{events_in, reports_in, Registers};
 ghost use Rattle.mono_rt.specs.Numbered.{answer_numbered};
 ghost use Rattle.mono_rt.specs.Rounds.{Blocked};
+ghost use Rattle.mono_rt.specs.Telling.{IsTold, telling};
 
 use crate::contexts::Cx;
 use crate::errors::RunError;
@@ -22,7 +23,7 @@ use std::alloc::{AllocError, Global};
 
 /// Runs a main task on a new runtime, and answers the journal beside the answer.
 ///
-/// The journal is what `Blocked` tells of the answer, from the machine's start, but where it is full (`blocked`). So what it says was done is a run of the plain machine from its start (`run`). Each park is until the next expiration over the registered ticks, of which there are none at the start (`parks`).
+/// The journal is what `Blocked` tells of the answer, from the machine's start, but where it is full (`blocked`). So what it says was done is a run of the plain machine from its start (`run`). Each park is until the next expiration over the registered ticks, of which there are none at the start (`parks`). Each reading is the one that the driver told: where it tells its time, that time and what it was parked for since; where it tells its readings, the next of them (`told`).
 pub fn run_alone<F, O, D, P, R: Host>(
     rt: &R,
     alloc: Global,
@@ -40,6 +41,7 @@ where
     P: ThreadPool + Drop,
     requires callable { (f : F) → F.can_poll f }
     ensures blocked { IfOk result (λ r. r.1.is_full ≡ false → (new : Machine) × Blocked true turns (answer_numbered O.output_number r.0) (start_machine limits (strategy_of pool)) r.1.entries.items new []) }
+    ensures told { IfOk result (λ r. r.1.is_full ≡ false → IsTold r.0 (telling (D.readings driver) (D.time driver) (D.parks driver)) r.1.entries.items) }
     ensures run { IfOk result (λ r. r.1.is_full ≡ false → (new : Machine) × Run (start_machine limits (strategy_of pool)) (events_in r.1.entries.items) (reports_in r.1.entries.items) new) }
     ensures parks { IfOk result (λ r. r.1.is_full ≡ false → (new : Machine) × ((left : ℕ → Option ℕ) × Registers None (start_machine limits (strategy_of pool)) (λ s. None) r.1.entries.items new left)) }
 {

@@ -10,6 +10,7 @@ ghost use Rattle.mono_time.specs.Timers.{registered_of};
 ghost use Rattle.mono_rt.specs.Journals.{Goes, Does, Stays, HasPlaces, WaitsForNext};
 ghost use Rattle.mono_rt.specs.Rounds.{IsWait, IsPark, Parks, OrLed, PauseEnds, Round, PassEnds, Ends, IsSpawn, IsRefused, DropsFor, Blocked, cost};
 ghost use Rattle.mono_rt.specs.Blocked.{OnCapacity};
+ghost use Rattle.mono_rt.specs.Telling.{telling, Course, going, Telling, IsParked, Still, EndsSo, EndsParked, EndsWaited};
 
 use crate::calls::drop_reply_of;
 use crate::contexts::Cx;
@@ -46,12 +47,15 @@ impl<F: Drop, O: Outcome + Drop, D: Driver, P: ThreadPool + Drop> Runtime<F, O, 
     fn park_driver<R: Host>(&mut self, rt: &R, wait: Option<u64>) -> bool
         ensures cx { self.new.cx ≡ self.old.cx }
         ensures journal { self.new.journal ≡ self.old.journal }
+        ensures told { IsParked wait result (telling (D.readings self.old.driver) (D.time self.old.driver) (D.parks self.old.driver)) (telling (D.readings self.new.driver) (D.time self.new.driver) (D.parks self.new.driver)) }
     {
-        let parked = match wait {
-            Some(ticks) => self.driver.park_timeout(rt, Duration::from_millis(ticks)),
-            None => self.driver.park(rt),
-        };
-        parked.is_err()
+        match wait {
+            Some(ticks) => self
+                .driver
+                .park_timeout(rt, Duration::from_millis(ticks))
+                .is_err(),
+            None => self.driver.park(rt).is_err(),
+        }
     }
 
     /// The clock is read, and the driver is parked. The answer tells whether it failed.
@@ -59,6 +63,7 @@ impl<F: Drop, O: Outcome + Drop, D: Driver, P: ThreadPool + Drop> Runtime<F, O, 
         ensures goes { Goes O.output_number self.old.cx.parts self.new.cx.parts self.old.journal self.new.journal }
         ensures parked { OnOk result (Does O.output_number (IsPark self.old.cx.parts.has_timers) self.old.cx.parts self.new.cx.parts self.old.journal self.new.journal) }
         ensures same { self.new.cx ≡ self.old.cx }
+        ensures told { Telling (EndsParked result) (telling (D.readings self.old.driver) (D.time self.old.driver) (D.parks self.old.driver)) going self.old.journal self.new.journal (telling (D.readings self.new.driver) (D.time self.new.driver) (D.parks self.new.driver)) }
     {
         match self.journal.reserve(2) {
             Err(_) => Err(RunError::Memory),
@@ -79,6 +84,7 @@ impl<F: Drop, O: Outcome + Drop, D: Driver, P: ThreadPool + Drop> Runtime<F, O, 
         ensures parks { Does O.output_number (OrLed result (Parks self.old.cx.parts.has_timers)) self.old.cx.parts self.new.cx.parts self.old.journal self.new.journal }
         ensures has_timers { self.new.cx.parts.has_timers ≡ self.old.cx.parts.has_timers }
         ensures turn { self.new.cx.parts.tasks.turn ≡ self.old.cx.parts.tasks.turn }
+        ensures told { Telling (EndsWaited result) (telling (D.readings self.old.driver) (D.time self.old.driver) (D.parks self.old.driver)) going self.old.journal self.new.journal (telling (D.readings self.new.driver) (D.time self.new.driver) (D.parks self.new.driver)) }
     {
         match self.park(rt) {
             Err(_) => Err(RunError::Memory),
@@ -105,6 +111,7 @@ impl<F: Drop, O: Outcome + Drop, D: Driver, P: ThreadPool + Drop> Runtime<F, O, 
         ensures has_timers { self.new.cx.parts.has_timers ≡ self.old.cx.parts.has_timers }
         ensures queued { IfOk result (λ spent. spent ≡ false → 0 < length self.new.cx.parts.tasks.tasks.queue) }
         ensures turn { self.new.cx.parts.tasks.turn ≡ self.old.cx.parts.tasks.turn }
+        ensures told { Telling (EndsSo result) (telling (D.readings self.old.driver) (D.time self.old.driver) (D.parks self.old.driver)) going self.old.journal self.new.journal (telling (D.readings self.new.driver) (D.time self.new.driver) (D.parks self.new.driver)) }
     {
         if self.cx.parts.tasks.queue_len() > 0 {
             let handed = self.driver.submit(rt);
@@ -132,6 +139,7 @@ impl<F: Drop, O: Outcome + Drop, D: Driver, P: ThreadPool + Drop> Runtime<F, O, 
         ensures refused { IfErr result (λ error. OnCapacity error (Does O.output_number IsRefused self.old.cx.parts self.new.cx.parts self.old.journal self.new.journal)) }
         ensures has_timers { self.new.cx.parts.has_timers ≡ self.old.cx.parts.has_timers }
         ensures turn { self.new.cx.parts.tasks.turn ≡ self.old.cx.parts.tasks.turn }
+        ensures told { Telling (Still going) (telling (D.readings self.old.driver) (D.time self.old.driver) (D.parks self.old.driver)) going self.old.journal self.new.journal (telling (D.readings self.new.driver) (D.time self.new.driver) (D.parks self.new.driver)) }
     {
         match self.open_spawn() {
             None => Err(RunError::Memory),
@@ -163,6 +171,7 @@ impl<F: Drop, O: Outcome + Drop, D: Driver, P: ThreadPool + Drop> Runtime<F, O, 
         ensures stays { Does O.output_number Stays self.old.cx.parts self.new.cx.parts self.old.journal self.new.journal }
         ensures goes { Goes O.output_number self.old.cx.parts self.new.cx.parts self.old.journal self.new.journal }
         ensures same { self.new.cx.parts ≡ self.old.cx.parts }
+        ensures told { Telling (Still going) (telling (D.readings self.old.driver) (D.time self.old.driver) (D.parks self.old.driver)) going self.old.journal self.new.journal (telling (D.readings self.new.driver) (D.time self.new.driver) (D.parks self.new.driver)) }
     {
         match self.journal.reserve(1) {
             Err(_) => None,
@@ -178,6 +187,7 @@ impl<F: Drop, O: Outcome + Drop, D: Driver, P: ThreadPool + Drop> Runtime<F, O, 
         ensures dropped { IfOk result (λ output. Does O.output_number (DropsFor main (option_map O.output_number output)) self.old.cx.parts self.new.cx.parts self.old.journal self.new.journal) }
         ensures goes { Goes O.output_number self.old.cx.parts self.new.cx.parts self.old.journal self.new.journal }
         ensures turn { self.new.cx.parts.tasks.turn ≡ self.old.cx.parts.tasks.turn }
+        ensures told { (course : Course) → Telling (Still course) (telling (D.readings self.old.driver) (D.time self.old.driver) (D.parks self.old.driver)) course self.old.journal self.new.journal (telling (D.readings self.new.driver) (D.time self.new.driver) (D.parks self.new.driver)) }
     {
         match self.journal.reserve(1) {
             Err(_) => Err(RunError::Memory),
@@ -215,6 +225,7 @@ where
         ensures left { IfOk result (λ left. left ≤ units) }
         ensures round { IfOk result (λ left. Does O.output_number (Round units left) self.old.cx.parts self.new.cx.parts self.old.journal self.new.journal) }
         ensures fewer { IfOk result (λ left. 0 < length self.old.cx.parts.tasks.tasks.queue → 0 < units → left < units) }
+        ensures told { Telling (Still going) (telling (D.readings self.old.driver) (D.time self.old.driver) (D.parks self.old.driver)) going self.old.journal self.new.journal (telling (D.readings self.new.driver) (D.time self.new.driver) (D.parks self.new.driver)) }
     {
         let queued = self.cx.parts.tasks.queue_len() as u64;
         let most = queued.saturating_mul(2).saturating_add(1).min(units);
@@ -236,6 +247,7 @@ where
         ensures has_timers { self.new.cx.parts.has_timers ≡ self.old.cx.parts.has_timers }
         ensures rests { self.new.cx.parts.tasks.turn ≡ None }
         ensures fewer { IfOk result (λ left. left < units) }
+        ensures told { Telling (EndsSo result) (telling (D.readings self.old.driver) (D.time self.old.driver) (D.parks self.old.driver)) going self.old.journal self.new.journal (telling (D.readings self.new.driver) (D.time self.new.driver) (D.parks self.new.driver)) }
     {
         match self.pause(rt, alloc) {
             Err(error) => Err(error),
@@ -257,6 +269,7 @@ where
         ensures ends { Does O.output_number (Ends self.old.cx.parts.has_timers main turns result) self.old.cx.parts self.new.cx.parts self.old.journal self.new.journal }
         ensures has_timers { self.new.cx.parts.has_timers ≡ self.old.cx.parts.has_timers }
         ensures rests { self.new.cx.parts.tasks.turn ≡ None }
+        ensures told { Telling (EndsSo result) (telling (D.readings self.old.driver) (D.time self.old.driver) (D.parks self.old.driver)) going self.old.journal self.new.journal (telling (D.readings self.new.driver) (D.time self.new.driver) (D.parks self.new.driver)) }
     {
         let mut units = match self.round(rt, alloc, turns) {
             Ok(left) => left,
@@ -291,6 +304,7 @@ where
         requires rests { self.old.cx.parts.tasks.turn ≡ None }
         ensures blocked { Does O.output_number (Blocked self.old.cx.parts.has_timers turns (answer_numbered O.output_number result)) self.old.cx.parts self.new.cx.parts self.old.journal self.new.journal }
         ensures rests { self.new.cx.parts.tasks.turn ≡ None }
+        ensures told { Telling (EndsSo result) (telling (D.readings self.old.driver) (D.time self.old.driver) (D.parks self.old.driver)) going self.old.journal self.new.journal (telling (D.readings self.new.driver) (D.time self.new.driver) (D.parks self.new.driver)) }
     {
         match self.start_main(alloc, future) {
             Err(error) => Err(error),

@@ -64,6 +64,7 @@ impl<F: Drop, O: Outcome + Drop, D: Driver, P: ThreadPool + Drop> Runtime<F, O, 
         ensures stands { IfOk result (λ runtime. Matches O.output_number hosting_of runtime.cx.parts (start_machine limits (strategy_of pool))) }
         ensures pool { IfOk result (λ runtime. runtime.cx.parts.blocking.pool ≡ pool) }
         ensures timers { IfOk result (λ runtime. runtime.cx.parts.has_timers ≡ has_timers) }
+        ensures driver { IfOk result (λ runtime. runtime.driver ≡ driver) }
         ensures rests { IfOk result (λ runtime. runtime.cx.parts.tasks.turn ≡ None) }
         ensures journal { IfOk result (λ runtime. runtime.journal.entries.items ≡ []) }
         ensures registered { IfOk result (λ runtime. (s : ℕ) → registered_of runtime.cx.parts.timers s ≡ None) }

@@ -7,6 +7,7 @@ ghost use Rattle.mono_rt.specs.declared.journals.Entry.TheVariants.{Ran};
 ghost use Rattle.mono_rt.specs.Drains.{told_by, listed_by, remotes, listed};
 ghost use Rattle.mono_rt.specs.Journals.{Goes, Does, HasPlaces, pushed};
 ghost use Rattle.mono_rt.specs.Rounds.{Drained};
+ghost use Rattle.mono_rt.specs.Telling.{telling, Course, Telling, Still, EndsDrained};
 
 use crate::errors::RunError;
 use crate::journals::Entry;
@@ -26,6 +27,7 @@ impl<F: Drop, O: Outcome + Drop, D: Driver, P: ThreadPool + Drop> Runtime<F, O, 
         ensures turn { self.new.cx.parts.tasks.turn ≡ self.old.cx.parts.tasks.turn }
         ensures longer { length self.old.cx.parts.tasks.tasks.queue ≤ length self.new.cx.parts.tasks.tasks.queue }
         ensures has_timers { self.new.cx.parts.has_timers ≡ self.old.cx.parts.has_timers }
+        ensures told { (before after : Course) → EndsDrained result before after → Telling (Still after) (telling (D.readings self.old.driver) (D.time self.old.driver) (D.parks self.old.driver)) before self.old.journal self.new.journal (telling (D.readings self.new.driver) (D.time self.new.driver) (D.parks self.new.driver)) }
     {
         let mut taken = Vec::new(alloc);
         match self.cx.inbox.drain(rt, alloc, &mut taken) {
@@ -42,6 +44,7 @@ impl<F: Drop, O: Outcome + Drop, D: Driver, P: ThreadPool + Drop> Runtime<F, O, 
         ensures turn { self.new.cx.parts.tasks.turn ≡ self.old.cx.parts.tasks.turn }
         ensures longer { length self.old.cx.parts.tasks.tasks.queue ≤ length self.new.cx.parts.tasks.tasks.queue }
         ensures has_timers { self.new.cx.parts.has_timers ≡ self.old.cx.parts.has_timers }
+        ensures told { (before after : Course) → EndsDrained result before after → Telling (Still after) (telling (D.readings self.old.driver) (D.time self.old.driver) (D.parks self.old.driver)) before self.old.journal self.new.journal (telling (D.readings self.new.driver) (D.time self.new.driver) (D.parks self.new.driver)) }
     {
         match self.open_drain(alloc, taken) {
             None => Err(RunError::Memory),
@@ -62,6 +65,7 @@ impl<F: Drop, O: Outcome + Drop, D: Driver, P: ThreadPool + Drop> Runtime<F, O, 
         ensures entries { self.new.journal.entries.items ≡ self.old.journal.entries.items }
         ensures full { self.new.journal.is_full ≡ self.old.journal.is_full }
         ensures same { self.new.cx ≡ self.old.cx }
+        ensures driver { self.new.driver ≡ self.old.driver }
     {
         match self.journal.reserve(taken.len() + 1) {
             Err(_) => None,
@@ -81,6 +85,7 @@ impl<F: Drop, O: Outcome + Drop, D: Driver, P: ThreadPool + Drop> Runtime<F, O, 
         ensures place { HasPlaces self.new.journal 1 }
         ensures listed { into.new.items ≡ into.old.items ++ listed self.old.cx.parts.tasks.tasks taken.now }
         ensures same { self.new.cx ≡ self.old.cx }
+        ensures driver { self.new.driver ≡ self.old.driver }
     {
         for t in taken {
             self.tell_remote(*t, into);
@@ -97,6 +102,7 @@ impl<F: Drop, O: Outcome + Drop, D: Driver, P: ThreadPool + Drop> Runtime<F, O, 
         ensures len { vec_len into.new ≤ vec_len into.old + 1 }
         ensures capacity { vec_capacity into.new ≡ vec_capacity into.old }
         ensures same { self.new.cx ≡ self.old.cx }
+        ensures driver { self.new.driver ≡ self.old.driver }
     {
         match self.cx.parts.tasks.has_finished(t) {
             Err(_) => self.journal.push(Entry::Ran(

@@ -1,5 +1,5 @@
 -- What was told of a run is what the runtime's call tells.
-use Rattle.std.proofs.Common.{◌≡◌, ℕ, true, false, [], map, Result, Ok, Err, IfOk, OnOk, refl, subst}
+use Rattle.std.proofs.Common.{◌≡◌, ℕ, zero, suc, true, false, List, [], map, Option, Some, None, Result, Ok, Err, IfOk, OnOk, refl, sym, subst, arith}
 use Rattle.mono_machine.specs.Machine.{Machine, start_machine}
 use Rattle.mono_machine.specs.declared.events.Limits.{Limits}
 use Rattle.mono_machine.specs.declared.events.Blocking.TheVariants as strategy
@@ -8,7 +8,12 @@ use Rattle.mono_rt.specs.Rounds.{Blocked, output_in}
 use Rattle.mono_rt.specs.declared.errors.RunError.{RunError}
 use Rattle.mono_rt.specs.declared.journals.Journal.{Journal}
 use Rattle.mono_scripts.specs.Journal.{journal_text}
-use Rattle.mono_run.specs.Told.{Ran, answer_of, told}
+use Rattle.mono_rt.specs.Telling.{Told, Course, going, Tells, IsTold, EndsSo}
+use Rattle.mono_rt.specs.declared.journals.Entry.{Entry}
+use Rattle.mono_rt.proofs.Readings.{in_order, sums_from}
+use Rattle.mono_run.specs.Told.{Ran, RanBy, ReadsSo, told_first, answer_of, told}
+use Rattle.mono_run.specs.declared.runs.RunEnd.{RunEnd}
+use Rattle.mono_run.specs.declared.runs.RunEnd.TheVariants as ran
 use Rattle.mono_run.specs.declared.runs.ScriptRun.{ScriptRun}
 
 -- an output that is a number is its own number
@@ -16,12 +21,44 @@ pub same_answer : (a : Result ℕ RunError) → answer_numbered (λ n. n) a ≡ 
 same_answer (Ok o) = refl
 same_answer (Err e) = refl
 
+whole : (run : ScriptRun) (limits : Limits) (turns : ℕ) (j : Journal) (answer : Result ℕ RunError)
+    → ((new : Machine) × Blocked true turns (answer_numbered (λ n. n) answer) (start_machine limits strategy.Attached) j.entries.items new [])
+    → answer ≡ answer_of run.end → run.text.items ≡ journal_text (map told j.entries.items) (output_in (answer_of run.end))
+    → (made : Ran limits turns run.end run.text.items) × (made.entries ≡ j.entries.items)
+whole run limits turns j answer b is text =
+    let same = subst (λ a. Blocked true turns a (start_machine limits strategy.Attached) j.entries.items b.0 []) (same_answer answer) b.1 in
+    (record { entries = j.entries.items; last = b.0; blocked = subst (λ a. Blocked true turns a (start_machine limits strategy.Attached) j.entries.items b.0 []) is same; text = text }, refl)
+
 pub told_ran : {E : Type 0} (r : Result ScriptRun E) (limits : Limits) (turns : ℕ) (j : Journal) (answer : Result ℕ RunError)
     → (j.is_full ≡ false → (new : Machine) × Blocked true turns (answer_numbered (λ n. n) answer) (start_machine limits strategy.Attached) j.entries.items new [])
     → IfOk r (λ run. answer ≡ answer_of run.end) → OnOk r (j.is_full ≡ false) → IfOk r (λ run. run.text.items ≡ journal_text (map told j.entries.items) (output_in (answer_of run.end)))
     → IfOk r (λ run. Ran limits turns run.end run.text.items)
-told_ran (Ok run) limits turns j answer blocked is kept text =
-    let b = blocked kept in
-    let same = subst (λ a. Blocked true turns a (start_machine limits strategy.Attached) j.entries.items b.0 []) (same_answer answer) b.1 in
-    record { entries = j.entries.items; last = b.0; blocked = subst (λ a. Blocked true turns a (start_machine limits strategy.Attached) j.entries.items b.0 []) is same; text = text }
+told_ran (Ok run) limits turns j answer blocked is kept text = (whole run limits turns j answer (blocked kept) is text).0
 told_ran (Err e) limits turns j answer blocked is kept text = tt
+
+-- none of these is a fault
+going_by : (e : RunEnd) (x : Course) → EndsSo (answer_of e) x → x ≡ going
+going_by (ran.Output o) x is = is
+going_by ran.Turns x is = is
+going_by ran.Capacity x is = is
+
+-- what the driver told is what the readings are
+reads_so : (workers : ℕ) (readings : Option (List ℕ)) (new : Told) (part : List Entry) → Tells (told_first workers readings) going part new going → ReadsSo workers readings part
+reads_so zero readings new part tells = sums_from (told_first zero readings) new going 0 part (omega arith) refl tells
+reads_so (suc n) None new part tells = tt
+reads_so (suc n) (Some readings) new part tells = in_order (told_first (suc n) (Some readings)) new going going readings part refl tells
+
+pub told_reads : {E : Type 0} (workers : ℕ) (readings : Option (List ℕ)) (r : Result ScriptRun E) (limits : Limits) (turns : ℕ) (j : Journal) (answer : Result ℕ RunError)
+    → (j.is_full ≡ false → (new : Machine) × Blocked true turns (answer_numbered (λ n. n) answer) (start_machine limits strategy.Attached) j.entries.items new [])
+    → (j.is_full ≡ false → IsTold answer (told_first workers readings) j.entries.items)
+    → IfOk r (λ run. answer ≡ answer_of run.end) → OnOk r (j.is_full ≡ false) → IfOk r (λ run. run.text.items ≡ journal_text (map told j.entries.items) (output_in (answer_of run.end)))
+    → IfOk r (λ run. RanBy workers readings limits turns run.end run.text.items)
+told_reads workers readings (Ok run) limits turns j answer blocked tells is kept text =
+    let t = tells kept in
+    let w = whole run limits turns j answer (blocked kept) is text in
+    record {
+      ran = w.0;
+      reads = subst (ReadsSo workers readings) (sym w.1) (reads_so workers readings t.new j.entries.items
+          (subst (λ x. Tells (told_first workers readings) going j.entries.items t.new x) (going_by run.end t.after (subst (λ a. EndsSo a t.after) is t.ends)) t.tells));
+    }
+told_reads workers readings (Err e) limits turns j answer blocked tells is kept text = tt

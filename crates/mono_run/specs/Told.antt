@@ -1,9 +1,11 @@
 -- What a run of a script tells.
-use Rattle.std.specs.Prelude.{◌≡◌, ℕ, true, List, [], ◌∷◌, ◌++◌, map, Option, Some, None, Result, Ok, Err, codes, decimal}
+use Rattle.std.specs.Prelude.{⊤, ◌≡◌, ℕ, zero, suc, true, List, [], ◌∷◌, ◌++◌, map, Option, Some, None, Result, Ok, Err, codes, decimal}
 use Rattle.mono_machine.specs.Machine.{Machine, start_machine}
 use Rattle.mono_machine.specs.declared.events.Limits.{Limits}
 use Rattle.mono_machine.specs.declared.events.Blocking.TheVariants as strategy
 use Rattle.mono_rt.specs.Rounds.{Blocked, output_in}
+use Rattle.mono_rt.specs.Readings.{readings_in, AreFirst, AreSums}
+use Rattle.mono_rt.specs.Telling.{Told, telling}
 use Rattle.mono_rt.specs.declared.errors.RunError.{RunError}
 use Rattle.mono_rt.specs.declared.errors.RunError.TheVariants as error
 use Rattle.mono_rt.specs.declared.journals.Entry.{Entry}
@@ -37,3 +39,20 @@ pub record Ran (limits : Limits) (turns : ℕ) (e : RunEnd) (output : List ℕ) 
   pub last : Machine
   pub blocked : Blocked true turns (answer_of e) (start_machine limits strategy.Attached) entries last []
   pub text : output ≡ journal_text (map told entries) (output_in (answer_of e))
+
+-- What the driver of a run tells at its start: without workers the time 0, else what its clock tells.
+abbrev pub told_first : ℕ → Option (List ℕ) → Told
+told_first zero readings = telling None (Some 0) 0
+told_first (suc n) readings = telling readings None 0
+
+-- Without workers each reading is the sum of the milliseconds of the parks before it, at most the greatest instant. With
+-- workers, where the clock tells its readings, they are these in order, the last one repeated.
+abbrev pub ReadsSo : ℕ → Option (List ℕ) → List Entry → Type 0
+ReadsSo zero readings part = AreSums 0 0 part
+ReadsSo (suc n) None part = ⊤
+ReadsSo (suc n) (Some readings) part = AreFirst (readings_in part) readings
+
+-- The same run, with so many workers and a clock that tells such readings.
+pub record RanBy (workers : ℕ) (readings : Option (List ℕ)) (limits : Limits) (turns : ℕ) (e : RunEnd) (output : List ℕ) : Type 0 where
+  pub ran : Ran limits turns e output
+  pub reads : ReadsSo workers readings ran.entries

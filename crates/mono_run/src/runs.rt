@@ -3,7 +3,9 @@ ghost use Rattle.std.specs.Prelude.{◌≡◌, false, map, IfOk, IfSome, OnOk};
 ghost use Rattle.mono_blocking.specs.Counts.{counted_by};
 ghost use Rattle.mono_scripts.specs.Journal.{journal_text};
 ghost use Rattle.mono_rt.specs.Rounds.{output_in};
-ghost use Rattle.mono_run.specs.Told.{Ran, answer_of, told};
+ghost use Rattle.mono_rt.specs.Telling.{telling};
+ghost use Rattle.mono_script_task.specs.Driving.{readings_of, time_of, parks_of};
+ghost use Rattle.mono_run.specs.Told.{Ran, RanBy, told_first, answer_of, told};
 
 use crate::entries::journal_lines;
 use mono_blocking::{BlockingHandle, DefaultThreadPool, Spawner};
@@ -44,7 +46,9 @@ fn driver_for<C: Clock + Drop>(
     alloc: Global,
     workers: usize,
     clock: C,
-) -> Result<ScriptDriver<C>, AllocError> {
+) -> Result<ScriptDriver<C>, AllocError>
+    ensures { IfOk result (λ driver. telling (readings_of C.readings driver) (time_of driver) (parks_of driver) ≡ told_first workers (C.readings clock)) }
+{
     if workers == 0 {
         return Ok(ScriptDriver::Steps(StepDriver::new(Vec::new(alloc))));
     }
@@ -117,7 +121,8 @@ fn zero() -> Instant {
 /// so many workers, which are asked of the spawner one by one. Without workers time is what is parked for, and the clock is
 /// not read.
 ///
-/// What is told is how the run ended and the lines of its journal (`ran`). Once a call found no memory nothing is told. The
+/// What is told is how the run ended and the lines of its journal (`ran`). Without workers each reading in it is the sum of
+/// what was parked for before it; with workers, where the clock tells its readings, they are these, in order (`reads`). Once a call found no memory nothing is told. The
 /// workers end when they have run what waits, whatever the answer is; only where there was no memory for the runtime itself
 /// do they wait on. Whoever started their threads joins them.
 pub fn run_script<R: Host + Send + 'static, C: Clock + Drop, P: Spawner>(
@@ -130,6 +135,7 @@ pub fn run_script<R: Host + Send + 'static, C: Clock + Drop, P: Spawner>(
     spawner: &mut P,
 ) -> Result<ScriptRun, AllocError>
     ensures ran { IfOk result (λ run. Ran script.now.limits turns run.end run.text.items) }
+    ensures reads { IfOk result (λ run. RanBy workers (C.readings clock) script.now.limits turns run.end run.text.items) }
     ensures starts { OnOk result (P.starts spawner.new ≡ counted_by workers (P.starts spawner.old)) }
 {
     let driver = driver_for(alloc, workers, clock)?;

@@ -5,6 +5,8 @@ use Rattle.mono_rt.specs.Numbered.{answer_numbered}
 use Rattle.mono_rt.specs.Rounds.{Blocked}
 use Rattle.mono_rt.proofs.Going.{goes_of, run_of, registers_of}
 use Rattle.mono_rt.proofs.Doing.{relation_of}
+use Rattle.mono_rt.specs.Telling.{IsTold, telling}
+use Rattle.mono_rt.proofs.Telling.{told_in}
 use Rattle.mono_rt.proofs.alone.run_alone.Goals as goal
 
 pub returns : goal.returns
@@ -18,6 +20,8 @@ returns g c =
     record {
       blocked = λ unfull. subst (λ h. (new : Machine) × Blocked h c.args.turns answer m c.into_journal.result.entries.items new []) c.in_ok-runtime.ensures.timers
           (relation_of number told made.cx.parts left.cx.parts made.journal left.journal c.into_journal.result m c.in_ok-runtime.ensures.stands c.in_ok-runtime.ensures.journal c.into_journal.ensures c.block_on-answer.ensures.blocked unfull);
+      told = λ unfull. subst (λ d. IsTold c.block_on-answer.result (telling (g.D.Clock.readings d) (g.D.Clock.time d) (g.D.Clock.parks d)) c.into_journal.result.entries.items) c.in_ok-runtime.ensures.driver
+          (told_in c.into_journal.result c.in_ok-runtime.ensures.journal c.into_journal.ensures c.block_on-answer.ensures.told unfull);
       parks = λ unfull. registers_of number made.cx.parts left.cx.parts made.journal left.journal c.into_journal.result m c.in_ok-runtime.ensures.stands c.in_ok-runtime.ensures.journal c.into_journal.ensures c.in_ok-runtime.ensures.registered (goes_of number told made.cx.parts left.cx.parts made.journal left.journal c.block_on-answer.ensures.blocked) unfull;
       run = λ unfull. run_of number made.cx.parts left.cx.parts made.journal left.journal c.into_journal.result m c.in_ok-runtime.ensures.stands c.in_ok-runtime.ensures.journal c.into_journal.ensures (goes_of number told made.cx.parts left.cx.parts made.journal left.journal c.block_on-answer.ensures.blocked) unfull;
     }

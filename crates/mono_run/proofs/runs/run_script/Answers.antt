@@ -1,11 +1,14 @@
-use Rattle.std.proofs.Common.{[], IfOk, ap, subst}
+use Rattle.std.proofs.Common.{◌≡◌, [], IfOk, ap, subst, ◌∙◌}
 use Rattle.mono_machine.specs.Machine.{Machine, start_machine}
 use Rattle.mono_machine.specs.declared.events.Blocking.TheVariants as strategy
 use Rattle.mono_rt.specs.Numbered.{answer_numbered}
 use Rattle.mono_rt.specs.Rounds.{Blocked}
 use Rattle.mono_rt.proofs.Doing.{relation_of}
-use Rattle.mono_run.specs.Told.{Ran}
-use Rattle.mono_run.proofs.Blocking.{told_ran}
+use Rattle.mono_rt.specs.Telling.{telling, IsTold}
+use Rattle.mono_rt.proofs.Telling.{told_in}
+use Rattle.mono_script_task.specs.Driving.{readings_of, time_of, parks_of}
+use Rattle.mono_run.specs.Told.{Ran, RanBy, told_first}
+use Rattle.mono_run.proofs.Blocking.{told_ran, told_reads}
 use Rattle.mono_run.proofs.runs.run_script.Goals as goal
 
 pub returns-clause-ran : goal.returns-clause-ran
@@ -21,3 +24,22 @@ returns-clause-ran g c =
     (relation_of (λ n. n) relation made.cx.parts left.cx.parts made.journal left.journal c.journal.result.now m c.in_ok-runtime.ensures.stands c.in_ok-runtime.ensures.journal c.journal.ensures c.block_on-answer.ensures.blocked unfull))
     c.told_of-told.ensures.answer c.told_of-told.ensures.kept c.told_of-told.ensures.text in
     subst (λ l. IfOk c.told_of-told.result (λ run. Ran l c.args.turns run.end run.text.items)) (ap (λ s. s.limits) c.script.view_is) ran
+
+pub returns-clause-reads : goal.returns-clause-reads
+returns-clause-reads g c =
+    let made = c.in_ok-runtime.runtime in
+    let left = c.block_on-answer.new.self in
+    let limits = c.script.inside.limits in
+    let m = start_machine limits strategy.Attached in
+    let answer = answer_numbered (λ n. n) c.block_on-answer.result in
+    let relation = Blocked made.cx.parts.has_timers c.args.turns answer in
+    let readings = g.C.Clock.readings c.args.clock in
+    let first : telling (readings_of g.C.Clock.readings made.driver) (time_of made.driver) (parks_of made.driver) ≡ told_first c.args.workers readings
+    = ap (λ d. telling (readings_of g.C.Clock.readings d) (time_of d) (parks_of d)) c.in_ok-runtime.ensures.driver ∙ c.in_ok-driver.ensures in
+    let reads = told_reads c.args.workers readings c.told_of-told.result limits c.args.turns c.journal.result.now c.block_on-answer.result
+    (λ unfull. subst (λ h. (new : Machine) × Blocked h c.args.turns answer m c.journal.result.now.entries.items new []) c.in_ok-runtime.ensures.timers
+    (relation_of (λ n. n) relation made.cx.parts left.cx.parts made.journal left.journal c.journal.result.now m c.in_ok-runtime.ensures.stands c.in_ok-runtime.ensures.journal c.journal.ensures c.block_on-answer.ensures.blocked unfull))
+    (λ unfull. subst (λ t. IsTold c.block_on-answer.result t c.journal.result.now.entries.items) first
+    (told_in c.journal.result.now c.in_ok-runtime.ensures.journal c.journal.ensures c.block_on-answer.ensures.told unfull))
+    c.told_of-told.ensures.answer c.told_of-told.ensures.kept c.told_of-told.ensures.text in
+    subst (λ l. IfOk c.told_of-told.result (λ run. RanBy c.args.workers readings l c.args.turns run.end run.text.items)) (ap (λ s. s.limits) c.script.view_is) reads

@@ -4,6 +4,8 @@ use Rattle.std.specs.Option.{option_map}
 use Rattle.mono_rt.specs.Rounds.{IsSpawn, Ends}
 use Rattle.mono_rt.proofs.Going.{goes_of, goes_on, does_led}
 use Rattle.mono_rt.proofs.Doing.{blocks_by, blocks_done, blocks_refused}
+use Rattle.mono_rt.specs.Telling.{going}
+use Rattle.mono_rt.proofs.Telling.{telling_on, telling_past, telling_more, capacity_ends}
 use Rattle.mono_rt.proofs.runtimes.Runtime.block_on.Goals as goal
 
 pub returns-in-Err-clause-blocked : goal.returns-in-Err-clause-blocked
@@ -51,3 +53,18 @@ returns-in-Err-end_main-clause-blocked g c =
     does_led number old.cx.parts ended.cx.parts old.journal ended.journal (goes_on number old.cx.parts ran.cx.parts ended.cx.parts old.journal ran.journal ended.journal
     (goes_on number old.cx.parts started.cx.parts ran.cx.parts old.journal started.journal ran.journal c.start_main.ensures.goes (goes_of number (Ends started.cx.parts.has_timers c.in-Ok.main c.args.turns c.run-answer.result) started.cx.parts ran.cx.parts started.journal ran.journal c.run-answer.ensures.ends))
     c.end_main.ensures.goes)
+
+pub returns-in-Err-clause-told : goal.returns-in-Err-clause-told
+returns-in-Err-clause-told g c = telling_more (λ x e. capacity_ends _ c.in-Err.error x c.in-Err.ensures.refused e) c.start_main.ensures.told
+
+pub returns-in-Err-answer-clause-told : goal.returns-in-Err-answer-clause-told
+returns-in-Err-answer-clause-told g c = telling_more (λ x e. e) (telling_past (telling_on {q = going} c.start_main.ensures.told (rw c.in-Err-answer.is at c.run-answer.ensures.told)) c.end_main.ensures.told)
+
+pub returns-in-Some-clause-told : goal.returns-in-Some-clause-told
+returns-in-Some-clause-told g c = telling_past (telling_on {q = going} c.start_main.ensures.told (rw c.in-Ok-answer.is at c.run-answer.ensures.told)) c.end_main.ensures.told
+
+pub returns-in-None-clause-told : goal.returns-in-None-clause-told
+returns-in-None-clause-told g c = telling_more (λ x e. tt) (telling_past (telling_on {q = going} c.start_main.ensures.told c.run-answer.ensures.told) c.end_main.ensures.told)
+
+pub returns-in-Err-end_main-clause-told : goal.returns-in-Err-end_main-clause-told
+returns-in-Err-end_main-clause-told g c = telling_more (λ x e. tt) (telling_past (telling_on {q = going} c.start_main.ensures.told c.run-answer.ensures.told) c.end_main.ensures.told)

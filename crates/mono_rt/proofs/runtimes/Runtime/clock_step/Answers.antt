@@ -9,6 +9,7 @@ use Rattle.mono_rt.specs.Journals.{pushed}
 use Rattle.mono_rt.specs.Rounds.{IsClock}
 use Rattle.mono_rt.proofs.Going.{goes_nowhere, goes_of, does_stay, does_clock}
 use Rattle.mono_rt.proofs.Doing.{stay_on, does_more}
+use Rattle.mono_rt.proofs.Telling.{tells_nothing, tells_one, telling_on, read_at, same_told}
 use Rattle.mono_rt.proofs.runtimes.Runtime.clock_step.Goals as goal
 
 pub returns-clause-clocked : goal.returns-clause-clocked
@@ -34,3 +35,11 @@ returns-in_default-clause-goes g c =
     let opened = c.open_clock.new.self in
     let same = c.open_clock.ensures.same in
     goes_nowhere g.O.Outcome.output_number old.cx.parts opened.cx.parts old.journal opened.journal (ap (λ x. x.parts.tasks) same) (ap (λ x. x.parts.timers) same) (ap (λ x. x.parts.has_timers) same) (ap (λ x. x.parts.blocking) same) c.open_clock.ensures.entries c.open_clock.ensures.full
+
+pub returns-clause-told : goal.returns-clause-told
+returns-clause-told g c = λ course.
+    telling_on {j = c.open_clock.new.self.journal} (tells_nothing refl refl c.open_clock.ensures.entries c.open_clock.ensures.full)
+    (tells_one course (Ran (event.Clock c.as_nanos-nanos.result) (report.Fired c.into_fired.result)) refl (_, (course, ((read_at c.as_nanos-nanos.result (nanos_of c.in-Some.now) c.as_nanos-nanos.ensures c.in-Some.ensures.read, refl), (refl, refl)))) c.push.ensures.entries c.push.ensures.full)
+
+pub returns-in_default-clause-told : goal.returns-in_default-clause-told
+returns-in_default-clause-told g c = λ course. tells_nothing refl (same_told g.D.Clock.readings g.D.Clock.time g.D.Clock.parks c.in_default.ensures.unread) c.open_clock.ensures.entries c.open_clock.ensures.full

@@ -12,6 +12,8 @@ use Rattle.mono_rt.specs.Rounds.{IsDrop, DropsFor}
 use Rattle.mono_rt.proofs.Calling.{with_all}
 use Rattle.mono_rt.proofs.Going.{goes_of, goes_nowhere, does_stay, does_drop}
 use Rattle.mono_rt.proofs.Doing.{stay_on, does_more, drops_for}
+use Rattle.mono_rt.proofs.Telling.{tells_nothing, tells_one, telling_on}
+use Rattle.mono_rt.specs.declared.journals.Entry.TheVariants.{Ran}
 use Rattle.mono_rt.proofs.runtimes.Runtime.end_main.Goals as goal
 
 pub returns-in-Ok-answer-clause-dropped : goal.returns-in-Ok-answer-clause-dropped
@@ -45,3 +47,14 @@ returns-in-Err-answer-clause-goes g c = goes_of g.O.Outcome.output_number (IsDro
 
 pub returns-in-Err-clause-goes : goal.returns-in-Err-clause-goes
 returns-in-Err-clause-goes g c = goes_nowhere g.O.Outcome.output_number c.args.self.now.cx.parts c.args.self.now.cx.parts c.args.self.now.journal c.reserve.new.self refl refl refl refl c.reserve.ensures.entries c.reserve.ensures.full
+
+pub returns-in-Ok-answer-clause-told : goal.returns-in-Ok-answer-clause-told
+returns-in-Ok-answer-clause-told g c = λ course. telling_on {j = c.reserve.new.self} (tells_nothing refl refl c.reserve.ensures.entries c.reserve.ensures.full)
+    (tells_one course (Ran (event.Act (act.DropJoin c.args.main)) (report.Reply c.drop_reply_of-reply.result)) refl (_, (course, ((refl, refl), (refl, refl)))) c.push.ensures.entries c.push.ensures.full)
+
+pub returns-in-Err-answer-clause-told : goal.returns-in-Err-answer-clause-told
+returns-in-Err-answer-clause-told g c = λ course. telling_on {j = c.reserve.new.self} (tells_nothing refl refl c.reserve.ensures.entries c.reserve.ensures.full)
+    (tells_one course (Ran (event.Act (act.DropJoin c.args.main)) (report.Reply c.drop_reply_of-reply.result)) refl (_, (course, ((refl, refl), (refl, refl)))) c.push.ensures.entries c.push.ensures.full)
+
+pub returns-in-Err-clause-told : goal.returns-in-Err-clause-told
+returns-in-Err-clause-told g c = λ course. tells_nothing refl refl c.reserve.ensures.entries c.reserve.ensures.full

@@ -3,6 +3,9 @@ use Rattle.mono_rt.specs.Journals.{IsReading}
 use Rattle.mono_rt.specs.declared.journals.Entry.TheVariants.{Now}
 use Rattle.mono_rt.proofs.Going.{goes_of, does_stay, does_past, pushed_open}
 use Rattle.mono_rt.proofs.Doing.{stay_on}
+use Rattle.mono_rt.specs.Telling.{going}
+use Rattle.mono_rt.proofs.Telling.{tells_nothing, tells_one, telling_on, read_at}
+use Rattle.mono_time.specs.Instants.{nanos_of}
 use Rattle.mono_rt.proofs.runtimes.Runtime.open_turn.Goals as goal
 
 pub returns-in-Ok-with_room-clause-reading : goal.returns-in-Ok-with_room-clause-reading
@@ -19,3 +22,15 @@ returns-in-Ok-with_room-clause-goes g c = goes_of g.O.Outcome.output_number IsRe
 
 pub returns-in-Ok-with_room-clause-place : goal.returns-in-Ok-with_room-clause-place
 returns-in-Ok-with_room-clause-place g c = c.push.ensures.room 1 c.in-Ok.ensures.room
+
+pub returns-in-Ok-with_room-clause-told : goal.returns-in-Ok-with_room-clause-told
+returns-in-Ok-with_room-clause-told g c =
+    let read = c.now-now.ensures in
+    telling_on {j = c.reserve.new.self} (tells_nothing refl refl c.reserve.ensures.entries c.reserve.ensures.full)
+    (tells_one going (Now c.as_nanos.result) refl (refl, (_, (read_at c.as_nanos.result (nanos_of c.now-now.result) c.as_nanos.ensures (record { reads = read.reads; reads_time = read.reads_time; time = read.time; parks = read.parks }), (refl, refl)))) c.push.ensures.entries c.push.ensures.full)
+
+pub returns-in-Err-clause-told : goal.returns-in-Err-clause-told
+returns-in-Err-clause-told g c = tells_nothing refl refl c.reserve.ensures.entries c.reserve.ensures.full
+
+pub returns-in-Err-with_room-clause-told : goal.returns-in-Err-with_room-clause-told
+returns-in-Err-with_room-clause-told g c = tells_nothing refl refl c.reserve.ensures.entries c.reserve.ensures.full

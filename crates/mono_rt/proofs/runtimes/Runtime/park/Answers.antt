@@ -1,4 +1,4 @@
-use Rattle.std.proofs.Common.{ℕ, Some, None, Option, refl, [], ◌∷◌, ◌∙◌, sym, subst}
+use Rattle.std.proofs.Common.{ℕ, Some, None, Option, refl, [], ◌∷◌, ◌∙◌, ap, sym, subst}
 use Rattle.std.specs.Prelude.{IfSome}
 use Rattle.mono_time.specs.Instants.{nanos_of}
 use Rattle.mono_time.specs.Timers.{registered_of}
@@ -10,6 +10,8 @@ use Rattle.mono_rt.specs.Rounds.{IsPark, IsWait}
 use Rattle.mono_rt.specs.declared.journals.Entry.TheVariants.{Now, Park}
 use Rattle.mono_rt.proofs.Going.{goes_of, does_stay, does_past}
 use Rattle.mono_rt.proofs.Doing.{stay_on, two_pushed}
+use Rattle.mono_rt.specs.Telling.{going, after_park}
+use Rattle.mono_rt.proofs.Telling.{tells_nothing, tells_one, telling_on, read_at}
 use Rattle.mono_rt.proofs.runtimes.Runtime.park.Goals as goal
 
 pub push-requires-in-Ok : goal.push-requires-in-Ok
@@ -39,3 +41,15 @@ returns-in-Ok-clause-parked g c =
 
 pub returns-in-Ok-clause-goes : goal.returns-in-Ok-clause-goes
 returns-in-Ok-clause-goes g c = goes_of g.O.Outcome.output_number (IsPark c.args.self.now.cx.parts.has_timers) c.args.self.now.cx.parts c.park_driver-failed.new.self.cx.parts c.args.self.now.journal c.park_driver-failed.new.self.journal (returns-in-Ok-clause-parked g c)
+
+pub returns-in-Ok-clause-told : goal.returns-in-Ok-clause-told
+returns-in-Ok-clause-told g c =
+    let read = c.now-now.ensures in
+    let failed = c.park_driver-failed.result in
+    let journal = c.park_driver-failed.ensures.journal in
+    telling_on {j = c.reserve.new.self} (tells_nothing refl refl c.reserve.ensures.entries c.reserve.ensures.full)
+    (telling_on {j = c.push.new.self} (tells_one going (Now c.as_nanos.result) refl (refl, (_, (read_at c.as_nanos.result (nanos_of c.now-now.result) c.as_nanos.ensures (record { reads = read.reads; reads_time = read.reads_time; time = read.time; parks = read.parks }), (refl, refl)))) c.push.ensures.entries c.push.ensures.full)
+    (tells_one (after_park failed) (Park c.wait_from-wait.result) refl (refl, (_, (failed, (c.park_driver-failed.ensures.told, (refl, refl))))) (ap (λ x. x.entries.items) journal ∙ c.push-in-Ok.ensures.entries) (ap (λ x. x.is_full) journal ∙ c.push-in-Ok.ensures.full)))
+
+pub returns-in-Err-clause-told : goal.returns-in-Err-clause-told
+returns-in-Err-clause-told g c = tells_nothing refl refl c.reserve.ensures.entries c.reserve.ensures.full

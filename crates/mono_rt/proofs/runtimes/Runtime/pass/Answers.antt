@@ -2,6 +2,8 @@ use Rattle.std.proofs.Common.{◌≡◌, cond, ℕ, ◌-◌, ◌<◌, arith, ref
 use Rattle.mono_rt.specs.Rounds.{Pause}
 use Rattle.mono_rt.proofs.Going.{goes_of, goes_on, does_led}
 use Rattle.mono_rt.proofs.Doing.{does_pass, pass_breaks}
+use Rattle.mono_rt.specs.Telling.{going}
+use Rattle.mono_rt.proofs.Telling.{telling_on, telling_more}
 use Rattle.mono_rt.proofs.runtimes.Runtime.pass.Goals as goal
 
 no_cost : (u k : ℕ) → 0 ≡ k → u ≡ u - k
@@ -42,3 +44,18 @@ returns-in-Err-round-2-clause-passes g c =
     let left = c.round-in-Ok-false.new.self in
     does_led number old.cx.parts left.cx.parts old.journal left.journal (goes_on number old.cx.parts paused.cx.parts left.cx.parts old.journal paused.journal left.journal
     (goes_of number (Pause old.cx.parts.has_timers) old.cx.parts paused.cx.parts old.journal paused.journal (rw c.in-Ok-false.is at c.pause.ensures.pauses)) c.round-in-Ok-false.ensures.goes)
+
+pub returns-in-Err-clause-told : goal.returns-in-Err-clause-told
+returns-in-Err-clause-told g c = telling_more (λ x e. e) (rw c.in-Err.is at c.pause.ensures.told)
+
+pub returns-in-Ok-clause-told : goal.returns-in-Ok-clause-told
+returns-in-Ok-clause-told g c = telling_on {q = going} (rw c.in-Ok-true.is at c.pause.ensures.told) c.round.ensures.told
+
+pub returns-in-Ok-round-clause-told : goal.returns-in-Ok-round-clause-told
+returns-in-Ok-round-clause-told g c = telling_on {q = going} (rw c.in-Ok-false.is at c.pause.ensures.told) c.round-in-Ok-false.ensures.told
+
+pub returns-in-Err-round-clause-told : goal.returns-in-Err-round-clause-told
+returns-in-Err-round-clause-told g c = telling_more (λ x e. tt) (telling_on {q = going} (rw c.in-Ok-true.is at c.pause.ensures.told) c.round.ensures.told)
+
+pub returns-in-Err-round-2-clause-told : goal.returns-in-Err-round-2-clause-told
+returns-in-Err-round-2-clause-told g c = telling_more (λ x e. tt) (telling_on {q = going} (rw c.in-Ok-false.is at c.pause.ensures.told) c.round-in-Ok-false.ensures.told)

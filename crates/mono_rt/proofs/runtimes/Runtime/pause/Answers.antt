@@ -1,6 +1,8 @@
-use Rattle.std.proofs.Common.{arith}
+use Rattle.std.proofs.Common.{arith, refl, inl, inr, ap, ◌∙◌}
 use Rattle.mono_rt.proofs.Going.{does_led}
 use Rattle.mono_rt.proofs.Doing.{pause_some, pause_none, no_queue}
+use Rattle.mono_rt.specs.Telling.{going, failed, after_wait}
+use Rattle.mono_rt.proofs.Telling.{tells_nothing, telling_on, telling_more, same_telling}
 use Rattle.mono_rt.proofs.runtimes.Runtime.pause.Goals as goal
 
 pub returns-in-Ok-handed-clause-pauses : goal.returns-in-Ok-handed-clause-pauses
@@ -28,3 +30,21 @@ returns-in-Err-clause-pauses g c = does_led g.O.Outcome.output_number c.args.sel
 
 pub returns-in-Err-wait-clause-pauses : goal.returns-in-Err-wait-clause-pauses
 returns-in-Err-wait-clause-pauses g c = c.in-Err-wait.ensures.parks
+
+pub returns-in-Ok-handed-clause-told : goal.returns-in-Ok-handed-clause-told
+returns-in-Ok-handed-clause-told g c = telling_on {q = going} (tells_nothing refl (same_telling c.submit-handed.ensures.readings c.submit-handed.ensures.time c.submit-handed.ensures.parks) refl refl) (c.in-Ok.ensures.told going going (inl refl))
+
+pub returns-in-Err-handed-clause-told : goal.returns-in-Err-handed-clause-told
+returns-in-Err-handed-clause-told g c = telling_on {q = going} (tells_nothing refl (same_telling c.submit-handed.ensures.readings c.submit-handed.ensures.time c.submit-handed.ensures.parks) refl refl) (c.in-Ok.ensures.told going failed (inr refl))
+
+pub returns-in-Err-clause-told : goal.returns-in-Err-clause-told
+returns-in-Err-clause-told g c = telling_more (λ x e. tt) (telling_on {q = going} (tells_nothing refl (same_telling c.submit-handed.ensures.readings c.submit-handed.ensures.time c.submit-handed.ensures.parks) refl refl) (c.in-Err.ensures.told going going refl))
+
+pub returns-in-Ok-true-clause-told : goal.returns-in-Ok-true-clause-told
+returns-in-Ok-true-clause-told g c = telling_more (λ x e. e ∙ ap after_wait c.in-Ok-true.field-0-test) c.in-Ok-true.ensures.told
+
+pub returns-in-Ok-false-clause-told : goal.returns-in-Ok-false-clause-told
+returns-in-Ok-false-clause-told g c = telling_more (λ x e. e ∙ ap after_wait c.in-Ok-false.field-0-test) c.in-Ok-false.ensures.told
+
+pub returns-in-Err-wait-clause-told : goal.returns-in-Err-wait-clause-told
+returns-in-Err-wait-clause-told g c = telling_more (λ x e. tt) c.wait.ensures.told

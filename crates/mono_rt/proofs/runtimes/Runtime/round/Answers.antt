@@ -1,6 +1,7 @@
 use Rattle.std.proofs.Common.{inl, inr, ◌≡◌, ◌+◌, ◌-◌, ℕ, arith, refl, ap, sym, ◌∙◌}
 use Rattle.mono_rt.proofs.Going.{goes_on, goes_nowhere}
 use Rattle.mono_rt.proofs.Doing.{turns_more, no_turns, does_round, most_is, no_queue}
+use Rattle.mono_rt.proofs.Telling.{telling_on, tells_nothing}
 use Rattle.mono_rt.proofs.runtimes.Runtime.round.Goals as goal
 
 never : (n : ℕ) → n + 1 ≡ 0 → ⊥
@@ -17,13 +18,14 @@ loop-done-preserved g c = (
   λ e. absurd (never c.loop-done.done e),
   turns_more g.O.Outcome.output_number c.loop-done.done c.args.self.now.cx.parts c.loop-done.self.cx.parts c.turn.new.self.cx.parts c.args.self.now.journal c.loop-done.self.journal c.turn.new.self.journal c.loop-done.invariant.3 c.in_ok-turn.ensures.turned,
   c.turn.ensures.has_timers ∙ c.loop-done.invariant.4,
+  telling_on c.loop-done.invariant.5 c.turn.ensures.told,
 )
 
 pub loop-done-init : goal.loop-done-init
 loop-done-init g c =
     let parts = c.args.self.now.cx.parts in
     let journal = c.args.self.now.journal in
-    (goes_nowhere g.O.Outcome.output_number parts parts journal journal refl refl refl refl refl refl, c.requires.rests, λ e. refl, no_turns g.O.Outcome.output_number parts journal, refl)
+    (goes_nowhere g.O.Outcome.output_number parts parts journal journal refl refl refl refl refl refl, c.requires.rests, λ e. refl, no_turns g.O.Outcome.output_number parts journal, refl, tells_nothing refl refl refl refl)
 
 pub returns-then-queue_len-eq0-clause-round : goal.returns-then-queue_len-eq0-clause-round
 returns-then-queue_len-eq0-clause-round g c =
@@ -37,3 +39,6 @@ returns-clause-round g c =
     let done : c.loop-done.done ≡ c.min-most.result = omega (arith, c.loop-done.auto.done-end, c.loop-done-test.false) in
     does_round g.O.Outcome.output_number c.loop-done.done c.args.units _ c.args.self.now.cx.parts c.loop-done.self.cx.parts c.args.self.now.journal c.loop-done.self.journal c.loop-done.invariant.3
     (omega (arith, most, done)) (inr (done ∙ most)) (ap (λ x. c.args.units - x) (sym done))
+
+pub returns-in_err-turn-clause-told : goal.returns-in_err-turn-clause-told
+returns-in_err-turn-clause-told g c = telling_on c.loop-done.invariant.5 c.turn.ensures.told

@@ -2,6 +2,8 @@ use Rattle.std.proofs.Common.{◌≡◌, refl, true, false, Bool, arith, ap, ◌
 use Rattle.mono_rt.proofs.Going.{does_led}
 use Rattle.mono_rt.proofs.Doing.{does_first, passes_more, ends_done, ends_turns, ends_by}
 use Rattle.mono_rt.proofs.runtimes.Runtime.run.Goals.{then-loop-units-test+else-not-has_output, else-loop-units-test}
+use Rattle.mono_rt.specs.Telling.{going}
+use Rattle.mono_rt.proofs.Telling.{telling_on, telling_more}
 use Rattle.mono_rt.proofs.runtimes.Runtime.run.Goals as goal
 
 both : (b : Bool) → true ≡ b → false ≡ b → ⊥
@@ -15,6 +17,7 @@ loop-units-init g c = (
   does_first g.O.Outcome.output_number c.args.self.now.cx.parts.has_timers c.args.main c.args.turns c.in-Ok.left c.args.self.now.cx.parts c.round.new.self.cx.parts c.args.self.now.journal c.round.new.self.journal c.in-Ok.ensures.round,
   c.round.ensures.rests,
   c.round.ensures.has_timers,
+  c.round.ensures.told,
 )
 
 pub loop-units-preserved : goal.loop-units-preserved
@@ -23,6 +26,7 @@ loop-units-preserved g c = (
       c.loop-units.invariant.2 (sym c.if-not-has_output.ensures) (omega (arith, c.loop-units-test.true)) c.loop-units.invariant.0 (rw c.in-Ok-pass.is at c.pass.ensures.passes),
   c.pass.ensures.rests,
   c.pass.ensures.has_timers ∙ c.loop-units.invariant.2,
+  telling_on {q = going} c.loop-units.invariant.3 (rw c.in-Ok-pass.is at c.pass.ensures.told),
 )
 
 pub returns-in-Err-pass-clause-ends : goal.returns-in-Err-pass-clause-ends
@@ -46,3 +50,15 @@ returns-else-has_output-clause-ends g c =
 
 pub returns-in-Err-clause-ends : goal.returns-in-Err-clause-ends
 returns-in-Err-clause-ends g c = does_led g.O.Outcome.output_number c.args.self.now.cx.parts c.round.new.self.cx.parts c.args.self.now.journal c.round.new.self.journal c.round.ensures.goes
+
+pub returns-in-Err-pass-clause-told : goal.returns-in-Err-pass-clause-told
+returns-in-Err-pass-clause-told g c = telling_on c.loop-units.invariant.3 (telling_more (λ x e. e) (rw c.in-Err-pass.is at c.pass.ensures.told))
+
+pub returns-then-has_output-clause-told : goal.returns-then-has_output-clause-told
+returns-then-has_output-clause-told g c = c.loop-units.invariant.3
+
+pub returns-else-has_output-clause-told : goal.returns-else-has_output-clause-told
+returns-else-has_output-clause-told g c = c.loop-units.invariant.3
+
+pub returns-in-Err-clause-told : goal.returns-in-Err-clause-told
+returns-in-Err-clause-told g c = telling_more (λ x e. tt) c.round.ensures.told

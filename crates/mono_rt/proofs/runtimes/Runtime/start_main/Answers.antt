@@ -8,6 +8,14 @@ use Rattle.mono_rt.proofs.Calling.{with_all}
 use Rattle.mono_rt.proofs.Going.{goes_of, does_spawn, does_full}
 use Rattle.mono_rt.specs.Rounds.{IsSpawn, IsRefused}
 use Rattle.mono_rt.proofs.Doing.{stay_on}
+use Rattle.mono_rt.specs.Telling.{going}
+use Rattle.mono_rt.proofs.Telling.{tells_one, telling_on}
+use Rattle.mono_machine.specs.declared.events.Act.TheVariants as act
+use Rattle.mono_machine.specs.declared.events.Event.TheVariants as event
+use Rattle.mono_machine.specs.declared.events.Refusal.TheVariants as refusal
+use Rattle.mono_machine.specs.declared.events.Reply.TheVariants as reply
+use Rattle.mono_machine.specs.declared.events.Report.TheVariants as report
+use Rattle.mono_rt.specs.declared.journals.Entry.TheVariants.{Ran}
 use Rattle.mono_rt.proofs.runtimes.Runtime.start_main.Goals as goal
 
 not_both : (r : Result ℕ SpawnTask) (t : ℕ) → r ≡ Ok t → r ≡ Err AtCapacity → ⊥
@@ -44,3 +52,9 @@ returns-in-Err-AtCapacity-clause-refused g c =
 
 pub returns-in-Err-AtCapacity-clause-goes : goal.returns-in-Err-AtCapacity-clause-goes
 returns-in-Err-AtCapacity-clause-goes g c = goes_of g.O.Outcome.output_number IsRefused c.args.self.now.cx.parts _ c.args.self.now.journal c.push-in-Err-AtCapacity.new.self (returns-in-Err-AtCapacity-clause-refused g c)
+
+pub returns-in-Ok-clause-told : goal.returns-in-Ok-clause-told
+returns-in-Ok-clause-told g c = telling_on c.open_spawn.ensures.told (tells_one going (Ran (event.Act act.Spawn) (report.Reply (reply.Task c.in-Ok.t))) refl (_, (going, ((refl, refl), (refl, refl)))) c.push.ensures.entries c.push.ensures.full)
+
+pub returns-in-Err-AtCapacity-clause-told : goal.returns-in-Err-AtCapacity-clause-told
+returns-in-Err-AtCapacity-clause-told g c = telling_on c.open_spawn.ensures.told (tells_one going (Ran (event.Act act.Spawn) (report.Reply (reply.Refused refusal.AtCapacity))) refl (_, (going, ((refl, refl), (refl, refl)))) c.push-in-Err-AtCapacity.ensures.entries c.push-in-Err-AtCapacity.ensures.full)

@@ -3,6 +3,7 @@ use Rattle.mono_rt.specs.Rounds.{OneTurn}
 use Rattle.mono_rt.proofs.Calling.{same_machine}
 use Rattle.mono_rt.proofs.Going.{goes_of, goes_on, does_turn}
 use Rattle.mono_rt.proofs.Doing.{does_one}
+use Rattle.mono_rt.proofs.Telling.{telling_on, tells_kept, same_told}
 use Rattle.mono_rt.proofs.runtimes.Runtime.turn.Goals as goal
 
 pub returns-then-self-clause-goes : goal.returns-then-self-clause-goes
@@ -29,3 +30,9 @@ returns-clause-turned g c =
 
 pub returns-clause-goes : goal.returns-clause-goes
 returns-clause-goes g c = goes_of g.O.Outcome.output_number OneTurn c.args.self.now.cx.parts c.keep_turn.new.self.cx.parts c.args.self.now.journal c.keep_turn.new.self.journal (returns-clause-turned g c)
+
+pub returns-then-self-clause-told : goal.returns-then-self-clause-told
+returns-then-self-clause-told g c = telling_on c.open_turn.ensures.told (tells_kept _ _ _ _ (same_told g.D.Clock.readings g.D.Clock.time g.D.Clock.parks c.keep_turn.ensures.driver) c.keep_turn.ensures.kept)
+
+pub returns-clause-told : goal.returns-clause-told
+returns-clause-told g c = telling_on c.open_turn.ensures.told (tells_kept _ _ _ _ (same_told g.D.Clock.readings g.D.Clock.time g.D.Clock.parks c.keep_turn.ensures.driver) c.keep_turn.ensures.kept)

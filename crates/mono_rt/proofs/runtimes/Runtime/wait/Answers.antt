@@ -1,9 +1,11 @@
-use Rattle.std.proofs.Common.{◌≡◌, true, false, ap, ◌∙◌, sym, subst}
+use Rattle.std.proofs.Common.{◌≡◌, true, false, ap, ◌∙◌, sym, subst, refl}
 use Rattle.mono_rt.specs.Journals.{Does}
 use Rattle.mono_rt.specs.Rounds.{Parks}
 use Rattle.mono_rt.proofs.Doing.{does_parks, does_clocked}
 use Rattle.mono_rt.specs.Rounds.{IsPark}
 use Rattle.mono_rt.proofs.Going.{goes_on, does_led}
+use Rattle.mono_rt.specs.Telling.{Telling, Still, after_park, after_wait}
+use Rattle.mono_rt.proofs.Telling.{telling_on, telling_more, drained_wait}
 use Rattle.mono_rt.proofs.runtimes.Runtime.wait.Goals as goal
 
 pub returns-else-self-clause-parks : goal.returns-else-self-clause-parks
@@ -48,3 +50,26 @@ returns-in-Err-clock_step-clause-parks g c =
     let left = c.clock_step.new.self in
     does_led number old.cx.parts left.cx.parts old.journal left.journal (goes_on number old.cx.parts drained.cx.parts left.cx.parts old.journal drained.journal left.journal
     (goes_on number old.cx.parts parked.cx.parts drained.cx.parts old.journal parked.journal drained.journal c.park.ensures.goes c.drain.ensures.goes) c.clock_step.ensures.goes)
+
+pub returns-else-self-clause-told : goal.returns-else-self-clause-told
+returns-else-self-clause-told g c =
+    let failed = c.in-Ok.failed in
+    telling_on {q = after_park failed} c.in-Ok.ensures.told (c.in-Ok-drain.ensures.told (after_park failed) (after_wait failed) (drained_wait failed))
+
+pub returns-in-Ok-clock_step-clause-told : goal.returns-in-Ok-clock_step-clause-told
+returns-in-Ok-clock_step-clause-told g c =
+    let failed = c.in-Ok.failed in
+    telling_on {q = after_wait failed} (telling_on {q = after_park failed} c.in-Ok.ensures.told (c.in-Ok-drain.ensures.told (after_park failed) (after_wait failed) (drained_wait failed))) (c.clock_step.ensures.told (after_wait failed))
+
+pub returns-in-Err-clause-told : goal.returns-in-Err-clause-told
+returns-in-Err-clause-told g c = telling_more (λ x e. tt) c.park.ensures.told
+
+pub returns-in-Err-drain-clause-told : goal.returns-in-Err-drain-clause-told
+returns-in-Err-drain-clause-told g c =
+    let failed = c.in-Ok.failed in
+    telling_more (λ x e. tt) (telling_on {q = after_park failed} c.in-Ok.ensures.told (c.in-Err-drain.ensures.told (after_park failed) (after_park failed) refl))
+
+pub returns-in-Err-clock_step-clause-told : goal.returns-in-Err-clock_step-clause-told
+returns-in-Err-clock_step-clause-told g c =
+    let failed = c.in-Ok.failed in
+    telling_more (λ x e. tt) (telling_on {q = after_wait failed} (telling_on {q = after_park failed} c.in-Ok.ensures.told (c.in-Ok-drain.ensures.told (after_park failed) (after_wait failed) (drained_wait failed))) (c.clock_step.ensures.told (after_wait failed)))

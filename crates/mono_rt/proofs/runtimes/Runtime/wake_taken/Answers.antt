@@ -1,4 +1,4 @@
-use Rattle.std.proofs.Common.{◌≤◌, ◌++◌, length, sym, subst, ap, ◌∙◌}
+use Rattle.std.proofs.Common.{◌≤◌, ◌++◌, ◌∷◌, [], refl, append_assoc, length, sym, subst, ap, ◌∙◌}
 use Rattle.mono_model.specs.Tasks.{all_woken}
 use Rattle.mono_task.specs.Schedule as schedule
 use Rattle.mono_rt.specs.Drains.{remotes, listed, drain_of}
@@ -7,6 +7,8 @@ use Rattle.mono_rt.specs.Rounds.{Drained}
 use Rattle.mono_rt.proofs.Doing.{does_drain}
 use Rattle.mono_rt.proofs.Draining.{longer}
 use Rattle.mono_rt.proofs.Going.{goes_nowhere, goes_of}
+use Rattle.mono_rt.proofs.Going.{pushed_open}
+use Rattle.mono_rt.proofs.Telling.{tells_nothing, tells_by, tells_on, remotes_tell, same_told}
 use Rattle.mono_rt.proofs.runtimes.Runtime.wake_taken.Goals as goal
 
 pub returns-in-Some-clause-drained : goal.returns-in-Some-clause-drained
@@ -42,3 +44,23 @@ returns-in-None-clause-goes g c =
     let opened = c.open_drain.new.self in
     let same = c.open_drain.ensures.same in
     goes_nowhere g.O.Outcome.output_number old.cx.parts opened.cx.parts old.journal opened.journal (ap (λ x. x.parts.tasks) same) (ap (λ x. x.parts.timers) same) (ap (λ x. x.parts.has_timers) same) (ap (λ x. x.parts.blocking) same) c.open_drain.ensures.entries c.open_drain.ensures.full
+
+pub returns-in-None-clause-told : goal.returns-in-None-clause-told
+returns-in-None-clause-told g c = λ before after ends. tells_nothing (sym ends) (same_told g.D.Clock.readings g.D.Clock.time g.D.Clock.parks c.open_drain.ensures.driver) c.open_drain.ensures.entries c.open_drain.ensures.full
+
+pub returns-in-Some-clause-told : goal.returns-in-Some-clause-told
+returns-in-Some-clause-told g c = λ before after ends.
+    let old = c.args.self.now in
+    let opened = c.open_drain.new.self in
+    let told = c.tell_remotes.new.self in
+    let tasks = opened.cx.parts.tasks.tasks in
+    let taken = c.args.taken.now in
+    let woken = c.from.result in
+    let full = c.push.ensures.full in
+    tells_by after (remotes tasks taken ++ drain_of woken ∷ []) refl
+    (tells_on _ _ _ before before after (remotes tasks taken) (drain_of woken ∷ []) (remotes_tell tasks taken _ before)
+    (_, (after, ((same_told g.D.Clock.readings g.D.Clock.time g.D.Clock.parks (c.tell_remotes.ensures.driver ∙ c.open_drain.ensures.driver), ends), (refl, refl)))))
+    (λ unfull. c.push.ensures.entries ∙ pushed_open told.journal (drain_of woken) (sym full ∙ unfull)
+    ∙ ap (λ xs. xs ++ drain_of woken ∷ []) (c.tell_remotes.ensures.entries (sym full ∙ unfull) ∙ ap (λ xs. xs ++ remotes tasks taken) c.open_drain.ensures.entries)
+    ∙ append_assoc old.journal.entries.items (remotes tasks taken) (drain_of woken ∷ []))
+    (full ∙ c.tell_remotes.ensures.full ∙ c.open_drain.ensures.full)
