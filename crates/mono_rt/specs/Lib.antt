@@ -10,3 +10,4 @@ pub mod Rounds
 pub mod Texts
 pub mod Spawns
 pub mod JobActs
+pub mod CallActs
