@@ -503,6 +503,50 @@ fn a_job_that_the_pool_refuses_is_no_act(rt: HostRuntime) -> Result<(), Fail> {
     Ok(())
 }
 
+/// What a task is answered that asks for four jobs, where the pool refuses the first, the second, the third or the fourth.
+const REFUSED: [[u64; 4]; 4] = [
+    [POOL_FAULT, 0, 1, 2],
+    [0, POOL_FAULT, 1, 2],
+    [0, 1, POOL_FAULT, 2],
+    [0, 1, 2, POOL_FAULT],
+];
+
+/// The acts that the journal keeps of these four: those of the jobs that were not refused.
+fn kept(refused: u64) -> [TurnStep; 3] {
+    match refused {
+        0 => [block(11), block(12), block(13)],
+        1 => [block(10), block(12), block(13)],
+        2 => [block(10), block(11), block(13)],
+        _ => [block(10), block(11), block(12)],
+    }
+}
+
+/// Whether of four jobs the one at this place is refused by the pool, and the others have the numbers 0 to 2.
+fn is_refused_at<R: Host>(rt: &R, alloc: Global, refused: u64) -> Result<bool, Fail> {
+    let calls = [
+        Call::Block(10),
+        Call::Block(11),
+        Call::Block(12),
+        Call::Block(13),
+    ];
+    let turns = in_turns(alloc, &calls, &[])?;
+    let done = did(rt, alloc, Kind::Pool(refused), 4, turns)?;
+    let replies = [Reply::Job(0), Reply::Job(1), Reply::Job(2)];
+    let came = match REFUSED.get(refused as usize) {
+        Some(answers) => done.came(rt, answers),
+        None => false,
+    };
+    Ok(done.is_one && came && done.is_turn(2, &kept(refused), &replies))
+}
+
+#[test]
+fn each_job_in_turn_is_refused_by_the_pool(rt: HostRuntime) -> Result<(), Fail> {
+    for refused in 0..4 {
+        assert!(rt; is_refused_at(&rt, rt.alloc(), refused)?);
+    }
+    Ok(())
+}
+
 /// Whether the fourth entry is a park without an end, and then task 0 was woken from outside and drained.
 fn is_woken(journal: &Journal) -> bool {
     matches!(journal.get(4), Some(Entry::Park(None)))
