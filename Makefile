@@ -7,7 +7,8 @@
 #   make examples    builds the program, and compares each example's reports with those stored beside it, and the
 #                    manual page with --help
 #   make soak        random inputs for a minute (SECONDS=n), each report checked by an independent machine; their journals
-#                    too; then each allocation, read and write fails in turn, and scripts run with workers
+#                    too; then each allocation, read and write fails in turn, scripts run with workers, and each library
+#                    call that leaves its object as it was is refused memory
 #   make planted     tries the wrong bodies of crates/*/planted on a copy (CRATE=name: of one crate)
 #   make gate-times  the gate from nothing, with the processor seconds of each crate
 
@@ -51,6 +52,9 @@ soak: build
 	python3 tools/soak/soak.py bin/monoio $(SECONDS)
 	python3 tools/soak/faults.py bin/monoio
 	python3 tools/soak/scripts.py bin/monoio
+	cd crates/mono_refused && rt run -- send 300 > /dev/null
+	cp crates/mono_refused/out/mono_refused bin/refused
+	python3 tools/soak/refused.py bin/refused
 
 try: has-rt
 	@echo 'unproved: this runs the program before any proof'

@@ -5,7 +5,8 @@ usage: tools/planted.py [CRATE ..]
 
 Each planted/*.edit has the form of a must-fail edit. For each a row is printed: the crate, the body, and what refuses it:
 "clause" with the prover's words, "proof's text" where only a name that the edit took away is missed, "test" where the
-prover lets it through and a test fails, "bad edit" where it does not apply or compile, or "GOT THROUGH".
+prover lets it through and a test of the crate or of one above it fails, with that crate, "bad edit" where it does not
+apply or compile, or "GOT THROUGH".
 """
 import os
 import re
@@ -14,7 +15,10 @@ import subprocess
 import sys
 import tempfile
 
-TOP = os.path.dirname(os.path.dirname(os.path.abspath(__file__)))
+sys.dont_write_bytecode = True
+import below
+
+TOP = below.TOP
 LINE = re.compile(r"^rt: must-fail (\w+)/([\w-]+)\.edit: (.*)$")
 
 
@@ -74,16 +78,46 @@ def apply(folder, edit):
     return before
 
 
-def fails_a_test(copy, crate, edit):
-    folder = os.path.join(copy, "crates", crate)
-    before = apply(folder, edit)
-    run = subprocess.run(
-        ["rt", "try", "--test"], cwd=folder, stdout=subprocess.DEVNULL, stderr=subprocess.DEVNULL, timeout=600
-    )
+def has_tests(copy, crate):
+    folder = os.path.join(copy, "crates", crate, "src")
+    for at, _, names in os.walk(folder):
+        for name in names:
+            if name.endswith(".rt"):
+                with open(os.path.join(at, name), encoding="utf-8") as text:
+                    if "#[test]" in text.read():
+                        return True
+    return False
+
+
+def with_tests(copy, crate):
+    """The crates whose tests may run the crate's code: itself, those that name it, and those that stand on it."""
+    libraries = below.libraries()
+    reached, row = [], [crate]
+    while row:
+        reached += row
+        row = [name for name, of in libraries.items() if name not in reached and set(of) & set(row)]
+    return [name for name in reached if has_tests(copy, name)]
+
+
+def failing_tests(copy, crate, edit):
+    """The nearest crate of which a test fails with the edit, or none."""
+    before = apply(os.path.join(copy, "crates", crate), edit)
+    found = None
+    for name in with_tests(copy, crate):
+        run = subprocess.run(
+            ["rt", "try", "--test"],
+            cwd=os.path.join(copy, "crates", name),
+            stdout=subprocess.DEVNULL,
+            stderr=subprocess.DEVNULL,
+            timeout=600,
+        )
+        if run.returncode not in (0, 2):
+            found = name
+            break
     for file, text in before.items():
         with open(file, "w", encoding="utf-8") as out:
             out.write(text)
-    return run.returncode not in (0, 2)
+    return found
 
 
 def try_crate(copy, crate):
@@ -100,8 +134,8 @@ def try_crate(copy, crate):
         body = name[: -len(".edit")]
         kind, text = verdict(told.get(body, "not tried"))
         if not kind:
-            edit = os.path.join(copy, "crates", crate, "planted", name)
-            kind = "test" if fails_a_test(copy, crate, edit) else "GOT THROUGH"
+            found = failing_tests(copy, crate, os.path.join(copy, "crates", crate, "planted", name))
+            kind, text = ("test", f"of {found}") if found else ("GOT THROUGH", text)
         through += kind == "GOT THROUGH"
         print(f"{crate:14} {body:45} {kind:13} {text[:160]}", flush=True)
     return through

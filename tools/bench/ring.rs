@@ -1,8 +1,8 @@
 //! The plain ring beside `mono_ring`: a `VecDeque` for each mailbox and one for the queue, without timeouts.
 //!
-//! rustc -O -C opt-level=3 tools/bench/ring.rs -o ring && ./ring ACTORS TURNS
+//! rustc -O -C opt-level=3 tools/bench/ring.rs -o ring && ./ring ACTORS TURNS BURST
 //!
-//! It prints the line that `mono_ring ACTORS TURNS` prints.
+//! It prints the line that `mono_ring ACTORS TURNS BURST` prints.
 use std::collections::VecDeque;
 
 #[derive(Clone, Copy, PartialEq)]
@@ -69,16 +69,30 @@ impl Actors {
     }
 }
 
-fn hand_round(count: u64, turns: u64) -> Option<u64> {
+fn burst(actors: &mut Actors, me: u64, messages: u64) -> Option<()> {
+    for message in 0..messages {
+        actors.send(me, me, message)?;
+    }
+    for _ in 0..messages {
+        actors.begin()?;
+        actors.end();
+    }
+    Some(())
+}
+
+fn hand_round(count: u64, turns: u64, messages: u64) -> Option<u64> {
     let mut actors = Actors {
         places: Vec::new(),
         queue: VecDeque::new(),
         turn: None,
-        most_messages: 1,
+        most_messages: messages.max(1),
         messages: 0,
     };
     for _ in 0..count {
         actors.places.push(Some(Actor { mode: Mode::Idle, mailbox: VecDeque::new() }));
+    }
+    for me in 0..count {
+        burst(&mut actors, me, messages)?;
     }
     actors.send(0, 0, 0)?;
     let mut sum = 0u64;
@@ -96,11 +110,11 @@ fn hand_round(count: u64, turns: u64) -> Option<u64> {
 
 fn main() {
     let words: Vec<u64> = std::env::args().skip(1).filter_map(|word| word.parse().ok()).collect();
-    let [count, turns] = words[..] else {
-        println!("usage: ring ACTORS TURNS");
+    let [count, turns, messages] = words[..] else {
+        println!("usage: ring ACTORS TURNS BURST");
         std::process::exit(2);
     };
-    match hand_round(count, turns) {
+    match hand_round(count, turns, messages) {
         None => println!("no ring of {count} actors"),
         Some(sum) => println!("{count} actors {turns} turns sum {sum}"),
     }

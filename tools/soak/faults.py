@@ -74,12 +74,18 @@ def is_right(plain, run, status):
     return run.status == status and (not run.output if status != 5 else plain.output.startswith(run.output) and run.output != plain.output)
 
 
+def shim_in(folder):
+    """The shim that makes one call fail, built in the folder."""
+    shim = pathlib.Path(folder) / "faulty.so"
+    subprocess.run(["cc", "-O1", "-shared", "-fPIC", "-o", shim, TOP / "tools/soak/faulty.c", "-ldl"], check=True)
+    return shim
+
+
 def main():
     program = pathlib.Path(sys.argv[1]).resolve()
     runs = refused = 0
     with tempfile.TemporaryDirectory() as folder:
-        shim = pathlib.Path(folder) / "faulty.so"
-        subprocess.run(["cc", "-O1", "-shared", "-fPIC", "-o", shim, TOP / "tools/soak/faulty.c", "-ldl"], check=True)
+        shim = shim_in(folder)
         for words, text in inputs():
             plain = Ended(program, shim, words, text)
             for faults, status in faults_of(plain):

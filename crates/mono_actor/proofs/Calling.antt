@@ -1,14 +1,12 @@
 -- What a call leaves that changes one place: the actors that the code stands for, and what holds of it.
-use Rattle.std.proofs.Common.{◌≡◌, ◌<◌, ◌≤◌, ◌^◌, inl, inr, ℕ, ◌+◌, true, false, Bool, cond, List, [], ◌∷◌, ◌++◌, length, set, get_or, Some, None, Option, refl, ap, sym, subst, ◌∙◌, arith}
-use Rattle.std.specs.Prelude.{is_some}
-use Rattle.std.proofs.lemmas.Bool.{cases_lt}
-use Rattle.std.proofs.lemmas.List.{get_or_default, get_or_past, length-append}
+use Rattle.std.proofs.Common.{◌≡◌, ◌<◌, ◌≤◌, ◌^◌, ℕ, ◌+◌, true, false, Bool, cond, List, [], ◌∷◌, ◌++◌, length, set, Some, None, Option, refl, ap, sym, subst, ◌∙◌, arith}
+use Rattle.std.proofs.lemmas.List.{length-append}
 use Rattle.mono_model.specs.Table.{value_at}
 use Rattle.mono_model.specs.Valid.{once_if}
 use Rattle.mono_actor.specs.Actors.{Mode, idle, queued, running, Actor, Actors, is_idle, mode_with, wait_from, with_letter, with_actor, in_mode, queued_last, received_value}
 use Rattle.mono_actor.specs.Steps.{waiting_in}
 use Rattle.mono_actor.specs.Standing.{is_queued, is_running}
-use Rattle.mono_actor.specs.Places.{mode_of, receipt_in, timing_in, actor_of, table_of, Becomes, receipt_of, delivered}
+use Rattle.mono_actor.specs.Places.{mode_of, receipt_in, timing_in, actor_of, table_of, Becomes, receipt_of, delivered, Place}
 use Rattle.mono_actor.specs.Alarms.{tick_at, Sets}
 use Rattle.mono_actor.specs.Keeping.{Lines, Counts, Holds}
 use Rattle.mono_actor.specs.declared.alarms.Alarms.{Alarms}
@@ -18,7 +16,6 @@ use Rattle.mono_actor.specs.declared.places.Mode.TheVariants as place
 use Rattle.mono_actor.specs.declared.places.Receipt.{Receipt}
 use Rattle.mono_actor.specs.declared.places.Receipt.TheVariants as receipt
 use Rattle.mono_actor.specs.declared.places.Timing.TheVariants as timing
-use Rattle.mono_actor.specs.declared.places.Place.{Place}
 use Rattle.mono_actor.proofs.Tying.{Retimed, ties-changed, of_same, of_sets}
 use Rattle.mono_actor.proofs.Counting.{there, table-set, counts-changed, queue-live}
 use Rattle.mono_actor.proofs.Timing.{Stands, received}
@@ -28,13 +25,6 @@ none-some x e = cc
 
 pub true-false : true ≡ false → ⊥
 true-false e = cc
-
--- the element that a call reads where there is an actor
-pub there-inside : {V : Type 0} (xs : List (Option V)) (a : ℕ) → is_some (value_at xs a) ≡ true → a < length xs
-there-inside xs a is = elim (cases_lt a (length xs)) [ inl inside ↦ inside | inr past ↦ absurd (true-false (sym is ∙ ap is_some (get_or_past xs a None past))) ]
-
-pub read : {V : Type 0} (xs : List (Option V)) (a : ℕ) (x : Option V) → a < length xs → x ≡ get_or xs a x → value_at xs a ≡ x
-read xs a x inside is = get_or_default xs a None x inside ∙ sym is
 
 -- what a message asks for, by the mode
 receipt-waits : (alarm : ℕ) (m : declared.Mode) → receipt.Waits ≡ receipt_in alarm m → is_idle (mode_of m) ≡ false

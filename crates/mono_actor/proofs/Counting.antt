@@ -1,6 +1,6 @@
 -- The counts of actors, of messages and of the queue when one place changes.
-use Rattle.std.proofs.Common.{◌≡◌, ◌≤◌, ℕ, ◌+◌, true, false, Bool, List, [], ◌∷◌, ◌++◌, length, set, Some, None, Option, refl, ap, sym, ◌∙◌, arith}
-use Rattle.std.specs.Prelude.{sum_by, is_some}
+use Rattle.std.proofs.Common.{◌≡◌, ◌<◌, ◌≤◌, ℕ, ◌+◌, ◌^◌, true, false, Bool, List, [], ◌∷◌, ◌++◌, length, set, Some, None, Option, refl, ap, sym, ◌∙◌, arith}
+use Rattle.std.specs.Prelude.{sum_by, is_some, IfSome}
 use Rattle.std.specs.Option.{option_map}
 use Rattle.std.proofs.Math.ListN.{get_or-map}
 use Rattle.std.proofs.lemmas.List.{map-set, map-append}
@@ -10,9 +10,8 @@ use Rattle.mono_model.specs.Table.{Table, value_at, count_of}
 use Rattle.mono_model.specs.Valid.{once_if}
 use Rattle.mono_actor.specs.Actors.{Actor, letters_of}
 use Rattle.mono_actor.specs.Standing.{is_queued, one_if_queued, one_if_live}
-use Rattle.mono_actor.specs.Places.{mode_of, actor_of, table_of}
+use Rattle.mono_actor.specs.Places.{mode_of, actor_of, table_of, Place}
 use Rattle.mono_actor.specs.Keeping.{Counts}
-use Rattle.mono_actor.specs.declared.places.Place.{Place}
 use Rattle.mono_actor.proofs.Tying.{given}
 
 module _ {M : Type 0} where
@@ -102,3 +101,12 @@ module _ {M : Type 0} where
         ap one_if_live (there places a p was),
         get_or-le-sum_by one_if_live (table_of places) a None (given (table_of places) a (actor_of p) (there places a p was)),
       )
+
+  -- with as many messages in all, no mailbox is too long
+  pub few-letters : (places : List (Option (Place M))) (queue : List ℕ) (live letters a : ℕ) → Counts places queue live letters → is_some (value_at places a) ≡ true → letters + 1 < 2 ^ 64
+      → IfSome (value_at places a) (λ p. length p.mailbox + 1 < 2 ^ 64)
+  few-letters places queue live letters a counts there few = by (value_at places a) refl
+    where
+      by : (v : Option (Place M)) → value_at places a ≡ v → IfSome v (λ p. length p.mailbox + 1 < 2 ^ 64)
+      by None at = tt
+      by (Some p) at = omega (arith, few, letters-least places queue live letters a p counts at)

@@ -8,14 +8,13 @@ use Rattle.mono_model.specs.Valid.{once_if}
 use Rattle.mono_actor.specs.Actors.{Mode, idle, queued, running, Actor, in_mode, with_table, with_actor, queued_last, wait_from, ended_value, end_answer}
 use Rattle.mono_actor.specs.Steps.{waiting_in}
 use Rattle.mono_actor.specs.Standing.{is_queued, is_running, of_actor}
-use Rattle.mono_actor.specs.Places.{mode_of, actor_of, table_of, Becomes, rested, rest_of_turn}
+use Rattle.mono_actor.specs.Places.{mode_of, actor_of, table_of, Becomes, rested, rest_of_turn, Place}
 use Rattle.mono_actor.specs.Alarms.{tick_at, is_known, Sets, Freed}
 use Rattle.mono_actor.specs.Keeping.{Holds}
 use Rattle.mono_actor.specs.declared.alarms.Alarms.{Alarms}
 use Rattle.mono_actor.specs.declared.answers.After.TheVariants as after
 use Rattle.mono_actor.specs.declared.places.Rest.{Rest}
 use Rattle.mono_actor.specs.declared.places.Rest.TheVariants as rest
-use Rattle.mono_actor.specs.declared.places.Place.{Place}
 use Rattle.mono_actor.proofs.Tying.{of_same, of_sets, ties-gone}
 use Rattle.mono_actor.proofs.Counting.{at-table, there, table-set, counts-gone, letters-least, live-least}
 use Rattle.mono_actor.proofs.Timing.{gone, ends}

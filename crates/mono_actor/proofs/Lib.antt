@@ -4,6 +4,9 @@ pub mod Timing
 pub mod Worked
 pub mod Alarming
 pub mod Tying
+pub mod Linked
+pub mod Changing
+pub mod Storing
 pub mod Counting
 pub mod Calling
 pub mod Timed

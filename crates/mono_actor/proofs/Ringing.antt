@@ -10,12 +10,11 @@ use Rattle.mono_model.specs.Due.{HasCome, ListsDue}
 use Rattle.mono_actor.specs.Actors.{Mode, idle, queued, running, Actor, Actors, in_mode}
 use Rattle.mono_actor.specs.Steps.{waiting_in, waiting_value, queued_value, all_queued}
 use Rattle.mono_actor.specs.Standing.{is_queued, is_running, of_actor, one_if_live}
-use Rattle.mono_actor.specs.Places.{mode_of, actor_of, table_of, Becomes}
+use Rattle.mono_actor.specs.Places.{mode_of, actor_of, table_of, Becomes, Place}
 use Rattle.mono_actor.specs.Alarms.{tick_at, NoneRings, Rings}
 use Rattle.mono_actor.specs.Keeping.{Holds}
 use Rattle.mono_actor.specs.Clocking.{IsNoneDue, RingsFirst, RingsAll, one_if_any, one_if_waits, waiting_count}
 use Rattle.mono_actor.specs.declared.alarms.Alarms.{Alarms}
-use Rattle.mono_actor.specs.declared.places.Place.{Place}
 use Rattle.mono_actor.proofs.Tying.{given, Retimed, ties-same, Owned, owner}
 use Rattle.mono_actor.proofs.Counting.{at-table, there, table-set, sum-set, live-count}
 use Rattle.mono_actor.proofs.Timing.{one_queued}

@@ -3,24 +3,44 @@ use Rattle.std.proofs.Common.{◌≡◌, ◌<◌, ◌≤◌, ◌^◌, ◌-◌, �
 use Rattle.std.specs.Prelude.{◌==◌, ◌||◌, Ok, Err, IsOk}
 use Rattle.std.specs.Option.{option_map}
 use Rattle.std.proofs.lemmas.Bool.{le-leb, lt-leb}
-use Rattle.std.proofs.lemmas.List.{map-append, length-map}
+use Rattle.std.proofs.lemmas.List.{map-append, length-map, get_or_past}
 use Rattle.mono_model.specs.Table.{count_of, is_full, with_next, next_number}
 use Rattle.mono_actor.specs.Actors.{Actor, idle, with_table, if_granted, spawn_answer, spawned}
 use Rattle.mono_actor.specs.Steps.{waiting_in}
-use Rattle.mono_actor.specs.Standing.{is_queued}
-use Rattle.mono_actor.specs.Places.{actor_of, table_of}
-use Rattle.mono_actor.specs.Alarms.{Added, Stays}
+use Rattle.mono_model.specs.Valid.{once_if}
+use Rattle.mono_actor.specs.Standing.{is_queued, of_actor}
+use Rattle.mono_actor.specs.Places.{actor_of, table_of, Place}
+use Rattle.mono_actor.specs.Alarms.{tick_at, Added, Stays}
 use Rattle.mono_actor.specs.Keeping.{Holds}
 use Rattle.mono_actor.specs.declared.alarms.Alarms.{Alarms}
 use Rattle.mono_actor.specs.declared.answers.ActorError.TheVariants.{AtCapacity}
-use Rattle.mono_actor.specs.declared.places.Place.{Place}
-use Rattle.mono_actor.proofs.Tying.{ties-same, ties-added}
+use Rattle.mono_actor.proofs.Tying.{given, ties-same, ties-added}
 use Rattle.mono_actor.proofs.Counting.{live-count, counts-added}
 use Rattle.mono_actor.proofs.Timing.{spawned_stands}
 use Rattle.mono_actor.proofs.Calling.{view, stands-of, lines-of}
 
 or_false : (a b : Bool) → a ≡ false → b ≡ false → (a || b) ≡ false
 or_false a b at_a at_b = ap (λ x. x || b) at_a ∙ at_b
+
+none-some : {X : Type 0} (x : X) → None ≡ Some x → ⊥
+none-some x e = cc
+
+-- with no actor
+pub none-hold : {M : Type 0} (alarms : Alarms) (cap : ℕ) → alarms.wheel.elapsed ≡ 0 → ((key : ℕ) → tick_at alarms key ≡ None) → Holds {M = M} [] alarms [] None 0 0 0 cap
+none-hold {M} alarms cap elapsed none = record {
+  ties = record {
+    tied = λ a place at. absurd (omega (arith, given {V = Place M} [] a place at));
+    owned = λ key tick at. absurd (none-some tick (sym (none key) ∙ at));
+  };
+  lines = record {
+    queue_is = λ a. sym (ap (λ (v : Option (Actor M)). once_if (of_actor is_queued v)) (get_or_past {X = Option (Actor M)} [] a None (omega arith)));
+    turn_is = λ me is. absurd (none-some me is);
+  };
+  counts = record { live_is = refl; letters_is = refl; listed = refl };
+  elapsed = omega (arith, elapsed);
+  below = omega arith;
+  fits = omega arith;
+}
 
 module _ {M : Type 0} (places : List (Option (Place M))) (alarms : Alarms) (queue : List ℕ) (turn : Option ℕ) (greatest live letters cap : ℕ) (holds : Holds places alarms queue turn greatest live letters cap)
     (most_actors most_messages : ℕ) where

@@ -8,13 +8,12 @@ use Rattle.mono_model.specs.Valid.{once_if}
 use Rattle.mono_actor.specs.Actors.{Actor, wait_from, last_tick, timed_value}
 use Rattle.mono_actor.specs.Steps.{waiting_in}
 use Rattle.mono_actor.specs.Standing.{is_queued}
-use Rattle.mono_actor.specs.Places.{mode_of, table_of, Becomes, timing_of, timed_actor}
+use Rattle.mono_actor.specs.Places.{mode_of, table_of, Becomes, timing_of, timed_actor, Place}
 use Rattle.mono_actor.specs.Alarms.{tick_at, is_known, Sets}
 use Rattle.mono_actor.specs.Keeping.{Holds}
 use Rattle.mono_actor.specs.declared.alarms.Alarms.{Alarms}
 use Rattle.mono_actor.specs.declared.places.Timing.{Timing}
 use Rattle.mono_actor.specs.declared.places.Timing.TheVariants as timing
-use Rattle.mono_actor.specs.declared.places.Place.{Place}
 use Rattle.mono_actor.proofs.Tying.{Retimed, of_same, of_sets, of_both}
 use Rattle.mono_actor.proofs.Counting.{there, table-set}
 use Rattle.mono_actor.proofs.Timing.{timed_stands}

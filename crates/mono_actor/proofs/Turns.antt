@@ -7,12 +7,11 @@ use Rattle.mono_model.specs.Valid.{times, once_if}
 use Rattle.mono_actor.specs.Actors.{Actor, Actors, idle, queued, running, got_in, rest_of, begun_for, begun_table}
 use Rattle.mono_actor.specs.Steps.{waiting_in}
 use Rattle.mono_actor.specs.Standing.{is_queued, of_actor}
-use Rattle.mono_actor.specs.Places.{mode_of, actor_of, table_of, Becomes, taken_by, begun_actor}
+use Rattle.mono_actor.specs.Places.{mode_of, actor_of, table_of, Becomes, taken_by, begun_actor, Place}
 use Rattle.mono_actor.specs.Keeping.{Holds}
 use Rattle.mono_actor.specs.declared.alarms.Alarms.{Alarms}
 use Rattle.mono_actor.specs.declared.answers.Got.{Got}
 use Rattle.mono_actor.specs.declared.mailboxes.Letter.{Letter}
-use Rattle.mono_actor.specs.declared.places.Place.{Place}
 use Rattle.mono_actor.proofs.Tying.{of_same}
 use Rattle.mono_actor.proofs.Counting.{at-table, there, table-set, letters-least}
 use Rattle.mono_actor.proofs.Timing.{begins, is_once}

@@ -4,11 +4,10 @@ use Rattle.std.proofs.lemmas.Bool.{cases_eq, cases_lt}
 use Rattle.std.proofs.lemmas.List.{get_or-set_other, get_or-set_same, get_or_past}
 use Rattle.mono_model.specs.Table.{value_at}
 use Rattle.mono_actor.specs.Steps.{waiting_in}
-use Rattle.mono_actor.specs.Places.{mode_of}
+use Rattle.mono_actor.specs.Places.{mode_of, Place}
 use Rattle.mono_actor.specs.Alarms.{tick_at, is_known, number_at, Sets, Added, Freed}
 use Rattle.mono_actor.specs.Keeping.{Tied, alarm_in, Ties}
 use Rattle.mono_actor.specs.declared.alarms.Alarms.{Alarms}
-use Rattle.mono_actor.specs.declared.places.Place.{Place}
 
 true-false : true ≡ false → ⊥
 true-false e = cc
@@ -22,11 +21,11 @@ same-some x y e = cc
 pub given : {V : Type 0} (table : List (Option V)) (s : ℕ) (v : V) → value_at table s ≡ Some v → s < length table
 given table s v at = elim (cases_lt s (length table)) [ inl inside ↦ inside | inr past ↦ absurd (none-some v (sym (get_or_past table s None past) ∙ at)) ]
 
-value_last : {V : Type 0} (table : List (Option V)) (v : Option V) → value_at (table ++ v ∷ []) (length table) ≡ v
+pub value_last : {V : Type 0} (table : List (Option V)) (v : Option V) → value_at (table ++ v ∷ []) (length table) ≡ v
 value_last [] v = refl
 value_last (x ∷ xs) v = value_last xs v
 
-value_other : {V : Type 0} (table : List (Option V)) (v : Option V) (q : ℕ) → q ≢ length table → value_at (table ++ v ∷ []) q ≡ value_at table q
+pub value_other : {V : Type 0} (table : List (Option V)) (v : Option V) (q : ℕ) → q ≢ length table → value_at (table ++ v ∷ []) q ≡ value_at table q
 value_other [] v zero apart = absurd (apart refl)
 value_other [] v (suc q) apart = refl
 value_other (x ∷ xs) v zero apart = refl

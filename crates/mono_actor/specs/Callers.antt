@@ -5,6 +5,7 @@ use Rattle.mono_actor.specs.Actors as model
 use Rattle.mono_actor.specs.Answers as answer
 use Rattle.mono_actor.specs.Steps.{ClockStep}
 use Rattle.mono_actor.specs.Places.{table_of}
+use Rattle.mono_actor.specs.Stored.{places_of}
 use Rattle.mono_actor.specs.declared.answers.ActorError.{ActorError}
 use Rattle.mono_actor.specs.declared.answers.ActorError.TheVariants.{Memory}
 use Rattle.mono_actor.specs.declared.answers.Sent.{Sent}
@@ -18,7 +19,7 @@ OrLacksMemory told result = (result ≡ told) ⊎ ((result ≡ Err Memory) × Is
 module _ {M : Type 0} where
   abbrev pub actors_of : Actors M → model.Actors M
   actors_of actors = record {
-    table = table_of actors.places.items;
+    table = table_of (places_of actors.places);
     queue = actors.queue.items;
     turn = actors.turn;
     greatest = actors.greatest;

@@ -5,10 +5,9 @@ use Rattle.mono_model.specs.Valid.{times, once_if}
 use Rattle.mono_actor.specs.Actors.{letters_of}
 use Rattle.mono_actor.specs.Steps.{waiting_in}
 use Rattle.mono_actor.specs.Standing.{is_queued, is_running, of_actor, one_if_queued, one_if_live}
-use Rattle.mono_actor.specs.Places.{mode_of, table_of}
+use Rattle.mono_actor.specs.Places.{mode_of, table_of, Place}
 use Rattle.mono_actor.specs.Alarms.{tick_at, is_known, number_at}
 use Rattle.mono_actor.specs.declared.alarms.Alarms.{Alarms}
-use Rattle.mono_actor.specs.declared.places.Place.{Place}
 
 module _ {M : Type 0} where
   -- the key of the actor a is given out to it, and waits for the tick for which the actor waits

@@ -6,6 +6,10 @@ pub mod Laws
 pub mod Worked
 pub mod Standing
 pub mod Places
+pub mod Entries
+pub mod Mailboxes
+pub mod Stored
+pub mod Once
 pub mod Keys
 pub mod Alarms
 pub mod Keeping

@@ -1,7 +1,7 @@
 -- What a place says of its actor, and what each call makes of it.
-use Rattle.std.specs.Prelude.{◌≡◌, ℕ, ◌==◌, if◌then◌else◌, List, length, map, Option, Some}
+use Rattle.std.specs.Prelude.{◌≡◌, ℕ, Bool, ◌==◌, if◌then◌else◌, List, [], ◌∷◌, length, map, Option, Some, None, slice_set}
 use Rattle.std.specs.Option.{option_map}
-use Rattle.mono_model.specs.Table.{Table}
+use Rattle.mono_model.specs.Table.{Table, value_at}
 use Rattle.mono_actor.specs.Actors.{Mode, idle, queued, running, Actor, in_mode, is_idle, mode_with, wait_from, with_letter, rest_of}
 use Rattle.mono_actor.specs.declared.answers.Got.{Got}
 use Rattle.mono_actor.specs.declared.answers.Got.TheVariants as got
@@ -14,7 +14,6 @@ use Rattle.mono_actor.specs.declared.places.Timing.{Timing}
 use Rattle.mono_actor.specs.declared.places.Timing.TheVariants as timing
 use Rattle.mono_actor.specs.declared.places.Rest.{Rest}
 use Rattle.mono_actor.specs.declared.places.Rest.TheVariants as rest
-use Rattle.mono_actor.specs.declared.places.Place.{Place}
 
 abbrev pub mode_of : declared.Mode → Mode
 mode_of (place.Idle waits_for) = idle waits_for
@@ -33,6 +32,17 @@ timing_in now timeout alarm (place.Idle waits_for) = timing.Rearms alarm waits_f
 timing_in now timeout alarm place.Queued = timing.Keeps
 timing_in now timeout alarm place.Running = timing.Keeps
 
+-- what the end of a turn asks for, where the mailbox is empty, and where it is not
+abbrev pub rest_in : ℕ → ℕ → ℕ → Bool → Rest
+rest_in now alarm timeout empty = if empty then rest.Waits alarm (wait_from now timeout) else rest.Again
+
+-- An actor has its mailbox, the oldest message first, and the key of its receive timeout.
+pub record Place (M : Type 0) : Type 0 where
+  pub mode : declared.Mode
+  pub mailbox : List (Letter M)
+  pub timeout : ℕ
+  pub alarm : ℕ
+
 module _ {M : Type 0} where
   abbrev pub actor_of : Place M → Actor M
   actor_of place = record { mode = mode_of place.mode; mailbox = place.mailbox; timeout = place.timeout }
@@ -49,6 +59,12 @@ module _ {M : Type 0} where
     pub alarm : after.alarm ≡ before.alarm
     pub actor : actor_of after ≡ change (actor_of before)
 
+  -- The actor a is another one, has its key still, and all others stay.
+  pub record Changes (change : Actor M → Actor M) (a : ℕ) (old new : List (Option (Place M))) : Type 0 where
+    pub place : Option (Place M)
+    pub becomes : Becomes change (value_at old a) place
+    pub is : new ≡ slice_set old a place
+
   abbrev pub receipt_of : Place M → Receipt
   receipt_of place = receipt_in place.alarm place.mode
 
@@ -57,7 +73,15 @@ module _ {M : Type 0} where
 
   -- what the end of a turn asks for
   abbrev pub rest_of_turn : ℕ → Place M → Rest
-  rest_of_turn now place = if length place.mailbox == 0 then rest.Waits place.alarm (wait_from now place.timeout) else rest.Again
+  rest_of_turn now place = rest_in now place.alarm place.timeout (length place.mailbox == 0)
+
+  -- the oldest message, and an actor without it
+  abbrev pub first_of : List (Letter M) → Option (Letter M)
+  first_of [] = None
+  first_of (letter ∷ mailbox) = Some letter
+
+  abbrev pub unread : Actor M → Actor M
+  unread actor = record { mode = actor.mode; mailbox = rest_of actor.mailbox; timeout = actor.timeout }
 
   -- how many messages a turn begins with
   abbrev pub taken_by : Got M → ℕ

@@ -7,9 +7,8 @@ pub mod laws;
 mod mailboxes;
 mod places;
 pub mod rows;
+mod store;
 mod table;
-#[cfg(test)]
-mod tests;
 
 pub use answers::{ActorError, After, Got, SendRefused, Sent};
 pub use table::Actors;

@@ -1,9 +1,9 @@
-// Messages that wait for an actor.
-ghost use Rattle.std.specs.Prelude.{◌≡◌, ◌==◌, [], ◌∷◌, ◌++◌, length, OnOk, IfErr, MatchOption};
+// The letters of all mailboxes, in one store.
+ghost use Rattle.std.specs.Prelude.{◌≡◌, ◌<◌, ◌+◌, ◌^◌, IfOk, IfErr, OnOk, OnErr, OnSome, MatchOption};
+ghost use Rattle.slab.specs.Slab.{ContainsKey, slab_len};
+ghost use Rattle.mono_actor.specs.Mailboxes.{IsPut, IsTaken};
 
-use std::alloc::Global;
-use std::collections::VecDeque;
-use std::marker::Model;
+use slab::Slab;
 
 /// A message with its sender.
 #[derive(Drop)]
@@ -12,60 +12,77 @@ pub struct Letter<M> {
     pub message: M,
 }
 
-/// Messages in the order in which they came. An empty one takes no memory.
+/// A letter in the store, and where the next of its mailbox is.
 #[derive(Drop)]
-pub struct Mailbox<M> {
-    letters: VecDeque<Letter<M>>,
+pub struct Link<M> {
+    pub letter: Letter<M>,
+    pub next: usize,
 }
 
-impl<M> Model for Mailbox<M> {
-    ghost use Rattle.std.specs.Prelude.{List};
-    ghost use Rattle.mono_actor.specs.declared.mailboxes.Letter.{Letter};
-
-    ghost Value = { List (Letter M) };
-
-    ghost view = { λ a. a.letters.items };
+/// So many letters of the store, from the first to the last. Where there is none the ends say nothing.
+#[derive(Clone, Copy, Drop)]
+pub struct Mailbox {
+    pub first: usize,
+    pub last: usize,
+    pub count: usize,
 }
 
-impl<M> Mailbox<M> {
-    /// No message.
-    pub fn new(alloc: Global) -> Mailbox<M>
-        ensures { result ≡ [] }
-    {
-        Mailbox {
-            letters: VecDeque::new(alloc),
-        }
+/// The letter comes last. Where memory is refused it comes back.
+pub fn put<M>(
+    links: &mut Slab<Link<M>>,
+    mailbox: Mailbox,
+    letter: Letter<M>,
+) -> Result<Mailbox, Letter<M>>
+    requires last { 0 < mailbox.count → ContainsKey links.old mailbox.last }
+    requires few { mailbox.count + 1 < 2 ^ 64 }
+    ensures put { IfOk result (λ after. IsPut letter links.old.slots links.new.slots mailbox after) }
+    ensures len { OnOk result (slab_len links.new ≡ slab_len links.old + 1) }
+    ensures refused { IfErr result (λ back. back ≡ letter) }
+    ensures kept { OnErr result (links.new.slots ≡ links.old.slots) }
+{
+    let key = match links.insert(Link { letter, next: 0 }) {
+        Ok(key) => key,
+        Err(refused) => return Err(refused.value.letter),
+    };
+    if mailbox.count == 0 {
+        return Ok(Mailbox {
+            first: key,
+            last: key,
+            count: 1,
+        });
     }
+    links[mailbox.last].next = key;
+    Ok(Mailbox {
+        first: mailbox.first,
+        last: key,
+        count: mailbox.count + 1,
+    })
+}
 
-    /// No message waits.
-    pub fn is_empty(&self) -> bool
-        ensures { result ≡ (length self.now == 0) }
-    {
-        self.letters.len() == 0
-    }
+/// A letter that was the first of its mailbox, and the mailbox without it.
+#[derive(Drop)]
+pub struct Taken<M> {
+    pub letter: Letter<M>,
+    pub rest: Mailbox,
+}
 
-    /// How many messages wait.
-    pub fn len(&self) -> usize
-        ensures { result ≡ length self.now }
-    {
-        self.letters.len()
+/// Takes the first letter out, whose memory can be used again. None exactly where there is none.
+pub fn take<M>(links: &mut Slab<Link<M>>, mailbox: Mailbox) -> Option<Taken<M>>
+    requires { 0 < mailbox.count → ContainsKey links.old mailbox.first }
+    ensures taken { MatchOption result ((mailbox.count ≡ 0) × (links.new.slots ≡ links.old.slots)) (λ taken. IsTaken taken.letter links.old.slots links.new.slots mailbox taken.rest) }
+    ensures len { OnSome result (slab_len links.new + 1 ≡ slab_len links.old) }
+{
+    if mailbox.count == 0 {
+        return None;
     }
-
-    /// The message comes last. Where memory is refused it comes back.
-    pub fn put(&mut self, letter: Letter<M>) -> Result<(), Letter<M>>
-        ensures last { OnOk result (self.new ≡ self.old ++ letter ∷ []) }
-        ensures refused { IfErr result (λ back. (back ≡ letter) × (self.new ≡ self.old)) }
-    {
-        match self.letters.push_back(letter) {
-            Ok(()) => Ok(()),
-            Err(refused) => Err(refused.value),
-        }
-    }
-
-    /// Takes the first message out.
-    pub fn take(&mut self) -> Option<Letter<M>>
-        ensures { MatchOption result ((self.old ≡ []) × (self.new ≡ [])) (λ letter. self.old ≡ letter ∷ self.new) }
-    {
-        self.letters.pop_front()
-    }
+    let link = links.remove(mailbox.first);
+    let rest = Mailbox {
+        first: link.next,
+        last: mailbox.last,
+        count: mailbox.count - 1,
+    };
+    Some(Taken {
+        letter: link.letter,
+        rest,
+    })
 }

@@ -1,16 +1,17 @@
-// What is kept of an actor, at its number.
-ghost use Rattle.std.specs.Prelude.{◌≡◌, ◌<◌, ◌^◌, true, [], None, OnOk, IfOk, IfErr, IfSome, is_some, length};
+// What is kept of an actor beside its letters, at its number.
+ghost use Rattle.std.specs.Prelude.{◌≡◌, ◌<◌, ◌^◌, ◌==◌, true, None, IfSome, MatchOption, is_some};
+ghost use Rattle.std.specs.Option.{option_map};
 ghost use Rattle.mono_model.specs.Ticks.{down};
 ghost use Rattle.mono_time.specs.Instants.{nanos_of};
-ghost use Rattle.mono_model.specs.Table.{value_at};
-ghost use Rattle.mono_actor.specs.Actors.{idle, queued, in_mode, got_in, wait_from};
-ghost use Rattle.mono_actor.specs.Places.{actor_of, receipt_of, timing_of, rest_of_turn, taken_by, delivered, timed_actor, begun_actor, rested, Becomes};
+ghost use Rattle.mono_actor.specs.Actors.{wait_from};
+ghost use Rattle.mono_actor.specs.Places.{receipt_in, timing_in, rest_in, taken_by};
+ghost use Rattle.mono_actor.specs.Entries.{entry_with, entry_in, notified, timed_entry, rested_entry};
+ghost use Rattle.mono_actor.specs.declared.answers.Got.TheVariants as got;
+ghost use Rattle.mono_actor.specs.declared.places.Mode.TheVariants as place;
 
 use crate::answers::Got;
 use crate::mailboxes::{Letter, Mailbox};
 use mono_time::Instant;
-use std::alloc::Global;
-use std::mem;
 
 /// The last tick for which an actor may wait.
 const LAST_TICK: u64 = (1 << 63) - 1;
@@ -23,11 +24,11 @@ pub enum Mode {
     Running,
 }
 
-/// An actor, with the key of its receive timeout. The timeout is in ticks, or 0 for none.
-#[derive(Drop)]
-pub struct Place<M> {
+/// An actor, with the ends of its mailbox and the key of its receive timeout. The timeout is in ticks, or 0 for none.
+#[derive(Clone, Copy, Drop)]
+pub struct Entry {
     pub mode: Mode,
-    pub mailbox: Mailbox<M>,
+    pub mailbox: Mailbox,
     pub timeout: u64,
     pub alarm: usize,
 }
@@ -53,17 +54,6 @@ pub enum Rest {
     Waits(usize, Option<u64>),
 }
 
-/// Whether a number has an actor.
-pub fn is_there<M>(places: &Vec<Option<Place<M>>>, actor: u64) -> bool
-    ensures { result ≡ is_some (value_at places.now.items actor) }
-{
-    let at = actor as usize;
-    if at >= places.len() {
-        return false;
-    }
-    places[at].is_some()
-}
-
 /// For which tick an actor waits from now on.
 pub fn wait_from(now: u64, timeout: u64) -> Option<u64>
     ensures { result ≡ wait_from now timeout }
@@ -78,55 +68,79 @@ pub fn wait_from(now: u64, timeout: u64) -> Option<u64>
 }
 
 /// A new actor: it is idle and waits for no tick, its mailbox is empty, and it has no timeout.
-pub fn new_place<M>(alloc: Global, alarm: usize) -> Place<M>
-    ensures actor { actor_of result ≡ record { mode = idle None; mailbox = []; timeout = 0 } }
-    ensures alarm { result.alarm ≡ alarm }
+pub fn new_entry(alarm: usize) -> Entry
+    ensures { result ≡ record { mode = place.Idle None; mailbox = record { first = 0; last = 0; count = 0 }; timeout = 0; alarm = alarm } }
 {
-    Place {
+    Entry {
         mode: Mode::Idle(None),
-        mailbox: Mailbox::new(alloc),
+        mailbox: Mailbox {
+            first: 0,
+            last: 0,
+            count: 0,
+        },
         timeout: 0,
         alarm,
     }
 }
 
-/// A message comes into the mailbox, last. Where memory is refused it comes back.
-pub fn receive<M>(place: &mut Option<Place<M>>, letter: Letter<M>) -> Result<Receipt, Letter<M>>
-    requires { is_some place.old ≡ true }
-    ensures becomes { OnOk result (Becomes (delivered letter) place.old place.new) }
-    ensures receipt { IfOk result (λ receipt. IfSome place.old (λ p. receipt ≡ receipt_of p)) }
-    ensures refused { IfErr result (λ back. (back ≡ letter) × (place.new ≡ place.old)) }
+/// The mailbox of an actor.
+pub fn mailbox_at(entry: &Option<Entry>) -> Mailbox
+    requires { is_some entry.now ≡ true }
+    ensures { IfSome entry.now (λ e. result ≡ e.mailbox) }
 {
-    match place {
+    match entry {
         None => unreachable!(),
-        Some(place) => {
-            place.mailbox.put(letter)?;
-            match place.mode {
+        Some(entry) => entry.mailbox,
+    }
+}
+
+/// The actor has this mailbox.
+pub fn set_mailbox(entry: &mut Option<Entry>, mailbox: Mailbox)
+    requires { is_some entry.old ≡ true }
+    ensures { entry.new ≡ option_map (entry_with mailbox) entry.old }
+{
+    match entry {
+        None => unreachable!(),
+        Some(entry) => entry.mailbox = mailbox,
+    }
+}
+
+/// The actor has this mailbox, with a message more: an idle one is queued.
+pub fn notify(entry: &mut Option<Entry>, mailbox: Mailbox) -> Receipt
+    requires { is_some entry.old ≡ true }
+    ensures becomes { entry.new ≡ option_map (notified mailbox) entry.old }
+    ensures receipt { IfSome entry.old (λ e. result ≡ receipt_in e.alarm e.mode) }
+{
+    match entry {
+        None => unreachable!(),
+        Some(entry) => {
+            entry.mailbox = mailbox;
+            match entry.mode {
                 Mode::Idle(waits_for) => {
-                    place.mode = Mode::Queued;
-                    Ok(Receipt::Queues(place.alarm, waits_for))
+                    entry.mode = Mode::Queued;
+                    Receipt::Queues(entry.alarm, waits_for)
                 }
-                Mode::Queued | Mode::Running => Ok(Receipt::Waits),
+                Mode::Queued | Mode::Running => Receipt::Waits,
             }
         }
     }
 }
 
 /// The actor has another timeout. An idle one waits anew from now.
-pub fn set_timeout<M>(place: &mut Option<Place<M>>, now: u64, timeout: u64) -> Timing
-    requires { is_some place.old ≡ true }
-    ensures becomes { Becomes (timed_actor now timeout) place.old place.new }
-    ensures timing { IfSome place.old (λ p. result ≡ timing_of now timeout p) }
+pub fn set_timeout(entry: &mut Option<Entry>, now: u64, timeout: u64) -> Timing
+    requires { is_some entry.old ≡ true }
+    ensures becomes { entry.new ≡ option_map (timed_entry now timeout) entry.old }
+    ensures timing { IfSome entry.old (λ e. result ≡ timing_in now timeout e.alarm e.mode) }
 {
-    match place {
+    match entry {
         None => unreachable!(),
-        Some(place) => {
-            place.timeout = timeout;
-            match place.mode {
+        Some(entry) => {
+            entry.timeout = timeout;
+            match entry.mode {
                 Mode::Idle(waits_for) => {
                     let tick = wait_from(now, timeout);
-                    place.mode = Mode::Idle(tick);
-                    Timing::Rearms(place.alarm, waits_for, tick)
+                    entry.mode = Mode::Idle(tick);
+                    Timing::Rearms(entry.alarm, waits_for, tick)
                 }
                 Mode::Queued | Mode::Running => Timing::Keeps,
             }
@@ -134,21 +148,24 @@ pub fn set_timeout<M>(place: &mut Option<Place<M>>, now: u64, timeout: u64) -> T
     }
 }
 
-/// The actor's turn begins, with its first message or a timeout.
-pub fn begin_turn<M>(place: &mut Option<Place<M>>) -> Got<M>
-    requires { is_some place.old ≡ true }
-    ensures becomes { Becomes begun_actor place.old place.new }
-    ensures got { IfSome place.old (λ p. result ≡ got_in p.mailbox) }
+/// The actor's turn begins.
+pub fn start(entry: &mut Option<Entry>)
+    requires { is_some entry.old ≡ true }
+    ensures { entry.new ≡ option_map (entry_in place.Running) entry.old }
 {
-    match place {
+    match entry {
         None => unreachable!(),
-        Some(place) => {
-            place.mode = Mode::Running;
-            match place.mailbox.take() {
-                None => Got::Timeout,
-                Some(letter) => Got::Message(letter.sender, letter.message),
-            }
-        }
+        Some(entry) => entry.mode = Mode::Running,
+    }
+}
+
+/// What the actor gets that has its turn: its first message, if any.
+pub fn got_of<M>(letter: Option<Letter<M>>) -> Got<M>
+    ensures { MatchOption letter (result ≡ got.Timeout) (λ l. result ≡ got.Message l.sender l.message) }
+{
+    match letter {
+        None => Got::Timeout,
+        Some(letter) => Got::Message(letter.sender, letter.message),
     }
 }
 
@@ -163,20 +180,20 @@ pub fn taken<M>(got: &Got<M>) -> u64
 }
 
 /// The actor's turn ends, and it goes on.
-pub fn end_turn<M>(place: &mut Option<Place<M>>, now: u64) -> Rest
-    requires { is_some place.old ≡ true }
-    ensures becomes { Becomes (rested now) place.old place.new }
-    ensures rest { IfSome place.old (λ p. result ≡ rest_of_turn now p) }
+pub fn end_turn(entry: &mut Option<Entry>, now: u64) -> Rest
+    requires { is_some entry.old ≡ true }
+    ensures becomes { entry.new ≡ option_map (rested_entry now) entry.old }
+    ensures rest { IfSome entry.old (λ e. result ≡ rest_in now e.alarm e.timeout (e.mailbox.count == 0)) }
 {
-    match place {
+    match entry {
         None => unreachable!(),
-        Some(place) => {
-            if place.mailbox.is_empty() {
-                let tick = wait_from(now, place.timeout);
-                place.mode = Mode::Idle(tick);
-                Rest::Waits(place.alarm, tick)
+        Some(entry) => {
+            if entry.mailbox.count == 0 {
+                let tick = wait_from(now, entry.timeout);
+                entry.mode = Mode::Idle(tick);
+                Rest::Waits(entry.alarm, tick)
             } else {
-                place.mode = Mode::Queued;
+                entry.mode = Mode::Queued;
                 Rest::Again
             }
         }
@@ -190,18 +207,17 @@ pub struct Gone {
     pub letters: u64,
 }
 
-/// The actor is gone, and so is its mailbox.
-pub fn take_away<M: Drop>(place: &mut Option<Place<M>>) -> Gone
-    requires { is_some place.old ≡ true }
-    ensures gone { place.new ≡ None }
-    ensures alarm { IfSome place.old (λ p. result.alarm ≡ p.alarm) }
-    ensures letters { IfSome place.old (λ p. result.letters ≡ length p.mailbox) }
+/// What is left of an actor.
+pub fn left_of(entry: &Option<Entry>) -> Gone
+    requires { is_some entry.now ≡ true }
+    ensures alarm { IfSome entry.now (λ e. result.alarm ≡ e.alarm) }
+    ensures letters { IfSome entry.now (λ e. result.letters ≡ e.mailbox.count) }
 {
-    match mem::replace(place, None) {
+    match entry {
         None => unreachable!(),
-        Some(place) => Gone {
-            alarm: place.alarm,
-            letters: place.mailbox.len() as u64,
+        Some(entry) => Gone {
+            alarm: entry.alarm,
+            letters: entry.mailbox.count as u64,
         },
     }
 }
@@ -215,12 +231,12 @@ pub fn clock_tick(now: Instant) -> u64
 }
 
 /// The actor's timeout has come, and it is queued.
-pub fn ring<M>(place: &mut Option<Place<M>>)
-    requires { is_some place.old ≡ true }
-    ensures { Becomes (λ actor. in_mode actor queued) place.old place.new }
+pub fn ring(entry: &mut Option<Entry>)
+    requires { is_some entry.old ≡ true }
+    ensures { entry.new ≡ option_map (entry_in place.Queued) entry.old }
 {
-    match place {
+    match entry {
         None => unreachable!(),
-        Some(place) => place.mode = Mode::Queued,
+        Some(entry) => entry.mode = Mode::Queued,
     }
 }

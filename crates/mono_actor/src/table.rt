@@ -3,14 +3,13 @@ ghost use Rattle.std.specs.Prelude.{◌≡◌, ◌<◌, ◌≤◌, ℕ, ◌+◌,
 ghost use Rattle.std.specs.VecDeque.{deque_capacity};
 ghost use Rattle.mono_model.specs.Table.{value_at, count_of};
 ghost use Rattle.mono_actor.specs.Keeping.{Holds};
+ghost use Rattle.mono_actor.specs.Stored.{places_of};
 
 use crate::alarms::Alarms;
 use crate::answers::{ActorError, After, Got, SendRefused, Sent};
 use crate::mailboxes::Letter;
-use crate::places::{
-    Place, Receipt, Rest, Timing, begin_turn, clock_tick, end_turn, is_there, new_place, receive,
-    ring, set_timeout, take_away, taken,
-};
+use crate::places::{Receipt, Rest, Timing, clock_tick, taken};
+use crate::store::Store;
 use mono_time::Instant;
 use mono_wheel::Steps;
 use std::alloc::{AllocError, Global};
@@ -21,11 +20,12 @@ use std::sync::ledger::Ledger;
 ///
 /// An actor is idle, queued or running. What an actor does in its turn is any code between [`Actors::begin`] and
 /// [`Actors::end`]. Numbers count from 0 and are never given twice. Timeouts are in milliseconds of the clock of
-/// [`Actors::clock`]. Only `new`, `spawn` and `send` take memory; an actor without messages takes that of its place.
+/// [`Actors::clock`]. Only `new`, `spawn` and `send` take memory; an actor without messages takes that of its entry. A
+/// message takes memory of one store for all mailboxes, which can be used again once it is read.
 #[derive(Drop)]
 pub struct Actors<M> {
     // by number, what is kept of the actor while it is live
-    places: Vec<Option<Place<M>>>,
+    places: Store<M>,
     queue: VecDeque<u64>,
     alarms: Alarms,
     turn: Option<u64>,
@@ -35,7 +35,7 @@ pub struct Actors<M> {
     most_messages: u64,
     live: u64,
     letters: u64,
-    pub ghost holds: { Holds places.items alarms queue.items turn greatest live letters (deque_capacity queue) },
+    pub ghost holds: { Holds (places_of places) alarms queue.items turn greatest live letters (deque_capacity queue) },
 }
 
 impl<M> Actors<M> {
@@ -48,7 +48,7 @@ impl<M> Actors<M> {
     {
         let alarms = Alarms::new(alloc)?;
         Ok(Actors {
-            places: Vec::new(alloc),
+            places: Store::new(alloc),
             queue: VecDeque::new(alloc),
             alarms,
             turn: None,
@@ -100,10 +100,10 @@ impl<M> Actors<M> {
     {
         self.queue
             .reserve(self.live as usize + 1 - self.queue.len())?;
-        self.places.reserve(1)?;
+        self.places.reserve()?;
         match self.alarms.add(alloc, self.places.len() as u64) {
             Ok(alarm) => {
-                self.places.push_reserved(Some(new_place(alloc, alarm)));
+                self.places.push_reserved(alarm);
                 self.live += 1;
                 Ok(())
             }
@@ -128,7 +128,7 @@ impl<M> Actors<M> {
                 message,
             });
         }
-        if !is_there(&self.places, from) || !is_there(&self.places, to) {
+        if !self.places.is_there(from) || !self.places.is_there(to) {
             return Err(SendRefused {
                 cause: ActorError::NoActor,
                 message,
@@ -149,14 +149,13 @@ impl<M> Actors<M> {
 
     // A message comes to an actor.
     fn deliver(&mut self, to: u64, letter: Letter<M>) -> Result<Sent, Letter<M>>
-        requires there { is_some (value_at self.old.places.items to) ≡ true }
+        requires there { is_some (value_at (places_of self.old.places) to) ≡ true }
         requires room { self.old.letters < self.old.most_messages }
         ensures told { IfOk result (λ what. IfSome (value_at (actors_of self.old).table to) (λ actor. what ≡ sent_in actor.mode)) }
         ensures after { OnOk result (actors_of self.new ≡ received_value (value_at (actors_of self.old).table to) (actors_of self.old) letter.sender to letter.message) }
         ensures refused { IfErr result (λ back. (back ≡ letter) × (actors_of self.new ≡ actors_of self.old)) }
     {
-        let place = &mut self.places[to as usize];
-        let receipt = receive(place, letter)?;
+        let receipt = self.places.receive(to, letter)?;
         self.letters += 1;
         match receipt {
             Receipt::Queues(alarm, tick) => {
@@ -175,11 +174,10 @@ impl<M> Actors<M> {
         ensures answer { result ≡ timeout_answer (actors_of self.old) actor }
         ensures after { actors_of self.new ≡ timed (actors_of self.old) actor ms }
     {
-        if !is_there(&self.places, actor) {
+        if !self.places.is_there(actor) {
             return Err(ActorError::NoActor);
         }
-        let place = &mut self.places[actor as usize];
-        match set_timeout(place, self.greatest, ms) {
+        match self.places.set_timeout(actor, self.greatest, ms) {
             Timing::Rearms(alarm, from, to) => {
                 self.alarms.clear(alarm, from);
                 self.alarms.set(alarm, to);
@@ -202,8 +200,7 @@ impl<M> Actors<M> {
             None => return Err(ActorError::Idle),
             Some(front) => front,
         };
-        let place = &mut self.places[front as usize];
-        let got = begin_turn(place);
+        let got = self.places.begin_turn(front);
         self.letters -= taken(&got);
         self.turn = Some(front);
         Ok((front, got))
@@ -242,8 +239,7 @@ impl<M: Drop> Actors<M> {
         requires over { (actors_of self.old).turn ≡ None }
         ensures { actors_of self.new ≡ with_table (actors_of self.old) (without (actors_of self.old).table me) }
     {
-        let place = &mut self.places[me as usize];
-        let gone = take_away(place);
+        let gone = self.places.take_away(me);
         self.alarms.free(gone.alarm);
         self.letters -= gone.letters;
         self.live -= 1;
@@ -256,8 +252,7 @@ impl<M: Drop> Actors<M> {
         ensures answer { result ≡ end_answer false (value_at (actors_of self.old).table me) }
         ensures after { actors_of self.new ≡ ended_value false (value_at (actors_of self.old).table me) (actors_of self.old) me }
     {
-        let place = &mut self.places[me as usize];
-        match end_turn(place, self.greatest) {
+        match self.places.end_turn(me, self.greatest) {
             Rest::Again => {
                 self.queue.push_back_reserved(me);
                 After::Again
@@ -311,8 +306,7 @@ impl<M> Actors<M> {
         ensures steps { steps.new + credit_left self.new ≡ steps.old + credit_left self.old }
     {
         let actor = self.alarms.poll(self.greatest, steps)?;
-        let place = &mut self.places[actor as usize];
-        ring(place);
+        self.places.ring(actor);
         self.queue.push_back_reserved(actor);
         Some(actor)
     }

@@ -84,6 +84,25 @@ fn tick_to(alloc: Global, desk: &mut Desk, tick: u64) -> Result<(), AllocError> 
 }
 
 // Each millisecond a task comes, and the one that came so many before goes. The first goes last.
+fn all_come_and_go(
+    alloc: Global,
+    desk: &mut Desk,
+    tasks: u64,
+    alive: u64,
+) -> Result<(), AllocError> {
+    let last = tasks.saturating_add(alive);
+    come(alloc, desk, 0, last)?;
+    for task in 1..tasks {
+        come(alloc, desk, task, task.saturating_add(alive))?;
+        tick_to(alloc, desk, task)?;
+    }
+    for tick in tasks..last {
+        tick_to(alloc, desk, tick)?;
+    }
+    tick_to(alloc, desk, last)
+}
+
+// How many sleeps of so many tasks fired, and the sum of their numbers.
 fn come_and_go(alloc: Global, tasks: u64, alive: u64) -> Result<(u64, u64), AllocError> {
     let most = alive.saturating_add(2);
     let limits = Limits {
@@ -98,16 +117,7 @@ fn come_and_go(alloc: Global, tasks: u64, alive: u64) -> Result<(u64, u64), Allo
         fired: 0,
         sum: 0,
     };
-    let last = tasks.saturating_add(alive);
-    come(alloc, &mut desk, 0, last)?;
-    for task in 1..tasks {
-        come(alloc, &mut desk, task, task.saturating_add(alive))?;
-        tick_to(alloc, &mut desk, task)?;
-    }
-    for tick in tasks..last {
-        tick_to(alloc, &mut desk, tick)?;
-    }
-    tick_to(alloc, &mut desk, last)?;
+    all_come_and_go(alloc, &mut desk, tasks, alive)?;
     Ok((desk.fired, desk.sum))
 }
 

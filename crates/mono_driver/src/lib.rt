@@ -7,8 +7,6 @@ mod driver;
 mod lists;
 mod moments;
 mod steps;
-#[cfg(test)]
-mod tests;
 mod threads;
 mod timed;
 

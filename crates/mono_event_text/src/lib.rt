@@ -4,6 +4,3 @@
 mod events;
 
 pub use events::{put_event, put_nanos};
-
-#[cfg(test)]
-mod tests;

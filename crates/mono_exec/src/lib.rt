@@ -24,6 +24,3 @@ pub use replies::{
     wake_reply,
 };
 pub use sleeps::{reset_reply, wake_if_any};
-
-#[cfg(test)]
-mod tests;

@@ -1,4 +1,5 @@
-//! Tests of instants, timers, combined futures, streams and the nest, over their public calls.
+//! Tests of the wheel and its lists, the tables, tasks, instants, timers, combined futures, streams and the nest, over
+//! their public calls.
 #![tactic(auto)]
 
 #[cfg(test)]
@@ -10,10 +11,18 @@ mod examples;
 #[cfg(test)]
 mod instants;
 #[cfg(test)]
+mod lists;
+#[cfg(test)]
 mod nested;
 #[cfg(test)]
 mod streamed;
 #[cfg(test)]
+mod tables;
+#[cfg(test)]
+mod tasks;
+#[cfg(test)]
 mod ticked;
 #[cfg(test)]
 mod timed;
+#[cfg(test)]
+mod wheels;

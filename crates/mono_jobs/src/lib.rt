@@ -6,8 +6,6 @@ mod handles;
 mod pool;
 mod refusals;
 mod table;
-#[cfg(test)]
-mod tests;
 
 pub use ends::{Answered, End, PolledJob};
 pub use handles::JobHandle;

@@ -7,8 +7,6 @@ mod laws;
 mod make;
 mod outcome;
 mod runner;
-#[cfg(test)]
-mod tests;
 mod views;
 mod word;
 

@@ -4,7 +4,6 @@ pub mod Delays
 pub mod Schedules
 pub mod Holding
 pub mod Retries
-pub mod Memory
 pub mod Limiter
 pub mod Calls
 pub mod Answers

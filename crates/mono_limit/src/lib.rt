@@ -6,13 +6,9 @@ mod buckets;
 pub mod laws;
 mod limiter;
 mod retries;
-#[cfg(test)]
-mod retry_tests;
 mod rounds;
 mod rows;
 mod schedules;
-#[cfg(test)]
-mod tests;
 
 pub use attempts::{Retry, RetryRefused};
 pub use limiter::Limiter;

@@ -36,7 +36,7 @@ fn is_out_of_range(n: u64) -> bool
 }
 
 impl Limiter {
-    ghost use Rattle.mono_limit.specs.Memory.{OrLacksMemory};
+    ghost use Rattle.mono_model.specs.Memory.{OrLacksMemory};
     ghost use Rattle.mono_time.specs.Instants.{nanos_of};
     ghost use Rattle.mono_limit.specs.Limiter.{no_limits, bucket_answer, with_bucket, TakeAnswers, retry_answer, with_retry, fail_answer, failed, done_answer, done};
     ghost use Rattle.mono_limit.specs.Limits.{limits_of, credit_of, ListsInto};

@@ -12,3 +12,4 @@ pub mod Firing
 pub mod SleepAnswers
 pub mod SleepActs
 pub mod Texts
+pub mod Memory

@@ -1,5 +1,5 @@
 -- What the polls and removals of sleeps leave of the others.
-use Rattle.std.proofs.Common.{◌≡◌, ◌≢◌, inl, inr, ℕ, true, false, Bool, cond, List, [], ◌∷◌, ◌++◌, set, Some, None, Ok, refl, ap, sym, ◌∙◌}
+use Rattle.std.proofs.Common.{◌≡◌, ◌≢◌, ◌⊎◌, inl, inr, ℕ, true, false, Bool, cond, List, [], ◌∷◌, ◌++◌, set, Some, None, Ok, refl, ap, sym, ◌∙◌}
 use Rattle.std.specs.Prelude.{Option, ⊤, Result}
 use Rattle.std.proofs.lemmas.Bool.{cases_eq}
 use Rattle.std.proofs.lemmas.List.{get_or-set_other, get_or-set_same}
@@ -10,7 +10,7 @@ use Rattle.mono_model.specs.Table.{value_at}
 use Rattle.mono_time.specs.Sleeps.{Kept, SleepTable, fresh, armed, elapsed, polled_kept, is_kept_ready, of_live_sleep, sleep_poll_answer, changed_value, with_polled_sleep, with_removed_sleep, removed_value}
 use Rattle.mono_model.specs.SleepAnswers.{poll_of}
 use Rattle.mono_time.proofs.Holding.{given_inside, none-some}
-use Rattle.mono_nest.specs.Nests.{all_removed}
+use Rattle.mono_nest.specs.Nests.{all_removed, all_polled, AddsNone, AddsOnly, AddsTwo}
 
 -- the answer of a live sleep
 abbrev fine : Poll ⊤ → Result (Poll ⊤) Error
@@ -87,3 +87,37 @@ stays_gone-polled sleeps s q by gone = at (value_at sleeps.table s) refl
 pub removed-append : (sleeps : SleepTable) (first later : List ℕ) → all_removed sleeps (first ++ later) ≡ all_removed (all_removed sleeps first) later
 removed-append sleeps [] later = refl
 removed-append sleeps (s ∷ first) later = removed-append (with_removed_sleep sleeps s) first later
+
+pub stays_gone-all_polled : (sleeps : SleepTable) (delays : List ℕ) (q by : ℕ) → value_at sleeps.table q ≡ None → value_at (all_polled sleeps delays by).table q ≡ None
+stays_gone-all_polled sleeps [] q by gone = gone
+stays_gone-all_polled sleeps (s ∷ later) q by gone = stays_gone-all_polled (with_polled_sleep sleeps s by) later q by (stays_gone-polled sleeps s q by gone)
+
+-- the number is none of these
+abbrev IsNone : ℕ → List ℕ → Type 0
+IsNone q [] = ⊤
+IsNone q (s ∷ later) = (q ≢ s) × IsNone q later
+
+-- what was removed is gone, and what was gone stays so
+gone-all_removed : (sleeps : SleepTable) (delays : List ℕ) (q : ℕ) → (IsNone q delays → value_at sleeps.table q ≡ None) → value_at (all_removed sleeps delays).table q ≡ None
+gone-all_removed sleeps [] q unless = unless tt
+gone-all_removed sleeps (s ∷ later) q unless = gone-all_removed (with_removed_sleep sleeps s) later q (λ none. at (cases_eq q s) none)
+  where
+    at : (q ≡ s) ⊎ (q ≢ s) → IsNone q later → value_at (with_removed_sleep sleeps s).table q ≡ None
+    at (inl here) none = ap (value_at (with_removed_sleep sleeps s).table) here ∙ gone-removed sleeps s
+    at (inr apart) none = stays_gone-removed sleeps s q (unless (apart, none))
+
+-- a sleep was made, and given up after another was refused
+pub adds-none-one : (old one two new : SleepTable) (a : ℕ) → AddsOnly old one a → AddsNone one two → new ≡ with_removed_sleep two a → AddsNone old new
+adds-none-one old one two new a only none is s gone = ap (λ sleeps. value_at sleeps.table s) is ∙ gone-all_removed two (a ∷ []) s (λ not. none s (only s not.0 gone))
+
+-- the same of two
+pub adds-none-two : (old one two new : SleepTable) (a b : ℕ) → AddsTwo old one a b → AddsNone one two → new ≡ all_removed two (a ∷ b ∷ []) → AddsNone old new
+adds-none-two old one two new a b only none is s gone = ap (λ sleeps. value_at sleeps.table s) is ∙ gone-all_removed two (a ∷ b ∷ []) s (λ not. none s (only s not.0 not.1.0 gone))
+
+-- four were made, polled and given up
+pub adds-none-four : (old one two new : SleepTable) (a b e f by : ℕ) → AddsTwo old one a b → AddsTwo one two e f
+    → new ≡ all_removed (all_polled two (a ∷ b ∷ e ∷ f ∷ []) by) (a ∷ b ∷ e ∷ f ∷ []) → AddsNone old new
+adds-none-four old one two new a b e f by first second is s gone =
+    ap (λ sleeps. value_at sleeps.table s) is
+    ∙ gone-all_removed (all_polled two (a ∷ b ∷ e ∷ f ∷ []) by) (a ∷ b ∷ e ∷ f ∷ []) s
+    (λ not. stays_gone-all_polled two (a ∷ b ∷ e ∷ f ∷ []) s by (second s not.1.1.0 not.1.1.1.0 (first s not.0 not.1.0 gone)))

@@ -1,11 +1,11 @@
 -- A countdown with a deadline that was made waits, and so does each that was there.
-use Rattle.std.proofs.Common.{◌≡◌, ◌<◌, ◌==◌, arith, ◌∷◌, [], ◌++◌, ℕ, false, Some, None, Ok, Err, refl, ap, ◌∙◌}
+use Rattle.std.proofs.Common.{◌≡◌, ◌≢◌, ◌<◌, ◌==◌, arith, ◌∷◌, [], ◌++◌, ℕ, zero, suc, false, Some, None, Ok, Err, refl, ap, sym, ◌∙◌}
 use Rattle.std.specs.Prelude.{Option, Result}
 use Rattle.std.proofs.Math.Seq.{get_or-append_seam}
 use Rattle.std.proofs.lemmas.Bool.{lt-leb, ne_eqb}
 use Rattle.std.proofs.lemmas.List.{get_or_append_left}
 use Rattle.mono_model.specs.Ticks.{up}
-use Rattle.mono_model.specs.Table.{value_at, next_number}
+use Rattle.mono_model.specs.Table.{Table, value_at, next_number, with_next}
 use Rattle.mono_model.specs.declared.poll.Poll.TheVariants.{Pending}
 use Rattle.mono_time.specs.Sleeps.{Kept, SleepTable, Added, fresh, is_kept_ready, of_live_sleep, sleep_poll_answer, with_added_sleep}
 use Rattle.mono_model.specs.SleepAnswers.{poll_of}
@@ -16,7 +16,7 @@ use Rattle.mono_model.specs.declared.error.SleepError.TheVariants.{Timer, Memory
 use Rattle.mono_model.specs.declared.error.Error.TheVariants.{Shutdown, AtCapacity, Invalid}
 use Rattle.mono_time.proofs.Holding.{given_inside}
 use Rattle.mono_nest.specs.Countdowns.{is_over}
-use Rattle.mono_nest.specs.Nests.{Limited, Waits, MayBegin}
+use Rattle.mono_nest.specs.Nests.{Limited, Waits, MayBegin, AddsNone, AddsOnly}
 use Rattle.mono_nest.specs.declared.by_hand.Countdown.{Countdown}
 
 kept-waits : (old new : SleepTable) → new ≡ old → (t : Limited) → Waits old t → Waits new t
@@ -75,3 +75,21 @@ begins-made old new nanos left t f is left_is unanswered counts made later = (
     not_due = waits-made old new nanos t.delay made later;
   },
 )
+
+stays_gone-next : (table : Table Kept) (kept : Kept) (q : ℕ) → q ≢ next_number table → value_at table q ≡ None → value_at (with_next table kept) q ≡ None
+stays_gone-next [] kept zero apart gone = absurd (apart refl)
+stays_gone-next [] kept (suc q) apart gone = refl
+stays_gone-next (x ∷ xs) kept zero apart gone = gone
+stays_gone-next (x ∷ xs) kept (suc q) apart gone = stays_gone-next xs kept q (λ e. apart (ap suc e)) gone
+
+-- a sleep that was made is the only one that was not there
+pub only-made : (old new : SleepTable) (nanos : ℕ) (sleep : Sleep) → SleepMade old nanos (Ok sleep) new → AddsOnly old new sleep.number
+only-made old new nanos sleep made s apart gone =
+    ap (λ sleeps. value_at sleeps.table s) made.1.3
+    ∙ stays_gone-next old.table (fresh (up nanos)) s (λ here. apart (here ∙ sym made.1.2)) gone
+
+pub none-made : (old new : SleepTable) (nanos : ℕ) (error : SleepError) → SleepMade old nanos (Err error) new → AddsNone old new
+none-made old new nanos (Timer Shutdown) made s gone = ap (λ sleeps. value_at sleeps.table s) made.1 ∙ gone
+none-made old new nanos (Timer AtCapacity) made s gone = ap (λ sleeps. value_at sleeps.table s) made.2 ∙ gone
+none-made old new nanos (Timer Invalid) made s gone = absurd made
+none-made old new nanos Memory made s gone = ap (λ sleeps. value_at sleeps.table s) made.2 ∙ gone

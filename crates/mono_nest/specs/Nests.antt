@@ -77,6 +77,18 @@ abbrev pub all_removed : SleepTable → List ℕ → SleepTable
 all_removed sleeps [] = sleeps
 all_removed sleeps (s ∷ later) = all_removed (with_removed_sleep sleeps s) later
 
+-- No sleep is there that was not there before.
+abbrev pub AddsNone : SleepTable → SleepTable → Type 0
+AddsNone old new = (s : ℕ) → value_at old.table s ≡ None → value_at new.table s ≡ None
+
+-- None but this sleep is there that was not there before.
+abbrev pub AddsOnly : SleepTable → SleepTable → ℕ → Type 0
+AddsOnly old new number = (s : ℕ) → s ≢ number → value_at old.table s ≡ None → value_at new.table s ≡ None
+
+-- None but these two sleeps are there that were not there before.
+abbrev pub AddsTwo : SleepTable → SleepTable → ℕ → ℕ → Type 0
+AddsTwo old new first second = (s : ℕ) → s ≢ first → s ≢ second → value_at old.table s ≡ None → value_at new.table s ≡ None
+
 -- The sleeps after the first race was won by its first value, and the second by the time of its second: the delay of each
 -- value that was ready is given up by its timeout, that of each branch that was ready or late by its select, and then that
 -- of each branch that was not.

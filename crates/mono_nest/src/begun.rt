@@ -1,8 +1,9 @@
 // A nest from the start.
-ghost use Rattle.std.specs.Prelude.{◌≡◌, ◌<◌, true, IfOk};
+ghost use Rattle.std.specs.Prelude.{◌≡◌, ◌<◌, true, IfOk, OnErr, [], ◌∷◌};
+ghost use Rattle.mono_model.specs.Tasks.{all_woken};
 ghost use Rattle.mono_model.specs.Ticks.{up};
 ghost use Rattle.mono_time.specs.Instants.{nanos_of};
-ghost use Rattle.mono_nest.specs.Nests.{Limited, MayBegin, Waits};
+ghost use Rattle.mono_nest.specs.Nests.{Limited, MayBegin, Waits, AddsNone, AddsOnly, AddsTwo};
 
 use crate::by_hand::Countdown;
 use crate::composed::{Answer, Limited, polled_once};
@@ -23,6 +24,9 @@ fn limited<C: TimeContext>(
     ensures waits { IfOk result (λ t. MayBegin (C.sleeps cx.new) t) }
     ensures others { (t : Limited) → Waits (C.sleeps cx.old) t → Waits (C.sleeps cx.new) t }
     ensures greatest { (C.sleeps cx.new).greatest ≡ (C.sleeps cx.old).greatest }
+    ensures only { IfOk result (λ t. AddsOnly (C.sleeps cx.old) (C.sleeps cx.new) t.delay.number) }
+    ensures none { OnErr result (AddsNone (C.sleeps cx.old) (C.sleeps cx.new)) }
+    ensures work { C.work cx.new ≡ C.work cx.old }
     ensures reached { C.reaches cx.old cx.new }
 {
     match timeout_at(alloc, cx, deadline, Countdown::new(left, left)) {
@@ -43,6 +47,9 @@ fn pair<C: TimeContext>(
     ensures waits { IfOk result (λ p. MayBegin (C.sleeps cx.new) p.0 × MayBegin (C.sleeps cx.new) p.1) }
     ensures others { IfOk result (λ p. (t : Limited) → Waits (C.sleeps cx.old) t → Waits (C.sleeps cx.new) t) }
     ensures greatest { IfOk result (λ p. (C.sleeps cx.new).greatest ≡ (C.sleeps cx.old).greatest) }
+    ensures only { IfOk result (λ p. AddsTwo (C.sleeps cx.old) (C.sleeps cx.new) p.0.delay.number p.1.delay.number) }
+    ensures none { OnErr result (AddsNone (C.sleeps cx.old) (C.sleeps cx.new)) }
+    ensures work { C.work cx.new ≡ C.work cx.old }
     ensures reached { C.reaches cx.old cx.new }
 {
     let a = limited(alloc, cx, deadline, left.0)?;
@@ -61,8 +68,9 @@ fn passes(_answer: &Answer) -> bool {
 }
 
 /// Whether a nest of four countdowns waits at its first poll: it does where polls of all four are left and none of the two
-/// deadlines, one for each race, is due at the clock (`waits`). An `Err` is the context's refusal of a sleep; then the
-/// countdowns that were made are given up.
+/// deadlines, one for each race, is due at the clock (`waits`). Each countdown woke the running task once (`polled`). An
+/// `Err` is the context's refusal of a sleep; then nobody was woken (`refused`), and the countdowns that were made are
+/// given up. Either way no sleep is left that was not there before (`gone`).
 pub fn begin<C: TimeContext, R: Host>(
     rt: &R,
     alloc: Global,
@@ -74,6 +82,9 @@ pub fn begin<C: TimeContext, R: Host>(
     requires first { (0 < left.0.0) × (0 < left.0.1) }
     requires second { (0 < left.1.0) × (0 < left.1.1) }
     ensures waits { IfOk result (λ waits. waits ≡ true) }
+    ensures polled { IfOk result (λ waits. C.work cx.new ≡ all_woken (C.work cx.old) (C.number cx.old ∷ C.number cx.old ∷ C.number cx.old ∷ C.number cx.old ∷ [])) }
+    ensures refused { OnErr result (C.work cx.new ≡ C.work cx.old) }
+    ensures gone { AddsNone (C.sleeps cx.old) (C.sleeps cx.new) }
     ensures reached { C.reaches cx.old cx.new }
 {
     let first = pair(alloc, cx, deadlines.0, left.0)?;

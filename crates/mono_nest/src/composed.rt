@@ -1,5 +1,6 @@
 // How the nest is made.
 ghost use Rattle.std.specs.Prelude.{◌≡◌, true, false, [], ◌∷◌};
+ghost use Rattle.mono_model.specs.Tasks.{all_woken};
 ghost use Rattle.mono_nest.specs.Nests.{race_of, nest_of, MayBegin, all_polled, all_removed};
 
 use crate::by_hand::Countdown;
@@ -48,8 +49,8 @@ where
 }
 
 /// Makes a nest of countdowns with deadlines, polls it once and gives it up: whether that poll was to wait. It was, where
-/// polls of all four countdowns are left and no delay is due (`waits`). What is left of the sleeps, and that the context
-/// is reached, follows from the laws on the nest and from the clauses of every future.
+/// polls of all four countdowns are left and no delay is due (`waits`). Each delay was polled and then given up (`sleeps`),
+/// and each countdown woke the running task once (`work`).
 pub fn polled_once<C, R, G, H, I, J>(
     rt: &R,
     alloc: Global,
@@ -72,6 +73,7 @@ where
     requires second_tests { I.IsAlwaysCallable second_tests.0 × J.IsAlwaysCallable second_tests.1 }
     ensures waits { result ≡ true }
     ensures sleeps { let delays = first.0.delay.number ∷ first.1.delay.number ∷ second.0.delay.number ∷ second.1.delay.number ∷ [] in C.sleeps cx.new ≡ all_removed (all_polled (C.sleeps cx.old) delays (C.number cx.old)) delays }
+    ensures work { C.work cx.new ≡ all_woken (C.work cx.old) (C.number cx.old ∷ C.number cx.old ∷ C.number cx.old ∷ C.number cx.old ∷ []) }
     ensures reached { C.reaches cx.old cx.new }
 {
     let (a, b) = first;

@@ -6,6 +6,3 @@ mod reasons;
 mod words;
 
 pub use reasons::{Reason, first_word_of_line, reason_of_line};
-
-#[cfg(test)]
-mod tests;

@@ -35,8 +35,3 @@ pub use mono_inbox::RemoteWaker;
 pub use mono_jobs::{JobHandle, OutputOf, PollJob, SpawnError};
 pub use mono_joinword::{JoinError, Outcome};
 pub use runtimes::Runtime;
-
-#[cfg(test)]
-mod builder_tests;
-#[cfg(test)]
-mod tests;

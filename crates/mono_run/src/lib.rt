@@ -6,6 +6,3 @@ mod runs;
 
 pub use entries::{journal_lines, put_entry};
 pub use runs::{RunEnd, ScriptRun, run_script};
-
-#[cfg(test)]
-mod tests;

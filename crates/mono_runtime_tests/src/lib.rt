@@ -1,9 +1,13 @@
-//! Tests of the runtime with real threads, over its public calls.
+//! Tests of the runtime, with a driver that never waits and with real threads, over its public calls.
 #![tactic(auto)]
 
+#[cfg(test)]
+mod builders;
 #[cfg(test)]
 mod jobs;
 #[cfg(test)]
 mod pools;
 #[cfg(test)]
 mod runtimes;
+#[cfg(test)]
+mod waits;

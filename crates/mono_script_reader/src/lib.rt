@@ -11,6 +11,3 @@ mod words;
 pub use kinds::{Script, TaskKind};
 pub use mono_scripts::BodyLine;
 pub use reading::{ScriptRead, read_script};
-
-#[cfg(test)]
-mod tests;

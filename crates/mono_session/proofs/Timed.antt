@@ -15,7 +15,7 @@ use Rattle.mono_model.specs.declared.error.Error.TheVariants as cause
 use Rattle.mono_time.specs.Sleeps.{SleepTable, Added, with_added_sleep, armed, fresh, elapsed, with_table, at_tick, changed_value, with_removed_sleep, removed_value, with_fired_sleep, kept_waker}
 use Rattle.mono_time.specs.Timers.{sleeps_of, elapsed_tick}
 use Rattle.mono_session.specs.Keeper.{Session, Keeper, closing_tick, last_tick, with_sessions, with_greatest, without_session, if_granted, is_open, open_answer, opened, beat_answer, beaten, beaten_value, close_answer, closed}
-use Rattle.mono_session.specs.Memory.{OrLacksMemory}
+use Rattle.mono_model.specs.Memory.{OrLacksMemory}
 use Rattle.mono_session.specs.Sleeping.{Arms}
 use Rattle.mono_session.specs.Stands.{sleep_of, sleeps_from, limit_in, open_count, Beside, AreTimely, StandsFor}
 use Rattle.mono_session.specs.declared.error.SessionError.{SessionError}

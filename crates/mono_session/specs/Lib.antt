@@ -7,6 +7,5 @@ pub mod Worked
 pub mod Links
 pub mod Queues
 pub mod Entered
-pub mod Memory
 pub mod Sleeping
 pub mod Stands

@@ -9,8 +9,6 @@ mod laws;
 mod places;
 mod queues;
 mod rows;
-#[cfg(test)]
-mod tests;
 
 pub use error::SessionError;
 pub use keeper::Sessions;

@@ -4,7 +4,5 @@
 mod directory;
 mod pages;
 mod parts;
-#[cfg(test)]
-mod tests;
 
 pub use directory::Table;

@@ -6,8 +6,7 @@ use Rattle.std.proofs.lemmas.Bool.{cases_lt}
 use Rattle.mono_model.specs.Tasks as model
 use Rattle.mono_model.specs.Valid.{times, once_if}
 use Rattle.mono_model.proofs.Counts.{one_time, no_time}
-use Rattle.mono_task.specs.declared.entries.Entry.{Entry}
-use Rattle.mono_task.specs.declared.entries.Entry.TheVariants.{Gone, Taken, Done, Idle, Queued, Running, Noted}
+use Rattle.mono_task.specs.Stored.{Entry, Gone, Taken, Done, Idle, Queued, Running, Noted}
 use Rattle.mono_task.specs.declared.entries.Handle.{Handle}
 use Rattle.mono_task.specs.Entries.{task_of, begun_entry, is_queued, is_running, is_unfinished}
 use Rattle.mono_task.specs.Standing.{entry_at, tasks_of, has_turn, Keeps}

@@ -3,7 +3,7 @@ use Rattle.std.proofs.Common.{◌≡◌, ◌<◌, ◌+◌, ℕ, zero, suc, true,
 use Rattle.std.specs.Prelude.{is_some}
 use Rattle.mono_model.specs.Table.{Table, value_at, count_of, without}
 use Rattle.mono_model.proofs.Counts.{counted, counted-count_of}
-use Rattle.mono_task.specs.declared.entries.Entry.{Entry}
+use Rattle.mono_task.specs.Stored.{Entry}
 use Rattle.mono_task.specs.Entries.{task_of}
 use Rattle.mono_task.specs.Standing.{entry_at}
 

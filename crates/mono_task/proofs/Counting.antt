@@ -1,8 +1,7 @@
 -- How many places pass a test, after a write and after one more place.
 use Rattle.std.proofs.Common.{◌≡◌, ◌<◌, ◌≤◌, ◌+◌, ℕ, zero, suc, Bool, true, false, List, [], ◌∷◌, ◌++◌, length, set, ap, arith}
 use Rattle.mono_model.specs.Valid.{once_if}
-use Rattle.mono_task.specs.declared.entries.Entry.{Entry}
-use Rattle.mono_task.specs.declared.entries.Entry.TheVariants.{Gone, Taken, Done, Idle, Queued, Running, Noted}
+use Rattle.mono_task.specs.Stored.{Entry, Gone, Taken, Done, Idle, Queued, Running, Noted}
 use Rattle.mono_task.specs.Entries.{is_queued, is_unfinished}
 use Rattle.mono_task.specs.Standing.{entry_at, count_where}
 

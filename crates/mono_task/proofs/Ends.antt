@@ -5,8 +5,7 @@ use Rattle.std.proofs.lemmas.List.{map-set}
 use Rattle.mono_model.specs.Table.{value_at}
 use Rattle.mono_model.specs.Tasks as model
 use Rattle.mono_model.specs.declared.Ended.TheVariants as ended
-use Rattle.mono_task.specs.declared.entries.Entry.{Entry}
-use Rattle.mono_task.specs.declared.entries.Entry.TheVariants.{Gone, Taken, Done, Idle, Queued, Running, Noted}
+use Rattle.mono_task.specs.Stored.{Entry, Gone, Taken, Done, Idle, Queued, Running, Noted}
 use Rattle.mono_task.specs.Entries.{task_of, paused_entry, is_noted, is_queued, is_running, is_unfinished}
 use Rattle.mono_task.specs.Standing.{entry_at, tasks_of, Keeps}
 use Rattle.mono_task.proofs.Counted.{value_at-entries}

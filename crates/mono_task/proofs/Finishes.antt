@@ -5,8 +5,7 @@ use Rattle.std.proofs.lemmas.List.{map-set}
 use Rattle.mono_model.specs.Table.{value_at, count_of}
 use Rattle.mono_model.specs.Tasks as model
 use Rattle.mono_model.specs.Valid.{once_if}
-use Rattle.mono_task.specs.declared.entries.Entry.{Entry}
-use Rattle.mono_task.specs.declared.entries.Entry.TheVariants.{Gone, Taken, Done, Idle, Queued, Running, Noted}
+use Rattle.mono_task.specs.Stored.{Entry, Gone, Taken, Done, Idle, Queued, Running, Noted}
 use Rattle.mono_task.specs.declared.entries.Handle.{Handle}
 use Rattle.mono_task.specs.declared.entries.Handle.TheVariants as handle
 use Rattle.mono_task.specs.Entries.{task_of, handle_of, completed_entry, finished_entry, in_hand, is_queued, is_running, is_unfinished}

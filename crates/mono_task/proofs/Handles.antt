@@ -6,8 +6,7 @@ use Rattle.mono_model.specs.Table.{Table, value_at, count_of}
 use Rattle.mono_model.specs.Tasks.{Tasks, Task, Phase, idle, queued, running, taken}
 use Rattle.mono_model.specs.Valid.{once_if}
 use Rattle.mono_model.specs.Joins.{kept_value, kept_task, joined, joined_in, joined_value, waited_for, join_dropped, dropped_in, dropped_value, let_go}
-use Rattle.mono_task.specs.declared.entries.Entry.{Entry}
-use Rattle.mono_task.specs.declared.entries.Entry.TheVariants.{Gone, Taken, Done, Idle, Queued, Running, Noted}
+use Rattle.mono_task.specs.Stored.{Entry, Gone, Taken, Done, Idle, Queued, Running, Noted}
 use Rattle.mono_task.specs.declared.entries.Handle.{Handle}
 use Rattle.mono_task.specs.declared.entries.Handle.TheVariants as handle
 use Rattle.mono_task.specs.Entries.{task_of, is_unfinished, is_queued, is_running, is_over, is_kept, waiter_of, awaited_by, joined_entry, dropped_entry}

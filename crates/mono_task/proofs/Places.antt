@@ -7,8 +7,7 @@ use Rattle.mono_model.specs.Table.{value_at}
 use Rattle.mono_model.specs.Joins.{kept_task, kept_value}
 use Rattle.mono_model.specs.declared.task_error.TaskError.TheVariants.{NoTask}
 use Rattle.mono_task.specs.Work.{has_finished, over_answer}
-use Rattle.mono_task.specs.declared.entries.Entry.{Entry}
-use Rattle.mono_task.specs.declared.entries.Entry.TheVariants.{Gone}
+use Rattle.mono_task.specs.Stored.{Entry, Gone}
 use Rattle.mono_task.specs.Entries.{task_of, is_running}
 use Rattle.mono_task.specs.Standing.{entry_at, has_turn, tasks_of, Stands}
 use Rattle.mono_task.proofs.Counted.{value_at-entries}

@@ -6,8 +6,7 @@ use Rattle.mono_model.specs.Tasks as model
 use Rattle.mono_model.specs.Table.{count_of}
 use Rattle.mono_model.specs.Valid.{once_if}
 use Rattle.mono_model.proofs.Counts.{times-push, one_time, no_time, count_of-with_next}
-use Rattle.mono_task.specs.declared.entries.Entry.{Entry}
-use Rattle.mono_task.specs.declared.entries.Entry.TheVariants.{Gone, Queued}
+use Rattle.mono_task.specs.Stored.{Entry, Gone, Queued}
 use Rattle.mono_task.specs.declared.entries.Handle.TheVariants.{Kept}
 use Rattle.mono_task.specs.Entries.{task_of, is_queued, is_running, is_unfinished}
 use Rattle.mono_task.specs.Standing.{entry_at, tasks_of, Stands, Keeps}

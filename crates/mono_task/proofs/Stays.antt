@@ -7,8 +7,7 @@ use Rattle.mono_model.specs.Table.{Table, count_of}
 use Rattle.mono_model.specs.Tasks.{Tasks, Task}
 use Rattle.mono_model.specs.Valid.{times, once_if}
 use Rattle.mono_model.proofs.Counts.{times-push, one_time, no_time}
-use Rattle.mono_task.specs.declared.entries.Entry.{Entry}
-use Rattle.mono_task.specs.declared.entries.Entry.TheVariants.{Gone}
+use Rattle.mono_task.specs.Stored.{Entry, Gone}
 use Rattle.mono_task.specs.Entries.{task_of, is_queued, is_running, is_unfinished}
 use Rattle.mono_task.specs.Standing.{entry_at, has_turn, Stands, Keeps}
 use Rattle.mono_task.proofs.Counting.{count_where-set, queued_within, place_free}

@@ -5,8 +5,7 @@ use Rattle.std.proofs.lemmas.List.{map-set, length-map, get_or-set_same}
 use Rattle.mono_model.specs.Table.{Table, value_at, count_of, with_value, with_next, without}
 use Rattle.mono_model.proofs.Counts.{count_of-with_next}
 use Rattle.mono_table.proofs.Counting.{some_inside, count_of-same, count_of-gone}
-use Rattle.mono_task.specs.declared.entries.Entry.{Entry}
-use Rattle.mono_task.specs.declared.entries.Entry.TheVariants.{Gone}
+use Rattle.mono_task.specs.Stored.{Entry, Gone}
 use Rattle.mono_task.specs.Standing.{entry_at, entry_of, entries_of}
 
 pub entry_there : {O : Type 0} (places : Table (Entry O)) (t : ℕ) → entry_at (entries_of places) t ≡ entry_of (value_at places t)

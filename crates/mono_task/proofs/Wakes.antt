@@ -7,8 +7,7 @@ use Rattle.mono_model.specs.Table.{value_at}
 use Rattle.mono_model.specs.Joins.{wake_answer}
 use Rattle.mono_model.specs.declared.Woke.TheVariants as woke
 use Rattle.mono_model.specs.declared.task_error.TaskError.TheVariants.{NoTask}
-use Rattle.mono_task.specs.declared.entries.Entry.{Entry}
-use Rattle.mono_task.specs.declared.entries.Entry.TheVariants.{Gone, Taken, Done, Idle, Queued, Running, Noted}
+use Rattle.mono_task.specs.Stored.{Entry, Gone, Taken, Done, Idle, Queued, Running, Noted}
 use Rattle.mono_task.specs.declared.entries.Waking.TheVariants as waking
 use Rattle.mono_task.specs.Entries.{task_of, woken_entry, waking_of, is_queued, is_running, is_unfinished}
 use Rattle.mono_task.specs.Standing.{entry_at, tasks_of, Keeps}

@@ -1,14 +1,9 @@
 -- What one place of the table stands for, and what each call makes of it.
-use Rattle.std.specs.Prelude.{ℕ, Bool, true, false, Option, Some, None, Result, Ok, Err}
+use Rattle.std.specs.Prelude.{ℕ, Bool, true, false, Option, Some, None}
 use Rattle.mono_model.specs.Tasks as model
-use Rattle.mono_model.specs.declared.poll.Poll.{Poll}
-use Rattle.mono_model.specs.declared.poll.Poll.TheVariants.{Pending}
-use Rattle.mono_model.specs.declared.task_error.TaskError.{TaskError}
-use Rattle.mono_model.specs.declared.task_error.TaskError.TheVariants.{NoHandle}
 use Rattle.mono_task.specs.declared.entries.Handle.{Handle}
 use Rattle.mono_task.specs.declared.entries.Handle.TheVariants as handle
-use Rattle.mono_task.specs.declared.entries.Entry.{Entry}
-use Rattle.mono_task.specs.declared.entries.Entry.TheVariants.{Gone, Taken, Done, Idle, Queued, Running, Noted}
+use Rattle.mono_task.specs.Stored.{Entry, Gone, Taken, Done, Idle, Queued, Running, Noted}
 use Rattle.mono_task.specs.declared.entries.Waking.{Waking}
 use Rattle.mono_task.specs.declared.entries.Waking.TheVariants as waking
 
@@ -119,16 +114,6 @@ abbrev pub awaited_by : Handle → ℕ → Handle
 awaited_by handle.Dropped by = handle.Dropped
 awaited_by handle.Kept by = handle.Awaited by
 awaited_by (handle.Awaited before) by = handle.Awaited by
-
-abbrev pub wait_answer : {O : Type 0} → Handle → Result (Poll O) TaskError
-wait_answer handle.Dropped = Err NoHandle
-wait_answer handle.Kept = Ok Pending
-wait_answer (handle.Awaited by) = Ok Pending
-
-abbrev pub let_go_answer : {O : Type 0} → Handle → Result (Option O) TaskError
-let_go_answer handle.Dropped = Err NoHandle
-let_go_answer handle.Kept = Ok None
-let_go_answer (handle.Awaited by) = Ok None
 
 abbrev pub joined_entry : {O : Type 0} → Entry O → ℕ → Entry O
 joined_entry Gone by = Gone

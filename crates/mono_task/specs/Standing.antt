@@ -3,8 +3,7 @@ use Rattle.std.specs.Prelude.{◌≡◌, ◌≤◌, ◌==◌, ◌+◌, ℕ, Bool
 use Rattle.mono_model.specs.Table.{Table, count_of}
 use Rattle.mono_model.specs.Tasks.{Tasks}
 use Rattle.mono_model.specs.Valid.{times, once_if}
-use Rattle.mono_task.specs.declared.entries.Entry.{Entry}
-use Rattle.mono_task.specs.declared.entries.Entry.TheVariants.{Gone}
+use Rattle.mono_task.specs.Stored.{Entry, Gone}
 use Rattle.mono_task.specs.Entries.{task_of, is_queued, is_running, is_unfinished}
 
 abbrev pub entry_at : {O : Type 0} → List (Entry O) → ℕ → Entry O

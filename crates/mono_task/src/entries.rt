@@ -2,11 +2,12 @@
 ghost use Rattle.std.specs.Prelude.{◌≡◌, true, Ok};
 ghost use Rattle.mono_model.specs.Joins.{kept_value, join_value, drop_value, finished_value};
 ghost use Rattle.mono_task.specs.Work.{has_output, has_finished};
-ghost use Rattle.mono_task.specs.Entries.{task_of, handle_of, is_over, is_noted, woken_entry, waking_of, begun_entry, paused_entry, completed_entry, joined_entry, dropped_entry, awaited_by, wait_answer, let_go_answer};
-ghost use Rattle.mono_task.specs.declared.entries.Entry.TheVariants.{Gone, Taken};
-ghost use Rattle.mono_task.specs.declared.entries.Handle.TheVariants.{Dropped};
+ghost use Rattle.mono_task.specs.Entries.{task_of, handle_of, is_over, is_noted, woken_entry, waking_of, begun_entry, paused_entry, completed_entry, joined_entry, dropped_entry};
+ghost use Rattle.mono_task.specs.Stored.{Gone, Taken, Queued};
+ghost use Rattle.mono_task.specs.declared.entries.Handle.TheVariants.{Kept};
 
 use mono_model::{Poll, TaskError};
+use std::marker::Model;
 use std::mem;
 
 /// Whether the handle of a task is kept, and which task waits for the output.
@@ -17,16 +18,39 @@ pub enum Handle {
     Awaited(u64),
 }
 
-/// The place of a number that was given out. A task that has finished is here only while its handle is kept.
+// The states of a place: those of a task that has not finished once for each state of its handle, so that a place is one
+// word and a tag.
 #[derive(Drop)]
-pub enum Entry<O> {
+enum State<O> {
     Gone,
     Taken,
     Done(O),
-    Idle(Handle),
-    Queued(Handle),
-    Running(Handle),
-    Noted(Handle),
+    IdleDropped,
+    IdleKept,
+    IdleAwaited(u64),
+    QueuedDropped,
+    QueuedKept,
+    QueuedAwaited(u64),
+    RunningDropped,
+    RunningKept,
+    RunningAwaited(u64),
+    NotedDropped,
+    NotedKept,
+    NotedAwaited(u64),
+}
+
+/// The place of a number that was given out. A task that has finished is here only while its handle is kept.
+#[derive(Drop)]
+pub struct Place<O> {
+    state: State<O>,
+}
+
+impl<O> Model for Place<O> {
+    ghost use Rattle.mono_task.specs.Stored.{Entry, entry_in};
+
+    ghost Value = { Entry O };
+
+    ghost view = { λ a. entry_in a.state };
 }
 
 /// What a wake of a task asks for: that the task goes into the queue, or nothing.
@@ -37,47 +61,47 @@ pub enum Waking {
     Nothing,
 }
 
-impl Handle {
-    /// Another task waits for the output, in the place of any other, unless the handle is dropped.
-    fn wait<O>(&mut self, by: u64) -> Result<Poll<O>, TaskError>
-        ensures handle { self.new ≡ awaited_by self.old by }
-        ensures answer { result ≡ wait_answer self.old }
+impl<O: Drop> Place<O> {
+    /// The place of a task that is queued, with a handle that is kept.
+    pub fn new() -> Place<O>
+        ensures { result ≡ Queued Kept }
     {
-        if let Handle::Dropped = *self {
-            return Err(TaskError::NoHandle);
+        Place {
+            state: State::QueuedKept,
         }
-        *self = Handle::Awaited(by);
-        Ok(Poll::Pending)
     }
 
-    /// The handle is dropped.
-    fn let_go<O>(&mut self) -> Result<Option<O>, TaskError>
-        ensures handle { self.new ≡ Dropped }
-        ensures answer { result ≡ let_go_answer self.old }
-    {
-        if let Handle::Dropped = *self {
-            return Err(TaskError::NoHandle);
-        }
-        *self = Handle::Dropped;
-        Ok(None)
-    }
-}
-
-impl<O: Drop> Entry<O> {
     /// A wake.
     pub fn wake(&mut self) -> Waking
         ensures entry { self.new ≡ woken_entry self.old }
         ensures waking { result ≡ waking_of self.old }
     {
-        match *self {
-            Entry::Idle(handle) => {
-                *self = Entry::Queued(handle);
+        match self.state {
+            State::IdleDropped => {
+                self.state = State::QueuedDropped;
                 Waking::Queues
             }
-            Entry::Running(handle) | Entry::Noted(handle) => {
-                *self = Entry::Noted(handle);
+            State::IdleKept => {
+                self.state = State::QueuedKept;
+                Waking::Queues
+            }
+            State::IdleAwaited(by) => {
+                self.state = State::QueuedAwaited(by);
+                Waking::Queues
+            }
+            State::RunningDropped => {
+                self.state = State::NotedDropped;
                 Waking::Notes
             }
+            State::RunningKept => {
+                self.state = State::NotedKept;
+                Waking::Notes
+            }
+            State::RunningAwaited(by) => {
+                self.state = State::NotedAwaited(by);
+                Waking::Notes
+            }
+            State::NotedDropped | State::NotedKept | State::NotedAwaited(_) => Waking::Notes,
             _ => Waking::Nothing,
         }
     }
@@ -86,8 +110,11 @@ impl<O: Drop> Entry<O> {
     pub fn begin(&mut self)
         ensures { self.new ≡ begun_entry self.old }
     {
-        if let Entry::Queued(handle) = *self {
-            *self = Entry::Running(handle);
+        match self.state {
+            State::QueuedDropped => self.state = State::RunningDropped,
+            State::QueuedKept => self.state = State::RunningKept,
+            State::QueuedAwaited(by) => self.state = State::RunningAwaited(by),
+            _ => {},
         }
     }
 
@@ -96,13 +123,29 @@ impl<O: Drop> Entry<O> {
         ensures entry { self.new ≡ paused_entry self.old }
         ensures noted { result ≡ is_noted self.old }
     {
-        match *self {
-            Entry::Running(handle) => {
-                *self = Entry::Idle(handle);
+        match self.state {
+            State::RunningDropped => {
+                self.state = State::IdleDropped;
                 false
             }
-            Entry::Noted(handle) => {
-                *self = Entry::Queued(handle);
+            State::RunningKept => {
+                self.state = State::IdleKept;
+                false
+            }
+            State::RunningAwaited(by) => {
+                self.state = State::IdleAwaited(by);
+                false
+            }
+            State::NotedDropped => {
+                self.state = State::QueuedDropped;
+                true
+            }
+            State::NotedKept => {
+                self.state = State::QueuedKept;
+                true
+            }
+            State::NotedAwaited(by) => {
+                self.state = State::QueuedAwaited(by);
                 true
             }
             _ => false,
@@ -114,26 +157,35 @@ impl<O: Drop> Entry<O> {
         ensures entry { self.new ≡ completed_entry self.old output }
         ensures handle { result ≡ handle_of self.old }
     {
-        let handle = match *self {
-            Entry::Idle(handle)
-            | Entry::Queued(handle)
-            | Entry::Running(handle)
-            | Entry::Noted(handle) => handle,
-            _ => return None,
-        };
-        match handle {
-            Handle::Dropped => *self = Entry::Gone,
-            Handle::Kept | Handle::Awaited(_) => *self = Entry::Done(output),
+        match self.state {
+            State::Gone | State::Taken | State::Done(_) => None,
+            State::IdleDropped
+            | State::QueuedDropped
+            | State::RunningDropped
+            | State::NotedDropped => {
+                self.state = State::Gone;
+                Some(Handle::Dropped)
+            }
+            State::IdleKept | State::QueuedKept | State::RunningKept | State::NotedKept => {
+                self.state = State::Done(output);
+                Some(Handle::Kept)
+            }
+            State::IdleAwaited(by)
+            | State::QueuedAwaited(by)
+            | State::RunningAwaited(by)
+            | State::NotedAwaited(by) => {
+                self.state = State::Done(output);
+                Some(Handle::Awaited(by))
+            }
         }
-        Some(handle)
     }
 
     /// Whether the task has finished and its handle is kept.
     pub fn is_over(&self) -> bool
         ensures { result ≡ is_over self.now }
     {
-        match self {
-            Entry::Done(_) | Entry::Taken => true,
+        match self.state {
+            State::Done(_) | State::Taken => true,
             _ => false,
         }
     }
@@ -142,14 +194,9 @@ impl<O: Drop> Entry<O> {
     pub fn has_output(&self) -> bool
         ensures { result ≡ has_output (task_of self.now) }
     {
-        match self {
-            Entry::Done(_) => true,
-            Entry::Gone
-            | Entry::Taken
-            | Entry::Idle(_)
-            | Entry::Queued(_)
-            | Entry::Running(_)
-            | Entry::Noted(_) => false,
+        match self.state {
+            State::Done(_) => true,
+            _ => false,
         }
     }
 
@@ -157,25 +204,37 @@ impl<O: Drop> Entry<O> {
     pub fn has_finished(&self) -> bool
         ensures { result ≡ has_finished (task_of self.now) }
     {
-        match self {
-            Entry::Gone | Entry::Taken | Entry::Done(_) => true,
-            Entry::Idle(_) | Entry::Queued(_) | Entry::Running(_) | Entry::Noted(_) => false,
+        match self.state {
+            State::Gone | State::Taken | State::Done(_) => true,
+            _ => false,
         }
     }
 
-    /// A poll of the handle by another task.
+    /// A poll of the handle by another task, which then waits for the output in the place of any other.
     pub fn join(&mut self, by: u64) -> Result<Poll<O>, TaskError>
         ensures entry { self.new ≡ joined_entry self.old by }
         ensures answer { result ≡ join_value (kept_value (task_of self.old)) }
     {
-        match self {
-            Entry::Gone => Err(TaskError::NoHandle),
-            Entry::Taken => Err(TaskError::Taken),
-            Entry::Done(_) => self.take(),
-            Entry::Idle(handle) => handle.wait(by),
-            Entry::Queued(handle) => handle.wait(by),
-            Entry::Running(handle) => handle.wait(by),
-            Entry::Noted(handle) => handle.wait(by),
+        match self.state {
+            State::Taken => Err(TaskError::Taken),
+            State::Done(_) => self.take(),
+            State::IdleKept | State::IdleAwaited(_) => {
+                self.state = State::IdleAwaited(by);
+                Ok(Poll::Pending)
+            }
+            State::QueuedKept | State::QueuedAwaited(_) => {
+                self.state = State::QueuedAwaited(by);
+                Ok(Poll::Pending)
+            }
+            State::RunningKept | State::RunningAwaited(_) => {
+                self.state = State::RunningAwaited(by);
+                Ok(Poll::Pending)
+            }
+            State::NotedKept | State::NotedAwaited(_) => {
+                self.state = State::NotedAwaited(by);
+                Ok(Poll::Pending)
+            }
+            _ => Err(TaskError::NoHandle),
         }
     }
 
@@ -185,8 +244,8 @@ impl<O: Drop> Entry<O> {
         ensures entry { self.new ≡ Taken }
         ensures answer { result ≡ join_value (kept_value (task_of self.old)) }
     {
-        match mem::replace(self, Entry::Taken) {
-            Entry::Done(output) => Ok(Poll::Ready(output)),
+        match mem::replace(&mut self.state, State::Taken) {
+            State::Done(output) => Ok(Poll::Ready(output)),
             _ => Err(TaskError::Taken),
         }
     }
@@ -196,13 +255,25 @@ impl<O: Drop> Entry<O> {
         ensures entry { self.new ≡ dropped_entry self.old }
         ensures answer { result ≡ drop_value (kept_value (task_of self.old)) }
     {
-        match self {
-            Entry::Gone => Err(TaskError::NoHandle),
-            Entry::Taken | Entry::Done(_) => Ok(self.end()),
-            Entry::Idle(handle) => handle.let_go(),
-            Entry::Queued(handle) => handle.let_go(),
-            Entry::Running(handle) => handle.let_go(),
-            Entry::Noted(handle) => handle.let_go(),
+        match self.state {
+            State::Taken | State::Done(_) => Ok(self.end()),
+            State::IdleKept | State::IdleAwaited(_) => {
+                self.state = State::IdleDropped;
+                Ok(None)
+            }
+            State::QueuedKept | State::QueuedAwaited(_) => {
+                self.state = State::QueuedDropped;
+                Ok(None)
+            }
+            State::RunningKept | State::RunningAwaited(_) => {
+                self.state = State::RunningDropped;
+                Ok(None)
+            }
+            State::NotedKept | State::NotedAwaited(_) => {
+                self.state = State::NotedDropped;
+                Ok(None)
+            }
+            _ => Err(TaskError::NoHandle),
         }
     }
 
@@ -212,8 +283,8 @@ impl<O: Drop> Entry<O> {
         ensures entry { self.new ≡ Gone }
         ensures answer { Ok result ≡ drop_value (kept_value (task_of self.old)) }
     {
-        match mem::replace(self, Entry::Gone) {
-            Entry::Done(output) => Some(output),
+        match mem::replace(&mut self.state, State::Gone) {
+            State::Done(output) => Some(output),
             _ => None,
         }
     }
@@ -222,16 +293,14 @@ impl<O: Drop> Entry<O> {
     pub fn is_finished(&self) -> Result<bool, TaskError>
         ensures { result ≡ finished_value (kept_value (task_of self.now)) }
     {
-        match self {
-            Entry::Gone => Err(TaskError::NoHandle),
-            Entry::Taken | Entry::Done(_) => Ok(true),
-            Entry::Idle(handle)
-            | Entry::Queued(handle)
-            | Entry::Running(handle)
-            | Entry::Noted(handle) => match handle {
-                Handle::Dropped => Err(TaskError::NoHandle),
-                Handle::Kept | Handle::Awaited(_) => Ok(false),
-            },
+        match self.state {
+            State::Taken | State::Done(_) => Ok(true),
+            State::Gone
+            | State::IdleDropped
+            | State::QueuedDropped
+            | State::RunningDropped
+            | State::NotedDropped => Err(TaskError::NoHandle),
+            _ => Ok(false),
         }
     }
 }

@@ -7,8 +7,6 @@ mod error;
 mod future;
 mod join;
 mod table;
-#[cfg(test)]
-mod tests;
 
 pub use context::Context;
 pub use error::SpawnTask;

@@ -9,10 +9,10 @@ ghost use Rattle.mono_task.specs.Work.{has_output, over_answer};
 ghost use Rattle.mono_task.specs.Finishing.{Finishes};
 ghost use Rattle.mono_model.specs.declared.poll.Poll.TheVariants.{Ready, Pending};
 ghost use Rattle.mono_task.specs.declared.error.SpawnTask.TheVariants.{AtCapacity};
-ghost use Rattle.mono_task.specs.declared.entries.Entry.TheVariants.{Queued};
+ghost use Rattle.mono_task.specs.Stored.{Queued};
 ghost use Rattle.mono_task.specs.declared.entries.Handle.TheVariants.{Kept};
 
-use crate::entries::{Entry, Handle, Waking};
+use crate::entries::{Handle, Place, Waking};
 use crate::error::SpawnTask;
 use mono_model::{Ended, Poll, TaskError, Woke};
 use mono_table::Table;
@@ -32,7 +32,7 @@ pub struct Tasks<O> {
     // The numbers of the queued tasks, the front first, with room for each task that has not finished.
     queue: VecDeque<u64>,
     // At each number that was given out, its task, or nothing once it is gone.
-    entries: Table<Entry<O>>,
+    entries: Table<Place<O>>,
     // How many tasks have not finished.
     unfinished: usize,
     limit: u64,
@@ -105,7 +105,7 @@ fn make_room(queue: &mut VecDeque<u64>, tasks: usize) -> Result<(), AllocError>
 fn enter<O: Drop>(
     alloc: Global,
     queue: &mut VecDeque<u64>,
-    entries: &mut Table<Entry<O>>,
+    entries: &mut Table<Place<O>>,
     tasks: usize,
 ) -> Result<(), AllocError>
     requires few { deque_len queue.old ≤ tasks }
@@ -117,7 +117,7 @@ fn enter<O: Drop>(
     ensures refused { OnErr result (entries.new ≡ entries.old) }
 {
     make_room(queue, tasks)?;
-    entries.push(alloc, Entry::Queued(Handle::Kept))
+    entries.push(alloc, Place::new())
 }
 
 impl<O: Drop> Tasks<O> {

@@ -19,6 +19,3 @@ pub use services::{Served, Service, serve};
 pub use sink::{Sink, SinkFault, write_all};
 pub use source::{InputError, MAX_INPUT, Source, SourceFault, read_all};
 pub use standard::{StdinSource, StdoutSink};
-
-#[cfg(test)]
-mod tests;

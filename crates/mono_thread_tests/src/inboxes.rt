@@ -324,6 +324,59 @@ fn a_wake_is_listed_before_it_unparks(rt: HostRuntime) -> Result<(), Fail> {
     Ok(())
 }
 
+/// How often a token is handed to and fro: far more often than a wake that is lost now and then would stay unseen.
+const TURNS: u64 = 100_000;
+
+/// The longest that a park may wait for a token that is on its way, in seconds.
+const LATE: u64 = 10;
+
+/// Waits for the token, counts it and hands it back, so many times.
+fn hands_back<R: Host>(rt: &R, mine: &Parker, other: &UnparkHandle, count: &AtomicU64) {
+    for turn in 0..TURNS {
+        mine.park_timeout(rt, Duration::from_secs(LATE));
+        count.store(turn.wrapping_add(1), Ordering::SeqCst);
+        other.unpark(rt);
+    }
+}
+
+/// Hands the token over and waits until it is back: whether it was counted each time before it came back.
+fn hands_over<R: Host>(rt: &R, mine: &Parker, other: &UnparkHandle, count: &AtomicU64) -> bool {
+    for turn in 0..TURNS {
+        other.unpark(rt);
+        mine.park_timeout(rt, Duration::from_secs(LATE));
+        if count.load(Ordering::SeqCst) != turn.wrapping_add(1) {
+            return false;
+        }
+    }
+    true
+}
+
+/// Starts the thread that hands the token back.
+fn start_handing<R: Host + Copy + Send + 'static>(
+    rt: R,
+    theirs: Parker,
+    mine: UnparkHandle,
+    count: Arc<AtomicU64, Global>,
+) -> Option<JoinHandle<()>> {
+    thread::spawn(&rt, move || hands_back(&rt, &theirs, &mine, &count)).ok()
+}
+
+#[test]
+fn a_token_goes_to_and_fro(rt: HostRuntime) -> Result<(), Fail> {
+    let alloc = rt.alloc();
+    let mine = Parker::new(alloc)?;
+    let theirs = Parker::new(alloc)?;
+    let other = theirs.handle()?;
+    let count = Arc::new(alloc, AtomicU64::new(0))?;
+    let thread = start_handing(rt, theirs, mine.handle()?, Arc::try_clone(&count)?).ok_or(
+        "a thread",
+    )?;
+    let is_counted = hands_over(&rt, &mine, &other, &count);
+    thread.join(&rt);
+    assert!(rt; is_counted);
+    Ok(())
+}
+
 /// More tasks than an inbox makes room for at once.
 const MANY: u64 = 300;
 

@@ -1,9 +1,15 @@
-//! Tests of inboxes, parkers, registries, blocking jobs and pools, over their public calls.
+//! Tests of join words, inboxes, parkers, registries, blocking jobs, their table and pools, and of drivers, over their public calls.
 #![tactic(auto)]
 
 #[cfg(test)]
+mod drivers;
+#[cfg(test)]
 mod inboxes;
 #[cfg(test)]
+mod job_tables;
+#[cfg(test)]
 mod jobs;
+#[cfg(test)]
+mod joinwords;
 #[cfg(test)]
 mod pools;

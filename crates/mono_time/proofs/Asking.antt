@@ -12,7 +12,7 @@ use Rattle.mono_time.specs.Keeping.{Holds}
 use Rattle.mono_time.specs.Stands.{Standing, seen}
 use Rattle.mono_time.specs.declared.entry.Entry.{Entry}
 use Rattle.mono_time.specs.declared.entry.State.{State}
-use Rattle.mono_time.specs.declared.entry.State.TheVariants.{Fresh, Armed, Elapsed}
+use Rattle.mono_time.specs.declared.entry.State.TheVariants.{Fresh, Unwatched, Armed, Elapsed}
 use Rattle.mono_model.specs.declared.error.Error.{Error}
 use Rattle.mono_time.proofs.Standing.{sleep_there}
 use Rattle.mono_time.proofs.Writing.{kept-there}
@@ -22,7 +22,8 @@ answered b = Ok b
 
 pub elapsed-kept : (timed : Option Timed) (state : State) → is_elapsed_state state ≡ is_kept_elapsed (kept_in timed state)
 elapsed-kept timed (Fresh tick) = refl
-elapsed-kept timed (Armed waker) = refl
+elapsed-kept timed Unwatched = refl
+elapsed-kept timed (Armed task) = refl
 elapsed-kept timed Elapsed = refl
 
 elapsed-seen : (sleep : model.Sleep) → machine.is_elapsed sleep ≡ is_kept_elapsed (seen sleep)

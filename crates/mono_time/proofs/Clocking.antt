@@ -14,14 +14,15 @@ use Rattle.mono_wheel.specs.Start.{start, top_level}
 use Rattle.mono_wheel.specs.Model.{Wheel, Timed, timed_at, timed_after, CameOut, NothingDue}
 use Rattle.mono_time.specs.Sleeps.{Kept, armed, elapsed}
 use Rattle.mono_model.specs.SleepActs as machine
-use Rattle.mono_time.specs.Entries.{is_armed_state, kept_in, kept_of, tick_in, waker_in_state, owner_of, fresh_tick}
+use Rattle.mono_time.specs.Entries.{is_armed_state, armed_with, kept_in, kept_of, tick_in, waker_in_state, owner_of, fresh_tick}
 use Rattle.mono_time.specs.Keeping.{Holds, KeepsBut, kept_at, kept_under}
 use Rattle.mono_time.specs.Stands.{Standing, seen}
 use Rattle.mono_time.specs.declared.entry.Entry.{Entry}
 use Rattle.mono_time.specs.declared.entry.State.{State}
-use Rattle.mono_time.specs.declared.entry.State.TheVariants.{Fresh, Armed, Elapsed}
+use Rattle.mono_time.specs.declared.entry.State.TheVariants.{Fresh, Unwatched, Armed, Elapsed}
 use Rattle.mono_time.proofs.Holding.{some-same, none-some, given_inside, kept_of-ticks, owner, holds-written, table-written}
 use Rattle.mono_time.proofs.Standing.{value-seen, sleep_there, standing-written}
+use Rattle.mono_time.proofs.Turned.{kept-armed}
 use Rattle.mono_time.proofs.Placing.{placed-unarmed}
 use Rattle.mono_time.proofs.Writing.{table_kept, kept-there, table-there, is_in-entry}
 
@@ -73,13 +74,14 @@ pub armed_key : (wheel : Wheel) (keys : Table ℕ) (entries : List Entry) (great
     → (j : ℕ) × (value_at keys q ≡ Some j) × ((timed : Timed) × (timed_at wheel j ≡ Some timed) × (timed.tick ≡ tick))
 armed_key wheel keys entries greatest live holds q tick task is = by_key (value_at keys q) refl is
   where
-    by_timed : (j : ℕ) (timed : Option Timed) (waker : Option ℕ) → timed_at wheel j ≡ timed → is_some timed ≡ true → kept_in timed (Armed waker) ≡ armed tick task → (t : Timed) × (timed_at wheel j ≡ Some t) × (t.tick ≡ tick)
+    by_timed : (j : ℕ) (timed : Option Timed) (waker : Option ℕ) → timed_at wheel j ≡ timed → is_some timed ≡ true → kept_in timed (armed_with waker) ≡ armed tick task → (t : Timed) × (timed_at wheel j ≡ Some t) × (t.tick ≡ tick)
     by_timed j None waker at there kept = absurd (cc)
-    by_timed j (Some t) waker at there kept = (t, at, armed_ticks _ _ _ _ kept)
+    by_timed j (Some t) waker at there kept = (t, at, armed_ticks _ _ _ _ (sym (kept-armed (Some t) waker) ∙ kept))
 
     by_state : (j : ℕ) (e : Entry) (state : State) → value_at keys q ≡ Some j → slice_get entries j ≡ Some e → e.state ≡ state → kept_in (timed_at wheel j) state ≡ armed tick task → (t : Timed) × (timed_at wheel j ≡ Some t) × (t.tick ≡ tick)
     by_state j e (Fresh t) at was state kept = absurd (cc)
-    by_state j e (Armed waker) at was state kept = by_timed j (timed_at wheel j) waker refl (is_in-entry wheel keys entries greatest live holds q j e at was ∙ ap is_armed_state state) kept
+    by_state j e Unwatched at was state kept = by_timed j (timed_at wheel j) None refl (is_in-entry wheel keys entries greatest live holds q j e at was ∙ ap is_armed_state state) kept
+    by_state j e (Armed task) at was state kept = by_timed j (timed_at wheel j) (Some task) refl (is_in-entry wheel keys entries greatest live holds q j e at was ∙ ap is_armed_state state) kept
     by_state j e Elapsed at was state kept = absurd (cc)
 
     by_entry : (j : ℕ) (v : Option Entry) → value_at keys q ≡ Some j → slice_get entries j ≡ v → kept_of (timed_at wheel j) v ≡ Some (armed tick task) → (t : Timed) × (timed_at wheel j ≡ Some t) × (t.tick ≡ tick)
@@ -209,16 +211,21 @@ module _ (wheel left : Wheel) (keys : Table ℕ) (entries : List Entry) (greates
       table-fired = table-written wheel left keys entries greatest live holds came-owner.0 k e f at was same (keeps-out wheel left now k came)
           ∙ ap (λ x. set (table_kept wheel keys entries) came-owner.0 (Some (kept_in (timed_at left k) x.state))) left_as
 
-      armed_state : (waker : Option ℕ) × (e.state ≡ Armed waker)
+      armed_state : (waker : Option ℕ) × (e.state ≡ armed_with waker)
       armed_state = by e.state refl (sym (is_in-entry wheel keys entries greatest live holds came-owner.0 k e at was) ∙ came-in)
         where
-          by : (state : State) → e.state ≡ state → is_armed_state state ≡ true → (waker : Option ℕ) × (e.state ≡ Armed waker)
+          by : (state : State) → e.state ≡ state → is_armed_state state ≡ true → (waker : Option ℕ) × (e.state ≡ armed_with waker)
           by (Fresh tick) is true_of = absurd (cc)
-          by (Armed waker) is true_of = (waker, is)
+          by Unwatched is true_of = (None, is)
+          by (Armed task) is true_of = (Some task, is)
           by Elapsed is true_of = absurd (cc)
 
       fired-kept : kept_in (timed_at wheel k) e.state ≡ armed left.elapsed (waker_in_state e.state)
-      fired-kept = rw armed_state.1 (ap (λ t. armed (tick_in t) armed_state.0) came.due.1 ∙ ap (λ t. armed t armed_state.0) came.due.2)
+      fired-kept = by armed_state.0 armed_state.1
+        where
+          by : (waker : Option ℕ) → e.state ≡ armed_with waker → kept_in (timed_at wheel k) e.state ≡ armed left.elapsed (waker_in_state e.state)
+          by None is = rw is (ap (λ t. armed (tick_in t) None) came.due.1 ∙ ap (λ t. armed t None) came.due.2)
+          by (Some task) is = rw is (ap (λ t. armed (tick_in t) (Some task)) came.due.1 ∙ ap (λ t. armed t (Some task)) came.due.2)
 
       pub table-armed : value_at (table_kept wheel keys entries) came-owner.0 ≡ Some (armed left.elapsed (waker_in_state e.state))
       table-armed = table-there wheel keys entries greatest live holds came-owner.0 k e at was ∙ ap Some fired-kept

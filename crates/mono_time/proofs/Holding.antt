@@ -10,7 +10,7 @@ use Rattle.mono_time.specs.Entries.{is_armed_state, fresh_tick, tick_in, kept_in
 use Rattle.mono_time.specs.Keeping.{Holds, KeepsBut, kept_at, kept_under}
 use Rattle.mono_time.specs.declared.entry.Entry.{Entry}
 use Rattle.mono_time.specs.declared.entry.State.{State}
-use Rattle.mono_time.specs.declared.entry.State.TheVariants.{Fresh, Armed, Elapsed}
+use Rattle.mono_time.specs.declared.entry.State.TheVariants.{Fresh, Unwatched, Armed, Elapsed}
 use Rattle.mono_time.proofs.Slices.{slice_get-set_same, slice_get-set_other}
 
 pub some-same : {X : Type 0} (x y : X) → Some x ≡ Some y → x ≡ y
@@ -27,7 +27,8 @@ given_inside table s v at = elim (cases_lt s (length table)) [
 
 kept_in-ticks : (t u : Option Timed) (state : State) → tick_in t ≡ tick_in u → kept_in t state ≡ kept_in u state
 kept_in-ticks t u (Fresh tick) e = refl
-kept_in-ticks t u (Armed waker) e = rw e refl
+kept_in-ticks t u Unwatched e = rw e refl
+kept_in-ticks t u (Armed task) e = rw e refl
 kept_in-ticks t u Elapsed e = refl
 
 pub kept_of-ticks : (t u : Option Timed) (v : Option Entry) → tick_in t ≡ tick_in u → kept_of t v ≡ kept_of u v

@@ -14,7 +14,7 @@ use Rattle.mono_time.specs.Registered.{registered_in, registered_under, register
 use Rattle.mono_time.specs.Timers.{sleeps_of, elapsed_tick, registered_of}
 use Rattle.mono_time.specs.declared.entry.Entry.{Entry}
 use Rattle.mono_time.specs.declared.entry.State.{State}
-use Rattle.mono_time.specs.declared.entry.State.TheVariants.{Fresh, Armed, Elapsed}
+use Rattle.mono_time.specs.declared.entry.State.TheVariants.{Fresh, Unwatched, Armed, Elapsed}
 use Rattle.mono_time.specs.declared.timers.Timers.{Timers}
 
 not-in : (timed : Option Timed) → is_some timed ≡ false → registered_in timed ≡ None
@@ -25,8 +25,10 @@ not-in (Some t) is = absurd (cc)
 module _ (wheel : Wheel) (keys : Table ℕ) (entries : List Entry) (greatest live : ℕ) (holds : Holds wheel keys entries greatest live) (fits : AllFit wheel) where
   by-timed : (k : ℕ) (timed : Option Timed) (state : State) → timed_at wheel k ≡ timed → is_some timed ≡ is_armed_state state → IsRegistered wheel.elapsed (Some (kept_in timed state)) (registered_in timed)
   by-timed k timed (Fresh tick) at is = not-in timed is
-  by-timed k None (Armed waker) at is = cc
-  by-timed k (Some t) (Armed waker) at is = subst (Fits wheel.elapsed) at (fits k)
+  by-timed k None Unwatched at is = cc
+  by-timed k None (Armed task) at is = cc
+  by-timed k (Some t) Unwatched at is = subst (Fits wheel.elapsed) at (fits k)
+  by-timed k (Some t) (Armed task) at is = subst (Fits wheel.elapsed) at (fits k)
   by-timed k timed Elapsed at is = not-in timed is
 
   by-entry : (s k : ℕ) (e : Option Entry) → value_at keys s ≡ Some k → is_some (timed_at wheel k) ≡ is_armed_entry e → IsRegistered wheel.elapsed (kept_of (timed_at wheel k) e) (registered_in (timed_at wheel k))

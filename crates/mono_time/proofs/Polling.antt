@@ -18,7 +18,7 @@ use Rattle.mono_time.specs.Turning.{PolledEntry, entry_raise}
 use Rattle.mono_time.specs.Timers.{poll_raise}
 use Rattle.mono_time.specs.declared.entry.Entry.{Entry}
 use Rattle.mono_time.specs.declared.entry.State.{State}
-use Rattle.mono_time.specs.declared.entry.State.TheVariants.{Fresh, Armed, Elapsed}
+use Rattle.mono_time.specs.declared.entry.State.TheVariants.{Fresh, Unwatched, Armed, Elapsed}
 use Rattle.mono_model.specs.declared.error.Error.{Error}
 use Rattle.mono_time.proofs.Standing.{sleep_there}
 use Rattle.mono_time.proofs.Turned.{Turned, turned-polled}
@@ -28,7 +28,8 @@ use Rattle.mono_time.proofs.Writing.{is_in-entry, kept-there}
 -- a poll may raise the credit by as much as its state says
 pub poll-raise : (reached : ℕ) (timed : Option Timed) (state : State) → poll_raise reached (Some (kept_in timed state)) ≡ entry_raise reached state
 poll-raise reached timed (Fresh tick) = refl
-poll-raise reached timed (Armed waker) = refl
+poll-raise reached timed Unwatched = refl
+poll-raise reached timed (Armed task) = refl
 poll-raise reached timed Elapsed = refl
 
 abbrev pub answered : Poll ⊤ → Result (Poll ⊤) Error
@@ -66,9 +67,16 @@ module _ (wheel left : Wheel) (keys : Table ℕ) (entries : List Entry) (greates
       let test : nat_le (up n) m.greatest ≡ false = lt-leb (up n) m.greatest (omega (arith, early, ticks, st.same_greatest)) in
       let kept : armed (up n) (Some by) ≡ at_tick greatest tick (Some by) = rw (lt-leb tick greatest early) (ap (λ t. armed t (Some by)) ticks) in
       rw test (says, stands-anew wheel left keys entries greatest live limit holds s k e f at was same _ turned m st (up n) (Some by) (subst (ArmedAnew wheel left k) (sym ticks) anew) kept)
-  by_state (Armed waker) from polled turned (model.fresh n) at_m sees = absurd (cc)
-  by_state (Armed waker) from polled turned model.elapsed at_m sees = absurd (cc)
-  by_state (Armed waker) from (still, is, says) turned (model.armed a) at_m sees = (
+  by_state Unwatched from polled turned (model.fresh n) at_m sees = absurd (cc)
+  by_state (Armed task) from polled turned (model.fresh n) at_m sees = absurd (cc)
+  by_state Unwatched from polled turned model.elapsed at_m sees = absurd (cc)
+  by_state (Armed task) from polled turned model.elapsed at_m sees = absurd (cc)
+  by_state Unwatched from (still, is, says) turned (model.armed a) at_m sees = (
+    says,
+    stands-same wheel left keys entries greatest live limit holds s k e f at was same _ turned m st a (record { tick = a.tick; arm = a.arm; is_moved = a.is_moved; waker = Some by }) at_m refl refl refl still
+        (ap (λ t. armed t (Some by)) (armed-ticks _ _ _ _ sees)),
+  )
+  by_state (Armed task) from (still, is, says) turned (model.armed a) at_m sees = (
     says,
     stands-same wheel left keys entries greatest live limit holds s k e f at was same _ turned m st a (record { tick = a.tick; arm = a.arm; is_moved = a.is_moved; waker = Some by }) at_m refl refl refl still
         (ap (λ t. armed t (Some by)) (armed-ticks _ _ _ _ sees)),

@@ -13,7 +13,7 @@ use Rattle.mono_time.specs.Registered.{registered_in, registered_under, register
 use Rattle.mono_time.specs.Turning.{PolledEntry, ResetEntry, PutAt, Out}
 use Rattle.mono_time.specs.declared.entry.Entry.{Entry}
 use Rattle.mono_time.specs.declared.entry.State.{State}
-use Rattle.mono_time.specs.declared.entry.State.TheVariants.{Fresh, Armed, Elapsed}
+use Rattle.mono_time.specs.declared.entry.State.TheVariants.{Fresh, Unwatched, Armed, Elapsed}
 use Rattle.mono_time.proofs.Holding.{some-same, given_inside}
 
 not_in : (timed : Option Timed) → is_some timed ≡ false → registered_in timed ≡ None
@@ -40,7 +40,8 @@ module _ (wheel left : Wheel) (k greatest : ℕ) where
       → registered_in (timed_at left k) ≡ polled_registered greatest (Some (kept_in (timed_at wheel k) before)) (registered_in (timed_at wheel k))
   polled-at by (Fresh tick) after ready (inl (due, same, is, says)) is_in = rw (le-leb tick greatest due) (ap (λ w. registered_in (timed_at w k)) same ∙ not_in (timed_at wheel k) is_in)
   polled-at by (Fresh tick) after ready (inr (early, anew, is, says)) is_in = rw (lt-leb tick greatest early) (ap registered_in anew.here)
-  polled-at by (Armed waker) after ready (same, is, says) is_in = ap (λ w. registered_in (timed_at w k)) same
+  polled-at by Unwatched after ready (same, is, says) is_in = ap (λ w. registered_in (timed_at w k)) same
+  polled-at by (Armed task) after ready (same, is, says) is_in = ap (λ w. registered_in (timed_at w k)) same
   polled-at by Elapsed after ready (same, is, says) is_in = ap (λ w. registered_in (timed_at w k)) same
 
   rearmed-at : (tick : ℕ) (waker : Option ℕ) → greatest < tick → Rearmed wheel left k tick → wheel.elapsed ≤ greatest → greatest < tick_in (timed_at wheel k)
@@ -64,7 +65,8 @@ module _ (wheel left : Wheel) (k greatest : ℕ) where
   put-at : (tick : ℕ) (before after : State) → greatest < tick → PutAt wheel left k tick before after → wheel.elapsed ≤ greatest → (is_armed_state before ≡ true → greatest < tick_in (timed_at wheel k))
       → registered_in (timed_at left k) ≡ reset_registered greatest tick (Some (kept_in (timed_at wheel k) before)) (registered_in (timed_at wheel k))
   put-at tick (Fresh t) after early (is, anew) gone above = rw (lt-leb tick greatest early) (ap registered_in anew.here)
-  put-at tick (Armed waker) after early (is, re) gone above = rw (lt-leb tick greatest early) (rearmed-at tick waker early re gone (above refl))
+  put-at tick Unwatched after early (is, re) gone above = rw (lt-leb tick greatest early) (rearmed-at tick None early re gone (above refl))
+  put-at tick (Armed task) after early (is, re) gone above = rw (lt-leb tick greatest early) (rearmed-at tick (Some task) early re gone (above refl))
   put-at tick Elapsed after early (is, anew) gone above = rw (lt-leb tick greatest early) (ap registered_in anew.here)
 
   pub reset-at : (tick : ℕ) (before after : State) (woken : Option ℕ) → ResetEntry wheel left k greatest tick before after woken → wheel.elapsed ≤ greatest → (is_armed_state before ≡ true → greatest < tick_in (timed_at wheel k))
@@ -73,7 +75,8 @@ module _ (wheel left : Wheel) (k greatest : ℕ) where
     where
       by : (state : State) → None ≡ reset_registered greatest tick (Some (kept_in (timed_at wheel k) state)) (registered_in (timed_at wheel k))
       by (Fresh t) = rw (le-leb tick greatest due) refl
-      by (Armed waker) = rw (le-leb tick greatest due) refl
+      by Unwatched = rw (le-leb tick greatest due) refl
+      by (Armed task) = rw (le-leb tick greatest due) refl
       by Elapsed = rw (le-leb tick greatest due) refl
   reset-at tick before after woken (inr (early, says, put)) gone above = put-at tick before after early put gone above
 
@@ -124,14 +127,16 @@ module _ (wheel : Wheel) (keys : Table ℕ) (entries : List Entry) (greatest liv
     where
       by : (state : State) → None ≡ moved_registered wheel.elapsed now (Some (kept_in None state)) None
       by (Fresh tick) = refl
-      by (Armed waker) = refl
+      by Unwatched = refl
+      by (Armed task) = refl
       by Elapsed = refl
   after-timed (Some t) None is = absurd (cc)
   after-timed (Some t) (Some e) is = by e.state is
     where
       by : (state : State) → true ≡ is_armed_state state → registered_in (timed_after wheel.elapsed now (Some t)) ≡ moved_registered wheel.elapsed now (Some (kept_in (Some t) state)) (Some t.registered)
       by (Fresh tick) armed_is = absurd (cc)
-      by (Armed waker) armed_is = moved-in wheel.elapsed now t.tick t.registered (nat_le (start top_level wheel.elapsed t.registered) now)
+      by Unwatched armed_is = moved-in wheel.elapsed now t.tick t.registered (nat_le (start top_level wheel.elapsed t.registered) now)
+      by (Armed task) armed_is = moved-in wheel.elapsed now t.tick t.registered (nat_le (start top_level wheel.elapsed t.registered) now)
       by Elapsed armed_is = absurd (cc)
 
   pub registered-moved : (left : Wheel) (q : ℕ) → ((j : ℕ) → value_at keys q ≡ Some j → timed_at left j ≡ timed_after wheel.elapsed now (timed_at wheel j))
@@ -153,5 +158,6 @@ module _ (wheel : Wheel) (keys : Table ℕ) (entries : List Entry) (greatest liv
 -- at rest an armed sleep is ahead
 pub above-armed : (greatest : ℕ) (timed : Option Timed) (state : State) → ((tick : ℕ) (waker : Option ℕ) → Some (kept_in timed state) ≡ Some (armed tick waker) → greatest < tick) → is_armed_state state ≡ true → greatest < tick_in timed
 above-armed greatest timed (Fresh tick) none is = absurd (cc)
-above-armed greatest timed (Armed waker) none is = none (tick_in timed) waker refl
+above-armed greatest timed Unwatched none is = none (tick_in timed) None refl
+above-armed greatest timed (Armed task) none is = none (tick_in timed) (Some task) refl
 above-armed greatest timed Elapsed none is = absurd (cc)

@@ -15,7 +15,7 @@ use Rattle.mono_time.specs.Stands.{Standing, seen}
 use Rattle.mono_time.specs.Turning.{ResetEntry, PutAt}
 use Rattle.mono_time.specs.declared.entry.Entry.{Entry}
 use Rattle.mono_time.specs.declared.entry.State.{State}
-use Rattle.mono_time.specs.declared.entry.State.TheVariants.{Fresh, Armed, Elapsed}
+use Rattle.mono_time.specs.declared.entry.State.TheVariants.{Fresh, Unwatched, Armed, Elapsed}
 use Rattle.mono_model.specs.declared.error.Error.{Error}
 use Rattle.mono_time.proofs.Standing.{sleep_there}
 use Rattle.mono_time.proofs.Turned.{Turned, turned-reset}
@@ -49,7 +49,8 @@ waker-seen model.elapsed = refl
 
 waker-in : (timed : Option Timed) (state : State) → waker_in_state state ≡ kept_waker (kept_in timed state)
 waker-in timed (Fresh tick) = refl
-waker-in timed (Armed waker) = refl
+waker-in timed Unwatched = refl
+waker-in timed (Armed task) = refl
 waker-in timed Elapsed = refl
 
 module _ (wheel left : Wheel) (keys : Table ℕ) (entries : List Entry) (greatest live limit : ℕ) (holds : Holds wheel keys entries greatest live)
@@ -99,10 +100,14 @@ module _ (wheel left : Wheel) (keys : Table ℕ) (entries : List Entry) (greates
   by_put (Fresh t) (is, anew) turned early (model.fresh n) at_m sees = stands-anew wheel left keys entries greatest live limit holds s k e f at was same _ turned m st tick None anew refl
   by_put (Fresh t) put turned early (model.armed a) at_m sees = absurd (cc)
   by_put (Fresh t) put turned early model.elapsed at_m sees = absurd (cc)
-  by_put (Armed waker) put turned early (model.fresh n) at_m sees = absurd (cc)
-  by_put (Armed waker) (is, re) turned early (model.armed a) at_m sees =
+  by_put Unwatched put turned early (model.fresh n) at_m sees = absurd (cc)
+  by_put (Armed task) put turned early (model.fresh n) at_m sees = absurd (cc)
+  by_put Unwatched (is, re) turned early (model.armed a) at_m sees =
       rearmed a at_m (subst (λ v. Kept_with v) (sym (armed_wakers _ _ _ _ sees)) turned) early re (sym (ap tick_in re.was) ∙ sym (armed_ticks _ _ _ _ sees))
-  by_put (Armed waker) put turned early model.elapsed at_m sees = absurd (cc)
+  by_put (Armed task) (is, re) turned early (model.armed a) at_m sees =
+      rearmed a at_m (subst (λ v. Kept_with v) (sym (armed_wakers _ _ _ _ sees)) turned) early re (sym (ap tick_in re.was) ∙ sym (armed_ticks _ _ _ _ sees))
+  by_put Unwatched put turned early model.elapsed at_m sees = absurd (cc)
+  by_put (Armed task) put turned early model.elapsed at_m sees = absurd (cc)
   by_put Elapsed put turned early (model.fresh n) at_m sees = absurd (cc)
   by_put Elapsed put turned early (model.armed a) at_m sees = absurd (cc)
   by_put Elapsed (is, anew) turned early model.elapsed at_m sees = stands-anew wheel left keys entries greatest live limit holds s k e f at was same _ turned m st tick None anew refl

@@ -10,7 +10,7 @@ use Rattle.mono_time.specs.Keeping.{Holds}
 use Rattle.mono_time.specs.Registered.{registered_in, registered_under, registered_at, NextExpiration, IsOnePending}
 use Rattle.mono_time.specs.declared.entry.Entry.{Entry}
 use Rattle.mono_time.specs.declared.entry.State.{State}
-use Rattle.mono_time.specs.declared.entry.State.TheVariants.{Fresh, Armed, Elapsed}
+use Rattle.mono_time.specs.declared.entry.State.TheVariants.{Fresh, Unwatched, Armed, Elapsed}
 use Rattle.mono_time.proofs.Clocking.{armed_key, table-at}
 use Rattle.mono_time.proofs.Writing.{table_kept, entry_there, table-there, is_in-entry}
 
@@ -24,7 +24,8 @@ module _ (wheel : Wheel) (keys : Table ℕ) (entries : List Entry) (greatest liv
         where
           not_armed : true ≡ false → ⊥
           not_armed x = cc
-      by_state s e (Armed waker) at was state = (waker, table-there wheel keys entries greatest live holds s k e at was ∙ ap (λ x. Some (kept_in (timed_at wheel k) x)) state ∙ ap (λ t. Some (armed (tick_in t) waker)) is)
+      by_state s e Unwatched at was state = (None, table-there wheel keys entries greatest live holds s k e at was ∙ ap (λ x. Some (kept_in (timed_at wheel k) x)) state ∙ ap (λ t. Some (armed (tick_in t) None)) is)
+      by_state s e (Armed task) at was state = (Some task, table-there wheel keys entries greatest live holds s k e at was ∙ ap (λ x. Some (kept_in (timed_at wheel k) x)) state ∙ ap (λ t. Some (armed (tick_in t) (Some task))) is)
       by_state s e Elapsed at was state = absurd (not_armed (sym (ap is_some is) ∙ is_in-entry wheel keys entries greatest live holds s k e at was ∙ ap is_armed_state state))
         where
           not_armed : true ≡ false → ⊥

@@ -14,7 +14,8 @@ use std::alloc::{AllocError, Global};
 #[derive(Clone, Copy)]
 pub(crate) enum State {
     Fresh(u64),
-    Armed(Option<u64>),
+    Unwatched,
+    Armed(u64),
     Elapsed,
 }
 
@@ -31,6 +32,7 @@ impl State {
     {
         match self {
             State::Fresh(_) => false,
+            State::Unwatched => true,
             State::Armed(_) => true,
             State::Elapsed => false,
         }
@@ -41,6 +43,7 @@ impl State {
     {
         match self {
             State::Fresh(_) => false,
+            State::Unwatched => false,
             State::Armed(_) => false,
             State::Elapsed => true,
         }
@@ -52,7 +55,8 @@ impl State {
     {
         match self {
             State::Fresh(_) => None,
-            State::Armed(waker) => *waker,
+            State::Unwatched => None,
+            State::Armed(waker) => Some(*waker),
             State::Elapsed => None,
         }
     }

@@ -33,11 +33,15 @@ pub(crate) fn poll_entry(
                 return true;
             }
             put_in(wheel, key, tick);
-            entry.state = State::Armed(Some(by));
+            entry.state = State::Armed(by);
+            false
+        }
+        State::Unwatched => {
+            entry.state = State::Armed(by);
             false
         }
         State::Armed(_) => {
-            entry.state = State::Armed(Some(by));
+            entry.state = State::Armed(by);
             false
         }
         State::Elapsed => true,
@@ -86,14 +90,15 @@ pub(crate) fn reset_entry(
         return elapse(entry);
     }
     match entry.state {
+        State::Unwatched => put_later(wheel, key, tick),
         State::Armed(_) => put_later(wheel, key, tick),
         State::Fresh(_) => {
             put_in(wheel, key, tick);
-            entry.state = State::Armed(None);
+            entry.state = State::Unwatched;
         }
         State::Elapsed => {
             put_in(wheel, key, tick);
-            entry.state = State::Armed(None);
+            entry.state = State::Unwatched;
         }
     }
     None

@@ -1,15 +1,11 @@
--- The ordered set in which the armed sleeps of a table are found by their ticks.
-use Rattle.std.specs.Prelude.{◌≡◌, ℕ, true, List, Option, Some, None}
-use Rattle.std.specs.declared.cmp.Ordering.{Ordering}
-use Rattle.std.specs.Ordering.{nat_cmp, ordering_then}
-use Rattle.std.specs.BTreeSet.{BTreeSet, contains}
-use Rattle.mono_model.specs.Table.{value_at}
+-- How many sleeps of a table are armed at each tick, in an ordered map that follows the table's changes.
+use Rattle.std.specs.Prelude.{◌≡◌, ◌<◌, ◌≤◌, ◌+◌, ◌==◌, ℕ, zero, suc, List, Option, Some, None, sum_by}
+use Rattle.std.specs.Ordering.{nat_cmp}
+use Rattle.std.specs.BTreeMap.{BTreeMap, get}
+use Rattle.mono_model.specs.Valid.{once_if}
 use Rattle.mono_trace.specs.declared.sleeps.Sleep.{Sleep}
 use Rattle.mono_trace.specs.declared.sleeps.Sleep.TheVariants as sleep
-
--- a tick and the number of a sleep, in the order of ticks
-abbrev pub place_cmp : ℕ × ℕ → ℕ × ℕ → Ordering
-place_cmp a b = ordering_then (nat_cmp a.0 b.0) (nat_cmp a.1 b.1)
+use Rattle.mono_trace.specs.declared.ticks.Ticks.{Ticks}
 
 -- the tick at which a sleep is armed
 abbrev pub armed_tick : Option Sleep → Option ℕ
@@ -18,14 +14,55 @@ armed_tick (Some (sleep.Fresh nanos)) = None
 armed_tick (Some (sleep.Armed a)) = Some a.tick
 armed_tick (Some sleep.Elapsed) = None
 
--- A sleep with this number stands in the set at its tick, if it is armed.
-abbrev pub IsFound : BTreeSet (ℕ × ℕ) → ℕ → Option Sleep → Type 0
-IsFound found s value = (tick : ℕ) → armed_tick value ≡ Some tick → contains place_cmp found (tick, s) ≡ true
+-- 1 at this tick, if it is any, and 0 at all others
+abbrev pub once_at : Option ℕ → ℕ → ℕ
+once_at None t = 0
+once_at (Some tick) t = once_if (tick == t)
 
--- Each armed sleep of the table stands in the set. The set may also have what is not armed so any more.
-abbrev pub AreFound : List (Option Sleep) → BTreeSet (ℕ × ℕ) → Type 0
-AreFound places found = (s : ℕ) → IsFound found s (value_at places s)
+-- how many sleeps of the table are armed at a tick
+abbrev pub armed_count : List (Option Sleep) → ℕ → ℕ
+armed_count places t = sum_by (λ v. once_at (armed_tick v) t) places
 
--- the second set has all that the first has
-abbrev pub Grows : BTreeSet (ℕ × ℕ) → BTreeSet (ℕ × ℕ) → Type 0
-Grows found more = (place : ℕ × ℕ) → contains place_cmp found place ≡ true → contains place_cmp more place ≡ true
+-- ---- how many there are at each tick, as a function
+
+abbrev pub none_at : ℕ → ℕ
+none_at t = 0
+
+abbrev pub AreAlike : (ℕ → ℕ) → (ℕ → ℕ) → Type 0
+AreAlike f g = (t : ℕ) → f t ≡ g t
+
+-- one more at this tick
+abbrev pub one_more : (ℕ → ℕ) → ℕ → ℕ → ℕ
+one_more f tick t = f t + once_if (tick == t)
+
+-- one more at this tick, if it is any
+abbrev pub more_at : (ℕ → ℕ) → Option ℕ → ℕ → ℕ
+more_at f tick t = f t + once_at tick t
+
+-- one more at each tick of a list, as often as it stands there
+abbrev pub all_more : (ℕ → ℕ) → List ℕ → ℕ → ℕ
+all_more f ticks t = f t + sum_by (λ tick. once_if (tick == t)) ticks
+
+abbrev pub AreNoneUpTo : ℕ → (ℕ → ℕ) → Type 0
+AreNoneUpTo greatest f = (t : ℕ) → t ≤ greatest → f t ≡ 0
+
+abbrev pub IsOneUpTo : ℕ → (ℕ → ℕ) → Type 0
+IsOneUpTo greatest f = (t : ℕ) × (t ≤ greatest) × (0 < f t)
+
+-- ---- the map
+
+abbrev pub some_if_any : ℕ → Option ℕ
+some_if_any zero = None
+some_if_any (suc n) = Some (suc n)
+
+-- The map has for each tick how many there are, and no entry where there is none.
+abbrev pub AreCounts : (ℕ → ℕ) → BTreeMap ℕ ℕ → Type 0
+AreCounts f counts = (t : ℕ) → get nat_cmp counts t ≡ some_if_any (f t)
+
+-- With one more at each tick of the list it would.
+abbrev pub AreCountsBut : (ℕ → ℕ) → List ℕ → BTreeMap ℕ ℕ → Type 0
+AreCountsBut f left counts = (g : ℕ → ℕ) × AreCounts g counts × AreAlike f (all_more g left)
+
+-- The map has how many there are now. Those that there were before are told by the ticks that were left and taken since.
+abbrev pub AreTicks : (ℕ → ℕ) → (ℕ → ℕ) → Ticks → Type 0
+AreTicks now before ticks = AreCounts now ticks.counts × AreAlike (all_more before ticks.taken.items) (all_more now ticks.left.items)

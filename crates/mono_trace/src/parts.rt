@@ -217,7 +217,7 @@ impl Parts {
     {
         self.tasks.take_back()?;
         self.jobs.take_back();
-        self.sleeps.take_back();
+        self.sleeps.take_back()?;
         Ok(())
     }
 }

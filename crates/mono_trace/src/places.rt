@@ -160,4 +160,14 @@ impl<V: Copy + Drop> Places<V> {
         take_back(&mut self.items, &mut self.changes);
         self.live = self.live_before;
     }
+
+    /// No number was given out, as far as is told: all are forgotten.
+    pub fn clear(&mut self)
+        ensures { self.new ≡ kept [] }
+    {
+        self.items.clear();
+        self.changes.clear();
+        self.live = 0;
+        self.live_before = 0;
+    }
 }

@@ -311,12 +311,13 @@ impl Sleeps {
     }
 
     /// Takes back all changes since they were last kept.
-    pub fn take_back(&mut self)
-        ensures { self.new ≡ kept self.old.before }
+    pub fn take_back(&mut self) -> Result<(), AllocError>
+        ensures { OnOk result (self.new ≡ kept self.old.before) }
     {
-        self.places.take_back();
+        self.places.take_back()?;
         self.greatest = self.greatest_before;
         self.arms = self.arms_before;
+        Ok(())
     }
 }
 

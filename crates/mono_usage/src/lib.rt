@@ -5,6 +5,3 @@ mod complaints;
 mod forms;
 
 pub use complaints::complaint;
-
-#[cfg(test)]
-mod tests;

@@ -1,13 +1,13 @@
 -- The clock of a wheel goes on.
-use Rattle.std.proofs.Common.{arith, ◌≡◌, ◌≢◌, ℕ, ◌+◌, ◌*◌, ◌<◌, ◌≤◌, inl, inr, length, true, false, nat_le, List, [], ◌∷◌, map, Option, Some, None, set, ap, refl, sym, ◌∙◌, subst, length-set}
+use Rattle.std.proofs.Common.{arith, ◌≡◌, ◌≢◌, ℕ, ◌+◌, ◌*◌, ◌^◌, ◌/◌, ◌<◌, ◌≤◌, inl, inr, length, true, false, nat_le, List, [], ◌∷◌, map, Option, Some, None, set, ap, refl, sym, ◌∙◌, subst, length-set}
 use Rattle.std.proofs.lemmas.Bool.Decides.{leb_tells, eqb_tells}
 use Rattle.mono_wheel.specs.Start.{far_digit, slot_of, start, top_level, slot_count, pending_list, taken_list}
 use Rattle.mono_wheel.specs.Lists.{Lists, IsIn, with_list, list_at, is_node}
 use Rattle.mono_wheel.specs.Model.{Timed, Wheel, Precedes, StandsBehind, Fits, timed_at, moved, timed_after}
 use Rattle.mono_wheel.specs.Held.{place_of, place_in, timed_of, timed_in, StandsIn, Held, Settling, Settled, anew, IsNextSlot, Advanced}
 use Rattle.mono_wheel.specs.declared.entry.Entry.{Entry}
-use Rattle.mono_wheel.proofs.Starts.{start-above, start-le, level-same}
-use Rattle.mono_wheel.proofs.Places.{place_of-below, place_in-below, place-ahead}
+use Rattle.mono_wheel.proofs.Starts.{start-above, start-le, start-apart, level-same}
+use Rattle.mono_wheel.proofs.Places.{place_of-below, place_in-below, place-ahead, place-level}
 use Rattle.mono_wheel.proofs.Holding.{list-same, list-other}
 use Rattle.mono_wheel.proofs.Due.{stands-pending}
 use Rattle.mono_wheel.proofs.Searching.{stands-timed, ahead-in}
@@ -152,101 +152,119 @@ module _ (elapsed begin list : ℕ) (entries : List Entry) (links taken : Lists)
       let s : l ≡ place_in elapsed timed.registered = subst (StandsIn elapsed l) is (h.within key l i) in
       sym (s ∙ place-ahead elapsed timed.registered (λ e. let a = (ticks key timed is).0 in omega (arith, a, e)))
 
-  place-still : (key : ℕ) (timed : Timed) → timed_in entries key ≡ Some timed → place_of elapsed timed.registered ≢ list → place_in begin timed.registered ≡ place_in elapsed timed.registered
-  place-still key timed is ne = let a = begin-above in place-same elapsed begin timed.registered (ticks key timed is).0 (omega (arith, a)) (not-slot key timed is ne)
+  -- another slot starts at least the length of this one after it
+  pub past-slot : (key : ℕ) (timed : Timed) → timed_in entries key ≡ Some timed → place_of elapsed timed.registered ≢ list → begin + 64 ^ (list / 64) ≤ start top_level elapsed timed.registered
+  past-slot key timed is ne =
+      let later = not-slot key timed is ne in
+      let begins = slot.begins in
+      let level : list / 64 ≡ far_digit top_level elapsed slot.timed.registered = ap (λ z. z / 64) slot.place ∙ place-level elapsed slot.timed.registered in
+      let apart = start-apart top_level elapsed slot.timed.registered timed.registered slot.ahead (ticks key timed is).0 (omega (arith, begins, later)) in
+      let width : 64 ^ (list / 64) ≡ 64 ^ far_digit top_level elapsed slot.timed.registered = ap (λ z. 64 ^ z) level in
+      omega (arith, begins, apart, width)
 
-  within-taken : (key l : ℕ) (o : Option Timed) → timed_in entries key ≡ o → l ≢ taken_list → IsIn key (list_at taken l) → StandsIn begin l o
-  within-taken key l None is ne i = elim (eqb_tells l list) [
-    | inl e ↦ subst (λ zs. IsIn key zs) (ap (list_at taken) e.1 ∙ at_list) i
-    | inr e ↦ subst (StandsIn elapsed l) is (h.within key l (subst (λ zs. IsIn key zs) (at_other l ne e.1) i))
-  ]
-  within-taken key l (Some timed) is ne i = elim (eqb_tells l list) [
-    | inl e ↦ absurd (subst (λ zs. IsIn key zs) (ap (list_at taken) e.1 ∙ at_list) i)
-    | inr e ↦
-        let old = subst (λ zs. IsIn key zs) (at_other l ne e.1) i in
-        let s : l ≡ place_in elapsed timed.registered = subst (StandsIn elapsed l) is (h.within key l old) in
-        s ∙ sym (place-still key timed is (λ f. e.1 (sym (in-place key l timed is old) ∙ f)))
-  ]
-
-  found-taken : (key l : ℕ) (o : Option Timed) → timed_in entries key ≡ o → (IsIn key (list_at taken taken_list) → ⊥) → StandsIn begin l o → IsIn key (list_at taken l)
-  found-taken key l None is out s = absurd s
-  found-taken key l (Some timed) is out s =
-      let ne : place_of elapsed timed.registered ≢ list = λ e. out (subst (λ zs. IsIn key zs) (sym at_taken) (slot-in key timed is e)) in
-      let old : l ≡ place_in elapsed timed.registered = s ∙ place-still key timed is ne in
-      let i : IsIn key (list_at links l) = h.found key l (subst (StandsIn elapsed l) (sym is) old) in
-      let nl : l ≢ list = λ e. ne (in-place key l timed is i ∙ e) in
-      let b = place_in-below elapsed timed.registered in
-      subst (λ zs. IsIn key zs) (sym (at_other l (λ e. omega (arith, b, old, e)) nl)) i
-
-  fits-taken : (key : ℕ) (o : Option Timed) → timed_in entries key ≡ o → (IsIn key (list_at taken taken_list) → ⊥) → Fits begin o
-  fits-taken key None is out = tt
-  fits-taken key (Some timed) is out =
-      let ne : place_of elapsed timed.registered ≢ list = λ e. out (subst (λ zs. IsIn key zs) (sym at_taken) (slot-in key timed is e)) in
-      let a = (ticks key timed is).0 in
-      let s = start-le top_level elapsed timed.registered a in
-      let l = not-slot key timed is ne in
-      inr (omega (arith, s, l), (ticks key timed is).1)
-
-  waits-taken : (key : ℕ) (o : Option Timed) → timed_in entries key ≡ o → IsIn key (list_at links list) → (timed : Timed) × (o ≡ Some timed) × (begin ≤ timed.tick)
-  waits-taken key None is i = absurd (subst (StandsIn elapsed list) is (h.within key list i))
-  waits-taken key (Some timed) is i =
+  -- a key of the slot is not due before the slot starts
+  pub slot-waits : (key : ℕ) (timed : Timed) → timed_in entries key ≡ Some timed → IsIn key (list_at links list) → begin ≤ timed.tick
+  slot-waits key timed is i =
       let a = (ticks key timed is).0 in let b = (ticks key timed is).1 in
       let s = start-le top_level elapsed timed.registered a in
       let e = in-slot key timed is (in-place key list timed is i) in
-      (timed, refl, omega (arith, b, s, e))
+      omega (arith, b, s, e)
 
-  pub slot-settling : Settling begin entries taken
-  slot-settling = record {
-    lists = ap (λ w. length w.lists) take ∙ length-set (set links.lists list []) taken_list (list_at links list) ∙ length-set links.lists list [] ∙ h.lists;
-    within = λ k l ne i. within-taken k l (timed_in entries k) refl ne i;
-    found = λ k l out s. found-taken k l (timed_in entries k) refl out s;
-    fits = λ k out. fits-taken k (timed_in entries k) refl out;
-    waits = λ k i. waits-taken k (timed_in entries k) refl (subst (λ zs. IsIn k zs) at_taken i);
-    room = λ k n. h.room k (subst (λ w. is_node w k ≡ true) take n);
-  }
+  -- The clock goes on to a tick before the start of each other slot that has a key, and not after the tick of a key of this one.
+  module _ (to : ℕ) (le : begin ≤ to)
+      (clear : (key : ℕ) (timed : Timed) → timed_in entries key ≡ Some timed → place_of elapsed timed.registered ≢ list → to < start top_level elapsed timed.registered)
+      (waits : (key : ℕ) (timed : Timed) → timed_in entries key ≡ Some timed → IsIn key (list_at links list) → to ≤ timed.tick) where
+    place-still : (key : ℕ) (timed : Timed) → timed_in entries key ≡ Some timed → place_of elapsed timed.registered ≢ list → place_in to timed.registered ≡ place_in elapsed timed.registered
+    place-still key timed is ne = let a = begin-above in place-same elapsed to timed.registered (ticks key timed is).0 (omega (arith, a, le)) (clear key timed is ne)
 
-  module _ (entries2 : List Entry) (links2 : Lists) (h2 : Held begin entries2 links2) (d : Settled entries entries2 taken links2) where
-    gone : (k : ℕ) → IsIn k (list_at links2 taken_list) → ⊥
-    gone k i = subst (λ zs. IsIn k zs) (taken-empty begin entries2 links2 h2) i
-
-    pub ticks-after : (key : ℕ) (o : Option Timed) → timed_in entries key ≡ o → timed_in entries2 key ≡ timed_after elapsed begin o
-    ticks-after key None is = d.others key (λ i. subst (StandsIn elapsed list) is (h.within key list (subst (λ zs. IsIn key zs) at_taken i))) ∙ is
-    ticks-after key (Some timed) is = elim (eqb_tells (place_of elapsed timed.registered) list) [
-      | inl e ↦
-          let now = in-slot key timed is e.1 in
-          d.done key (subst (λ zs. IsIn key zs) (sym at_taken) (slot-in key timed is e.1)) (gone key) ∙ ap anew is ∙ ap Some (sym (moved-anew elapsed begin timed (omega (arith, now))))
+    within-taken : (key l : ℕ) (o : Option Timed) → timed_in entries key ≡ o → l ≢ taken_list → IsIn key (list_at taken l) → StandsIn to l o
+    within-taken key l None is ne i = elim (eqb_tells l list) [
+      | inl e ↦ subst (λ zs. IsIn key zs) (ap (list_at taken) e.1 ∙ at_list) i
+      | inr e ↦ subst (StandsIn elapsed l) is (h.within key l (subst (λ zs. IsIn key zs) (at_other l ne e.1) i))
+    ]
+    within-taken key l (Some timed) is ne i = elim (eqb_tells l list) [
+      | inl e ↦ absurd (subst (λ zs. IsIn key zs) (ap (list_at taken) e.1 ∙ at_list) i)
       | inr e ↦
-          d.others key (λ i. e.1 (in-place key list timed is (subst (λ zs. IsIn key zs) at_taken i))) ∙ is ∙ ap Some (sym (moved-stays elapsed begin timed (not-slot key timed is e.1)))
+          let old = subst (λ zs. IsIn key zs) (at_other l ne e.1) i in
+          let s : l ≡ place_in elapsed timed.registered = subst (StandsIn elapsed l) is (h.within key l old) in
+          s ∙ sym (place-still key timed is (λ f. e.1 (sym (in-place key l timed is old) ∙ f)))
     ]
 
-    behind-after : (a b line : ℕ) → StandsBehind (list_at links line) a b → timed_in entries a ≡ timed_in entries b → (l : ℕ) × StandsBehind (list_at links2 l) a b
-    behind-after a b line s same =
-        let settled : (l : ℕ) → StandsBehind (list_at taken l) a b → (m : ℕ) × StandsBehind (list_at links2 m) a b =
-        λ l t. elim (d.order a b l t same) [ inl u ↦ u | inr u ↦ absurd (gone b u.2) ] in
-        elim (eqb_tells line list) [
-          | inl e ↦ settled taken_list (subst (λ zs. StandsBehind zs a b) (sym at_taken) (subst (λ z. StandsBehind (list_at links z) a b) e.1 s))
-          | inr e ↦ elim (eqb_tells line taken_list) [
-            | inl f ↦ absurd (subst (λ zs. StandsBehind zs a b) (ap (list_at links) f.1 ∙ taken-empty elapsed entries links h) s)
-            | inr f ↦ settled line (subst (λ zs. StandsBehind zs a b) (sym (at_other line f.1 e.1)) s)
+    found-taken : (key l : ℕ) (o : Option Timed) → timed_in entries key ≡ o → (IsIn key (list_at taken taken_list) → ⊥) → StandsIn to l o → IsIn key (list_at taken l)
+    found-taken key l None is out s = absurd s
+    found-taken key l (Some timed) is out s =
+        let ne : place_of elapsed timed.registered ≢ list = λ e. out (subst (λ zs. IsIn key zs) (sym at_taken) (slot-in key timed is e)) in
+        let old : l ≡ place_in elapsed timed.registered = s ∙ place-still key timed is ne in
+        let i : IsIn key (list_at links l) = h.found key l (subst (StandsIn elapsed l) (sym is) old) in
+        let nl : l ≢ list = λ e. ne (in-place key l timed is i ∙ e) in
+        let b = place_in-below elapsed timed.registered in
+        subst (λ zs. IsIn key zs) (sym (at_other l (λ e. omega (arith, b, old, e)) nl)) i
+
+    fits-taken : (key : ℕ) (o : Option Timed) → timed_in entries key ≡ o → (IsIn key (list_at taken taken_list) → ⊥) → Fits to o
+    fits-taken key None is out = tt
+    fits-taken key (Some timed) is out =
+        let ne : place_of elapsed timed.registered ≢ list = λ e. out (subst (λ zs. IsIn key zs) (sym at_taken) (slot-in key timed is e)) in
+        let a = (ticks key timed is).0 in
+        let s = start-le top_level elapsed timed.registered a in
+        let l = clear key timed is ne in
+        inr (omega (arith, s, l), (ticks key timed is).1)
+
+    waits-taken : (key : ℕ) (o : Option Timed) → timed_in entries key ≡ o → IsIn key (list_at links list) → (timed : Timed) × (o ≡ Some timed) × (to ≤ timed.tick)
+    waits-taken key None is i = absurd (subst (StandsIn elapsed list) is (h.within key list i))
+    waits-taken key (Some timed) is i = (timed, refl, waits key timed is i)
+
+    pub slot-settling : Settling to entries taken
+    slot-settling = record {
+      lists = ap (λ w. length w.lists) take ∙ length-set (set links.lists list []) taken_list (list_at links list) ∙ length-set links.lists list [] ∙ h.lists;
+      within = λ k l ne i. within-taken k l (timed_in entries k) refl ne i;
+      found = λ k l out s. found-taken k l (timed_in entries k) refl out s;
+      fits = λ k out. fits-taken k (timed_in entries k) refl out;
+      waits = λ k i. waits-taken k (timed_in entries k) refl (subst (λ zs. IsIn k zs) at_taken i);
+      room = λ k n. h.room k (subst (λ w. is_node w k ≡ true) take n);
+    }
+
+    module _ (entries2 : List Entry) (links2 : Lists) (h2 : Held to entries2 links2) (d : Settled entries entries2 taken links2) where
+      gone : (k : ℕ) → IsIn k (list_at links2 taken_list) → ⊥
+      gone k i = subst (λ zs. IsIn k zs) (taken-empty to entries2 links2 h2) i
+
+      pub ticks-after : (key : ℕ) (o : Option Timed) → timed_in entries key ≡ o → timed_in entries2 key ≡ timed_after elapsed to o
+      ticks-after key None is = d.others key (λ i. subst (StandsIn elapsed list) is (h.within key list (subst (λ zs. IsIn key zs) at_taken i))) ∙ is
+      ticks-after key (Some timed) is = elim (eqb_tells (place_of elapsed timed.registered) list) [
+        | inl e ↦
+            let now = in-slot key timed is e.1 in
+            d.done key (subst (λ zs. IsIn key zs) (sym at_taken) (slot-in key timed is e.1)) (gone key) ∙ ap anew is ∙ ap Some (sym (moved-anew elapsed to timed (omega (arith, now, le))))
+        | inr e ↦
+            d.others key (λ i. e.1 (in-place key list timed is (subst (λ zs. IsIn key zs) at_taken i))) ∙ is ∙ ap Some (sym (moved-stays elapsed to timed (clear key timed is e.1)))
+      ]
+
+      behind-after : (a b line : ℕ) → StandsBehind (list_at links line) a b → timed_in entries a ≡ timed_in entries b → (l : ℕ) × StandsBehind (list_at links2 l) a b
+      behind-after a b line s same =
+          let settled : (l : ℕ) → StandsBehind (list_at taken l) a b → (m : ℕ) × StandsBehind (list_at links2 m) a b =
+          λ l t. elim (d.order a b l t same) [ inl u ↦ u | inr u ↦ absurd (gone b u.2) ] in
+          elim (eqb_tells line list) [
+            | inl e ↦ settled taken_list (subst (λ zs. StandsBehind zs a b) (sym at_taken) (subst (λ z. StandsBehind (list_at links z) a b) e.1 s))
+            | inr e ↦ elim (eqb_tells line taken_list) [
+              | inl f ↦ absurd (subst (λ zs. StandsBehind zs a b) (ap (list_at links) f.1 ∙ taken-empty elapsed entries links h) s)
+              | inr f ↦ settled line (subst (λ zs. StandsBehind zs a b) (sym (at_other line f.1 e.1)) s)
+            ]
           ]
-        ]
 
-    precedes-after : (a b line : ℕ) → StandsBehind (list_at links line) a b → timed_in entries a ≡ timed_in entries b →
-        (let w : Wheel = record { elapsed = begin; entries = map timed_of entries2; reserved = links2.nodes; lines = links2.lists } in Precedes w a b)
-    precedes-after a b line s same =
-        let t = behind-after a b line s same in
-        record {
-          line = t.0;
-          behind = t.1;
-          same = ticks-after a (timed_in entries a) refl ∙ ap (timed_after elapsed begin) same ∙ sym (ticks-after b (timed_in entries b) refl);
-        }
+      precedes-after : (a b line : ℕ) → StandsBehind (list_at links line) a b → timed_in entries a ≡ timed_in entries b →
+          (let w : Wheel = record { elapsed = to; entries = map timed_of entries2; reserved = links2.nodes; lines = links2.lists } in Precedes w a b)
+      precedes-after a b line s same =
+          let t = behind-after a b line s same in
+          record {
+            line = t.0;
+            behind = t.1;
+            same = ticks-after a (timed_in entries a) refl ∙ ap (timed_after elapsed to) same ∙ sym (ticks-after b (timed_in entries b) refl);
+          }
 
-    pub slot-advanced : (v : Wheel) → (let w : Wheel = record { elapsed = elapsed; entries = map timed_of entries; reserved = links.nodes; lines = links.lists } in w ≡ v) →
-        Advanced v (record { elapsed = begin; entries = map timed_of entries2; reserved = links2.nodes; lines = links2.lists })
-    slot-advanced v seen = subst (λ u. Advanced u (record { elapsed = begin; entries = map timed_of entries2; reserved = links2.nodes; lines = links2.lists })) seen (record {
-      fits = h.fits;
-      later = let a = begin-above in omega (arith, a);
-      ticks = λ k. ticks-after k (timed_in entries k) refl;
-      order = λ a b p. precedes-after a b p.line p.behind p.same;
-      reserved = d.nodes ∙ ap (λ w. w.nodes) take;
-    })
+      pub slot-advanced : (v : Wheel) → (let w : Wheel = record { elapsed = elapsed; entries = map timed_of entries; reserved = links.nodes; lines = links.lists } in w ≡ v) →
+          Advanced v (record { elapsed = to; entries = map timed_of entries2; reserved = links2.nodes; lines = links2.lists })
+      slot-advanced v seen = subst (λ u. Advanced u (record { elapsed = to; entries = map timed_of entries2; reserved = links2.nodes; lines = links2.lists })) seen (record {
+        fits = h.fits;
+        later = let a = begin-above in omega (arith, a, le);
+        ticks = λ k. ticks-after k (timed_in entries k) refl;
+        order = λ a b p. precedes-after a b p.line p.behind p.same;
+        reserved = d.nodes ∙ ap (λ w. w.nodes) take;
+      })

@@ -5,15 +5,16 @@ use Rattle.std.proofs.lemmas.List.{map-set, length-map}
 use Rattle.mono_wheel.specs.Start.{start, takes_from, top_level, pending_list, taken_list}
 use Rattle.mono_wheel.specs.Lists.{Lists, IsIn, with_list, list_at}
 use Rattle.mono_wheel.specs.Rings.{Distinct}
-use Rattle.mono_wheel.specs.Model.{Timed, Wheel, Fits, AllFit, Extended, timed_at, moved, timed_after}
+use Rattle.mono_wheel.specs.Model.{Timed, Wheel, Fits, AllFit, Extended, timed_at, timed_after}
 use Rattle.mono_wheel.specs.Credit.{takes, credit_of, credit, most_takes, reset_raise, CreditFollows}
+use Rattle.mono_wheel.specs.Onward.{at_tick}
 use Rattle.mono_wheel.specs.Held.{place_of, timed_of, timed_in, StandsIn, Held, IsNextSlot, Settled}
 use Rattle.mono_wheel.specs.declared.entry.Entry.{Entry}
-use Rattle.mono_wheel.proofs.Keys.{timed-here}
+use Rattle.mono_wheel.proofs.Keys.{none_of, timed-here}
 use Rattle.mono_wheel.proofs.Due.{due-stands, due-below, stands-pending}
 use Rattle.mono_wheel.proofs.Standing.{false-true}
 use Rattle.mono_wheel.proofs.Starts.{start-le, start-same, takes-once, takes-bound, takes-later, eqb-no, ltb_tells}
-use Rattle.mono_wheel.proofs.Advancing.{no-slots, moved-stays, moved-anew, ticks-after, in-slot, not-slot, slot-in, in-place, begin-above}
+use Rattle.mono_wheel.proofs.Advancing.{no-slots, moved-stays, moved-anew, ticks-after, in-slot, slot-in, in-place, begin-above}
 
 -- one key has other ticks
 pub credit-set : (elapsed key : ℕ) (os : List (Option Timed)) (o : Option Timed) → key < length os → credit_of elapsed (set os key o) + takes elapsed (get_or os key None) ≡ credit_of elapsed os + takes elapsed o
@@ -69,10 +70,30 @@ credit-fall e s p [] (y ∷ ps) none h = let a : 0 ≡ takes s y + bit (p None) 
 credit-fall e s p (x ∷ os) [] none h = let a : takes e x ≡ 0 + bit (p x) = h 0 in let r = credit-fall e s p os [] none (λ k. h (suc k)) in omega (arith, a, r)
 credit-fall e s p (x ∷ os) (y ∷ ps) none h = let a : takes e x ≡ takes s y + bit (p x) = h 0 in let r = credit-fall e s p os ps none (λ k. h (suc k)) in omega (arith, a, r)
 
-takes-ahead : (e : ℕ) (timed : Timed) → e < timed.tick → takes e (Some timed) ≡ takes_from (timed.tick - e) top_level e timed.registered timed.tick
+credit-even : (e s : ℕ) (os ps : List (Option Timed)) → ((k : ℕ) → takes e (get_or os k None) ≡ takes s (get_or ps k None)) → credit_of e os ≡ credit_of s ps
+credit-even e s [] [] h = refl
+credit-even e s [] (y ∷ ps) h = let a : 0 ≡ takes s y = h 0 in let r = credit-even e s [] ps (λ k. h (suc k)) in omega (arith, a, r)
+credit-even e s (x ∷ os) [] h = let a : takes e x ≡ 0 = h 0 in let r = credit-even e s os [] (λ k. h (suc k)) in omega (arith, a, r)
+credit-even e s (x ∷ os) (y ∷ ps) h = let a : takes e x ≡ takes s y = h 0 in let r = credit-even e s os ps (λ k. h (suc k)) in omega (arith, a, r)
+
+suc-apart : (k x : ℕ) → k ≢ x → suc k ≢ suc x
+suc-apart k x ne e = ne (omega (arith, e))
+
+-- one key alone makes the difference
+credit-one : (e s x b d : ℕ) (os ps : List (Option Timed)) → ((k : ℕ) → k ≢ x → takes e (get_or os k None) ≡ takes s (get_or ps k None)) → takes e (get_or os x None) + b ≡ takes s (get_or ps x None) + d →
+    credit_of e os + b ≡ credit_of s ps + d
+credit-one e s x b d [] [] h t = t
+credit-one e s zero b d [] (y ∷ ps) h t = let a : 0 + b ≡ takes s y + d = t in let r = credit-even e s [] ps (λ k. h (suc k) (omega arith)) in omega (arith, a, r)
+credit-one e s zero b d (x ∷ os) [] h t = let a : takes e x + b ≡ 0 + d = t in let r = credit-even e s os [] (λ k. h (suc k) (omega arith)) in omega (arith, a, r)
+credit-one e s zero b d (x ∷ os) (y ∷ ps) h t = let a : takes e x + b ≡ takes s y + d = t in let r = credit-even e s os ps (λ k. h (suc k) (omega arith)) in omega (arith, a, r)
+credit-one e s (suc z) b d [] (y ∷ ps) h t = let a : 0 ≡ takes s y = h 0 (omega arith) in let r = credit-one e s z b d [] ps (λ k ne. h (suc k) (suc-apart k z ne)) t in omega (arith, a, r)
+credit-one e s (suc z) b d (x ∷ os) [] h t = let a : takes e x ≡ 0 = h 0 (omega arith) in let r = credit-one e s z b d os [] (λ k ne. h (suc k) (suc-apart k z ne)) t in omega (arith, a, r)
+credit-one e s (suc z) b d (x ∷ os) (y ∷ ps) h t = let a : takes e x ≡ takes s y = h 0 (omega arith) in let r = credit-one e s z b d os ps (λ k ne. h (suc k) (suc-apart k z ne)) t in omega (arith, a, r)
+
+pub takes-ahead : (e : ℕ) (timed : Timed) → e < timed.tick → takes e (Some timed) ≡ takes_from (timed.tick - e) top_level e timed.registered timed.tick
 takes-ahead e timed b = rw (eqb-no timed.tick e (λ f. omega (arith, b, f))) refl
 
-takes-now : (e : ℕ) (timed : Timed) → timed.tick ≡ e → takes e (Some timed) ≡ 0
+pub takes-now : (e : ℕ) (timed : Timed) → timed.tick ≡ e → takes e (Some timed) ≡ 0
 takes-now e timed f = rw (eq-eqb timed.tick e f) refl
 
 -- an entry that is taken, and one that is not
@@ -117,11 +138,14 @@ credit-later elapsed later entries le fits none before =
     zero-more : credit_of later (map timed_of entries) + count (λ o. false) (map timed_of entries) ≡ credit_of later (map timed_of entries)
     zero-more = let r = count-none (λ o. false) (map timed_of entries) (λ k. refl) in omega (arith, r)
 
--- the clock comes to the first start of a slot that has a key, whose list is taken
+-- The clock comes to the first start of a slot that has a key, whose list is taken, or goes on within that slot.
 module _ (elapsed begin list : ℕ) (entries : List Entry) (links taken : Lists) (h : Held elapsed entries links) (slot : IsNextSlot elapsed entries list begin)
     (none : (key : ℕ) (timed : Timed) → timed_in entries key ≡ Some timed → timed.tick ≢ elapsed)
     (take : taken ≡ with_list (with_list links list []) taken_list (list_at links list))
-    (entries2 : List Entry) (links2 : Lists) (h2 : Held begin entries2 links2) (d : Settled entries entries2 taken links2) (distinct : Distinct (list_at links list)) where
+    (to : ℕ) (le : begin ≤ to)
+    (clear : (key : ℕ) (timed : Timed) → timed_in entries key ≡ Some timed → place_of elapsed timed.registered ≢ list → to < start top_level elapsed timed.registered)
+    (waits : (key : ℕ) (timed : Timed) → timed_in entries key ≡ Some timed → IsIn key (list_at links list) → to ≤ timed.tick)
+    (entries2 : List Entry) (links2 : Lists) (h2 : Held to entries2 links2) (d : Settled entries entries2 taken links2) (distinct : Distinct (list_at links list)) where
   placed : (k : ℕ) (o : Option Timed) → timed_in entries k ≡ o → is_placed elapsed list o ≡ true → IsIn k (list_at links list)
   placed k None is t = absurd (false-true t)
   placed k (Some timed) is t = slot-in elapsed begin list entries links taken h slot none take k timed is (elim (eqb_tells (place_of elapsed timed.registered) list) [
@@ -133,42 +157,81 @@ module _ (elapsed begin list : ℕ) (entries : List Entry) (links taken : Lists)
   is-placed k None is i = absurd (subst (λ o. StandsIn elapsed list o) is (h.within k list i))
   is-placed k (Some timed) is i = eq-eqb (place_of elapsed timed.registered) list (in-place elapsed begin list entries links taken h slot none take k list timed is i)
 
-  fall : (k : ℕ) (o : Option Timed) → timed_in entries k ≡ o → takes elapsed o ≡ takes begin (timed_after elapsed begin o) + bit (is_placed elapsed list o)
-  unfolding bit
-  fall k None is = refl
-  fall k (Some timed) is =
+  after : (k : ℕ) → timed_in entries2 k ≡ timed_after elapsed to (timed_in entries k)
+  after k = ticks-after elapsed begin list entries links taken h slot none take to le clear waits entries2 links2 h2 d k (timed_in entries k) refl
+
+  -- a key of the slot is taken from it
+  fall-here : (k : ℕ) (timed : Timed) → timed_in entries k ≡ Some timed → place_of elapsed timed.registered ≡ list → takes elapsed (Some timed) ≡ takes begin (at_tick timed.tick) + 1
+  fall-here k timed is e =
       let t = no-slots elapsed entries none h.fits k timed is in
+      takes-taken elapsed begin timed t.0 t.1 (in-slot elapsed begin list entries links taken h slot none take k timed is e)
+
+  then-here : (k : ℕ) (timed : Timed) → timed_in entries k ≡ Some timed → place_of elapsed timed.registered ≡ list → timed_after elapsed to (Some timed) ≡ at_tick timed.tick
+  then-here k timed is e =
+      let now = in-slot elapsed begin list entries links taken h slot none take k timed is e in
+      ap Some (moved-anew elapsed to timed (omega (arith, now, le)))
+
+  -- a key of another slot stays
+  fall-there : (k : ℕ) (timed : Timed) → timed_in entries k ≡ Some timed → place_of elapsed timed.registered ≢ list → takes elapsed (Some timed) ≡ takes to (timed_after elapsed to (Some timed))
+  fall-there k timed is ne =
+      let t = no-slots elapsed entries none h.fits k timed is in
+      let up = begin-above elapsed begin list entries links taken h slot none take in
+      takes-still elapsed to timed t.0 t.1 (omega (arith, up, le)) (clear k timed is ne)
+      ∙ ap (λ z. takes to (Some z)) (sym (moved-stays elapsed to timed (clear k timed is ne)))
+
+  fall : begin ≡ to → (k : ℕ) (o : Option Timed) → timed_in entries k ≡ o → takes elapsed o ≡ takes to (timed_after elapsed to o) + bit (is_placed elapsed list o)
+  unfolding bit
+  fall here k None is = refl
+  fall here k (Some timed) is =
       elim (eqb_tells (place_of elapsed timed.registered) list) [
         | inl e ↦
-            let now = in-slot elapsed begin list entries links taken h slot none take k timed is e.1 in
-            let f = takes-taken elapsed begin timed t.0 t.1 now in
-            let g : moved elapsed begin timed ≡ record { tick = timed.tick; registered = timed.tick } = moved-anew elapsed begin timed (omega (arith, now)) in
-            f ∙ ap (λ z. takes begin (Some z) + 1) (sym g) ∙ ap (λ b. takes begin (Some (moved elapsed begin timed)) + bit b) (sym e.0)
+            fall-here k timed is e.1 ∙ ap (λ z. takes z (at_tick timed.tick) + 1) here ∙ ap (λ z. takes to z + 1) (sym (then-here k timed is e.1))
+            ∙ ap (λ b. takes to (timed_after elapsed to (Some timed)) + bit b) (sym e.0)
         | inr e ↦
-            let later = not-slot elapsed begin list entries links taken h slot none take k timed is e.1 in
-            let up = begin-above elapsed begin list entries links taken h slot none take in
-            let f = takes-still elapsed begin timed t.0 t.1 (omega (arith, up)) later in
-            let g : moved elapsed begin timed ≡ timed = moved-stays elapsed begin timed later in
-            let z : takes elapsed (Some timed) ≡ takes begin (Some timed) + 0 = omega (arith, f) in
-            z ∙ ap (λ z. takes begin (Some z) + 0) (sym g) ∙ ap (λ b. takes begin (Some (moved elapsed begin timed)) + bit b) (sym e.0)
+            let f = fall-there k timed is e.1 in
+            let z : takes elapsed (Some timed) ≡ takes to (timed_after elapsed to (Some timed)) + 0 = omega (arith, f) in
+            z ∙ ap (λ b. takes to (timed_after elapsed to (Some timed)) + bit b) (sym e.0)
       ]
 
-  pub credit-slot : credit_of elapsed (map timed_of entries) ≡ credit_of begin (map timed_of entries2) + length (list_at links list)
-  credit-slot =
-      credit-fall elapsed begin (is_placed elapsed list) (map timed_of entries) (map timed_of entries2) refl
-      (λ k. fall k (timed_in entries k) refl ∙ ap (λ o. takes begin o + bit (is_placed elapsed list (timed_in entries k))) (sym (ticks-after elapsed begin list entries links taken h slot none take entries2 links2 h2 d k (timed_in entries k) refl)))
-      ∙ ap (λ z. credit_of begin (map timed_of entries2) + z)
+  -- at the slot's start each of its keys is taken once
+  pub credit-slot : begin ≡ to → credit_of elapsed (map timed_of entries) ≡ credit_of to (map timed_of entries2) + length (list_at links list)
+  credit-slot here =
+      credit-fall elapsed to (is_placed elapsed list) (map timed_of entries) (map timed_of entries2) refl
+      (λ k. fall here k (timed_in entries k) refl ∙ ap (λ o. takes to o + bit (is_placed elapsed list (timed_in entries k))) (sym (after k)))
+      ∙ ap (λ z. credit_of to (map timed_of entries2) + z)
       (count-list (is_placed elapsed list) (list_at links list) (map timed_of entries) refl distinct (λ k i. is-placed k (timed_in entries k) refl i) (λ k t. placed k (timed_in entries k) refl t))
 
+  -- a key alone in its slot is taken from it, and as often as it would be on the way to that tick
+  pub credit-alone : (key : ℕ) (timed : Timed) (steps count : ℕ) → list_at links list ≡ key ∷ [] → timed_in entries key ≡ Some timed →
+      count + takes to (at_tick timed.tick) ≡ steps + takes begin (at_tick timed.tick) →
+      credit_of elapsed (map timed_of entries) + steps ≡ credit_of to (map timed_of entries2) + (count + 1)
+  credit-alone key timed steps count alone is counted =
+      credit-one elapsed to key steps (count + 1) (map timed_of entries) (map timed_of entries2)
+      (λ k ne. others k (timed_in entries k) refl ne ∙ ap (takes to) (sym (after k))) here
+    where
+      here : takes elapsed (timed_in entries key) + steps ≡ takes to (timed_in entries2 key) + (count + 1)
+      here =
+          let e : place_of elapsed timed.registered ≡ list = in-place elapsed begin list entries links taken h slot none take key list timed is (subst (λ zs. IsIn key zs) (sym alone) (inl refl)) in
+          let was : takes elapsed (timed_in entries key) ≡ takes begin (at_tick timed.tick) + 1 = ap (takes elapsed) is ∙ fall-here key timed is e in
+          let now : takes to (timed_in entries2 key) ≡ takes to (at_tick timed.tick) = ap (takes to) (after key ∙ ap (timed_after elapsed to) is ∙ then-here key timed is e) in
+          omega (arith, was, now, counted)
+
+      others : (k : ℕ) (o : Option Timed) → timed_in entries k ≡ o → k ≢ key → takes elapsed o ≡ takes to (timed_after elapsed to o)
+      others k None is_k ne = refl
+      others k (Some other) is_k ne = fall-there k other is_k (λ e. elim (subst (λ zs. IsIn k zs) alone (slot-in elapsed begin list entries links taken h slot none take k other is_k e)) [
+        | inl f ↦ ne f
+        | inr i ↦ i
+      ])
+
 -- a pending key is no longer taken from a slot
-pub due-credit : (elapsed : ℕ) (entries : List Entry) (links : Lists) (key : ℕ) (front : List ℕ) (x : Entry) → Held elapsed entries links → list_at links pending_list ≡ front ++ key ∷ [] → x.is_in ≡ false →
+pub due-credit : (elapsed : ℕ) (entries : List Entry) (links : Lists) (key : ℕ) (front : List ℕ) (x : Entry) → Held elapsed entries links → list_at links pending_list ≡ front ++ key ∷ [] → x.tick ≡ 0 →
     credit_of elapsed (map timed_of (set entries key x)) ≡ credit_of elapsed (map timed_of entries)
 due-credit elapsed entries links key front x h is out =
     let stands = due-stands elapsed entries links key front h is in
     let below : key < length (map timed_of entries) = let b = due-below elapsed entries links key front h is in let n = length-map entries timed_of in omega (arith, b, n) in
     let pending = stands-pending elapsed (timed_in entries key) stands (h.fits key) in
     let zero_here : takes elapsed (timed_in entries key) ≡ 0 = ap (takes elapsed) pending.1 ∙ takes-now elapsed pending.0 pending.2 in
-    let gone : timed_of x ≡ None = rw out refl in
+    let gone : timed_of x ≡ None = none_of x out in
     let zero_then : takes elapsed (timed_of x) ≡ 0 = ap (takes elapsed) gone in
     let r = credit-set elapsed key (map timed_of entries) (timed_of x) below in
     ap (credit_of elapsed) (map-set timed_of entries key x) ∙ omega (arith, r, zero_here, zero_then)

@@ -7,7 +7,7 @@ use Rattle.mono_wheel.specs.declared.entry.Entry.{Entry}
 use Rattle.mono_wheel.proofs.Chains.{is_in-front}
 use Rattle.mono_wheel.proofs.Calls.{last-in}
 use Rattle.mono_wheel.proofs.Places.{place-is_pending}
-use Rattle.mono_wheel.proofs.Keys.{timed-here, timed-other, entry-below}
+use Rattle.mono_wheel.proofs.Keys.{none_of, timed-here, timed-other, entry-below}
 use Rattle.mono_wheel.proofs.Order.{behind-upper, behind-last}
 use Rattle.mono_wheel.proofs.Holding.{held-removed, keeps-removed, list-same}
 use Rattle.mono_wheel.specs.Start.{pending_list}
@@ -33,7 +33,7 @@ module _ (elapsed : ℕ) (entries : List Entry) (links : Lists) (key : ℕ) (fro
   low : pending_list < length links.lists
   low = let n = h.lists in omega (arith, n)
 
-  pub due-held : (new : Lists) (x : Entry) → new ≡ with_list links pending_list (without key (list_at links pending_list)) → (IsIn key (list_at new pending_list) → ⊥) → x.is_in ≡ false → Held elapsed (set entries key x) new
+  pub due-held : (new : Lists) (x : Entry) → new ≡ with_list links pending_list (without key (list_at links pending_list)) → (IsIn key (list_at new pending_list) → ⊥) → x.tick ≡ 0 → Held elapsed (set entries key x) new
   due-held new x e gone out = held-removed elapsed entries links new key pending_list x h due-below low due-stands e gone out (λ l s. stands-one elapsed l pending_list (timed_in entries key) s due-stands)
 
   due-first : (new : Lists) (line other : ℕ) → new ≡ with_list links pending_list (front ++ []) → (IsIn key (list_at new pending_list) → ⊥) → StandsBehind (list_at links line) other key → ⊥
@@ -44,10 +44,10 @@ module _ (elapsed : ℕ) (entries : List Entry) (links : Lists) (key : ℕ) (fro
       gone (subst (λ zs. IsIn key zs) (sym (ap (λ w. list_at w pending_list) e ∙ list-same links pending_list (front ++ []) low)) (is_in-front key front [] j))
 
   pub due-taken : (new : Lists) (v : Wheel) (x : Entry) → (let w : Wheel = record { elapsed = elapsed; entries = map timed_of entries; reserved = links.nodes; lines = links.lists } in w ≡ v) →
-      new ≡ with_list links pending_list (without key (list_at links pending_list)) → new ≡ with_list links pending_list (front ++ []) → (IsIn key (list_at new pending_list) → ⊥) → x.is_in ≡ false →
+      new ≡ with_list links pending_list (without key (list_at links pending_list)) → new ≡ with_list links pending_list (front ++ []) → (IsIn key (list_at new pending_list) → ⊥) → x.tick ≡ 0 →
       DueTaken v (record { elapsed = elapsed; entries = map timed_of (set entries key x); reserved = new.nodes; lines = new.lists }) (Some key)
   due-taken new v x seen e parts gone out =
-      let none : timed_of x ≡ None = rw out refl in
+      let none : timed_of x ≡ None = none_of x out in
       subst (λ u. DueTaken u (record { elapsed = elapsed; entries = map timed_of (set entries key x); reserved = new.nodes; lines = new.lists }) (Some key)) seen (
         stands-pending elapsed (timed_in entries key) due-stands (h.fits key),
         (λ other p. due-first new p.line other parts gone p.behind),

@@ -1,9 +1,11 @@
 -- The ticks of keys in a table of entries.
-use Rattle.std.proofs.Common.{arith, ◌≡◌, ◌≢◌, zero, suc, ℕ, ◌<◌, ◌⊎◌, inl, inr, length, Bool, true, false, List, [], ◌∷◌, ◌++◌, map, Some, None, get_or, set, ap, refl, sym, ◌∙◌, get_or-set_same, get_or-set_other}
+use Rattle.std.proofs.Common.{arith, ◌≡◌, ◌≢◌, zero, suc, ℕ, ◌<◌, inl, inr, length, List, [], ◌∷◌, ◌++◌, map, Some, None, get_or, set, ap, refl, sym, ◌∙◌, get_or-set_same, get_or-set_other, eq-eqb}
+use Rattle.std.proofs.lemmas.Bool.Decides.{eqb_tells}
 use Rattle.std.proofs.lemmas.Bool.{cases_lt}
 use Rattle.std.proofs.lemmas.List.{map-set, length-map, get_or_past, get_or-map}
 use Rattle.mono_wheel.specs.Held.{timed_of, timed_in}
 use Rattle.mono_wheel.specs.declared.entry.Entry.{Entry}
+use Rattle.mono_wheel.proofs.Starts.{eqb-no}
 
 pub timed-here : (entries : List Entry) (key : ℕ) (x : Entry) → key < length entries → timed_in (set entries key x) key ≡ timed_of x
 timed-here entries key x b = ap (λ ts. get_or ts key None) (map-set timed_of entries key x) ∙ get_or-set_same (map timed_of entries) key (timed_of x) None (let h = length-map entries timed_of in omega (arith, h, b))
@@ -11,21 +13,20 @@ timed-here entries key x b = ap (λ ts. get_or ts key None) (map-set timed_of en
 pub timed-other : (entries : List Entry) (key other : ℕ) (x : Entry) → other ≢ key → timed_in (set entries key x) other ≡ timed_in entries other
 timed-other entries key other x ne = ap (λ ts. get_or ts other None) (map-set timed_of entries key x) ∙ get_or-set_other (map timed_of entries) key other (timed_of x) None ne
 
-is_in_cases : (b : Bool) → (b ≡ true) ⊎ (b ≡ false)
-is_in_cases true = inl refl
-is_in_cases false = inr refl
-
 pub get_or-map-at : (entries : List Entry) (key : ℕ) (x : Entry) → key < length entries → timed_in entries key ≡ timed_of (get_or entries key x)
 get_or-map-at entries key x below = get_or-map timed_of entries key x None below
 
 pub is_in-some : (x : Entry) → (timed_of x ≡ None → ⊥) → timed_of x ≡ Some record { tick = x.tick; registered = x.registered }
-is_in-some x h = elim (is_in_cases x.is_in) [ inl t ↦ rw t refl | inr f ↦ absurd (h (rw f refl)) ]
+is_in-some x h = elim (eqb_tells x.tick 0) [ inl t ↦ absurd (h (rw t.0 refl)) | inr f ↦ rw f.0 refl ]
 
-none_of : (x : Entry) → x.is_in ≡ false → timed_of x ≡ None
-none_of x f = rw f refl
+pub none_of : (x : Entry) → x.tick ≡ 0 → timed_of x ≡ None
+none_of x e = rw (eq-eqb x.tick 0 e) refl
 
-pub entry-inside : (entries : List Entry) (key : ℕ) (x : Entry) → key < length entries → x ≡ get_or entries key x → (timed_in entries key ≡ None → ⊥) → x.is_in ≡ true
-entry-inside entries key x below e some = elim (is_in_cases x.is_in) [ inl t ↦ t | inr f ↦ absurd (some (get_or-map-at entries key x below ∙ ap timed_of (sym e) ∙ none_of x f)) ]
+pub some_of : (x : Entry) → x.tick ≢ 0 → timed_of x ≡ Some record { tick = x.tick; registered = x.registered }
+some_of x ne = rw (eqb-no x.tick 0 ne) refl
+
+pub entry-inside : (entries : List Entry) (key : ℕ) (x : Entry) → key < length entries → x ≡ get_or entries key x → (timed_in entries key ≡ None → ⊥) → x.tick ≢ 0
+entry-inside entries key x below e some z = some (get_or-map-at entries key x below ∙ ap timed_of (sym e) ∙ none_of x z)
 
 -- a key that is in has an entry, and stands where its ticks say
 pub entry-in : (entries : List Entry) (key : ℕ) (x : Entry) → key < length entries → x ≡ get_or entries key x → (timed_in entries key ≡ None → ⊥) →
@@ -45,3 +46,9 @@ timed-pushed [] x zero e = e
 timed-pushed [] x (suc k) e = refl
 timed-pushed (y ∷ ys) x zero e = refl
 timed-pushed (y ∷ ys) x (suc k) e = timed-pushed ys x k e
+
+-- an entry that is written back as it was
+pub set-back : (entries : List Entry) (key : ℕ) (x : Entry) → key < length entries → x ≡ get_or entries key x → set entries key x ≡ entries
+set-back [] key x b e = absurd (omega (arith, b))
+set-back (y ∷ ys) zero x b e = ap (λ z. z ∷ ys) e
+set-back (y ∷ ys) (suc k) x b e = ap (λ zs. y ∷ zs) (set-back ys k x (omega (arith, b)) e)

@@ -1,5 +1,5 @@
 -- The list in which a key stands is one of the wheel's.
-use Rattle.std.proofs.Common.{arith, ◌≡◌, ◌≢◌, zero, suc, ℕ, ◌<◌, ◌≤◌, inl, inr, refl}
+use Rattle.std.proofs.Common.{arith, ◌≡◌, ◌≢◌, zero, suc, ℕ, ◌+◌, ◌*◌, ◌/◌, ◌<◌, ◌≤◌, inl, inr, refl}
 use Rattle.std.proofs.lemmas.Bool.Decides.{eqb_tells}
 use Rattle.std.proofs.Math.Nat.{mod-lt}
 use Rattle.mono_wheel.specs.Start.{above, far_digit, slot_of, top_level, slot_count, pending_list, taken_list}
@@ -39,3 +39,10 @@ place-is_pending elapsed registered e = elim (eqb_tells registered elapsed) [
   | inl h ↦ h.1
   | inr h ↦ let b : place_of elapsed registered < slot_count = place_of-below elapsed registered in let f : place_in elapsed registered ≡ place_of elapsed registered = place-ahead elapsed registered h.1 in absurd (omega (arith, b, e, f))
 ]
+
+place-digits : (k s : ℕ) → s < 64 → (k * 64 + s) / 64 ≡ k
+place-digits k s b = omega (arith, b)
+
+-- the level of a slot, by the number of its list
+pub place-level : (elapsed tick : ℕ) → place_of elapsed tick / 64 ≡ far_digit top_level elapsed tick
+place-level elapsed tick = place-digits (far_digit top_level elapsed tick) (slot_of (far_digit top_level elapsed tick) tick) (mod-lt (above (far_digit top_level elapsed tick) tick) (omega arith))

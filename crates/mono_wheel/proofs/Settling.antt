@@ -8,7 +8,7 @@ use Rattle.mono_wheel.specs.declared.entry.Entry.{Entry}
 use Rattle.mono_wheel.proofs.Chains.{is_in-front}
 use Rattle.mono_wheel.proofs.Calls.{last-in}
 use Rattle.mono_wheel.proofs.Places.{place_in-below}
-use Rattle.mono_wheel.proofs.Keys.{timed-here, timed-other, entry-in, entry-inside, entry-below}
+use Rattle.mono_wheel.proofs.Keys.{some_of, timed-here, timed-other, entry-in, entry-inside, entry-below}
 use Rattle.mono_wheel.proofs.Order.{behind-last}
 use Rattle.mono_wheel.proofs.Holding.{list-same, list-other}
 use Rattle.mono_wheel.specs.Start.{taken_list, list_count}
@@ -19,7 +19,7 @@ in-last [] key a (inr e) = absurd e
 in-last (y ∷ ys) key a (inl e) = inl (inl e)
 in-last (y ∷ ys) key a (inr i) = elim (in-last ys key a i) [ inl j ↦ inl (inr j) | inr e ↦ inr e ]
 
-some-not : (o : Option Timed) (t : Timed) → o ≡ Some t → o ≡ None → ⊥
+pub some-not : (o : Option Timed) (t : Timed) → o ≡ Some t → o ≡ None → ⊥
 some-not o t e f = let g : Some t ≡ None = sym e ∙ f in cc
 
 fits-anew : (elapsed tick : ℕ) → elapsed ≤ tick → Fits elapsed (Some record { tick = tick; registered = tick })
@@ -85,8 +85,8 @@ module _ (elapsed : ℕ) (first entries entries2 : List Entry) (start links popp
 
     here : timed_in entries2 key ≡ Some record { tick = r.entry.tick; registered = r.entry.tick }
     here =
-        let inside : r.entry.is_in ≡ true = entry-inside entries key r.entry step-below r.was some in
-        ap (λ es. timed_in es key) r.entries_are ∙ timed-here entries key (entry_anew r.entry) step-below ∙ rw inside refl
+        let inside : r.entry.tick ≢ 0 = entry-inside entries key r.entry step-below r.was some in
+        ap (λ es. timed_in es key) r.entries_are ∙ timed-here entries key (entry_anew r.entry) step-below ∙ some_of (entry_anew r.entry) inside
 
     other : (k : ℕ) → k ≢ key → timed_in entries2 k ≡ timed_in entries k
     other k ne = ap (λ es. timed_in es k) r.entries_are ∙ timed-other entries key k (entry_anew r.entry) ne

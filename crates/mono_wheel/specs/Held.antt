@@ -23,8 +23,9 @@ IsFirstOccupied elapsed links None = (rank : ℕ) → rank < slot_count → list
 IsFirstOccupied elapsed links (Some list) =
     (rank : ℕ) × (rank < slot_count) × (list ≡ ranked elapsed rank) × (list_at links list ≢ []) × ((before : ℕ) → before < rank → list_at links (ranked elapsed before) ≡ [])
 
+-- a key that is in has a true tick above 0
 abbrev pub timed_of : Entry → Option Timed
-timed_of entry = if entry.is_in then Some record { tick = entry.tick; registered = entry.registered } else None
+timed_of entry = if entry.tick == 0 then None else Some record { tick = entry.tick; registered = entry.registered }
 
 abbrev pub timed_in : List Entry → ℕ → Option Timed
 timed_in entries key = slice_index_or (map timed_of entries) key None
@@ -91,7 +92,7 @@ pub record Settled (entries entries2 : List Entry) (links links2 : Lists) : Type
   pub nodes : links2.nodes ≡ links.nodes
 
 abbrev pub entry_anew : Entry → Entry
-entry_anew entry = record { tick = entry.tick; registered = entry.tick; is_in = entry.is_in }
+entry_anew entry = record { tick = entry.tick; registered = entry.tick }
 
 -- one key is registered at its true tick, and stands first where it belongs
 pub record Registered (elapsed : ℕ) (entries entries2 : List Entry) (links links2 : Lists) (key : ℕ) : Type 0 where

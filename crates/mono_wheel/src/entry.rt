@@ -6,12 +6,17 @@ use std::alloc::AllocError;
 
 #[derive(Clone, Copy)]
 pub struct Entry {
-    // The true tick.
+    // The true tick, or 0 where the key is not in.
     pub tick: u64,
     // The tick that gives the slot.
     pub registered: u64,
-    pub is_in: bool,
 }
+
+/// The entry of a key that is not in.
+pub const OUT: Entry = Entry {
+    tick: 0,
+    registered: 0,
+};
 
 /// Whether a key is in.
 pub fn is_in(entries: &Vec<Entry>, key: usize) -> bool
@@ -20,7 +25,7 @@ pub fn is_in(entries: &Vec<Entry>, key: usize) -> bool
     if key >= entries.len() {
         return false;
     }
-    entries[key].is_in
+    entries[key].tick != 0
 }
 
 /// Makes an entry for a key, which is not in where it is new.
@@ -30,11 +35,7 @@ pub fn make_room(entries: &mut Vec<Entry>, key: usize) -> Result<(), AllocError>
     ensures kept { (other : ℕ) → timed_in entries.new.items other ≡ timed_in entries.old.items other }
 {
     while entries.len() <= key {
-        entries.push(Entry {
-            tick: 0,
-            registered: 0,
-            is_in: false,
-        })?;
+        entries.push(OUT)?;
     }
     Ok(())
 }

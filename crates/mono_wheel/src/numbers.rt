@@ -48,8 +48,8 @@ fn turn_above(now: u64, goal: u64) -> u64
     if now < near { near } else { near + 64 }
 }
 
-// How many ticks a slot of a level covers.
-fn slot_size(level: usize) -> u64
+/// How many ticks a slot of a level covers.
+pub fn slot_size(level: usize) -> u64
     requires { level < level_count }
     ensures value { result ≡ 64 ^ level }
     ensures some { 0 < result }

@@ -116,6 +116,13 @@ impl SlotLinks {
         }
     }
 
+    /// The node of the taken list where it has one alone, or None where it has none or several.
+    pub fn only_taken(&self) -> Option<usize>
+        ensures { IfSome result (λ node. list_at self.now taken_list ≡ node ∷ []) }
+    {
+        self.links.only(TAKEN)
+    }
+
     /// Takes the last node of the taken list out, as one step, or answers None exactly where that
     /// list is empty, as no step.
     pub fn pop_taken<L: Ledger>(&mut self, steps: &mut Steps<L>) -> Option<usize>

@@ -22,6 +22,3 @@ pub fn checked_replay(
     let verdict = check(alloc, limits, blocking, events, &reports)?;
     Ok(verdict)
 }
-
-#[cfg(test)]
-mod tests;

@@ -1,6 +1,6 @@
 use Rattle.std.proofs.Common.{Ok, Err}
 use Rattle.mono_time.specs.Instants.{nanos_of}
-use Rattle.mono_nest.proofs.Making.{begins-made, others-made, greatest-made}
+use Rattle.mono_nest.proofs.Making.{begins-made, others-made, greatest-made, only-made, none-made}
 use Rattle.mono_nest.proofs.begun.limited.Goals as goal
 
 pub returns-in-Ok-clause-waits : goal.returns-in-Ok-clause-waits
@@ -19,3 +19,9 @@ returns-in-Err-clause-others g c = others-made (g.C.TimeContext.sleeps c.args.cx
 
 pub returns-in-Err-clause-greatest : goal.returns-in-Err-clause-greatest
 returns-in-Err-clause-greatest g c = greatest-made (g.C.TimeContext.sleeps c.args.cx.now) (g.C.TimeContext.sleeps c.timeout_at.new.cx) (nanos_of c.args.deadline) (Err c.in-Err.refused.cause) c.in-Err.ensures.made
+
+pub returns-in-Ok-clause-only : goal.returns-in-Ok-clause-only
+returns-in-Ok-clause-only g c = only-made (g.C.TimeContext.sleeps c.args.cx.now) (g.C.TimeContext.sleeps c.timeout_at.new.cx) (nanos_of c.args.deadline) c.in-Ok.limited.delay c.in-Ok.ensures.made
+
+pub returns-in-Err-clause-none : goal.returns-in-Err-clause-none
+returns-in-Err-clause-none g c = none-made (g.C.TimeContext.sleeps c.args.cx.now) (g.C.TimeContext.sleeps c.timeout_at.new.cx) (nanos_of c.args.deadline) c.in-Err.refused.cause c.in-Err.ensures.made

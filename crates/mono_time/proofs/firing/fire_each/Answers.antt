@@ -1,9 +1,16 @@
 use Rattle.std.proofs.Common.{arith, ap, sym, subst, ◌∙◌}
 use Rattle.mono_time.specs.Instants.{nanos_of}
-use Rattle.mono_time.proofs.Expiring.{one-more, all-fired}
+use Rattle.mono_time.proofs.Expiring.{so-far, one-more, all-fired}
 use Rattle.mono_time.specs.Sleeps.{IsNoneArmedUpTo}
-use Rattle.mono_time.proofs.Passing.{Passed, passed-some, passed-none, all-passed}
+use Rattle.mono_time.proofs.Passing.{Passed, none-passed, passed-some, passed-none, all-passed}
 use Rattle.mono_time.proofs.firing.fire_each.Goals as goal
+
+pub loop-one-init : goal.loop-one-init
+loop-one-init g c = (
+  so-far c.args.timers.now (nanos_of c.args.now) c.args.fired.now.items,
+  c.requires.room,
+  none-passed c.args.timers.now,
+)
 
 pub loop-one-preserved : goal.loop-one-preserved
 loop-one-preserved g c = (

@@ -1,4 +1,6 @@
-use Rattle.std.proofs.Common.{rules, ◌≡◌, ◌<◌, subst, sym, length, arith}
+use Rattle.mono_actor.specs.Stored.{places_of}
+use Rattle.mono_actor.specs.declared.places.Mode.TheVariants as place
+use Rattle.std.proofs.Common.{rules, ◌≡◌, ◌<◌, None, [], refl, ap, ◌∙◌, subst, length, arith}
 use Rattle.std.specs.VecDeque.{deque_capacity}
 use Rattle.mono_actor.specs.Alarms.{Added}
 use Rattle.mono_actor.proofs.Counting.{queue-live}
@@ -9,22 +11,22 @@ pub overflow_sub-self : goal.overflow_sub-self
 overflow_sub-self g c =
     let t = c.args.self.now in
     let len : c.len.result ≡ length t.queue.items = search rules in
-    omega (arith, len, queue-live t.places.items t.queue.items t.live t.letters t.holds.counts)
+    omega (arith, len, queue-live (places_of t.places) t.queue.items t.live t.letters t.holds.counts)
 
 pub invariant_of-self-in-Ok : goal.invariant_of-self-in-Ok
 invariant_of-self-in-Ok g c =
     let t = c.args.self.now in
-    let number : c.len-2.result ≡ length t.places.items = search rules in
+    let number : c.len-2.result ≡ length (places_of t.places) = c.len-2.ensures.number ∙ ap length c.reserve-2.ensures.kept in
     let len : c.len.result ≡ length t.queue.items = search rules in
-    let fits : t.live < deque_capacity c.reserve.new.self = omega (arith, c.in_ok-reserve.ensures.ok, c.reserve.ensures.len, queue-live t.places.items t.queue.items t.live t.letters t.holds.counts, len, c.len.ensures) in
-    let added : Added t.alarms c.add.new.self (length t.places.items) c.new_place.result.alarm = subst (λ n. Added t.alarms c.add.new.self n c.new_place.result.alarm) number (subst (λ k. Added t.alarms c.add.new.self c.len-2.result k) (sym c.new_place.ensures.alarm) c.in-Ok.ensures.added) in
+    let fits : t.live < deque_capacity c.reserve.new.self = omega (arith, c.in_ok-reserve.ensures.ok, c.reserve.ensures.len, queue-live (places_of t.places) t.queue.items t.live t.letters t.holds.counts, len, c.len.ensures) in
+    let added : Added t.alarms c.add.new.self (length (places_of t.places)) c.in-Ok.alarm = subst (λ n. Added t.alarms c.add.new.self n c.in-Ok.alarm) number c.in-Ok.ensures.added in
     record {
-      holds = rw (c.push_reserved.ensures.items, c.reserve-2.ensures.items, c.reserve.ensures.items) (entered-holds t.places.items t.alarms t.queue.items t.turn t.greatest t.live t.letters _ t.holds t.most_actors t.most_messages c.new_place.result c.new_place.ensures.actor c.add.new.self _ added fits);
+      holds = rw (c.push_reserved.ensures, c.reserve-2.ensures.kept, c.reserve.ensures.items) (entered-holds (places_of t.places) t.alarms t.queue.items t.turn t.greatest t.live t.letters _ t.holds t.most_actors t.most_messages (record { mode = place.Idle None; mailbox = []; timeout = 0; alarm = c.in-Ok.alarm }) refl c.add.new.self _ added fits);
     }
 
 pub invariant_of-self-in-Err-1 : goal.invariant_of-self-in-Err-1
 invariant_of-self-in-Err-1 g c =
     let t = c.args.self.now in
     record {
-      holds = rw (c.reserve-2.ensures.items, c.reserve.ensures.items) (stays-hold t.places.items t.alarms t.queue.items t.turn t.greatest t.live t.letters _ t.holds t.most_actors t.most_messages c.add.new.self _ c.in-Err.ensures.refused c.reserve.ensures.capacity);
+      holds = rw (c.reserve-2.ensures.kept, c.reserve.ensures.items) (stays-hold (places_of t.places) t.alarms t.queue.items t.turn t.greatest t.live t.letters _ t.holds t.most_actors t.most_messages c.add.new.self _ c.in-Err.ensures.refused c.reserve.ensures.capacity);
     }

@@ -6,7 +6,7 @@ use Rattle.mono_time.specs.Instants.{nanos_of}
 use Rattle.mono_time.specs.Timers.{sleeps_of, elapsed_tick, credit_left}
 use Rattle.mono_wheel.specs.Credit.{most_takes}
 use Rattle.mono_session.specs.Keeper.{open_answer, opened}
-use Rattle.mono_session.specs.Memory.{OrLacksMemory}
+use Rattle.mono_model.specs.Memory.{OrLacksMemory}
 use Rattle.mono_session.specs.Stands.{StandsFor}
 use Rattle.mono_session.specs.declared.keeper.Sessions.{Sessions}
 use Rattle.mono_session.specs.declared.error.SessionError.TheVariants.{Memory, AtCapacity, Invalid, ZeroLimit}

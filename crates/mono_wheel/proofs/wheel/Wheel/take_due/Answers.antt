@@ -27,5 +27,5 @@ returns-clause-due c =
 
 pub returns-clause-credit : goal.returns-clause-credit
 returns-clause-credit c =
-    subst (λ w. credit_of c.self.inside.elapsed (map timed_of (set c.self.inside.entries.items c.in_ok-key.key record { tick = 0; registered = 0; is_in = false })) ≡ credit_of w.elapsed w.entries) c.self.view_is
-    (due-credit c.self.inside.elapsed c.self.inside.entries.items c.self.inside.links c.in_ok-key.key c.in_ok-key.ensures.0 record { tick = 0; registered = 0; is_in = false } c.self.invariant c.in_ok-key.ensures.1 refl)
+    subst (λ w. credit_of c.self.inside.elapsed (map timed_of (set c.self.inside.entries.items c.in_ok-key.key record { tick = 0; registered = 0 })) ≡ credit_of w.elapsed w.entries) c.self.view_is
+    (due-credit c.self.inside.elapsed c.self.inside.entries.items c.self.inside.links c.in_ok-key.key c.in_ok-key.ensures.0 record { tick = 0; registered = 0 } c.self.invariant c.in_ok-key.ensures.1 refl)

@@ -1,0 +1,13 @@
+//! Tests of scripts and their runs, of events as text, and of what is said of wrong lines and words, over their public calls.
+#![tactic(auto)]
+
+#[cfg(test)]
+mod complaints;
+#[cfg(test)]
+mod event_texts;
+#[cfg(test)]
+mod readers;
+#[cfg(test)]
+mod reasons;
+#[cfg(test)]
+mod runs;

@@ -1,0 +1,185 @@
+use mono_joinword::{JoinError, Outcome, Poll, Wakes, pair};
+use std::alloc::{AllocError, Global};
+use std::process::Abort;
+use std::sync::Arc;
+use std::sync::atomic::{AtomicU64, Ordering};
+use std::test::Fail;
+use std::thread::{self, Threads};
+
+#[derive(Drop)]
+struct Named(u64);
+
+impl Wakes for Named {
+    ghost waker_number = { λ w. w.0 };
+
+    fn number(&self) -> u64 {
+        self.0
+    }
+}
+
+#[test]
+fn the_waker_comes_back_and_then_the_output(rt: HostRuntime) -> Result<(), Fail> {
+    let (runner, mut joiner) = pair::<u64, Named>(rt.alloc(), 4)?;
+    assert!(rt; joiner.poll(Named(7)).is_pending());
+    let done = runner.complete(Ok(4));
+    assert!(rt; !done.dropped);
+    assert!(rt; done.woke.expect(&rt, "a waker").number() == 7);
+    assert!(rt; !joiner.is_taken());
+    assert!(rt; joiner.poll(Named(7)) == Poll::Ready(Ok(4)));
+    assert!(rt; joiner.is_taken());
+    assert!(rt; joiner.cancel().is_none());
+    Ok(())
+}
+
+#[test]
+fn a_cancelled_word_drops_the_output(rt: HostRuntime) -> Result<(), Fail> {
+    let (runner, joiner) = pair::<u64, Named>(rt.alloc(), 4)?;
+    assert!(rt; joiner.cancel().is_none());
+    let done = runner.complete(Ok(4));
+    assert!(rt; done.dropped && done.woke.is_none());
+    Ok(())
+}
+
+#[test]
+fn a_canceled_job_is_told(rt: HostRuntime) -> Result<(), Fail> {
+    let (runner, mut joiner) = pair::<u64, Named>(rt.alloc(), 4)?;
+    assert!(rt; !joiner.is_finished());
+    let done = runner.complete(Err(JoinError::Canceled));
+    assert!(rt; !done.dropped && done.woke.is_none());
+    assert!(rt; joiner.is_finished());
+    assert!(rt; joiner.cancel() == Some(Err(JoinError::Canceled)));
+    Ok(())
+}
+
+#[test]
+fn a_runner_that_is_let_go_cancels(rt: HostRuntime) -> Result<(), Fail> {
+    let (runner, mut joiner) = pair::<(), Named>(rt.alloc(), 0)?;
+    assert!(rt; joiner.poll(Named(7)).is_pending());
+    drop(runner);
+    assert!(rt; joiner.poll(Named(7)) == Poll::Ready(Err(JoinError::Canceled)));
+    Ok(())
+}
+
+#[test]
+fn the_latest_waker_alone_comes_back(rt: HostRuntime) -> Result<(), Fail> {
+    let (runner, mut joiner) = pair::<bool, Named>(rt.alloc(), 1)?;
+    for number in [7, 7, 8] {
+        if !joiner.is_taken() {
+            assert!(rt; joiner.poll(Named(number)).is_pending());
+        }
+    }
+    let done = runner.complete(Ok(true));
+    assert!(rt; done.woke.expect(&rt, "a waker").number() == 8);
+    let ended = joiner.cancel_with_seat();
+    assert!(rt; ended.output == Some(Ok(true)));
+    Ok(())
+}
+
+// An output that counts how often one is let go.
+struct Counted {
+    number: u64,
+    drops: Arc<AtomicU64, Global>,
+}
+
+impl Outcome for Counted {
+    ghost output_number = { λ c. c.number };
+
+    fn number(&self) -> u64 {
+        self.number
+    }
+}
+
+impl Drop for Counted {
+    fn drop(self) {
+        let Self { number: _, drops } = self;
+        drops.fetch_add(1, Ordering::SeqCst);
+    }
+}
+
+// The joiner polls with the waker 8 while another thread completes. Where it waits, the waker 7 is in place before.
+fn poll_in_time<R: Threads + Abort>(
+    rt: &R,
+    alloc: Global,
+    waits: bool,
+    spins: u64,
+    drops: &Arc<AtomicU64, Global>,
+) -> Result<(), AllocError> {
+    let (runner, mut joiner) = pair::<Counted, Named>(alloc, 4)?;
+    let output = Counted {
+        number: 4,
+        drops: Arc::try_clone(drops)?,
+    };
+    if waits {
+        assert!(rt; joiner.poll(Named(7)).is_pending());
+    }
+    let child = thread::spawn(rt, move || runner.complete(Ok(output)))
+        .ok()
+        .expect(rt, "a thread");
+    for _ in 0..spins {
+        joiner.is_finished();
+    }
+    assert!(rt; !joiner.is_taken());
+    let answer = joiner.poll(Named(8));
+    let done = child.join(rt);
+    assert!(rt; !done.dropped);
+    let woke = done.woke.map_or(0, |waker| waker.0);
+    match answer {
+        Poll::Ready(output) => {
+            assert!(rt; output.is_ok_and(|output| output.number() == 4));
+            assert!(rt; woke == 0 || waits && woke == 7);
+        }
+        Poll::Pending => {
+            assert!(rt; woke == 8);
+            let Poll::Ready(Ok(output)) = joiner.poll(Named(9)) else {
+                return Err(AllocError);
+            };
+            assert!(rt; output.number() == 4);
+        }
+    }
+    assert!(rt; joiner.is_taken());
+    assert!(rt; joiner.cancel().is_none());
+    Ok(())
+}
+
+// The joiner cancels while another thread completes.
+fn cancel_in_time<R: Threads + Abort>(
+    rt: &R,
+    alloc: Global,
+    waits: bool,
+    spins: u64,
+    drops: &Arc<AtomicU64, Global>,
+) -> Result<(), AllocError> {
+    let (runner, mut joiner) = pair::<Counted, Named>(alloc, 4)?;
+    let output = Counted {
+        number: 4,
+        drops: Arc::try_clone(drops)?,
+    };
+    if waits {
+        assert!(rt; joiner.poll(Named(7)).is_pending());
+    }
+    let child = thread::spawn(rt, move || runner.complete(Ok(output)))
+        .ok()
+        .expect(rt, "a thread");
+    for _ in 0..spins {
+        joiner.is_finished();
+    }
+    let handed = joiner.cancel().is_some();
+    let done = child.join(rt);
+    assert!(rt; done.dropped != handed);
+    let woke = done.woke.map_or(0, |waker| waker.0);
+    assert!(rt; woke == if handed && waits { 7 } else { 0 });
+    Ok(())
+}
+
+#[test]
+fn each_output_is_handed_out_or_dropped_once(rt: HostRuntime) -> Result<(), Fail> {
+    let drops = Arc::new(rt.alloc(), AtomicU64::new(0))?;
+    for round in 0..200 {
+        for waits in [false, true] {
+            poll_in_time(&rt, rt.alloc(), waits, round * 16, &drops)?;
+            cancel_in_time(&rt, rt.alloc(), waits, round * 16, &drops)?;
+        }
+    }
+    assert_eq!(rt; drops.load(Ordering::SeqCst), 800);
+    Ok(())
+}

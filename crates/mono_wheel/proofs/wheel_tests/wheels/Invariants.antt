@@ -1,4 +1,0 @@
-use Rattle.mono_wheel.proofs.wheel_tests.wheels.Given as goal
-
-abbrev pub ghosts-wheel_calls : goal.ghosts-wheel_calls
-ghosts-wheel_calls g a = record { name = a.blank.name; parts = a.blank.parts }
