@@ -63,6 +63,7 @@ impl Exec {
     ///
     /// The spare list is used for the replies of a turn, so that the list of an earlier report can serve again. Nothing
     /// else is done with it.
+    #[inline(always)]
     pub fn apply_reusing(
         &mut self,
         alloc: Global,

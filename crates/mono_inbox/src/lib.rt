@@ -4,7 +4,10 @@
 mod inbox;
 mod listing;
 mod log;
+mod marks;
+mod pages;
 mod parker;
+mod parts;
 mod recorded;
 mod recorded_inbox;
 mod registry;

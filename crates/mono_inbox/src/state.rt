@@ -15,8 +15,8 @@ use std::marker::Model;
 ///
 /// A recorded one also keeps its calls with their replies, in order, until it is full.
 ///
-/// The memory is a byte for each number up to the greatest that was made known, and eight bytes for each task that is
-/// known or waits.
+/// The memory is eight bytes for each task that is known or waits, and a byte for each of the 4,096 numbers about it; of
+/// a task that is gone nothing stays, but for 40 bytes for every 1,048,576 numbers.
 #[derive(Drop)]
 pub struct InboxState {
     listing: Listing,

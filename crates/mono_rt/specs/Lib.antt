@@ -12,3 +12,4 @@ pub mod Rounds
 pub mod Texts
 pub mod Spawns
 pub mod JobActs
+pub mod CallActs

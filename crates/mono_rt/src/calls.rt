@@ -11,6 +11,7 @@ ghost use Rattle.mono_time.specs.Timers.{sleeps_of};
 ghost use Rattle.mono_model.specs.declared.error.SleepError.TheVariants.{Memory};
 ghost use Rattle.mono_machine.specs.JoinCalls as replies;
 ghost use Rattle.mono_rt.specs.Numbered.{join_numbered, drop_numbered};
+ghost use Rattle.mono_rt.specs.CallActs.{noted_wake, noted_join, noted_drop, noted_task, lacks_task, noted_sleep, lacks_sleep, noted_poll, noted_gone, noted_reset};
 ghost use Rattle.mono_rt.specs.Reached.{Leads};
 ghost use Rattle.mono_rt.specs.Stands.{Hosting};
 
@@ -52,6 +53,7 @@ impl<O: Outcome + Drop, B: Drop> Parts<O, B> {
         ensures answer { result ≡ wake_answer self.old.tasks.tasks task }
         ensures tasks { self.new.tasks ≡ schedule.with_tasks self.old.tasks (woken self.old.tasks.tasks task) }
         ensures timers { self.new.timers ≡ self.old.timers }
+        ensures kept { self.new ≡ record self.old { tasks = self.new.tasks; acts = noted_wake self.old.acts task result } }
         ensures leads { (hosting : B → Hosting) → Leads O.output_number hosting self.old self.new }
     {
         let answer = self.tasks.wake(task);
@@ -65,6 +67,7 @@ impl<O: Outcome + Drop, B: Drop> Parts<O, B> {
         ensures answer { result ≡ join_answer self.old.tasks.tasks task }
         ensures tasks { self.new.tasks ≡ schedule.with_tasks self.old.tasks (joined self.old.tasks.tasks task self.old.me) }
         ensures timers { self.new.timers ≡ self.old.timers }
+        ensures kept { self.new ≡ record self.old { tasks = self.new.tasks; acts = noted_join O.output_number self.old.acts task result } }
         ensures leads { (hosting : B → Hosting) → Leads O.output_number hosting self.old self.new }
     {
         let answer = self.tasks.poll_join(task, self.me);
@@ -78,6 +81,7 @@ impl<O: Outcome + Drop, B: Drop> Parts<O, B> {
         ensures answer { result ≡ drop_answer self.old.tasks.tasks task }
         ensures tasks { self.new.tasks ≡ schedule.with_tasks self.old.tasks (join_dropped self.old.tasks.tasks task) }
         ensures timers { self.new.timers ≡ self.old.timers }
+        ensures kept { self.new ≡ record self.old { tasks = self.new.tasks; acts = noted_drop O.output_number self.old.acts task result } }
         ensures leads { (hosting : B → Hosting) → Leads O.output_number hosting self.old self.new }
     {
         let answer = self.tasks.drop_join(task);
@@ -92,6 +96,7 @@ impl<O: Outcome + Drop, B: Drop> Parts<O, B> {
         ensures after { OnOk result (self.new.tasks ≡ schedule.with_tasks self.old.tasks (spawned self.old.tasks.tasks)) }
         ensures refused { OnErr result (self.new.tasks ≡ self.old.tasks) }
         ensures timers { self.new.timers ≡ self.old.timers }
+        ensures kept { self.new ≡ record self.old { tasks = self.new.tasks; acts = noted_task self.old.acts result; is_out_of_memory = lacks_task self.old.is_out_of_memory result } }
         ensures leads { (hosting : B → Hosting) → Leads O.output_number hosting self.old self.new }
     {
         match self.tasks.spawn(alloc) {
@@ -118,6 +123,7 @@ impl<O: Outcome + Drop, B: Drop> Parts<O, B> {
         ensures added { Added (sleeps_of self.old.timers) (nanos_of deadline) result (sleeps_of self.new.timers) }
         ensures memory { result ≡ Err Memory → self.new.is_out_of_memory ≡ true }
         ensures tasks { self.new.tasks ≡ self.old.tasks }
+        ensures kept { self.new ≡ record self.old { timers = self.new.timers; acts = noted_sleep self.old.acts (nanos_of deadline) result; is_out_of_memory = lacks_sleep self.old.is_out_of_memory result } }
         ensures leads { (hosting : B → Hosting) → Leads O.output_number hosting self.old self.new }
     {
         let step = TurnStep::Act(Act::NewSleep(deadline.as_nanos()));
@@ -144,6 +150,7 @@ impl<O: Outcome + Drop, B: Drop> Parts<O, B> {
         ensures answer { result ≡ sleep_poll_answer (sleeps_of self.old.timers) sleep }
         ensures sleeps { sleeps_of self.new.timers ≡ with_polled_sleep (sleeps_of self.old.timers) sleep self.old.me }
         ensures tasks { self.new.tasks ≡ self.old.tasks }
+        ensures kept { self.new ≡ record self.old { timers = self.new.timers; acts = noted_poll self.old.acts sleep result } }
         ensures leads { (hosting : B → Hosting) → Leads O.output_number hosting self.old self.new }
     {
         self.timers.registers_armed();
@@ -158,6 +165,7 @@ impl<O: Outcome + Drop, B: Drop> Parts<O, B> {
         ensures answer { result ≡ sleep_remove_answer (sleeps_of self.old.timers) sleep }
         ensures sleeps { sleeps_of self.new.timers ≡ with_removed_sleep (sleeps_of self.old.timers) sleep }
         ensures tasks { self.new.tasks ≡ self.old.tasks }
+        ensures kept { self.new ≡ record self.old { timers = self.new.timers; acts = noted_gone self.old.acts sleep result } }
         ensures leads { (hosting : B → Hosting) → Leads O.output_number hosting self.old self.new }
     {
         self.timers.registers_armed();
@@ -172,6 +180,7 @@ impl<O: Outcome + Drop, B: Drop> Parts<O, B> {
         ensures answer { result ≡ without_waker (sleep_reset_answer (sleeps_of self.old.timers) sleep (nanos_of deadline)) }
         ensures sleeps { sleeps_of self.new.timers ≡ with_reset_sleep (sleeps_of self.old.timers) sleep (nanos_of deadline) }
         ensures tasks { self.new.tasks ≡ schedule.with_tasks self.old.tasks (woken_if_any self.old.tasks.tasks (waker_in (sleep_reset_answer (sleeps_of self.old.timers) sleep (nanos_of deadline)))) }
+        ensures kept { self.new ≡ record self.old { tasks = self.new.tasks; timers = self.new.timers; acts = noted_reset self.old.acts (sleeps_of self.old.timers).greatest sleep (nanos_of deadline) result } }
         ensures leads { (hosting : B → Hosting) → Leads O.output_number hosting self.old self.new }
     {
         self.timers.registers_armed();

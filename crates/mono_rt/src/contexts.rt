@@ -1,12 +1,17 @@
 // The executor as a running task sees it.
 ghost use Rattle.std.proofs.Common.{ap};
-ghost use Rattle.std.specs.Prelude.{refl, ◌≡◌, ◌++◌, ◌∷◌, [], Option, Some, None, IfOk, OnOk, OnErr};
+ghost use Rattle.std.specs.Prelude.{refl, ◌≡◌, ◌++◌, ◌∷◌, [], true, Option, Some, None, Err, IfOk, OnOk, OnErr};
 ghost use Rattle.mono_model.specs.Table.{next_number};
-ghost use Rattle.mono_model.specs.Tasks.{woken, spawned};
+ghost use Rattle.mono_model.specs.Tasks.{woken, woken_if_any, spawned};
+ghost use Rattle.mono_model.specs.Joins.{wake_answer, join_answer, joined, drop_answer, join_dropped};
+ghost use Rattle.mono_model.specs.SleepAnswers.{without_waker, waker_in};
+ghost use Rattle.mono_model.specs.declared.error.SleepError.TheVariants.{Memory};
 ghost use Rattle.mono_task.specs.Schedule as schedule;
 ghost use Rattle.mono_task.specs.Work.{without_outputs};
 ghost use Rattle.mono_time.specs.Instants.{nanos_of};
+ghost use Rattle.mono_time.specs.Sleeps.{Added, sleep_poll_answer, with_polled_sleep, sleep_reset_answer, with_reset_sleep, sleep_remove_answer, with_removed_sleep};
 ghost use Rattle.mono_time.specs.Timers.{sleeps_of};
+ghost use Rattle.mono_rt.specs.CallActs.{noted_wake, noted_join, noted_drop, noted_spawn, lacks_spawn, noted_sleep, lacks_sleep, noted_poll, noted_gone, noted_reset};
 ghost use Rattle.mono_rt.specs.Reached.{Reaches, HasPlace, reaches_itself, reaches_on};
 
 use crate::parts::Parts;
@@ -41,11 +46,15 @@ pub enum SpawnRefused<F> {
 
 impl<F: Drop, O: Outcome + Drop, P: ThreadPool + Drop, U: Unpark> Cx<F, O, P, U> {
     /// Makes a task of this future, which is queued last. The future is put into the table under the task's number.
+    ///
+    /// It is an act of the turn, made or refused; want of memory is none (`kept`).
     pub fn spawn(&mut self, alloc: Global, future: F) -> Result<JoinHandle<O>, SpawnRefused<F>>
         ensures number { IfOk result (λ handle. handle ≡ next_number self.old.parts.tasks.tasks.table) }
         ensures tasks { OnOk result (self.new.parts.tasks.tasks ≡ spawned self.old.parts.tasks.tasks) }
         ensures futures { OnOk result (self.new.futures.items ≡ self.old.futures.items ++ Some future ∷ []) }
         ensures refused { OnErr result (self.new.parts.tasks ≡ self.old.parts.tasks) }
+        ensures none { OnErr result (self.new.futures.items ≡ self.old.futures.items) }
+        ensures kept { self.new.parts ≡ record self.old.parts { tasks = self.new.parts.tasks; acts = noted_spawn self.old.parts.acts result; is_out_of_memory = lacks_spawn self.old.parts.is_out_of_memory result } }
         ensures reached { Reaches O.output_number self.old self.new }
     {
         if self.make_place().is_err() {
@@ -120,7 +129,13 @@ impl<F: Drop, O: Outcome + Drop, P: ThreadPool + Drop, U: Unpark> Context for Cx
         self.parts.now.as_nanos()
     }
 
-    fn wake(&mut self, task: u64) -> Result<Woke, TaskError> {
+    fn wake(&mut self, task: u64) -> Result<Woke, TaskError>
+        ensures answer { result ≡ wake_answer (without_outputs self.old.parts.tasks.tasks) task }
+        ensures work { without_outputs self.new.parts.tasks.tasks ≡ woken (without_outputs self.old.parts.tasks.tasks) task }
+        ensures woke { (self.new.parts.tasks.tasks ≡ woken self.old.parts.tasks.tasks task) × (self.new.parts.timers ≡ self.old.parts.timers) }
+        ensures kept { self.new ≡ record self.old { parts = record self.old.parts { tasks = self.new.parts.tasks; acts = noted_wake self.old.parts.acts task result } } }
+        ensures reached { Reaches O.output_number self.old self.new }
+    {
         self.parts.wake(task)
     }
 
@@ -139,11 +154,21 @@ impl<F: Drop, O: Outcome + Drop, P: ThreadPool + Drop, U: Unpark> JoinContext<O>
     for Cx<F, O, P, U> {
     ghost tasks = { λ c. c.parts.tasks.tasks };
 
-    fn poll_join(&mut self, task: u64) -> Result<Poll<O>, TaskError> {
+    fn poll_join(&mut self, task: u64) -> Result<Poll<O>, TaskError>
+        ensures answer { result ≡ join_answer self.old.parts.tasks.tasks task }
+        ensures tasks { self.new.parts.tasks.tasks ≡ joined self.old.parts.tasks.tasks task self.old.parts.me }
+        ensures kept { self.new ≡ record self.old { parts = record self.old.parts { tasks = self.new.parts.tasks; acts = noted_join O.output_number self.old.parts.acts task result } } }
+        ensures reached { Reaches O.output_number self.old self.new }
+    {
         self.parts.poll_join(task)
     }
 
-    fn drop_join(&mut self, task: u64) -> Result<Option<O>, TaskError> {
+    fn drop_join(&mut self, task: u64) -> Result<Option<O>, TaskError>
+        ensures answer { result ≡ drop_answer self.old.parts.tasks.tasks task }
+        ensures tasks { self.new.parts.tasks.tasks ≡ join_dropped self.old.parts.tasks.tasks task }
+        ensures kept { self.new ≡ record self.old { parts = record self.old.parts { tasks = self.new.parts.tasks; acts = noted_drop O.output_number self.old.parts.acts task result } } }
+        ensures reached { Reaches O.output_number self.old self.new }
+    {
         self.parts.drop_join(task)
     }
 
@@ -159,19 +184,43 @@ impl<F: Drop, O: Outcome + Drop, P: ThreadPool + Drop, U: Unpark> JoinContext<O>
 impl<F: Drop, O: Outcome + Drop, P: ThreadPool + Drop, U: Unpark> TimeContext for Cx<F, O, P, U> {
     ghost sleeps = { λ c. sleeps_of c.parts.timers };
 
-    fn add_sleep(&mut self, alloc: Global, deadline: Instant) -> Result<u64, SleepError> {
+    fn add_sleep(&mut self, alloc: Global, deadline: Instant) -> Result<u64, SleepError>
+        ensures added { Added (sleeps_of self.old.parts.timers) (nanos_of deadline) result (sleeps_of self.new.parts.timers) }
+        ensures memory { result ≡ Err Memory → self.new.parts.is_out_of_memory ≡ true }
+        ensures work { without_outputs self.new.parts.tasks.tasks ≡ without_outputs self.old.parts.tasks.tasks }
+        ensures kept { self.new ≡ record self.old { parts = record self.old.parts { timers = self.new.parts.timers; acts = noted_sleep self.old.parts.acts (nanos_of deadline) result; is_out_of_memory = lacks_sleep self.old.parts.is_out_of_memory result } } }
+        ensures reached { Reaches O.output_number self.old self.new }
+    {
         self.parts.add_sleep(alloc, deadline)
     }
 
-    fn poll_sleep(&mut self, sleep: u64) -> Result<Poll<()>, Error> {
+    fn poll_sleep(&mut self, sleep: u64) -> Result<Poll<()>, Error>
+        ensures answer { result ≡ sleep_poll_answer (sleeps_of self.old.parts.timers) sleep }
+        ensures sleeps { sleeps_of self.new.parts.timers ≡ with_polled_sleep (sleeps_of self.old.parts.timers) sleep self.old.parts.me }
+        ensures work { without_outputs self.new.parts.tasks.tasks ≡ without_outputs self.old.parts.tasks.tasks }
+        ensures kept { self.new ≡ record self.old { parts = record self.old.parts { timers = self.new.parts.timers; acts = noted_poll self.old.parts.acts sleep result } } }
+        ensures reached { Reaches O.output_number self.old self.new }
+    {
         self.parts.poll_sleep(sleep)
     }
 
-    fn reset_sleep(&mut self, sleep: u64, deadline: Instant) -> Result<(), Error> {
+    fn reset_sleep(&mut self, sleep: u64, deadline: Instant) -> Result<(), Error>
+        ensures answer { result ≡ without_waker (sleep_reset_answer (sleeps_of self.old.parts.timers) sleep (nanos_of deadline)) }
+        ensures sleeps { sleeps_of self.new.parts.timers ≡ with_reset_sleep (sleeps_of self.old.parts.timers) sleep (nanos_of deadline) }
+        ensures work { without_outputs self.new.parts.tasks.tasks ≡ woken_if_any (without_outputs self.old.parts.tasks.tasks) (waker_in (sleep_reset_answer (sleeps_of self.old.parts.timers) sleep (nanos_of deadline))) }
+        ensures kept { self.new ≡ record self.old { parts = record self.old.parts { tasks = self.new.parts.tasks; timers = self.new.parts.timers; acts = noted_reset self.old.parts.acts (sleeps_of self.old.parts.timers).greatest sleep (nanos_of deadline) result } } }
+        ensures reached { Reaches O.output_number self.old self.new }
+    {
         self.parts.reset_sleep(sleep, deadline)
     }
 
-    fn drop_sleep(&mut self, sleep: u64) -> Result<(), Error> {
+    fn drop_sleep(&mut self, sleep: u64) -> Result<(), Error>
+        ensures answer { result ≡ sleep_remove_answer (sleeps_of self.old.parts.timers) sleep }
+        ensures sleeps { sleeps_of self.new.parts.timers ≡ with_removed_sleep (sleeps_of self.old.parts.timers) sleep }
+        ensures work { without_outputs self.new.parts.tasks.tasks ≡ without_outputs self.old.parts.tasks.tasks }
+        ensures kept { self.new ≡ record self.old { parts = record self.old.parts { timers = self.new.parts.timers; acts = noted_gone self.old.parts.acts sleep result } } }
+        ensures reached { Reaches O.output_number self.old self.new }
+    {
         self.parts.drop_sleep(sleep)
     }
 

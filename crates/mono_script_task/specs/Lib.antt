@@ -1,2 +1,4 @@
 pub mod Driving
 pub mod Standing
+pub mod Turning
+pub mod Segments

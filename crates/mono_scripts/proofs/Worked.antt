@@ -10,84 +10,28 @@ use Rattle.mono_text.specs.Lines.{lines}
 use Rattle.mono_scripts.specs.Beginnings.{Begins, missing}
 use Rattle.mono_scripts.specs.Script.{Kind, Script}
 use Rattle.mono_scripts.specs.Written.{IsScript, ended, script_texts, kind_texts, body_text}
-use Rattle.std.proofs.Common.{Option, None}
-use Rattle.mono_machine.specs.declared.events.Reply.{Reply}
-use Rattle.mono_machine.specs.declared.events.Reply.TheVariants as reply
-use Rattle.mono_machine.specs.declared.events.End.TheVariants as end
-use Rattle.mono_scripts.specs.Driven.{kept, Gives, turn_at, start_of}
 use Rattle.mono_scripts.specs.declared.scripts.BodyLine.TheVariants as body
 use Rattle.mono_text.specs.Lines.{Line}
 use Rattle.mono_scripts.specs.Script.{MayStand}
 use Rattle.mono_scripts.proofs.Fronts.{body_once, may_fit, no_done}
 use Rattle.mono_scripts.proofs.FirstBad.{bad_in_kind}
 use Rattle.mono_scripts.specs.Following.{MayFollow, goes_on, ends, front_texts}
-use Rattle.mono_scripts.specs.Worked.{NoSuchKind, no_such_kind_text, NoMemory, poll_sleep, NoKind, EndsInAKind, script, kind, ASleep, ChildTasks, AJob, NotItsTurn, ASleepIsWritten}
-
-abbrev all_kept : List Reply → List (Option Reply)
-all_kept [] = []
-all_kept (r ∷ rs) = Some r ∷ all_kept rs
+use Rattle.mono_scripts.specs.Worked.{NoSuchKind, no_such_kind_text, NoSleep, NoKind, EndsInAKind, script, kind, ASleep, ChildTasks, AJob, NotItsTurn, ASleepIsWritten}
 
 pub a_sleep : ASleep
-a_sleep = (all_kept (reply.Sleep 0 ∷ reply.Pending ∷ []), refl, (refl, refl, (all_kept (reply.Ready ∷ reply.Dropped None ∷ []), refl, (refl, refl, tt))))
+a_sleep = (refl, refl, (refl, refl, tt))
 
 pub child_tasks : ChildTasks
-child_tasks = (
-  all_kept (reply.Task 1 ∷ reply.Task 2 ∷ reply.Pending ∷ []),
-  refl,
-  (
-    refl,
-    refl,
-    (
-      all_kept (reply.Sleep 0 ∷ reply.Pending ∷ []),
-      refl,
-      (
-        refl,
-        refl,
-        (
-          all_kept (reply.Sleep 1 ∷ reply.Pending ∷ []),
-          refl,
-          (
-            refl,
-            refl,
-            (
-              all_kept (reply.Ready ∷ reply.Dropped None ∷ []),
-              refl,
-              (
-                refl,
-                refl,
-                (
-                  all_kept (reply.Ready ∷ reply.Dropped None ∷ []),
-                  refl,
-                  (
-                    refl,
-                    refl,
-                    (all_kept (reply.Output 7 ∷ reply.Dropped None ∷ reply.Output 7 ∷ reply.Dropped None ∷ []), refl, (refl, refl, tt)),
-                  ),
-                ),
-              ),
-            ),
-          ),
-        ),
-      ),
-    ),
-  ),
-)
+child_tasks = (refl, refl, (refl, refl, (refl, refl, (refl, refl, (refl, refl, (refl, refl, tt))))))
 
 pub a_job : AJob
-a_job = (all_kept (reply.Job 0 ∷ reply.Output 4 ∷ reply.Dropped None ∷ []), refl, (refl, refl, tt))
+a_job = (refl, refl, tt)
 
--- the sleep was refused for want of memory, and the task went on
-pub no_memory : NoMemory
-no_memory = (None ∷ [], refl, (refl, refl, tt))
+pub no_sleep : NoSleep
+no_sleep d = d
 
 pub not_its_turn : NotItsTurn
-not_its_turn d = wrong_turn d.0 d.1 d.2
-  where
-    wrong_turn : (answers : List (Option Reply)) → kept answers ≡ reply.Pending ∷ [] → Gives (turn_at (Some (start_of (kind (body.Yield ∷ []) 5))) 0 0 answers) (poll_sleep 0 ∷ []) end.Pending (λ turned. Unit {0}) → ⊥
-    wrong_turn [] e g = g
-    wrong_turn (None ∷ answers) e g = g
-    wrong_turn (Some r ∷ []) e g = cc g.0
-    wrong_turn (Some r ∷ a ∷ answers) e g = g
+not_its_turn d = cc d.0
 
 -- ---- numbers as text, by what reading them gives
 

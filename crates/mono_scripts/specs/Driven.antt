@@ -78,51 +78,48 @@ is_pending reply.Pending = true
 is_pending other = false
 
 -- the turn stops, and no reply is left
-abbrev pub stops_at : Place → List (Option Reply) → Option Turned
+abbrev pub stops_at : Place → List Reply → Option Turned
 stops_at here [] = Some (stopped here)
 stops_at here (r ∷ rs) = None
 
 -- An act whose reply counts for nothing, and then the rest.
-abbrev pub acted : TurnStep → (List (Option Reply) → Option Turned) → List (Option Reply) → Option Turned
+abbrev pub acted : TurnStep → (List Reply → Option Turned) → List Reply → Option Turned
 acted s rest [] = None
-acted s rest (None ∷ rs) = None
-acted s rest (Some r ∷ rs) = with_step s [] (rest rs)
+acted s rest (r ∷ rs) = with_step s [] (rest rs)
 
 -- A poll. Where it is pending the turn stops; else an act whose reply counts for nothing, and then the rest.
-abbrev pub awaited : TurnStep → TurnStep → Place → (List (Option Reply) → Option Turned) → List (Option Reply) → Option Turned
+abbrev pub awaited : TurnStep → TurnStep → Place → (List Reply → Option Turned) → List Reply → Option Turned
 awaited poll last here rest [] = None
-awaited poll last here rest (None ∷ rs) = None
-awaited poll last here rest (Some r ∷ rs) = with_step poll [] (if is_pending r then stops_at here rs else acted last rest rs)
+awaited poll last here rest (r ∷ rs) = with_step poll [] (if is_pending r then stops_at here rs else acted last rest rs)
 
 -- with a handle, what is done with it; else nothing
 abbrev pub with_handle : {A : Type 0} → Option ℕ → (ℕ → A) → A → A
 with_handle None f other = other
 with_handle (Some x) f other = f x
 
--- An act that answers a number or refuses, and the rest by that. Where it found no memory it is no step, and refused.
-abbrev pub asked : TurnStep → (Reply → Option ℕ) → (Option ℕ → List ℕ) → (Option ℕ → List (Option Reply) → Option Turned) → List (Option Reply) → Option Turned
+-- An act that answers a number or refuses, and the rest by that.
+abbrev pub asked : TurnStep → (Reply → Option ℕ) → (Option ℕ → List ℕ) → (Option ℕ → List Reply → Option Turned) → List Reply → Option Turned
 asked s number made rest [] = None
-asked s number made rest (None ∷ rs) = rest None rs
-asked s number made rest (Some r ∷ rs) = with_step s (made (number r)) (rest (number r) rs)
+asked s number made rest (r ∷ rs) = with_step s (made (number r)) (rest (number r) rs)
 
 abbrev pub none_made : Option ℕ → List ℕ
 none_made o = []
 
-abbrev pub join_steps : ℕ → Place → (List (Option Reply) → Option Turned) → List (Option Reply) → Option Turned
+abbrev pub join_steps : ℕ → Place → (List Reply → Option Turned) → List Reply → Option Turned
 join_steps t here rest rs = awaited (step.Query (query.Join t)) (step.Act (act.DropJoin t)) here rest rs
 
-abbrev pub job_steps : ℕ → Place → (List (Option Reply) → Option Turned) → List (Option Reply) → Option Turned
+abbrev pub job_steps : ℕ → Place → (List Reply → Option Turned) → List Reply → Option Turned
 job_steps j here rest rs = awaited (step.Query (query.Job j)) (step.Act (act.DropJob j)) here rest rs
 
-abbrev pub sleep_steps : ℕ → Place → (List (Option Reply) → Option Turned) → List (Option Reply) → Option Turned
+abbrev pub sleep_steps : ℕ → Place → (List Reply → Option Turned) → List Reply → Option Turned
 sleep_steps s here rest rs = awaited (step.Query (query.Sleep s)) (step.Act (act.DropSleep s)) here rest rs
 
-abbrev pub yielded : ℕ → Place → List (Option Reply) → Option Turned
+abbrev pub yielded : ℕ → Place → List Reply → Option Turned
 yielded me here rs = acted (step.Act (act.Wake me)) (stops_at here) rs
 
--- What the lines give for task me, whose output is o, at the instant t, where these are the answers to its calls; None is
--- a call that found no memory, which a journal does not keep.
-abbrev pub turn_from : List BodyLine → ℕ → ℕ → ℕ → List (Option ℕ) → List (Option ℕ) → List (Option Reply) → Option Turned
+-- What the lines give for task me, whose output is o, at the instant t, where these are the answers to its calls. Each call
+-- has an answer: one that found no memory has none, and then no journal is told.
+abbrev pub turn_from : List BodyLine → ℕ → ℕ → ℕ → List (Option ℕ) → List (Option ℕ) → List Reply → Option Turned
 turn_from [] me t o tasks jobs [] = Some (finished o)
 turn_from [] me t o tasks jobs (r ∷ rs) = None
 turn_from (body.Spawn k ∷ left) me t o tasks jobs rs =
@@ -145,7 +142,7 @@ turn_from (body.DropJob i ∷ left) me t o tasks jobs rs =
 turn_from (body.Yield ∷ left) me t o tasks jobs rs = yielded me (place left o tasks jobs None) rs
 
 -- A task that waits for a sleep first polls it again.
-abbrev pub turn_of : Place → ℕ → ℕ → List (Option Reply) → Option Turned
+abbrev pub turn_of : Place → ℕ → ℕ → List Reply → Option Turned
 turn_of p me t rs =
     with_handle p.sleeping (λ s q. sleep_steps s p (turn_from p.left me t p.output p.tasks p.jobs) q) (turn_from p.left me t p.output p.tasks p.jobs) rs
 
@@ -173,18 +170,12 @@ starts_of kinds (k ∷ ks) = slice_index_or (map (λ kind. Some (start_of kind))
 abbrev pub after_turn : List Kind → List (Option Place) → ℕ → Turned → List (Option Place)
 after_turn kinds places t turned = slice_set places t turned.after ++ starts_of kinds turned.made
 
--- the answers that a journal keeps
-abbrev pub kept : List (Option Reply) → List Reply
-kept [] = []
-kept (None ∷ answers) = kept answers
-kept (Some r ∷ answers) = r ∷ kept answers
-
 -- The turn is the one that the task's lines give, and the rest holds from there.
 abbrev pub Gives : Option Turned → List TurnStep → End → (Turned → Type 0) → Type 0
 Gives None steps e rest = ⊥
 Gives (Some turned) steps e rest = (steps ≡ turned.steps) × (e ≡ turned.e) × rest turned
 
-abbrev pub turn_at : Option Place → ℕ → ℕ → List (Option Reply) → Option Turned
+abbrev pub turn_at : Option Place → ℕ → ℕ → List Reply → Option Turned
 turn_at None me t rs = None
 turn_at (Some p) me t rs = turn_of p me t rs
 
@@ -194,8 +185,7 @@ DrivenFrom kinds places t [] = Unit {0}
 DrivenFrom kinds places t (now n ∷ entries) = DrivenFrom kinds places n entries
 DrivenFrom kinds places t (park m ∷ entries) = DrivenFrom kinds places t entries
 DrivenFrom kinds places t (ran (event.Turn steps e) (report.Turn me replies last) ∷ entries) =
-    (answers : List (Option Reply)) × (kept answers ≡ own_replies steps replies)
-    × Gives (turn_at (slice_index_or places me None) me t answers) (own_steps steps) e
+    Gives (turn_at (slice_index_or places me None) me t (own_replies steps replies)) (own_steps steps) e
     (λ turned. DrivenFrom kinds (after_turn kinds places me turned) t entries)
 DrivenFrom kinds places t (ran (event.Turn steps e) (report.Reply r) ∷ entries) = ⊥
 DrivenFrom kinds places t (ran (event.Turn steps e) (report.Fired fired) ∷ entries) = ⊥

@@ -87,9 +87,9 @@ AJob = Driven (script 4 (kind (body.Block 4 ∷ body.AwaitJob 0 ∷ []) 1 ∷ []
     (reply.Job 0 ∷ reply.Ended None ∷ reply.Output 4 ∷ reply.Dropped None ∷ [])
     ∷ ran (event.Act (act.DropJoin 0)) (report.Reply (reply.Dropped (Some 1))) ∷ [])
 
--- a sleep that found no memory: it is no step, and the task goes on
-abbrev pub NoMemory : Type 0
-NoMemory = Driven sleeping (spawned ∷ now 0 ∷ last_turn [] 5 0 [] ∷ [])
+-- a turn that passes its sleep over: each call of the lines is an act
+abbrev pub NoSleep : Type 0
+NoSleep = Driven sleeping (spawned ∷ now 0 ∷ last_turn [] 5 0 [] ∷ []) → ⊥
 
 -- a turn that the script does not make: it yields, and does not poll a sleep
 abbrev pub NotItsTurn : Type 0

@@ -2,9 +2,11 @@
 #![tactic(auto)]
 
 mod calls;
+mod laws;
 mod lines;
 mod printing;
 mod reading;
 
 pub use calls::SessionCall;
+pub use laws::lines_are_one_run;
 pub use lines::sessions;

@@ -155,6 +155,7 @@ pub fn put_list(out: &mut Vec<u8>, text: &[u8], list: &[u64]) -> Result<(), Allo
 }
 
 /// Puts the line of a report at the end: its one spelling, and a line feed.
+#[inline(always)]
 pub fn report_line(out: &mut Vec<u8>, item: &Report) -> Result<(), AllocError>
     ensures { OnOk result (out.new.items ≡ out.old.items ++ report_line item.now) }
 {

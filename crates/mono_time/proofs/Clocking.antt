@@ -7,7 +7,7 @@ use Rattle.std.proofs.lemmas.List.{get_or_past, get_or-set_same}
 use Rattle.mono_model.specs.Ticks.{down}
 use Rattle.mono_model.specs.Table.{Table, value_at, with_value}
 use Rattle.mono_model.specs.Sleeps as model
-use Rattle.mono_model.specs.Sleeps.{Sleeps, Arming, with_greatest, with_sleep, IsDueSleep, MayPrecede}
+use Rattle.mono_model.specs.Sleeps.{Sleeps, Arming, IsDueSleep, MayPrecede}
 use Rattle.mono_model.specs.Firing.{IsFirstDue, IsNoneDue}
 use Rattle.mono_model.proofs.TableOf.{table_of-same, value_at-table_of, length-table_of}
 use Rattle.mono_wheel.specs.Start.{start, top_level}

@@ -1,14 +1,14 @@
 -- Where the sleeps are registered while a clock step goes on: two moves of the clock in a row are one.
-use Rattle.std.proofs.Common.{◌≡◌, ◌≢◌, ◌<◌, ◌≤◌, ◌⊎◌, inl, inr, ℕ, true, false, Bool, cond, List, length, set, Some, None, refl, ap, sym, subst, ◌∙◌, arith}
-use Rattle.std.specs.Prelude.{Option, slice_get, is_some, nat_le, IfSome}
+use Rattle.std.proofs.Common.{◌≡◌, ◌<◌, ◌≤◌, ◌⊎◌, inl, inr, ℕ, true, false, Bool, cond, List, length, Some, None, refl, ap, sym, subst, ◌∙◌, arith}
+use Rattle.std.specs.Prelude.{Option, slice_get, is_some, nat_le}
 use Rattle.std.proofs.lemmas.Bool.{le-leb, lt-leb, leb-true, leb-false, cases_eq, cases_lt}
 use Rattle.std.proofs.lemmas.List.{get_or-set_other, get_or-set_same, get_or_past}
 use Rattle.mono_model.specs.Table.{Table, value_at, with_value}
 use Rattle.mono_wheel.specs.Start.{start, top_level}
 use Rattle.mono_wheel.specs.Model.{Wheel, Timed, timed_at, AllFit, Fits}
 use Rattle.mono_wheel.proofs.Starts.{start-same, start-above}
-use Rattle.mono_time.specs.Sleeps.{Kept, SleepTable, fresh, armed, elapsed, IsNoneArmedUpTo}
-use Rattle.mono_time.specs.Entries.{is_armed_state, kept_in, kept_of, tick_in, is_armed_entry}
+use Rattle.mono_time.specs.Sleeps.{Kept, fresh, armed, elapsed, IsNoneArmedUpTo}
+use Rattle.mono_time.specs.Entries.{is_armed_state, kept_in, kept_of, is_armed_entry}
 use Rattle.mono_time.specs.Keeping.{Holds, kept_at, kept_under}
 use Rattle.mono_time.specs.Registered.{registered_in, registered_under, registered_at, moved_registered, stepped_registered, IsRegistered}
 use Rattle.mono_time.specs.Timers.{sleeps_of, elapsed_tick, registered_of}

@@ -5,7 +5,7 @@ use Rattle.std.proofs.lemmas.Bool.{le-leb, lt-leb}
 use Rattle.mono_model.specs.Ticks.{up}
 use Rattle.mono_model.specs.Table.{Table, value_at}
 use Rattle.mono_model.specs.Sleeps as model
-use Rattle.mono_model.specs.Sleeps.{Sleeps, Arming, with_sleep, armed_anew}
+use Rattle.mono_model.specs.Sleeps.{Sleeps, Arming}
 use Rattle.mono_model.specs.declared.poll.Poll.{Poll}
 use Rattle.mono_wheel.specs.Model.{Wheel, Timed, timed_at}
 use Rattle.mono_time.specs.Sleeps.{fresh, armed, elapsed, polled_kept, at_tick}

@@ -5,7 +5,7 @@ use Rattle.std.proofs.lemmas.Bool.{le-leb, lt-leb, lt-ltb, le-ltb, cases_lt}
 use Rattle.mono_model.specs.Ticks.{up}
 use Rattle.mono_model.specs.Table.{Table, value_at}
 use Rattle.mono_model.specs.Sleeps as model
-use Rattle.mono_model.specs.Sleeps.{Sleeps, Arming, with_sleep, armed_anew, armed_later, armed_above, after_arming, woken_by_arming}
+use Rattle.mono_model.specs.Sleeps.{Sleeps, Arming, armed_later, armed_above, after_arming, woken_by_arming}
 use Rattle.mono_wheel.specs.Model.{Wheel, Timed, timed_at, Changed}
 use Rattle.mono_time.specs.Sleeps.{armed, elapsed, at_tick, kept_waker}
 use Rattle.mono_model.specs.SleepActs as machine

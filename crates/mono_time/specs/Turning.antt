@@ -1,5 +1,5 @@
 -- What a call does to the sleep at a key, and to the wheel.
-use Rattle.std.specs.Prelude.{◌≡◌, ◌≢◌, ◌<◌, ◌≤◌, ◌-◌, ◌⊎◌, ℕ, Bool, true, false, Option, Some, None}
+use Rattle.std.specs.Prelude.{◌≡◌, ◌≢◌, ◌<◌, ◌≤◌, ◌-◌, ◌⊎◌, ℕ, Bool, true, false, Option, None}
 use Rattle.mono_wheel.specs.Model.{Wheel, timed_at}
 use Rattle.mono_wheel.specs.Credit.{most_takes}
 use Rattle.mono_time.specs.Entries.{waker_in_state}

@@ -1,4 +1,4 @@
-use Rattle.mono_scripts.proofs.Worked.{a_sleep, child_tasks, a_job, no_memory, not_its_turn, a_sleep_is_written, no_kind, ends_in_a_kind, no_such_kind}
+use Rattle.mono_scripts.proofs.Worked.{a_sleep, child_tasks, a_job, no_sleep, not_its_turn, a_sleep_is_written, no_kind, ends_in_a_kind, no_such_kind}
 use Rattle.mono_scripts.proofs.rows.worked_scripts.Goals as goal
 
 pub returns-clause-a_sleep : goal.returns-clause-a_sleep
@@ -22,8 +22,8 @@ returns-clause-no_kind c = no_kind
 pub returns-clause-ends_in_a_kind : goal.returns-clause-ends_in_a_kind
 returns-clause-ends_in_a_kind c = ends_in_a_kind
 
-pub returns-clause-no_memory : goal.returns-clause-no_memory
-returns-clause-no_memory c = no_memory
+pub returns-clause-no_sleep : goal.returns-clause-no_sleep
+returns-clause-no_sleep c = no_sleep
 
 pub returns-clause-no_such_kind : goal.returns-clause-no_such_kind
 returns-clause-no_such_kind c = no_such_kind

@@ -1,4 +1,4 @@
-use Rattle.std.proofs.Common.{arith, ap, sym, subst, ◌∙◌}
+use Rattle.std.proofs.Common.{arith, ap, sym, subst}
 use Rattle.mono_time.specs.Instants.{nanos_of}
 use Rattle.mono_time.proofs.Expiring.{so-far, one-more, all-fired}
 use Rattle.mono_time.specs.Sleeps.{IsNoneArmedUpTo}

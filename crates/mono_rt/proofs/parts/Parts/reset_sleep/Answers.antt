@@ -21,6 +21,8 @@ use Rattle.mono_exec.proofs.Timing.{alike_reset, gone, unchanged}
 use Rattle.mono_rt.specs.Stands.{Matches}
 use Rattle.mono_exec.specs.Registered.{FollowsAct}
 use Rattle.mono_exec.proofs.Registering.{registered-reset, registered-reset-act}
+use Rattle.mono_machine.specs.declared.events.TurnStep.TheVariants as step
+use Rattle.mono_rt.specs.Record.{Record, noted}
 use Rattle.mono_rt.specs.Reached.{by_act}
 use Rattle.mono_time.specs.Sleeps.{IsNoneArmedUpTo}
 use Rattle.mono_time.proofs.Resting.{rests-reset}
@@ -64,3 +66,14 @@ returns-in-Err-clause-leads g c = λ hosting.
     (rests-reset (sleeps_of old.timers) s now)
     (λ m st. subst (λ x. FollowsAct old.timers c.reset.new.self m.sleeps x) (unchanged (λ value. woken_by_arming value m.sleeps (up now)) (value_at m.sleeps.table s) c.in-Err.error m.sleeps _ (answer m.sleeps st.sleeps))
     (registered-reset old.timers c.reset.new.self m.sleeps st.sleeps c.registers_armed.ensures.registered s now (c.reset.ensures.registered st.no_due)))
+
+pub returns-in-Ok-clause-kept : goal.returns-in-Ok-clause-kept
+returns-in-Ok-clause-kept g c =
+    let old = c.args.self.now in
+    let s = c.args.sleep in
+    let n = c.as_nanos-nanos.result in
+    let greatest = (sleeps_of old.timers).greatest in
+    let alike = alike_reset (sleeps_of old.timers) s (nanos_of c.args.deadline) in
+    let told : c.reset_reply-reply.result ≡ reset_reply greatest (up n) = c.reset_reply-reply.ensures ∙ ap (λ x. reset_reply x (up n)) (c.greatest.ensures ∙ ap (λ x. x.greatest) c.reset.ensures.sleeps ∙ alike.greatest) in
+    ap (λ (acts : Record). record old { tasks = c.wake_if_any.new.tasks; timers = c.reset.new.self; acts = acts })
+    (c.note-in-Ok.ensures ∙ ap (noted old.acts (step.Act (act.Reset s n))) told ∙ ap (λ k. noted old.acts (step.Act (act.Reset s k)) (reset_reply greatest (up k))) c.as_nanos-nanos.ensures)

@@ -1,0 +1,123 @@
+// The directory: the parts of all tasks, and so how each task stands.
+ghost use Rattle.std.specs.Prelude.{◌≡◌, ◌<◌, ◌^◌, ℕ, true, [], length, OnOk, OnErr, slice_set};
+ghost use Rattle.mono_inbox.specs.Standings.{has_place, standing_at};
+ghost use Rattle.mono_inbox.specs.Pages.{with_mark, child_at, closed_before};
+
+use crate::parts::{PART, Part, greater_of};
+use crate::standings::Standing;
+use std::alloc::{AllocError, Global};
+use std::marker::Model;
+
+/// How each task stands, by its number.
+///
+/// A standing is read and changed in constant time. The standings lie in pages of 4,096, a byte each, and the pages in parts
+/// of 256. A page is given back once none of its tasks has a place and a later page was begun, and so is a part. So the
+/// memory is that of the pages in which some task has a place, of the page that is begun, of the heads of the pages of their
+/// parts, and 40 bytes for every 1,048,576 numbers.
+#[derive(Drop)]
+pub(crate) struct Marks {
+    parts: Vec<Part>,
+    len: usize,
+}
+
+impl Model for Marks {
+    ghost use Rattle.std.specs.Prelude.{List};
+    ghost use Rattle.mono_inbox.specs.declared.standings.Standing.{Standing};
+    ghost use Rattle.mono_inbox.specs.Pages.{laid_standings, IsLaid};
+
+    ghost Value = { List Standing };
+
+    ghost view = { λ a. laid_standings 1048576 a.parts.items a.len };
+
+    ghost invariant = { λ a. IsLaid 1048576 a.parts.items a.len };
+}
+
+impl Marks {
+    /// All tasks are unknown. It takes no memory.
+    pub(crate) fn new(alloc: Global) -> Marks
+        ensures { result ≡ [] }
+    {
+        Marks {
+            parts: Vec::new(alloc),
+            len: 0,
+        }
+    }
+
+    /// How a task stands.
+    pub(crate) fn standing(&self, task: u64) -> Standing
+        ensures { result ≡ standing_at self.now task }
+    {
+        let task = task as usize;
+        let at = task / PART;
+        if at >= self.parts.len() {
+            return Standing::Unknown;
+        }
+        self.parts[at].standing(task % PART)
+    }
+
+    /// A task that was unknown stands so.
+    ///
+    /// Refused for want of memory alone, and then all is as it was (`refused`). The task 2^64 - 1 never has a place.
+    pub(crate) fn mark(
+        &mut self,
+        alloc: Global,
+        task: u64,
+        standing: Standing,
+    ) -> Result<(), AllocError>
+        requires unknown { standing_at self.old task ≡ Standing.Unknown }
+        requires placed { has_place standing ≡ true }
+        ensures after { OnOk result (self.new ≡ with_mark self.old task standing) }
+        ensures refused { OnErr result (self.new ≡ self.old) }
+    {
+        let task = task as usize;
+        if task == usize::MAX {
+            return Err(AllocError);
+        }
+        let at = task / PART;
+        let len = greater_of(self.len, task + 1);
+        close_before(&mut self.parts, self.len / PART, at);
+        open_part(&mut self.parts, alloc, at)?;
+        self.parts[at].mark(alloc, task % PART, standing)?;
+        self.len = len;
+        Ok(())
+    }
+
+    /// A task that has a place stands otherwise. It takes no memory, and gives back the memory of a page in which no task
+    /// has a place any more and in which no number comes.
+    pub(crate) fn change(&mut self, task: u64, standing: Standing)
+        requires { has_place (standing_at self.old task) ≡ true }
+        ensures { self.new ≡ slice_set self.old task standing }
+    {
+        let task = task as usize;
+        let at = task / PART;
+        let is_closed = at < self.len / PART;
+        self.parts[at].change(task % PART, standing, is_closed);
+    }
+}
+
+// Where the part that was begun last is another than that at this place, no number of it comes any more.
+fn close_before(parts: &mut Vec<Part>, begun: usize, at: usize)
+    ensures { parts.new.items ≡ closed_before parts.old.items begun at }
+{
+    if begun < at && begun < parts.len() {
+        parts[begun].close();
+    }
+}
+
+// The part at this place is there.
+fn open_part(parts: &mut Vec<Part>, alloc: Global, at: usize) -> Result<(), AllocError>
+    requires { at < 2 ^ 44 }
+    ensures same { (i : ℕ) → child_at parts.new.items i ≡ child_at parts.old.items i }
+    ensures inside { OnOk result (at < length parts.new.items) }
+    ensures refused { OnErr result (parts.new.items ≡ parts.old.items) }
+{
+    if at < parts.len() {
+        return Ok(());
+    }
+    let missing = at + 1 - parts.len();
+    parts.reserve(missing)?;
+    for _ in 0..missing {
+        parts.push_reserved(Part::new(alloc));
+    }
+    Ok(())
+}

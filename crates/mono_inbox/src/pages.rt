@@ -1,0 +1,139 @@
+// A page: the standings of as many tasks in a row, in one piece of memory.
+ghost use Rattle.std.specs.Prelude.{◌≡◌, ◌+◌, ◌<◌, ◌≤◌, ◌++◌, true, [], OnOk, OnErr, replicate, slice_set, vec_len, vec_capacity};
+ghost use Rattle.mono_inbox.specs.Standings.{has_place, standing_at, count_where};
+ghost use Rattle.mono_inbox.specs.Pages.{grown, with_mark, left_of};
+
+use crate::standings::{Standing, places_of};
+use std::alloc::{AllocError, Global};
+use std::marker::Model;
+
+/// How many tasks a page has.
+pub(crate) const PAGE: usize = 4096;
+
+/// How the tasks of one page stand, up to the last that was made known. It takes its memory with the first, all at once.
+#[derive(Drop)]
+pub(crate) struct Page {
+    standings: Vec<Standing>,
+    placed: usize,
+}
+
+impl Model for Page {
+    ghost use Rattle.std.specs.Prelude.{List, vec_capacity};
+    ghost use Rattle.mono_inbox.specs.declared.standings.Standing.{Standing};
+    ghost use Rattle.mono_inbox.specs.Pages.{IsPage};
+
+    ghost Value = { List Standing };
+
+    ghost view = { λ a. a.standings.items };
+
+    ghost invariant = { λ a. IsPage a.standings.items (vec_capacity a.standings) a.placed };
+}
+
+impl Page {
+    /// A page without entries, and without memory.
+    pub(crate) fn new(alloc: Global) -> Page
+        ensures { result ≡ [] }
+    {
+        Page {
+            standings: Vec::new(alloc),
+            placed: 0,
+        }
+    }
+
+    /// How many of its tasks have a place.
+    pub(crate) fn count(&self) -> usize
+        ensures { result ≡ count_where has_place self.now }
+    {
+        self.placed
+    }
+
+    /// How the task at a place stands.
+    pub(crate) fn standing(&self, at: usize) -> Standing
+        ensures { result ≡ standing_at self.now at }
+    {
+        match self.standings.get(at) {
+            Some(standing) => *standing,
+            None => Standing::Unknown,
+        }
+    }
+
+    /// The task at a place, which was unknown, stands so.
+    pub(crate) fn mark(&mut self, at: usize, standing: Standing) -> Result<(), AllocError>
+        requires inside { at < 4096 }
+        requires unknown { standing_at self.old at ≡ Standing.Unknown }
+        requires placed { has_place standing ≡ true }
+        ensures after { OnOk result (self.new ≡ with_mark self.old at standing) }
+        ensures refused { OnErr result (self.new ≡ self.old) }
+    {
+        make_entry(&mut self.standings, at)?;
+        self.standings[at] = standing;
+        self.placed += 1;
+        Ok(())
+    }
+
+    /// The task at a place, which has a place in the list, stands otherwise. Where the page is closed and that was its last
+    /// task with a place, its memory is given back.
+    pub(crate) fn change(&mut self, at: usize, standing: Standing, is_closed: bool)
+        requires { has_place (standing_at self.old at) ≡ true }
+        ensures { self.new ≡ left_of is_closed (slice_set self.old at standing) }
+    {
+        self.write(at, standing);
+        if is_closed {
+            self.close();
+        }
+    }
+
+    /// No number of it comes any more: where no task of it has a place, its memory is given back.
+    pub(crate) fn close(&mut self)
+        ensures { self.new ≡ left_of true self.old }
+    {
+        if self.placed == 0 {
+            give_back(&mut self.standings);
+        }
+    }
+
+    // The task at a place, which has a place in the list, stands otherwise.
+    fn write(&mut self, at: usize, standing: Standing)
+        requires { has_place (standing_at self.old at) ≡ true }
+        ensures { self.new ≡ slice_set self.old at standing }
+    {
+        self.standings[at] = standing;
+        self.placed = self.placed - 1 + places_of(standing);
+    }
+}
+
+// Makes entries up to the place's, where it has none. Most often that is one more.
+fn make_entry(standings: &mut Vec<Standing>, at: usize) -> Result<(), AllocError>
+    requires { at < 4096 }
+    ensures items { OnOk result (standings.new.items ≡ grown standings.old.items at) }
+    ensures refused { OnErr result (standings.new.items ≡ standings.old.items) }
+    ensures room { OnErr result (vec_capacity standings.new ≡ vec_capacity standings.old) }
+{
+    if at < standings.len() {
+        return Ok(());
+    }
+    let missing = at + 1 - standings.len();
+    let more = if standings.len() == 0 { PAGE } else { missing };
+    standings.reserve(more)?;
+    fill(standings, missing);
+    Ok(())
+}
+
+// So many entries more, of unknown tasks.
+fn fill(standings: &mut Vec<Standing>, missing: usize)
+    requires { vec_len standings.old + missing ≤ vec_capacity standings.old }
+    ensures { standings.new.items ≡ standings.old.items ++ replicate missing Standing.Unknown }
+{
+    for _ in 0..missing {
+        standings.push_reserved(Standing::Unknown);
+    }
+}
+
+// No entry, and no memory.
+fn give_back(standings: &mut Vec<Standing>)
+    ensures items { standings.new.items ≡ [] }
+    ensures room { vec_capacity standings.new ≡ 0 }
+{
+    standings.truncate(0);
+    standings.shrink_to_fit();
+}

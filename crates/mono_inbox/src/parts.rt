@@ -1,0 +1,175 @@
+// A part of the directory: the pages of as many tasks in a row.
+ghost use Rattle.std.specs.Prelude.{◌≡◌, ◌<◌, ◌≤◌, ◌⊎◌, ℕ, true, [], length, OnOk, OnErr, slice_set, vec_capacity};
+ghost use Rattle.mono_inbox.specs.Standings.{has_place, standing_at, count_where};
+ghost use Rattle.mono_inbox.specs.Pages.{with_mark, left_of, child_at, closed_before};
+
+use crate::pages::{PAGE, Page};
+use crate::standings::{Standing, places_of};
+use std::alloc::{AllocError, Global};
+use std::marker::Model;
+
+/// How many tasks a part has.
+pub(crate) const PART: usize = 1048576;
+
+/// How the tasks of one part stand, up to the last that was made known. A page that is closed, in which no task has a
+/// place, has no memory.
+#[derive(Drop)]
+pub(crate) struct Part {
+    pages: Vec<Page>,
+    len: usize,
+    placed: usize,
+}
+
+impl Model for Part {
+    ghost use Rattle.std.specs.Prelude.{List, vec_capacity};
+    ghost use Rattle.mono_inbox.specs.declared.standings.Standing.{Standing};
+    ghost use Rattle.mono_inbox.specs.Pages.{laid_standings, IsPart};
+
+    ghost Value = { List Standing };
+
+    ghost view = { λ a. laid_standings 4096 a.pages.items a.len };
+
+    ghost invariant = { λ a. IsPart 4096 1048576 a.pages.items (vec_capacity a.pages) a.len a.placed };
+}
+
+impl Part {
+    /// A part without entries, and without memory.
+    pub(crate) fn new(alloc: Global) -> Part
+        ensures { result ≡ [] }
+    {
+        Part {
+            pages: Vec::new(alloc),
+            len: 0,
+            placed: 0,
+        }
+    }
+
+    /// How many of its tasks have a place.
+    pub(crate) fn count(&self) -> usize
+        ensures { result ≡ count_where has_place self.now }
+    {
+        self.placed
+    }
+
+    /// How a task stands.
+    pub(crate) fn standing(&self, task: usize) -> Standing
+        ensures { result ≡ standing_at self.now task }
+    {
+        let at = task / PAGE;
+        if at >= self.pages.len() {
+            return Standing::Unknown;
+        }
+        self.pages[at].standing(task % PAGE)
+    }
+
+    /// A task that was unknown stands so.
+    pub(crate) fn mark(
+        &mut self,
+        alloc: Global,
+        task: usize,
+        standing: Standing,
+    ) -> Result<(), AllocError>
+        requires inside { task < 1048576 }
+        requires unknown { standing_at self.old task ≡ Standing.Unknown }
+        requires placed { has_place standing ≡ true }
+        ensures after { OnOk result (self.new ≡ with_mark self.old task standing) }
+        ensures refused { OnErr result (self.new ≡ self.old) }
+    {
+        let at = task / PAGE;
+        let len = greater_of(self.len, task + 1);
+        close_before(&mut self.pages, self.len / PAGE, at);
+        open_page(&mut self.pages, alloc, at)?;
+        self.pages[at].mark(task % PAGE, standing)?;
+        self.len = len;
+        self.placed += 1;
+        Ok(())
+    }
+
+    /// A task that has a place stands otherwise. Where the part is closed and that was its last task with a place, its
+    /// memory is given back.
+    pub(crate) fn change(&mut self, task: usize, standing: Standing, is_closed: bool)
+        requires { has_place (standing_at self.old task) ≡ true }
+        ensures { self.new ≡ left_of is_closed (slice_set self.old task standing) }
+    {
+        self.write(task, standing);
+        if is_closed {
+            self.close();
+        }
+    }
+
+    /// No number of it comes any more: where no task of it has a place, its memory is given back.
+    pub(crate) fn close(&mut self)
+        ensures { self.new ≡ left_of true self.old }
+    {
+        if self.count() == 0 {
+            self.clear();
+        }
+    }
+
+    // A task that has a place stands otherwise.
+    fn write(&mut self, task: usize, standing: Standing)
+        requires { has_place (standing_at self.old task) ≡ true }
+        ensures { self.new ≡ slice_set self.old task standing }
+    {
+        let at = task / PAGE;
+        let is_closed = at < self.len / PAGE;
+        self.pages[at].change(task % PAGE, standing, is_closed);
+        self.placed = self.placed - 1 + places_of(standing);
+    }
+
+    // No task of it has a place.
+    fn clear(&mut self)
+        ensures { self.new ≡ [] }
+    {
+        give_back(&mut self.pages);
+        self.len = 0;
+        self.placed = 0;
+    }
+}
+
+/// The greater of two numbers.
+pub(crate) fn greater_of(a: usize, b: usize) -> usize
+    ensures first { a ≤ result }
+    ensures second { b ≤ result }
+    ensures one { (result ≡ a) ⊎ (result ≡ b) }
+{
+    if a < b { b } else { a }
+}
+
+// Where the page that was begun last is another than that at this place, no number of it comes any more.
+fn close_before(pages: &mut Vec<Page>, begun: usize, at: usize)
+    ensures items { pages.new.items ≡ closed_before pages.old.items begun at }
+    ensures room { vec_capacity pages.new ≡ vec_capacity pages.old }
+{
+    if begun < at && begun < pages.len() {
+        pages[begun].close();
+    }
+}
+
+// The page at this place is there.
+fn open_page(pages: &mut Vec<Page>, alloc: Global, at: usize) -> Result<(), AllocError>
+    requires { at < 256 }
+    ensures same { (i : ℕ) → child_at pages.new.items i ≡ child_at pages.old.items i }
+    ensures inside { OnOk result (at < length pages.new.items) }
+    ensures refused { OnErr result (pages.new.items ≡ pages.old.items) }
+    ensures room { OnErr result (vec_capacity pages.new ≡ vec_capacity pages.old) }
+{
+    if at < pages.len() {
+        return Ok(());
+    }
+    let missing = at + 1 - pages.len();
+    pages.reserve(missing)?;
+    for _ in 0..missing {
+        pages.push_reserved(Page::new(alloc));
+    }
+    Ok(())
+}
+
+// No page, and no memory.
+fn give_back(pages: &mut Vec<Page>)
+    ensures items { pages.new.items ≡ [] }
+    ensures room { vec_capacity pages.new ≡ 0 }
+{
+    pages.truncate(0);
+    pages.shrink_to_fit();
+}
