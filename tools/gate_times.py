@@ -12,7 +12,6 @@ import os
 import resource
 import subprocess
 import sys
-import tempfile
 import time
 
 sys.dont_write_bytecode = True
@@ -20,6 +19,7 @@ import below
 
 TOP = below.TOP
 TICKS = os.sysconf("SC_CLK_TCK")
+LOG = os.path.join(TOP, "bin", "gate.log")
 KINDS = ("proof", "tests", "edits")
 
 # The lower half: the tables and the wheel, tasks, timers, the inbox, the join word, jobs, combinators, streams, the
@@ -87,7 +87,8 @@ def look(root, used, kinds):
 def run_gate(arguments):
     """Runs the gate; gives what each check used, the last line, the status, and the processor seconds of the whole."""
     used, kinds = {}, {}
-    with tempfile.TemporaryFile("w+", encoding="utf-8") as log:
+    os.makedirs(os.path.dirname(LOG), exist_ok=True)
+    with open(LOG, "w+", encoding="utf-8") as log:
         run = subprocess.Popen(["rt", "ci", *arguments], cwd=TOP, stdout=log, stderr=log)
         while run.poll() is None:
             look(run.pid, used, kinds)
