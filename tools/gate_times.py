@@ -3,6 +3,8 @@
 
 usage: tools/gate_times.py [RT CI'S ARGUMENTS ..]     (without arguments: --anew)
 
+What the gate prints is kept in bin/gate.log.
+
 The descendants of this run of the gate are looked at twice a second, and no other process: what a check has used when
 it is last seen counts for its crate. The sum of all is what the system counts for the run when it has ended; what no
 check was seen to use (the gate itself, compiled tests and programs, compilers) stands in the row "beside the checks".
