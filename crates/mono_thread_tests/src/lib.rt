@@ -12,4 +12,6 @@ mod jobs;
 #[cfg(test)]
 mod joinwords;
 #[cfg(test)]
+mod marks;
+#[cfg(test)]
 mod pools;

@@ -281,27 +281,61 @@ fn a_refused_task_comes_back(rt: HostRuntime) -> Result<(), Fail> {
     Ok(())
 }
 
+/// Gives the pool so many jobs, and hands out their joiners. The output of each is its place.
+fn give_all<R: Host>(
+    rt: &R,
+    alloc: Global,
+    pool: &mut DefaultThreadPool<Gives>,
+    jobs: u64,
+) -> Result<Vec<JobJoiner<Gives>>, Fail> {
+    let mut joiners = Vec::new(alloc);
+    for number in 0..jobs {
+        let Ok((task, joiner)) = BlockingTask::new(alloc, Gives(number)) else {
+            return Err("memory".into());
+        };
+        if pool.schedule_task(rt, alloc, task).is_err() {
+            return Err("a job was not taken".into());
+        }
+        joiners.push(joiner)?;
+    }
+    Ok(joiners)
+}
+
+/// How many jobs have ended with their place as their output, up to the first that has not.
+fn ended(joiners: Vec<JobJoiner<Gives>>) -> u64 {
+    let mut number = 0u64;
+    for joiner in joiners {
+        if joiner.cancel() != Some(Ok(number)) {
+            return number;
+        }
+        number = number.wrapping_add(1);
+    }
+    number
+}
+
 #[test]
 fn one_worker_runs_all(rt: HostRuntime) -> Result<(), Fail> {
     let alloc = rt.alloc();
     let mut spawner = ThreadSpawner::new(alloc);
     let mut pool = DefaultThreadPool::new(&rt, alloc, 1, &mut spawner)?;
     assert_eq!(rt; pool.workers(), 1);
-    let mut joiners = Vec::new(alloc);
-    for number in 0..5u64 {
-        let Ok((task, joiner)) = BlockingTask::new(alloc, Gives(number)) else {
-            return Err("memory".into());
-        };
-        assert!(rt; pool.schedule_task(&rt, alloc, task).is_ok());
-        joiners.push(joiner)?;
-    }
+    let joiners = give_all(&rt, alloc, &mut pool, 5)?;
     pool.close(&rt);
     spawner.join(&rt);
-    let mut number = 0u64;
-    for joiner in joiners {
-        assert!(rt; joiner.cancel() == Some(Ok(number)));
-        number = number.wrapping_add(1);
-    }
+    assert_eq!(rt; ended(joiners), 5);
+    Ok(())
+}
+
+#[test]
+fn eight_workers_run_thirty_two_jobs(rt: HostRuntime) -> Result<(), Fail> {
+    let alloc = rt.alloc();
+    let mut spawner = ThreadSpawner::new(alloc);
+    let mut pool = DefaultThreadPool::new(&rt, alloc, 8, &mut spawner)?;
+    assert_eq!(rt; pool.workers(), 8);
+    let joiners = give_all(&rt, alloc, &mut pool, 32)?;
+    pool.close(&rt);
+    spawner.join(&rt);
+    assert_eq!(rt; ended(joiners), 32);
     Ok(())
 }
 
