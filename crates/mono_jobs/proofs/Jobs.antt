@@ -1,18 +1,28 @@
--- A job that is taken out of the table and put back.
-use Rattle.std.proofs.Common.{◌≡◌, ℕ, true, false, Bool, cond, Some, None, Option, refl, ap, sym, ◌∙◌}
-use Rattle.std.specs.Prelude.{Result, Ok, Err, length, slice_set, nat_lt}
-use Rattle.std.proofs.lemmas.List.{get_or-set_same, set-get_or, set-set, length-set}
-use Rattle.std.proofs.lemmas.Bool.{ltb-true}
-use Rattle.mono_model.specs.Table.{value_at, is_issued}
+-- A job that a call holds, and puts back or takes out of the table.
+use Rattle.std.proofs.Common.{◌≡◌, ◌<◌, ℕ, inl, inr, true, false, Bool, cond, Some, None, Option, refl, ap, sym, ◌∙◌}
+use Rattle.std.specs.Prelude.{Result, Ok, Err, length, slice_set, nat_lt, is_some}
+use Rattle.std.proofs.lemmas.List.{get_or-set_same, get_or_past, set-get_or, set-set, length-set}
+use Rattle.std.proofs.lemmas.Bool.{cases_lt, ltb-true}
+use Rattle.mono_model.specs.Table.{Table, value_at, is_issued}
 use Rattle.mono_model.specs.Jobs.{Jobs, Job}
 use Rattle.mono_model.specs.Jobs as job
 use Rattle.mono_machine.specs.JobCalls.{with_job, without_job, kept_job, kept_value, job_dropped, dropped_value, job_ended, ended_value, ended_as, job_polled, polled_value, polled_in}
 use Rattle.mono_joinword.specs.declared.outcome.JoinError.{JoinError}
-use Rattle.mono_jobs.specs.JobTable.{ended_job}
+use Rattle.mono_jobs.specs.JobTable.{ended_job, held_value, job_held}
 use Rattle.mono_jobs.specs.Asking.{how_of}
 use Rattle.mono_machine.specs.declared.events.How.{How}
 use Rattle.mono_machine.specs.declared.events.How.TheVariants as how
 use Rattle.mono_machine.specs.declared.events.Refusal.TheVariants as refusal
+
+none-true : {V : Type 0} (v : Option V) → v ≡ None → is_some v ≡ true → ⊥
+none-true v is some = cc
+
+-- a number with a value was given out
+pub some_inside : {V : Type 0} (table : Table V) (t : ℕ) → is_some (value_at table t) ≡ true → t < length table
+some_inside table t some = elim (cases_lt t (length table)) [
+  | inl below ↦ below
+  | inr past ↦ absurd (none-true (value_at table t) (get_or_past table t None past) some)
+]
 
 abbrev value_or : {A B : Type 0} → A → Result A B → A
 value_or d (Ok x) = x
@@ -46,10 +56,17 @@ module _ (jobs : Jobs) (j : ℕ) (v : Job) (kept : Ok v ≡ kept_job jobs j) whe
   pub polled_is : (by : ℕ) → job_polled jobs j by ≡ with_job jobs j (polled_in v by)
   polled_is by = ap (λ x. polled_value x jobs j by) (sym kept)
 
+  pub held_is : job_held jobs j ≡ with_job jobs j job.taken
+  held_is = ap (λ x. held_value x jobs j) (sym kept)
+
   -- put back to its place
-  pub back_is : (mid new : Jobs) (x : Job) → mid ≡ job_dropped jobs j → new ≡ with_job mid j x → new ≡ with_job jobs j x
-  back_is mid new x out put =
-      put ∙ ap (λ m. with_job m j x) (out ∙ dropped_is) ∙ ap (λ t. record { table = t; limit = jobs.limit }) (set-set jobs.table j None (Some x))
+  pub back_is : (mid new : Jobs) (x : Job) → mid ≡ job_held jobs j → new ≡ with_job mid j x → new ≡ with_job jobs j x
+  back_is mid new x held put =
+      put ∙ ap (λ m. with_job m j x) (held ∙ held_is) ∙ ap (λ t. record { table = t; limit = jobs.limit }) (set-set jobs.table j (Some job.taken) (Some x))
+
+  -- taken out while it is held
+  pub out_is : without_job (job_held jobs j) j ≡ job_dropped jobs j
+  out_is = ap (λ m. without_job m j) held_is ∙ ap (λ t. record { table = t; limit = jobs.limit }) (set-set jobs.table j (Some job.taken) None) ∙ sym dropped_is
 
   pub same_is : with_job jobs j v ≡ jobs
   same_is = ap (λ t. record { table = t; limit = jobs.limit }) (ap (λ x. slice_set jobs.table j x) (sym kept_is.1) ∙ set-get_or jobs.table j None)

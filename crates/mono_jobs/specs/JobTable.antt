@@ -8,6 +8,7 @@ use Rattle.mono_joinword.specs.Ends.{joiner_view}
 use Rattle.mono_joinword.specs.Views.{HasNumber}
 use Rattle.mono_joinword.specs.declared.outcome.JoinError.{JoinError}
 use Rattle.mono_joinword.specs.declared.views.JoinerView.{JoinerView}
+use Rattle.mono_machine.specs.JobCalls.{kept_job, with_job}
 use Rattle.mono_machine.specs.declared.events.Refusal.{Refusal}
 use Rattle.mono_jobs.specs.declared.table.Place.{Place}
 use Rattle.mono_jobs.specs.declared.table.Place.TheVariants.{Running, Ended, Taken}
@@ -20,6 +21,14 @@ pub record Seen : Type 0 where
 
 abbrev pub HasPlace : Seen → Type 0
 HasPlace seen = next_number seen.jobs.table < seen.room
+
+-- the jobs, while a call holds one whose handle is kept
+abbrev pub held_value : Result model.Job Refusal → Jobs → ℕ → Jobs
+held_value (Ok value) jobs j = with_job jobs j model.taken
+held_value (Err error) jobs j = jobs
+
+abbrev pub job_held : Jobs → ℕ → Jobs
+job_held jobs j = held_value (kept_job jobs j) jobs j
 
 module _ {A : Type 0} where
   abbrev pub ended_job : ℕ → Result A JoinError → model.Job

@@ -69,14 +69,14 @@ impl<P: ThreadPool + Drop> Blockings<P> {
         match &mut self.pool {
             BlockingHandle::Empty(BlockingStrategy::Panic) => Err(SpawnError::NoPool(job)),
             BlockingHandle::Empty(BlockingStrategy::ExecuteLocal) => {
-                if self.jobs.reserve().is_err() {
+                if self.jobs.reserve(alloc).is_err() {
                     return Err(SpawnError::Memory(job));
                 }
                 let number = job.number();
                 Ok(JobHandle::of_job(self.jobs.keep(number, job.run())))
             }
             BlockingHandle::Attached(pool) => {
-                if self.jobs.reserve().is_err() {
+                if self.jobs.reserve(alloc).is_err() {
                     return Err(SpawnError::Memory(job));
                 }
                 let number = job.number();

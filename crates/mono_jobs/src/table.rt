@@ -1,11 +1,11 @@
 // Jobs whose handles are kept, with the joiners of those that run and the outputs of those that have ended.
-ghost use Rattle.std.specs.Prelude.{◌≡◌, ◌<◌, IfOk, OnOk, is_some, true, false, None, Ok, Err, Some, []};
+ghost use Rattle.std.specs.Prelude.{◌≡◌, IfOk, OnOk, is_some, true, false, None, Ok, Err, Some, []};
 ghost use Rattle.mono_model.specs.Table.{value_at, next_number, is_full};
-ghost use Rattle.mono_model.specs.Jobs.{no_jobs, running, ended_ok};
+ghost use Rattle.mono_model.specs.Jobs.{no_jobs, running, ended_ok, taken};
 ghost use Rattle.mono_joinword.specs.Ends.{joiner_view};
 ghost use Rattle.mono_joinword.specs.Views.{fresh};
-ghost use Rattle.mono_machine.specs.JobCalls.{with_next_job, with_job, without_job, kept_job, poll_answer, job_polled, drop_answer, job_dropped};
-ghost use Rattle.mono_jobs.specs.JobTable.{HasPlace, job_of, joiner_of, found_of, IsSound};
+ghost use Rattle.mono_machine.specs.JobCalls.{with_next_job, with_job, kept_job, poll_answer, job_polled, drop_answer, job_dropped};
+ghost use Rattle.mono_jobs.specs.JobTable.{HasPlace, job_of, joiner_of, found_of, job_held, IsSound};
 ghost use Rattle.mono_jobs.specs.Asking.{IsEnd, after_end, polled_reply, dropped_reply, joiner_at, used, left, PollShown, DropShown, FinishShown};
 
 use crate::ends::{Answered, End, PolledJob, how_of};
@@ -13,9 +13,9 @@ use mono_blocking::{Job, JobJoiner, JobWaker, JoinError};
 use mono_joinword::{Cancelled, Wakes};
 use mono_machine::Refusal;
 use mono_model::Poll;
+use mono_ready::ReadyTable;
 use std::alloc::{AllocError, Global};
 use std::marker::Model;
-use std::mem;
 
 /// A job whose handle is kept: it runs, and a task may wait for it; or it has ended; or its output was taken.
 #[derive(Drop)]
@@ -24,30 +24,27 @@ pub enum Place<J: Job> {
     Running(u64, JobJoiner<J>, Option<u64>),
     /// It has ended with this output, or was canceled.
     Ended(u64, Result<J::Output, JoinError>),
-    /// Its output was taken.
+    /// Its output was taken. So it stands, too, while a call holds the job itself, and in the place of the next one.
     Taken,
 }
 
-/// The jobs by their numbers, and how many there may be.
+/// The jobs by their numbers, and how many there may be. Of a job whose handle was dropped nothing is left.
 #[derive(Drop)]
 pub struct JobTable<J: Job> {
-    places: Vec<Option<Place<J>>>,
-    kept: u64,
+    places: ReadyTable<Place<J>>,
     limit: u64,
 }
 
 impl<J: Job> Model for JobTable<J> {
-    ghost use Rattle.std.specs.Prelude.{◌≡◌, vec_capacity};
-    ghost use Rattle.mono_model.specs.Table.{count_of};
     ghost use Rattle.mono_jobs.specs.JobTable.{Seen};
 
     ghost Value = { Seen };
 
     ghost use Rattle.mono_jobs.specs.JobTable.{jobs_of, joiners_of, AreSound};
 
-    ghost view = { λ a. record { jobs = jobs_of a.places.items a.limit; joiners = joiners_of a.places.items; room = vec_capacity a.places } };
+    ghost view = { λ a. record { jobs = jobs_of a.places.table a.limit; joiners = joiners_of a.places.table; room = a.places.room } };
 
-    ghost invariant = { λ a. (a.kept ≡ count_of a.places.items) × AreSound J.Output.output_number a.places.items };
+    ghost invariant = { λ a. AreSound J.Output.output_number a.places.table };
 }
 
 impl<J: Job> JobTable<J> {
@@ -56,8 +53,7 @@ impl<J: Job> JobTable<J> {
         ensures { result.jobs ≡ no_jobs limit }
     {
         JobTable {
-            places: Vec::new(alloc),
-            kept: 0,
+            places: ReadyTable::new(alloc),
             limit,
         }
     }
@@ -66,15 +62,15 @@ impl<J: Job> JobTable<J> {
     pub fn is_full(&self) -> bool
         ensures { result ≡ is_full self.now.jobs.table self.now.jobs.limit }
     {
-        self.kept >= self.limit || self.places.len() as u64 == u64::MAX
+        self.places.count() >= self.limit || self.places.len() == u64::MAX
     }
 
-    /// Room for one more.
-    pub fn reserve(&mut self) -> Result<(), AllocError>
+    /// A place for one more. Refused for want of memory, or where the numbers are used up.
+    pub fn reserve(&mut self, alloc: Global) -> Result<(), AllocError>
         ensures place { OnOk result (HasPlace self.new) }
         ensures jobs { self.new.jobs ≡ self.old.jobs }
     {
-        self.places.reserve(1)
+        self.places.reserve(alloc, Place::Taken)
     }
 
     /// One more job, which runs elsewhere, with the number of its output.
@@ -104,55 +100,57 @@ impl<J: Job> JobTable<J> {
         ensures number { result ≡ next_number self.old.jobs.table }
         ensures jobs { self.new.jobs ≡ with_next_job self.old.jobs (job_of place) }
     {
-        let j = self.places.len() as u64;
-        self.places.push_reserved(Some(place));
-        self.kept += 1;
-        j
+        self.places.add(place)
     }
 
-    /// Takes a job whose handle is kept out of the table.
+    /// What stands at a job whose handle is kept, for a call to hold. Until it is put back its output counts as taken.
     fn take(&mut self, j: u64) -> Result<Place<J>, Refusal>
+        ensures found { found_of result ≡ kept_job self.old.jobs j }
+        ensures jobs { self.new.jobs ≡ job_held self.old.jobs j }
+        ensures kept { OnOk result (is_some (value_at self.new.jobs.table j) ≡ true) }
+        ensures sound { IfOk result (IsSound J.Output.output_number) }
+        ensures joiner { IfOk result (λ place. joiner_at self.old j ≡ joiner_of place) }
+    {
+        if j >= self.places.len() {
+            return Err(Refusal::NoTask);
+        }
+        if !self.places.has(j) {
+            return Err(Refusal::NoHandle);
+        }
+        Ok(self.hold(j))
+    }
+
+    /// What stands at a job.
+    fn hold(&mut self, j: u64) -> Place<J>
+        requires { is_some (value_at self.old.jobs.table j) ≡ true }
+        ensures found { value_at self.old.jobs.table j ≡ Some (job_of result) }
+        ensures jobs { self.new.jobs ≡ with_job self.old.jobs j taken }
+        ensures sound { IsSound J.Output.output_number result }
+        ensures joiner { joiner_at self.old j ≡ joiner_of result }
+    {
+        self.places.replace(j, Place::Taken)
+    }
+
+    /// Takes a job whose handle is kept out of the table. It takes no memory.
+    fn take_out(&mut self, j: u64) -> Result<Place<J>, Refusal>
         ensures found { found_of result ≡ kept_job self.old.jobs j }
         ensures jobs { self.new.jobs ≡ job_dropped self.old.jobs j }
         ensures sound { IfOk result (IsSound J.Output.output_number) }
         ensures joiner { IfOk result (λ place. joiner_at self.old j ≡ joiner_of place) }
     {
-        match self.places.get(j as usize) {
-            None => Err(Refusal::NoTask),
-            Some(None) => Err(Refusal::NoHandle),
-            Some(Some(_)) => Ok(self.remove(j)),
-        }
+        let place = self.take(j)?;
+        self.places.remove(j);
+        Ok(place)
     }
 
-    /// Takes a job out.
-    fn remove(&mut self, j: u64) -> Place<J>
-        requires kept { is_some (value_at self.old.jobs.table j) ≡ true }
-        requires inside { j < next_number self.old.jobs.table }
-        ensures found { value_at self.old.jobs.table j ≡ Some (job_of result) }
-        ensures jobs { self.new.jobs ≡ without_job self.old.jobs j }
-        ensures sound { IsSound J.Output.output_number result }
-        ensures joiner { joiner_at self.old j ≡ joiner_of result }
-    {
-        match mem::replace(&mut self.places[j as usize], None) {
-            None => unreachable!(),
-            Some(place) => {
-                self.kept -= 1;
-                place
-            }
-        }
-    }
-
-    /// Puts a job that was taken out back to its place.
+    /// Puts what a call held back to its place.
     fn put(&mut self, j: u64, place: Place<J>)
-        requires issued { j < next_number self.old.jobs.table }
-        requires gone { value_at self.old.jobs.table j ≡ None }
+        requires kept { is_some (value_at self.old.jobs.table j) ≡ true }
         requires sound { IsSound J.Output.output_number place }
         ensures jobs { self.new.jobs ≡ with_job self.old.jobs j (job_of place) }
         ensures joiner { joiner_at self.new j ≡ joiner_of place }
     {
-        let gone = mem::replace(&mut self.places[j as usize], Some(place));
-        drop(gone);
-        self.kept += 1;
+        drop(self.places.replace(j, place));
     }
 
     /// A poll of a job's handle with a waker, whose task waits for the job from then on where it runs. `end` is the job's
@@ -166,14 +164,8 @@ impl<J: Job> JobTable<J> {
     {
         match self.take(j) {
             Err(refusal) => PolledJob::told(Err(refusal)),
-            Ok(Place::Taken) => {
-                self.put(j, Place::Taken);
-                PolledJob::told(Err(Refusal::Taken))
-            }
-            Ok(Place::Ended(_number, output)) => {
-                self.put(j, Place::Taken);
-                PolledJob::told(Ok(Poll::Ready(output)))
-            }
+            Ok(Place::Taken) => PolledJob::told(Err(Refusal::Taken)),
+            Ok(Place::Ended(_number, output)) => PolledJob::told(Ok(Poll::Ready(output))),
             Ok(Place::Running(number, joiner, waiter)) => {
                 let mut joiner = joiner;
                 let by = waker.number();
@@ -183,7 +175,6 @@ impl<J: Job> JobTable<J> {
                         PolledJob::told(Ok(Poll::Pending))
                     }
                     Poll::Ready(output) => {
-                        self.put(j, Place::Taken);
                         let how = how_of(&output);
                         PolledJob {
                             end: Some(End { how, waiter }),
@@ -204,7 +195,7 @@ impl<J: Job> JobTable<J> {
         ensures jobs { self.new.jobs ≡ job_dropped (after_end result.end self.old.jobs j) j }
         ensures shown { DropShown J.Output.output_number self.old j result.answer (left result.seat) }
     {
-        match self.take(j) {
+        match self.take_out(j) {
             Err(refusal) => Answered::told(Err(refusal)),
             Ok(Place::Taken) => Answered::told(Ok(None)),
             Ok(Place::Ended(_number, output)) => Answered::told(Ok(Some(output))),
@@ -239,10 +230,7 @@ impl<J: Job> JobTable<J> {
     {
         match self.take(j) {
             Err(refusal) => Err(refusal),
-            Ok(Place::Taken) => {
-                self.put(j, Place::Taken);
-                Ok(true)
-            }
+            Ok(Place::Taken) => Ok(true),
             Ok(Place::Ended(number, output)) => {
                 self.put(j, Place::Ended(number, output));
                 Ok(true)

@@ -187,6 +187,65 @@ fn a_refused_task_makes_no_job(rt: HostRuntime) -> Result<(), Fail> {
     Ok(())
 }
 
+/// Jobs past the second page of the table.
+const THROUGH: u64 = 600;
+
+/// How many jobs live beside the first one, once that many were made.
+const ALIVE: u64 = 10;
+
+/// One more job, and the drop of the one that was made so many before, whose output comes back; the sum of the outputs.
+fn one_comes_one_goes<R: Host>(
+    rt: &R,
+    alloc: Global,
+    jobs: &mut Blockings<Keeps>,
+    waiting: &Waiting,
+    number: u64,
+) -> Result<u64, Fail> {
+    if made(jobs.spawn(rt, alloc, Gives(number)))? != number {
+        return Err("another number".into());
+    }
+    run_all(rt, waiting);
+    if number <= ALIVE {
+        return Ok(0);
+    }
+    let gone = number.wrapping_sub(ALIVE);
+    match jobs.drop_handle(gone).answer {
+        Ok(Some(Ok(output))) if jobs.has_ended(gone).is_err() => Ok(output),
+        _ => Err("no output".into()),
+    }
+}
+
+#[test]
+fn the_first_job_outlives_pages(rt: HostRuntime) -> Result<(), Fail> {
+    let alloc = rt.alloc();
+    let (mut jobs, waiting) = jobs_on(alloc, u64::MAX, ALIVE.wrapping_add(2))?;
+    assert_eq!(rt; made(jobs.spawn(&rt, alloc, Gives(7)))?, 0);
+    let mut sum = 0u64;
+    for number in 1..THROUGH {
+        let output = one_comes_one_goes(&rt, alloc, &mut jobs, &waiting, number)?;
+        sum = sum.wrapping_add(output);
+    }
+    assert_eq!(rt; sum, 173755);
+    for number in [1u64, 255, 256, 511, 512, 589] {
+        assert!(rt; matches!(jobs.has_ended(number), Err(Refusal::NoHandle)));
+        assert!(rt; matches!(jobs.drop_handle(number).answer, Err(Refusal::NoHandle)));
+    }
+    assert!(rt; matches!(jobs.has_ended(THROUGH), Err(Refusal::NoTask)));
+    assert!(rt; matches!(jobs.has_ended(590), Ok(true)));
+    let polled = jobs.poll(0, waker(&rt, alloc, 3)?);
+    assert!(rt; matches!(polled.answer, Ok(Poll::Ready(Ok(7)))));
+    assert_eq!(rt; made(jobs.spawn(&rt, alloc, Gives(8)))?, THROUGH);
+    assert!(rt;
+        matches!(
+            jobs.spawn(&rt, alloc, Gives(9)),
+            Err(SpawnError::AtCapacity(Gives(9)))
+        )
+    );
+    assert!(rt; matches!(jobs.drop_handle(0).answer, Ok(None)));
+    assert!(rt; matches!(jobs.has_ended(0), Err(Refusal::NoHandle)));
+    Ok(())
+}
+
 #[test]
 fn an_end_is_seen_once(rt: HostRuntime) -> Result<(), Fail> {
     let alloc = rt.alloc();

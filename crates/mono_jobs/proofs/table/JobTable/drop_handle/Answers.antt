@@ -10,4 +10,4 @@ returns-in-Some-clause-jobs g c =
     let jobs = c.args.self.now.jobs in
     let j = c.args.j in
     let kept : Ok (job.running c.in-Ok-Running._number c.in-Ok-Running.waiter) ≡ kept_job jobs j = subst (λ p. Ok (job_of p) ≡ kept_job jobs j) c.in-Ok-Running.field-0-is c.in-Ok-Running.ensures.found in
-    c.take.ensures.jobs ∙ dropped_is jobs j _ kept ∙ sym (dropped_then jobs j _ _ kept c.how_of-how.result)
+    c.take_out.ensures.jobs ∙ dropped_is jobs j _ kept ∙ sym (dropped_then jobs j _ _ kept c.how_of-how.result)
