@@ -234,7 +234,7 @@ module _ {F : Type 0} (asks : F → ℕ → Bool → F → Type 0) where
     stays : Stays s t
 
   with_twice : (v : Lists) (l m : ℕ) (xs ys : List ℕ) → m ≡ l → with_list (with_list v l xs) m ys ≡ with_list v l ys
-  with_twice v l m xs ys e = subst (λ z. with_list (with_list v l xs) z ys ≡ with_list v l ys) (sym e) (ap (λ zs. record { lists = zs; nodes = v.nodes; room = v.room }) (set-set v.lists l xs ys))
+  with_twice v l m xs ys e = subst (λ z. with_list (with_list v l xs) z ys ≡ with_list v l ys) (sym e) (ap (λ zs. record { lists = zs; nodes = v.nodes; entries = v.entries; room = v.room }) (set-set v.lists l xs ys))
 
   ran : (given : List ℕ) (s t : DrainFilter F) → s.links.now ≡ with_list s.links.now s.list (spared_of s ++ left_of s) → Yields (DrainSteps asks) s given t → Ran s given t
   ran [] s t settled y =
@@ -267,7 +267,7 @@ module _ {F : Type 0} (asks : F → ℕ → Bool → F → Type 0) where
     settled : s.links.now ≡ with_list s.links.now s.list (spared_of s ++ left_of s)
     settled =
         let whole : spared_of s ++ left_of s ≡ list_at s.links.now s.list = ap (λ zs. zs ++ left_of s) none ∙ left ∙ (λ i. list_at (sym links i) (sym at i)) in
-        sym (ap (with_list s.links.now s.list) whole ∙ ap (λ zs. record { lists = zs; nodes = s.links.now.nodes; room = s.links.now.room }) (set-get_or s.links.now.lists s.list []))
+        sym (ap (with_list s.links.now s.list) whole ∙ ap (λ zs. record { lists = zs; nodes = s.links.now.nodes; entries = s.links.now.entries; room = s.links.now.room }) (set-get_or s.links.now.lists s.list []))
 
     so_far : (given : List ℕ) (t : DrainFilter F) → Yields (DrainSteps asks) s given t → Drained asks old list choose given t × (lender_of t ≡ lender_of s)
     so_far given t y =

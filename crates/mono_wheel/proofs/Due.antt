@@ -1,5 +1,5 @@
 -- The first pending key is taken out.
-use Rattle.std.proofs.Common.{arith, ◌≡◌, ℕ, ◌<◌, inl, inr, length, false, List, [], ◌∷◌, ◌++◌, map, Option, Some, None, set, ap, refl, sym, ◌∙◌, subst}
+use Rattle.std.proofs.Common.{arith, ◌≡◌, ℕ, ◌<◌, inl, inr, length, List, [], ◌∷◌, ◌++◌, map, Option, Some, None, set, ap, refl, sym, ◌∙◌, subst}
 use Rattle.mono_wheel.specs.Lists.{Lists, IsIn, with_list, without, list_at}
 use Rattle.mono_wheel.specs.Model.{Timed, Wheel, StandsBehind, Fits}
 use Rattle.mono_wheel.specs.Held.{timed_of, timed_in, StandsIn, Held, DueTaken}

@@ -1,8 +1,10 @@
 -- The ticks of keys in a table of entries.
-use Rattle.std.proofs.Common.{arith, ◌≡◌, ◌≢◌, zero, suc, ℕ, ◌<◌, inl, inr, length, List, [], ◌∷◌, ◌++◌, map, Some, None, get_or, set, ap, refl, sym, ◌∙◌, get_or-set_same, get_or-set_other, eq-eqb}
+use Rattle.std.proofs.Common.{arith, not, ◌==◌, is_some, ◌≡◌, ◌≢◌, zero, suc, ℕ, ◌<◌, inl, inr, length, List, [], ◌∷◌, ◌++◌, map, Some, None, get_or, set, ap, refl, sym, ◌∙◌, get_or-set_same, get_or-set_other, eq-eqb}
 use Rattle.std.proofs.lemmas.Bool.Decides.{eqb_tells}
 use Rattle.std.proofs.lemmas.Bool.{cases_lt}
+use Rattle.std.proofs.Math.ListN.{get_or-map as get_or-map_any}
 use Rattle.std.proofs.lemmas.List.{map-set, length-map, get_or_past, get_or-map}
+use Rattle.mono_wheel.specs.Lists.{no_entry}
 use Rattle.mono_wheel.specs.Held.{timed_of, timed_in}
 use Rattle.mono_wheel.specs.declared.entry.Entry.{Entry}
 use Rattle.mono_wheel.proofs.Starts.{eqb-no}
@@ -24,6 +26,22 @@ none_of x e = rw (eq-eqb x.tick 0 e) refl
 
 pub some_of : (x : Entry) → x.tick ≢ 0 → timed_of x ≡ Some record { tick = x.tick; registered = x.registered }
 some_of x ne = rw (eqb-no x.tick 0 ne) refl
+
+-- what is read is the same by any default
+pub read-in : (entries : List Entry) (key : ℕ) (x d : Entry) → key < length entries → x ≡ get_or entries key d → x ≡ get_or entries key x
+read-in [] key x d b e = absurd (omega (arith, b))
+read-in (y ∷ ys) zero x d b e = e
+read-in (y ∷ ys) (suc k) x d b e = read-in ys k x d (omega (arith, b)) e
+
+-- the ticks of a key, by what is read
+pub timed-read : (entries : List Entry) (key : ℕ) → timed_in entries key ≡ timed_of (get_or entries key no_entry)
+timed-read entries key = get_or-map_any timed_of entries key no_entry
+
+pub is-read : (entries : List Entry) (key : ℕ) (x : Entry) → x ≡ get_or entries key no_entry → not (x.tick == 0) ≡ is_some (timed_in entries key)
+is-read entries key x e = told x ∙ ap (λ z. is_some (timed_of z)) e ∙ sym (ap is_some (timed-read entries key))
+  where
+    told : (x : Entry) → not (x.tick == 0) ≡ is_some (timed_of x)
+    told x = elim (eqb_tells x.tick 0) [ inl t ↦ rw t.0 refl | inr f ↦ rw f.0 refl ]
 
 pub entry-inside : (entries : List Entry) (key : ℕ) (x : Entry) → key < length entries → x ≡ get_or entries key x → (timed_in entries key ≡ None → ⊥) → x.tick ≢ 0
 entry-inside entries key x below e some z = some (get_or-map-at entries key x below ∙ ap timed_of (sym e) ∙ none_of x z)

@@ -1,7 +1,7 @@
 -- Where the lists of a wheel hold its keys, and what is true while the keys of one slot are registered anew.
 use Rattle.std.specs.Prelude.{◌≡◌, ◌≢◌, ℕ, ◌+◌, ◌*◌, ◌/◌, ◌%◌, ◌<◌, ◌≤◌, ◌⊎◌, true, ◌==◌, if◌then◌else◌, List, [], ◌∷◌, length, map, Option, Some, None, slice_index_or, slice_set}
 use Rattle.mono_wheel.specs.Start.{far_digit, slot_of, start, top_level, slot_count, pending_list, taken_list, list_count}
-use Rattle.mono_wheel.specs.Lists.{Lists, IsIn, list_at, is_node, with_list}
+use Rattle.mono_wheel.specs.Lists.{Lists, IsIn, list_at, is_node, with_list, with_entry}
 use Rattle.mono_wheel.specs.Model.{Timed, Fits, StandsBehind, timed_after, IsPending, Precedes, Wheel, AllFit, timed_at}
 use Rattle.mono_wheel.specs.declared.entry.Entry.{Entry}
 
@@ -29,6 +29,10 @@ timed_of entry = if entry.tick == 0 then None else Some record { tick = entry.ti
 
 abbrev pub timed_in : List Entry → ℕ → Option Timed
 timed_in entries key = slice_index_or (map timed_of entries) key None
+
+-- a wheel as these lists, with what their nodes carry, show it
+abbrev pub wheel_of : ℕ → Lists → Wheel
+wheel_of elapsed links = record { elapsed = elapsed; entries = map timed_of links.entries; reserved = links.nodes; lines = links.lists }
 
 -- the key with these ticks is in this list
 abbrev pub StandsIn : ℕ → ℕ → Option Timed → Type 0
@@ -99,7 +103,7 @@ pub record Registered (elapsed : ℕ) (entries entries2 : List Entry) (links lin
   pub entry : Entry
   pub was : entry ≡ slice_index_or entries key entry
   pub entries_are : entries2 ≡ slice_set entries key (entry_anew entry)
-  pub links_are : links2 ≡ with_list links (place_in elapsed entry.tick) (key ∷ list_at links (place_in elapsed entry.tick))
+  pub links_are : links2 ≡ with_entry (with_list links (place_in elapsed entry.tick) (key ∷ list_at links (place_in elapsed entry.tick))) key (entry_anew entry)
 
 -- the clock of a wheel went on, nothing went out, and no true tick was passed
 pub record Advanced (old new : Wheel) : Type 0 where

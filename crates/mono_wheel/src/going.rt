@@ -6,7 +6,6 @@ ghost use Rattle.mono_wheel.specs.Held.{Settling};
 ghost use Rattle.mono_wheel.specs.Onward.{at_tick, ComesTo};
 
 use crate::Steps;
-use crate::entry::Entry;
 use crate::numbers::{slot_size, slot_start};
 use crate::search::NextSlot;
 use crate::slot_links::SlotLinks;
@@ -57,22 +56,16 @@ fn within(start: u64, size: u64, tick: u64, now: u64) -> u64
 /// Where the slot has several keys it is the start. Where it has one alone it is the key's true tick, but not
 /// above `now` and not past the slot's end: no other slot starts before that. The steps that are spared so are
 /// counted here.
-pub fn goes_to<L: Ledger>(
-    slot: NextSlot,
-    now: u64,
-    entries: &Vec<Entry>,
-    links: &SlotLinks,
-    steps: &mut Steps<L>,
-) -> u64
-    requires settling { Settling slot.start entries.now.items links.now }
+pub fn goes_to<L: Ledger>(slot: NextSlot, now: u64, links: &SlotLinks, steps: &mut Steps<L>) -> u64
+    requires settling { Settling slot.start links.now.entries links.now }
     requires by { slot.start ≤ now }
     requires list { slot.list < slot_count }
-    ensures { ComesTo slot.start now (slot.list / 64) entries.now.items links.now steps.old steps.new result }
+    ensures { ComesTo slot.start now (slot.list / 64) links.now.entries links.now steps.old steps.new result }
 {
     match links.only_taken() {
         None => slot.start,
         Some(key) => {
-            let tick = entries[key].tick;
+            let tick = links.entry(key).tick;
             let goal = within(slot.start, slot_size(slot.list / 64), tick, now);
             steps.add(takes_between(slot.start, goal, tick));
             goal

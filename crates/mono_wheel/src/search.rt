@@ -2,7 +2,6 @@
 ghost use Rattle.std.specs.Prelude.{◌≤◌, MatchOption};
 ghost use Rattle.mono_wheel.specs.Held.{Held, IsNextSlot, NoSlots, NoSlotBy};
 
-use crate::entry::Entry;
 use crate::numbers::slot_start;
 use crate::slot_links::SlotLinks;
 
@@ -13,26 +12,26 @@ pub struct NextSlot {
 }
 
 /// The slot that starts first of those that have a key.
-pub fn next_slot(elapsed: u64, entries: &Vec<Entry>, links: &SlotLinks) -> Option<NextSlot>
-    requires { Held elapsed entries.now.items links.now }
-    ensures { MatchOption result (NoSlots elapsed entries.now.items) (λ slot. IsNextSlot elapsed entries.now.items slot.list slot.start) }
+pub fn next_slot(elapsed: u64, links: &SlotLinks) -> Option<NextSlot>
+    requires { Held elapsed links.now.entries links.now }
+    ensures { MatchOption result (NoSlots elapsed links.now.entries) (λ slot. IsNextSlot elapsed links.now.entries slot.list slot.start) }
 {
     match links.first_occupied(elapsed) {
         None => None,
         Some(list) => {
             let key = links.last(list)?;
-            let start = slot_start(elapsed, entries[key].registered);
+            let start = slot_start(elapsed, links.entry(key).registered);
             Some(NextSlot { list, start })
         }
     }
 }
 
 /// The same, where it starts at `now` or before.
-pub fn slot_by(elapsed: u64, now: u64, entries: &Vec<Entry>, links: &SlotLinks) -> Option<NextSlot>
-    requires { Held elapsed entries.now.items links.now }
-    ensures { MatchOption result (NoSlotBy elapsed now entries.now.items) (λ slot. IsNextSlot elapsed entries.now.items slot.list slot.start × (slot.start ≤ now)) }
+pub fn slot_by(elapsed: u64, now: u64, links: &SlotLinks) -> Option<NextSlot>
+    requires { Held elapsed links.now.entries links.now }
+    ensures { MatchOption result (NoSlotBy elapsed now links.now.entries) (λ slot. IsNextSlot elapsed links.now.entries slot.list slot.start × (slot.start ≤ now)) }
 {
-    match next_slot(elapsed, entries, links) {
+    match next_slot(elapsed, links) {
         None => None,
         Some(slot) => { if slot.start <= now { Some(slot) } else { None } }
     }

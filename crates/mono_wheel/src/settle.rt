@@ -11,30 +11,31 @@ use crate::slot_links::SlotLinks;
 use std::sync::ledger::Ledger;
 
 // Registers one key that stands in no list at its true tick.
-fn register(elapsed: u64, entries: &mut Vec<Entry>, links: &mut SlotLinks, key: usize)
-    requires room { key < length entries.old.items }
+fn register(elapsed: u64, links: &mut SlotLinks, key: usize)
+    requires room { key < length links.old.entries }
     requires loose { IsLoose links.old key }
-    ensures { Registered elapsed entries.old.items entries.new.items links.old links.new key }
+    ensures { Registered elapsed links.old.entries links.new.entries links.old links.new key }
 {
-    let entry = &mut entries[key];
-    entry.registered = entry.tick;
-    let list = standing(elapsed, entry.registered);
+    let tick = links.entry(key).tick;
+    let list = standing(elapsed, tick);
     links.push_front(list, key);
+    links.set_entry(
+        key,
+        Entry {
+            tick,
+            registered: tick,
+        },
+    );
 }
 
 /// Registers the keys of the taken list at their true ticks, the last first.
-pub fn settle<L: Ledger>(
-    elapsed: u64,
-    entries: &mut Vec<Entry>,
-    links: &mut SlotLinks,
-    steps: &mut Steps<L>,
-)
-    requires { Settling elapsed entries.old.items links.old }
-    ensures held { Held elapsed entries.new.items links.new }
-    ensures settled { Settled entries.old.items entries.new.items links.old links.new }
+pub fn settle<L: Ledger>(elapsed: u64, links: &mut SlotLinks, steps: &mut Steps<L>)
+    requires { Settling elapsed links.old.entries links.old }
+    ensures held { Held elapsed links.new.entries links.new }
+    ensures settled { Settled links.old.entries links.new.entries links.old links.new }
     ensures steps { steps.new ≡ steps.old + length (list_at links.old taken_list) }
 {
     while let Some(key) = links.pop_taken(steps) {
-        register(elapsed, entries, links, key);
+        register(elapsed, links, key);
     }
 }

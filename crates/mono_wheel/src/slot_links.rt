@@ -1,10 +1,11 @@
 //! The lists of a wheel, and which slots have a node.
-ghost use Rattle.std.specs.Prelude.{◌≡◌, ◌≢◌, ℕ, ◌+◌, ◌<◌, ◌≤◌, true, false, [], ◌∷◌, ◌++◌, List, replicate, IfOk, OnOk, OnErr, IfSome, is_some, if◌then◌else◌};
+ghost use Rattle.std.specs.Prelude.{◌≡◌, ◌≢◌, ℕ, ◌+◌, ◌<◌, ◌≤◌, true, false, [], ◌∷◌, ◌++◌, List, replicate, IfOk, OnOk, OnErr, IfSome, is_some, if◌then◌else◌, length};
 ghost use Rattle.mono_wheel.specs.Rings.{Distinct};
-ghost use Rattle.mono_wheel.specs.Lists.{list_at, IsIn, IsLoose, is_node, with_list, without, IsLast, PoppedBack, Added, Freed};
-ghost use Rattle.mono_wheel.specs.Held.{IsFirstOccupied};
+ghost use Rattle.mono_wheel.specs.Lists.{list_at, IsIn, IsLoose, is_node, entry_at, no_entry, with_list, with_entry, without, IsLast, PoppedBack, Added, Freed};
+ghost use Rattle.mono_wheel.specs.Held.{IsFirstOccupied, timed_in};
 ghost use Rattle.mono_wheel.specs.Start.{slot_count, taken_list, list_count};
 
+use crate::entry::Entry;
 use crate::level::LEVELS;
 use crate::numbers::{PENDING, SLOTS, slot_at};
 use crate::occupied::Occupied;
@@ -44,6 +45,7 @@ impl SlotLinks {
     pub fn new(alloc: Global) -> Result<SlotLinks, AllocError>
         ensures lists { IfOk result (λ links. links.lists ≡ replicate list_count []) }
         ensures nodes { IfOk result (λ links. (node : ℕ) → is_node links node ≡ false) }
+        ensures entries { IfOk result (λ links. (node : ℕ) → entry_at links node ≡ no_entry) }
     {
         let links = Links::new(alloc, LISTS)?;
         Ok(SlotLinks {
@@ -57,6 +59,7 @@ impl SlotLinks {
         ensures once { (list : ℕ) → Distinct (list_at self.now list) }
         ensures apart { (list other node : ℕ) → IsIn node (list_at self.now list) → IsIn node (list_at self.now other) → list ≡ other }
         ensures known { (list node : ℕ) → IsIn node (list_at self.now list) → is_node self.now node ≡ true }
+        ensures entries { (node : ℕ) → is_node self.now node ≡ true → node < length self.now.entries }
     {
         self.links.lists_are_disjoint();
     }
@@ -87,6 +90,28 @@ impl SlotLinks {
         ensures { result ≡ is_node self.now node }
     {
         self.links.is_node(node)
+    }
+
+    /// The ticks that a node carries, 0 and 0 where it was given none or is not known.
+    pub fn entry(&self, node: usize) -> Entry
+        ensures { result ≡ entry_at self.now node }
+    {
+        self.links.entry(node)
+    }
+
+    /// Whether a node carries ticks.
+    pub fn is_in(&self, node: usize) -> bool
+        ensures { result ≡ is_some (timed_in self.now.entries node) }
+    {
+        self.links.entry(node).tick != 0
+    }
+
+    /// Lets a node carry these ticks.
+    pub fn set_entry(&mut self, node: usize, entry: Entry)
+        requires { is_node self.old node ≡ true }
+        ensures { self.new ≡ with_entry self.old node entry }
+    {
+        self.links.set_entry(node, entry);
     }
 
     /// Puts a node that is in no list before the first.

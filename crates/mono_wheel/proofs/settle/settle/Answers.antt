@@ -1,21 +1,28 @@
-use Rattle.std.proofs.Common.{arith, ◌≡◌, ◌+◌, length, [], ◌∷◌, ap, ◌∙◌, length-append}
+use Rattle.std.proofs.Common.{arith, sym, subst, ◌≡◌, ◌+◌, ◌<◌, length, [], ◌∷◌, ap, ◌∙◌, length-append}
 use Rattle.mono_wheel.specs.Lists.{list_at}
-use Rattle.mono_wheel.proofs.Settling.{step-settling, step-settled, taken}
+use Rattle.mono_wheel.proofs.Settling.{step-below, step-settling, step-settled, taken}
+use Rattle.mono_wheel.specs.Held.{Registered}
 use Rattle.mono_wheel.proofs.settle.settle.Goals as goal
 use Rattle.mono_wheel.specs.Start.{taken_list}
 
 pub loop-key-preserved : goal.loop-key-preserved
 loop-key-preserved g c = record {
-  settling = step-settling c.args.elapsed c.args.entries.now.items c.loop-key.entries.items c.register.new.entries.items c.args.links.now c.loop-key.links c.pop_taken.new.self c.register.new.links c.in-Some.key c.in-Some.ensures.popped.0
-      c.loop-key.invariant.settling c.loop-key.invariant.settled c.in-Some.ensures.popped.1 c.in-Some.ensures.popped.2 c.in-Some.ensures.loose c.register.ensures;
-  settled = step-settled c.args.elapsed c.args.entries.now.items c.loop-key.entries.items c.register.new.entries.items c.args.links.now c.loop-key.links c.pop_taken.new.self c.register.new.links c.in-Some.key c.in-Some.ensures.popped.0
-      c.loop-key.invariant.settling c.loop-key.invariant.settled c.in-Some.ensures.popped.1 c.in-Some.ensures.popped.2 c.in-Some.ensures.loose c.register.ensures;
+  settling = step-settling c.args.elapsed c.args.links.now.entries c.loop-key.links.entries c.register.new.links.entries c.args.links.now c.loop-key.links c.pop_taken.new.self c.register.new.links c.in-Some.key c.in-Some.ensures.popped.0
+      c.loop-key.invariant.settling c.loop-key.invariant.settled c.in-Some.ensures.popped.1 c.in-Some.ensures.popped.2 c.in-Some.ensures.loose (subst (λ es. Registered c.args.elapsed es c.register.new.links.entries c.pop_taken.new.self c.register.new.links c.in-Some.key) (ap (λ w. w.entries) c.in-Some.ensures.popped.2) c.register.ensures);
+  settled = step-settled c.args.elapsed c.args.links.now.entries c.loop-key.links.entries c.register.new.links.entries c.args.links.now c.loop-key.links c.pop_taken.new.self c.register.new.links c.in-Some.key c.in-Some.ensures.popped.0
+      c.loop-key.invariant.settling c.loop-key.invariant.settled c.in-Some.ensures.popped.1 c.in-Some.ensures.popped.2 c.in-Some.ensures.loose (subst (λ es. Registered c.args.elapsed es c.register.new.links.entries c.pop_taken.new.self c.register.new.links c.in-Some.key) (ap (λ w. w.entries) c.in-Some.ensures.popped.2) c.register.ensures);
   counted =
-      let now = taken c.args.elapsed c.args.entries.now.items c.loop-key.entries.items c.register.new.entries.items c.args.links.now c.loop-key.links c.pop_taken.new.self c.register.new.links c.in-Some.key c.in-Some.ensures.popped.0
-      c.loop-key.invariant.settling c.loop-key.invariant.settled c.in-Some.ensures.popped.1 c.in-Some.ensures.popped.2 c.in-Some.ensures.loose c.register.ensures in
+      let now = taken c.args.elapsed c.args.links.now.entries c.loop-key.links.entries c.register.new.links.entries c.args.links.now c.loop-key.links c.pop_taken.new.self c.register.new.links c.in-Some.key c.in-Some.ensures.popped.0
+      c.loop-key.invariant.settling c.loop-key.invariant.settled c.in-Some.ensures.popped.1 c.in-Some.ensures.popped.2 c.in-Some.ensures.loose (subst (λ es. Registered c.args.elapsed es c.register.new.links.entries c.pop_taken.new.self c.register.new.links c.in-Some.key) (ap (λ w. w.entries) c.in-Some.ensures.popped.2) c.register.ensures) in
       let a : length (list_at c.register.new.links taken_list) ≡ length c.in-Some.ensures.popped.0 = ap length now in
       let b : length (list_at c.loop-key.links taken_list) ≡ length c.in-Some.ensures.popped.0 + 1 = ap length c.in-Some.ensures.popped.1 ∙ length-append c.in-Some.ensures.popped.0 (c.in-Some.key ∷ []) in
       let s = c.in-Some.ensures.steps in
       let i = c.loop-key.invariant.counted in
       omega (arith, a, b, s, i);
 }
+
+pub register-requires-clause-room : goal.register-requires-clause-room
+register-requires-clause-room g c =
+    subst (λ es. c.in-Some.key < length es) (sym (ap (λ w. w.entries) c.in-Some.ensures.popped.2))
+    (step-below c.args.elapsed c.args.links.now.entries c.loop-key.links.entries c.loop-key.links.entries c.args.links.now c.loop-key.links c.pop_taken.new.self c.pop_taken.new.self c.in-Some.key c.in-Some.ensures.popped.0
+    c.loop-key.invariant.settling c.loop-key.invariant.settled c.in-Some.ensures.popped.1 c.in-Some.ensures.popped.2 c.in-Some.ensures.loose)

@@ -6,8 +6,8 @@ use Rattle.mono_wheel.specs.Start.{taken_list}
 
 abbrev pub invariant-loop-key : goal.invariant-loop-key
 invariant-loop-key g l = record {
-  settling : Settling l.elapsed l.entries.items l.links;
-  settled : Settled l.fn.entries.items l.entries.items l.fn.links l.links;
+  settling : Settling l.elapsed l.links.entries l.links;
+  settled : Settled l.fn.links.entries l.links.entries l.fn.links l.links;
   counted : l.steps + length (list_at l.links taken_list) ≡ l.fn.steps + length (list_at l.fn.links taken_list);
 }
 
