@@ -15,6 +15,8 @@ mod hostile_tasks;
 #[cfg(test)]
 mod journals;
 #[cfg(test)]
+mod late;
+#[cfg(test)]
 mod limiters;
 #[cfg(test)]
 mod refusals;

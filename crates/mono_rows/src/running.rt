@@ -1,6 +1,6 @@
 // One call of the top call over memory.
 use mono_model::Host;
-use mono_script::{Instant, ListClock, MemSink, MemSource, NoSpawner, program};
+use mono_script::{Instant, ListClock, MemSink, MemSource, NoSpawner, Spawner, program};
 use std::alloc::{AllocError, Global};
 
 /// The words of most rows.
@@ -83,14 +83,15 @@ pub(crate) fn clock_at(alloc: Global, instant: Instant) -> Result<ListClock, All
     Ok(ListClock::new(readings))
 }
 
-/// The top call with these words over this input, with a clock that reads so many milliseconds and no threads.
-pub(crate) fn run_at<R: Host + Send + 'static>(
+/// The top call with these words over this input, with a clock that reads so many milliseconds and this spawner.
+pub(crate) fn run_on<R: Host + Send + 'static, P: Spawner>(
     rt: &R,
     alloc: Global,
     words: &str,
     input: Vec<u8>,
     outside: Outside,
     millis: u64,
+    spawner: &mut P,
 ) -> Result<Ran, AllocError> {
     let words = split(alloc, words)?;
     let mut source = MemSource::new(input, listed(alloc, outside.read)?);
@@ -99,18 +100,22 @@ pub(crate) fn run_at<R: Host + Send + 'static>(
         return Err(AllocError);
     };
     let clock = clock_at(alloc, instant)?;
-    let mut spawner = NoSpawner::new();
-    let status = program(
-        rt,
-        alloc,
-        &words,
-        &mut source,
-        &mut sink,
-        clock,
-        &mut spawner,
-    );
+    let status = program(rt, alloc, &words, &mut source, &mut sink, clock, spawner);
     let output = Vec::from_slice(alloc, sink.bytes())?;
     Ok(Ran { status, output })
+}
+
+/// The same without threads.
+pub(crate) fn run_at<R: Host + Send + 'static>(
+    rt: &R,
+    alloc: Global,
+    words: &str,
+    input: Vec<u8>,
+    outside: Outside,
+    millis: u64,
+) -> Result<Ran, AllocError> {
+    let mut spawner = NoSpawner::new();
+    run_on(rt, alloc, words, input, outside, millis, &mut spawner)
 }
 
 /// The same at the clock's beginning.

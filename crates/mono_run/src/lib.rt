@@ -2,6 +2,7 @@
 #![tactic(auto)]
 
 mod entries;
+pub mod laws;
 mod runs;
 
 pub use entries::{journal_lines, put_entry};

@@ -5,3 +5,5 @@ pub mod Commands
 pub mod Replaying
 pub mod Checked
 pub mod Naming
+pub mod Numbers
+pub mod Places

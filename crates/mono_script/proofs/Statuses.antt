@@ -24,23 +24,23 @@ use Rattle.mono_script.proofs.Checked.{sound_checking}
 
 -- ---- each command: what is owed of its meaning
 
-pub sound : (c : Command) → Sound (meaning c)
-sound (command.Replay l g) = record {
+pub sound : (readings : Option (List ℕ)) (c : Command) → Sound (meaning readings c)
+sound readings (command.Replay l g) = record {
   apart = λ input n good bad. not_both good.0 (lines input) n good.1 bad;
   good = λ input s output a. (a.1.events, a.1.are_lines);
 }
-sound (command.Run workers turns) = record {
+sound readings (command.Run workers turns) = record {
   apart = λ input n good bad. not_out (IsScript (task_lines (lines input))) (lines input) n (good.0, good.1.sound, good.1.text) bad;
   good = λ input s output a. (a.0, a.1);
 }
-sound (command.Load seed count) = record {
+sound readings (command.Load seed count) = record {
   apart = λ input n good bad. bad;
   good = λ input s output a. tt;
 }
-sound (command.Sessions sessions entries) = sound_serving session_line.call_text session_line.FitsCall session_line.StepsAs (no_sessions sessions entries)
-sound (command.Limiter buckets retries) = sound_serving limiter_line.call_text limiter_line.FitsCall limiter_line.StepByLine (no_limits buckets retries)
-sound (command.Actors actors messages) = sound_serving line_text FitsLine Answers (no_actors actors messages)
-sound (command.Check l g) = sound_checking l g
+sound readings (command.Sessions sessions entries) = sound_serving session_line.call_text session_line.FitsCall session_line.StepsAs (no_sessions sessions entries)
+sound readings (command.Limiter buckets retries) = sound_serving limiter_line.call_text limiter_line.FitsCall limiter_line.StepByLine (no_limits buckets retries)
+sound readings (command.Actors actors messages) = sound_serving line_text FitsLine Answers (no_actors actors messages)
+sound readings (command.Check l g) = sound_checking l g
 
 -- ---- one status, one number
 
@@ -200,6 +200,39 @@ completed m sound left rest b a R W input status.TooLong p told short good no_re
 completed m sound left rest b a R W input status.ReadFault p told short good no_read no_write = absurd (no_read p.0 p.1)
 completed m sound left rest b a R W input status.WriteFault p told short good no_read no_write = absurd (no_write p.0)
 completed m sound left rest b a R W input status.Usage p told short good no_read no_write = absurd p
+
+-- a good input, of which all was read and written, has an answer that goes with the status
+pub answer_to_good : (m : Meaning) → Sound m → (left rest before after : Option (List ℕ)) (R W : Type 0) (input : List ℕ) (s : Status)
+    → Ends m left rest before after R W s → IsInput m.reads left input → length input ≤ max_input → m.IsGood input → IsRead (status_code s) → status_code s ≢ 5
+    → (output : List ℕ) × m.Answers input s output
+answer_to_good m sound left rest b a R W input status.Done p told short good read wrote =
+    let h = had m.reads left input p.input rest told p.read in (p.output, subst (λ x. m.Answers x status.Done p.output) (sym h.0) p.answers)
+answer_to_good m sound left rest b a R W input status.NotARun p told short good read wrote =
+    let h = had m.reads left input p.input rest told p.read in (p.output, subst (λ x. m.Answers x status.NotARun p.output) (sym h.0) p.answers)
+answer_to_good m sound left rest b a R W input status.Turns p told short good read wrote =
+    let h = had m.reads left input p.input rest told p.read in (p.output, subst (λ x. m.Answers x status.Turns p.output) (sym h.0) p.answers)
+answer_to_good m sound left rest b a R W input status.Capacity p told short good read wrote =
+    let h = had m.reads left input p.input rest told p.read in (p.output, subst (λ x. m.Answers x status.Capacity p.output) (sym h.0) p.answers)
+answer_to_good m sound left rest b a R W input status.BadLine p told short good read wrote =
+    let h = had m.reads left input p.input rest told p.read in
+    absurd (sound.apart input p.line good (subst (λ x. m.IsFirstBad x p.line) (sym h.0) p.first))
+answer_to_good m sound left rest b a R W input status.TooLong p told short good read wrote = absurd (omega (arith, short, too_long m.reads left input p.0 told p.1))
+answer_to_good m sound left rest b a R W input status.ReadFault p told short good read wrote = absurd (read.read_fault refl)
+answer_to_good m sound left rest b a R W input status.WriteFault p told short good read wrote = absurd (wrote refl)
+answer_to_good m sound left rest b a R W input status.OutOfMemory p told short good read wrote = absurd (read.memory refl)
+answer_to_good m sound left rest b a R W input status.Usage p told short good read wrote = absurd p
+
+pub no_usage : (m : Meaning) (left rest before after : Option (List ℕ)) (R W : Type 0) (s : Status) → Ends m left rest before after R W s → status_code s ≡ 2 → ⊥
+no_usage m left rest b a R W status.Usage p e = p
+no_usage m left rest b a R W status.Done p e = omega (arith, e)
+no_usage m left rest b a R W status.BadLine p e = omega (arith, e)
+no_usage m left rest b a R W status.ReadFault p e = omega (arith, e)
+no_usage m left rest b a R W status.WriteFault p e = omega (arith, e)
+no_usage m left rest b a R W status.OutOfMemory p e = omega (arith, e)
+no_usage m left rest b a R W status.TooLong p e = omega (arith, e)
+no_usage m left rest b a R W status.Turns p e = omega (arith, e)
+no_usage m left rest b a R W status.Capacity p e = omega (arith, e)
+no_usage m left rest b a R W status.NotARun p e = omega (arith, e)
 
 -- ---- where the count of faults rose
 

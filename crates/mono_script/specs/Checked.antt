@@ -1,5 +1,5 @@
 -- A check of a journal: whether its reports are those of a run of its events.
-use Rattle.std.specs.Prelude.{◌≡◌, ℕ, true, List, [], ◌∷◌, ◌++◌, codes, decimal}
+use Rattle.std.specs.Prelude.{◌≡◌, ℕ, true, List, [], ◌∷◌, ◌++◌, None, codes, decimal}
 use Rattle.mono_machine.specs.declared.events.Limits.{Limits}
 use Rattle.mono_machine.specs.declared.events.Blocking.{Blocking}
 use Rattle.mono_text.specs.Lines.{lines}
@@ -31,6 +31,7 @@ IsChecked limits strategy input status.Capacity output = ⊥
 abbrev pub checking : Limits → Blocking → Meaning
 checking limits strategy = record {
   reads = true;
+  workers = None;
   IsGood = λ input. (said : List JournalLine) × AreJournalLines said (lines input);
   IsFirstBad = λ input n. IsFirstBad (lines input) n;
   Answers = λ input s output. IsChecked limits strategy input s output;

@@ -1,6 +1,8 @@
 -- How a command ends. Of the source, left is what it had left before and rest what it has left afterwards; of the
--- sink, before and after are what was written before and afterwards.
-use Rattle.std.specs.Prelude.{◌≡◌, ◌≢◌, ℕ, ◌≤◌, ◌⊎◌, Bool, true, false, List, [], ◌∷◌, ◌++◌, length, Option, Some, None, codes, decimal}
+-- sink, before and after are what was written before and afterwards; of the spawner, starts and now are its count of
+-- starts before and afterwards.
+use Rattle.std.specs.Prelude.{⊤, ◌≡◌, ◌≢◌, ℕ, ◌≤◌, ◌⊎◌, Bool, true, false, List, [], ◌∷◌, ◌++◌, length, Option, Some, None, codes, decimal}
+use Rattle.mono_blocking.specs.Counts.{counted_by}
 use Rattle.mono_text.specs.Outside.{HasReadAll, IsLongerThan, HasWritten, HasWrittenPrefix}
 use Rattle.mono_script.specs.declared.ends.Status.{Status}
 use Rattle.mono_script.specs.declared.ends.Status.TheVariants as status
@@ -28,6 +30,8 @@ status_code status.NotARun = 11
 pub record Meaning : Type 1 where
   -- It reads the source. One that does not has no bytes as input.
   pub reads : Bool
+  -- Where it answers it asks the spawner for so many threads. One without workers never asks.
+  pub workers : Option ℕ
   -- Each line of the input is in the command's form.
   pub IsGood : List ℕ → Type 0
   -- Line n of the input, counted from 1, is the first that is not, or that is missing.
@@ -115,3 +119,19 @@ IsAnswered m input code = (s : Status) × (code ≡ status_code s) × ((output :
 -- what writing an output that goes with the status meant ended in
 abbrev pub IsWritten : Status → List ℕ → Option (List ℕ) → Option (List ℕ) → Type 0 → Status → Type 0
 IsWritten meant text before after writing s = ((s ≡ meant) × HasWritten before after text) ⊎ ((s ≡ status.WriteFault) × writing × HasWrittenPrefix before after text)
+
+-- How often the spawner was asked for a thread, by the status. Without workers it never was. Else it was asked for each of them
+-- where the command answered: the count of starts rose by as many, or stands at its end. It was not asked where there was no
+-- good input. A write fault may have come at an answer or at the line that names a bad one; of want of memory nothing is said.
+abbrev pub Asks : Option ℕ → ℕ → ℕ → Status → Type 0
+Asks None starts now s = now ≡ starts
+Asks (Some workers) starts now status.Done = now ≡ counted_by workers starts
+Asks (Some workers) starts now status.Turns = now ≡ counted_by workers starts
+Asks (Some workers) starts now status.Capacity = now ≡ counted_by workers starts
+Asks (Some workers) starts now status.NotARun = now ≡ counted_by workers starts
+Asks (Some workers) starts now status.WriteFault = (now ≡ counted_by workers starts) ⊎ (now ≡ starts)
+Asks (Some workers) starts now status.BadLine = now ≡ starts
+Asks (Some workers) starts now status.ReadFault = now ≡ starts
+Asks (Some workers) starts now status.TooLong = now ≡ starts
+Asks (Some workers) starts now status.Usage = now ≡ starts
+Asks (Some workers) starts now status.OutOfMemory = ⊤

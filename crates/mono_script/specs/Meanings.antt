@@ -1,5 +1,5 @@
 -- What each command is.
-use Rattle.std.specs.Prelude.{◌≡◌, ℕ, true, false, codes, List, [], ◌∷◌, ◌++◌, decimal}
+use Rattle.std.specs.Prelude.{◌≡◌, ℕ, true, false, codes, List, [], ◌∷◌, ◌++◌, Option, Some, None, decimal}
 use Rattle.mono_machine.specs.declared.events.Limits.{Limits}
 use Rattle.mono_machine.specs.declared.events.Blocking.{Blocking}
 use Rattle.mono_machine.specs.declared.events.Event.{Event}
@@ -12,7 +12,7 @@ use Rattle.mono_script.specs.declared.ends.Status.{Status}
 use Rattle.mono_scripts.specs.Script.{Script}
 use Rattle.mono_scripts.specs.Written.{Spells}
 use Rattle.mono_scripts.specs.Written as scripts
-use Rattle.mono_run.specs.Told.{Ran}
+use Rattle.mono_run.specs.Told.{RanBy}
 use Rattle.mono_run.specs.declared.runs.RunEnd.{RunEnd}
 use Rattle.mono_run.specs.declared.runs.RunEnd.TheVariants as ran
 use Rattle.mono_script.specs.Ending.{Meaning}
@@ -32,23 +32,26 @@ use Rattle.mono_script.specs.Checked.{checking}
 abbrev pub replaying : Limits → Blocking → Meaning
 replaying limits strategy = record {
   reads = true;
+  workers = None;
   IsGood = λ input. (events : List Event) × AreEventLines events (lines input);
   IsFirstBad = λ input n. IsFirstBad (lines input) n;
   Answers = λ input s output. (s ≡ status.Done) × IsReplayed limits strategy input output;
 }
 
--- a run: a script in, and the lines of a journal; the status goes with how the run ended
+-- a run: a script in, and the lines of a journal; the status goes with how the run ended. It asks for so many workers, and
+-- the readings in the journal go by them and by what the handed clock tells of its readings.
 abbrev pub run_status : RunEnd → Status
 run_status (ran.Output o) = status.Done
 run_status ran.Turns = status.Turns
 run_status ran.Capacity = status.Capacity
 
-abbrev pub running : ℕ → Meaning
-running turns = record {
+abbrev pub running : ℕ → ℕ → Option (List ℕ) → Meaning
+running workers turns readings = record {
   reads = true;
+  workers = Some workers;
   IsGood = λ input. (script : Script) × Spells input script;
   IsFirstBad = λ input n. scripts.IsFirstBad input n;
-  Answers = λ input s output. (script : Script) × Spells input script × ((e : RunEnd) × (s ≡ run_status e) × Ran script.limits turns e output);
+  Answers = λ input s output. (script : Script) × Spells input script × ((e : RunEnd) × (s ≡ run_status e) × RanBy workers readings script.limits turns e output);
 }
 
 -- a load: the source is not read, and one line sums up the reports of a run
@@ -58,6 +61,7 @@ summary_line s = codes "events " ++ decimal s.events ++ codes " fired " ++ decim
 abbrev pub loading : ℕ → ℕ → Meaning
 loading seed count = record {
   reads = false;
+  workers = None;
   IsGood = λ input. Unit {0};
   IsFirstBad = λ input n. ⊥;
   Answers = λ input s output. (s ≡ status.Done) × ((sum : Summary) × IsSummary seed count sum × (output ≡ summary_line sum));
@@ -75,11 +79,12 @@ limiting buckets retries = serving limiter_line.call_text limiter_line.FitsCall 
 abbrev pub acting : ℕ → ℕ → Meaning
 acting actors messages = serving line_text FitsLine Answers (no_actors actors messages)
 
-abbrev pub meaning : Command → Meaning
-meaning (command.Replay limits strategy) = replaying limits strategy
-meaning (command.Run workers turns) = running turns
-meaning (command.Load seed count) = loading seed count
-meaning (command.Sessions sessions entries) = keeping_sessions sessions entries
-meaning (command.Limiter buckets retries) = limiting buckets retries
-meaning (command.Actors actors messages) = acting actors messages
-meaning (command.Check limits strategy) = checking limits strategy
+-- each command, where the handed clock tells such readings
+abbrev pub meaning : Option (List ℕ) → Command → Meaning
+meaning readings (command.Replay limits strategy) = replaying limits strategy
+meaning readings (command.Run workers turns) = running workers turns readings
+meaning readings (command.Load seed count) = loading seed count
+meaning readings (command.Sessions sessions entries) = keeping_sessions sessions entries
+meaning readings (command.Limiter buckets retries) = limiting buckets retries
+meaning readings (command.Actors actors messages) = acting actors messages
+meaning readings (command.Check limits strategy) = checking limits strategy

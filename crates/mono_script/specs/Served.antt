@@ -13,6 +13,7 @@ use Rattle.mono_script.specs.Ending.{Meaning, bad_line_text}
 abbrev pub serving : {S A : Type 0} → (A → List ℕ) → (A → Type 0) → (S → A → List ℕ → S → Type 0) → S → Meaning
 serving {S} {A} text Fits Answers start = record {
   reads = true;
+  workers = None;
   IsGood = λ input. (calls : List A) × AreLines (Says text Fits) calls (lines input);
   IsFirstBad = λ input n. IsFirstWrong (Says text Fits) (lines input) n;
   Answers = λ input s output. (s ≡ status.Done) × IsServed text Fits Answers start input output;

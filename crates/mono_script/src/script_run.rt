@@ -1,6 +1,6 @@
 // A script, run and told as an output.
-ghost use Rattle.std.specs.Prelude.{◌≡◌, IfOk};
-ghost use Rattle.mono_script.specs.Ending.{IsOutput, IsLine};
+ghost use Rattle.std.specs.Prelude.{◌≡◌, Some, IfOk};
+ghost use Rattle.mono_script.specs.Ending.{IsOutput, IsLine, Asks};
 ghost use Rattle.mono_script.specs.Meanings.{running, run_status};
 
 use crate::ends::{Output, Status, bad_line};
@@ -31,8 +31,9 @@ pub(crate) fn output_of_run<R: Host + Send + 'static, C: Clock + Drop, P: Spawne
     clock: C,
     spawner: &mut P,
 ) -> Result<Output, AllocError>
-    ensures output { IfOk result (λ o. IsOutput (running turns) input.now o.status o.text.items) }
-    ensures line { IfOk result (λ o. IsLine (running turns) input.now o.status o.bad_line) }
+    ensures output { IfOk result (λ o. IsOutput (running workers turns (C.readings clock)) input.now o.status o.text.items) }
+    ensures line { IfOk result (λ o. IsLine (running workers turns (C.readings clock)) input.now o.status o.bad_line) }
+    ensures asks { IfOk result (λ o. Asks (Some workers) (P.starts spawner.old) (P.starts spawner.new) o.status) }
 {
     match read_script(alloc, input)? {
         ScriptRead::BadLine(n) => bad_line(alloc, n),

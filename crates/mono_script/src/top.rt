@@ -1,9 +1,12 @@
 // The top call: words, source and sink to a status.
-ghost use Rattle.std.specs.Prelude.{◌≡◌, ◌≢◌, ◌≤◌, ◌<◌, ◌↔◌, ◌⊎◌, true, false, List, ℕ, Some, length, IfOk, OnOk, IfSome, IfNone, IsErrOf, map, string_bytes};
+ghost use Rattle.std.specs.Prelude.{◌≡◌, ◌≢◌, ◌≤◌, ◌<◌, ◌↔◌, ◌⊎◌, true, false, List, ℕ, Option, Some, None, length, IfOk, OnOk, IfSome, IfNone, IsErrOf, map, string_bytes};
 ghost use Rattle.mono_text.specs.Outside.{HasRisen, IsLongerThan};
 ghost use Rattle.mono_script.specs.Command.{FitsCommand, IsCommand, IsNoCommand};
-ghost use Rattle.mono_script.specs.Ending.{HasInput, IsInput, HasAnswered, NamesBadLine, IsCutShort, IsRead, IsLine, IsOutput, IsAnswered, Ends, IsWritten, status_code, max_input};
+ghost use Rattle.mono_script.specs.Ending.{HasInput, IsInput, HasAnswered, NamesBadLine, IsCutShort, IsRead, IsLine, IsOutput, IsAnswered, Ends, IsWritten, Asks, status_code, max_input};
 ghost use Rattle.mono_script.specs.Meanings.{meaning};
+ghost use Rattle.mono_scripts.specs.Script.{Script};
+ghost use Rattle.mono_scripts.specs.Written.{Spells};
+ghost use Rattle.mono_script.specs.declared.command.Command.TheVariants as command;
 ghost use Rattle.mono_script.specs.declared.ends.Status.TheVariants as status;
 ghost use Rattle.mono_text.specs.declared.source.InputError.TheVariants as input_error;
 
@@ -32,8 +35,10 @@ fn made<R: Host + Send + 'static, C: Clock + Drop, P: Spawner>(
     spawner: &mut P,
 ) -> Result<Output, AllocError>
     requires { FitsCommand command }
-    ensures output { IfOk result (λ o. IsOutput (meaning command) input.now o.status o.text.items) }
-    ensures line { IfOk result (λ o. IsLine (meaning command) input.now o.status o.bad_line) }
+    ensures output { IfOk result (λ o. IsOutput (meaning (C.readings clock) command) input.now o.status o.text.items) }
+    ensures line { IfOk result (λ o. IsLine (meaning (C.readings clock) command) input.now o.status o.bad_line) }
+    ensures asks { IfOk result (λ o. Asks (meaning (C.readings clock) command).workers (P.starts spawner.old) (P.starts spawner.new) o.status) }
+    ensures unasked { (meaning (C.readings clock) command).workers ≡ None → P.starts spawner.new ≡ P.starts spawner.old }
 {
     match command {
         Command::Replay(limits, blocking) => output_of_replay(alloc, limits, blocking, input),
@@ -50,9 +55,9 @@ fn made<R: Host + Send + 'static, C: Clock + Drop, P: Spawner>(
     }
 }
 
-// Whether the command reads the source.
+// Whether the command reads the source, whatever the clock tells.
 fn reads(command: Command) -> bool
-    ensures { result ≡ (meaning command).reads }
+    ensures { (readings : Option (List ℕ)) → result ≡ (meaning readings command).reads }
 {
     match command {
         Command::Replay(_, _) => true,
@@ -65,21 +70,21 @@ fn reads(command: Command) -> bool
     }
 }
 
-// The command's input; none where it does not read.
+// The input: what the source has left, or none where it is not to be read.
 fn input_of<S: Source>(
     alloc: Global,
-    command: Command,
+    needs_input: bool,
     source: &mut S,
 ) -> Result<Vec<u8>, InputError>
-    ensures ok { IfOk result (λ bytes. HasInput (meaning command).reads (S.left source.old) bytes.items (S.left source.new)) }
-    ensures reads { (IsErrOf result input_error.TooLong) ⊎ (IsErrOf result input_error.Fault) → (meaning command).reads ≡ true }
+    ensures ok { IfOk result (λ bytes. HasInput needs_input (S.left source.old) bytes.items (S.left source.new)) }
+    ensures reads { (IsErrOf result input_error.TooLong) ⊎ (IsErrOf result input_error.Fault) → needs_input ≡ true }
     ensures long { IsErrOf result input_error.TooLong → IsLongerThan max_input (S.left source.old) }
     ensures fault { IsErrOf result input_error.Fault → HasRisen (S.faults source.old) (S.faults source.new) }
     ensures later { S.faults source.old ≤ S.faults source.new }
     ensures stays { (IsErrOf result input_error.Fault → ⊥) → S.faults source.new ≡ S.faults source.old }
-    ensures unread { (meaning command).reads ≡ false → S.left source.new ≡ S.left source.old }
+    ensures unread { needs_input ≡ false → S.left source.new ≡ S.left source.old }
 {
-    if reads(command) {
+    if needs_input {
         read_all(alloc, source)
     } else {
         Ok(Vec::new(alloc))
@@ -109,15 +114,17 @@ fn carry_out<S: Source, K: Sink, R: Host + Send + 'static, C: Clock + Drop, P: S
 ) -> Ended
     requires { FitsCommand command }
     ensures command { result.command ≡ command }
-    ensures ends { Ends (meaning command) (S.left source.old) (S.left source.new) (K.written sink.old) (K.written sink.new) (HasRisen (S.faults source.old) (S.faults source.new)) (HasRisen (K.faults sink.old) (K.faults sink.new)) result.status }
-    ensures line { result.status ≡ status.BadLine → IsLine (meaning command) result.input.items status.BadLine result.bad_line }
-    ensures input { result.status ≡ status.BadLine → HasInput (meaning command).reads (S.left source.old) result.input.items (S.left source.new) }
+    ensures ends { Ends (meaning (C.readings clock) command) (S.left source.old) (S.left source.new) (K.written sink.old) (K.written sink.new) (HasRisen (S.faults source.old) (S.faults source.new)) (HasRisen (K.faults sink.old) (K.faults sink.new)) result.status }
+    ensures line { result.status ≡ status.BadLine → IsLine (meaning (C.readings clock) command) result.input.items status.BadLine result.bad_line }
+    ensures input { result.status ≡ status.BadLine → HasInput (meaning (C.readings clock) command).reads (S.left source.old) result.input.items (S.left source.new) }
     ensures later { (S.faults source.old ≤ S.faults source.new) × (K.faults sink.old ≤ K.faults sink.new) }
     ensures read_stays { result.status ≢ status.ReadFault → S.faults source.new ≡ S.faults source.old }
     ensures write_stays { result.status ≢ status.WriteFault → K.faults sink.new ≡ K.faults sink.old }
-    ensures unread { (meaning command).reads ≡ false → S.left source.new ≡ S.left source.old }
+    ensures unread { (meaning (C.readings clock) command).reads ≡ false → S.left source.new ≡ S.left source.old }
+    ensures asks { Asks (meaning (C.readings clock) command).workers (P.starts spawner.old) (P.starts spawner.new) result.status }
 {
-    let input = match input_of(alloc, command, source) {
+    let needs_input = reads(command);
+    let input = match input_of(alloc, needs_input, source) {
         Ok(input) => input,
         Err(InputError::Memory) => return Ended::without_input(alloc, command, Status::OutOfMemory),
         Err(InputError::Fault) => return Ended::without_input(alloc, command, Status::ReadFault),
@@ -148,13 +155,15 @@ pub fn explained<S: Source, K: Sink, C: Clock + Drop, P: Spawner, R: Host + Send
     ensures none { IfNone result (IsNoCommand (map string_bytes words.now.items)) }
     ensures untouched { IfNone result ((S.left source.new ≡ S.left source.old) × (S.faults source.new ≡ S.faults source.old) × (K.written sink.new ≡ K.written sink.old) × (K.faults sink.new ≡ K.faults sink.old)) }
     ensures command { IfSome result (λ e. IsCommand (map string_bytes words.now.items) e.command) }
-    ensures ends { IfSome result (λ e. Ends (meaning e.command) (S.left source.old) (S.left source.new) (K.written sink.old) (K.written sink.new) (HasRisen (S.faults source.old) (S.faults source.new)) (HasRisen (K.faults sink.old) (K.faults sink.new)) e.status) }
-    ensures line { IfSome result (λ e. e.status ≡ status.BadLine → IsLine (meaning e.command) e.input.items status.BadLine e.bad_line) }
-    ensures input { IfSome result (λ e. e.status ≡ status.BadLine → HasInput (meaning e.command).reads (S.left source.old) e.input.items (S.left source.new)) }
+    ensures ends { IfSome result (λ e. Ends (meaning (C.readings clock) e.command) (S.left source.old) (S.left source.new) (K.written sink.old) (K.written sink.new) (HasRisen (S.faults source.old) (S.faults source.new)) (HasRisen (K.faults sink.old) (K.faults sink.new)) e.status) }
+    ensures line { IfSome result (λ e. e.status ≡ status.BadLine → IsLine (meaning (C.readings clock) e.command) e.input.items status.BadLine e.bad_line) }
+    ensures input { IfSome result (λ e. e.status ≡ status.BadLine → HasInput (meaning (C.readings clock) e.command).reads (S.left source.old) e.input.items (S.left source.new)) }
     ensures later { (S.faults source.old ≤ S.faults source.new) × (K.faults sink.old ≤ K.faults sink.new) }
     ensures read_stays { IfSome result (λ e. e.status ≢ status.ReadFault → S.faults source.new ≡ S.faults source.old) }
     ensures write_stays { IfSome result (λ e. e.status ≢ status.WriteFault → K.faults sink.new ≡ K.faults sink.old) }
-    ensures unread { IfSome result (λ e. (meaning e.command).reads ≡ false → S.left source.new ≡ S.left source.old) }
+    ensures unread { IfSome result (λ e. (meaning (C.readings clock) e.command).reads ≡ false → S.left source.new ≡ S.left source.old) }
+    ensures asks { IfSome result (λ e. Asks (meaning (C.readings clock) e.command).workers (P.starts spawner.old) (P.starts spawner.new) e.status) }
+    ensures unasked { IfNone result (P.starts spawner.new ≡ P.starts spawner.old) }
 {
     match read_command(words) {
         Some(command) => Some(carry_out(rt, alloc, command, source, sink, clock, spawner)),
@@ -165,13 +174,18 @@ pub fn explained<S: Source, K: Sink, C: Clock + Drop, P: Spawner, R: Host + Send
 /// Carries out the command that the words say: it reads the source, makes the answer and writes it. The words are those
 /// behind the program's name.
 ///
-/// What a command is stands in one record (`Meaning`): whether it reads, which input is good, which line of another is
-/// the first bad one, and which status and output answer a good input. Each status has a clause of its name that says
-/// what it means, for every command, and the clauses `usage`, `too_long_where` and `bad_line_where` say exactly where it
-/// comes: in the order of usage, reading, bad line, writing. A read or a write fault comes only where the count of that
-/// object rose in this call, and wherever it rose (`read_fault_where`, `write_fault_where`). Want of memory may come at
-/// any time before the first write. `complete` says that a good command over good input ends with an answer, but for a
-/// fault or want of memory.
+/// What a command is stands in one record (`Meaning`): whether it reads, for how many threads it asks, which input is good,
+/// which line of another is the first bad one, and which status and output answer a good input, where the clock tells such
+/// readings. Each status has a clause of its name that says what it means, for every command, and the clauses `usage`,
+/// `too_long_where` and `bad_line_where` say exactly where it comes: in the order of usage, reading, bad line, writing. A
+/// read or a write fault comes only where the count of that object rose in this call, and wherever it rose
+/// (`read_fault_where`, `write_fault_where`). Want of memory may come at any time before the first write. `complete` says
+/// that a good command over good input ends with an answer, but for a fault or want of memory. `capacity_where` says that a
+/// run ends with 10 exactly where its script's limit of tasks is 0.
+///
+/// `starts` says by the status how often the spawner was asked for a thread: a run that is answered asked for each of its
+/// workers, what never got so far asked for none, and no other command asks. Words that are no command ask for none
+/// (`no_starts`).
 pub fn program<S: Source, K: Sink, C: Clock + Drop, P: Spawner, R: Host + Send + 'static>(
     rt: &R,
     alloc: Global,
@@ -183,23 +197,26 @@ pub fn program<S: Source, K: Sink, C: Clock + Drop, P: Spawner, R: Host + Send +
 ) -> u8
     ensures usage { result ≡ 2 ↔ IsNoCommand (map string_bytes words.now.items) }
     ensures untouched { result ≡ 2 → (S.left source.new ≡ S.left source.old) × (K.written sink.new ≡ K.written sink.old) }
-    ensures done { result ≡ 0 → (c : Command) → IsCommand (map string_bytes words.now.items) c → HasAnswered (meaning c) status.Done (S.left source.old) (S.left source.new) (K.written sink.old) (K.written sink.new) }
-    ensures not_a_run { result ≡ 11 → (c : Command) → IsCommand (map string_bytes words.now.items) c → HasAnswered (meaning c) status.NotARun (S.left source.old) (S.left source.new) (K.written sink.old) (K.written sink.new) }
-    ensures turns { result ≡ 8 → (c : Command) → IsCommand (map string_bytes words.now.items) c → HasAnswered (meaning c) status.Turns (S.left source.old) (S.left source.new) (K.written sink.old) (K.written sink.new) }
-    ensures capacity { result ≡ 10 → (c : Command) → IsCommand (map string_bytes words.now.items) c → HasAnswered (meaning c) status.Capacity (S.left source.old) (S.left source.new) (K.written sink.old) (K.written sink.new) }
-    ensures bad_line { result ≡ 3 → (c : Command) → IsCommand (map string_bytes words.now.items) c → NamesBadLine (meaning c) (S.left source.old) (S.left source.new) (K.written sink.old) (K.written sink.new) }
+    ensures done { result ≡ 0 → (c : Command) → IsCommand (map string_bytes words.now.items) c → HasAnswered (meaning (C.readings clock) c) status.Done (S.left source.old) (S.left source.new) (K.written sink.old) (K.written sink.new) }
+    ensures not_a_run { result ≡ 11 → (c : Command) → IsCommand (map string_bytes words.now.items) c → HasAnswered (meaning (C.readings clock) c) status.NotARun (S.left source.old) (S.left source.new) (K.written sink.old) (K.written sink.new) }
+    ensures turns { result ≡ 8 → (c : Command) → IsCommand (map string_bytes words.now.items) c → HasAnswered (meaning (C.readings clock) c) status.Turns (S.left source.old) (S.left source.new) (K.written sink.old) (K.written sink.new) }
+    ensures capacity { result ≡ 10 → (c : Command) → IsCommand (map string_bytes words.now.items) c → HasAnswered (meaning (C.readings clock) c) status.Capacity (S.left source.old) (S.left source.new) (K.written sink.old) (K.written sink.new) }
+    ensures bad_line { result ≡ 3 → (c : Command) → IsCommand (map string_bytes words.now.items) c → NamesBadLine (meaning (C.readings clock) c) (S.left source.old) (S.left source.new) (K.written sink.old) (K.written sink.new) }
     ensures read_fault { result ≡ 4 → HasRisen (S.faults source.old) (S.faults source.new) × (K.written sink.new ≡ K.written sink.old) }
-    ensures write_fault { result ≡ 5 → HasRisen (K.faults sink.old) (K.faults sink.new) × ((c : Command) → IsCommand (map string_bytes words.now.items) c → IsCutShort (meaning c) (S.left source.old) (S.left source.new) (K.written sink.old) (K.written sink.new)) }
+    ensures write_fault { result ≡ 5 → HasRisen (K.faults sink.old) (K.faults sink.new) × ((c : Command) → IsCommand (map string_bytes words.now.items) c → IsCutShort (meaning (C.readings clock) c) (S.left source.old) (S.left source.new) (K.written sink.old) (K.written sink.new)) }
     ensures out_of_memory { result ≡ 6 → K.written sink.new ≡ K.written sink.old }
     ensures too_long { result ≡ 7 → IsLongerThan max_input (S.left source.old) × (K.written sink.new ≡ K.written sink.old) }
     ensures others { (s : Status) × (result ≡ status_code s) }
-    ensures too_long_where { (c : Command) (input : List ℕ) → IsCommand (map string_bytes words.now.items) c → IsInput (meaning c).reads (S.left source.old) input → IsRead result → (result ≡ 7 ↔ max_input < length input) }
-    ensures bad_line_where { (c : Command) (input : List ℕ) → IsCommand (map string_bytes words.now.items) c → IsInput (meaning c).reads (S.left source.old) input → IsRead result → result ≢ 5 → (result ≡ 3 ↔ (length input ≤ max_input) × ((n : ℕ) × (meaning c).IsFirstBad input n)) }
-    ensures complete { (c : Command) (input : List ℕ) → IsCommand (map string_bytes words.now.items) c → IsInput (meaning c).reads (S.left source.old) input → length input ≤ max_input → (meaning c).IsGood input → ((meaning c).reads ≡ true → HasRisen (S.faults source.old) (S.faults source.new) → ⊥) → (HasRisen (K.faults sink.old) (K.faults sink.new) → ⊥) → (result ≡ 6) ⊎ IsAnswered (meaning c) input result }
-    ensures unread { (c : Command) → IsCommand (map string_bytes words.now.items) c → (meaning c).reads ≡ false → S.left source.new ≡ S.left source.old }
+    ensures too_long_where { (c : Command) (input : List ℕ) → IsCommand (map string_bytes words.now.items) c → IsInput (meaning (C.readings clock) c).reads (S.left source.old) input → IsRead result → (result ≡ 7 ↔ max_input < length input) }
+    ensures bad_line_where { (c : Command) (input : List ℕ) → IsCommand (map string_bytes words.now.items) c → IsInput (meaning (C.readings clock) c).reads (S.left source.old) input → IsRead result → result ≢ 5 → (result ≡ 3 ↔ (length input ≤ max_input) × ((n : ℕ) × (meaning (C.readings clock) c).IsFirstBad input n)) }
+    ensures complete { (c : Command) (input : List ℕ) → IsCommand (map string_bytes words.now.items) c → IsInput (meaning (C.readings clock) c).reads (S.left source.old) input → length input ≤ max_input → (meaning (C.readings clock) c).IsGood input → ((meaning (C.readings clock) c).reads ≡ true → HasRisen (S.faults source.old) (S.faults source.new) → ⊥) → (HasRisen (K.faults sink.old) (K.faults sink.new) → ⊥) → (result ≡ 6) ⊎ IsAnswered (meaning (C.readings clock) c) input result }
+    ensures unread { (c : Command) → IsCommand (map string_bytes words.now.items) c → (meaning (C.readings clock) c).reads ≡ false → S.left source.new ≡ S.left source.old }
     ensures read_fault_where { S.faults source.old < S.faults source.new → result ≡ 4 }
     ensures write_fault_where { K.faults sink.old < K.faults sink.new → result ≡ 5 }
     ensures counts { (S.faults source.old ≤ S.faults source.new) × (K.faults sink.old ≤ K.faults sink.new) }
+    ensures capacity_where { (workers turns : ℕ) (input : List ℕ) (script : Script) → IsCommand (map string_bytes words.now.items) (command.Run workers turns) → IsInput true (S.left source.old) input → length input ≤ max_input → Spells input script → IsRead result → result ≢ 5 → (result ≡ 10 ↔ script.limits.tasks ≡ 0) }
+    ensures starts { (c : Command) (s : Status) → IsCommand (map string_bytes words.now.items) c → result ≡ status_code s → Asks (meaning (C.readings clock) c).workers (P.starts spawner.old) (P.starts spawner.new) s }
+    ensures no_starts { result ≡ 2 → P.starts spawner.new ≡ P.starts spawner.old }
 {
     match explained(rt, alloc, words, source, sink, clock, spawner) {
         Some(ended) => ended.status.code(),

@@ -1,14 +1,19 @@
 use Rattle.std.proofs.Common.{◌≡◌}
 use Rattle.mono_scripts.specs.Written.{IsFirstBad}
-use Rattle.mono_script.proofs.Naming.{named, named_line}
+use Rattle.mono_script.specs.Meanings.{running}
+use Rattle.mono_script.proofs.Naming.{named, named_line, named_asks}
 use Rattle.mono_script.proofs.script_run.output_of_run.Goals as goal
 
 pub returns-in-BadLine-clause-output : goal.returns-in-BadLine-clause-output
 returns-in-BadLine-clause-output g c =
     let first : IsFirstBad c.args.input.now c.in-BadLine.n = rw c.in-BadLine.is at c.in_ok-n.ensures in
-    named c.args.turns c.bad_line.result c.args.input.now c.in-BadLine.n first c.bad_line.ensures.status c.bad_line.ensures.text
+    named (running c.args.workers c.args.turns (g.C.Clock.readings c.args.clock)) c.bad_line.result c.args.input.now c.in-BadLine.n first c.bad_line.ensures.status c.bad_line.ensures.text
 
 pub returns-in-BadLine-clause-line : goal.returns-in-BadLine-clause-line
 returns-in-BadLine-clause-line g c =
     let first : IsFirstBad c.args.input.now c.in-BadLine.n = rw c.in-BadLine.is at c.in_ok-n.ensures in
-    named_line c.args.turns c.bad_line.result c.args.input.now c.in-BadLine.n first c.bad_line.ensures.status c.bad_line.ensures.line
+    named_line (running c.args.workers c.args.turns (g.C.Clock.readings c.args.clock)) c.bad_line.result c.args.input.now c.in-BadLine.n first c.bad_line.ensures.status c.bad_line.ensures.line
+
+pub returns-in-BadLine-clause-asks : goal.returns-in-BadLine-clause-asks
+returns-in-BadLine-clause-asks g c =
+    named_asks c.args.workers c.bad_line.result (g.P.Spawner.starts c.args.spawner.now) c.bad_line.ensures.status

@@ -1,0 +1,11 @@
+// Facts about the definitions alone.
+ghost use Rattle.std.specs.Prelude.{◌≡◌, ◌↔◌, ℕ, List};
+ghost use Rattle.mono_machine.specs.declared.events.Limits.{Limits};
+ghost use Rattle.mono_run.specs.Told.{Ran};
+ghost use Rattle.mono_run.specs.declared.runs.RunEnd.{RunEnd};
+ghost use Rattle.mono_run.specs.declared.runs.RunEnd.TheVariants as ran;
+
+/// A run has no place for its main task exactly where the limit of tasks is 0, since nothing is made before it.
+pub fn only_a_limit_of_none_has_no_place()
+    ensures { (limits : Limits) (turns : ℕ) (e : RunEnd) (output : List ℕ) → Ran limits turns e output → (e ≡ ran.Capacity ↔ limits.tasks ≡ 0) }
+{}
