@@ -149,6 +149,7 @@ fn fire_all<L: Ledger>(
 impl Parts {
     /// The clock shows so many nanoseconds. Where memory is refused nothing changes (`memory`), since the room for all that
     /// may fire is made first, in the lists that are lent.
+    #[inline(always)]
     pub fn clock(&mut self, alloc: Global, n: u128, lent: &mut Due) -> Result<Report, AllocError>
         ensures steps { IfOk result (λ r. (m : Machine) → Matches self.old m → (new : Machine) × ClockStep m n r new × Matches self.new new) }
         ensures turn { self.new.tasks.turn ≡ self.old.tasks.turn }

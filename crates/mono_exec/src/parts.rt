@@ -129,6 +129,7 @@ impl Parts {
     }
 
     /// One step of a turn.
+    #[inline(always)]
     pub fn step(&mut self, alloc: Global, me: u64, step: TurnStep) -> Result<Reply, AllocError>
         ensures reply { IfOk result (λ r. (m : Machine) → Matches self.old m → r ≡ (step_outcome me step m).reply) }
         ensures matches { OnOk result ((m : Machine) → Matches self.old m → Matches self.new (step_outcome me step m).machine) }

@@ -13,6 +13,7 @@ use std::alloc::{AllocError, AllocFailed, Global};
 
 impl Parts {
     /// Each step in order, with its reply. The list is emptied, and its memory used for the replies.
+    #[inline(always)]
     fn steps(
         &mut self,
         alloc: Global,
@@ -51,6 +52,7 @@ impl Parts {
     }
 
     /// The turn of the running task. It ends also where a step found no memory.
+    #[inline(always)]
     fn turn_of(
         &mut self,
         alloc: Global,
@@ -72,6 +74,7 @@ impl Parts {
 
     /// A turn of the task at the queue's front. Where no task is queued it is refused, and no step is done. The spare list
     /// is used for the replies.
+    #[inline(always)]
     pub fn turn(
         &mut self,
         alloc: Global,

@@ -30,13 +30,21 @@ fn is_just(due: &Vec<u64>, retry: u64) -> bool {
 // A bucket of two tokens fills by the periods since it was made, whenever it was taken from.
 fn fills<L: Ledger>(alloc: Global, steps: &mut Steps<L>) -> Result<bool, Fail> {
     let mut limiter = Limiter::new(alloc, 4, 4)?;
+    is_filled(&mut limiter, alloc, steps)
+}
+
+fn is_filled<L: Ledger>(
+    limiter: &mut Limiter,
+    alloc: Global,
+    steps: &mut Steps<L>,
+) -> Result<bool, Fail> {
     let made = limiter.bucket(alloc, 2, 10);
     let much = limiter.take(0, 3);
     let both = limiter.take(0, 2);
     let none = limiter.take(0, 1);
-    let early = clock(&mut limiter, alloc, 9999999, steps)?;
+    let early = clock(limiter, alloc, 9999999, steps)?.is_empty();
     let still = limiter.take(0, 1);
-    let later = clock(&mut limiter, alloc, 25000000, steps)?;
+    let later = clock(limiter, alloc, 25000000, steps)?.is_empty();
     let again = limiter.take(0, 2);
     let next = limiter.take(0, 1);
     Ok(
@@ -44,9 +52,9 @@ fn fills<L: Ledger>(alloc: Global, steps: &mut Steps<L>) -> Result<bool, Fail> {
             && much == Err(LimitError::TooMany)
             && both == Ok(Take::Granted)
             && none == Ok(Take::Short(10))
-            && early.is_empty()
+            && early
             && still == Ok(Take::Short(10))
-            && later.is_empty()
+            && later
             && again == Ok(Take::Granted)
             && next == Ok(Take::Short(30))
             && limiter.take(1, 0) == Err(LimitError::NoBucket),
@@ -56,34 +64,41 @@ fn fills<L: Ledger>(alloc: Global, steps: &mut Steps<L>) -> Result<bool, Fail> {
 // A retry waits twice as long each time, up to its cap, and gives up in the end.
 fn gives_up<L: Ledger>(alloc: Global, steps: &mut Steps<L>) -> Result<bool, Fail> {
     let mut limiter = Limiter::new(alloc, 0, 1)?;
+    is_given_up(&mut limiter, alloc, steps)
+}
+
+fn is_given_up<L: Ledger>(
+    limiter: &mut Limiter,
+    alloc: Global,
+    steps: &mut Steps<L>,
+) -> Result<bool, Fail> {
     let full = limiter.bucket(alloc, 1, 1);
     let made = limiter.retry(alloc, 100, 250, 4);
     let first = limiter.fail(0);
     let waits = limiter.fail(0);
-    let one = clock(&mut limiter, alloc, 100000000, steps)?;
+    let one = is_just(&clock(limiter, alloc, 100000000, steps)?, 0);
     let second = limiter.fail(0);
-    let two = clock(&mut limiter, alloc, 300000000, steps)?;
+    let two = is_just(&clock(limiter, alloc, 300000000, steps)?, 0);
     let third = limiter.fail(0);
-    let three = clock(&mut limiter, alloc, 1000000000, steps)?;
+    let three = is_just(&clock(limiter, alloc, 1000000000, steps)?, 0);
     let last = limiter.fail(0);
     Ok(
         full == Err(LimitError::AtCapacity)
             && made == Ok(0)
             && first == Ok(Next::Again(100))
             && waits == Err(LimitError::Waiting)
-            && is_just(&one, 0)
+            && one
             && second == Ok(Next::Again(300))
-            && is_just(&two, 0)
+            && two
             && third == Ok(Next::Again(550))
-            && is_just(&three, 0)
+            && three
             && last == Ok(Next::GaveUp)
             && limiter.fail(0) == Err(LimitError::NoRetry),
     )
 }
 
 // So many buckets and retries, each of which has failed once.
-fn many_failed(alloc: Global, n: u64) -> Result<Limiter, Fail> {
-    let mut limiter = Limiter::new(alloc, n, n)?;
+fn fail_each(limiter: &mut Limiter, alloc: Global, n: u64) -> Result<(), Fail> {
     for i in 0..n {
         let bucket = limiter.bucket(alloc, n, 10)?;
         let retry = limiter.retry(alloc, 100, 250, 2)?;
@@ -92,20 +107,29 @@ fn many_failed(alloc: Global, n: u64) -> Result<Limiter, Fail> {
             return Err(Fail::from("another number"));
         }
     }
-    Ok(limiter)
+    Ok(())
 }
 
 // Memory past its first slack.
 fn many<L: Ledger>(alloc: Global, steps: &mut Steps<L>) -> Result<bool, Fail> {
-    let mut limiter = many_failed(alloc, 300)?;
-    let due = clock(&mut limiter, alloc, 100000000, steps)?;
+    let mut limiter = Limiter::new(alloc, 300, 300)?;
+    are_due(&mut limiter, alloc, steps)
+}
+
+fn are_due<L: Ledger>(
+    limiter: &mut Limiter,
+    alloc: Global,
+    steps: &mut Steps<L>,
+) -> Result<bool, Fail> {
+    fail_each(limiter, alloc, 300)?;
+    let due = clock(limiter, alloc, 100000000, steps)?.len();
     let all = limiter.take(299, 300);
     let none = limiter.take(299, 1);
     let lives = limiter.live();
     let done = limiter.done(7);
     let last = limiter.fail(299);
     Ok(
-        due.len() == 300
+        due == 300
             && all == Ok(Take::Granted)
             && none == Ok(Take::Short(110))
             && lives == 300

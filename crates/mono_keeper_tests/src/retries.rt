@@ -166,33 +166,63 @@ fn polls<R: Host, L: Ledger>(
     good: u64,
 ) -> Result<(bool, Poll<Result<u64, RetryError<u64>>>), Fail> {
     let mut cx = make_desk(alloc, 0)?;
+    polls_on(rt, alloc, &mut cx, steps, good)
+}
+
+fn polls_on<R: Host, L: Ledger>(
+    rt: &R,
+    alloc: Global,
+    cx: &mut Desk,
+    steps: &mut Steps<L>,
+    good: u64,
+) -> Result<(bool, Poll<Result<u64, RetryError<u64>>>), Fail> {
     let make = |number| Attempt { number, good };
-    let Ok(mut retry) = Retry::new(alloc, &mut cx, make, 100, 250, 3) else {
+    let Ok(mut retry) = Retry::new(alloc, cx, make, 100, 250, 3) else {
         return Err(Fail::new("no retry"));
     };
-    let first = polled(rt, alloc, &mut cx, &mut retry)?;
-    go_to(&mut cx, 99999999, steps)?;
-    let early = polled(rt, alloc, &mut cx, &mut retry)?;
-    go_to(&mut cx, 100000000, steps)?;
-    let second = polled(rt, alloc, &mut cx, &mut retry)?;
-    go_to(&mut cx, 300000000, steps)?;
-    let third = polled(rt, alloc, &mut cx, &mut retry)?;
+    let answer = polled_in_time(rt, alloc, cx, &mut retry, steps);
     let is_gone = cx.sleep_elapsed(0) == Err(Error::Shutdown);
-    let waited = first == Poll::Pending && early == Poll::Pending && second == Poll::Pending;
-    retry.cancel(&mut cx);
+    retry.cancel(cx);
+    let (waited, third) = answer?;
     Ok((waited && is_gone, third))
+}
+
+// Whether the first three polls are told to wait, and what the last one is told.
+fn polled_in_time<R: Host, L: Ledger, F: TaskFuture<Desk, Output = Result<u64, RetryError<u64>>>>(
+    rt: &R,
+    alloc: Global,
+    cx: &mut Desk,
+    retry: &mut F,
+    steps: &mut Steps<L>,
+) -> Result<(bool, Poll<Result<u64, RetryError<u64>>>), Fail>
+    requires { F.can_poll retry.old }
+    ensures { F.can_poll retry.new }
+{
+    let first = polled(rt, alloc, cx, retry)?;
+    go_to(cx, 99999999, steps)?;
+    let early = polled(rt, alloc, cx, retry)?;
+    go_to(cx, 100000000, steps)?;
+    let second = polled(rt, alloc, cx, retry)?;
+    go_to(cx, 300000000, steps)?;
+    let third = polled(rt, alloc, cx, retry)?;
+    let waited = first == Poll::Pending && early == Poll::Pending && second == Poll::Pending;
+    Ok((waited, third))
 }
 
 // The next attempt would be past the last instant.
 fn too_far<R: Host>(rt: &R, alloc: Global) -> Result<bool, Fail> {
     let mut cx = make_desk(alloc, MAX_NANOS)?;
+    is_far(rt, alloc, &mut cx)
+}
+
+fn is_far<R: Host>(rt: &R, alloc: Global, cx: &mut Desk) -> Result<bool, Fail> {
     let make = |number| Attempt { number, good: 0 };
-    let Ok(mut retry) = Retry::new(alloc, &mut cx, make, 1, 1, 2) else {
+    let Ok(mut retry) = Retry::new(alloc, cx, make, 1, 1, 2) else {
         return Err(Fail::new("no retry"));
     };
-    let first = polled(rt, alloc, &mut cx, &mut retry)?;
-    retry.cancel(&mut cx);
-    Ok(first == Poll::Ready(Err(RetryError::Far(1))))
+    let answer = polled(rt, alloc, cx, &mut retry);
+    retry.cancel(cx);
+    Ok(answer? == Poll::Ready(Err(RetryError::Far(1))))
 }
 
 fn rows<R: Host, L: Ledger>(rt: &R, alloc: Global, blank: Blank) -> Result<bool, Fail>

@@ -31,23 +31,31 @@ fn step<L: Ledger>(
 // The limits of a keeper with one session, and the tick at which it is closed.
 fn limits<L: Ledger>(alloc: Global, steps: &mut Steps<L>) -> Result<bool, Fail> {
     let mut sessions = Sessions::new(alloc, 1, 1)?;
+    keeps_limits(&mut sessions, alloc, steps)
+}
+
+fn keeps_limits<L: Ledger>(
+    sessions: &mut Sessions,
+    alloc: Global,
+    steps: &mut Steps<L>,
+) -> Result<bool, Fail> {
     let zero = sessions.open(alloc, 0);
     let invalid = sessions.open(alloc, 9223372036854775808);
     let first = sessions.open(alloc, 10);
     let full = sessions.open(alloc, 1);
-    let none = step(&mut sessions, alloc, 5000000, steps)?;
+    let none = step(sessions, alloc, 5000000, steps)?.is_empty();
     let beaten = sessions.beat(0);
-    let early = step(&mut sessions, alloc, 14999999, steps)?;
-    let closed = step(&mut sessions, alloc, 15000000, steps)?;
+    let early = step(sessions, alloc, 14999999, steps)?.is_empty();
+    let closed = step(sessions, alloc, 15000000, steps)?;
     let gone = sessions.beat(0);
     Ok(
         zero == Err(SessionError::ZeroLimit)
             && invalid == Err(SessionError::Invalid)
             && first == Ok(0)
             && full == Err(SessionError::AtCapacity)
-            && none.is_empty()
+            && none
             && beaten == Ok(())
-            && early.is_empty()
+            && early
             && closed.as_slice() == [0].as_slice()
             && gone == Err(SessionError::NoSession),
     )
@@ -56,11 +64,19 @@ fn limits<L: Ledger>(alloc: Global, steps: &mut Steps<L>) -> Result<bool, Fail> 
 // A key passes on to the next in its queue where the clock closes its owner.
 fn passing_on<L: Ledger>(alloc: Global, steps: &mut Steps<L>) -> Result<bool, Fail> {
     let mut sessions = Sessions::new(alloc, 4, 4)?;
+    passes_on(&mut sessions, alloc, steps)
+}
+
+fn passes_on<L: Ledger>(
+    sessions: &mut Sessions,
+    alloc: Global,
+    steps: &mut Steps<L>,
+) -> Result<bool, Fail> {
     let opened = (sessions.open(alloc, 10), sessions.open(alloc, 20));
     let held = sessions.acquire(alloc, 0, 7);
     let waits = sessions.acquire(alloc, 1, 7);
     let doubled = sessions.acquire(alloc, 1, 7);
-    let closed = step(&mut sessions, alloc, 10000000, steps)?;
+    let closed = step(sessions, alloc, 10000000, steps)?;
     let owner = sessions.owner(7);
     let released = sessions.release(1, 7);
     let not_in = sessions.release(1, 7);
@@ -80,8 +96,16 @@ fn passing_on<L: Ledger>(alloc: Global, steps: &mut Steps<L>) -> Result<bool, Fa
 // The refusals that are left, and a session that is closed by a call.
 fn refusals<L: Ledger>(alloc: Global, steps: &mut Steps<L>) -> Result<bool, Fail> {
     let mut sessions = Sessions::new(alloc, 2, 1)?;
+    refuses(&mut sessions, alloc, steps)
+}
+
+fn refuses<L: Ledger>(
+    sessions: &mut Sessions,
+    alloc: Global,
+    steps: &mut Steps<L>,
+) -> Result<bool, Fail> {
     sessions.open(alloc, 9223372036854775807)?;
-    step(&mut sessions, alloc, 1000000, steps)?;
+    step(sessions, alloc, 1000000, steps)?;
     let late = sessions.beat(0);
     let unknown = (
         sessions.close(1),
@@ -109,40 +133,51 @@ fn refusals<L: Ledger>(alloc: Global, steps: &mut Steps<L>) -> Result<bool, Fail
 }
 
 // 300 sessions, each in the queue of one key that all share and in one of its own.
-fn three_hundred(alloc: Global) -> Result<Sessions, Fail> {
-    let mut sessions = Sessions::new(alloc, 300, 600)?;
+fn open_each(sessions: &mut Sessions, alloc: Global) -> Result<(), Fail> {
     for i in 0..300 {
         let session = sessions.open(alloc, 1 + i)?;
         sessions.acquire(alloc, session, 1000)?;
         sessions.acquire(alloc, session, i)?;
     }
-    Ok(sessions)
+    Ok(())
+}
+
+// How many were closed, the first and the last.
+fn bounds(closed: &Vec<u64>) -> (usize, Option<u64>, Option<u64>) {
+    let items = closed.as_slice();
+    (items.len(), items.first().copied(), items.last().copied())
 }
 
 // All are closed in the order of their ticks; those that are left own the shared key in turn.
 fn many<L: Ledger>(alloc: Global, steps: &mut Steps<L>) -> Result<bool, Fail> {
-    let mut sessions = three_hundred(alloc)?;
+    let mut sessions = Sessions::new(alloc, 300, 600)?;
+    own_in_turn(&mut sessions, alloc, steps)
+}
+
+fn own_in_turn<L: Ledger>(
+    sessions: &mut Sessions,
+    alloc: Global,
+    steps: &mut Steps<L>,
+) -> Result<bool, Fail> {
+    open_each(sessions, alloc)?;
     let first = sessions.owner(1000);
     sessions.release(0, 1000)?;
     let second = sessions.owner(1000);
-    let half = step(&mut sessions, alloc, 150000000, steps)?;
+    let half = bounds(&step(sessions, alloc, 150000000, steps)?);
     let left = sessions.open_len();
     let owners = (
         sessions.owner(1000),
         sessions.owner(149),
         sessions.owner(150),
     );
-    let rest = step(&mut sessions, alloc, 300000000, steps)?;
+    let rest = bounds(&step(sessions, alloc, 300000000, steps)?);
     Ok(
         first == Some(0)
             && second == Some(1)
-            && half.len() == 150
-            && half.as_slice().first() == Some(&0)
-            && half.as_slice().last() == Some(&149)
+            && half == (150, Some(0), Some(149))
             && left == 150
             && owners == (Some(150), None, Some(150))
-            && rest.len() == 150
-            && rest.as_slice().last() == Some(&299)
+            && rest == (150, Some(150), Some(299))
             && sessions.owner(1000) == None,
     )
 }

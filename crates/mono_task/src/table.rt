@@ -86,6 +86,7 @@ impl<O> Tasks<O> {
 
 // Makes the queue's room more than so many tasks, of which the queued ones are some. What is too little at least
 // doubles, so that a task costs the same however many there are.
+#[inline(always)]
 fn make_room(queue: &mut VecDeque<u64>, tasks: usize) -> Result<(), AllocError>
     requires { deque_len queue.old ≤ tasks }
     ensures items { queue.new.items ≡ queue.old.items }
@@ -173,6 +174,7 @@ impl<O: Drop> Tasks<O> {
     /// Begins the turn of the queue's front, which is running from then on. No turn may run already.
     ///
     /// Refused with `Idle` exactly where the queue is empty. `turns` counts the turns that begin.
+    #[inline(always)]
     pub fn begin_turn(&mut self) -> Result<u64, TaskError>
         requires { self.old.turn ≡ None }
         ensures answer { result ≡ begin_answer self.old }

@@ -95,6 +95,7 @@ fn reply_word(reply: Reply) -> (&'static [u8], Option<u64>)
     }
 }
 
+#[inline(always)]
 fn part(out: &mut Vec<u8>, item: Reply) -> Result<(), AllocError>
     ensures { OnOk result (out.new.items ≡ out.old.items ++ reply_part item) }
 {
@@ -107,6 +108,7 @@ fn part(out: &mut Vec<u8>, item: Reply) -> Result<(), AllocError>
 }
 
 // A line of one reply.
+#[inline(always)]
 fn reply_line(out: &mut Vec<u8>, item: Reply) -> Result<(), AllocError>
     ensures { OnOk result (out.new.items ≡ out.old.items ++ (reply_text item ++ 10 ∷ [])) }
 {
@@ -118,6 +120,7 @@ fn reply_line(out: &mut Vec<u8>, item: Reply) -> Result<(), AllocError>
     put_word(out, b"\n".as_slice())
 }
 
+#[inline(always)]
 fn replies(out: &mut Vec<u8>, list: &[Reply]) -> Result<(), AllocError>
     ensures { OnOk result (out.new.items ≡ out.old.items ++ flat_map reply_part list.now) }
 {
@@ -137,6 +140,7 @@ fn numbers(out: &mut Vec<u8>, list: &[u64]) -> Result<(), AllocError>
 }
 
 // A line of a turn.
+#[inline(always)]
 fn turn(out: &mut Vec<u8>, task: u64, list: &[Reply], ended: Ended) -> Result<(), AllocError>
     ensures { OnOk result (out.new.items ≡ out.old.items ++ (codes "turn " ++ decimal task ++ flat_map reply_part list.now ++ codes "; " ++ ended_text ended ++ 10 ∷ [])) }
 {

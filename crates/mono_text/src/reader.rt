@@ -383,6 +383,7 @@ impl<'a> Reader<'a> {
     }
 
     // A step of a turn: an act or a poll.
+    #[inline(always)]
     #[tactic(auto, unfolding(crate::specs::Reading::step_at))]
     fn step(&mut self) -> Option<TurnStep>
         ensures { Gives result self.new.rest.now (step_at self.old.rest.now) }
@@ -421,6 +422,7 @@ impl<'a> Reader<'a> {
     }
 
     // The parts of a turn, behind its word. The list is emptied, and its memory used for the steps.
+    #[inline(always)]
     fn parts(&mut self, mut steps: List<TurnStep>) -> Result<Option<Event>, AllocError>
         ensures { GivesIf result self.new.rest.now (parts_at (length self.old.rest.now) [] self.old.rest.now) }
     {

@@ -14,4 +14,6 @@ mod joinwords;
 #[cfg(test)]
 mod marks;
 #[cfg(test)]
+mod pairs;
+#[cfg(test)]
 mod pools;

@@ -97,6 +97,7 @@ pub(crate) fn make_places(
 }
 
 /// A key for a further sleep, with its places.
+#[inline(always)]
 pub(crate) fn make_key(
     alloc: Global,
     wheel: &mut Wheel,

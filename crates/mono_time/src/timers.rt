@@ -117,6 +117,7 @@ impl Timers {
     ///
     /// Refused as shutdown exactly where the timers are not enabled, and then at capacity exactly where the live sleeps are
     /// at the limit or the next number is 2^64 - 1; want of memory comes last. No refusal changes anything (`added`).
+    #[inline(always)]
     pub fn add(&mut self, alloc: Global, deadline: Instant) -> Result<u64, SleepError>
         ensures added { Added (sleeps_of self.old) (nanos_of deadline) result (sleeps_of self.new) }
         ensures stands { (m : Sleeps) → StandsForSleeps self.old m → machine.Adds (sleeps_of self.old).is_enabled m (nanos_of deadline) result (StandsForSleeps self.new) }
@@ -145,6 +146,7 @@ impl Timers {
 
     /// Polls a sleep for a task: a fresh one is armed first at the tick of its deadline. Ready where it has elapsed, and else
     /// the task is its only waker. Refused as shutdown exactly where no live sleep has the number (`answer`).
+    #[inline(always)]
     pub fn poll(&mut self, sleep: u64, by: u64) -> Result<Poll<()>, Error>
         ensures answer { result ≡ sleep_poll_answer (sleeps_of self.old) sleep }
         ensures sleeps { sleeps_of self.new ≡ with_polled_sleep (sleeps_of self.old) sleep by }
