@@ -119,6 +119,77 @@ fn wheel_calls<L: Ledger>(alloc: Global, blank: Blank) -> Result<bool, AllocErro
     )
 }
 
+// A new key that is due at a tick.
+fn put(alloc: Global, wheel: &mut Wheel, tick: u64) -> Result<usize, AllocError>
+    requires { tick < 2 ^ 63 }
+{
+    let key = wheel.reserve_entry(alloc)?;
+    let _ = wheel.insert(key, tick);
+    Ok(key)
+}
+
+// Takes a key out and gives it back.
+fn give_back(wheel: &mut Wheel, key: usize) {
+    if wheel.is_in(key) {
+        wheel.remove(key);
+        wheel.free_entry(key);
+    }
+}
+
+// What comes out up to a tick.
+fn comes_out<L: Ledger>(wheel: &mut Wheel, steps: &mut Steps<L>, now: u64) -> Option<usize>
+    requires { now < 2 ^ 63 }
+{
+    if now < wheel.elapsed() {
+        return None;
+    }
+    wheel.poll(now, steps)
+}
+
+// Of 900 keys each third is given back before 300 more go in, which take no new numbers.
+fn keys_again<L: Ledger>(alloc: Global, steps: &mut Steps<L>) -> Result<bool, AllocError> {
+    let mut wheel = Wheel::new(alloc)?;
+    let mut stays = Vec::new(alloc);
+    let mut gone = Vec::new(alloc);
+    for tick in 1..=900u64 {
+        let key = put(alloc, &mut wheel, tick)?;
+        if tick % 3 == 0 {
+            gone.push(key)?;
+        } else {
+            stays.push(key)?;
+        }
+    }
+    for key in &gone {
+        give_back(&mut wheel, *key);
+    }
+    for tick in 5001..=5300u64 {
+        let key = put(alloc, &mut wheel, tick)?;
+        if !gone.contains(&key) {
+            return Ok(false);
+        }
+        stays.push(key)?;
+    }
+    for key in &stays {
+        if comes_out(&mut wheel, steps, 6000) != Some(*key) {
+            return Ok(false);
+        }
+    }
+    Ok(stays.len() == 900 && comes_out(&mut wheel, steps, 6000) == None)
+}
+
+fn given_again<L: Ledger>(alloc: Global, blank: Blank) -> Result<bool, AllocError>
+    requires { (blank.name ≡ L.name) × (blank.parts ≡ L.parts) × (0 < L.parts) }
+{
+    let mut steps: Steps<L> = Steps::new(blank);
+    keys_again(alloc, &mut steps)
+}
+
+#[test]
+fn keys_are_given_again(rt: HostRuntime) {
+    let passed = given_again::<Brand>(rt.alloc(), Blank::new(1));
+    assert!(rt; matches!(passed, Ok(true)));
+}
+
 #[test]
 fn wheels(rt: HostRuntime) {
     let passed = wheel_calls::<Brand>(rt.alloc(), Blank::new(1));
