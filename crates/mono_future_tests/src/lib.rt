@@ -13,6 +13,8 @@ mod instants;
 #[cfg(test)]
 mod lists;
 #[cfg(test)]
+mod many;
+#[cfg(test)]
 mod nested;
 #[cfg(test)]
 mod streamed;
