@@ -5,6 +5,8 @@
 #[cfg(test)]
 mod combined;
 #[cfg(test)]
+mod deadlines;
+#[cfg(test)]
 mod desks;
 #[cfg(test)]
 mod examples;
