@@ -7,6 +7,7 @@ pub mod Journals
 pub mod Telling
 pub mod Readings
 pub mod Blocked
+pub mod Filling
 pub mod Drains
 pub mod Rounds
 pub mod Texts

@@ -10,6 +10,7 @@ ghost use Rattle.mono_time.specs.Timers.{registered_of};
 ghost use Rattle.mono_rt.specs.Journals.{Goes, Does, Stays, HasPlaces, WaitsForNext};
 ghost use Rattle.mono_rt.specs.Rounds.{IsWait, IsPark, Parks, OrLed, PauseEnds, Round, PassEnds, Ends, IsSpawn, IsRefused, DropsFor, Blocked, cost};
 ghost use Rattle.mono_rt.specs.Blocked.{OnCapacity};
+ghost use Rattle.mono_rt.specs.Filling.{Fills};
 ghost use Rattle.mono_rt.specs.Telling.{telling, Course, going, Telling, IsParked, Still, EndsSo, EndsParked, EndsWaited};
 
 use crate::calls::drop_reply_of;
@@ -64,6 +65,7 @@ impl<F: Drop, O: Outcome + Drop, D: Driver, P: ThreadPool + Drop> Runtime<F, O, 
         ensures parked { OnOk result (Does O.output_number (IsPark self.old.cx.parts.has_timers) self.old.cx.parts self.new.cx.parts self.old.journal self.new.journal) }
         ensures same { self.new.cx ≡ self.old.cx }
         ensures told { Telling (EndsParked result) (telling (D.readings self.old.driver) (D.time self.old.driver) (D.parks self.old.driver)) going self.old.journal self.new.journal (telling (D.readings self.new.driver) (D.time self.new.driver) (D.parks self.new.driver)) }
+        ensures full { self.new.journal.is_full ≡ self.old.journal.is_full }
     {
         match self.journal.reserve(2) {
             Err(_) => Err(RunError::Memory),
@@ -85,6 +87,7 @@ impl<F: Drop, O: Outcome + Drop, D: Driver, P: ThreadPool + Drop> Runtime<F, O, 
         ensures has_timers { self.new.cx.parts.has_timers ≡ self.old.cx.parts.has_timers }
         ensures turn { self.new.cx.parts.tasks.turn ≡ self.old.cx.parts.tasks.turn }
         ensures told { Telling (EndsWaited result) (telling (D.readings self.old.driver) (D.time self.old.driver) (D.parks self.old.driver)) going self.old.journal self.new.journal (telling (D.readings self.new.driver) (D.time self.new.driver) (D.parks self.new.driver)) }
+        ensures full { self.new.journal.is_full ≡ self.old.journal.is_full }
     {
         match self.park(rt) {
             Err(_) => Err(RunError::Memory),
@@ -112,6 +115,7 @@ impl<F: Drop, O: Outcome + Drop, D: Driver, P: ThreadPool + Drop> Runtime<F, O, 
         ensures queued { IfOk result (λ spent. spent ≡ false → 0 < length self.new.cx.parts.tasks.tasks.queue) }
         ensures turn { self.new.cx.parts.tasks.turn ≡ self.old.cx.parts.tasks.turn }
         ensures told { Telling (EndsSo result) (telling (D.readings self.old.driver) (D.time self.old.driver) (D.parks self.old.driver)) going self.old.journal self.new.journal (telling (D.readings self.new.driver) (D.time self.new.driver) (D.parks self.new.driver)) }
+        ensures full { self.new.journal.is_full ≡ self.old.journal.is_full }
     {
         if self.cx.parts.tasks.queue_len() > 0 {
             let handed = self.driver.submit(rt);
@@ -140,6 +144,7 @@ impl<F: Drop, O: Outcome + Drop, D: Driver, P: ThreadPool + Drop> Runtime<F, O, 
         ensures has_timers { self.new.cx.parts.has_timers ≡ self.old.cx.parts.has_timers }
         ensures turn { self.new.cx.parts.tasks.turn ≡ self.old.cx.parts.tasks.turn }
         ensures told { Telling (Still going) (telling (D.readings self.old.driver) (D.time self.old.driver) (D.parks self.old.driver)) going self.old.journal self.new.journal (telling (D.readings self.new.driver) (D.time self.new.driver) (D.parks self.new.driver)) }
+        ensures full { self.new.journal.is_full ≡ self.old.journal.is_full }
     {
         match self.open_spawn() {
             None => Err(RunError::Memory),
@@ -172,6 +177,7 @@ impl<F: Drop, O: Outcome + Drop, D: Driver, P: ThreadPool + Drop> Runtime<F, O, 
         ensures goes { Goes O.output_number self.old.cx.parts self.new.cx.parts self.old.journal self.new.journal }
         ensures same { self.new.cx.parts ≡ self.old.cx.parts }
         ensures told { Telling (Still going) (telling (D.readings self.old.driver) (D.time self.old.driver) (D.parks self.old.driver)) going self.old.journal self.new.journal (telling (D.readings self.new.driver) (D.time self.new.driver) (D.parks self.new.driver)) }
+        ensures full { self.new.journal.is_full ≡ self.old.journal.is_full }
     {
         match self.journal.reserve(1) {
             Err(_) => None,
@@ -188,6 +194,7 @@ impl<F: Drop, O: Outcome + Drop, D: Driver, P: ThreadPool + Drop> Runtime<F, O, 
         ensures goes { Goes O.output_number self.old.cx.parts self.new.cx.parts self.old.journal self.new.journal }
         ensures turn { self.new.cx.parts.tasks.turn ≡ self.old.cx.parts.tasks.turn }
         ensures told { (course : Course) → Telling (Still course) (telling (D.readings self.old.driver) (D.time self.old.driver) (D.parks self.old.driver)) course self.old.journal self.new.journal (telling (D.readings self.new.driver) (D.time self.new.driver) (D.parks self.new.driver)) }
+        ensures full { self.new.journal.is_full ≡ self.old.journal.is_full }
     {
         match self.journal.reserve(1) {
             Err(_) => Err(RunError::Memory),
@@ -226,6 +233,7 @@ where
         ensures round { IfOk result (λ left. Does O.output_number (Round units left) self.old.cx.parts self.new.cx.parts self.old.journal self.new.journal) }
         ensures fewer { IfOk result (λ left. 0 < length self.old.cx.parts.tasks.tasks.queue → 0 < units → left < units) }
         ensures told { Telling (Still going) (telling (D.readings self.old.driver) (D.time self.old.driver) (D.parks self.old.driver)) going self.old.journal self.new.journal (telling (D.readings self.new.driver) (D.time self.new.driver) (D.parks self.new.driver)) }
+        ensures full { Fills O.output_number F.TaskFuture self.old.cx self.old.journal self.new.journal }
     {
         let queued = self.cx.parts.tasks.queue_len() as u64;
         let most = queued.saturating_mul(2).saturating_add(1).min(units);
@@ -248,6 +256,7 @@ where
         ensures rests { self.new.cx.parts.tasks.turn ≡ None }
         ensures fewer { IfOk result (λ left. left < units) }
         ensures told { Telling (EndsSo result) (telling (D.readings self.old.driver) (D.time self.old.driver) (D.parks self.old.driver)) going self.old.journal self.new.journal (telling (D.readings self.new.driver) (D.time self.new.driver) (D.parks self.new.driver)) }
+        ensures full { Fills O.output_number F.TaskFuture self.old.cx self.old.journal self.new.journal }
     {
         match self.pause(rt, alloc) {
             Err(error) => Err(error),
@@ -270,6 +279,7 @@ where
         ensures has_timers { self.new.cx.parts.has_timers ≡ self.old.cx.parts.has_timers }
         ensures rests { self.new.cx.parts.tasks.turn ≡ None }
         ensures told { Telling (EndsSo result) (telling (D.readings self.old.driver) (D.time self.old.driver) (D.parks self.old.driver)) going self.old.journal self.new.journal (telling (D.readings self.new.driver) (D.time self.new.driver) (D.parks self.new.driver)) }
+        ensures full { Fills O.output_number F.TaskFuture self.old.cx self.old.journal self.new.journal }
     {
         let mut units = match self.round(rt, alloc, turns) {
             Ok(left) => left,
@@ -305,6 +315,7 @@ where
         ensures blocked { Does O.output_number (Blocked self.old.cx.parts.has_timers turns (answer_numbered O.output_number result)) self.old.cx.parts self.new.cx.parts self.old.journal self.new.journal }
         ensures rests { self.new.cx.parts.tasks.turn ≡ None }
         ensures told { Telling (EndsSo result) (telling (D.readings self.old.driver) (D.time self.old.driver) (D.parks self.old.driver)) going self.old.journal self.new.journal (telling (D.readings self.new.driver) (D.time self.new.driver) (D.parks self.new.driver)) }
+        ensures full { Fills O.output_number F.TaskFuture self.old.cx self.old.journal self.new.journal }
     {
         match self.start_main(alloc, future) {
             Err(error) => Err(error),

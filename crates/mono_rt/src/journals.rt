@@ -1,5 +1,5 @@
 // What a runtime did, in order.
-ghost use Rattle.std.specs.Prelude.{◌≡◌, ◌≤◌, ◌++◌, ◌∷◌, [], true, false, OnOk, OnErr, IfOk, IfSome, IfNone, length, slice_get, ℕ, ◌+◌, Some};
+ghost use Rattle.std.specs.Prelude.{◌≡◌, ◌≤◌, ◌||◌, ◌++◌, ◌∷◌, [], true, false, OnOk, OnErr, IfOk, IfSome, IfNone, length, slice_get, ℕ, ◌+◌, Some};
 ghost use Rattle.mono_machine.specs.declared.events.Event.TheVariants as event;
 ghost use Rattle.mono_machine.specs.declared.events.Report.TheVariants as report;
 ghost use Rattle.mono_rt.specs.declared.journals.Entry.TheVariants.{Ran};
@@ -74,6 +74,7 @@ impl Journal {
     pub(crate) fn push_turn(&mut self, task: u64, acts: Acts, end: End, ended: Ended)
         requires { HasPlaces self.old 1 }
         ensures kept { self.new.is_full ≡ false → (self.old.is_full ≡ false) × (acts.is_full ≡ false) × (self.new.entries.items ≡ self.old.entries.items ++ Ran (event.Turn acts.steps end) (report.Turn task acts.replies ended) ∷ []) }
+        ensures full { self.new.is_full ≡ (self.old.is_full || acts.is_full) }
     {
         match acts.take() {
             None => self.is_full = true,

@@ -1,5 +1,5 @@
 // A runtime, and the turns and clock steps that it does.
-ghost use Rattle.std.specs.Prelude.{◌≡◌, ◌<◌, ◌≤◌, ◌+◌, ◌++◌, ◌∷◌, [], None, true, false, length, vec_len, vec_capacity, OnOk, OnErr, IfSome, IfNone};
+ghost use Rattle.std.specs.Prelude.{◌≡◌, ◌<◌, ◌≤◌, ◌+◌, ◌++◌, ◌∷◌, ◌||◌, [], None, true, false, length, vec_len, vec_capacity, OnOk, OnErr, IfSome, IfNone};
 ghost use Rattle.mono_time.specs.Instants.{nanos_of};
 ghost use Rattle.mono_time.specs.Sleeps.{armed_count};
 ghost use Rattle.mono_time.specs.Timers.{sleeps_of};
@@ -9,6 +9,7 @@ ghost use Rattle.mono_rt.specs.declared.journals.Entry.TheVariants.{Ran};
 ghost use Rattle.mono_rt.specs.Record.{no_acts};
 ghost use Rattle.mono_rt.specs.Journals.{Goes, Does, IsReading, HasPlaces};
 ghost use Rattle.mono_rt.specs.Rounds.{OneTurn, IsClock};
+ghost use Rattle.mono_rt.specs.Filling.{Fills};
 ghost use Rattle.mono_rt.specs.Telling.{telling, Course, going, Telling, IsRead, Still};
 
 use crate::acts::Acts;
@@ -45,6 +46,7 @@ impl<F: Drop, O: Outcome + Drop, D: Driver, P: ThreadPool + Drop> Runtime<F, O, 
         ensures has_timers { self.new.cx.parts.has_timers ≡ self.old.cx.parts.has_timers }
         ensures blocking { self.new.cx.parts.blocking ≡ self.old.cx.parts.blocking }
         ensures driver { self.new.driver ≡ self.old.driver }
+        ensures full { self.new.journal.is_full ≡ (self.old.journal.is_full || self.old.cx.parts.acts.is_full) }
     {
         let acts = mem::replace(&mut self.cx.parts.acts, Acts::keeping_none(alloc));
         self.journal.push_turn(task, acts, end, ended);
@@ -78,6 +80,7 @@ impl<F: Drop, O: Outcome + Drop, D: Driver, P: ThreadPool + Drop> Runtime<F, O, 
         ensures goes { Goes O.output_number self.old.cx.parts self.new.cx.parts self.old.journal self.new.journal }
         ensures same { self.new.cx ≡ self.old.cx }
         ensures told { Telling (Still going) (telling (D.readings self.old.driver) (D.time self.old.driver) (D.parks self.old.driver)) going self.old.journal self.new.journal (telling (D.readings self.new.driver) (D.time self.new.driver) (D.parks self.new.driver)) }
+        ensures full { self.new.journal.is_full ≡ self.old.journal.is_full }
     {
         match self.journal.reserve(2) {
             Err(_) => None,
@@ -102,6 +105,7 @@ impl<F: Drop, O: Outcome + Drop, D: Driver, P: ThreadPool + Drop> Runtime<F, O, 
         ensures has_timers { self.new.cx.parts.has_timers ≡ self.old.cx.parts.has_timers }
         ensures turn { self.new.cx.parts.tasks.turn ≡ self.old.cx.parts.tasks.turn }
         ensures told { (course : Course) → Telling (Still course) (telling (D.readings self.old.driver) (D.time self.old.driver) (D.parks self.old.driver)) course self.old.journal self.new.journal (telling (D.readings self.new.driver) (D.time self.new.driver) (D.parks self.new.driver)) }
+        ensures full { self.new.journal.is_full ≡ self.old.journal.is_full }
     {
         let Some((now, room)) = self.open_clock(alloc) else {
             return Err(RunError::Memory);
@@ -131,6 +135,7 @@ where
         ensures has_timers { self.new.cx.parts.has_timers ≡ self.old.cx.parts.has_timers }
         ensures rests { self.new.cx.parts.tasks.turn ≡ None }
         ensures told { Telling (Still going) (telling (D.readings self.old.driver) (D.time self.old.driver) (D.parks self.old.driver)) going self.old.journal self.new.journal (telling (D.readings self.new.driver) (D.time self.new.driver) (D.parks self.new.driver)) }
+        ensures full { Fills O.output_number F.TaskFuture self.old.cx self.old.journal self.new.journal }
     {
         let Some((now, acts)) = self.open_turn(alloc) else {
             return Err(RunError::Memory);

@@ -6,6 +6,7 @@ use Rattle.mono_rt.proofs.Going.{goes_of, goes_on, does_led}
 use Rattle.mono_rt.proofs.Doing.{blocks_by, blocks_done, blocks_refused}
 use Rattle.mono_rt.specs.Telling.{going}
 use Rattle.mono_rt.proofs.Telling.{telling_on, telling_past, telling_more, capacity_ends}
+use Rattle.mono_rt.proofs.Filling.{fills_on, fills_not, fills_still}
 use Rattle.mono_rt.proofs.runtimes.Runtime.block_on.Goals as goal
 
 pub returns-in-Err-clause-blocked : goal.returns-in-Err-clause-blocked
@@ -68,3 +69,46 @@ returns-in-None-clause-told g c = telling_more (λ x e. tt) (telling_past (telli
 
 pub returns-in-Err-end_main-clause-told : goal.returns-in-Err-end_main-clause-told
 returns-in-Err-end_main-clause-told g c = telling_more (λ x e. tt) (telling_past (telling_on {q = going} c.start_main.ensures.told c.run-answer.ensures.told) c.end_main.ensures.told)
+
+pub returns-in-Err-clause-full : goal.returns-in-Err-clause-full
+returns-in-Err-clause-full g c = fills_not g.O.Outcome.output_number g.F.TaskFuture c.args.self.now.cx c.args.self.now.journal c.start_main.new.self.journal c.start_main.ensures.full
+
+pub returns-in-Err-answer-clause-full : goal.returns-in-Err-answer-clause-full
+returns-in-Err-answer-clause-full g c =
+    let number = g.O.Outcome.output_number in
+    let old = c.args.self.now in
+    let started = c.start_main.new.self in
+    let ran = c.run-answer.new.self in
+    fills_still number g.F.TaskFuture old.cx old.journal ran.journal c.end_main.new.self.journal
+    (fills_on number g.F.TaskFuture old.cx started.cx old.journal started.journal ran.journal c.start_main.ensures.goes (fills_not number g.F.TaskFuture old.cx old.journal started.journal c.start_main.ensures.full) c.run-answer.ensures.full)
+    c.end_main.ensures.full
+
+pub returns-in-Some-clause-full : goal.returns-in-Some-clause-full
+returns-in-Some-clause-full g c =
+    let number = g.O.Outcome.output_number in
+    let old = c.args.self.now in
+    let started = c.start_main.new.self in
+    let ran = c.run-answer.new.self in
+    fills_still number g.F.TaskFuture old.cx old.journal ran.journal c.end_main.new.self.journal
+    (fills_on number g.F.TaskFuture old.cx started.cx old.journal started.journal ran.journal c.start_main.ensures.goes (fills_not number g.F.TaskFuture old.cx old.journal started.journal c.start_main.ensures.full) c.run-answer.ensures.full)
+    c.end_main.ensures.full
+
+pub returns-in-None-clause-full : goal.returns-in-None-clause-full
+returns-in-None-clause-full g c =
+    let number = g.O.Outcome.output_number in
+    let old = c.args.self.now in
+    let started = c.start_main.new.self in
+    let ran = c.run-answer.new.self in
+    fills_still number g.F.TaskFuture old.cx old.journal ran.journal c.end_main.new.self.journal
+    (fills_on number g.F.TaskFuture old.cx started.cx old.journal started.journal ran.journal c.start_main.ensures.goes (fills_not number g.F.TaskFuture old.cx old.journal started.journal c.start_main.ensures.full) c.run-answer.ensures.full)
+    c.end_main.ensures.full
+
+pub returns-in-Err-end_main-clause-full : goal.returns-in-Err-end_main-clause-full
+returns-in-Err-end_main-clause-full g c =
+    let number = g.O.Outcome.output_number in
+    let old = c.args.self.now in
+    let started = c.start_main.new.self in
+    let ran = c.run-answer.new.self in
+    fills_still number g.F.TaskFuture old.cx old.journal ran.journal c.end_main.new.self.journal
+    (fills_on number g.F.TaskFuture old.cx started.cx old.journal started.journal ran.journal c.start_main.ensures.goes (fills_not number g.F.TaskFuture old.cx old.journal started.journal c.start_main.ensures.full) c.run-answer.ensures.full)
+    c.end_main.ensures.full

@@ -1,9 +1,10 @@
 use Rattle.std.proofs.Common.{◌≡◌, cond, ℕ, ◌-◌, ◌<◌, arith, refl, ap, ◌∙◌, sym, subst}
-use Rattle.mono_rt.specs.Rounds.{Pause}
+use Rattle.mono_rt.specs.Rounds.{Pause, PauseEnds}
 use Rattle.mono_rt.proofs.Going.{goes_of, goes_on, does_led}
 use Rattle.mono_rt.proofs.Doing.{does_pass, pass_breaks}
 use Rattle.mono_rt.specs.Telling.{going}
 use Rattle.mono_rt.proofs.Telling.{telling_on, telling_more}
+use Rattle.mono_rt.proofs.Filling.{fills_on, fills_not}
 use Rattle.mono_rt.proofs.runtimes.Runtime.pass.Goals as goal
 
 no_cost : (u k : ℕ) → 0 ≡ k → u ≡ u - k
@@ -59,3 +60,42 @@ returns-in-Err-round-clause-told g c = telling_more (λ x e. tt) (telling_on {q 
 
 pub returns-in-Err-round-2-clause-told : goal.returns-in-Err-round-2-clause-told
 returns-in-Err-round-2-clause-told g c = telling_more (λ x e. tt) (telling_on {q = going} (rw c.in-Ok-false.is at c.pause.ensures.told) c.round-in-Ok-false.ensures.told)
+
+pub returns-in-Err-clause-full : goal.returns-in-Err-clause-full
+returns-in-Err-clause-full g c = fills_not g.O.Outcome.output_number g.F.TaskFuture c.args.self.now.cx c.args.self.now.journal c.pause.new.self.journal c.pause.ensures.full
+
+pub returns-in-Ok-clause-full : goal.returns-in-Ok-clause-full
+returns-in-Ok-clause-full g c =
+    let number = g.O.Outcome.output_number in
+    let old = c.args.self.now in
+    let paused = c.pause.new.self in
+    fills_on number g.F.TaskFuture old.cx paused.cx old.journal paused.journal c.round.new.self.journal
+    (goes_of number (PauseEnds old.cx.parts.has_timers c.pause.result) old.cx.parts paused.cx.parts old.journal paused.journal c.pause.ensures.pauses)
+    (fills_not number g.F.TaskFuture old.cx old.journal paused.journal c.pause.ensures.full) c.round.ensures.full
+
+pub returns-in-Ok-round-clause-full : goal.returns-in-Ok-round-clause-full
+returns-in-Ok-round-clause-full g c =
+    let number = g.O.Outcome.output_number in
+    let old = c.args.self.now in
+    let paused = c.pause.new.self in
+    fills_on number g.F.TaskFuture old.cx paused.cx old.journal paused.journal c.round-in-Ok-false.new.self.journal
+    (goes_of number (PauseEnds old.cx.parts.has_timers c.pause.result) old.cx.parts paused.cx.parts old.journal paused.journal c.pause.ensures.pauses)
+    (fills_not number g.F.TaskFuture old.cx old.journal paused.journal c.pause.ensures.full) c.round-in-Ok-false.ensures.full
+
+pub returns-in-Err-round-clause-full : goal.returns-in-Err-round-clause-full
+returns-in-Err-round-clause-full g c =
+    let number = g.O.Outcome.output_number in
+    let old = c.args.self.now in
+    let paused = c.pause.new.self in
+    fills_on number g.F.TaskFuture old.cx paused.cx old.journal paused.journal c.round.new.self.journal
+    (goes_of number (PauseEnds old.cx.parts.has_timers c.pause.result) old.cx.parts paused.cx.parts old.journal paused.journal c.pause.ensures.pauses)
+    (fills_not number g.F.TaskFuture old.cx old.journal paused.journal c.pause.ensures.full) c.round.ensures.full
+
+pub returns-in-Err-round-2-clause-full : goal.returns-in-Err-round-2-clause-full
+returns-in-Err-round-2-clause-full g c =
+    let number = g.O.Outcome.output_number in
+    let old = c.args.self.now in
+    let paused = c.pause.new.self in
+    fills_on number g.F.TaskFuture old.cx paused.cx old.journal paused.journal c.round-in-Ok-false.new.self.journal
+    (goes_of number (PauseEnds old.cx.parts.has_timers c.pause.result) old.cx.parts paused.cx.parts old.journal paused.journal c.pause.ensures.pauses)
+    (fills_not number g.F.TaskFuture old.cx old.journal paused.journal c.pause.ensures.full) c.round-in-Ok-false.ensures.full

@@ -2,6 +2,7 @@ use Rattle.std.proofs.Common.{inl, inr, ◌≡◌, ◌+◌, ◌-◌, ℕ, arith,
 use Rattle.mono_rt.proofs.Going.{goes_on, goes_nowhere}
 use Rattle.mono_rt.proofs.Doing.{turns_more, no_turns, does_round, most_is, no_queue}
 use Rattle.mono_rt.proofs.Telling.{telling_on, tells_nothing}
+use Rattle.mono_rt.proofs.Filling.{fills_on, fills_not}
 use Rattle.mono_rt.proofs.runtimes.Runtime.round.Goals as goal
 
 never : (n : ℕ) → n + 1 ≡ 0 → ⊥
@@ -19,13 +20,14 @@ loop-done-preserved g c = (
   turns_more g.O.Outcome.output_number c.loop-done.done c.args.self.now.cx.parts c.loop-done.self.cx.parts c.turn.new.self.cx.parts c.args.self.now.journal c.loop-done.self.journal c.turn.new.self.journal c.loop-done.invariant.3 c.in_ok-turn.ensures.turned,
   c.turn.ensures.has_timers ∙ c.loop-done.invariant.4,
   telling_on c.loop-done.invariant.5 c.turn.ensures.told,
+  fills_on g.O.Outcome.output_number g.F.TaskFuture c.args.self.now.cx c.loop-done.self.cx c.args.self.now.journal c.loop-done.self.journal c.turn.new.self.journal c.loop-done.invariant.0 c.loop-done.invariant.6 c.turn.ensures.full,
 )
 
 pub loop-done-init : goal.loop-done-init
 loop-done-init g c =
     let parts = c.args.self.now.cx.parts in
     let journal = c.args.self.now.journal in
-    (goes_nowhere g.O.Outcome.output_number parts parts journal journal refl refl refl refl refl refl, c.requires.rests, λ e. refl, no_turns g.O.Outcome.output_number parts journal, refl, tells_nothing refl refl refl refl)
+    (goes_nowhere g.O.Outcome.output_number parts parts journal journal refl refl refl refl refl refl, c.requires.rests, λ e. refl, no_turns g.O.Outcome.output_number parts journal, refl, tells_nothing refl refl refl refl, fills_not g.O.Outcome.output_number g.F.TaskFuture c.args.self.now.cx journal journal refl)
 
 pub returns-then-queue_len-eq0-clause-round : goal.returns-then-queue_len-eq0-clause-round
 returns-then-queue_len-eq0-clause-round g c =
@@ -42,3 +44,12 @@ returns-clause-round g c =
 
 pub returns-in_err-turn-clause-told : goal.returns-in_err-turn-clause-told
 returns-in_err-turn-clause-told g c = telling_on c.loop-done.invariant.5 c.turn.ensures.told
+
+pub returns-in_err-turn-clause-full : goal.returns-in_err-turn-clause-full
+returns-in_err-turn-clause-full g c = fills_on g.O.Outcome.output_number g.F.TaskFuture c.args.self.now.cx c.loop-done.self.cx c.args.self.now.journal c.loop-done.self.journal c.turn.new.self.journal c.loop-done.invariant.0 c.loop-done.invariant.6 c.turn.ensures.full
+
+pub returns-then-queue_len-eq0-clause-full : goal.returns-then-queue_len-eq0-clause-full
+returns-then-queue_len-eq0-clause-full g c = c.loop-done.invariant.6
+
+pub returns-clause-full : goal.returns-clause-full
+returns-clause-full g c = c.loop-done.invariant.6

@@ -1,9 +1,11 @@
 use Rattle.std.proofs.Common.{◌≡◌, refl, true, false, Bool, arith, ap, ◌∙◌, sym, subst}
-use Rattle.mono_rt.proofs.Going.{does_led}
+use Rattle.mono_rt.specs.Rounds.{Rounds}
+use Rattle.mono_rt.proofs.Going.{does_led, goes_of}
 use Rattle.mono_rt.proofs.Doing.{does_first, passes_more, ends_done, ends_turns, ends_by}
 use Rattle.mono_rt.proofs.runtimes.Runtime.run.Goals.{then-loop-units-test+else-not-has_output, else-loop-units-test}
 use Rattle.mono_rt.specs.Telling.{going}
 use Rattle.mono_rt.proofs.Telling.{telling_on, telling_more}
+use Rattle.mono_rt.proofs.Filling.{fills_on}
 use Rattle.mono_rt.proofs.runtimes.Runtime.run.Goals as goal
 
 both : (b : Bool) → true ≡ b → false ≡ b → ⊥
@@ -18,6 +20,7 @@ loop-units-init g c = (
   c.round.ensures.rests,
   c.round.ensures.has_timers,
   c.round.ensures.told,
+  c.round.ensures.full,
 )
 
 pub loop-units-preserved : goal.loop-units-preserved
@@ -27,6 +30,8 @@ loop-units-preserved g c = (
   c.pass.ensures.rests,
   c.pass.ensures.has_timers ∙ c.loop-units.invariant.2,
   telling_on {q = going} c.loop-units.invariant.3 (rw c.in-Ok-pass.is at c.pass.ensures.told),
+  fills_on g.O.Outcome.output_number g.F.TaskFuture c.args.self.now.cx c.loop-units.self.cx c.args.self.now.journal c.loop-units.self.journal c.pass.new.self.journal
+      (goes_of g.O.Outcome.output_number (Rounds c.args.self.now.cx.parts.has_timers c.args.main c.args.turns c.loop-units.units) c.args.self.now.cx.parts c.loop-units.self.cx.parts c.args.self.now.journal c.loop-units.self.journal c.loop-units.invariant.0) c.loop-units.invariant.4 c.pass.ensures.full,
 )
 
 pub returns-in-Err-pass-clause-ends : goal.returns-in-Err-pass-clause-ends
@@ -62,3 +67,17 @@ returns-else-has_output-clause-told g c = c.loop-units.invariant.3
 
 pub returns-in-Err-clause-told : goal.returns-in-Err-clause-told
 returns-in-Err-clause-told g c = telling_more (λ x e. tt) c.round.ensures.told
+
+pub returns-in-Err-pass-clause-full : goal.returns-in-Err-pass-clause-full
+returns-in-Err-pass-clause-full g c =
+    fills_on g.O.Outcome.output_number g.F.TaskFuture c.args.self.now.cx c.loop-units.self.cx c.args.self.now.journal c.loop-units.self.journal c.pass.new.self.journal
+    (goes_of g.O.Outcome.output_number (Rounds c.args.self.now.cx.parts.has_timers c.args.main c.args.turns c.loop-units.units) c.args.self.now.cx.parts c.loop-units.self.cx.parts c.args.self.now.journal c.loop-units.self.journal c.loop-units.invariant.0) c.loop-units.invariant.4 c.pass.ensures.full
+
+pub returns-then-has_output-clause-full : goal.returns-then-has_output-clause-full
+returns-then-has_output-clause-full g c = c.loop-units.invariant.4
+
+pub returns-else-has_output-clause-full : goal.returns-else-has_output-clause-full
+returns-else-has_output-clause-full g c = c.loop-units.invariant.4
+
+pub returns-in-Err-clause-full : goal.returns-in-Err-clause-full
+returns-in-Err-clause-full g c = c.round.ensures.full

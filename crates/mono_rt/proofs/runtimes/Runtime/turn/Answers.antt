@@ -4,6 +4,7 @@ use Rattle.mono_rt.proofs.Calling.{same_machine}
 use Rattle.mono_rt.proofs.Going.{goes_of, goes_on, does_turn}
 use Rattle.mono_rt.proofs.Doing.{does_one}
 use Rattle.mono_rt.proofs.Telling.{telling_on, tells_kept, same_told}
+use Rattle.mono_rt.proofs.Filling.{fills_turn}
 use Rattle.mono_rt.proofs.runtimes.Runtime.turn.Goals as goal
 
 pub returns-then-self-clause-goes : goal.returns-then-self-clause-goes
@@ -36,3 +37,17 @@ returns-then-self-clause-told g c = telling_on c.open_turn.ensures.told (tells_k
 
 pub returns-clause-told : goal.returns-clause-told
 returns-clause-told g c = telling_on c.open_turn.ensures.told (tells_kept _ _ _ _ (same_told g.D.Clock.readings g.D.Clock.time g.D.Clock.parks c.keep_turn.ensures.driver) c.keep_turn.ensures.kept)
+
+pub returns-then-self-clause-full : goal.returns-then-self-clause-full
+returns-then-self-clause-full g c =
+    let old = c.args.self.now in
+    let opened = c.open_turn.new.self in
+    fills_turn g.O.Outcome.output_number g.F.TaskFuture old.cx opened.cx c.turn-task.new.self old.journal opened.journal c.keep_turn.new.self.journal _ _ _ _ _
+    c.open_turn.ensures.goes c.open_turn.ensures.full c.in-Some.ensures.acts c.turn-task.ensures.turn c.turn-task.ensures.is c.keep_turn.ensures.full
+
+pub returns-clause-full : goal.returns-clause-full
+returns-clause-full g c =
+    let old = c.args.self.now in
+    let opened = c.open_turn.new.self in
+    fills_turn g.O.Outcome.output_number g.F.TaskFuture old.cx opened.cx c.turn-task.new.self old.journal opened.journal c.keep_turn.new.self.journal _ _ _ _ _
+    c.open_turn.ensures.goes c.open_turn.ensures.full c.in-Some.ensures.acts c.turn-task.ensures.turn c.turn-task.ensures.is c.keep_turn.ensures.full
