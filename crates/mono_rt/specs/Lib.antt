@@ -1,5 +1,6 @@
 pub mod Numbered
 pub mod Record
+pub mod Roomy
 pub mod Stands
 pub mod Reached
 pub mod Turns

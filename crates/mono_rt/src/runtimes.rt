@@ -47,6 +47,7 @@ impl<F: Drop, O: Outcome + Drop, D: Driver, P: ThreadPool + Drop> Runtime<F, O, 
         ensures blocking { self.new.cx.parts.blocking ≡ self.old.cx.parts.blocking }
         ensures driver { self.new.driver ≡ self.old.driver }
         ensures full { self.new.journal.is_full ≡ (self.old.journal.is_full || self.old.cx.parts.acts.is_full) }
+        ensures held { self.new.journal.entries.held ≡ self.old.journal.entries.held }
     {
         let acts = mem::replace(&mut self.cx.parts.acts, Acts::keeping_none(alloc));
         self.journal.push_turn(task, acts, end, ended);
@@ -62,6 +63,7 @@ impl<F: Drop, O: Outcome + Drop, D: Driver, P: ThreadPool + Drop> Runtime<F, O, 
         ensures same { self.new.cx ≡ self.old.cx }
         ensures read { IfSome result (λ x. IsRead (nanos_of x.0) (telling (D.readings self.old.driver) (D.time self.old.driver) (D.parks self.old.driver)) (telling (D.readings self.new.driver) (D.time self.new.driver) (D.parks self.new.driver))) }
         ensures unread { IfNone result (self.new.driver ≡ self.old.driver) }
+        ensures held { self.new.journal.entries.held ≡ self.old.journal.entries.held }
     {
         match self.journal.reserve(1) {
             Err(_) => None,
@@ -81,6 +83,7 @@ impl<F: Drop, O: Outcome + Drop, D: Driver, P: ThreadPool + Drop> Runtime<F, O, 
         ensures same { self.new.cx ≡ self.old.cx }
         ensures told { Telling (Still going) (telling (D.readings self.old.driver) (D.time self.old.driver) (D.parks self.old.driver)) going self.old.journal self.new.journal (telling (D.readings self.new.driver) (D.time self.new.driver) (D.parks self.new.driver)) }
         ensures full { self.new.journal.is_full ≡ self.old.journal.is_full }
+        ensures held { self.new.journal.entries.held ≡ self.old.journal.entries.held }
     {
         match self.journal.reserve(2) {
             Err(_) => None,
@@ -106,6 +109,7 @@ impl<F: Drop, O: Outcome + Drop, D: Driver, P: ThreadPool + Drop> Runtime<F, O, 
         ensures turn { self.new.cx.parts.tasks.turn ≡ self.old.cx.parts.tasks.turn }
         ensures told { (course : Course) → Telling (Still course) (telling (D.readings self.old.driver) (D.time self.old.driver) (D.parks self.old.driver)) course self.old.journal self.new.journal (telling (D.readings self.new.driver) (D.time self.new.driver) (D.parks self.new.driver)) }
         ensures full { self.new.journal.is_full ≡ self.old.journal.is_full }
+        ensures held { self.new.journal.entries.held ≡ self.old.journal.entries.held }
     {
         let Some((now, room)) = self.open_clock(alloc) else {
             return Err(RunError::Memory);
@@ -136,6 +140,7 @@ where
         ensures rests { self.new.cx.parts.tasks.turn ≡ None }
         ensures told { Telling (Still going) (telling (D.readings self.old.driver) (D.time self.old.driver) (D.parks self.old.driver)) going self.old.journal self.new.journal (telling (D.readings self.new.driver) (D.time self.new.driver) (D.parks self.new.driver)) }
         ensures full { Fills O.output_number F.TaskFuture self.old.cx self.old.journal self.new.journal }
+        ensures held { self.new.journal.entries.held ≡ self.old.journal.entries.held }
     {
         let Some((now, acts)) = self.open_turn(alloc) else {
             return Err(RunError::Memory);

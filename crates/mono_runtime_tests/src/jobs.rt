@@ -717,3 +717,24 @@ fn a_turn_of_513_acts_fills_the_journal(rt: HostRuntime) -> Result<(), Fail> {
     assert_eq!(rt; done.runtime.journal().len(), 2);
     Ok(())
 }
+
+/// Whether a journal is empty, or the drop of the first task's handle stands last in it.
+fn ends_with_the_drop(journal: &Journal) -> bool {
+    match journal.len().checked_sub(1) {
+        None => true,
+        Some(last) => matches!(
+            journal.get(last),
+            Some(Entry::Ran(Event::Act(Act::DropJoin(0)), _))
+        ),
+    }
+}
+
+/// Also where one of the call's allocations fails: `rt try --test --fail-alloc N` lets the Nth one fail.
+#[test]
+fn the_main_handle_is_dropped_last(rt: HostRuntime) -> Result<(), Fail> {
+    let alloc = rt.alloc();
+    let calls = [Call::Block(1), Call::Waker, Call::Poll(0)];
+    let done = did(&rt, alloc, Kind::Local, 4, in_turns(alloc, &calls, &[])?)?;
+    assert!(rt; ends_with_the_drop(done.runtime.journal()));
+    Ok(())
+}

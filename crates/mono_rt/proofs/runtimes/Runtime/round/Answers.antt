@@ -21,13 +21,14 @@ loop-done-preserved g c = (
   c.turn.ensures.has_timers ∙ c.loop-done.invariant.4,
   telling_on c.loop-done.invariant.5 c.turn.ensures.told,
   fills_on g.O.Outcome.output_number g.F.TaskFuture c.args.self.now.cx c.loop-done.self.cx c.args.self.now.journal c.loop-done.self.journal c.turn.new.self.journal c.loop-done.invariant.0 c.loop-done.invariant.6 c.turn.ensures.full,
+  c.turn.ensures.held ∙ c.loop-done.invariant.7,
 )
 
 pub loop-done-init : goal.loop-done-init
 loop-done-init g c =
     let parts = c.args.self.now.cx.parts in
     let journal = c.args.self.now.journal in
-    (goes_nowhere g.O.Outcome.output_number parts parts journal journal refl refl refl refl refl refl, c.requires.rests, λ e. refl, no_turns g.O.Outcome.output_number parts journal, refl, tells_nothing refl refl refl refl, fills_not g.O.Outcome.output_number g.F.TaskFuture c.args.self.now.cx journal journal refl)
+    (goes_nowhere g.O.Outcome.output_number parts parts journal journal refl refl refl refl refl refl, c.requires.rests, λ e. refl, no_turns g.O.Outcome.output_number parts journal, refl, tells_nothing refl refl refl refl, fills_not g.O.Outcome.output_number g.F.TaskFuture c.args.self.now.cx journal journal refl, refl)
 
 pub returns-then-queue_len-eq0-clause-round : goal.returns-then-queue_len-eq0-clause-round
 returns-then-queue_len-eq0-clause-round g c =

@@ -14,3 +14,4 @@ invariant-loop-done g l = Goes g.O.Outcome.output_number l.initial.self.cx.parts
     × Telling (Still going) (telling (g.D.Clock.readings l.initial.self.driver) (g.D.Clock.time l.initial.self.driver) (g.D.Clock.parks l.initial.self.driver)) going l.initial.self.journal l.self.journal
     (telling (g.D.Clock.readings l.self.driver) (g.D.Clock.time l.self.driver) (g.D.Clock.parks l.self.driver))
     × Fills g.O.Outcome.output_number g.F.TaskFuture l.initial.self.cx l.initial.self.journal l.self.journal
+    × (l.self.journal.entries.held ≡ l.initial.self.journal.entries.held)

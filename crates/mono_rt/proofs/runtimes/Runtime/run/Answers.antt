@@ -21,6 +21,7 @@ loop-units-init g c = (
   c.round.ensures.has_timers,
   c.round.ensures.told,
   c.round.ensures.full,
+  c.round.ensures.held,
 )
 
 pub loop-units-preserved : goal.loop-units-preserved
@@ -32,6 +33,7 @@ loop-units-preserved g c = (
   telling_on {q = going} c.loop-units.invariant.3 (rw c.in-Ok-pass.is at c.pass.ensures.told),
   fills_on g.O.Outcome.output_number g.F.TaskFuture c.args.self.now.cx c.loop-units.self.cx c.args.self.now.journal c.loop-units.self.journal c.pass.new.self.journal
       (goes_of g.O.Outcome.output_number (Rounds c.args.self.now.cx.parts.has_timers c.args.main c.args.turns c.loop-units.units) c.args.self.now.cx.parts c.loop-units.self.cx.parts c.args.self.now.journal c.loop-units.self.journal c.loop-units.invariant.0) c.loop-units.invariant.4 c.pass.ensures.full,
+  c.pass.ensures.held ∙ c.loop-units.invariant.5,
 )
 
 pub returns-in-Err-pass-clause-ends : goal.returns-in-Err-pass-clause-ends

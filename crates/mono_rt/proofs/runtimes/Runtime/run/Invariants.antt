@@ -12,6 +12,7 @@ invariant-loop-units g l = Does g.O.Outcome.output_number (Rounds l.fn.self.cx.p
     × Telling (Still going) (telling (g.D.Clock.readings l.fn.self.driver) (g.D.Clock.time l.fn.self.driver) (g.D.Clock.parks l.fn.self.driver)) going l.fn.self.journal l.self.journal
     (telling (g.D.Clock.readings l.self.driver) (g.D.Clock.time l.self.driver) (g.D.Clock.parks l.self.driver))
     × Fills g.O.Outcome.output_number g.F.TaskFuture l.fn.self.cx l.fn.self.journal l.self.journal
+    × (l.self.journal.entries.held ≡ l.fn.self.journal.entries.held)
 
 -- each pass spends a unit
 abbrev pub decreases-loop-units : goal.decreases-loop-units
