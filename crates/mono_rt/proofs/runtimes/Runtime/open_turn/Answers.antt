@@ -46,6 +46,7 @@ returns-in-Ok-with_room-clause-at g c =
     (does_stay number parts parts c.args.self.now.journal c.reserve.new.self refl refl refl refl c.reserve.ensures.entries c.reserve.ensures.full)
     (does_past number (ReadsAt (nanos_of c.now-now.result)) parts c.reserve.new.self c.push.new.self (Now n ∷ []) (λ unfull. c.push.ensures.entries ∙ pushed_open c.reserve.new.self (Now n) (sym c.push.ensures.full ∙ unfull)) c.push.ensures.full (λ m. refl) (λ m st. (refl, λ s. refl))
     (λ m st rest. (ap (λ x. Now x ∷ rest) c.as_nanos.ensures, refl)))
+
 pub returns-in-Err-clause-goes : goal.returns-in-Err-clause-goes
 returns-in-Err-clause-goes g c = goes_nowhere g.O.Outcome.output_number c.args.self.now.cx.parts c.args.self.now.cx.parts c.args.self.now.journal c.reserve.new.self refl refl refl refl c.reserve.ensures.entries c.reserve.ensures.full
 

@@ -53,6 +53,7 @@ returns-clause-polled g c =
     (does_turn number opened.cx.parts done.parts left.cx.parts opened.journal left.journal _ _ _ c.turn-task.ensures.is c.keep_turn.ensures.kept
     (λ m st. same_machine number hosting_of done.parts left.cx.parts m c.keep_turn.ensures.tasks c.keep_turn.ensures.timers c.keep_turn.ensures.has_timers c.keep_turn.ensures.blocking st) c.keep_turn.ensures.timers)
     (λ unfull. (c.keep_turn.ensures.kept unfull).1) refl (sym c.keep_turn.ensures.memory ∙ c.if-self.false) (ap (λ v. v.items) c.keep_turn.ensures.futures)
+
 pub returns-then-self-clause-full : goal.returns-then-self-clause-full
 returns-then-self-clause-full g c =
     let old = c.args.self.now in
