@@ -1,5 +1,5 @@
 // Tasks that ask for blocking jobs, and what the journal keeps of it.
-ghost use Rattle.std.specs.Prelude.{◌≡◌, ⊤, false};
+ghost use Rattle.std.specs.Prelude.{◌≡◌, ⊤, false, None, IfOk};
 ghost use Rattle.mono_blocking.specs.Pool.{Offers};
 ghost use Rattle.mono_blocking.specs.declared.strategy.Offered.TheVariants.{Here};
 ghost use Rattle.mono_rt.specs.Reached.{Reaches};
@@ -308,10 +308,53 @@ enum Kind {
     Panic,
 }
 
+/// What a pool, a task and the test share at first.
+fn a_share(alloc: Global) -> Result<Arc<Shared, Global>, Fail> {
+    Ok(Arc::new(
+        alloc,
+        Shared {
+            waiting: Mutex::new(Vec::new(alloc)),
+            seen: Mutex::new(Vec::new(alloc)),
+        },
+    )?)
+}
+
+/// A pool of this kind.
+fn a_pool(kind: Kind, shared: &Arc<Shared, Global>) -> Result<BlockingHandle<Keeps>, AllocError> {
+    match kind {
+        Kind::Pool(refused) => Ok(BlockingHandle::Attached(Keeps {
+            shared: Arc::try_clone(shared)?,
+            asked: 0,
+            refused,
+            refusals: 0,
+        })),
+        Kind::Local => Ok(BlockingHandle::Empty(BlockingStrategy::ExecuteLocal)),
+        Kind::Panic => Ok(BlockingHandle::Empty(BlockingStrategy::Panic)),
+    }
+}
+
+/// A runtime of tasks that do turns.
+type Turning = Runtime<Turns, u64, ThreadDriver<ListClock>, Keeps>;
+
+/// A runtime with this pool, where so many jobs may be kept.
+fn a_runtime(alloc: Global, pool: BlockingHandle<Keeps>, jobs: u64) -> Result<Turning, Fail>
+    ensures { IfOk result (λ runtime. runtime.cx.parts.tasks.turn ≡ None) }
+{
+    let zero = Instant::from_nanos(0).ok_or("an instant")?;
+    let limits = Limits {
+        tasks: 2,
+        jobs,
+        sleeps: 2,
+    };
+    let driver = ThreadDriver::new(alloc, ListClock::new(vec![in alloc; zero]?))?;
+    let runtime = Runtime::new(alloc, driver, pool, limits, false, zero)?;
+    Ok(runtime)
+}
+
 /// A runtime whose main task did these turns, its answer, and what came.
 #[derive(Drop)]
 struct Ran {
-    runtime: Runtime<Turns, u64, ThreadDriver<ListClock>, Keeps>,
+    runtime: Turning,
     is_one: bool,
     shared: Arc<Shared, Global>,
 }
@@ -342,42 +385,53 @@ fn did<R: Host>(
     jobs: u64,
     turns: Vec<Vec<Call>>,
 ) -> Result<Ran, Fail> {
-    let zero = Instant::from_nanos(0).ok_or("an instant")?;
-    let shared = Arc::new(
-        alloc,
-        Shared {
-            waiting: Mutex::new(Vec::new(alloc)),
-            seen: Mutex::new(Vec::new(alloc)),
-        },
-    )?;
-    let pool = match kind {
-        Kind::Pool(refused) => BlockingHandle::Attached(Keeps {
-            shared: Arc::try_clone(&shared)?,
-            asked: 0,
-            refused,
-            refusals: 0,
-        }),
-        Kind::Local => BlockingHandle::Empty(BlockingStrategy::ExecuteLocal),
-        Kind::Panic => BlockingHandle::Empty(BlockingStrategy::Panic),
-    };
-    let limits = Limits {
-        tasks: 2,
-        jobs,
-        sleeps: 2,
-    };
-    let driver = ThreadDriver::new(alloc, ListClock::new(vec![in alloc; zero]?))?;
-    let mut runtime = Runtime::new(alloc, driver, pool, limits, false, zero)?;
+    let shared = a_share(alloc)?;
     let main = Turns {
         turns,
         at: 0,
         shared: Arc::try_clone(&shared)?,
     };
+    let mut runtime = a_runtime(alloc, a_pool(kind, &shared)?, jobs)?;
     let is_one = matches!(runtime.block_on(rt, alloc, main, 1000), Ok(1));
     Ok(Ran {
         runtime,
         is_one,
         shared,
     })
+}
+
+/// What is told of a main task of one turn: the answers that came, the steps and replies of its turn, and how often the
+/// pool has refused, if there is one.
+#[derive(Clone, Copy)]
+struct Told<'a> {
+    answers: &'a [u64],
+    steps: &'a [TurnStep],
+    replies: &'a [Reply],
+    refusals: Option<u64>,
+}
+
+/// How often the pool has refused that a runtime hands back, if it has one.
+fn refusals_of(runtime: Turning) -> Option<u64> {
+    match runtime.into_pool() {
+        Some(pool) => Some(pool.refusals),
+        None => None,
+    }
+}
+
+/// Whether this is told of a main task that does these calls in its only turn, where so many jobs may be kept.
+fn tells<R: Host>(
+    rt: &R,
+    alloc: Global,
+    kind: Kind,
+    jobs: u64,
+    calls: &[Call],
+    told: &Told,
+) -> Result<bool, Fail> {
+    let done = did(rt, alloc, kind, jobs, in_turns(alloc, calls, &[])?)?;
+    let is_so = done.is_one
+        && done.came(rt, told.answers)
+        && done.is_turn(2, told.steps, told.replies);
+    Ok(is_so && refusals_of(done.runtime) == told.refusals)
 }
 
 /// The calls of one turn, or of two.
@@ -421,7 +475,6 @@ fn end(job: u64) -> TurnStep {
 
 #[test]
 fn a_job_on_the_caller_has_ended(rt: HostRuntime) -> Result<(), Fail> {
-    let alloc = rt.alloc();
     let calls = [
         Call::Block(3),
         Call::Finished(0),
@@ -429,87 +482,91 @@ fn a_job_on_the_caller_has_ended(rt: HostRuntime) -> Result<(), Fail> {
         Call::Poll(0),
         Call::Drop(0),
     ];
-    let done = did(&rt, alloc, Kind::Local, 4, in_turns(alloc, &calls, &[])?)?;
-    assert!(rt; done.is_one && done.came(&rt, &[0, YES, 3, TAKEN, NO_OUTPUT]));
-    let steps = [block(3), poll(0), poll(0), drops(0)];
-    let replies = [
-        Reply::Job(0),
-        Reply::Output(3),
-        Reply::Refused(Refusal::Taken),
-        Reply::Dropped(None),
-    ];
-    assert!(rt; done.is_turn(2, &steps, &replies));
-    assert!(rt; done.runtime.into_pool().is_none());
+    let told = Told {
+        answers: &[0, YES, 3, TAKEN, NO_OUTPUT],
+        steps: &[block(3), poll(0), poll(0), drops(0)],
+        replies: &[
+            Reply::Job(0),
+            Reply::Output(3),
+            Reply::Refused(Refusal::Taken),
+            Reply::Dropped(None),
+        ],
+        refusals: None,
+    };
+    assert!(rt; tells(&rt, rt.alloc(), Kind::Local, 4, &calls, &told)?);
     Ok(())
 }
 
 #[test]
 fn without_a_pool_a_job_is_refused(rt: HostRuntime) -> Result<(), Fail> {
-    let alloc = rt.alloc();
     let calls = [Call::Block(3), Call::Waker];
-    let done = did(&rt, alloc, Kind::Panic, 4, in_turns(alloc, &calls, &[])?)?;
-    assert!(rt; done.is_one && done.came(&rt, &[NO_POOL, 0]));
-    assert!(rt; done.is_turn(2, &[block(3)], &[Reply::Refused(Refusal::NoPool)]));
+    let told = Told {
+        answers: &[NO_POOL, 0],
+        steps: &[block(3)],
+        replies: &[Reply::Refused(Refusal::NoPool)],
+        refusals: None,
+    };
+    assert!(rt; tells(&rt, rt.alloc(), Kind::Panic, 4, &calls, &told)?);
     Ok(())
 }
 
 #[test]
 fn at_capacity_comes_before_no_pool(rt: HostRuntime) -> Result<(), Fail> {
-    let alloc = rt.alloc();
-    let done = did(
-        &rt,
-        alloc,
-        Kind::Panic,
-        0,
-        in_turns(alloc, &[Call::Block(3)], &[])?,
-    )?;
-    assert!(rt; done.came(&rt, &[AT_CAPACITY]));
-    assert!(rt; done.is_turn(2, &[block(3)], &[Reply::Refused(Refusal::AtCapacity)]));
+    let told = Told {
+        answers: &[AT_CAPACITY],
+        steps: &[block(3)],
+        replies: &[Reply::Refused(Refusal::AtCapacity)],
+        refusals: None,
+    };
+    assert!(rt; tells(&rt, rt.alloc(), Kind::Panic, 0, &[Call::Block(3)], &told)?);
     Ok(())
 }
 
 #[test]
 fn a_dropped_job_makes_room(rt: HostRuntime) -> Result<(), Fail> {
-    let alloc = rt.alloc();
     let calls = [
         Call::Block(3),
         Call::Block(4),
         Call::Drop(0),
         Call::Block(5),
     ];
-    let done = did(&rt, alloc, Kind::Local, 1, in_turns(alloc, &calls, &[])?)?;
-    assert!(rt; done.came(&rt, &[0, AT_CAPACITY, 3, 1]));
-    let steps = [block(3), block(4), drops(0), block(5)];
-    let replies = [
-        Reply::Job(0),
-        Reply::Refused(Refusal::AtCapacity),
-        Reply::Dropped(Some(3)),
-        Reply::Job(1),
-    ];
-    assert!(rt; done.is_turn(2, &steps, &replies));
+    let told = Told {
+        answers: &[0, AT_CAPACITY, 3, 1],
+        steps: &[block(3), block(4), drops(0), block(5)],
+        replies: &[
+            Reply::Job(0),
+            Reply::Refused(Refusal::AtCapacity),
+            Reply::Dropped(Some(3)),
+            Reply::Job(1),
+        ],
+        refusals: None,
+    };
+    assert!(rt; tells(&rt, rt.alloc(), Kind::Local, 1, &calls, &told)?);
     Ok(())
 }
 
 #[test]
 fn a_job_that_the_pool_refuses_is_no_act(rt: HostRuntime) -> Result<(), Fail> {
-    let alloc = rt.alloc();
     let calls = [Call::Block(3), Call::Poll(0), Call::Block(4)];
-    let done = did(&rt, alloc, Kind::Pool(0), 4, in_turns(alloc, &calls, &[])?)?;
-    assert!(rt; done.is_one && done.came(&rt, &[POOL_FAULT, NO_TASK, 0]));
-    let replies = [Reply::Refused(Refusal::NoTask), Reply::Job(0)];
-    assert!(rt; done.is_turn(2, &[poll(0), block(4)], &replies));
-    let pool = done.runtime.into_pool().ok_or("no pool")?;
-    assert_eq!(rt; pool.refusals, 1);
+    let told = Told {
+        answers: &[POOL_FAULT, NO_TASK, 0],
+        steps: &[poll(0), block(4)],
+        replies: &[Reply::Refused(Refusal::NoTask), Reply::Job(0)],
+        refusals: Some(1),
+    };
+    assert!(rt; tells(&rt, rt.alloc(), Kind::Pool(0), 4, &calls, &told)?);
     Ok(())
 }
 
-/// What a task is answered that asks for four jobs, where the pool refuses the first, the second, the third or the fourth.
-const REFUSED: [[u64; 4]; 4] = [
-    [POOL_FAULT, 0, 1, 2],
-    [0, POOL_FAULT, 1, 2],
-    [0, 1, POOL_FAULT, 2],
-    [0, 1, 2, POOL_FAULT],
-];
+/// What a task is answered that asks for four jobs, where the pool refuses the one at this place.
+fn answered(refused: u64) -> [u64; 4] {
+    match refused {
+        0 => [POOL_FAULT, 0, 1, 2],
+        1 => [0, POOL_FAULT, 1, 2],
+        2 => [0, 1, POOL_FAULT, 2],
+        _ => [0, 1, 2, POOL_FAULT],
+    }
+}
 
 /// The acts that the journal keeps of these four: those of the jobs that were not refused.
 fn kept(refused: u64) -> [TurnStep; 3] {
@@ -529,14 +586,13 @@ fn is_refused_at<R: Host>(rt: &R, alloc: Global, refused: u64) -> Result<bool, F
         Call::Block(12),
         Call::Block(13),
     ];
-    let turns = in_turns(alloc, &calls, &[])?;
-    let done = did(rt, alloc, Kind::Pool(refused), 4, turns)?;
-    let replies = [Reply::Job(0), Reply::Job(1), Reply::Job(2)];
-    let came = match REFUSED.get(refused as usize) {
-        Some(answers) => done.came(rt, answers),
-        None => false,
+    let told = Told {
+        answers: &answered(refused),
+        steps: &kept(refused),
+        replies: &[Reply::Job(0), Reply::Job(1), Reply::Job(2)],
+        refusals: Some(1),
     };
-    Ok(done.is_one && came && done.is_turn(2, &kept(refused), &replies))
+    tells(rt, alloc, Kind::Pool(refused), 4, &calls, &told)
 }
 
 #[test]
@@ -592,7 +648,6 @@ fn an_end_wakes_its_waiter_from_outside(rt: HostRuntime) -> Result<(), Fail> {
 
 #[test]
 fn a_drop_sees_the_end(rt: HostRuntime) -> Result<(), Fail> {
-    let alloc = rt.alloc();
     let calls = [
         Call::Block(4),
         Call::RunAll,
@@ -601,21 +656,23 @@ fn a_drop_sees_the_end(rt: HostRuntime) -> Result<(), Fail> {
         Call::Poll(0),
         Call::Finished(9),
     ];
-    let done = did(&rt, alloc, Kind::Pool(9), 2, in_turns(alloc, &calls, &[])?)?;
-    assert!(rt; done.is_one && done.came(&rt, &[0, YES, 4, NO_HANDLE, NO_TASK]));
-    let replies = [
-        Reply::Job(0),
-        Reply::Ended(None),
-        Reply::Dropped(Some(4)),
-        Reply::Refused(Refusal::NoHandle),
-    ];
-    assert!(rt; done.is_turn(2, &[block(4), end(0), drops(0), poll(0)], &replies));
+    let told = Told {
+        answers: &[0, YES, 4, NO_HANDLE, NO_TASK],
+        steps: &[block(4), end(0), drops(0), poll(0)],
+        replies: &[
+            Reply::Job(0),
+            Reply::Ended(None),
+            Reply::Dropped(Some(4)),
+            Reply::Refused(Refusal::NoHandle),
+        ],
+        refusals: Some(0),
+    };
+    assert!(rt; tells(&rt, rt.alloc(), Kind::Pool(9), 2, &calls, &told)?);
     Ok(())
 }
 
 #[test]
 fn a_job_that_runs_may_be_dropped(rt: HostRuntime) -> Result<(), Fail> {
-    let alloc = rt.alloc();
     let calls = [
         Call::Block(5),
         Call::Drop(0),
@@ -623,20 +680,22 @@ fn a_job_that_runs_may_be_dropped(rt: HostRuntime) -> Result<(), Fail> {
         Call::Finished(0),
         Call::Drop(9),
     ];
-    let done = did(&rt, alloc, Kind::Pool(9), 2, in_turns(alloc, &calls, &[])?)?;
-    assert!(rt; done.is_one && done.came(&rt, &[0, NO_OUTPUT, NO_HANDLE, NO_TASK]));
-    let replies = [
-        Reply::Job(0),
-        Reply::Dropped(None),
-        Reply::Refused(Refusal::NoTask),
-    ];
-    assert!(rt; done.is_turn(2, &[block(5), drops(0), drops(9)], &replies));
+    let told = Told {
+        answers: &[0, NO_OUTPUT, NO_HANDLE, NO_TASK],
+        steps: &[block(5), drops(0), drops(9)],
+        replies: &[
+            Reply::Job(0),
+            Reply::Dropped(None),
+            Reply::Refused(Refusal::NoTask),
+        ],
+        refusals: Some(0),
+    };
+    assert!(rt; tells(&rt, rt.alloc(), Kind::Pool(9), 2, &calls, &told)?);
     Ok(())
 }
 
 #[test]
 fn a_canceled_job_has_no_output(rt: HostRuntime) -> Result<(), Fail> {
-    let alloc = rt.alloc();
     let calls = [
         Call::Block(6),
         Call::CancelAll,
@@ -645,20 +704,22 @@ fn a_canceled_job_has_no_output(rt: HostRuntime) -> Result<(), Fail> {
         Call::CancelAll,
         Call::Drop(1),
     ];
-    let done = did(&rt, alloc, Kind::Pool(9), 2, in_turns(alloc, &calls, &[])?)?;
-    assert!(rt; done.is_one && done.came(&rt, &[0, CANCELED, 1, CANCELED]));
     let canceled = TurnStep::Act(Act::JobEnd(0, How::Canceled));
     let gone = TurnStep::Act(Act::JobEnd(1, How::Canceled));
-    let steps = [block(6), canceled, poll(0), block(7), gone, drops(1)];
-    let replies = [
-        Reply::Job(0),
-        Reply::Ended(None),
-        Reply::Canceled,
-        Reply::Job(1),
-        Reply::Ended(None),
-        Reply::Dropped(None),
-    ];
-    assert!(rt; done.is_turn(2, &steps, &replies));
+    let told = Told {
+        answers: &[0, CANCELED, 1, CANCELED],
+        steps: &[block(6), canceled, poll(0), block(7), gone, drops(1)],
+        replies: &[
+            Reply::Job(0),
+            Reply::Ended(None),
+            Reply::Canceled,
+            Reply::Job(1),
+            Reply::Ended(None),
+            Reply::Dropped(None),
+        ],
+        refusals: Some(0),
+    };
+    assert!(rt; tells(&rt, rt.alloc(), Kind::Pool(9), 2, &calls, &told)?);
     Ok(())
 }
 

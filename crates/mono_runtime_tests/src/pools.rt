@@ -1,5 +1,5 @@
 // Jobs on the pool of the crates: on the caller where it has no worker, and on a thread of its own.
-ghost use Rattle.std.specs.Prelude.{◌≡◌, ⊤, false};
+ghost use Rattle.std.specs.Prelude.{◌≡◌, ⊤, false, None, IfOk};
 ghost use Rattle.mono_rt.specs.Reached.{Reaches};
 
 use mono_blocking::{BlockingHandle, DefaultThreadPool, Job, NoSpawner, Outcome, ThreadSpawner};
@@ -10,7 +10,7 @@ use mono_rt::{
     ThreadDriver, TurnStep,
 };
 use mono_task::{Poll, TaskFuture};
-use std::alloc::Global;
+use std::alloc::{AllocError, Global};
 use std::sync::Arc;
 use std::sync::atomic::{AtomicU64, Ordering};
 use std::test::Fail;
@@ -131,13 +131,13 @@ fn is_turn(journal: &Journal, place: usize, steps: &[TurnStep], replies: &[Reply
     }
 }
 
-/// A main task that awaits a job on this pool, whose flag is as given at first.
-fn awaited<R: Host>(
-    rt: &R,
-    alloc: Global,
-    pool: DefaultThreadPool<Looks>,
-    flag: u64,
-) -> Result<Runtime<Awaits, u64, ThreadDriver<ListClock>, DefaultThreadPool<Looks>>, Fail> {
+/// A runtime of tasks that await a job on a pool.
+type Pooled = Runtime<Awaits, u64, ThreadDriver<ListClock>, DefaultThreadPool<Looks>>;
+
+/// A runtime with this pool.
+fn a_runtime(alloc: Global, pool: DefaultThreadPool<Looks>) -> Result<Pooled, Fail>
+    ensures { IfOk result (λ runtime. runtime.cx.parts.tasks.turn ≡ None) }
+{
     let zero = Instant::from_nanos(0).ok_or("an instant")?;
     let limits = Limits {
         tasks: 4,
@@ -146,15 +146,31 @@ fn awaited<R: Host>(
     };
     let driver = ThreadDriver::new(alloc, ListClock::new(vec![in alloc; zero]?))?;
     let pool = BlockingHandle::Attached(pool);
-    let mut runtime = Runtime::new(alloc, driver, pool, limits, false, zero)?;
+    let runtime = Runtime::new(alloc, driver, pool, limits, false, zero)?;
+    Ok(runtime)
+}
+
+/// A task that awaits a job whose flag is as given at first.
+fn main_task(alloc: Global, flag: u64) -> Result<Awaits, AllocError> {
     let flag = Arc::new(alloc, AtomicU64::new(flag))?;
     let job = Looks {
         flag: Arc::try_clone(&flag)?,
     };
-    let main = Awaits {
+    Ok(Awaits {
         flag,
         job: Some(job),
-    };
+    })
+}
+
+/// A main task that awaits a job on this pool, whose flag is as given at first.
+fn awaited<R: Host>(
+    rt: &R,
+    alloc: Global,
+    pool: DefaultThreadPool<Looks>,
+    flag: u64,
+) -> Result<Pooled, Fail> {
+    let mut runtime = a_runtime(alloc, pool)?;
+    let main = main_task(alloc, flag)?;
     match runtime.block_on(rt, alloc, main, 1000) {
         Ok(4) => Ok(runtime),
         _ => Err("no output".into()),

@@ -1,10 +1,10 @@
 // Another thread that wakes a sleeping runtime.
-ghost use Rattle.std.specs.Prelude.{◌≡◌, ⊤, false, None, IfSome};
+ghost use Rattle.std.specs.Prelude.{◌≡◌, ⊤, false, None, IfOk};
 
 use mono_blocking::{BlockingHandle, BlockingStrategy, Job, NoPool, Outcome};
 use mono_inbox::{RemoteWaker, UnparkHandle};
 use mono_model::Host;
-use mono_rt::{Cx, Instant, Limits, ListClock, Runtime, ThreadDriver};
+use mono_rt::{Cx, Instant, Limits, ListClock, RunError, Runtime, ThreadDriver};
 use mono_task::{Poll, TaskFuture};
 use std::alloc::Global;
 use std::sync::atomic::{AtomicU64, Ordering};
@@ -153,30 +153,54 @@ fn wakes<R: Host>(rt: &R, shared: &Shared) -> u64 {
     lost
 }
 
-#[test]
-fn no_wake_of_a_sleeping_runtime_is_lost(rt: HostRuntime) -> Result<(), Fail> {
-    let alloc = rt.alloc();
+/// A runtime that sleeps by a thread's park.
+type Sleeping = Runtime<Counts, u64, ThreadDriver<ListClock>, NoPool<Nothing>>;
+
+fn a_runtime(alloc: Global) -> Result<Sleeping, Fail>
+    ensures { IfOk result (λ runtime. runtime.cx.parts.tasks.turn ≡ None) }
+{
     let zero = Instant::from_nanos(0).ok_or("an instant")?;
-    let shared = Arc::new(
+    let driver = ThreadDriver::new(alloc, ListClock::new(vec![in alloc; zero]?))?;
+    let pool = BlockingHandle::Empty(BlockingStrategy::Panic);
+    let runtime = Runtime::new(alloc, driver, pool, LIMITS, false, zero)?;
+    Ok(runtime)
+}
+
+/// What the main task and the other thread share at first.
+fn a_share(alloc: Global) -> Result<Arc<Shared, Global>, Fail> {
+    Ok(Arc::new(
         alloc,
         Shared {
             polls: AtomicU64::new(0),
             slot: Mutex::new(None),
         },
-    )?;
+    )?)
+}
+
+/// The answer of a main task that another thread wakes, and how often it was not polled in time.
+fn woken<R: Host + Copy + Send + 'static>(
+    rt: R,
+    alloc: Global,
+    runtime: &mut Sleeping,
+) -> Result<(Result<u64, RunError>, u64), Fail>
+    requires { runtime.old.cx.parts.tasks.turn ≡ None }
+{
+    let shared = a_share(alloc)?;
     let theirs = Arc::try_clone(&shared)?;
     let other = thread::spawn(&rt, move || wakes(&rt, &theirs))
         .ok()
         .ok_or("a thread")?;
-    let driver = ThreadDriver::new(alloc, ListClock::new(vec![in alloc; zero]?))?;
-    let pool = BlockingHandle::Empty(BlockingStrategy::Panic);
-    let mut runtime = Runtime::new(alloc, driver, pool, LIMITS, false, zero)?;
     let main = Counts {
         shared,
         has_given: false,
     };
     let answer = runtime.block_on(&rt, alloc, main, 1000000);
-    assert_eq!(rt; answer, Ok(WAKES));
-    assert_eq!(rt; other.join(&rt), 0);
+    Ok((answer, other.join(&rt)))
+}
+
+#[test]
+fn no_wake_of_a_sleeping_runtime_is_lost(rt: HostRuntime) -> Result<(), Fail> {
+    let mut runtime = a_runtime(rt.alloc())?;
+    assert_eq!(rt; woken(rt, rt.alloc(), &mut runtime)?, (Ok(WAKES), 0));
     Ok(())
 }
