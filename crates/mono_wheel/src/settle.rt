@@ -18,8 +18,8 @@ fn register(elapsed: u64, links: &mut SlotLinks, key: usize)
 {
     let tick = links.entry(key).tick;
     let list = standing(elapsed, tick);
-    links.push_front(list, key);
-    links.set_entry(
+    links.put_front(
+        list,
         key,
         Entry {
             tick,

@@ -114,13 +114,13 @@ impl SlotLinks {
         self.links.set_entry(node, entry);
     }
 
-    /// Puts a node that is in no list before the first.
-    pub fn push_front(&mut self, list: usize, node: usize)
+    /// Puts a node that is in no list before the first, and lets it carry these ticks.
+    pub fn put_front(&mut self, list: usize, node: usize, entry: Entry)
         requires list { list < list_count }
         requires loose { IsLoose self.old node }
-        ensures { self.new ≡ with_list self.old list (node ∷ list_at self.old list) }
+        ensures { self.new ≡ with_entry (with_list self.old list (node ∷ list_at self.old list)) node entry }
     {
-        self.links.push_front(list, node);
+        self.links.put_front(list, node, entry);
         if list < SLOTS {
             self.occupied.mark(list);
         }
