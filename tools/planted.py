@@ -5,8 +5,9 @@ usage: tools/planted.py [CRATE ..]
 
 Each planted/*.edit has the form of a must-fail edit. For each a row is printed: the crate, the body, and what refuses it:
 "clause" with the prover's words, "proof's text" where only a name that the edit took away is missed, "test" where the
-prover lets it through and a test of the crate or of one above it fails, with that crate, "bad edit" where it does not
-apply or compile, or "GOT THROUGH".
+prover lets it through and a test of the crate or of one above it fails, with that crate, "no verdict" where the tests of
+one do not end in time, "bad edit" where it does not apply or compile, or "GOT THROUGH". What the prover refuses is
+printed first.
 """
 import os
 import re
@@ -19,6 +20,8 @@ sys.dont_write_bytecode = True
 import below
 
 TOP = below.TOP
+# How long the tests of one crate may take, in seconds.
+LIMIT = 600
 LINE = re.compile(r"^rt: must-fail (\w+)/([\w-]+)\.edit: (.*)$")
 
 
@@ -100,24 +103,32 @@ def with_tests(copy, crate):
 
 
 def failing_tests(copy, crate, edit):
-    """The nearest crate of which a test fails with the edit, or none."""
+    """The kind of verdict, and the nearest crate of which a test fails with the edit, or does not end."""
     before = apply(os.path.join(copy, "crates", crate), edit)
-    found = None
+    kind, text = "GOT THROUGH", "the prover and all tests"
     for name in with_tests(copy, crate):
-        run = subprocess.run(
-            ["rt", "try", "--test"],
-            cwd=os.path.join(copy, "crates", name),
-            stdout=subprocess.DEVNULL,
-            stderr=subprocess.DEVNULL,
-            timeout=600,
-        )
-        if run.returncode not in (0, 2):
-            found = name
+        try:
+            run = subprocess.run(
+                ["rt", "try", "--test"],
+                cwd=os.path.join(copy, "crates", name),
+                stdout=subprocess.DEVNULL,
+                stderr=subprocess.DEVNULL,
+                timeout=LIMIT,
+            )
+        except subprocess.TimeoutExpired:
+            kind, text = "no verdict", f"the tests of {name} had not ended after {LIMIT} seconds"
             break
-    for file, text in before.items():
+        if run.returncode not in (0, 2):
+            kind, text = "test", f"of {name}"
+            break
+    for file, text_before in before.items():
         with open(file, "w", encoding="utf-8") as out:
-            out.write(text)
-    return found
+            out.write(text_before)
+    return kind, text
+
+
+def print_row(crate, name, kind, text):
+    print(f"{crate:14} {name[: -len('.edit')]:45} {kind:13} {text[:160]}", flush=True)
 
 
 def try_crate(copy, crate):
@@ -129,15 +140,18 @@ def try_crate(copy, crate):
         found = LINE.match(line)
         if found and found.group(1) == crate:
             told[found.group(2)] = found.group(3)
-    through = 0
+    left = []
     for name in sorted(os.listdir(os.path.join(copy, "crates", crate, "planted"))):
-        body = name[: -len(".edit")]
-        kind, text = verdict(told.get(body, "not tried"))
-        if not kind:
-            found = failing_tests(copy, crate, os.path.join(copy, "crates", crate, "planted", name))
-            kind, text = ("test", f"of {found}") if found else ("GOT THROUGH", text)
+        kind, text = verdict(told.get(name[: -len(".edit")], "not tried"))
+        if kind:
+            print_row(crate, name, kind, text)
+        else:
+            left.append(name)
+    through = 0
+    for name in left:
+        kind, text = failing_tests(copy, crate, os.path.join(copy, "crates", crate, "planted", name))
         through += kind == "GOT THROUGH"
-        print(f"{crate:14} {body:45} {kind:13} {text[:160]}", flush=True)
+        print_row(crate, name, kind, text)
     return through
 
 
