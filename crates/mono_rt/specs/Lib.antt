@@ -3,6 +3,7 @@ pub mod Record
 pub mod Stands
 pub mod Reached
 pub mod Turns
+pub mod Polling
 pub mod Journals
 pub mod Telling
 pub mod Readings

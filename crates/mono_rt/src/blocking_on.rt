@@ -1,5 +1,5 @@
 // Rounds of turns, waits on the driver, and the main task.
-ghost use Rattle.std.specs.Prelude.{◌≡◌, ◌<◌, ◌≤◌, None, false, length, Some, IfOk, OnOk, IfErr, IfSome, IsSome, if◌then◌else◌};
+ghost use Rattle.std.specs.Prelude.{◌≡◌, ◌<◌, ◌≤◌, ◌++◌, ◌∷◌, [], None, false, length, Some, IfOk, OnOk, IfErr, IfSome, IsSome, if◌then◌else◌};
 ghost use Rattle.std.specs.Option.{option_map};
 ghost use Rattle.mono_time.specs.Instants.{nanos_of};
 ghost use Rattle.mono_machine.specs.Machine.{Machine};
@@ -10,6 +10,7 @@ ghost use Rattle.mono_time.specs.Timers.{registered_of};
 ghost use Rattle.mono_rt.specs.Journals.{Goes, Does, Stays, HasPlaces, WaitsForNext};
 ghost use Rattle.mono_rt.specs.Rounds.{IsWait, IsPark, Parks, OrLed, PauseEnds, Round, PassEnds, Ends, IsSpawn, IsRefused, DropsFor, Blocked, cost};
 ghost use Rattle.mono_rt.specs.Blocked.{OnCapacity};
+ghost use Rattle.mono_rt.specs.Polling.{Polling, PollsMain, OnMain};
 ghost use Rattle.mono_rt.specs.Telling.{telling, Course, going, Telling, IsParked, Still, EndsSo, EndsParked, EndsWaited};
 
 use crate::calls::drop_reply_of;
@@ -84,6 +85,7 @@ impl<F: Drop, O: Outcome + Drop, D: Driver, P: ThreadPool + Drop> Runtime<F, O, 
         ensures parks { Does O.output_number (OrLed result (Parks self.old.cx.parts.has_timers)) self.old.cx.parts self.new.cx.parts self.old.journal self.new.journal }
         ensures has_timers { self.new.cx.parts.has_timers ≡ self.old.cx.parts.has_timers }
         ensures turn { self.new.cx.parts.tasks.turn ≡ self.old.cx.parts.tasks.turn }
+        ensures futures { self.new.cx.futures ≡ self.old.cx.futures }
         ensures told { Telling (EndsWaited result) (telling (D.readings self.old.driver) (D.time self.old.driver) (D.parks self.old.driver)) going self.old.journal self.new.journal (telling (D.readings self.new.driver) (D.time self.new.driver) (D.parks self.new.driver)) }
     {
         match self.park(rt) {
@@ -111,6 +113,7 @@ impl<F: Drop, O: Outcome + Drop, D: Driver, P: ThreadPool + Drop> Runtime<F, O, 
         ensures has_timers { self.new.cx.parts.has_timers ≡ self.old.cx.parts.has_timers }
         ensures queued { IfOk result (λ spent. spent ≡ false → 0 < length self.new.cx.parts.tasks.tasks.queue) }
         ensures turn { self.new.cx.parts.tasks.turn ≡ self.old.cx.parts.tasks.turn }
+        ensures futures { self.new.cx.futures ≡ self.old.cx.futures }
         ensures told { Telling (EndsSo result) (telling (D.readings self.old.driver) (D.time self.old.driver) (D.parks self.old.driver)) going self.old.journal self.new.journal (telling (D.readings self.new.driver) (D.time self.new.driver) (D.parks self.new.driver)) }
     {
         if self.cx.parts.tasks.queue_len() > 0 {
@@ -139,6 +142,7 @@ impl<F: Drop, O: Outcome + Drop, D: Driver, P: ThreadPool + Drop> Runtime<F, O, 
         ensures refused { IfErr result (λ error. OnCapacity error (Does O.output_number IsRefused self.old.cx.parts self.new.cx.parts self.old.journal self.new.journal)) }
         ensures has_timers { self.new.cx.parts.has_timers ≡ self.old.cx.parts.has_timers }
         ensures turn { self.new.cx.parts.tasks.turn ≡ self.old.cx.parts.tasks.turn }
+        ensures made { OnOk result (self.new.cx.futures.items ≡ self.old.cx.futures.items ++ Some future ∷ []) }
         ensures told { Telling (Still going) (telling (D.readings self.old.driver) (D.time self.old.driver) (D.parks self.old.driver)) going self.old.journal self.new.journal (telling (D.readings self.new.driver) (D.time self.new.driver) (D.parks self.new.driver)) }
     {
         match self.open_spawn() {
@@ -171,6 +175,7 @@ impl<F: Drop, O: Outcome + Drop, D: Driver, P: ThreadPool + Drop> Runtime<F, O, 
         ensures stays { Does O.output_number Stays self.old.cx.parts self.new.cx.parts self.old.journal self.new.journal }
         ensures goes { Goes O.output_number self.old.cx.parts self.new.cx.parts self.old.journal self.new.journal }
         ensures same { self.new.cx.parts ≡ self.old.cx.parts }
+        ensures futures { self.new.cx.futures.items ≡ self.old.cx.futures.items }
         ensures told { Telling (Still going) (telling (D.readings self.old.driver) (D.time self.old.driver) (D.parks self.old.driver)) going self.old.journal self.new.journal (telling (D.readings self.new.driver) (D.time self.new.driver) (D.parks self.new.driver)) }
     {
         match self.journal.reserve(1) {
@@ -187,6 +192,7 @@ impl<F: Drop, O: Outcome + Drop, D: Driver, P: ThreadPool + Drop> Runtime<F, O, 
         ensures dropped { IfOk result (λ output. Does O.output_number (DropsFor main (option_map O.output_number output)) self.old.cx.parts self.new.cx.parts self.old.journal self.new.journal) }
         ensures goes { Goes O.output_number self.old.cx.parts self.new.cx.parts self.old.journal self.new.journal }
         ensures turn { self.new.cx.parts.tasks.turn ≡ self.old.cx.parts.tasks.turn }
+        ensures futures { self.new.cx.futures ≡ self.old.cx.futures }
         ensures told { (course : Course) → Telling (Still course) (telling (D.readings self.old.driver) (D.time self.old.driver) (D.parks self.old.driver)) course self.old.journal self.new.journal (telling (D.readings self.new.driver) (D.time self.new.driver) (D.parks self.new.driver)) }
     {
         match self.journal.reserve(1) {
@@ -225,6 +231,7 @@ where
         ensures left { IfOk result (λ left. left ≤ units) }
         ensures round { IfOk result (λ left. Does O.output_number (Round units left) self.old.cx.parts self.new.cx.parts self.old.journal self.new.journal) }
         ensures fewer { IfOk result (λ left. 0 < length self.old.cx.parts.tasks.tasks.queue → 0 < units → left < units) }
+        ensures polled { OnOk result (Does O.output_number (Polling O.output_number F.TaskFuture self.old.cx.parts.has_timers self.old.cx.futures.items self.new.cx.futures.items) self.old.cx.parts self.new.cx.parts self.old.journal self.new.journal) }
         ensures told { Telling (Still going) (telling (D.readings self.old.driver) (D.time self.old.driver) (D.parks self.old.driver)) going self.old.journal self.new.journal (telling (D.readings self.new.driver) (D.time self.new.driver) (D.parks self.new.driver)) }
     {
         let queued = self.cx.parts.tasks.queue_len() as u64;
@@ -247,6 +254,7 @@ where
         ensures has_timers { self.new.cx.parts.has_timers ≡ self.old.cx.parts.has_timers }
         ensures rests { self.new.cx.parts.tasks.turn ≡ None }
         ensures fewer { IfOk result (λ left. left < units) }
+        ensures polled { OnMain result (Does O.output_number (Polling O.output_number F.TaskFuture self.old.cx.parts.has_timers self.old.cx.futures.items self.new.cx.futures.items) self.old.cx.parts self.new.cx.parts self.old.journal self.new.journal) }
         ensures told { Telling (EndsSo result) (telling (D.readings self.old.driver) (D.time self.old.driver) (D.parks self.old.driver)) going self.old.journal self.new.journal (telling (D.readings self.new.driver) (D.time self.new.driver) (D.parks self.new.driver)) }
     {
         match self.pause(rt, alloc) {
@@ -269,6 +277,7 @@ where
         ensures ends { Does O.output_number (Ends self.old.cx.parts.has_timers main turns result) self.old.cx.parts self.new.cx.parts self.old.journal self.new.journal }
         ensures has_timers { self.new.cx.parts.has_timers ≡ self.old.cx.parts.has_timers }
         ensures rests { self.new.cx.parts.tasks.turn ≡ None }
+        ensures polled { OnMain result (Does O.output_number (Polling O.output_number F.TaskFuture self.old.cx.parts.has_timers self.old.cx.futures.items self.new.cx.futures.items) self.old.cx.parts self.new.cx.parts self.old.journal self.new.journal) }
         ensures told { Telling (EndsSo result) (telling (D.readings self.old.driver) (D.time self.old.driver) (D.parks self.old.driver)) going self.old.journal self.new.journal (telling (D.readings self.new.driver) (D.time self.new.driver) (D.parks self.new.driver)) }
     {
         let mut units = match self.round(rt, alloc, turns) {
@@ -292,7 +301,9 @@ where
     /// which no task is queued.
     ///
     /// From each machine for which the parts stood, the journal grew by what `Blocked` tells of the answer, which is a run of
-    /// the machine, but where it is full (`blocked`). After want of memory it says no more than that it is a run.
+    /// the machine, but where it is full (`blocked`). After want of memory it says no more than that it is a run. Each turn that
+    /// it tells is one poll of its task's own future, from the futures that the turns before it left, unless memory was wanting
+    /// (`polled`).
     pub fn block_on<R: Host>(
         &mut self,
         rt: &R,
@@ -304,6 +315,7 @@ where
         requires rests { self.old.cx.parts.tasks.turn ≡ None }
         ensures blocked { Does O.output_number (Blocked self.old.cx.parts.has_timers turns (answer_numbered O.output_number result)) self.old.cx.parts self.new.cx.parts self.old.journal self.new.journal }
         ensures rests { self.new.cx.parts.tasks.turn ≡ None }
+        ensures polled { OnMain result (Does O.output_number (PollsMain O.output_number F.TaskFuture self.old.cx.parts.has_timers future self.old.cx.futures.items self.new.cx.futures.items) self.old.cx.parts self.new.cx.parts self.old.journal self.new.journal) }
         ensures told { Telling (EndsSo result) (telling (D.readings self.old.driver) (D.time self.old.driver) (D.parks self.old.driver)) going self.old.journal self.new.journal (telling (D.readings self.new.driver) (D.time self.new.driver) (D.parks self.new.driver)) }
     {
         match self.start_main(alloc, future) {

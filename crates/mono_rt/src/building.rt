@@ -67,6 +67,7 @@ impl<F: Drop, O: Outcome + Drop, D: Driver, P: ThreadPool + Drop> Runtime<F, O, 
         ensures driver { IfOk result (λ runtime. runtime.driver ≡ driver) }
         ensures rests { IfOk result (λ runtime. runtime.cx.parts.tasks.turn ≡ None) }
         ensures journal { IfOk result (λ runtime. runtime.journal.entries.items ≡ []) }
+        ensures futures { IfOk result (λ runtime. runtime.cx.futures.items ≡ []) }
         ensures registered { IfOk result (λ runtime. (s : ℕ) → registered_of runtime.cx.parts.timers s ≡ None) }
     {
         let unpark = driver.unpark()?;

@@ -27,6 +27,7 @@ impl<F: Drop, O: Outcome + Drop, D: Driver, P: ThreadPool + Drop> Runtime<F, O, 
         ensures turn { self.new.cx.parts.tasks.turn ≡ self.old.cx.parts.tasks.turn }
         ensures longer { length self.old.cx.parts.tasks.tasks.queue ≤ length self.new.cx.parts.tasks.tasks.queue }
         ensures has_timers { self.new.cx.parts.has_timers ≡ self.old.cx.parts.has_timers }
+        ensures futures { self.new.cx.futures ≡ self.old.cx.futures }
         ensures told { (before after : Course) → EndsDrained result before after → Telling (Still after) (telling (D.readings self.old.driver) (D.time self.old.driver) (D.parks self.old.driver)) before self.old.journal self.new.journal (telling (D.readings self.new.driver) (D.time self.new.driver) (D.parks self.new.driver)) }
     {
         let mut taken = Vec::new(alloc);
@@ -44,6 +45,7 @@ impl<F: Drop, O: Outcome + Drop, D: Driver, P: ThreadPool + Drop> Runtime<F, O, 
         ensures turn { self.new.cx.parts.tasks.turn ≡ self.old.cx.parts.tasks.turn }
         ensures longer { length self.old.cx.parts.tasks.tasks.queue ≤ length self.new.cx.parts.tasks.tasks.queue }
         ensures has_timers { self.new.cx.parts.has_timers ≡ self.old.cx.parts.has_timers }
+        ensures futures { self.new.cx.futures ≡ self.old.cx.futures }
         ensures told { (before after : Course) → EndsDrained result before after → Telling (Still after) (telling (D.readings self.old.driver) (D.time self.old.driver) (D.parks self.old.driver)) before self.old.journal self.new.journal (telling (D.readings self.new.driver) (D.time self.new.driver) (D.parks self.new.driver)) }
     {
         match self.open_drain(alloc, taken) {

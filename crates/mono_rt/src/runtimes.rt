@@ -9,6 +9,7 @@ ghost use Rattle.mono_rt.specs.declared.journals.Entry.TheVariants.{Ran};
 ghost use Rattle.mono_rt.specs.Record.{no_acts};
 ghost use Rattle.mono_rt.specs.Journals.{Goes, Does, IsReading, HasPlaces};
 ghost use Rattle.mono_rt.specs.Rounds.{OneTurn, IsClock};
+ghost use Rattle.mono_rt.specs.Polling.{ReadsAt, Polling};
 ghost use Rattle.mono_rt.specs.Telling.{telling, Course, going, Telling, IsRead, Still};
 
 use crate::acts::Acts;
@@ -45,6 +46,8 @@ impl<F: Drop, O: Outcome + Drop, D: Driver, P: ThreadPool + Drop> Runtime<F, O, 
         ensures has_timers { self.new.cx.parts.has_timers ≡ self.old.cx.parts.has_timers }
         ensures blocking { self.new.cx.parts.blocking ≡ self.old.cx.parts.blocking }
         ensures driver { self.new.driver ≡ self.old.driver }
+        ensures futures { self.new.cx.futures ≡ self.old.cx.futures }
+        ensures memory { self.new.cx.parts.is_out_of_memory ≡ self.old.cx.parts.is_out_of_memory }
     {
         let acts = mem::replace(&mut self.cx.parts.acts, Acts::keeping_none(alloc));
         self.journal.push_turn(task, acts, end, ended);
@@ -75,6 +78,7 @@ impl<F: Drop, O: Outcome + Drop, D: Driver, P: ThreadPool + Drop> Runtime<F, O, 
         ensures acts { IfSome result (λ x. x.1 ≡ no_acts) }
         ensures place { IfSome result (λ x. HasPlaces self.new.journal 1) }
         ensures reading { IfSome result (λ x. Does O.output_number IsReading self.old.cx.parts self.new.cx.parts self.old.journal self.new.journal) }
+        ensures at { IfSome result (λ x. Does O.output_number (ReadsAt (nanos_of x.0)) self.old.cx.parts self.new.cx.parts self.old.journal self.new.journal) }
         ensures goes { Goes O.output_number self.old.cx.parts self.new.cx.parts self.old.journal self.new.journal }
         ensures same { self.new.cx ≡ self.old.cx }
         ensures told { Telling (Still going) (telling (D.readings self.old.driver) (D.time self.old.driver) (D.parks self.old.driver)) going self.old.journal self.new.journal (telling (D.readings self.new.driver) (D.time self.new.driver) (D.parks self.new.driver)) }
@@ -101,6 +105,7 @@ impl<F: Drop, O: Outcome + Drop, D: Driver, P: ThreadPool + Drop> Runtime<F, O, 
         ensures refused { OnErr result (self.new.cx ≡ self.old.cx) }
         ensures has_timers { self.new.cx.parts.has_timers ≡ self.old.cx.parts.has_timers }
         ensures turn { self.new.cx.parts.tasks.turn ≡ self.old.cx.parts.tasks.turn }
+        ensures futures { self.new.cx.futures ≡ self.old.cx.futures }
         ensures told { (course : Course) → Telling (Still course) (telling (D.readings self.old.driver) (D.time self.old.driver) (D.parks self.old.driver)) course self.old.journal self.new.journal (telling (D.readings self.new.driver) (D.time self.new.driver) (D.parks self.new.driver)) }
     {
         let Some((now, room)) = self.open_clock(alloc) else {
@@ -128,6 +133,7 @@ where
         requires queued { 0 < length self.old.cx.parts.tasks.tasks.queue }
         ensures goes { Goes O.output_number self.old.cx.parts self.new.cx.parts self.old.journal self.new.journal }
         ensures turned { OnOk result (Does O.output_number OneTurn self.old.cx.parts self.new.cx.parts self.old.journal self.new.journal) }
+        ensures polled { OnOk result (Does O.output_number (Polling O.output_number F.TaskFuture self.old.cx.parts.has_timers self.old.cx.futures.items self.new.cx.futures.items) self.old.cx.parts self.new.cx.parts self.old.journal self.new.journal) }
         ensures has_timers { self.new.cx.parts.has_timers ≡ self.old.cx.parts.has_timers }
         ensures rests { self.new.cx.parts.tasks.turn ≡ None }
         ensures told { Telling (Still going) (telling (D.readings self.old.driver) (D.time self.old.driver) (D.parks self.old.driver)) going self.old.journal self.new.journal (telling (D.readings self.new.driver) (D.time self.new.driver) (D.parks self.new.driver)) }

@@ -1,2 +1,4 @@
 pub mod Listed
+pub mod Made
+pub mod Driven
 pub mod Blocking

@@ -11,6 +11,8 @@ use Rattle.mono_rt.specs.declared.errors.RunError.TheVariants as error
 use Rattle.mono_rt.specs.declared.journals.Entry.{Entry}
 use Rattle.mono_rt.specs.declared.journals.Entry.TheVariants as entry
 use Rattle.mono_scripts.specs.Driven as script
+use Rattle.mono_scripts.specs.Driven.{Driven}
+use Rattle.mono_scripts.specs.Script.{Script}
 use Rattle.mono_scripts.specs.Journal.{journal_text}
 use Rattle.mono_run.specs.declared.runs.RunEnd.{RunEnd}
 use Rattle.mono_run.specs.declared.runs.RunEnd.TheVariants as ran
@@ -39,6 +41,11 @@ pub record Ran (limits : Limits) (turns : ℕ) (e : RunEnd) (output : List ℕ) 
   pub last : Machine
   pub blocked : Blocked true turns (answer_of e) (start_machine limits strategy.Attached) entries last []
   pub text : output ≡ journal_text (map told entries) (output_in (answer_of e))
+
+-- The same run, of a script: the turns that its journal tells are those that the script's lines give.
+pub record RunsScript (s : Script) (turns : ℕ) (e : RunEnd) (output : List ℕ) : Type 0 where
+  pub ran : Ran s.limits turns e output
+  pub driven : Driven s (map told ran.entries)
 
 -- What the driver of a run tells at its start: without workers the time 0, else what its clock tells.
 abbrev pub told_first : ℕ → Option (List ℕ) → Told

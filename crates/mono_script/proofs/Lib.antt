@@ -4,4 +4,5 @@ pub mod Statuses
 pub mod Commands
 pub mod Replaying
 pub mod Checked
+pub mod Counted
 pub mod Naming

@@ -1,9 +1,16 @@
 -- A bad line, named as an output.
-use Rattle.std.proofs.Common.{◌≡◌, ℕ, List, Option, Some, Result, Ok, Err, IfOk, sym, subst}
+use Rattle.std.proofs.Common.{◌≡◌, ℕ, List, length, Option, Some, Result, Ok, Err, IfOk, refl, sym, subst}
 use Rattle.mono_script.specs.declared.ends.Status.TheVariants as status
 use Rattle.mono_script.specs.declared.ends.Output.{Output}
 use Rattle.mono_script.specs.Ending.{IsOutput, IsLine, bad_line_text}
-use Rattle.mono_script.specs.Meanings.{running}
+use Rattle.mono_script.specs.declared.ends.Status.{Status}
+use Rattle.mono_script.specs.Meanings.{running, run_status}
+use Rattle.mono_run.specs.Told.{RunsScript}
+use Rattle.mono_run.specs.declared.runs.RunEnd.{RunEnd}
+use Rattle.mono_run.specs.declared.runs.RunEnd.TheVariants as ran
+use Rattle.mono_scripts.specs.Script.{Script, IsSound}
+use Rattle.mono_scripts.specs.Written.{Spells}
+use Rattle.mono_script.proofs.Counted.{sound_alone}
 
 pub named : {E : Type 0} (turns : ℕ) (r : Result Output E) (input : List ℕ) (n : ℕ) → (running turns).IsFirstBad input n → IfOk r (λ o. o.status ≡ status.BadLine) → IfOk r (λ o. o.text.items ≡ bad_line_text n)
     → IfOk r (λ o. IsOutput (running turns) input o.status o.text.items)
@@ -15,3 +22,9 @@ pub named_line : {E : Type 0} (turns : ℕ) (made : Result Output E) (input : Li
 named_line turns (Ok o) input n first is line =
     subst (λ s. IsLine (running turns) input s o.bad_line) (sym is) (subst (λ l. IsLine (running turns) input status.BadLine l) (sym line) first)
 named_line turns (Err e) input n first is line = tt
+
+-- the run of a script that the input spells, as an output
+pub ran_output : (turns : ℕ) (input : List ℕ) (script : Script) (e : RunEnd) (s : Status) (text : List ℕ) → s ≡ run_status e → Spells input script → (IsSound (length script.kinds) script → RunsScript script turns e text) → IsOutput (running turns) input s text
+ran_output turns input script (ran.Output o) s text is spells runs = subst (λ x. IsOutput (running turns) input x text) (sym is) (script, spells, (ran.Output o, refl, runs (sound_alone input script spells)))
+ran_output turns input script ran.Turns s text is spells runs = subst (λ x. IsOutput (running turns) input x text) (sym is) (script, spells, (ran.Turns, refl, runs (sound_alone input script spells)))
+ran_output turns input script ran.Capacity s text is spells runs = subst (λ x. IsOutput (running turns) input x text) (sym is) (script, spells, (ran.Capacity, refl, runs (sound_alone input script spells)))

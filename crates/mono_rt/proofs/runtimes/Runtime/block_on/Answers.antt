@@ -6,6 +6,10 @@ use Rattle.mono_rt.proofs.Going.{goes_of, goes_on, does_led}
 use Rattle.mono_rt.proofs.Doing.{blocks_by, blocks_done, blocks_refused}
 use Rattle.mono_rt.specs.Telling.{going}
 use Rattle.mono_rt.proofs.Telling.{telling_on, telling_past, telling_more, capacity_ends}
+use Rattle.std.proofs.Common.{Err, subst}
+use Rattle.mono_rt.specs.Journals.{Does}
+use Rattle.mono_rt.specs.Polling.{Polling}
+use Rattle.mono_rt.proofs.Polling.{polls_on, polls_drop, polls_main, same_error, on_main, none_made}
 use Rattle.mono_rt.proofs.runtimes.Runtime.block_on.Goals as goal
 
 pub returns-in-Err-clause-blocked : goal.returns-in-Err-clause-blocked
@@ -68,3 +72,34 @@ returns-in-None-clause-told g c = telling_more (λ x e. tt) (telling_past (telli
 
 pub returns-in-Err-end_main-clause-told : goal.returns-in-Err-end_main-clause-told
 returns-in-Err-end_main-clause-told g c = telling_more (λ x e. tt) (telling_past (telling_on {q = going} c.start_main.ensures.told c.run-answer.ensures.told) c.end_main.ensures.told)
+
+pub returns-in-Err-clause-polled : goal.returns-in-Err-clause-polled
+returns-in-Err-clause-polled g c = none_made ⊤ c.in-Err.error _ _ c.in-Err.ensures.refused
+
+pub returns-in-Err-answer-clause-polled : goal.returns-in-Err-answer-clause-polled
+returns-in-Err-answer-clause-polled g c =
+    let number = g.O.Outcome.output_number in
+    let old = c.args.self.now in
+    let started = c.start_main.new.self in
+    let ran = c.run-answer.new.self in
+    let ended = c.end_main.new.self in
+    let h = old.cx.parts.has_timers in
+    same_error ⊤ ⊤ c.in-Err-answer.error _ (on_main {X = ⊤} (Err c.in-Err-answer.error) _ _
+    (λ x. polls_main number g.F.TaskFuture h c.args.future c.in-Ok.main old.cx.futures.items started.cx.futures.items ended.cx.futures.items old.cx.parts started.cx.parts ended.cx.parts old.journal started.journal ended.journal c.in-Ok.ensures.made c.in-Ok.ensures.spawned
+    (polls_on number g.F.TaskFuture h started.cx.futures.items ran.cx.futures.items ended.cx.futures.items started.cx.parts ran.cx.parts ended.cx.parts started.journal ran.journal ended.journal
+    (subst (λ b. Does number (Polling number g.F.TaskFuture b started.cx.futures.items ran.cx.futures.items) started.cx.parts ran.cx.parts started.journal ran.journal) c.start_main.ensures.has_timers x)
+    (polls_drop number g.F.TaskFuture h ran.cx.futures.items ended.cx.futures.items c.in-Ok.main (option_map number c.in-Ok-end_main.output) ran.cx.parts ended.cx.parts ran.journal ended.journal (ap (λ v. v.items) c.end_main.ensures.futures) c.in-Ok-end_main.ensures.dropped)))
+    (rw c.in-Err-answer.is at c.run-answer.ensures.polled))
+
+pub returns-in-Some-clause-polled : goal.returns-in-Some-clause-polled
+returns-in-Some-clause-polled g c =
+    let number = g.O.Outcome.output_number in
+    let old = c.args.self.now in
+    let started = c.start_main.new.self in
+    let ran = c.run-answer.new.self in
+    let ended = c.end_main.new.self in
+    let h = old.cx.parts.has_timers in
+    polls_main number g.F.TaskFuture h c.args.future c.in-Ok.main old.cx.futures.items started.cx.futures.items ended.cx.futures.items old.cx.parts started.cx.parts ended.cx.parts old.journal started.journal ended.journal c.in-Ok.ensures.made c.in-Ok.ensures.spawned
+    (polls_on number g.F.TaskFuture h started.cx.futures.items ran.cx.futures.items ended.cx.futures.items started.cx.parts ran.cx.parts ended.cx.parts started.journal ran.journal ended.journal
+    (subst (λ b. Does number (Polling number g.F.TaskFuture b started.cx.futures.items ran.cx.futures.items) started.cx.parts ran.cx.parts started.journal ran.journal) c.start_main.ensures.has_timers (rw c.in-Ok-answer.is at c.run-answer.ensures.polled))
+    (polls_drop number g.F.TaskFuture h ran.cx.futures.items ended.cx.futures.items c.in-Ok.main (option_map number c.in-Ok-end_main.output) ran.cx.parts ended.cx.parts ran.journal ended.journal (ap (λ v. v.items) c.end_main.ensures.futures) c.in-Ok-end_main.ensures.dropped))

@@ -6,6 +6,8 @@ use Rattle.mono_rt.proofs.Doing.{stay_on}
 use Rattle.mono_rt.specs.Telling.{going}
 use Rattle.mono_rt.proofs.Telling.{tells_nothing, tells_one, telling_on, read_at}
 use Rattle.mono_time.specs.Instants.{nanos_of}
+use Rattle.std.proofs.Common.{ap}
+use Rattle.mono_rt.specs.Polling.{ReadsAt}
 use Rattle.mono_rt.proofs.runtimes.Runtime.open_turn.Goals as goal
 
 pub returns-in-Ok-with_room-clause-reading : goal.returns-in-Ok-with_room-clause-reading
@@ -34,3 +36,13 @@ returns-in-Err-clause-told g c = tells_nothing refl refl c.reserve.ensures.entri
 
 pub returns-in-Err-with_room-clause-told : goal.returns-in-Err-with_room-clause-told
 returns-in-Err-with_room-clause-told g c = tells_nothing refl refl c.reserve.ensures.entries c.reserve.ensures.full
+
+pub returns-in-Ok-with_room-clause-at : goal.returns-in-Ok-with_room-clause-at
+returns-in-Ok-with_room-clause-at g c =
+    let number = g.O.Outcome.output_number in
+    let parts = c.args.self.now.cx.parts in
+    let n = c.as_nanos.result in
+    stay_on number (ReadsAt (nanos_of c.now-now.result)) parts parts parts c.args.self.now.journal c.reserve.new.self c.push.new.self
+    (does_stay number parts parts c.args.self.now.journal c.reserve.new.self refl refl refl refl c.reserve.ensures.entries c.reserve.ensures.full)
+    (does_past number (ReadsAt (nanos_of c.now-now.result)) parts c.reserve.new.self c.push.new.self (Now n ∷ []) (λ unfull. c.push.ensures.entries ∙ pushed_open c.reserve.new.self (Now n) (sym c.push.ensures.full ∙ unfull)) c.push.ensures.full (λ m. refl) (λ m st. (refl, λ s. refl))
+    (λ m st rest. (ap (λ x. Now x ∷ rest) c.as_nanos.ensures, refl)))

@@ -4,6 +4,11 @@ use Rattle.mono_rt.proofs.Going.{goes_of, goes_on, does_led}
 use Rattle.mono_rt.proofs.Doing.{does_pass, pass_breaks}
 use Rattle.mono_rt.specs.Telling.{going}
 use Rattle.mono_rt.proofs.Telling.{telling_on, telling_more}
+use Rattle.std.proofs.Common.{true, false}
+use Rattle.std.specs.Prelude.{⊤, Ok, Err}
+use Rattle.mono_rt.specs.Journals.{Does}
+use Rattle.mono_rt.specs.Polling.{Polling}
+use Rattle.mono_rt.proofs.Polling.{polls_on, polls_pause, same_error}
 use Rattle.mono_rt.proofs.runtimes.Runtime.pass.Goals as goal
 
 no_cost : (u k : ℕ) → 0 ≡ k → u ≡ u - k
@@ -59,3 +64,29 @@ returns-in-Err-round-clause-told g c = telling_more (λ x e. tt) (telling_on {q 
 
 pub returns-in-Err-round-2-clause-told : goal.returns-in-Err-round-2-clause-told
 returns-in-Err-round-2-clause-told g c = telling_more (λ x e. tt) (telling_on {q = going} (rw c.in-Ok-false.is at c.pause.ensures.told) c.round-in-Ok-false.ensures.told)
+
+pub returns-in-Err-clause-polled : goal.returns-in-Err-clause-polled
+returns-in-Err-clause-polled g c =
+    let old = c.args.self.now in
+    let paused = c.pause.new.self in
+    same_error ⊤ ⊤ c.in-Err.error _ (polls_pause g.O.Outcome.output_number g.F.TaskFuture old.cx.parts.has_timers _ _ old.cx.parts.has_timers (Err c.in-Err.error) old.cx.parts paused.cx.parts old.journal paused.journal (ap (λ v. v.items) c.pause.ensures.futures) (rw c.in-Err.is at c.pause.ensures.pauses))
+
+pub returns-in-Ok-clause-polled : goal.returns-in-Ok-clause-polled
+returns-in-Ok-clause-polled g c =
+    let number = g.O.Outcome.output_number in
+    let old = c.args.self.now in
+    let paused = c.pause.new.self in
+    let left = c.round.new.self in
+    polls_on number g.F.TaskFuture old.cx.parts.has_timers _ _ _ old.cx.parts paused.cx.parts left.cx.parts old.journal paused.journal left.journal
+    (polls_pause number g.F.TaskFuture old.cx.parts.has_timers old.cx.futures.items paused.cx.futures.items old.cx.parts.has_timers (Ok true) old.cx.parts paused.cx.parts old.journal paused.journal (ap (λ v. v.items) c.pause.ensures.futures) (rw c.in-Ok-true.is at c.pause.ensures.pauses))
+    (subst (λ x. Does number (Polling number g.F.TaskFuture x paused.cx.futures.items left.cx.futures.items) paused.cx.parts left.cx.parts paused.journal left.journal) c.pause.ensures.has_timers c.in-Ok.ensures.polled)
+
+pub returns-in-Ok-round-clause-polled : goal.returns-in-Ok-round-clause-polled
+returns-in-Ok-round-clause-polled g c =
+    let number = g.O.Outcome.output_number in
+    let old = c.args.self.now in
+    let paused = c.pause.new.self in
+    let left = c.round-in-Ok-false.new.self in
+    polls_on number g.F.TaskFuture old.cx.parts.has_timers _ _ _ old.cx.parts paused.cx.parts left.cx.parts old.journal paused.journal left.journal
+    (polls_pause number g.F.TaskFuture old.cx.parts.has_timers old.cx.futures.items paused.cx.futures.items old.cx.parts.has_timers (Ok false) old.cx.parts paused.cx.parts old.journal paused.journal (ap (λ v. v.items) c.pause.ensures.futures) (rw c.in-Ok-false.is at c.pause.ensures.pauses))
+    (subst (λ x. Does number (Polling number g.F.TaskFuture x paused.cx.futures.items left.cx.futures.items) paused.cx.parts left.cx.parts paused.journal left.journal) c.pause.ensures.has_timers c.in-Ok-round.ensures.polled)

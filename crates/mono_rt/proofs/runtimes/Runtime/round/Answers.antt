@@ -1,7 +1,10 @@
-use Rattle.std.proofs.Common.{inl, inr, ◌≡◌, ◌+◌, ◌-◌, ℕ, arith, refl, ap, sym, ◌∙◌}
+use Rattle.std.proofs.Common.{inl, inr, ◌≡◌, ◌+◌, ◌-◌, ℕ, arith, refl, ap, sym, subst, ◌∙◌}
 use Rattle.mono_rt.proofs.Going.{goes_on, goes_nowhere}
 use Rattle.mono_rt.proofs.Doing.{turns_more, no_turns, does_round, most_is, no_queue}
 use Rattle.mono_rt.proofs.Telling.{telling_on, tells_nothing}
+use Rattle.mono_rt.specs.Journals.{Does}
+use Rattle.mono_rt.specs.Polling.{Polling}
+use Rattle.mono_rt.proofs.Polling.{polls_on, polls_nothing}
 use Rattle.mono_rt.proofs.runtimes.Runtime.round.Goals as goal
 
 never : (n : ℕ) → n + 1 ≡ 0 → ⊥
@@ -19,13 +22,15 @@ loop-done-preserved g c = (
   turns_more g.O.Outcome.output_number c.loop-done.done c.args.self.now.cx.parts c.loop-done.self.cx.parts c.turn.new.self.cx.parts c.args.self.now.journal c.loop-done.self.journal c.turn.new.self.journal c.loop-done.invariant.3 c.in_ok-turn.ensures.turned,
   c.turn.ensures.has_timers ∙ c.loop-done.invariant.4,
   telling_on c.loop-done.invariant.5 c.turn.ensures.told,
+  polls_on g.O.Outcome.output_number g.F.TaskFuture c.args.self.now.cx.parts.has_timers _ _ _ c.args.self.now.cx.parts c.loop-done.self.cx.parts c.turn.new.self.cx.parts c.args.self.now.journal c.loop-done.self.journal c.turn.new.self.journal c.loop-done.invariant.6
+      (subst (λ x. Does g.O.Outcome.output_number (Polling g.O.Outcome.output_number g.F.TaskFuture x c.loop-done.self.cx.futures.items c.turn.new.self.cx.futures.items) c.loop-done.self.cx.parts c.turn.new.self.cx.parts c.loop-done.self.journal c.turn.new.self.journal) c.loop-done.invariant.4 c.in_ok-turn.ensures.polled),
 )
 
 pub loop-done-init : goal.loop-done-init
 loop-done-init g c =
     let parts = c.args.self.now.cx.parts in
     let journal = c.args.self.now.journal in
-    (goes_nowhere g.O.Outcome.output_number parts parts journal journal refl refl refl refl refl refl, c.requires.rests, λ e. refl, no_turns g.O.Outcome.output_number parts journal, refl, tells_nothing refl refl refl refl)
+    (goes_nowhere g.O.Outcome.output_number parts parts journal journal refl refl refl refl refl refl, c.requires.rests, λ e. refl, no_turns g.O.Outcome.output_number parts journal, refl, tells_nothing refl refl refl refl, polls_nothing g.O.Outcome.output_number g.F.TaskFuture parts.has_timers c.args.self.now.cx.futures.items parts journal)
 
 pub returns-then-queue_len-eq0-clause-round : goal.returns-then-queue_len-eq0-clause-round
 returns-then-queue_len-eq0-clause-round g c =
@@ -42,3 +47,9 @@ returns-clause-round g c =
 
 pub returns-in_err-turn-clause-told : goal.returns-in_err-turn-clause-told
 returns-in_err-turn-clause-told g c = telling_on c.loop-done.invariant.5 c.turn.ensures.told
+
+pub returns-then-queue_len-eq0-clause-polled : goal.returns-then-queue_len-eq0-clause-polled
+returns-then-queue_len-eq0-clause-polled g c = c.loop-done.invariant.6
+
+pub returns-clause-polled : goal.returns-clause-polled
+returns-clause-polled g c = c.loop-done.invariant.6

@@ -4,6 +4,10 @@ use Rattle.mono_rt.proofs.Doing.{does_first, passes_more, ends_done, ends_turns,
 use Rattle.mono_rt.proofs.runtimes.Runtime.run.Goals.{then-loop-units-test+else-not-has_output, else-loop-units-test}
 use Rattle.mono_rt.specs.Telling.{going}
 use Rattle.mono_rt.proofs.Telling.{telling_on, telling_more}
+use Rattle.std.specs.Prelude.{⊤, Err}
+use Rattle.mono_rt.specs.Journals.{Does}
+use Rattle.mono_rt.specs.Polling.{Polling}
+use Rattle.mono_rt.proofs.Polling.{polls_on, same_error, on_main}
 use Rattle.mono_rt.proofs.runtimes.Runtime.run.Goals as goal
 
 both : (b : Bool) → true ≡ b → false ≡ b → ⊥
@@ -18,6 +22,7 @@ loop-units-init g c = (
   c.round.ensures.rests,
   c.round.ensures.has_timers,
   c.round.ensures.told,
+  c.in-Ok.ensures.polled,
 )
 
 pub loop-units-preserved : goal.loop-units-preserved
@@ -27,6 +32,8 @@ loop-units-preserved g c = (
   c.pass.ensures.rests,
   c.pass.ensures.has_timers ∙ c.loop-units.invariant.2,
   telling_on {q = going} c.loop-units.invariant.3 (rw c.in-Ok-pass.is at c.pass.ensures.told),
+  polls_on g.O.Outcome.output_number g.F.TaskFuture c.args.self.now.cx.parts.has_timers _ _ _ c.args.self.now.cx.parts c.loop-units.self.cx.parts c.pass.new.self.cx.parts c.args.self.now.journal c.loop-units.self.journal c.pass.new.self.journal c.loop-units.invariant.4
+      (subst (λ x. Does g.O.Outcome.output_number (Polling g.O.Outcome.output_number g.F.TaskFuture x c.loop-units.self.cx.futures.items c.pass.new.self.cx.futures.items) c.loop-units.self.cx.parts c.pass.new.self.cx.parts c.loop-units.self.journal c.pass.new.self.journal) c.loop-units.invariant.2 (rw c.in-Ok-pass.is at c.pass.ensures.polled)),
 )
 
 pub returns-in-Err-pass-clause-ends : goal.returns-in-Err-pass-clause-ends
@@ -62,3 +69,20 @@ returns-else-has_output-clause-told g c = c.loop-units.invariant.3
 
 pub returns-in-Err-clause-told : goal.returns-in-Err-clause-told
 returns-in-Err-clause-told g c = telling_more (λ x e. tt) c.round.ensures.told
+
+pub returns-in-Err-pass-clause-polled : goal.returns-in-Err-pass-clause-polled
+returns-in-Err-pass-clause-polled g c =
+    let number = g.O.Outcome.output_number in
+    let old = c.args.self.now in
+    let now = c.loop-units.self in
+    let left = c.pass.new.self in
+    same_error ⊤ ⊤ c.in-Err-pass.error _ (on_main {X = ⊤} (Err c.in-Err-pass.error) _ _
+    (λ x. polls_on number g.F.TaskFuture old.cx.parts.has_timers old.cx.futures.items now.cx.futures.items left.cx.futures.items old.cx.parts now.cx.parts left.cx.parts old.journal now.journal left.journal c.loop-units.invariant.4
+    (subst (λ h. Does number (Polling number g.F.TaskFuture h now.cx.futures.items left.cx.futures.items) now.cx.parts left.cx.parts now.journal left.journal) c.loop-units.invariant.2 x))
+    (rw c.in-Err-pass.is at c.pass.ensures.polled))
+
+pub returns-then-has_output-clause-polled : goal.returns-then-has_output-clause-polled
+returns-then-has_output-clause-polled g c = c.loop-units.invariant.4
+
+pub returns-else-has_output-clause-polled : goal.returns-else-has_output-clause-polled
+returns-else-has_output-clause-polled g c = c.loop-units.invariant.4

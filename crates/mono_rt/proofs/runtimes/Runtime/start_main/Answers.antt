@@ -1,4 +1,4 @@
-use Rattle.std.proofs.Common.{◌≡◌, ℕ, Bool, true, false, refl, ap, sym, ◌∙◌, Ok, Err, subst}
+use Rattle.std.proofs.Common.{◌≡◌, ℕ, Bool, true, false, refl, ap, sym, ◌∙◌, Ok, Err, Some, [], ◌∷◌, ◌++◌, subst}
 use Rattle.std.specs.Prelude.{Result}
 use Rattle.mono_task.specs.declared.error.SpawnTask.{SpawnTask}
 use Rattle.mono_task.specs.declared.error.SpawnTask.TheVariants.{AtCapacity}
@@ -58,3 +58,6 @@ returns-in-Ok-clause-told g c = telling_on c.open_spawn.ensures.told (tells_one 
 
 pub returns-in-Err-AtCapacity-clause-told : goal.returns-in-Err-AtCapacity-clause-told
 returns-in-Err-AtCapacity-clause-told g c = telling_on c.open_spawn.ensures.told (tells_one going (Ran (event.Act act.Spawn) (report.Reply (reply.Refused refusal.AtCapacity))) refl (_, (going, ((refl, refl), (refl, refl)))) c.push-in-Err-AtCapacity.ensures.entries c.push-in-Err-AtCapacity.ensures.full)
+
+pub returns-in-Ok-clause-made : goal.returns-in-Ok-clause-made
+returns-in-Ok-clause-made g c = c.put_future.ensures.futures ∙ ap (λ xs. xs ++ Some c.args.future ∷ []) c.open_spawn.ensures.futures

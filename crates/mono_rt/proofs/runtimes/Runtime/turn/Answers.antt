@@ -4,6 +4,9 @@ use Rattle.mono_rt.proofs.Calling.{same_machine}
 use Rattle.mono_rt.proofs.Going.{goes_of, goes_on, does_turn}
 use Rattle.mono_rt.proofs.Doing.{does_one}
 use Rattle.mono_rt.proofs.Telling.{telling_on, tells_kept, same_told}
+use Rattle.std.proofs.Common.{refl, ap, sym, subst, ◌∙◌}
+use Rattle.mono_rt.specs.Turns.{Turn}
+use Rattle.mono_rt.proofs.Polling.{polls_turn}
 use Rattle.mono_rt.proofs.runtimes.Runtime.turn.Goals as goal
 
 pub returns-then-self-clause-goes : goal.returns-then-self-clause-goes
@@ -36,3 +39,16 @@ returns-then-self-clause-told g c = telling_on c.open_turn.ensures.told (tells_k
 
 pub returns-clause-told : goal.returns-clause-told
 returns-clause-told g c = telling_on c.open_turn.ensures.told (tells_kept _ _ _ _ (same_told g.D.Clock.readings g.D.Clock.time g.D.Clock.parks c.keep_turn.ensures.driver) c.keep_turn.ensures.kept)
+
+pub returns-clause-polled : goal.returns-clause-polled
+returns-clause-polled g c =
+    let number = g.O.Outcome.output_number in
+    let old = c.args.self.now in
+    let opened = c.open_turn.new.self in
+    let done = c.turn-task.new.self in
+    let left = c.keep_turn.new.self in
+    polls_turn number g.F.TaskFuture old.cx.parts.has_timers old.cx opened.cx done left.cx old.journal opened.journal left.journal c.turn-task.result.0 c.in-Some.now c.turn-task.result.1 c.turn-task.result.2 c.open_turn.ensures.same c.in-Some.ensures.at
+    (subst (λ acts. Turn number g.F.TaskFuture c.turn-task.result.0 c.in-Some.now acts c.turn-task.result.1 c.turn-task.result.2 opened.cx done) c.in-Some.ensures.acts c.turn-task.ensures.turn)
+    (does_turn number opened.cx.parts done.parts left.cx.parts opened.journal left.journal _ _ _ c.turn-task.ensures.is c.keep_turn.ensures.kept
+    (λ m st. same_machine number hosting_of done.parts left.cx.parts m c.keep_turn.ensures.tasks c.keep_turn.ensures.timers c.keep_turn.ensures.has_timers c.keep_turn.ensures.blocking st) c.keep_turn.ensures.timers)
+    (λ unfull. (c.keep_turn.ensures.kept unfull).1) refl (sym c.keep_turn.ensures.memory ∙ c.if-self.false) (ap (λ v. v.items) c.keep_turn.ensures.futures)
