@@ -5,6 +5,8 @@
 #[cfg(test)]
 mod combined;
 #[cfg(test)]
+mod deadlines;
+#[cfg(test)]
 mod desks;
 #[cfg(test)]
 mod examples;
@@ -12,6 +14,8 @@ mod examples;
 mod instants;
 #[cfg(test)]
 mod lists;
+#[cfg(test)]
+mod many;
 #[cfg(test)]
 mod nested;
 #[cfg(test)]

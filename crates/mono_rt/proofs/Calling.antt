@@ -41,6 +41,11 @@ added_at m k n is below free =
     ∙ ap (λ b. cond b (refused refusal.AtCapacity m) (cond (nat_lt max_nanos n) (refused refusal.Invalid m) made)) free
     ∙ ap (λ b. cond b (refused refusal.Invalid m) made) (le-ltb max_nanos n below)
 
+-- no sleep is made, as there is no place for one
+pub refused_at : (m : Machine) (k : ℕ) → is_full m.sleeps.table m.sleeps.limit ≡ true → act_outcome (act.NewSleep k) m ≡ refused refusal.AtCapacity m
+refused_at m k full =
+    ap (λ b. cond b (refused refusal.AtCapacity m) (cond (nat_lt max_nanos k) (refused refusal.Invalid m) (answered (reply.Sleep (next_number m.sleeps.table)) (with_sleeps m (machine.added m.sleeps k))))) full
+
 module _ {O B : Type 0} (number : O → ℕ) (hosting : B → Hosting) where
   -- with these tasks, timers and record, and else as before
   abbrev pub with_all : Parts O B → Schedule O → Timers → Record → Parts O B

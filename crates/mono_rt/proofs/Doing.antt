@@ -24,7 +24,7 @@ use Rattle.std.proofs.Common.{Option, Some, None}
 use Rattle.mono_model.specs.Table.{value_at}
 use Rattle.mono_model.specs.Tasks.{Task, Phase, idle, queued, running, done, taken}
 use Rattle.mono_task.specs.Work.{has_output, is_done}
-use Rattle.mono_rt.specs.Blocked.{OnCapacity}
+use Rattle.mono_rt.specs.Blocked.{OnCapacity, OnMemory}
 use Rattle.mono_rt.specs.Numbered.{phase_numbered, task_numbered}
 use Rattle.mono_rt.specs.declared.errors.RunError.{RunError}
 use Rattle.mono_rt.specs.declared.errors.RunError.TheVariants as error
@@ -292,21 +292,24 @@ module _ {O P : Type 0} (number : O → ℕ) where
 
   -- by the error
   pub blocks_by : (e : RunError) (h g : Bool) (main units : ℕ) (w : Option ℕ) (a b c d : Parts O (Seen P)) (i j k l : Journal) → g ≡ h → Does number (IsSpawn main) a b i j → Does number (Ends {A = ⊤} g main units (Err e)) b c j k → Does number (DropsFor main w) c d k l → Does number (Blocked h units (Err e)) a d i l
-  blocks_by error.Memory h g main units w a b c d i j k l same p q s =
-      does_led number a d i l (goes_on number a c d i k l (goes_on number a b c i j k (goes_of number (IsSpawn main) a b i j p) (goes_of number Led b c j k q)) (goes_of number (DropsFor main w) c d k l s))
+  blocks_by error.Memory h g main units w a b c d i j k l same p q s = does_more (RunsMain h main units (Err error.Memory)) (Blocked h units (Err error.Memory)) a d i l (λ m new xs zs stm stn is. inr (main, is)) (does_main h g main units (Err error.Memory) a b c d i j k l same p q (drops_any main w c d k l s))
   blocks_by error.Turns h g main units w a b c d i j k l same p q s = does_more (RunsMain h main units (Err error.Turns)) (Blocked h units (Err error.Turns)) a d i l (λ m new xs zs stm stn is. (main, is)) (does_main h g main units (Err error.Turns) a b c d i j k l same p q (drops_any main w c d k l s))
   blocks_by error.Driver h g main units w a b c d i j k l same p q s = does_more (RunsMain h main units (Err error.Driver)) (Blocked h units (Err error.Driver)) a d i l (λ m new xs zs stm stn is. (main, is)) (does_main h g main units (Err error.Driver) a b c d i j k l same p q (drops_any main w c d k l s))
   blocks_by error.AtCapacity h g main units w a b c d i j k l same p q s =
       does_more (RunsMain h main units (Err error.AtCapacity)) IsRefused a d i l (λ m new xs zs stm stn is. absurd is.ends) (does_main h g main units (Err error.AtCapacity) a b c d i j k l same p q (drops_any main w c d k l s))
 
+  -- no output came back
+  pub blocks_lost : (h g : Bool) (main units : ℕ) (a b c d : Parts O (Seen P)) (i j k l : Journal) → g ≡ h → Does number (IsSpawn main) a b i j → Goes number b c j k → Does number (DropsFor main None) c d k l → Does number (Blocked h units (Err error.Memory)) a d i l
+  blocks_lost h g main units a b c d i j k l same p q s = does_more (RunsMain h main units (Err error.Memory)) (Blocked h units (Err error.Memory)) a d i l (λ m new xs zs stm stn is. inr (main, is)) (does_main h g main units (Err error.Memory) a b c d i j k l same p (does_led number b c j k q) s)
+
   pub blocks_done : (output : ℕ) (h g : Bool) (main units : ℕ) (a b c d : Parts O (Seen P)) (i j k l : Journal) → g ≡ h → Does number (IsSpawn main) a b i j → Does number (Ends {A = ⊤} g main units (Ok tt)) b c j k → Does number (DropsFor main (Some output)) c d k l → Does number (Blocked h units (Ok output)) a d i l
   blocks_done output h g main units a b c d i j k l same p q s = does_more (RunsMain h main units (Ok output)) (Blocked h units (Ok output)) a d i l (λ m new xs zs stm stn is. (main, is)) (does_main h g main units (Ok output) a b c d i j k l same p q s)
 
-  pub blocks_refused : (e : RunError) (h : Bool) (units : ℕ) (c d : Parts O (Seen P)) (j k : Journal) → Goes number c d j k → OnCapacity e (Does number IsRefused c d j k) → Does number (Blocked h units (Err e)) c d j k
-  blocks_refused error.Memory h units c d j k goes p = does_led number c d j k goes
-  blocks_refused error.AtCapacity h units c d j k goes p = p
-  blocks_refused error.Turns h units c d j k goes p = absurd p
-  blocks_refused error.Driver h units c d j k goes p = absurd p
+  pub blocks_refused : (e : RunError) (h : Bool) (units : ℕ) (c d : Parts O (Seen P)) (j k : Journal) → OnMemory e (Does number Stays c d j k) → OnCapacity e (Does number IsRefused c d j k) → Does number (Blocked h units (Err e)) c d j k
+  blocks_refused error.Memory h units c d j k stays p = does_more Stays (Blocked h units (Err error.Memory)) c d j k (λ m new xs zs stm stn is. inl is) stays
+  blocks_refused error.AtCapacity h units c d j k stays p = p
+  blocks_refused error.Turns h units c d j k stays p = absurd p
+  blocks_refused error.Driver h units c d j k stays p = absurd p
 
   -- from an empty journal, what it then has stands in the relation
   pub relation_of : (R : Relation) (c d : Parts O (Seen P)) (j k l : Journal) (m : Machine) → Matches number hosting_of c m → j.entries.items ≡ [] → l ≡ k → Does number R c d j k → l.is_full ≡ false → (new : Machine) × R m l.entries.items new []

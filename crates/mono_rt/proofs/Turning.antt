@@ -1,6 +1,6 @@
 -- A turn of a future is a turn of the machine.
-use Rattle.std.proofs.Common.{◌≡◌, ℕ, true, false, Bool, List, [], ◌∷◌, ◌++◌, Some, None, Option, refl, ap, sym, subst, ◌∙◌}
-use Rattle.std.specs.Prelude.{Ok, is_some}
+use Rattle.std.proofs.Common.{◌≡◌, ◌+◌, ℕ, true, false, Bool, List, [], ◌∷◌, ◌++◌, Some, None, Option, refl, ap, sym, subst, ◌∙◌, arith}
+use Rattle.std.specs.Prelude.{Ok, is_some, nat_lt, length}
 use Rattle.mono_model.specs.Table.{value_at}
 use Rattle.mono_model.specs.Tasks.{begun, paused_value, pause_answer, completed_value, complete_answer}
 use Rattle.mono_model.specs.declared.Ended.{Ended}
@@ -21,7 +21,7 @@ use Rattle.mono_exec.proofs.Matching.{front_is}
 use Rattle.mono_time.specs.Timers.{registered_of}
 use Rattle.mono_exec.specs.Registered.{registered_by_steps, registered_by_turn}
 use Rattle.mono_rt.specs.Numbered.{numbered, end_of}
-use Rattle.mono_rt.specs.Record.{Record, no_acts}
+use Rattle.mono_rt.specs.Record.{Record, no_acts, room}
 use Rattle.mono_jobs.specs.Spawning.{Seen}
 use Rattle.mono_rt.specs.Stands.{hosting_of, Matches}
 use Rattle.mono_rt.specs.Reached.{Leads, leads_itself, leads_on, Reaches}
@@ -97,6 +97,9 @@ module _ {O P : Type 0} (number : O → ℕ) where
               ap (λ y. y.steps) ends.acts ∙ kept.1 ∙ ap (λ y. y.steps ++ steps) begins.acts_are,
               ap (λ q. turn_report_for q steps e m) queue ∙ ap (λ rs. report.Turn t rs (end_answer e t (after_steps t steps (after_begin t rest m)))) replies ∙ ap (λ y. report.Turn t d.acts.replies y) (sym (ended_told answer ended x d t _ ends turn mid)),
             );
+        full =
+            let none : length b.acts.steps ≡ 0 = ap (λ y. length y.steps) begins.acts_are in
+            ap (λ y. y.is_full) ends.acts ∙ leads.full (ap (λ y. y.is_full) begins.acts_are) (omega (arith, none)) ∙ ap (λ n. nat_lt room n) (omega (arith, none));
       }
 
 module _ {F O P U J A V : Type 0} (number : O → ℕ) (future : FutureOf F (Cx F O P U J A V) O) where

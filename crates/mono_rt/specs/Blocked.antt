@@ -9,3 +9,10 @@ OnCapacity Memory P = ⊤
 OnCapacity AtCapacity P = P
 OnCapacity Driver P = ⊥
 OnCapacity Turns P = ⊥
+
+-- the fact holds where memory was refused
+abbrev pub OnMemory : RunError → Type 0 → Type 0
+OnMemory Memory P = P
+OnMemory AtCapacity P = ⊤
+OnMemory Driver P = ⊤
+OnMemory Turns P = ⊤

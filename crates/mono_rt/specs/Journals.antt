@@ -1,5 +1,5 @@
 -- What a journal says of the machine.
-use Rattle.std.specs.Prelude.{◌≡◌, ◌≤◌, ◌⊎◌, ℕ, suc, zero, Bool, false, List, [], ◌∷◌, ◌++◌, ◌+◌, ◌-◌, length, vec_capacity, if◌then◌else◌, Option, Some, None}
+use Rattle.std.specs.Prelude.{◌≡◌, ◌≤◌, ◌⊎◌, ℕ, suc, zero, Bool, false, List, [], ◌∷◌, ◌++◌, ◌+◌, ◌-◌, length, if◌then◌else◌, Option, Some, None}
 use Rattle.mono_model.specs.Ticks.{down}
 use Rattle.mono_time.specs.Registered.{FirstSlot}
 use Rattle.mono_time.specs.Timers.{registered_of}
@@ -10,6 +10,7 @@ use Rattle.mono_machine.specs.declared.events.Event.{Event}
 use Rattle.mono_machine.specs.declared.events.Report.{Report}
 use Rattle.mono_jobs.specs.Spawning.{Seen}
 use Rattle.mono_rt.specs.Stands.{hosting_of, Matches}
+use Rattle.mono_rt.specs.Roomy.{HasRoomFor}
 use Rattle.mono_rt.specs.declared.parts.Parts.{Parts}
 use Rattle.mono_rt.specs.declared.journals.Entry.{Entry}
 use Rattle.mono_rt.specs.declared.journals.Entry.TheVariants.{Ran, Now, Park}
@@ -95,6 +96,6 @@ IsReading old part new rest = (n : ℕ) × ((part ≡ Now n ∷ rest) × (new �
 abbrev pub pushed : Journal → Entry → List Entry
 pushed j entry = if j.is_full then j.entries.items else j.entries.items ++ entry ∷ []
 
--- there is room for so many entries
+-- there is room for so many entries, beside those for which it is held
 abbrev pub HasPlaces : Journal → ℕ → Type 0
-HasPlaces j n = length j.entries.items + n ≤ vec_capacity j.entries
+HasPlaces j n = HasRoomFor j.entries n

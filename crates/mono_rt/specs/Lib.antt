@@ -1,5 +1,6 @@
 pub mod Numbered
 pub mod Record
+pub mod Roomy
 pub mod Stands
 pub mod Reached
 pub mod Turns
@@ -8,6 +9,7 @@ pub mod Journals
 pub mod Telling
 pub mod Readings
 pub mod Blocked
+pub mod Filling
 pub mod Drains
 pub mod Rounds
 pub mod Texts

@@ -17,7 +17,7 @@ use Rattle.mono_machine.specs.declared.events.Reply.TheVariants as reply
 use Rattle.mono_machine.specs.declared.events.Report.{Report}
 use Rattle.mono_machine.specs.declared.events.Report.TheVariants as report
 use Rattle.mono_model.specs.declared.Ended.{Ended}
-use Rattle.mono_rt.specs.Journals.{IsStep, Led}
+use Rattle.mono_rt.specs.Journals.{IsStep, Led, Stays}
 use Rattle.mono_rt.specs.declared.errors.RunError.{RunError}
 use Rattle.mono_rt.specs.declared.errors.RunError.TheVariants as error
 use Rattle.mono_rt.specs.declared.journals.Entry.{Entry}
@@ -233,10 +233,11 @@ pub record RunsMain (has_timers : Bool) (main units : ℕ) (answer : Result ℕ 
   pub ends : Ends has_timers main units answer spawned behind ended last
   pub drop : DropsFor main (output_in answer) ended last new rest
 
--- What one call did, by its answer, whose output has this number. Where no task could be made that is the one entry.
+-- What one call did, by its answer, whose output has this number. Where no task could be made that is the one entry. Where
+-- memory was refused nothing was done, or the main task was made and its handle was dropped at the end.
 abbrev pub Blocked : Bool → ℕ → Result ℕ RunError → Machine → List Entry → Machine → List Entry → Type 0
 Blocked has_timers units (Ok output) old part new rest = (main : ℕ) × RunsMain has_timers main units (Ok output) old part new rest
 Blocked has_timers units (Err error.Turns) old part new rest = (main : ℕ) × RunsMain has_timers main units (Err error.Turns) old part new rest
 Blocked has_timers units (Err error.Driver) old part new rest = (main : ℕ) × RunsMain has_timers main units (Err error.Driver) old part new rest
 Blocked has_timers units (Err error.AtCapacity) old part new rest = IsRefused old part new rest
-Blocked has_timers units (Err error.Memory) old part new rest = Led old part new rest
+Blocked has_timers units (Err error.Memory) old part new rest = Stays old part new rest ⊎ ((main : ℕ) × RunsMain has_timers main units (Err error.Memory) old part new rest)

@@ -3,6 +3,7 @@ ghost use Rattle.std.specs.Prelude.{◌≡◌, ℕ, IfOk, Option, None, true, fa
 ghost use Rattle.mono_machine.specs.Machine.{Machine, start_machine};
 ghost use Rattle.mono_machine.specs.Steps.{Run};
 ghost use Rattle.mono_jobs.specs.Spawning.{strategy_of};
+ghost use Rattle.mono_rt.specs.Filling.{IsOneLong};
 ghost use Rattle.mono_rt.specs.Journals.{events_in, reports_in, Registers};
 ghost use Rattle.mono_rt.specs.Numbered.{answer_numbered};
 ghost use Rattle.mono_rt.specs.Rounds.{Blocked};
@@ -23,7 +24,7 @@ use std::alloc::{AllocError, Global};
 
 /// Runs a main task on a new runtime, and answers the journal beside the answer.
 ///
-/// The journal is what `Blocked` tells of the answer, from the machine's start, but where it is full (`blocked`). So what it says was done is a run of the plain machine from its start (`run`). Each park is until the next expiration over the registered ticks, of which there are none at the start (`parks`). Each reading is the one that the driver told: where it tells its time, that time and what it was parked for since; where it tells its readings, the next of them (`told`).
+/// The journal is what `Blocked` tells of the answer, from the machine's start, but where it is full (`blocked`). So what it says was done is a run of the plain machine from its start (`run`). Each park is until the next expiration over the registered ticks, of which there are none at the start (`parks`). Each reading is the one that the driver told: where it tells its time, that time and what it was parked for since; where it tells its readings, the next of them (`told`). It is full only where a turn made more acts than 512 (`full`).
 pub fn run_alone<F, O, D, P, R: Host>(
     rt: &R,
     alloc: Global,
@@ -44,6 +45,7 @@ where
     ensures told { IfOk result (λ r. r.1.is_full ≡ false → IsTold r.0 (telling (D.readings driver) (D.time driver) (D.parks driver)) r.1.entries.items) }
     ensures run { IfOk result (λ r. r.1.is_full ≡ false → (new : Machine) × Run (start_machine limits (strategy_of pool)) (events_in r.1.entries.items) (reports_in r.1.entries.items) new) }
     ensures parks { IfOk result (λ r. r.1.is_full ≡ false → (new : Machine) × ((left : ℕ → Option ℕ) × Registers None (start_machine limits (strategy_of pool)) (λ s. None) r.1.entries.items new left)) }
+    ensures full { IfOk result (λ r. r.1.is_full ≡ true → IsOneLong O.output_number F.TaskFuture) }
 {
     let mut runtime = Runtime::new(alloc, driver, pool, limits, true, start)?;
     let answer = runtime.block_on(rt, alloc, future, turns);

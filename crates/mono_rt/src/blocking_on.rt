@@ -1,5 +1,5 @@
 // Rounds of turns, waits on the driver, and the main task.
-ghost use Rattle.std.specs.Prelude.{◌≡◌, ◌<◌, ◌≤◌, ◌++◌, ◌∷◌, [], None, false, length, Some, IfOk, OnOk, IfErr, IfSome, IsSome, if◌then◌else◌};
+ghost use Rattle.std.specs.Prelude.{◌≡◌, ◌<◌, ◌≤◌, ◌+◌, ◌++◌, ◌∷◌, [], None, false, length, Some, IfOk, OnOk, IfErr, OnErr, IfSome, IsSome, if◌then◌else◌};
 ghost use Rattle.std.specs.Option.{option_map};
 ghost use Rattle.mono_time.specs.Instants.{nanos_of};
 ghost use Rattle.mono_machine.specs.Machine.{Machine};
@@ -9,8 +9,9 @@ ghost use Rattle.mono_rt.specs.Stands.{hosting_of, Matches};
 ghost use Rattle.mono_time.specs.Timers.{registered_of};
 ghost use Rattle.mono_rt.specs.Journals.{Goes, Does, Stays, HasPlaces, WaitsForNext};
 ghost use Rattle.mono_rt.specs.Rounds.{IsWait, IsPark, Parks, OrLed, PauseEnds, Round, PassEnds, Ends, IsSpawn, IsRefused, DropsFor, Blocked, cost};
-ghost use Rattle.mono_rt.specs.Blocked.{OnCapacity};
+ghost use Rattle.mono_rt.specs.Blocked.{OnCapacity, OnMemory};
 ghost use Rattle.mono_rt.specs.Polling.{Polling, PollsMain, OnMain};
+ghost use Rattle.mono_rt.specs.Filling.{Fills};
 ghost use Rattle.mono_rt.specs.Telling.{telling, Course, going, Telling, IsParked, Still, EndsSo, EndsParked, EndsWaited};
 
 use crate::calls::drop_reply_of;
@@ -65,6 +66,8 @@ impl<F: Drop, O: Outcome + Drop, D: Driver, P: ThreadPool + Drop> Runtime<F, O, 
         ensures parked { OnOk result (Does O.output_number (IsPark self.old.cx.parts.has_timers) self.old.cx.parts self.new.cx.parts self.old.journal self.new.journal) }
         ensures same { self.new.cx ≡ self.old.cx }
         ensures told { Telling (EndsParked result) (telling (D.readings self.old.driver) (D.time self.old.driver) (D.parks self.old.driver)) going self.old.journal self.new.journal (telling (D.readings self.new.driver) (D.time self.new.driver) (D.parks self.new.driver)) }
+        ensures full { self.new.journal.is_full ≡ self.old.journal.is_full }
+        ensures held { self.new.journal.entries.held ≡ self.old.journal.entries.held }
     {
         match self.journal.reserve(2) {
             Err(_) => Err(RunError::Memory),
@@ -87,6 +90,8 @@ impl<F: Drop, O: Outcome + Drop, D: Driver, P: ThreadPool + Drop> Runtime<F, O, 
         ensures turn { self.new.cx.parts.tasks.turn ≡ self.old.cx.parts.tasks.turn }
         ensures futures { self.new.cx.futures ≡ self.old.cx.futures }
         ensures told { Telling (EndsWaited result) (telling (D.readings self.old.driver) (D.time self.old.driver) (D.parks self.old.driver)) going self.old.journal self.new.journal (telling (D.readings self.new.driver) (D.time self.new.driver) (D.parks self.new.driver)) }
+        ensures full { self.new.journal.is_full ≡ self.old.journal.is_full }
+        ensures held { self.new.journal.entries.held ≡ self.old.journal.entries.held }
     {
         match self.park(rt) {
             Err(_) => Err(RunError::Memory),
@@ -115,6 +120,8 @@ impl<F: Drop, O: Outcome + Drop, D: Driver, P: ThreadPool + Drop> Runtime<F, O, 
         ensures turn { self.new.cx.parts.tasks.turn ≡ self.old.cx.parts.tasks.turn }
         ensures futures { self.new.cx.futures ≡ self.old.cx.futures }
         ensures told { Telling (EndsSo result) (telling (D.readings self.old.driver) (D.time self.old.driver) (D.parks self.old.driver)) going self.old.journal self.new.journal (telling (D.readings self.new.driver) (D.time self.new.driver) (D.parks self.new.driver)) }
+        ensures full { self.new.journal.is_full ≡ self.old.journal.is_full }
+        ensures held { self.new.journal.entries.held ≡ self.old.journal.entries.held }
     {
         if self.cx.parts.tasks.queue_len() > 0 {
             let handed = self.driver.submit(rt);
@@ -135,7 +142,7 @@ impl<F: Drop, O: Outcome + Drop, D: Driver, P: ThreadPool + Drop> Runtime<F, O, 
 }
 
 impl<F: Drop, O: Outcome + Drop, D: Driver, P: ThreadPool + Drop> Runtime<F, O, D, P> {
-    /// The main task is made.
+    /// The main task is made, and room is held for the entry of its handle's drop.
     fn start_main(&mut self, alloc: Global, future: F) -> Result<u64, RunError>
         ensures goes { Goes O.output_number self.old.cx.parts self.new.cx.parts self.old.journal self.new.journal }
         ensures spawned { IfOk result (λ t. Does O.output_number (IsSpawn t) self.old.cx.parts self.new.cx.parts self.old.journal self.new.journal) }
@@ -144,13 +151,17 @@ impl<F: Drop, O: Outcome + Drop, D: Driver, P: ThreadPool + Drop> Runtime<F, O, 
         ensures turn { self.new.cx.parts.tasks.turn ≡ self.old.cx.parts.tasks.turn }
         ensures made { OnOk result (self.new.cx.futures.items ≡ self.old.cx.futures.items ++ Some future ∷ []) }
         ensures told { Telling (Still going) (telling (D.readings self.old.driver) (D.time self.old.driver) (D.parks self.old.driver)) going self.old.journal self.new.journal (telling (D.readings self.new.driver) (D.time self.new.driver) (D.parks self.new.driver)) }
+        ensures full { self.new.journal.is_full ≡ self.old.journal.is_full }
+        ensures unmade { IfErr result (λ error. OnMemory error (Does O.output_number Stays self.old.cx.parts self.new.cx.parts self.old.journal self.new.journal)) }
+        ensures held { IfOk result (λ t. self.new.journal.entries.held ≡ self.old.journal.entries.held + 1) }
+        ensures unheld { OnErr result (self.new.journal.entries.held ≡ self.old.journal.entries.held) }
     {
         match self.open_spawn() {
             None => Err(RunError::Memory),
             Some(()) => match self.cx.parts.tasks.spawn(alloc) {
                 Ok(t) => {
                     self.cx.put_future(future);
-                    self.journal.push(Entry::Ran(
+                    self.journal.push_and_hold(Entry::Ran(
                         Event::Act(Act::Spawn),
                         Report::Reply(Reply::Task(t)),
                     ));
@@ -168,17 +179,19 @@ impl<F: Drop, O: Outcome + Drop, D: Driver, P: ThreadPool + Drop> Runtime<F, O, 
         }
     }
 
-    /// Room for the main task's future and for its entry.
+    /// Room for the main task's future, for its entry and for that of its handle's drop.
     fn open_spawn(&mut self) -> Option<()>
-        ensures place { IsSome result → HasPlaces self.new.journal 1 }
+        ensures place { IsSome result → HasPlaces self.new.journal 2 }
         ensures future { IsSome result → HasPlace self.new.cx }
         ensures stays { Does O.output_number Stays self.old.cx.parts self.new.cx.parts self.old.journal self.new.journal }
         ensures goes { Goes O.output_number self.old.cx.parts self.new.cx.parts self.old.journal self.new.journal }
         ensures same { self.new.cx.parts ≡ self.old.cx.parts }
         ensures futures { self.new.cx.futures.items ≡ self.old.cx.futures.items }
         ensures told { Telling (Still going) (telling (D.readings self.old.driver) (D.time self.old.driver) (D.parks self.old.driver)) going self.old.journal self.new.journal (telling (D.readings self.new.driver) (D.time self.new.driver) (D.parks self.new.driver)) }
+        ensures full { self.new.journal.is_full ≡ self.old.journal.is_full }
+        ensures held { self.new.journal.entries.held ≡ self.old.journal.entries.held }
     {
-        match self.journal.reserve(1) {
+        match self.journal.reserve(2) {
             Err(_) => None,
             Ok(()) => match self.cx.make_place() {
                 Err(_) => None,
@@ -187,28 +200,24 @@ impl<F: Drop, O: Outcome + Drop, D: Driver, P: ThreadPool + Drop> Runtime<F, O, 
         }
     }
 
-    /// The handle of the main task is dropped. The answer is the output that it gave, whose number stands in the journal.
-    fn end_main(&mut self, main: u64) -> Result<Option<O>, RunError>
-        ensures dropped { IfOk result (λ output. Does O.output_number (DropsFor main (option_map O.output_number output)) self.old.cx.parts self.new.cx.parts self.old.journal self.new.journal) }
-        ensures goes { Goes O.output_number self.old.cx.parts self.new.cx.parts self.old.journal self.new.journal }
+    /// The handle of the main task is dropped. The answer is the output that it gave, whose number stands in the journal. The
+    /// entry has the room that was held for it, so no memory is asked for.
+    fn end_main(&mut self, main: u64) -> Option<O>
+        requires { 0 < self.old.journal.entries.held }
+        ensures dropped { Does O.output_number (DropsFor main (option_map O.output_number result)) self.old.cx.parts self.new.cx.parts self.old.journal self.new.journal }
         ensures turn { self.new.cx.parts.tasks.turn ≡ self.old.cx.parts.tasks.turn }
         ensures futures { self.new.cx.futures ≡ self.old.cx.futures }
         ensures told { (course : Course) → Telling (Still course) (telling (D.readings self.old.driver) (D.time self.old.driver) (D.parks self.old.driver)) course self.old.journal self.new.journal (telling (D.readings self.new.driver) (D.time self.new.driver) (D.parks self.new.driver)) }
+        ensures full { self.new.journal.is_full ≡ self.old.journal.is_full }
+        ensures held { self.new.journal.entries.held + 1 ≡ self.old.journal.entries.held }
     {
-        match self.journal.reserve(1) {
-            Err(_) => Err(RunError::Memory),
-            Ok(()) => {
-                let answer = self.cx.parts.tasks.drop_join(main);
-                let reply = drop_reply_of(&answer);
-                self.journal.push(Entry::Ran(
-                    Event::Act(Act::DropJoin(main)),
-                    Report::Reply(reply),
-                ));
-                match answer {
-                    Ok(output) => Ok(output),
-                    Err(_) => Ok(None),
-                }
-            }
+        self.journal.release();
+        let answer = self.cx.parts.tasks.drop_join(main);
+        let reply = drop_reply_of(&answer);
+        self.journal.push(Entry::Ran(Event::Act(Act::DropJoin(main)), Report::Reply(reply)));
+        match answer {
+            Ok(output) => output,
+            Err(_) => None,
         }
     }
 }
@@ -233,6 +242,8 @@ where
         ensures fewer { IfOk result (λ left. 0 < length self.old.cx.parts.tasks.tasks.queue → 0 < units → left < units) }
         ensures polled { OnOk result (Does O.output_number (Polling O.output_number F.TaskFuture self.old.cx.parts.has_timers self.old.cx.futures.items self.new.cx.futures.items) self.old.cx.parts self.new.cx.parts self.old.journal self.new.journal) }
         ensures told { Telling (Still going) (telling (D.readings self.old.driver) (D.time self.old.driver) (D.parks self.old.driver)) going self.old.journal self.new.journal (telling (D.readings self.new.driver) (D.time self.new.driver) (D.parks self.new.driver)) }
+        ensures full { Fills O.output_number F.TaskFuture self.old.cx self.old.journal self.new.journal }
+        ensures held { self.new.journal.entries.held ≡ self.old.journal.entries.held }
     {
         let queued = self.cx.parts.tasks.queue_len() as u64;
         let most = queued.saturating_mul(2).saturating_add(1).min(units);
@@ -256,6 +267,8 @@ where
         ensures fewer { IfOk result (λ left. left < units) }
         ensures polled { OnMain result (Does O.output_number (Polling O.output_number F.TaskFuture self.old.cx.parts.has_timers self.old.cx.futures.items self.new.cx.futures.items) self.old.cx.parts self.new.cx.parts self.old.journal self.new.journal) }
         ensures told { Telling (EndsSo result) (telling (D.readings self.old.driver) (D.time self.old.driver) (D.parks self.old.driver)) going self.old.journal self.new.journal (telling (D.readings self.new.driver) (D.time self.new.driver) (D.parks self.new.driver)) }
+        ensures full { Fills O.output_number F.TaskFuture self.old.cx self.old.journal self.new.journal }
+        ensures held { self.new.journal.entries.held ≡ self.old.journal.entries.held }
     {
         match self.pause(rt, alloc) {
             Err(error) => Err(error),
@@ -279,6 +292,8 @@ where
         ensures rests { self.new.cx.parts.tasks.turn ≡ None }
         ensures polled { OnMain result (Does O.output_number (Polling O.output_number F.TaskFuture self.old.cx.parts.has_timers self.old.cx.futures.items self.new.cx.futures.items) self.old.cx.parts self.new.cx.parts self.old.journal self.new.journal) }
         ensures told { Telling (EndsSo result) (telling (D.readings self.old.driver) (D.time self.old.driver) (D.parks self.old.driver)) going self.old.journal self.new.journal (telling (D.readings self.new.driver) (D.time self.new.driver) (D.parks self.new.driver)) }
+        ensures full { Fills O.output_number F.TaskFuture self.old.cx self.old.journal self.new.journal }
+        ensures held { self.new.journal.entries.held ≡ self.old.journal.entries.held }
     {
         let mut units = match self.round(rt, alloc, turns) {
             Ok(left) => left,
@@ -301,9 +316,10 @@ where
     /// which no task is queued.
     ///
     /// From each machine for which the parts stood, the journal grew by what `Blocked` tells of the answer, which is a run of
-    /// the machine, but where it is full (`blocked`). After want of memory it says no more than that it is a run. Each turn that
-    /// it tells is one poll of its task's own future, from the futures that the turns before it left, unless memory was wanting
-    /// (`polled`).
+    /// the machine, but where it is full (`blocked`). After want of memory nothing was done, or the main task was made, what
+    /// follows is a run, and the last entry is the drop of the main task's handle, which takes no memory: room for it is made
+    /// before the main task. Each turn that it tells is one poll of its task's own future, from the futures that the turns
+    /// before it left, unless memory was wanting (`polled`).
     pub fn block_on<R: Host>(
         &mut self,
         rt: &R,
@@ -317,19 +333,19 @@ where
         ensures rests { self.new.cx.parts.tasks.turn ≡ None }
         ensures polled { OnMain result (Does O.output_number (PollsMain O.output_number F.TaskFuture self.old.cx.parts.has_timers future self.old.cx.futures.items self.new.cx.futures.items) self.old.cx.parts self.new.cx.parts self.old.journal self.new.journal) }
         ensures told { Telling (EndsSo result) (telling (D.readings self.old.driver) (D.time self.old.driver) (D.parks self.old.driver)) going self.old.journal self.new.journal (telling (D.readings self.new.driver) (D.time self.new.driver) (D.parks self.new.driver)) }
+        ensures full { Fills O.output_number F.TaskFuture self.old.cx self.old.journal self.new.journal }
+        ensures held { self.new.journal.entries.held ≡ self.old.journal.entries.held }
     {
         match self.start_main(alloc, future) {
             Err(error) => Err(error),
             Ok(main) => {
                 let answer = self.run(rt, alloc, main, turns);
-                match self.end_main(main) {
-                    Err(_) => Err(RunError::Memory),
-                    Ok(output) => match answer {
-                        Err(error) => Err(error),
-                        Ok(()) => match output {
-                            Some(output) => Ok(output),
-                            None => Err(RunError::Memory),
-                        },
+                let output = self.end_main(main);
+                match answer {
+                    Err(error) => Err(error),
+                    Ok(()) => match output {
+                        Some(output) => Ok(output),
+                        None => Err(RunError::Memory),
                     },
                 }
             }

@@ -1,5 +1,5 @@
 // How a runtime is made.
-ghost use Rattle.std.specs.Prelude.{◌≡◌, ℕ, IfOk, None, []};
+ghost use Rattle.std.specs.Prelude.{◌≡◌, ℕ, IfOk, None, false, []};
 ghost use Rattle.mono_machine.specs.Machine.{start_machine};
 ghost use Rattle.mono_jobs.specs.Spawning.{strategy_of};
 ghost use Rattle.mono_time.specs.Timers.{registered_of};
@@ -68,6 +68,7 @@ impl<F: Drop, O: Outcome + Drop, D: Driver, P: ThreadPool + Drop> Runtime<F, O, 
         ensures rests { IfOk result (λ runtime. runtime.cx.parts.tasks.turn ≡ None) }
         ensures journal { IfOk result (λ runtime. runtime.journal.entries.items ≡ []) }
         ensures futures { IfOk result (λ runtime. runtime.cx.futures.items ≡ []) }
+        ensures unfull { IfOk result (λ runtime. runtime.journal.is_full ≡ false) }
         ensures registered { IfOk result (λ runtime. (s : ℕ) → registered_of runtime.cx.parts.timers s ≡ None) }
     {
         let unpark = driver.unpark()?;

@@ -29,6 +29,8 @@ impl<F: Drop, O: Outcome + Drop, D: Driver, P: ThreadPool + Drop> Runtime<F, O, 
         ensures has_timers { self.new.cx.parts.has_timers ≡ self.old.cx.parts.has_timers }
         ensures futures { self.new.cx.futures ≡ self.old.cx.futures }
         ensures told { (before after : Course) → EndsDrained result before after → Telling (Still after) (telling (D.readings self.old.driver) (D.time self.old.driver) (D.parks self.old.driver)) before self.old.journal self.new.journal (telling (D.readings self.new.driver) (D.time self.new.driver) (D.parks self.new.driver)) }
+        ensures full { self.new.journal.is_full ≡ self.old.journal.is_full }
+        ensures held { self.new.journal.entries.held ≡ self.old.journal.entries.held }
     {
         let mut taken = Vec::new(alloc);
         match self.cx.inbox.drain(rt, alloc, &mut taken) {
@@ -47,6 +49,8 @@ impl<F: Drop, O: Outcome + Drop, D: Driver, P: ThreadPool + Drop> Runtime<F, O, 
         ensures has_timers { self.new.cx.parts.has_timers ≡ self.old.cx.parts.has_timers }
         ensures futures { self.new.cx.futures ≡ self.old.cx.futures }
         ensures told { (before after : Course) → EndsDrained result before after → Telling (Still after) (telling (D.readings self.old.driver) (D.time self.old.driver) (D.parks self.old.driver)) before self.old.journal self.new.journal (telling (D.readings self.new.driver) (D.time self.new.driver) (D.parks self.new.driver)) }
+        ensures full { self.new.journal.is_full ≡ self.old.journal.is_full }
+        ensures held { self.new.journal.entries.held ≡ self.old.journal.entries.held }
     {
         match self.open_drain(alloc, taken) {
             None => Err(RunError::Memory),
@@ -68,6 +72,7 @@ impl<F: Drop, O: Outcome + Drop, D: Driver, P: ThreadPool + Drop> Runtime<F, O, 
         ensures full { self.new.journal.is_full ≡ self.old.journal.is_full }
         ensures same { self.new.cx ≡ self.old.cx }
         ensures driver { self.new.driver ≡ self.old.driver }
+        ensures held { self.new.journal.entries.held ≡ self.old.journal.entries.held }
     {
         match self.journal.reserve(taken.len() + 1) {
             Err(_) => None,
@@ -88,6 +93,7 @@ impl<F: Drop, O: Outcome + Drop, D: Driver, P: ThreadPool + Drop> Runtime<F, O, 
         ensures listed { into.new.items ≡ into.old.items ++ listed self.old.cx.parts.tasks.tasks taken.now }
         ensures same { self.new.cx ≡ self.old.cx }
         ensures driver { self.new.driver ≡ self.old.driver }
+        ensures held { self.new.journal.entries.held ≡ self.old.journal.entries.held }
     {
         for t in taken {
             self.tell_remote(*t, into);
@@ -105,6 +111,7 @@ impl<F: Drop, O: Outcome + Drop, D: Driver, P: ThreadPool + Drop> Runtime<F, O, 
         ensures capacity { vec_capacity into.new ≡ vec_capacity into.old }
         ensures same { self.new.cx ≡ self.old.cx }
         ensures driver { self.new.driver ≡ self.old.driver }
+        ensures held { self.new.journal.entries.held ≡ self.old.journal.entries.held }
     {
         match self.cx.parts.tasks.has_finished(t) {
             Err(_) => self.journal.push(Entry::Ran(

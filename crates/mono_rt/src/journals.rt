@@ -1,11 +1,12 @@
 // What a runtime did, in order.
-ghost use Rattle.std.specs.Prelude.{◌≡◌, ◌≤◌, ◌++◌, ◌∷◌, [], true, false, OnOk, OnErr, IfOk, IfSome, IfNone, length, slice_get, ℕ, ◌+◌, Some};
+ghost use Rattle.std.specs.Prelude.{◌≡◌, ◌≤◌, ◌<◌, ◌||◌, ◌++◌, ◌∷◌, [], true, false, OnOk, OnErr, IfOk, IfSome, IfNone, length, slice_get, ℕ, ◌+◌, Some};
 ghost use Rattle.mono_machine.specs.declared.events.Event.TheVariants as event;
 ghost use Rattle.mono_machine.specs.declared.events.Report.TheVariants as report;
 ghost use Rattle.mono_rt.specs.declared.journals.Entry.TheVariants.{Ran};
 ghost use Rattle.mono_rt.specs.Journals.{pushed, HasPlaces};
 
 use crate::acts::Acts;
+use crate::keeping::RoomList;
 use mono_exec::{End, Ended, Event, Report};
 use std::alloc::{AllocError, Global};
 
@@ -23,7 +24,7 @@ pub enum Entry {
 /// What a runtime did, in order. Once it is full nothing more is kept.
 #[derive(Drop)]
 pub struct Journal {
-    pub(crate) entries: Vec<Entry>,
+    pub(crate) entries: RoomList<Entry>,
     pub(crate) is_full: bool,
 }
 
@@ -32,9 +33,10 @@ impl Journal {
     pub(crate) fn new(alloc: Global, is_full: bool) -> Journal
         ensures entries { result.entries.items ≡ [] }
         ensures full { result.is_full ≡ is_full }
+        ensures held { result.entries.held ≡ 0 }
     {
         Journal {
-            entries: Vec::new(alloc),
+            entries: RoomList::new(alloc),
             is_full,
         }
     }
@@ -61,19 +63,33 @@ impl Journal {
         self.entries.get(place)
     }
 
-    /// Makes room for so many entries.
+    /// Makes room for so many entries, beside those for which it is held.
     pub(crate) fn reserve(&mut self, more: usize) -> Result<(), AllocError>
         ensures room { OnOk result (HasPlaces self.new more) }
         ensures entries { self.new.entries.items ≡ self.old.entries.items }
         ensures full { self.new.is_full ≡ self.old.is_full }
+        ensures held { self.new.entries.held ≡ self.old.entries.held }
     {
         self.entries.reserve(more)
+    }
+
+    /// The room that was held for an entry is there for it now.
+    pub(crate) fn release(&mut self)
+        requires { 0 < self.old.entries.held }
+        ensures room { HasPlaces self.new 1 }
+        ensures entries { self.new.entries.items ≡ self.old.entries.items }
+        ensures full { self.new.is_full ≡ self.old.is_full }
+        ensures held { self.new.entries.held + 1 ≡ self.old.entries.held }
+    {
+        self.entries.release();
     }
 
     /// The turn of a task, for which there is room. Where an act was lost the journal is full.
     pub(crate) fn push_turn(&mut self, task: u64, acts: Acts, end: End, ended: Ended)
         requires { HasPlaces self.old 1 }
         ensures kept { self.new.is_full ≡ false → (self.old.is_full ≡ false) × (acts.is_full ≡ false) × (self.new.entries.items ≡ self.old.entries.items ++ Ran (event.Turn acts.steps end) (report.Turn task acts.replies ended) ∷ []) }
+        ensures full { self.new.is_full ≡ (self.old.is_full || acts.is_full) }
+        ensures held { self.new.entries.held ≡ self.old.entries.held }
     {
         match acts.take() {
             None => self.is_full = true,
@@ -90,9 +106,21 @@ impl Journal {
         ensures entries { self.new.entries.items ≡ pushed self.old entry }
         ensures full { self.new.is_full ≡ self.old.is_full }
         ensures room { (n : ℕ) → HasPlaces self.old (n + 1) → HasPlaces self.new n }
+        ensures held { self.new.entries.held ≡ self.old.entries.held }
     {
         if !self.is_full {
-            self.entries.push_reserved(entry);
+            self.entries.push(entry);
         }
+    }
+
+    /// One more entry, for which there is room, and room for another one is held.
+    pub(crate) fn push_and_hold(&mut self, entry: Entry)
+        requires { HasPlaces self.old 2 }
+        ensures entries { self.new.entries.items ≡ pushed self.old entry }
+        ensures full { self.new.is_full ≡ self.old.is_full }
+        ensures held { self.new.entries.held ≡ self.old.entries.held + 1 }
+    {
+        self.push(entry);
+        self.entries.hold();
     }
 }

@@ -13,6 +13,7 @@ mod errors;
 mod job_acts;
 mod job_calls;
 mod journals;
+mod keeping;
 pub mod laws;
 mod parts;
 mod runtimes;

@@ -1,5 +1,5 @@
 // A runtime, and the turns and clock steps that it does.
-ghost use Rattle.std.specs.Prelude.{◌≡◌, ◌<◌, ◌≤◌, ◌+◌, ◌++◌, ◌∷◌, [], None, true, false, length, vec_len, vec_capacity, OnOk, OnErr, IfSome, IfNone};
+ghost use Rattle.std.specs.Prelude.{◌≡◌, ◌<◌, ◌≤◌, ◌+◌, ◌++◌, ◌∷◌, ◌||◌, [], None, true, false, length, vec_len, vec_capacity, OnOk, OnErr, IfSome, IfNone};
 ghost use Rattle.mono_time.specs.Instants.{nanos_of};
 ghost use Rattle.mono_time.specs.Sleeps.{armed_count};
 ghost use Rattle.mono_time.specs.Timers.{sleeps_of};
@@ -10,6 +10,7 @@ ghost use Rattle.mono_rt.specs.Record.{no_acts};
 ghost use Rattle.mono_rt.specs.Journals.{Goes, Does, IsReading, HasPlaces};
 ghost use Rattle.mono_rt.specs.Rounds.{OneTurn, IsClock};
 ghost use Rattle.mono_rt.specs.Polling.{ReadsAt, Polling};
+ghost use Rattle.mono_rt.specs.Filling.{Fills};
 ghost use Rattle.mono_rt.specs.Telling.{telling, Course, going, Telling, IsRead, Still};
 
 use crate::acts::Acts;
@@ -48,6 +49,8 @@ impl<F: Drop, O: Outcome + Drop, D: Driver, P: ThreadPool + Drop> Runtime<F, O, 
         ensures driver { self.new.driver ≡ self.old.driver }
         ensures futures { self.new.cx.futures ≡ self.old.cx.futures }
         ensures memory { self.new.cx.parts.is_out_of_memory ≡ self.old.cx.parts.is_out_of_memory }
+        ensures full { self.new.journal.is_full ≡ (self.old.journal.is_full || self.old.cx.parts.acts.is_full) }
+        ensures held { self.new.journal.entries.held ≡ self.old.journal.entries.held }
     {
         let acts = mem::replace(&mut self.cx.parts.acts, Acts::keeping_none(alloc));
         self.journal.push_turn(task, acts, end, ended);
@@ -63,6 +66,7 @@ impl<F: Drop, O: Outcome + Drop, D: Driver, P: ThreadPool + Drop> Runtime<F, O, 
         ensures same { self.new.cx ≡ self.old.cx }
         ensures read { IfSome result (λ x. IsRead (nanos_of x.0) (telling (D.readings self.old.driver) (D.time self.old.driver) (D.parks self.old.driver)) (telling (D.readings self.new.driver) (D.time self.new.driver) (D.parks self.new.driver))) }
         ensures unread { IfNone result (self.new.driver ≡ self.old.driver) }
+        ensures held { self.new.journal.entries.held ≡ self.old.journal.entries.held }
     {
         match self.journal.reserve(1) {
             Err(_) => None,
@@ -82,6 +86,8 @@ impl<F: Drop, O: Outcome + Drop, D: Driver, P: ThreadPool + Drop> Runtime<F, O, 
         ensures goes { Goes O.output_number self.old.cx.parts self.new.cx.parts self.old.journal self.new.journal }
         ensures same { self.new.cx ≡ self.old.cx }
         ensures told { Telling (Still going) (telling (D.readings self.old.driver) (D.time self.old.driver) (D.parks self.old.driver)) going self.old.journal self.new.journal (telling (D.readings self.new.driver) (D.time self.new.driver) (D.parks self.new.driver)) }
+        ensures full { self.new.journal.is_full ≡ self.old.journal.is_full }
+        ensures held { self.new.journal.entries.held ≡ self.old.journal.entries.held }
     {
         match self.journal.reserve(2) {
             Err(_) => None,
@@ -107,6 +113,8 @@ impl<F: Drop, O: Outcome + Drop, D: Driver, P: ThreadPool + Drop> Runtime<F, O, 
         ensures turn { self.new.cx.parts.tasks.turn ≡ self.old.cx.parts.tasks.turn }
         ensures futures { self.new.cx.futures ≡ self.old.cx.futures }
         ensures told { (course : Course) → Telling (Still course) (telling (D.readings self.old.driver) (D.time self.old.driver) (D.parks self.old.driver)) course self.old.journal self.new.journal (telling (D.readings self.new.driver) (D.time self.new.driver) (D.parks self.new.driver)) }
+        ensures full { self.new.journal.is_full ≡ self.old.journal.is_full }
+        ensures held { self.new.journal.entries.held ≡ self.old.journal.entries.held }
     {
         let Some((now, room)) = self.open_clock(alloc) else {
             return Err(RunError::Memory);
@@ -137,6 +145,8 @@ where
         ensures has_timers { self.new.cx.parts.has_timers ≡ self.old.cx.parts.has_timers }
         ensures rests { self.new.cx.parts.tasks.turn ≡ None }
         ensures told { Telling (Still going) (telling (D.readings self.old.driver) (D.time self.old.driver) (D.parks self.old.driver)) going self.old.journal self.new.journal (telling (D.readings self.new.driver) (D.time self.new.driver) (D.parks self.new.driver)) }
+        ensures full { Fills O.output_number F.TaskFuture self.old.cx self.old.journal self.new.journal }
+        ensures held { self.new.journal.entries.held ≡ self.old.journal.entries.held }
     {
         let Some((now, acts)) = self.open_turn(alloc) else {
             return Err(RunError::Memory);

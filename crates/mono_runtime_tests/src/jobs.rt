@@ -684,3 +684,57 @@ fn three_hundred_jobs(rt: HostRuntime) -> Result<(), Fail> {
     assert_eq!(rt; seen.get(300).copied(), Some(299));
     Ok(())
 }
+
+/// A main task whose one turn asks for so many jobs, each of which is refused for want of a pool: so many acts.
+fn asks<R: Host>(rt: &R, alloc: Global, acts: u64) -> Result<Ran, Fail> {
+    let mut calls = Vec::new(alloc);
+    for number in 0..acts {
+        calls.push(Call::Block(number))?;
+    }
+    did(
+        rt,
+        alloc,
+        Kind::Panic,
+        1,
+        in_turns(alloc, calls.as_slice(), &[])?,
+    )
+}
+
+#[test]
+fn a_turn_of_512_acts_is_kept(rt: HostRuntime) -> Result<(), Fail> {
+    let done = asks(&rt, rt.alloc(), 512)?;
+    assert!(rt; done.is_one && !done.runtime.journal().is_full());
+    // the spawn, the reading, the turn and the handle's drop
+    assert_eq!(rt; done.runtime.journal().len(), 4);
+    Ok(())
+}
+
+#[test]
+fn a_turn_of_513_acts_fills_the_journal(rt: HostRuntime) -> Result<(), Fail> {
+    let done = asks(&rt, rt.alloc(), 513)?;
+    assert!(rt; done.is_one && done.runtime.journal().is_full());
+    // the spawn and the reading
+    assert_eq!(rt; done.runtime.journal().len(), 2);
+    Ok(())
+}
+
+/// Whether a journal is empty, or the drop of the first task's handle stands last in it.
+fn ends_with_the_drop(journal: &Journal) -> bool {
+    match journal.len().checked_sub(1) {
+        None => true,
+        Some(last) => matches!(
+            journal.get(last),
+            Some(Entry::Ran(Event::Act(Act::DropJoin(0)), _))
+        ),
+    }
+}
+
+/// Also where one of the call's allocations fails: `rt try --test --fail-alloc N` lets the Nth one fail.
+#[test]
+fn the_main_handle_is_dropped_last(rt: HostRuntime) -> Result<(), Fail> {
+    let alloc = rt.alloc();
+    let calls = [Call::Block(1), Call::Waker, Call::Poll(0)];
+    let done = did(&rt, alloc, Kind::Local, 4, in_turns(alloc, &calls, &[])?)?;
+    assert!(rt; ends_with_the_drop(done.runtime.journal()));
+    Ok(())
+}

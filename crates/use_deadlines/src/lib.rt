@@ -94,32 +94,3 @@ impl Sessions {
         Ok(())
     }
 }
-
-#[cfg(test)]
-mod tests {
-    use super::*;
-    use std::test::Fail;
-
-    fn at_millis(millis: u64) -> Result<Instant, Fail> {
-        Ok(Instant::from_nanos(u128::from(millis) * 1000000).ok_or("an instant")?)
-    }
-
-    #[test]
-    fn sessions_expire_in_order(rt: HostRuntime) -> Result<(), Fail> {
-        let alloc = rt.alloc();
-        let mut sessions = Sessions::new(alloc, 8)?;
-        let first = sessions.open(alloc, at_millis(20)?);
-        let second = sessions.open(alloc, at_millis(10)?);
-        assert!(rt; first == Ok(0) && second == Ok(1));
-        let mut gone = Vec::new(alloc);
-        sessions.expire_all(at_millis(9)?, &mut gone)?;
-        assert!(rt; gone.is_empty());
-        assert!(rt; sessions.touch(0, at_millis(30)?).is_ok());
-        sessions.expire_all(at_millis(20)?, &mut gone)?;
-        assert_eq!(rt; gone.as_slice(), [1].as_slice());
-        assert!(rt; sessions.touch(1, at_millis(40)?).is_err());
-        sessions.expire_all(at_millis(30)?, &mut gone)?;
-        assert_eq!(rt; gone.as_slice(), [1, 0].as_slice());
-        Ok(())
-    }
-}

@@ -7,6 +7,7 @@ use Rattle.mono_rt.proofs.Going.{goes_of, run_of, registers_of}
 use Rattle.mono_rt.proofs.Doing.{relation_of}
 use Rattle.mono_rt.specs.Telling.{IsTold, telling}
 use Rattle.mono_rt.proofs.Telling.{told_in}
+use Rattle.mono_rt.proofs.Filling.{one_long}
 use Rattle.mono_rt.proofs.alone.run_alone.Goals as goal
 
 pub returns : goal.returns
@@ -24,4 +25,5 @@ returns g c =
           (told_in c.into_journal.result c.in_ok-runtime.ensures.journal c.into_journal.ensures c.block_on-answer.ensures.told unfull);
       parks = λ unfull. registers_of number made.cx.parts left.cx.parts made.journal left.journal c.into_journal.result m c.in_ok-runtime.ensures.stands c.in_ok-runtime.ensures.journal c.into_journal.ensures c.in_ok-runtime.ensures.registered (goes_of number told made.cx.parts left.cx.parts made.journal left.journal c.block_on-answer.ensures.blocked) unfull;
       run = λ unfull. run_of number made.cx.parts left.cx.parts made.journal left.journal c.into_journal.result m c.in_ok-runtime.ensures.stands c.in_ok-runtime.ensures.journal c.into_journal.ensures (goes_of number told made.cx.parts left.cx.parts made.journal left.journal c.block_on-answer.ensures.blocked) unfull;
+      full = one_long number g.F.TaskFuture made.cx made.journal left.journal c.into_journal.result c.in_ok-runtime.ensures.unfull c.into_journal.ensures c.block_on-answer.ensures.full;
     }

@@ -2,6 +2,7 @@ use Rattle.std.proofs.Common.{ap, sym, ◌∙◌, subst, None, refl}
 use Rattle.mono_machine.specs.declared.events.Act.TheVariants as act
 use Rattle.mono_machine.specs.declared.events.TurnStep.TheVariants as step
 use Rattle.mono_time.specs.Futures.{deadline_after}
+use Rattle.mono_rt.specs.Reached.{reaches_itself}
 use Rattle.mono_scripts.specs.Driven.{asked, with_handle, sleep_in, none_made}
 use Rattle.mono_script_task.specs.Segments.{Goes}
 use Rattle.mono_script_task.proofs.Going.{goes_by_none}
@@ -19,3 +20,6 @@ returns-in-None-clause-goes c = λ task k st had.
     let old = c.args.cx.now in
     subst (λ d. Goes task (with_handle d (λ d q. asked (step.Act (act.NewSleep d)) sleep_in none_made k q) (k None)) (k None) old old)
     (sym (ap (λ t. deadline_after t c.args.nanos) (sym c.now.ensures) ∙ c.in-None.ensures.none)) (goes_by_none task (k None) old old refl refl)
+
+pub returns-in-None-clause-reached : goal.returns-in-None-clause-reached
+returns-in-None-clause-reached c = reaches_itself (λ n. n) c.args.cx.now

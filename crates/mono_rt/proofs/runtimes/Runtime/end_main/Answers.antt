@@ -10,51 +10,39 @@ use Rattle.mono_rt.specs.Journals.{Does, IsStep}
 use Rattle.mono_rt.specs.Numbered.{drop_numbered}
 use Rattle.mono_rt.specs.Rounds.{IsDrop, DropsFor}
 use Rattle.mono_rt.proofs.Calling.{with_all}
-use Rattle.mono_rt.proofs.Going.{goes_of, goes_nowhere, does_stay, does_drop}
+use Rattle.mono_rt.proofs.Going.{does_stay, does_drop}
 use Rattle.mono_rt.proofs.Doing.{stay_on, does_more, drops_for}
 use Rattle.mono_rt.proofs.Telling.{tells_nothing, tells_one, telling_on}
 use Rattle.mono_rt.specs.declared.journals.Entry.TheVariants.{Ran}
 use Rattle.mono_rt.proofs.runtimes.Runtime.end_main.Goals as goal
 
-pub returns-in-Ok-answer-clause-dropped : goal.returns-in-Ok-answer-clause-dropped
-returns-in-Ok-answer-clause-dropped g c =
+pub returns-in-Ok-clause-dropped : goal.returns-in-Ok-clause-dropped
+returns-in-Ok-clause-dropped g c =
     let number = g.O.Outcome.output_number in
     let parts = c.args.self.now.cx.parts in
     let after = with_all number hosting_of parts c.drop_join-answer.new.self parts.timers parts.acts in
-    let step = IsStep (event.Act (act.DropJoin c.args.main)) (report.Reply (reply.Dropped (option_map number c.in-Ok-answer.output))) in
-    drops_for number c.args.main (option_map number c.in-Ok-answer.output) parts after c.args.self.now.journal c.push.new.self
-    (stay_on number step parts parts after c.args.self.now.journal c.reserve.new.self c.push.new.self
-    (does_stay number parts parts c.args.self.now.journal c.reserve.new.self refl refl refl refl c.reserve.ensures.entries c.reserve.ensures.full)
-    (subst (λ r. Does number (IsStep (event.Act (act.DropJoin c.args.main)) (report.Reply r)) parts after c.reserve.new.self c.push.new.self) (c.drop_reply_of-reply.ensures ∙ ap (λ a. drop_reply (drop_numbered number a)) c.in-Ok-answer.is)
-    (does_drop number parts after c.reserve.new.self c.push.new.self c.args.main c.drop_reply_of-reply.result c.push.ensures.entries c.push.ensures.full
+    let step = IsStep (event.Act (act.DropJoin c.args.main)) (report.Reply (reply.Dropped (option_map number c.in-Ok.output))) in
+    drops_for number c.args.main (option_map number c.in-Ok.output) parts after c.args.self.now.journal c.push.new.self
+    (stay_on number step parts parts after c.args.self.now.journal c.release.new.self c.push.new.self
+    (does_stay number parts parts c.args.self.now.journal c.release.new.self refl refl refl refl c.release.ensures.entries c.release.ensures.full)
+    (subst (λ r. Does number (IsStep (event.Act (act.DropJoin c.args.main)) (report.Reply r)) parts after c.release.new.self c.push.new.self) (c.drop_reply_of-reply.ensures ∙ ap (λ a. drop_reply (drop_numbered number a)) c.in-Ok.is)
+    (does_drop number parts after c.release.new.self c.push.new.self c.args.main c.drop_reply_of-reply.result c.push.ensures.entries c.push.ensures.full
     (c.drop_reply_of-reply.ensures ∙ ap (λ a. drop_reply (drop_numbered number a)) c.drop_join-answer.ensures.answer) c.drop_join-answer.ensures.after refl refl refl)))
 
-pub returns-in-Ok-answer-clause-goes : goal.returns-in-Ok-answer-clause-goes
-returns-in-Ok-answer-clause-goes g c = goes_of g.O.Outcome.output_number (DropsFor c.args.main (option_map g.O.Outcome.output_number c.in-Ok-answer.output)) c.args.self.now.cx.parts (with_all g.O.Outcome.output_number hosting_of c.args.self.now.cx.parts c.drop_join-answer.new.self c.args.self.now.cx.parts.timers c.args.self.now.cx.parts.acts) c.args.self.now.journal c.push.new.self (returns-in-Ok-answer-clause-dropped g c)
-
-pub returns-in-Err-answer-clause-dropped : goal.returns-in-Err-answer-clause-dropped
-returns-in-Err-answer-clause-dropped g c =
+pub returns-in-Err-clause-dropped : goal.returns-in-Err-clause-dropped
+returns-in-Err-clause-dropped g c =
     let number = g.O.Outcome.output_number in
     let parts = c.args.self.now.cx.parts in
-    stay_on number (IsDrop c.args.main) parts parts _ c.args.self.now.journal c.reserve.new.self c.push.new.self
-    (does_stay number parts parts c.args.self.now.journal c.reserve.new.self refl refl refl refl c.reserve.ensures.entries c.reserve.ensures.full)
-    (does_more number _ (IsDrop c.args.main) parts _ c.reserve.new.self c.push.new.self (λ m new xs zs stm stn is. (c.drop_reply_of-reply.result, is))
-    (does_drop number parts _ c.reserve.new.self c.push.new.self c.args.main c.drop_reply_of-reply.result c.push.ensures.entries c.push.ensures.full
+    stay_on number (IsDrop c.args.main) parts parts _ c.args.self.now.journal c.release.new.self c.push.new.self
+    (does_stay number parts parts c.args.self.now.journal c.release.new.self refl refl refl refl c.release.ensures.entries c.release.ensures.full)
+    (does_more number _ (IsDrop c.args.main) parts _ c.release.new.self c.push.new.self (λ m new xs zs stm stn is. (c.drop_reply_of-reply.result, is))
+    (does_drop number parts _ c.release.new.self c.push.new.self c.args.main c.drop_reply_of-reply.result c.push.ensures.entries c.push.ensures.full
     (c.drop_reply_of-reply.ensures ∙ ap (λ a. drop_reply (drop_numbered number a)) c.drop_join-answer.ensures.answer) c.drop_join-answer.ensures.after refl refl refl))
 
-pub returns-in-Err-answer-clause-goes : goal.returns-in-Err-answer-clause-goes
-returns-in-Err-answer-clause-goes g c = goes_of g.O.Outcome.output_number (IsDrop c.args.main) c.args.self.now.cx.parts _ c.args.self.now.journal c.push.new.self (returns-in-Err-answer-clause-dropped g c)
-
-pub returns-in-Err-clause-goes : goal.returns-in-Err-clause-goes
-returns-in-Err-clause-goes g c = goes_nowhere g.O.Outcome.output_number c.args.self.now.cx.parts c.args.self.now.cx.parts c.args.self.now.journal c.reserve.new.self refl refl refl refl c.reserve.ensures.entries c.reserve.ensures.full
-
-pub returns-in-Ok-answer-clause-told : goal.returns-in-Ok-answer-clause-told
-returns-in-Ok-answer-clause-told g c = λ course. telling_on {j = c.reserve.new.self} (tells_nothing refl refl c.reserve.ensures.entries c.reserve.ensures.full)
-    (tells_one course (Ran (event.Act (act.DropJoin c.args.main)) (report.Reply c.drop_reply_of-reply.result)) refl (_, (course, ((refl, refl), (refl, refl)))) c.push.ensures.entries c.push.ensures.full)
-
-pub returns-in-Err-answer-clause-told : goal.returns-in-Err-answer-clause-told
-returns-in-Err-answer-clause-told g c = λ course. telling_on {j = c.reserve.new.self} (tells_nothing refl refl c.reserve.ensures.entries c.reserve.ensures.full)
+pub returns-in-Ok-clause-told : goal.returns-in-Ok-clause-told
+returns-in-Ok-clause-told g c = λ course. telling_on {j = c.release.new.self} (tells_nothing refl refl c.release.ensures.entries c.release.ensures.full)
     (tells_one course (Ran (event.Act (act.DropJoin c.args.main)) (report.Reply c.drop_reply_of-reply.result)) refl (_, (course, ((refl, refl), (refl, refl)))) c.push.ensures.entries c.push.ensures.full)
 
 pub returns-in-Err-clause-told : goal.returns-in-Err-clause-told
-returns-in-Err-clause-told g c = λ course. tells_nothing refl refl c.reserve.ensures.entries c.reserve.ensures.full
+returns-in-Err-clause-told g c = λ course. telling_on {j = c.release.new.self} (tells_nothing refl refl c.release.ensures.entries c.release.ensures.full)
+    (tells_one course (Ran (event.Act (act.DropJoin c.args.main)) (report.Reply c.drop_reply_of-reply.result)) refl (_, (course, ((refl, refl), (refl, refl)))) c.push.ensures.entries c.push.ensures.full)

@@ -1,7 +1,7 @@
 use Rattle.std.proofs.Common.{refl, [], ◌∷◌, ◌∙◌, sym}
 use Rattle.mono_rt.specs.Journals.{IsReading}
 use Rattle.mono_rt.specs.declared.journals.Entry.TheVariants.{Now}
-use Rattle.mono_rt.proofs.Going.{goes_of, does_stay, does_past, pushed_open}
+use Rattle.mono_rt.proofs.Going.{goes_of, goes_nowhere, does_stay, does_past, pushed_open}
 use Rattle.mono_rt.proofs.Doing.{stay_on}
 use Rattle.mono_rt.specs.Telling.{going}
 use Rattle.mono_rt.proofs.Telling.{tells_nothing, tells_one, telling_on, read_at}
@@ -46,3 +46,9 @@ returns-in-Ok-with_room-clause-at g c =
     (does_stay number parts parts c.args.self.now.journal c.reserve.new.self refl refl refl refl c.reserve.ensures.entries c.reserve.ensures.full)
     (does_past number (ReadsAt (nanos_of c.now-now.result)) parts c.reserve.new.self c.push.new.self (Now n ∷ []) (λ unfull. c.push.ensures.entries ∙ pushed_open c.reserve.new.self (Now n) (sym c.push.ensures.full ∙ unfull)) c.push.ensures.full (λ m. refl) (λ m st. (refl, λ s. refl))
     (λ m st rest. (ap (λ x. Now x ∷ rest) c.as_nanos.ensures, refl)))
+
+pub returns-in-Err-clause-goes : goal.returns-in-Err-clause-goes
+returns-in-Err-clause-goes g c = goes_nowhere g.O.Outcome.output_number c.args.self.now.cx.parts c.args.self.now.cx.parts c.args.self.now.journal c.reserve.new.self refl refl refl refl c.reserve.ensures.entries c.reserve.ensures.full
+
+pub returns-in-Err-with_room-clause-goes : goal.returns-in-Err-with_room-clause-goes
+returns-in-Err-with_room-clause-goes g c = goes_nowhere g.O.Outcome.output_number c.args.self.now.cx.parts c.args.self.now.cx.parts c.args.self.now.journal c.reserve.new.self refl refl refl refl c.reserve.ensures.entries c.reserve.ensures.full

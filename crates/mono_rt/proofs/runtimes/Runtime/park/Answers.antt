@@ -8,7 +8,7 @@ use Rattle.mono_rt.specs.Journals.{Does, WaitsForNext}
 use Rattle.mono_rt.proofs.Registering.{parked_registers}
 use Rattle.mono_rt.specs.Rounds.{IsPark, IsWait}
 use Rattle.mono_rt.specs.declared.journals.Entry.TheVariants.{Now, Park}
-use Rattle.mono_rt.proofs.Going.{goes_of, does_stay, does_past}
+use Rattle.mono_rt.proofs.Going.{goes_of, does_stay, does_past, goes_nowhere}
 use Rattle.mono_rt.proofs.Doing.{stay_on, two_pushed}
 use Rattle.mono_rt.specs.Telling.{going, after_park}
 use Rattle.mono_rt.proofs.Telling.{tells_nothing, tells_one, telling_on, read_at}
@@ -53,3 +53,6 @@ returns-in-Ok-clause-told g c =
 
 pub returns-in-Err-clause-told : goal.returns-in-Err-clause-told
 returns-in-Err-clause-told g c = tells_nothing refl refl c.reserve.ensures.entries c.reserve.ensures.full
+
+pub returns-in-Err-clause-goes : goal.returns-in-Err-clause-goes
+returns-in-Err-clause-goes g c = goes_nowhere g.O.Outcome.output_number c.args.self.now.cx.parts c.args.self.now.cx.parts c.args.self.now.journal c.reserve.new.self refl refl refl refl c.reserve.ensures.entries c.reserve.ensures.full

@@ -1,5 +1,5 @@
 use Rattle.std.proofs.Common.{◌≡◌, cond, ℕ, ◌-◌, ◌<◌, arith, refl, ap, ◌∙◌, sym, subst}
-use Rattle.mono_rt.specs.Rounds.{Pause}
+use Rattle.mono_rt.specs.Rounds.{Pause, PauseEnds}
 use Rattle.mono_rt.proofs.Going.{goes_of, goes_on, does_led}
 use Rattle.mono_rt.proofs.Doing.{does_pass, pass_breaks}
 use Rattle.mono_rt.specs.Telling.{going}
@@ -9,6 +9,7 @@ use Rattle.std.specs.Prelude.{⊤, Ok, Err}
 use Rattle.mono_rt.specs.Journals.{Does}
 use Rattle.mono_rt.specs.Polling.{Polling}
 use Rattle.mono_rt.proofs.Polling.{polls_on, polls_pause, same_error}
+use Rattle.mono_rt.proofs.Filling.{fills_on, fills_not}
 use Rattle.mono_rt.proofs.runtimes.Runtime.pass.Goals as goal
 
 no_cost : (u k : ℕ) → 0 ≡ k → u ≡ u - k
@@ -90,3 +91,42 @@ returns-in-Ok-round-clause-polled g c =
     polls_on number g.F.TaskFuture old.cx.parts.has_timers _ _ _ old.cx.parts paused.cx.parts left.cx.parts old.journal paused.journal left.journal
     (polls_pause number g.F.TaskFuture old.cx.parts.has_timers old.cx.futures.items paused.cx.futures.items old.cx.parts.has_timers (Ok false) old.cx.parts paused.cx.parts old.journal paused.journal (ap (λ v. v.items) c.pause.ensures.futures) (rw c.in-Ok-false.is at c.pause.ensures.pauses))
     (subst (λ x. Does number (Polling number g.F.TaskFuture x paused.cx.futures.items left.cx.futures.items) paused.cx.parts left.cx.parts paused.journal left.journal) c.pause.ensures.has_timers c.in-Ok-round.ensures.polled)
+
+pub returns-in-Err-clause-full : goal.returns-in-Err-clause-full
+returns-in-Err-clause-full g c = fills_not g.O.Outcome.output_number g.F.TaskFuture c.args.self.now.cx c.args.self.now.journal c.pause.new.self.journal c.pause.ensures.full
+
+pub returns-in-Ok-clause-full : goal.returns-in-Ok-clause-full
+returns-in-Ok-clause-full g c =
+    let number = g.O.Outcome.output_number in
+    let old = c.args.self.now in
+    let paused = c.pause.new.self in
+    fills_on number g.F.TaskFuture old.cx paused.cx old.journal paused.journal c.round.new.self.journal
+    (goes_of number (PauseEnds old.cx.parts.has_timers c.pause.result) old.cx.parts paused.cx.parts old.journal paused.journal c.pause.ensures.pauses)
+    (fills_not number g.F.TaskFuture old.cx old.journal paused.journal c.pause.ensures.full) c.round.ensures.full
+
+pub returns-in-Ok-round-clause-full : goal.returns-in-Ok-round-clause-full
+returns-in-Ok-round-clause-full g c =
+    let number = g.O.Outcome.output_number in
+    let old = c.args.self.now in
+    let paused = c.pause.new.self in
+    fills_on number g.F.TaskFuture old.cx paused.cx old.journal paused.journal c.round-in-Ok-false.new.self.journal
+    (goes_of number (PauseEnds old.cx.parts.has_timers c.pause.result) old.cx.parts paused.cx.parts old.journal paused.journal c.pause.ensures.pauses)
+    (fills_not number g.F.TaskFuture old.cx old.journal paused.journal c.pause.ensures.full) c.round-in-Ok-false.ensures.full
+
+pub returns-in-Err-round-clause-full : goal.returns-in-Err-round-clause-full
+returns-in-Err-round-clause-full g c =
+    let number = g.O.Outcome.output_number in
+    let old = c.args.self.now in
+    let paused = c.pause.new.self in
+    fills_on number g.F.TaskFuture old.cx paused.cx old.journal paused.journal c.round.new.self.journal
+    (goes_of number (PauseEnds old.cx.parts.has_timers c.pause.result) old.cx.parts paused.cx.parts old.journal paused.journal c.pause.ensures.pauses)
+    (fills_not number g.F.TaskFuture old.cx old.journal paused.journal c.pause.ensures.full) c.round.ensures.full
+
+pub returns-in-Err-round-2-clause-full : goal.returns-in-Err-round-2-clause-full
+returns-in-Err-round-2-clause-full g c =
+    let number = g.O.Outcome.output_number in
+    let old = c.args.self.now in
+    let paused = c.pause.new.self in
+    fills_on number g.F.TaskFuture old.cx paused.cx old.journal paused.journal c.round-in-Ok-false.new.self.journal
+    (goes_of number (PauseEnds old.cx.parts.has_timers c.pause.result) old.cx.parts paused.cx.parts old.journal paused.journal c.pause.ensures.pauses)
+    (fills_not number g.F.TaskFuture old.cx old.journal paused.journal c.pause.ensures.full) c.round-in-Ok-false.ensures.full

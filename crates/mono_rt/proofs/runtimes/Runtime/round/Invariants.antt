@@ -2,6 +2,7 @@ use Rattle.std.proofs.Common.{◌≡◌, None}
 use Rattle.mono_rt.specs.Journals.{Goes, Does}
 use Rattle.mono_rt.specs.Rounds.{Turns}
 use Rattle.mono_rt.specs.Polling.{Polling}
+use Rattle.mono_rt.specs.Filling.{Fills}
 use Rattle.mono_rt.specs.Telling.{telling, Telling, Still, going}
 use Rattle.mono_rt.proofs.runtimes.Runtime.round.Given as goal
 
@@ -14,3 +15,5 @@ invariant-loop-done g l = Goes g.O.Outcome.output_number l.initial.self.cx.parts
     × Telling (Still going) (telling (g.D.Clock.readings l.initial.self.driver) (g.D.Clock.time l.initial.self.driver) (g.D.Clock.parks l.initial.self.driver)) going l.initial.self.journal l.self.journal
     (telling (g.D.Clock.readings l.self.driver) (g.D.Clock.time l.self.driver) (g.D.Clock.parks l.self.driver))
     × Does g.O.Outcome.output_number (Polling g.O.Outcome.output_number g.F.TaskFuture l.initial.self.cx.parts.has_timers l.initial.self.cx.futures.items l.self.cx.futures.items) l.initial.self.cx.parts l.self.cx.parts l.initial.self.journal l.self.journal
+    × Fills g.O.Outcome.output_number g.F.TaskFuture l.initial.self.cx l.initial.self.journal l.self.journal
+    × (l.self.journal.entries.held ≡ l.initial.self.journal.entries.held)

@@ -1,5 +1,6 @@
 use Rattle.std.proofs.Common.{◌≡◌, refl, true, false, Bool, arith, ap, ◌∙◌, sym, subst}
-use Rattle.mono_rt.proofs.Going.{does_led}
+use Rattle.mono_rt.specs.Rounds.{Rounds}
+use Rattle.mono_rt.proofs.Going.{does_led, goes_of}
 use Rattle.mono_rt.proofs.Doing.{does_first, passes_more, ends_done, ends_turns, ends_by}
 use Rattle.mono_rt.proofs.runtimes.Runtime.run.Goals.{then-loop-units-test+else-not-has_output, else-loop-units-test}
 use Rattle.mono_rt.specs.Telling.{going}
@@ -8,6 +9,7 @@ use Rattle.std.specs.Prelude.{⊤, Err}
 use Rattle.mono_rt.specs.Journals.{Does}
 use Rattle.mono_rt.specs.Polling.{Polling}
 use Rattle.mono_rt.proofs.Polling.{polls_on, same_error, on_main}
+use Rattle.mono_rt.proofs.Filling.{fills_on}
 use Rattle.mono_rt.proofs.runtimes.Runtime.run.Goals as goal
 
 both : (b : Bool) → true ≡ b → false ≡ b → ⊥
@@ -23,6 +25,8 @@ loop-units-init g c = (
   c.round.ensures.has_timers,
   c.round.ensures.told,
   c.in-Ok.ensures.polled,
+  c.round.ensures.full,
+  c.round.ensures.held,
 )
 
 pub loop-units-preserved : goal.loop-units-preserved
@@ -34,6 +38,9 @@ loop-units-preserved g c = (
   telling_on {q = going} c.loop-units.invariant.3 (rw c.in-Ok-pass.is at c.pass.ensures.told),
   polls_on g.O.Outcome.output_number g.F.TaskFuture c.args.self.now.cx.parts.has_timers _ _ _ c.args.self.now.cx.parts c.loop-units.self.cx.parts c.pass.new.self.cx.parts c.args.self.now.journal c.loop-units.self.journal c.pass.new.self.journal c.loop-units.invariant.4
       (subst (λ x. Does g.O.Outcome.output_number (Polling g.O.Outcome.output_number g.F.TaskFuture x c.loop-units.self.cx.futures.items c.pass.new.self.cx.futures.items) c.loop-units.self.cx.parts c.pass.new.self.cx.parts c.loop-units.self.journal c.pass.new.self.journal) c.loop-units.invariant.2 (rw c.in-Ok-pass.is at c.pass.ensures.polled)),
+  fills_on g.O.Outcome.output_number g.F.TaskFuture c.args.self.now.cx c.loop-units.self.cx c.args.self.now.journal c.loop-units.self.journal c.pass.new.self.journal
+      (goes_of g.O.Outcome.output_number (Rounds c.args.self.now.cx.parts.has_timers c.args.main c.args.turns c.loop-units.units) c.args.self.now.cx.parts c.loop-units.self.cx.parts c.args.self.now.journal c.loop-units.self.journal c.loop-units.invariant.0) c.loop-units.invariant.5 c.pass.ensures.full,
+  c.pass.ensures.held ∙ c.loop-units.invariant.6,
 )
 
 pub returns-in-Err-pass-clause-ends : goal.returns-in-Err-pass-clause-ends
@@ -86,3 +93,17 @@ returns-then-has_output-clause-polled g c = c.loop-units.invariant.4
 
 pub returns-else-has_output-clause-polled : goal.returns-else-has_output-clause-polled
 returns-else-has_output-clause-polled g c = c.loop-units.invariant.4
+
+pub returns-in-Err-pass-clause-full : goal.returns-in-Err-pass-clause-full
+returns-in-Err-pass-clause-full g c =
+    fills_on g.O.Outcome.output_number g.F.TaskFuture c.args.self.now.cx c.loop-units.self.cx c.args.self.now.journal c.loop-units.self.journal c.pass.new.self.journal
+    (goes_of g.O.Outcome.output_number (Rounds c.args.self.now.cx.parts.has_timers c.args.main c.args.turns c.loop-units.units) c.args.self.now.cx.parts c.loop-units.self.cx.parts c.args.self.now.journal c.loop-units.self.journal c.loop-units.invariant.0) c.loop-units.invariant.5 c.pass.ensures.full
+
+pub returns-then-has_output-clause-full : goal.returns-then-has_output-clause-full
+returns-then-has_output-clause-full g c = c.loop-units.invariant.5
+
+pub returns-else-has_output-clause-full : goal.returns-else-has_output-clause-full
+returns-else-has_output-clause-full g c = c.loop-units.invariant.5
+
+pub returns-in-Err-clause-full : goal.returns-in-Err-clause-full
+returns-in-Err-clause-full g c = c.round.ensures.full

@@ -2,6 +2,7 @@ use Rattle.std.proofs.Common.{◌≡◌, ◌<◌, ◌≤◌, ℕ, None, length}
 use Rattle.mono_rt.specs.Journals.{Does}
 use Rattle.mono_rt.specs.Rounds.{Rounds}
 use Rattle.mono_rt.specs.Polling.{Polling}
+use Rattle.mono_rt.specs.Filling.{Fills}
 use Rattle.mono_rt.specs.Telling.{telling, Telling, Still, going}
 use Rattle.mono_rt.proofs.runtimes.Runtime.run.Given as goal
 
@@ -12,6 +13,8 @@ invariant-loop-units g l = Does g.O.Outcome.output_number (Rounds l.fn.self.cx.p
     × Telling (Still going) (telling (g.D.Clock.readings l.fn.self.driver) (g.D.Clock.time l.fn.self.driver) (g.D.Clock.parks l.fn.self.driver)) going l.fn.self.journal l.self.journal
     (telling (g.D.Clock.readings l.self.driver) (g.D.Clock.time l.self.driver) (g.D.Clock.parks l.self.driver))
     × Does g.O.Outcome.output_number (Polling g.O.Outcome.output_number g.F.TaskFuture l.fn.self.cx.parts.has_timers l.fn.self.cx.futures.items l.self.cx.futures.items) l.fn.self.cx.parts l.self.cx.parts l.fn.self.journal l.self.journal
+    × Fills g.O.Outcome.output_number g.F.TaskFuture l.fn.self.cx l.fn.self.journal l.self.journal
+    × (l.self.journal.entries.held ≡ l.fn.self.journal.entries.held)
 
 -- each pass spends a unit
 abbrev pub decreases-loop-units : goal.decreases-loop-units

@@ -34,30 +34,30 @@ returns-in-Ok-clause-spawned g c =
     let old = c.args.self.now in
     let opened = c.open_spawn.new.self in
     let made = with_all number hosting_of opened.cx.parts c.spawn.new.self opened.cx.parts.timers opened.cx.parts.acts in
-    subst (λ p. Does number (IsSpawn c.in-Ok.t) old.cx.parts p old.journal c.push.new.self) (sym c.put_future.ensures.parts)
-    (stay_on number (IsSpawn c.in-Ok.t) old.cx.parts opened.cx.parts made old.journal opened.journal c.push.new.self c.open_spawn.ensures.stays
-    (does_spawn number opened.cx.parts made opened.journal c.push.new.self c.in-Ok.t c.push.ensures.entries c.push.ensures.full
+    subst (λ p. Does number (IsSpawn c.in-Ok.t) old.cx.parts p old.journal c.push_and_hold.new.self) (sym c.put_future.ensures.parts)
+    (stay_on number (IsSpawn c.in-Ok.t) old.cx.parts opened.cx.parts made old.journal opened.journal c.push_and_hold.new.self c.open_spawn.ensures.stays
+    (does_spawn number opened.cx.parts made opened.journal c.push_and_hold.new.self c.in-Ok.t c.push_and_hold.ensures.entries c.push_and_hold.ensures.full
     (not_true _ (λ e. not_both c.spawn.result c.in-Ok.t c.in-Ok.is (c.spawn.ensures.full.1 e))) c.in-Ok.ensures.number c.in-Ok.ensures.after refl refl refl))
 
 pub returns-in-Ok-clause-goes : goal.returns-in-Ok-clause-goes
-returns-in-Ok-clause-goes g c = goes_of g.O.Outcome.output_number (IsSpawn c.in-Ok.t) c.args.self.now.cx.parts c.put_future.new.self.parts c.args.self.now.journal c.push.new.self (returns-in-Ok-clause-spawned g c)
+returns-in-Ok-clause-goes g c = goes_of g.O.Outcome.output_number (IsSpawn c.in-Ok.t) c.args.self.now.cx.parts c.put_future.new.self.parts c.args.self.now.journal c.push_and_hold.new.self (returns-in-Ok-clause-spawned g c)
 
 pub returns-in-Err-AtCapacity-clause-refused : goal.returns-in-Err-AtCapacity-clause-refused
 returns-in-Err-AtCapacity-clause-refused g c =
     let number = g.O.Outcome.output_number in
     let opened = c.open_spawn.new.self in
-    stay_on number IsRefused c.args.self.now.cx.parts opened.cx.parts _ c.args.self.now.journal opened.journal c.push-in-Err-AtCapacity.new.self c.open_spawn.ensures.stays
-    (does_full number opened.cx.parts _ opened.journal c.push-in-Err-AtCapacity.new.self c.push-in-Err-AtCapacity.ensures.entries c.push-in-Err-AtCapacity.ensures.full
+    stay_on number IsRefused c.args.self.now.cx.parts opened.cx.parts _ c.args.self.now.journal opened.journal c.push.new.self c.open_spawn.ensures.stays
+    (does_full number opened.cx.parts _ opened.journal c.push.new.self c.push.ensures.entries c.push.ensures.full
     (c.spawn.ensures.full.0 (c.in-Err-AtCapacity.is ∙ ap failed c.in-Err-AtCapacity.field-0-is)) (rw c.in-Err-AtCapacity.is at c.spawn.ensures.refused) refl refl refl)
 
 pub returns-in-Err-AtCapacity-clause-goes : goal.returns-in-Err-AtCapacity-clause-goes
-returns-in-Err-AtCapacity-clause-goes g c = goes_of g.O.Outcome.output_number IsRefused c.args.self.now.cx.parts _ c.args.self.now.journal c.push-in-Err-AtCapacity.new.self (returns-in-Err-AtCapacity-clause-refused g c)
+returns-in-Err-AtCapacity-clause-goes g c = goes_of g.O.Outcome.output_number IsRefused c.args.self.now.cx.parts _ c.args.self.now.journal c.push.new.self (returns-in-Err-AtCapacity-clause-refused g c)
 
 pub returns-in-Ok-clause-told : goal.returns-in-Ok-clause-told
-returns-in-Ok-clause-told g c = telling_on c.open_spawn.ensures.told (tells_one going (Ran (event.Act act.Spawn) (report.Reply (reply.Task c.in-Ok.t))) refl (_, (going, ((refl, refl), (refl, refl)))) c.push.ensures.entries c.push.ensures.full)
+returns-in-Ok-clause-told g c = telling_on c.open_spawn.ensures.told (tells_one going (Ran (event.Act act.Spawn) (report.Reply (reply.Task c.in-Ok.t))) refl (_, (going, ((refl, refl), (refl, refl)))) c.push_and_hold.ensures.entries c.push_and_hold.ensures.full)
 
 pub returns-in-Err-AtCapacity-clause-told : goal.returns-in-Err-AtCapacity-clause-told
-returns-in-Err-AtCapacity-clause-told g c = telling_on c.open_spawn.ensures.told (tells_one going (Ran (event.Act act.Spawn) (report.Reply (reply.Refused refusal.AtCapacity))) refl (_, (going, ((refl, refl), (refl, refl)))) c.push-in-Err-AtCapacity.ensures.entries c.push-in-Err-AtCapacity.ensures.full)
+returns-in-Err-AtCapacity-clause-told g c = telling_on c.open_spawn.ensures.told (tells_one going (Ran (event.Act act.Spawn) (report.Reply (reply.Refused refusal.AtCapacity))) refl (_, (going, ((refl, refl), (refl, refl)))) c.push.ensures.entries c.push.ensures.full)
 
 pub returns-in-Ok-clause-made : goal.returns-in-Ok-clause-made
 returns-in-Ok-clause-made g c = c.put_future.ensures.futures ∙ ap (λ xs. xs ++ Some c.args.future ∷ []) c.open_spawn.ensures.futures

@@ -28,4 +28,5 @@ loop-t-preserved g c =
       omega (arith, c.loop-t-test.true, told.places (length taken - i) (omega (arith, c.loop-t-test.true, before.5))),
       omega (arith, c.loop-t-test.true, told.len, told.capacity, before.6),
       told.driver ∙ before.7,
+      told.held ∙ before.8,
     )

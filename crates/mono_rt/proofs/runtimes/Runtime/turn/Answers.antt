@@ -7,6 +7,7 @@ use Rattle.mono_rt.proofs.Telling.{telling_on, tells_kept, same_told}
 use Rattle.std.proofs.Common.{refl, ap, sym, subst, ◌∙◌}
 use Rattle.mono_rt.specs.Turns.{Turn}
 use Rattle.mono_rt.proofs.Polling.{polls_turn}
+use Rattle.mono_rt.proofs.Filling.{fills_turn}
 use Rattle.mono_rt.proofs.runtimes.Runtime.turn.Goals as goal
 
 pub returns-then-self-clause-goes : goal.returns-then-self-clause-goes
@@ -52,3 +53,17 @@ returns-clause-polled g c =
     (does_turn number opened.cx.parts done.parts left.cx.parts opened.journal left.journal _ _ _ c.turn-task.ensures.is c.keep_turn.ensures.kept
     (λ m st. same_machine number hosting_of done.parts left.cx.parts m c.keep_turn.ensures.tasks c.keep_turn.ensures.timers c.keep_turn.ensures.has_timers c.keep_turn.ensures.blocking st) c.keep_turn.ensures.timers)
     (λ unfull. (c.keep_turn.ensures.kept unfull).1) refl (sym c.keep_turn.ensures.memory ∙ c.if-self.false) (ap (λ v. v.items) c.keep_turn.ensures.futures)
+
+pub returns-then-self-clause-full : goal.returns-then-self-clause-full
+returns-then-self-clause-full g c =
+    let old = c.args.self.now in
+    let opened = c.open_turn.new.self in
+    fills_turn g.O.Outcome.output_number g.F.TaskFuture old.cx opened.cx c.turn-task.new.self old.journal opened.journal c.keep_turn.new.self.journal _ _ _ _ _
+    c.open_turn.ensures.goes c.open_turn.ensures.full c.in-Some.ensures.acts c.turn-task.ensures.turn c.turn-task.ensures.is c.keep_turn.ensures.full
+
+pub returns-clause-full : goal.returns-clause-full
+returns-clause-full g c =
+    let old = c.args.self.now in
+    let opened = c.open_turn.new.self in
+    fills_turn g.O.Outcome.output_number g.F.TaskFuture old.cx opened.cx c.turn-task.new.self old.journal opened.journal c.keep_turn.new.self.journal _ _ _ _ _
+    c.open_turn.ensures.goes c.open_turn.ensures.full c.in-Some.ensures.acts c.turn-task.ensures.turn c.turn-task.ensures.is c.keep_turn.ensures.full
