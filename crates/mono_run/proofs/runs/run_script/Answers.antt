@@ -1,4 +1,4 @@
-use Rattle.std.proofs.Common.{◌≡◌, false, true, [], length, IfOk, refl, sym, ap, subst, ◌∙◌}
+use Rattle.std.proofs.Common.{◌≡◌, ℕ, false, true, [], length, IfOk, refl, sym, ap, subst, ◌∙◌}
 use Rattle.mono_machine.specs.Machine.{Machine, start_machine}
 use Rattle.mono_machine.specs.declared.events.Blocking.TheVariants as strategy
 use Rattle.mono_rt.specs.Numbered.{answer_numbered}
@@ -7,7 +7,7 @@ use Rattle.mono_rt.proofs.Doing.{relation_of}
 use Rattle.mono_rt.specs.Telling.{telling, IsTold}
 use Rattle.mono_rt.proofs.Telling.{told_in}
 use Rattle.mono_script_task.specs.Driving.{readings_of, time_of, parks_of}
-use Rattle.mono_rt.specs.Polling.{PollsMain}
+use Rattle.mono_rt.specs.Polling.{PollsMain, OnMain}
 use Rattle.mono_rt.proofs.Polling.{on_main}
 use Rattle.mono_scripts.specs.Script.{Script, IsSound}
 use Rattle.mono_run.specs.Told.{Ran, RunsScript, RanBy, told_first}
@@ -63,7 +63,7 @@ returns-clause-driven g c =
     let blocked : j.is_full ≡ false → (new : Machine) × Blocked true c.args.turns answer m j.entries.items new [] = λ unfull.
     subst (λ h. (new : Machine) × Blocked h c.args.turns answer m j.entries.items new []) c.in_ok-runtime.ensures.timers
     (relation_of (λ n. n) (Blocked made.cx.parts.has_timers c.args.turns answer) made.cx.parts left.cx.parts made.journal left.journal j m c.in_ok-runtime.ensures.stands c.in_ok-runtime.ensures.journal c.journal.ensures c.block_on-answer.ensures.blocked unfull) in
-    let polled = λ unfull. on_main {X = ℕ} c.block_on-answer.result _ _
+    let polled : j.is_full ≡ false → OnMain c.block_on-answer.result ((new : Machine) × PollsMain (λ n. n) _ true c.new-main.result [] left.cx.futures.items m j.entries.items new []) = λ unfull. on_main {X = ℕ} c.block_on-answer.result _ _
     (λ does. subst (λ h. (new : Machine) × PollsMain (λ n. n) _ h c.new-main.result [] left.cx.futures.items m j.entries.items new []) c.in_ok-runtime.ensures.timers
     (subst (λ fs. (new : Machine) × PollsMain (λ n. n) _ made.cx.parts.has_timers c.new-main.result fs left.cx.futures.items m j.entries.items new []) c.in_ok-runtime.ensures.futures
     (relation_of (λ n. n) _ made.cx.parts left.cx.parts made.journal left.journal j m c.in_ok-runtime.ensures.stands c.in_ok-runtime.ensures.journal c.journal.ensures does unfull))) c.block_on-answer.ensures.polled in
