@@ -10,6 +10,7 @@ use Rattle.mono_script_task.specs.Driving.{readings_of, time_of, parks_of}
 use Rattle.mono_rt.specs.Polling.{PollsMain, OnMain}
 use Rattle.mono_rt.proofs.Polling.{on_main}
 use Rattle.mono_scripts.specs.Script.{Script, IsSound}
+use Rattle.mono_script_task.specs.Turning.{no_own}
 use Rattle.mono_run.specs.Told.{Ran, RunsScript, RanBy, told_first}
 use Rattle.mono_run.proofs.Blocking.{told_ran, told_reads, told_driven, driven_by}
 use Rattle.mono_run.proofs.runs.run_script.Goals as goal
@@ -69,5 +70,5 @@ returns-clause-driven g c =
     (relation_of (λ n. n) _ made.cx.parts left.cx.parts made.journal left.journal j m c.in_ok-runtime.ensures.stands c.in_ok-runtime.ensures.journal c.journal.ensures does unfull))) c.block_on-answer.ensures.polled in
     subst (λ x. IfOk c.told_of-told.result (λ run. IsSound (length x.kinds) x → RunsScript c.args.workers readings x c.args.turns run.end run.text.items)) c.script.view_is
     (told_driven c.args.workers readings c.told_of-told.result s c.args.turns j c.block_on-answer.result blocked tells
-    (λ unfull e is sound. driven_by _ (λ f. refl) (λ f x a l d p. p) (λ f x d p. p) e s c.args.turns c.new-main.result left.cx.futures.items c.block_on-answer.result j.entries.items is refl refl sound (polled unfull) (blocked unfull))
+    (λ unfull e is sound. driven_by _ (λ f. refl) (λ f x a l d p. p) (λ f x d p. p) e s c.args.turns c.new-main.result left.cx.futures.items c.block_on-answer.result j.entries.items is (c.new-main.ensures ∙ ap (λ k. record { kinds = k; kind = 0; at = 0; own = no_own }) (sym (ap (λ f. f.kinds) c.new-main.ensures))) (ap (λ f. f.kinds.now) c.new-main.ensures) sound (polled unfull) (blocked unfull))
     c.told_of-told.ensures.answer c.told_of-told.ensures.kept c.told_of-told.ensures.text)
