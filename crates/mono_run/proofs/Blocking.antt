@@ -1,5 +1,5 @@
 -- What was told of a run is what the runtime's call tells.
-use Rattle.std.proofs.Common.{◌≡◌, ℕ, zero, suc, true, false, List, [], map, Option, Some, None, Result, Ok, Err, IfOk, OnOk, refl, sym, subst, arith}
+use Rattle.std.proofs.Common.{◌≡◌, ℕ, zero, suc, true, false, List, [], length, map, Option, Some, None, Result, Ok, Err, IfOk, OnOk, refl, sym, subst, arith}
 use Rattle.mono_machine.specs.Machine.{Machine, start_machine}
 use Rattle.mono_machine.specs.declared.events.Limits.{Limits}
 use Rattle.mono_machine.specs.declared.events.Blocking.TheVariants as strategy
@@ -11,7 +11,16 @@ use Rattle.mono_scripts.specs.Journal.{journal_text}
 use Rattle.mono_rt.specs.Telling.{Told, Course, going, Tells, IsTold, EndsSo}
 use Rattle.mono_rt.specs.declared.journals.Entry.{Entry}
 use Rattle.mono_rt.proofs.Readings.{in_order, sums_from}
-use Rattle.mono_run.specs.Told.{Ran, RanBy, ReadsSo, told_first, answer_of, told}
+use Rattle.mono_model.specs.declared.poll.Poll.{Poll}
+use Rattle.mono_task.specs.Members.{FutureOf}
+use Rattle.mono_rt.specs.Polling.{PollsMain, OnMain}
+use Rattle.mono_rt.specs.declared.contexts.Cx.{Cx}
+use Rattle.mono_scripts.specs.Driven.{Driven}
+use Rattle.mono_scripts.specs.Script.{Script, IsSound}
+use Rattle.mono_script_task.specs.Turning.{new_task, PollsTask}
+use Rattle.mono_script_task.specs.declared.tasks.ScriptTask.{ScriptTask}
+use Rattle.mono_run.proofs.Driven.{driven_main}
+use Rattle.mono_run.specs.Told.{Ran, RunsScript, RanBy, ReadsSo, told_first, answer_of, told}
 use Rattle.mono_run.specs.declared.runs.RunEnd.{RunEnd}
 use Rattle.mono_run.specs.declared.runs.RunEnd.TheVariants as ran
 use Rattle.mono_run.specs.declared.runs.ScriptRun.{ScriptRun}
@@ -48,17 +57,51 @@ reads_so zero readings new part tells = sums_from (told_first zero readings) new
 reads_so (suc n) None new part tells = tt
 reads_so (suc n) (Some readings) new part tells = in_order (told_first (suc n) (Some readings)) new going going readings part refl tells
 
+made_reads : (workers : ℕ) (readings : Option (List ℕ)) (run : ScriptRun) (limits : Limits) (turns : ℕ) (j : Journal) (answer : Result ℕ RunError)
+    → ((new : Machine) × Blocked true turns (answer_numbered (λ n. n) answer) (start_machine limits strategy.Attached) j.entries.items new [])
+    → IsTold answer (told_first workers readings) j.entries.items
+    → answer ≡ answer_of run.end → run.text.items ≡ journal_text (map told j.entries.items) (output_in (answer_of run.end))
+    → (made : RanBy workers readings limits turns run.end run.text.items) × (made.ran.entries ≡ j.entries.items)
+made_reads workers readings run limits turns j answer b t is text =
+    let w = whole run limits turns j answer b is text in
+    (record {
+      ran = w.0;
+      reads = subst (ReadsSo workers readings) (sym w.1) (reads_so workers readings t.new j.entries.items
+          (subst (λ x. Tells (told_first workers readings) going j.entries.items t.new x) (going_by run.end t.after (subst (λ a. EndsSo a t.after) is t.ends)) t.tells));
+    }, w.1)
+
 pub told_reads : {E : Type 0} (workers : ℕ) (readings : Option (List ℕ)) (r : Result ScriptRun E) (limits : Limits) (turns : ℕ) (j : Journal) (answer : Result ℕ RunError)
     → (j.is_full ≡ false → (new : Machine) × Blocked true turns (answer_numbered (λ n. n) answer) (start_machine limits strategy.Attached) j.entries.items new [])
     → (j.is_full ≡ false → IsTold answer (told_first workers readings) j.entries.items)
     → IfOk r (λ run. answer ≡ answer_of run.end) → OnOk r (j.is_full ≡ false) → IfOk r (λ run. run.text.items ≡ journal_text (map told j.entries.items) (output_in (answer_of run.end)))
     → IfOk r (λ run. RanBy workers readings limits turns run.end run.text.items)
-told_reads workers readings (Ok run) limits turns j answer blocked tells is kept text =
-    let t = tells kept in
-    let w = whole run limits turns j answer (blocked kept) is text in
-    record {
-      ran = w.0;
-      reads = subst (ReadsSo workers readings) (sym w.1) (reads_so workers readings t.new j.entries.items
-          (subst (λ x. Tells (told_first workers readings) going j.entries.items t.new x) (going_by run.end t.after (subst (λ a. EndsSo a t.after) is t.ends)) t.tells));
-    }
+told_reads workers readings (Ok run) limits turns j answer blocked tells is kept text = (made_reads workers readings run limits turns j answer (blocked kept) (tells kept) is text).0
 told_reads workers readings (Err e) limits turns j answer blocked tells is kept text = tt
+
+-- the turns that were told are those of the script
+pub driven_by : {P U J A V : Type 0} (future : FutureOf ScriptTask (Cx ScriptTask ℕ P U J A V) ℕ) (unspent : (f : ScriptTask) → future.is_spent f ≡ false)
+    (polls : (f : ScriptTask) (c : Cx ScriptTask ℕ P U J A V) (answer : Poll ℕ) (left : ScriptTask) (d : Cx ScriptTask ℕ P U J A V) → future.polls f c answer left d → PollsTask f c answer left d)
+    (cancels : (f : ScriptTask) (c d : Cx ScriptTask ℕ P U J A V) → future.cancels f c d → d ≡ c)
+    (e : RunEnd) (s : Script) (turns : ℕ) (main : ScriptTask) (left : List (Option ScriptTask)) (answer : Result ℕ RunError) (part : List Entry) → answer ≡ answer_of e → main ≡ new_task main 0 → main.kinds.now ≡ s.kinds → IsSound (length s.kinds) s
+    → OnMain answer ((new : Machine) × PollsMain (λ n. n) future true main [] left (start_machine s.limits strategy.Attached) part new [])
+    → ((new : Machine) × Blocked true turns (answer_numbered (λ n. n) answer) (start_machine s.limits strategy.Attached) part new []) → Driven s (map told part)
+driven_by future unspent polls cancels (ran.Output o) s turns main left answer part is first same sound polled blocked =
+    let p = subst (λ a. OnMain a ((new : Machine) × PollsMain (λ n. n) future true main [] left (start_machine s.limits strategy.Attached) part new [])) is polled in
+    driven_main future unspent polls cancels s strategy.Attached main left part p.0 first same sound p.1
+driven_by future unspent polls cancels ran.Turns s turns main left answer part is first same sound polled blocked =
+    let p = subst (λ a. OnMain a ((new : Machine) × PollsMain (λ n. n) future true main [] left (start_machine s.limits strategy.Attached) part new [])) is polled in
+    driven_main future unspent polls cancels s strategy.Attached main left part p.0 first same sound p.1
+driven_by future unspent polls cancels ran.Capacity s turns main left answer part is first same sound polled blocked =
+    let b = subst (λ a. (new : Machine) × Blocked true turns (answer_numbered (λ n. n) a) (start_machine s.limits strategy.Attached) part new []) is blocked in
+    subst (λ xs. Driven s (map told xs)) (sym b.1.0) tt
+
+pub told_driven : {E : Type 0} (workers : ℕ) (readings : Option (List ℕ)) (r : Result ScriptRun E) (s : Script) (turns : ℕ) (j : Journal) (answer : Result ℕ RunError)
+    → (j.is_full ≡ false → (new : Machine) × Blocked true turns (answer_numbered (λ n. n) answer) (start_machine s.limits strategy.Attached) j.entries.items new [])
+    → (j.is_full ≡ false → IsTold answer (told_first workers readings) j.entries.items)
+    → (j.is_full ≡ false → (e : RunEnd) → answer ≡ answer_of e → IsSound (length s.kinds) s → Driven s (map told j.entries.items))
+    → IfOk r (λ run. answer ≡ answer_of run.end) → OnOk r (j.is_full ≡ false) → IfOk r (λ run. run.text.items ≡ journal_text (map told j.entries.items) (output_in (answer_of run.end)))
+    → IfOk r (λ run. IsSound (length s.kinds) s → RunsScript workers readings s turns run.end run.text.items)
+told_driven workers readings (Ok run) s turns j answer blocked tells driven is kept text = λ sound.
+    let made = made_reads workers readings run s.limits turns j answer (blocked kept) (tells kept) is text in
+    record { run = made.0; driven = subst (λ es. Driven s (map told es)) (sym made.1) (driven kept run.end is sound) }
+told_driven workers readings (Err e) s turns j answer blocked tells driven is kept text = tt

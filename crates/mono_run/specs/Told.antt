@@ -11,6 +11,8 @@ use Rattle.mono_rt.specs.declared.errors.RunError.TheVariants as error
 use Rattle.mono_rt.specs.declared.journals.Entry.{Entry}
 use Rattle.mono_rt.specs.declared.journals.Entry.TheVariants as entry
 use Rattle.mono_scripts.specs.Driven as script
+use Rattle.mono_scripts.specs.Driven.{Driven}
+use Rattle.mono_scripts.specs.Script.{Script}
 use Rattle.mono_scripts.specs.Journal.{journal_text}
 use Rattle.mono_run.specs.declared.runs.RunEnd.{RunEnd}
 use Rattle.mono_run.specs.declared.runs.RunEnd.TheVariants as ran
@@ -56,3 +58,8 @@ ReadsSo (suc n) (Some readings) part = AreFirst (readings_in part) readings
 pub record RanBy (workers : ℕ) (readings : Option (List ℕ)) (limits : Limits) (turns : ℕ) (e : RunEnd) (output : List ℕ) : Type 0 where
   pub ran : Ran limits turns e output
   pub reads : ReadsSo workers readings ran.entries
+
+-- The same run, of a script: the turns that its journal tells are those that the script's lines give.
+pub record RunsScript (workers : ℕ) (readings : Option (List ℕ)) (s : Script) (turns : ℕ) (e : RunEnd) (output : List ℕ) : Type 0 where
+  pub run : RanBy workers readings s.limits turns e output
+  pub driven : Driven s (map told run.ran.entries)

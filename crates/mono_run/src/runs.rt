@@ -1,11 +1,12 @@
 // A script on a runtime.
-ghost use Rattle.std.specs.Prelude.{◌≡◌, false, map, IfOk, IfSome, OnOk};
+ghost use Rattle.std.specs.Prelude.{◌≡◌, false, length, map, IfOk, IfSome, OnOk};
 ghost use Rattle.mono_blocking.specs.Counts.{counted_by};
 ghost use Rattle.mono_scripts.specs.Journal.{journal_text};
+ghost use Rattle.mono_scripts.specs.Script.{IsSound};
 ghost use Rattle.mono_rt.specs.Rounds.{output_in};
 ghost use Rattle.mono_rt.specs.Telling.{telling};
 ghost use Rattle.mono_script_task.specs.Driving.{readings_of, time_of, parks_of};
-ghost use Rattle.mono_run.specs.Told.{Ran, RanBy, told_first, answer_of, told};
+ghost use Rattle.mono_run.specs.Told.{Ran, RunsScript, RanBy, told_first, answer_of, told};
 
 use crate::entries::journal_lines;
 use mono_blocking::{BlockingHandle, DefaultThreadPool, Spawner};
@@ -122,9 +123,10 @@ fn zero() -> Instant {
 /// not read.
 ///
 /// What is told is how the run ended and the lines of its journal (`ran`). Without workers each reading in it is the sum of
-/// what was parked for before it; with workers, where the clock tells its readings, they are these, in order (`reads`). Once a call found no memory nothing is told. The
-/// workers end when they have run what waits, whatever the answer is; only where there was no memory for the runtime itself
-/// do they wait on. Whoever started their threads joins them.
+/// what was parked for before it; with workers, where the clock tells its readings, they are these, in order (`reads`). The
+/// turns in it are those that the script's lines give, where the script is sound (`driven`). Once a call found no memory
+/// nothing is told. The workers end when they have run what waits, whatever the answer is; only where there was no memory
+/// for the runtime itself do they wait on. Whoever started their threads joins them.
 pub fn run_script<R: Host + Send + 'static, C: Clock + Drop, P: Spawner>(
     rt: &R,
     alloc: Global,
@@ -135,6 +137,7 @@ pub fn run_script<R: Host + Send + 'static, C: Clock + Drop, P: Spawner>(
     spawner: &mut P,
 ) -> Result<ScriptRun, AllocError>
     ensures ran { IfOk result (λ run. Ran script.now.limits turns run.end run.text.items) }
+    ensures driven { IfOk result (λ run. IsSound (length script.now.kinds) script.now → RunsScript workers (C.readings clock) script.now turns run.end run.text.items) }
     ensures reads { IfOk result (λ run. RanBy workers (C.readings clock) script.now.limits turns run.end run.text.items) }
     ensures starts { OnOk result (P.starts spawner.new ≡ counted_by workers (P.starts spawner.old)) }
 {

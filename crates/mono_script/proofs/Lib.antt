@@ -4,6 +4,7 @@ pub mod Statuses
 pub mod Commands
 pub mod Replaying
 pub mod Checked
+pub mod Counted
 pub mod Naming
 pub mod Numbers
 pub mod Places

@@ -1,8 +1,16 @@
 -- A bad line, named as an output.
-use Rattle.std.proofs.Common.{◌≡◌, ℕ, List, Option, Some, Result, Ok, Err, IfOk, refl, sym, subst}
+use Rattle.std.proofs.Common.{◌≡◌, ℕ, List, length, Option, Some, Result, Ok, Err, IfOk, refl, sym, subst}
 use Rattle.mono_script.specs.declared.ends.Status.TheVariants as status
 use Rattle.mono_script.specs.declared.ends.Output.{Output}
 use Rattle.mono_script.specs.Ending.{Meaning, IsOutput, IsLine, Asks, bad_line_text}
+use Rattle.mono_script.specs.declared.ends.Status.{Status}
+use Rattle.mono_script.specs.Meanings.{running, run_status}
+use Rattle.mono_run.specs.Told.{RunsScript}
+use Rattle.mono_run.specs.declared.runs.RunEnd.{RunEnd}
+use Rattle.mono_run.specs.declared.runs.RunEnd.TheVariants as ran
+use Rattle.mono_scripts.specs.Script.{Script, IsSound}
+use Rattle.mono_scripts.specs.Written.{Spells}
+use Rattle.mono_script.proofs.Counted.{sound_alone}
 
 pub named : {E : Type 0} (m : Meaning) (r : Result Output E) (input : List ℕ) (n : ℕ) → m.IsFirstBad input n → IfOk r (λ o. o.status ≡ status.BadLine) → IfOk r (λ o. o.text.items ≡ bad_line_text n)
     → IfOk r (λ o. IsOutput m input o.status o.text.items)
@@ -19,3 +27,13 @@ named_line m (Err e) input n first is line = tt
 pub named_asks : {E : Type 0} (workers : ℕ) (made : Result Output E) (starts : ℕ) → IfOk made (λ o. o.status ≡ status.BadLine) → IfOk made (λ o. Asks (Some workers) starts starts o.status)
 named_asks workers (Ok o) starts is = subst (Asks (Some workers) starts starts) (sym is) refl
 named_asks workers (Err e) starts is = tt
+
+-- the run of a script that the input spells, as an output
+pub ran_output : (workers turns : ℕ) (readings : Option (List ℕ)) (input : List ℕ) (script : Script) (e : RunEnd) (s : Status) (text : List ℕ) → s ≡ run_status e → Spells input script
+    → (IsSound (length script.kinds) script → RunsScript workers readings script turns e text) → IsOutput (running workers turns readings) input s text
+ran_output workers turns readings input script (ran.Output o) s text is spells runs =
+    subst (λ x. IsOutput (running workers turns readings) input x text) (sym is) (script, spells, (ran.Output o, refl, runs (sound_alone input script spells)))
+ran_output workers turns readings input script ran.Turns s text is spells runs =
+    subst (λ x. IsOutput (running workers turns readings) input x text) (sym is) (script, spells, (ran.Turns, refl, runs (sound_alone input script spells)))
+ran_output workers turns readings input script ran.Capacity s text is spells runs =
+    subst (λ x. IsOutput (running workers turns readings) input x text) (sym is) (script, spells, (ran.Capacity, refl, runs (sound_alone input script spells)))

@@ -56,6 +56,6 @@ pub full_where : (workers turns : ℕ) (readings left rest before after : Option
 full_where workers turns readings left rest before after R W input script s p told short spelled read wrote =
     let a = answer_to_good (running workers turns readings) (sound readings (command.Run workers turns)) left rest before after R W input s p told short (script, spelled) read wrote in
     let one = tasks_once input a.1.0 script a.1.1 spelled in
-    let law = full_at a.1.0.limits turns a.1.2.0 a.0 a.1.2.2.ran in
+    let law = full_at a.1.0.limits turns a.1.2.0 a.0 a.1.2.2.run.ran in
     let code = ended_full a.1.2.0 s a.1.2.1 in
     (λ ten. sym one ∙ law.0 (code.0 ten), λ none. code.1 (law.1 (one ∙ none)))

@@ -12,7 +12,7 @@ use Rattle.mono_script.specs.declared.ends.Status.{Status}
 use Rattle.mono_scripts.specs.Script.{Script}
 use Rattle.mono_scripts.specs.Written.{Spells}
 use Rattle.mono_scripts.specs.Written as scripts
-use Rattle.mono_run.specs.Told.{RanBy}
+use Rattle.mono_run.specs.Told.{RunsScript}
 use Rattle.mono_run.specs.declared.runs.RunEnd.{RunEnd}
 use Rattle.mono_run.specs.declared.runs.RunEnd.TheVariants as ran
 use Rattle.mono_script.specs.Ending.{Meaning}
@@ -51,7 +51,7 @@ running workers turns readings = record {
   workers = Some workers;
   IsGood = λ input. (script : Script) × Spells input script;
   IsFirstBad = λ input n. scripts.IsFirstBad input n;
-  Answers = λ input s output. (script : Script) × Spells input script × ((e : RunEnd) × (s ≡ run_status e) × RanBy workers readings script.limits turns e output);
+  Answers = λ input s output. (script : Script) × Spells input script × ((e : RunEnd) × (s ≡ run_status e) × RunsScript workers readings script turns e output);
 }
 
 -- a load: the source is not read, and one line sums up the reports of a run

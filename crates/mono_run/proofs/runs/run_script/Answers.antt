@@ -1,4 +1,4 @@
-use Rattle.std.proofs.Common.{◌≡◌, [], IfOk, ap, subst, ◌∙◌}
+use Rattle.std.proofs.Common.{◌≡◌, ℕ, false, true, [], length, IfOk, refl, sym, ap, subst, ◌∙◌}
 use Rattle.mono_machine.specs.Machine.{Machine, start_machine}
 use Rattle.mono_machine.specs.declared.events.Blocking.TheVariants as strategy
 use Rattle.mono_rt.specs.Numbered.{answer_numbered}
@@ -7,8 +7,12 @@ use Rattle.mono_rt.proofs.Doing.{relation_of}
 use Rattle.mono_rt.specs.Telling.{telling, IsTold}
 use Rattle.mono_rt.proofs.Telling.{told_in}
 use Rattle.mono_script_task.specs.Driving.{readings_of, time_of, parks_of}
-use Rattle.mono_run.specs.Told.{Ran, RanBy, told_first}
-use Rattle.mono_run.proofs.Blocking.{told_ran, told_reads}
+use Rattle.mono_rt.specs.Polling.{PollsMain, OnMain}
+use Rattle.mono_rt.proofs.Polling.{on_main}
+use Rattle.mono_scripts.specs.Script.{Script, IsSound}
+use Rattle.mono_script_task.specs.Turning.{no_own}
+use Rattle.mono_run.specs.Told.{Ran, RunsScript, RanBy, told_first}
+use Rattle.mono_run.proofs.Blocking.{told_ran, told_reads, told_driven, driven_by}
 use Rattle.mono_run.proofs.runs.run_script.Goals as goal
 
 pub returns-clause-ran : goal.returns-clause-ran
@@ -43,3 +47,28 @@ returns-clause-reads g c =
     (told_in c.journal.result.now c.in_ok-runtime.ensures.journal c.journal.ensures c.block_on-answer.ensures.told unfull))
     c.told_of-told.ensures.answer c.told_of-told.ensures.kept c.told_of-told.ensures.text in
     subst (λ l. IfOk c.told_of-told.result (λ run. RanBy c.args.workers readings l c.args.turns run.end run.text.items)) (ap (λ s. s.limits) c.script.view_is) reads
+
+pub returns-clause-driven : goal.returns-clause-driven
+returns-clause-driven g c =
+    let made = c.in_ok-runtime.runtime in
+    let left = c.block_on-answer.new.self in
+    let s : Script = record { limits = c.script.inside.limits; kinds = c.script.inside.kinds.items } in
+    let m = start_machine s.limits strategy.Attached in
+    let answer = answer_numbered (λ n. n) c.block_on-answer.result in
+    let j = c.journal.result.now in
+    let readings = g.C.Clock.readings c.args.clock in
+    let first : telling (readings_of g.C.Clock.readings made.driver) (time_of made.driver) (parks_of made.driver) ≡ told_first c.args.workers readings
+    = ap (λ d. telling (readings_of g.C.Clock.readings d) (time_of d) (parks_of d)) c.in_ok-runtime.ensures.driver ∙ c.in_ok-driver.ensures in
+    let tells : j.is_full ≡ false → IsTold c.block_on-answer.result (told_first c.args.workers readings) j.entries.items = λ unfull.
+    subst (λ t. IsTold c.block_on-answer.result t j.entries.items) first (told_in j c.in_ok-runtime.ensures.journal c.journal.ensures c.block_on-answer.ensures.told unfull) in
+    let blocked : j.is_full ≡ false → (new : Machine) × Blocked true c.args.turns answer m j.entries.items new [] = λ unfull.
+    subst (λ h. (new : Machine) × Blocked h c.args.turns answer m j.entries.items new []) c.in_ok-runtime.ensures.timers
+    (relation_of (λ n. n) (Blocked made.cx.parts.has_timers c.args.turns answer) made.cx.parts left.cx.parts made.journal left.journal j m c.in_ok-runtime.ensures.stands c.in_ok-runtime.ensures.journal c.journal.ensures c.block_on-answer.ensures.blocked unfull) in
+    let polled : j.is_full ≡ false → OnMain c.block_on-answer.result ((new : Machine) × PollsMain (λ n. n) _ true c.new-main.result [] left.cx.futures.items m j.entries.items new []) = λ unfull. on_main {X = ℕ} c.block_on-answer.result _ _
+    (λ does. subst (λ h. (new : Machine) × PollsMain (λ n. n) _ h c.new-main.result [] left.cx.futures.items m j.entries.items new []) c.in_ok-runtime.ensures.timers
+    (subst (λ fs. (new : Machine) × PollsMain (λ n. n) _ made.cx.parts.has_timers c.new-main.result fs left.cx.futures.items m j.entries.items new []) c.in_ok-runtime.ensures.futures
+    (relation_of (λ n. n) _ made.cx.parts left.cx.parts made.journal left.journal j m c.in_ok-runtime.ensures.stands c.in_ok-runtime.ensures.journal c.journal.ensures does unfull))) c.block_on-answer.ensures.polled in
+    subst (λ x. IfOk c.told_of-told.result (λ run. IsSound (length x.kinds) x → RunsScript c.args.workers readings x c.args.turns run.end run.text.items)) c.script.view_is
+    (told_driven c.args.workers readings c.told_of-told.result s c.args.turns j c.block_on-answer.result blocked tells
+    (λ unfull e is sound. driven_by _ (λ f. refl) (λ f x a l d p. p) (λ f x d p. p) e s c.args.turns c.new-main.result left.cx.futures.items c.block_on-answer.result j.entries.items is (c.new-main.ensures ∙ ap (λ k. record { kinds = k; kind = 0; at = 0; own = no_own }) (sym (ap (λ f. f.kinds) c.new-main.ensures))) (ap (λ f. f.kinds.now) c.new-main.ensures) sound (polled unfull) (blocked unfull))
+    c.told_of-told.ensures.answer c.told_of-told.ensures.kept c.told_of-told.ensures.text)

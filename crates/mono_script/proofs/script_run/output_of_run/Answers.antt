@@ -1,7 +1,7 @@
 use Rattle.std.proofs.Common.{◌≡◌}
-use Rattle.mono_scripts.specs.Written.{IsFirstBad}
+use Rattle.mono_scripts.specs.Written.{IsFirstBad, Spells}
 use Rattle.mono_script.specs.Meanings.{running}
-use Rattle.mono_script.proofs.Naming.{named, named_line, named_asks}
+use Rattle.mono_script.proofs.Naming.{named, named_line, named_asks, ran_output}
 use Rattle.mono_script.proofs.script_run.output_of_run.Goals as goal
 
 pub returns-in-BadLine-clause-output : goal.returns-in-BadLine-clause-output
@@ -17,3 +17,8 @@ returns-in-BadLine-clause-line g c =
 pub returns-in-BadLine-clause-asks : goal.returns-in-BadLine-clause-asks
 returns-in-BadLine-clause-asks g c =
     named_asks c.args.workers c.bad_line.result (g.P.Spawner.starts c.args.spawner.now) c.bad_line.ensures.status
+
+pub returns-in-Script-clause-output : goal.returns-in-Script-clause-output
+returns-in-Script-clause-output g c =
+    let spells : Spells c.args.input.now c.in-Script.script = rw c.in-Script.is at c.in_ok-n.ensures in
+    ran_output c.args.workers c.args.turns (g.C.Clock.readings c.args.clock) c.args.input.now c.in-Script.script c.in_ok-run.run.end _ c.in_ok-run.run.text.items c.status_of.ensures spells c.in_ok-run.ensures.driven
