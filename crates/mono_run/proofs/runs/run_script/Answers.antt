@@ -12,7 +12,7 @@ use Rattle.mono_rt.proofs.Polling.{on_main}
 use Rattle.mono_scripts.specs.Script.{Script, IsSound}
 use Rattle.mono_script_task.specs.Turning.{no_own}
 use Rattle.mono_run.specs.Told.{Ran, RunsScript, RanBy, told_first}
-use Rattle.mono_run.proofs.Blocking.{told_ran, told_reads, told_driven, driven_by}
+use Rattle.mono_run.proofs.Blocking.{told_ran, told_reads, told_driven, driven_does}
 use Rattle.mono_run.proofs.runs.run_script.Goals as goal
 
 pub returns-clause-ran : goal.returns-clause-ran
@@ -64,11 +64,9 @@ returns-clause-driven g c =
     let blocked : j.is_full ≡ false → (new : Machine) × Blocked true c.args.turns answer m j.entries.items new [] = λ unfull.
     subst (λ h. (new : Machine) × Blocked h c.args.turns answer m j.entries.items new []) c.in_ok-runtime.ensures.timers
     (relation_of (λ n. n) (Blocked made.cx.parts.has_timers c.args.turns answer) made.cx.parts left.cx.parts made.journal left.journal j m c.in_ok-runtime.ensures.stands c.in_ok-runtime.ensures.journal c.journal.ensures c.block_on-answer.ensures.blocked unfull) in
-    let polled : j.is_full ≡ false → OnMain c.block_on-answer.result ((new : Machine) × PollsMain (λ n. n) _ true c.new-main.result [] left.cx.futures.items m j.entries.items new []) = λ unfull. on_main {X = ℕ} c.block_on-answer.result _ _
-    (λ does. subst (λ h. (new : Machine) × PollsMain (λ n. n) _ h c.new-main.result [] left.cx.futures.items m j.entries.items new []) c.in_ok-runtime.ensures.timers
-    (subst (λ fs. (new : Machine) × PollsMain (λ n. n) _ made.cx.parts.has_timers c.new-main.result fs left.cx.futures.items m j.entries.items new []) c.in_ok-runtime.ensures.futures
-    (relation_of (λ n. n) _ made.cx.parts left.cx.parts made.journal left.journal j m c.in_ok-runtime.ensures.stands c.in_ok-runtime.ensures.journal c.journal.ensures does unfull))) c.block_on-answer.ensures.polled in
     subst (λ x. IfOk c.told_of-told.result (λ run. IsSound (length x.kinds) x → RunsScript c.args.workers readings x c.args.turns run.end run.text.items)) c.script.view_is
     (told_driven c.args.workers readings c.told_of-told.result s c.args.turns j c.block_on-answer.result blocked tells
-    (λ unfull e is sound. driven_by _ (λ f. refl) (λ f x a l d p. p) (λ f x d p. p) e s c.args.turns c.new-main.result left.cx.futures.items c.block_on-answer.result j.entries.items is (c.new-main.ensures ∙ ap (λ k. record { kinds = k; kind = 0; at = 0; own = no_own }) (sym (ap (λ f. f.kinds) c.new-main.ensures))) (ap (λ f. f.kinds.now) c.new-main.ensures) sound (polled unfull) (blocked unfull))
+    (λ unfull e is sound. driven_does _ made.cx.parts.has_timers c.new-main.result made.cx.futures.items left.cx.futures.items made.cx.parts left.cx.parts made.journal left.journal (λ f. refl) (λ f x a l d p. p) (λ f x d p. p) e s c.args.turns c.block_on-answer.result j c.block_on-answer.ensures.polled
+    c.in_ok-runtime.ensures.timers c.in_ok-runtime.ensures.futures (c.in_ok-runtime.ensures.stands) c.in_ok-runtime.ensures.journal c.journal.ensures unfull is
+    (c.new-main.ensures ∙ ap (λ k. record { kinds = k; kind = 0; at = 0; own = no_own }) (sym (ap (λ f. f.kinds) c.new-main.ensures))) (ap (λ f. f.kinds.now) c.new-main.ensures ∙ c.deref.ensures.value) sound (blocked unfull))
     c.told_of-told.ensures.answer c.told_of-told.ensures.kept c.told_of-told.ensures.text)
