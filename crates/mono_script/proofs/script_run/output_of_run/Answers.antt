@@ -18,7 +18,7 @@ pub returns-in-BadLine-clause-asks : goal.returns-in-BadLine-clause-asks
 returns-in-BadLine-clause-asks g c =
     named_asks c.args.workers c.bad_line.result (g.P.Spawner.starts c.args.spawner.now) c.bad_line.ensures.status
 
-pub returns-in-Script-clause-output : goal.returns-in-Script-clause-output
-returns-in-Script-clause-output g c =
+pub returns-in_ok-run-in-Script-clause-output : goal.returns-in_ok-run-in-Script-clause-output
+returns-in_ok-run-in-Script-clause-output g c =
     let spells : Spells c.args.input.now c.in-Script.script = rw c.in-Script.is at c.in_ok-n.ensures in
-    ran_output c.args.workers c.args.turns (g.C.Clock.readings c.args.clock) c.args.input.now c.in-Script.script c.in_ok-run.run.end _ c.in_ok-run.run.text.items c.status_of.ensures spells c.in_ok-run.ensures.driven
+    ran_output c.args.workers c.args.turns (g.C.Clock.readings c.args.clock) c.args.input.now c.in-Script.script c.in_ok-run-in-Script.run'.end _ c.in_ok-run-in-Script.run'.text.items c.status_of.ensures spells c.in_ok-run-in-Script.ensures.driven
