@@ -1,0 +1,96 @@
+//! Tasks of a runtime that are made, woken and put to sleep: what a turn costs.
+#![tactic(auto)]
+
+mod work;
+
+use mono_blocking::{Job, NoPool};
+use mono_driver::{StepDriver, TimeDriver};
+use mono_inbox::NoUnpark;
+use mono_joinword::Outcome;
+use mono_model::Host;
+use mono_rt::start;
+use std::alloc::Global;
+use std::process::ExitCode;
+use std::{env, io};
+use work::Work;
+
+const HELP: &str = "usage: mono_turns spawn|pair|sleeps N [RUNS]
+  spawn: a task makes N tasks, each ready at its first turn, and ends after them
+  pair: two tasks wake each other, N turns in all
+  sleeps: N tasks sleep once, in random order, below 2^32 milliseconds
+  N: below 2^20 where N tasks are made; RUNS: how often it is done, once where it is not said";
+
+/// A job that is never made.
+#[derive(Drop)]
+pub struct Idle;
+
+impl Outcome for Idle {
+    ghost output_number = { λ job. 0 };
+
+    fn number(&self) -> u64 {
+        0
+    }
+}
+
+impl Job for Idle {
+    type Output = u64;
+
+    type Unpark = NoUnpark;
+
+    fn run(self) -> u64 {
+        0
+    }
+}
+
+// The work of these words.
+fn chosen(name: &str, count: u64) -> Option<Work> {
+    match name {
+        "spawn" => Some(Work::Spawns(count)),
+        "pair" => Some(Work::Opens(count)),
+        "sleeps" => Some(Work::Lulls(count)),
+        _ => None,
+    }
+}
+
+// The work, on a runtime of its own; what it answers, or 0 where the runtime gave up.
+fn answer<R: Host>(rt: &R, alloc: Global, work: Work) -> u64 {
+    let driver = TimeDriver::new(StepDriver::new(Vec::new(alloc)));
+    match start::<_, _, _, NoPool<Idle>, R>(rt, alloc, driver, work, u64::MAX) {
+        Ok(output) => output,
+        Err(_) => 0,
+    }
+}
+
+// The work so often, each on a new runtime. The answer of the last; none where there is no such work.
+fn answers<R: Host>(rt: &R, alloc: Global, name: &str, count: u64, runs: u64) -> Option<u64> {
+    let mut last = None;
+    for _ in 0..runs {
+        last = Some(answer(rt, alloc, chosen(name, count)?));
+    }
+    last
+}
+
+// Which work, with which N, and how often.
+fn asked(words: &Vec<String>) -> Option<(&str, u64, u64)> {
+    match words.as_slice() {
+        [name, count] => Some((name.as_str(), count.parse::<u64>().ok()?, 1)),
+        [name, count, runs] => Some((
+            name.as_str(),
+            count.parse::<u64>().ok()?,
+            runs.parse::<u64>().ok()?,
+        )),
+        _ => None,
+    }
+}
+
+fn main(rt: HostRuntime) -> io::Result<ExitCode> {
+    let words: Vec<String> = env::args(&rt)?.skip(1).collect(rt.alloc())?;
+    if let Some((name, count, runs)) = asked(&words) {
+        if let Some(answer) = answers(&rt, rt.alloc(), name, count, runs) {
+            println!(rt; "{name} {count}: {answer}")?;
+            return Ok(ExitCode::SUCCESS);
+        }
+    }
+    println!(rt; "{HELP}")?;
+    Ok(ExitCode::from(2))
+}
