@@ -69,12 +69,14 @@ made_reads : (workers : ℕ) (readings : Option (List ℕ)) (run : ScriptRun) (l
     → answer ≡ answer_of run.end → run.text.items ≡ journal_text (map told j.entries.items) (output_in (answer_of run.end))
     → (made : RanBy workers readings limits turns run.end run.text.items) × (made.ran.entries ≡ j.entries.items)
 made_reads workers readings run limits turns j answer b t is text =
-    let w = whole run limits turns j answer b is text in
-    (record {
-      ran = w.0;
-      reads = subst (ReadsSo workers readings) (sym w.1) (reads_so workers readings t.new j.entries.items
-          (subst (λ x. Tells (told_first workers readings) going j.entries.items t.new x) (going_by run.end t.after (subst (λ a. EndsSo a t.after) is t.ends)) t.tells));
-    }, w.1)
+    let w = whole run limits turns j answer b is text in (
+      record {
+        ran = w.0;
+        reads = subst (ReadsSo workers readings) (sym w.1) (reads_so workers readings t.new j.entries.items
+            (subst (λ x. Tells (told_first workers readings) going j.entries.items t.new x) (going_by run.end t.after (subst (λ a. EndsSo a t.after) is t.ends)) t.tells));
+      },
+      w.1,
+    )
 
 pub told_reads : {E : Type 0} (workers : ℕ) (readings : Option (List ℕ)) (r : Result ScriptRun E) (limits : Limits) (turns : ℕ) (j : Journal) (answer : Result ℕ RunError)
     → (j.is_full ≡ false → (new : Machine) × Blocked true turns (answer_numbered (λ n. n) answer) (start_machine limits strategy.Attached) j.entries.items new [])

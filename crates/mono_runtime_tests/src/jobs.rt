@@ -400,8 +400,7 @@ fn did<R: Host>(
     })
 }
 
-/// What is told of a main task of one turn: the answers that came, the steps and replies of its turn, and how often the
-/// pool has refused, if there is one.
+/// What is told of a main task of one turn: the answers that came, its steps and replies, and the pool's refusals.
 #[derive(Clone, Copy)]
 struct Told<'a> {
     answers: &'a [u64],
