@@ -1,5 +1,7 @@
 //! A wheel in which any key may be named.
-ghost use Rattle.std.specs.Prelude.{◌≡◌, ◌<◌};
+ghost use Rattle.std.specs.Prelude.{◌≡◌, ◌≢◌, ◌<◌, ◌^◌, true, None, IfNone};
+ghost use Rattle.mono_wheel.specs.Model.{timed_at};
+ghost use Rattle.mono_bench.specs.Ready.{KeepsAll};
 
 use mono_wheel::{Steps, Wheel};
 use std::alloc::{AllocError, Global};
@@ -40,15 +42,27 @@ impl<L: Ledger> Table<L> {
         }
     }
 
-    /// Lets a key be due later, if it is in.
-    pub fn later(&mut self, key: usize, tick: u64) {
-        if self.wheel.is_in(key) {
-            self.wheel.extend(key, tick.min(LAST));
-        }
+    /// Whether a key is in.
+    pub fn is_in(&self, key: usize) -> bool
+        ensures { result ≡ true → timed_at self.now.wheel key ≢ None }
+    {
+        self.wheel.is_in(key)
     }
 
-    /// Lets the clock go on to `now`, or to the next key that is due, which it takes out.
-    pub fn fire(&mut self, now: u64) -> Option<usize> {
+    /// Lets a key that is in be due later. Each key that is in stays in.
+    pub fn later(&mut self, key: usize, tick: u64)
+        requires within { timed_at self.old.wheel key ≢ None }
+        requires range { tick < 2 ^ 63 }
+        ensures { KeepsAll self.old.wheel self.new.wheel }
+    {
+        self.wheel.extend(key, tick);
+    }
+
+    /// Lets the clock go on to `now`, or to the next key that is due, which it takes out. Where it answers None,
+    /// each key that was in still is.
+    pub fn fire(&mut self, now: u64) -> Option<usize>
+        ensures { IfNone result (KeepsAll self.old.wheel self.new.wheel) }
+    {
         if now < self.wheel.elapsed() || now > LAST {
             return None;
         }

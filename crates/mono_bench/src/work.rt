@@ -1,4 +1,7 @@
 //! The workloads, and what one run of them gives.
+ghost use Rattle.std.specs.Prelude.{◌≡◌, ◌<◌, ◌^◌, true, length};
+ghost use Rattle.mono_bench.specs.Ready.{AllIn, AllLow};
+
 use crate::table::Table;
 use crate::watch::Watch;
 use std::alloc::Global;
@@ -69,20 +72,25 @@ pub struct Outcome {
     pub nexts: u64,
 }
 
+impl Outcome {
+    // A key fired, counted from the first.
+    fn note(&mut self, base: usize, key: usize) {
+        let number = key.wrapping_sub(base) as u64;
+        self.fired = self.fired.wrapping_add(1);
+        self.order = self
+            .order
+            .wrapping_mul(31)
+            .wrapping_add(number)
+            .wrapping_add(1);
+    }
+}
+
 // Fires all that is due up to a tick.
 fn advance<L: Ledger>(table: &mut Table<L>, base: usize, now: u64, outcome: &mut Outcome) {
     for _ in 0..u64::MAX {
         match table.fire(now) {
             None => return,
-            Some(key) => {
-                let number = key.wrapping_sub(base) as u64;
-                outcome.fired = outcome.fired.wrapping_add(1);
-                outcome.order = outcome
-                    .order
-                    .wrapping_mul(31)
-                    .wrapping_add(number)
-                    .wrapping_add(1);
-            }
+            Some(key) => outcome.note(base, key),
         }
     }
 }
@@ -112,19 +120,75 @@ fn ask_next<L: Ledger>(
     Ok(())
 }
 
+// Whether there are as many ticks as keys, each key is in, and each tick is low enough for the resets.
+fn is_ready<L: Ledger>(table: &Table<L>, keys: &[usize], ticks: &[u64]) -> bool
+    ensures { result ≡ true → (length keys.now ≡ length ticks.now) × (AllIn table.now.wheel keys.now × AllLow ticks.now) }
+{
+    if keys.len() != ticks.len() {
+        return false;
+    }
+    for place in 0..keys.len() {
+        if !table.is_in(keys[place]) || ticks[place] >= 1 << 62 {
+            return false;
+        }
+    }
+    true
+}
+
+// Each key is let be due so much after its first tick.
+fn put_off<L: Ledger>(table: &mut Table<L>, keys: &[usize], ticks: &[u64], later: u64)
+    requires as_many { length keys.now ≡ length ticks.now }
+    requires within { AllIn table.old.wheel keys.now }
+    requires low { AllLow ticks.now }
+    requires later { later < 2 ^ 62 }
+    ensures { AllIn table.new.wheel keys.now }
+{
+    for place in 0..keys.len() {
+        table.later(keys[place], ticks[place] + later);
+    }
+}
+
+// The rounds of resets. They end with the first key that fires, which would be in no more; no tick of the
+// workload is due before the last round.
 fn keep_alive<L: Ledger>(
     table: &mut Table<L>,
     keys: &[usize],
     ticks: &[u64],
     base: usize,
     outcome: &mut Outcome,
-) {
+)
+    requires as_many { length keys.now ≡ length ticks.now }
+    requires within { AllIn table.old.wheel keys.now }
+    requires low { AllLow ticks.now }
+{
     for round in 1..=10u64 {
-        for (key, tick) in keys.iter().zip(ticks) {
-            table.later(*key, tick.wrapping_add(round * 1000));
+        put_off(table, keys, ticks, round * 1000);
+        if let Some(key) = table.fire(round * 1000) {
+            outcome.note(base, key);
+            advance(table, base, round * 1000, outcome);
+            return;
         }
-        advance(table, base, round * 1000, outcome);
     }
+}
+
+// Ends the phase of the insertions, and then resets each key. What a reset asks of its key and its tick is
+// known before, so that the time of the resets is that of the calls.
+fn reset_all<R: Clock, L: Ledger>(
+    rt: &R,
+    table: &mut Table<L>,
+    keys: &[usize],
+    ticks: &[u64],
+    base: usize,
+    watch: &mut Watch,
+    outcome: &mut Outcome,
+) -> io::Result<()> {
+    let is_ready = is_ready(table, keys, ticks);
+    watch.lap(rt)?;
+    if !is_ready {
+        return Err(io::ErrorKind::InvalidInput.into());
+    }
+    keep_alive(table, keys, ticks, base, outcome);
+    watch.lap(rt)
 }
 
 fn fire_all<L: Ledger>(table: &mut Table<L>, work: Work, base: usize, outcome: &mut Outcome) {
@@ -167,10 +231,10 @@ pub fn run<R: Clock, L: Ledger>(
         return Ok(outcome);
     }
     let keys = insert_all(alloc, table, ticks)?;
-    watch.lap(rt)?;
     let base = keys.first().copied().unwrap_or(0);
     if let Work::KeepAlive = work {
-        keep_alive(table, keys.as_slice(), ticks, base, &mut outcome);
+        reset_all(rt, table, keys.as_slice(), ticks, base, watch, &mut outcome)?;
+    } else {
         watch.lap(rt)?;
     }
     if let Work::InsertCancel = work {

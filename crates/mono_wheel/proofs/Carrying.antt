@@ -12,6 +12,10 @@ use Rattle.mono_wheel.proofs.Keys.{timed-read}
 pub written : (mid new : Lists) (entries : List Entry) (key : ℕ) (x : Entry) → mid.entries ≡ entries → new ≡ with_entry mid key x → new ≡ record mid { entries = set entries key x }
 written mid new entries key x same is = is ∙ ap (λ es. record mid { entries = set es key x }) same
 
+-- what is written after a reading that changed nothing
+pub noted : (read new links : Lists) (key : ℕ) (x : Entry) → read ≡ links → new ≡ with_entry read key x → new ≡ with_entry links key x
+noted read new links key x same is = is ∙ ap (λ ls. with_entry ls key x) same
+
 -- who stands where is said of the lists alone
 pub held-as : (elapsed : ℕ) (entries : List Entry) (links : Lists) (others : List Entry) → Held elapsed entries links → Held elapsed entries (record links { entries = others })
 held-as elapsed entries links others h = record { lists = h.lists; within = h.within; found = h.found; fits = h.fits; room = h.room }

@@ -106,6 +106,16 @@ impl SlotLinks {
         self.links.entry(node).tick != 0
     }
 
+    /// The ticks that a known node carries, and nothing changes. It is looked up as for a write, so that a write
+    /// right after it looks for nothing.
+    pub fn known_entry(&mut self, node: usize) -> Entry
+        requires { is_node self.old node ≡ true }
+        ensures value { result ≡ entry_at self.old node }
+        ensures same { self.new ≡ self.old }
+    {
+        self.links.known_entry(node)
+    }
+
     /// Lets a node carry these ticks.
     pub fn set_entry(&mut self, node: usize, entry: Entry)
         requires { is_node self.old node ≡ true }
