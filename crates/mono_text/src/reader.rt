@@ -456,6 +456,12 @@ impl<'a> Reader<'a> {
     ) -> Result<Option<Event>, AllocError>
         ensures { GivesIf result self.new.rest.now (event_at self.old.rest.now) }
     {
+        if self.first() == b's' {
+            let Some(act) = self.s_act() else {
+                return Ok(None);
+            };
+            return Ok(Some(Event::Act(act)));
+        }
         if self.take(b"turn".as_slice()) {
             let steps = mem::replace(spare, List::new(alloc));
             return self.parts(steps);
