@@ -3,6 +3,7 @@ use Rattle.std.proofs.Common.{◌≡◌, ◌≢◌, ◌<◌, ◌≤◌, inl, inr
 use Rattle.std.specs.Prelude.{slice_set, replicate, ◌⊎◌, nat_lt}
 use Rattle.std.proofs.lemmas.Bool.{cases_eq, cases_lt, ltb-true}
 use Rattle.std.proofs.lemmas.List.{ext_get_or, get_or_past, get_or-set_same, get_or-set_other, length-set, length-append, length-replicate, get_or_append_left, get_or_push}
+use Rattle.std.proofs.Math.Seq.{set-append_seam}
 use Rattle.std.proofs.lemmas.Nat.{div-add-mod', mod_below, le-div}
 use Rattle.std.proofs.Math.Nat.{mul-le-mul_left, div-mul-le_self}
 use Rattle.mono_model.specs.Valid.{once_if}
@@ -96,6 +97,12 @@ mark_here xs t s = get_or-set_same (grown xs t) t s Unknown (grown_below xs t)
 mark_there : (xs : List Standing) (t u : ℕ) (s : Standing) → u ≢ t → standing_at (with_mark xs t s) u ≡ standing_at xs u
 mark_there xs t u s apart = get_or-set_other (grown xs t) t u s Unknown apart ∙ standing_at-more xs (t + 1 - length xs) u
 
+-- right behind the entries
+pub mark_behind : (xs : List Standing) (t : ℕ) (s : Standing) → t ≡ length xs → with_mark xs t s ≡ xs ++ s ∷ []
+mark_behind xs t s is =
+    let one : length xs + 1 - length xs ≡ 1 = omega arith in
+    ap (λ n. with_mark xs n s) is ∙ ap (λ n. slice_set (xs ++ replicate n Unknown) (length xs) s) one ∙ set-append_seam xs Unknown [] s
+
 -- one task more has a place
 pub mark-count : (xs : List Standing) (t : ℕ) (s : Standing) → standing_at xs t ≡ Unknown → has_place s ≡ true → count_where has_place (with_mark xs t s) ≡ count_where has_place xs + 1
 mark-count xs t s at placed =
@@ -150,6 +157,9 @@ module _ (size : ℕ) (some : 0 < size) (children : List (List Standing)) (len :
 
   pub standing_past : (t : ℕ) → length children ≤ t / size → Unknown ≡ standing_at (laid_standings size children len) t
   standing_past t past = sym (ap (λ c. standing_at c (t % size)) (get_or_past children (t / size) [] past)) ∙ standing_is t
+
+  pub standing_behind : (t : ℕ) → len ≤ t → Unknown ≡ standing_at (laid_standings size children len) t
+  standing_behind t past = sym (laid.past t past) ∙ standing_is t
 
   pub standing_read : (t : ℕ) (read : List Standing) → t / size < length children → read ≡ get_or children (t / size) read → standing_at read (t % size) ≡ standing_at (laid_standings size children len) t
   standing_read t read inside reads = ap (λ c. standing_at c (t % size)) (sym (child_is children (t / size) read inside reads)) ∙ standing_is t

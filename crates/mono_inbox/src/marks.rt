@@ -48,6 +48,9 @@ impl Marks {
         ensures { result ≡ standing_at self.now task }
     {
         let task = task as usize;
+        if task >= self.len {
+            return Standing::Unknown;
+        }
         let at = task / PART;
         if at >= self.parts.len() {
             return Standing::Unknown;

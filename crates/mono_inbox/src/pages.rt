@@ -1,5 +1,5 @@
 // A page: the standings of as many tasks in a row, in one piece of memory.
-ghost use Rattle.std.specs.Prelude.{◌≡◌, ◌+◌, ◌<◌, ◌≤◌, ◌++◌, true, [], OnOk, OnErr, replicate, slice_set, vec_len, vec_capacity};
+ghost use Rattle.std.specs.Prelude.{◌≡◌, ◌+◌, ◌<◌, ◌≤◌, ◌++◌, ◌∷◌, true, [], OnOk, OnErr, replicate, slice_set, vec_len, vec_capacity};
 ghost use Rattle.mono_inbox.specs.Standings.{has_place, standing_at, count_where};
 ghost use Rattle.mono_inbox.specs.Pages.{grown, with_mark, left_of};
 
@@ -65,8 +65,7 @@ impl Page {
         ensures after { OnOk result (self.new ≡ with_mark self.old at standing) }
         ensures refused { OnErr result (self.new ≡ self.old) }
     {
-        make_entry(&mut self.standings, at)?;
-        self.standings[at] = standing;
+        put_mark(&mut self.standings, at, standing)?;
         self.placed += 1;
         Ok(())
     }
@@ -100,6 +99,35 @@ impl Page {
         self.standings[at] = standing;
         self.placed = self.placed - 1 + places_of(standing);
     }
+}
+
+// The task at a place stands so. Most often the place is the next behind the entries.
+#[inline(always)]
+#[tactic(auto, using(crate::proofs::Laying::mark_behind))]
+fn put_mark(standings: &mut Vec<Standing>, at: usize, standing: Standing) -> Result<(), AllocError>
+    requires { at < 4096 }
+    ensures items { OnOk result (standings.new.items ≡ with_mark standings.old.items at standing) }
+    ensures refused { OnErr result (standings.new.items ≡ standings.old.items) }
+    ensures room { OnErr result (vec_capacity standings.new ≡ vec_capacity standings.old) }
+{
+    if at > 0 && at == standings.len() {
+        return add_mark(standings, standing);
+    }
+    make_entry(standings, at)?;
+    standings[at] = standing;
+    Ok(())
+}
+
+// One entry more, behind the others.
+#[inline(always)]
+fn add_mark(standings: &mut Vec<Standing>, standing: Standing) -> Result<(), AllocError>
+    ensures items { OnOk result (standings.new.items ≡ standings.old.items ++ standing ∷ []) }
+    ensures refused { OnErr result (standings.new.items ≡ standings.old.items) }
+    ensures room { OnErr result (vec_capacity standings.new ≡ vec_capacity standings.old) }
+{
+    standings.reserve(1)?;
+    standings.push_reserved(standing);
+    Ok(())
 }
 
 // Makes entries up to the place's, where it has none. Most often that is one more.

@@ -8,3 +8,4 @@ pub mod Lined
 pub mod Numbers
 pub mod Serving
 pub mod Calls
+pub mod Firsts

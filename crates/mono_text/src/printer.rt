@@ -1,5 +1,5 @@
 // Report lines into one vector of bytes.
-ghost use Rattle.std.specs.Prelude.{◌≡◌, ◌≤◌, ◌++◌, [], ◌∷◌, codes, decimal, drop, flat_map, length, OnOk};
+ghost use Rattle.std.specs.Prelude.{◌≡◌, ◌≤◌, ◌-◌, ◌++◌, [], ◌∷◌, codes, decimal, drop, take, flat_map, length, OnOk};
 ghost use Rattle.mono_text.specs.Written.{reply_text, refusal_text, ended_text, any_number, woke_text, reply_part, number_part, report_line};
 
 use itoa::Buffer;
@@ -23,75 +23,108 @@ pub fn put_number(out: &mut Vec<u8>, n: u64) -> Result<(), AllocError>
     out.extend_from_slice(buffer.format(n).as_bytes())
 }
 
-/// Puts a word and a number behind it at the end.
-pub fn put_pair(out: &mut Vec<u8>, text: &[u8], n: u64) -> Result<(), AllocError>
+// Puts a word and a number behind it at the end.
+#[inline(always)]
+fn word_and_number(out: &mut Vec<u8>, text: &[u8], n: u64) -> Result<(), AllocError>
     ensures { OnOk result (out.new.items ≡ out.old.items ++ (text.now ++ decimal n)) }
 {
     put_word(out, text)?;
     put_number(out, n)
 }
 
-fn refused_word(refusal: Refusal) -> &'static [u8]
-    ensures { result.now ≡ codes "; refused " ++ refusal_text refusal }
+/// Puts a word and a number behind it at the end.
+pub fn put_pair(out: &mut Vec<u8>, text: &[u8], n: u64) -> Result<(), AllocError>
+    ensures { OnOk result (out.new.items ≡ out.old.items ++ (text.now ++ decimal n)) }
+{
+    word_and_number(out, text, n)
+}
+
+// Puts so many bytes of a text at the end, its first ones. The whole text is copied, which takes no loop and no call where
+// its length is known beforehand.
+#[inline(always)]
+fn put_front(out: &mut Vec<u8>, text: &[u8], len: usize) -> Result<(), AllocError>
+    requires { len ≤ length text.now }
+    ensures { OnOk result (out.new.items ≡ out.old.items ++ take len text.now) }
+{
+    out.extend_from_slice(text)?;
+    out.truncate(out.len() - (text.len() - len));
+    Ok(())
+}
+
+// The words below stand in 24 bytes each, beside their length.
+
+fn refused_word(refusal: Refusal) -> (&'static [u8; 24], usize)
+    ensures word { take result.1 result.0.now ≡ codes "; refused " ++ refusal_text refusal }
+    ensures alone { take (result.1 - 2) (drop 2 result.0.now) ≡ codes "refused " ++ refusal_text refusal }
+    ensures short { (2 ≤ result.1) × (result.1 ≤ length result.0.now) }
 {
     match refusal {
-        Refusal::Idle => b"; refused idle".as_slice(),
-        Refusal::NoTask => b"; refused no-task".as_slice(),
-        Refusal::NoTimer => b"; refused no-timer".as_slice(),
-        Refusal::NoHandle => b"; refused no-handle".as_slice(),
-        Refusal::Taken => b"; refused taken".as_slice(),
-        Refusal::AtCapacity => b"; refused at-capacity".as_slice(),
-        Refusal::Invalid => b"; refused invalid".as_slice(),
-        Refusal::NoPool => b"; refused no-pool".as_slice(),
-        Refusal::Ended => b"; refused ended".as_slice(),
+        Refusal::Idle => (b"; refused idle          ", 14),
+        Refusal::NoTask => (b"; refused no-task       ", 17),
+        Refusal::NoTimer => (b"; refused no-timer      ", 18),
+        Refusal::NoHandle => (b"; refused no-handle     ", 19),
+        Refusal::Taken => (b"; refused taken         ", 15),
+        Refusal::AtCapacity => (b"; refused at-capacity   ", 21),
+        Refusal::Invalid => (b"; refused invalid       ", 17),
+        Refusal::NoPool => (b"; refused no-pool       ", 17),
+        Refusal::Ended => (b"; refused ended         ", 15),
     }
 }
 
-fn woke_word(woke: Woke) -> &'static [u8]
-    ensures { result.now ≡ codes "; " ++ woke_text woke }
+fn woke_word(woke: Woke) -> (&'static [u8; 24], usize)
+    ensures word { take result.1 result.0.now ≡ codes "; " ++ woke_text woke }
+    ensures alone { take (result.1 - 2) (drop 2 result.0.now) ≡ woke_text woke }
+    ensures short { (2 ≤ result.1) × (result.1 ≤ length result.0.now) }
 {
     match woke {
-        Woke::Queued => b"; queued".as_slice(),
-        Woke::Noted => b"; noted".as_slice(),
-        Woke::Nothing => b"; nothing".as_slice(),
+        Woke::Queued => (b"; queued                ", 8),
+        Woke::Noted => (b"; noted                 ", 7),
+        Woke::Nothing => (b"; nothing               ", 9),
     }
 }
 
-fn ended_word(ended: Ended) -> &'static [u8]
-    ensures { result.now ≡ codes "; " ++ ended_text ended ++ 10 ∷ [] }
+fn ended_word(ended: Ended) -> (&'static [u8; 24], usize)
+    ensures word { take result.1 result.0.now ≡ codes "; " ++ ended_text ended ++ 10 ∷ [] }
+    ensures short { result.1 ≤ length result.0.now }
 {
     match ended {
-        Ended::Idle => b"; idle\n".as_slice(),
-        Ended::Again => b"; again\n".as_slice(),
-        Ended::Done => b"; done\n".as_slice(),
-        Ended::Gone => b"; gone\n".as_slice(),
+        Ended::Idle => (b"; idle\n                 ", 7),
+        Ended::Again => (b"; again\n                ", 8),
+        Ended::Done => (b"; done\n                 ", 7),
+        Ended::Gone => (b"; gone\n                 ", 7),
     }
 }
 
 // The word of a reply in a turn, behind a semicolon and a blank, and the number behind it, if there is one.
-fn reply_word(reply: Reply) -> (&'static [u8], Option<u64>)
-    ensures part { result.0.now ++ any_number result.1 ≡ reply_part reply }
-    ensures alone { drop 2 result.0.now ++ any_number result.1 ≡ reply_text reply }
-    ensures long { 2 ≤ length result.0.now }
+fn reply_word(reply: Reply) -> (&'static [u8; 24], usize, Option<u64>)
+    ensures part { take result.1 result.0.now ++ any_number result.2 ≡ reply_part reply }
+    ensures alone { take (result.1 - 2) (drop 2 result.0.now) ++ any_number result.2 ≡ reply_text reply }
+    ensures short { (2 ≤ result.1) × (result.1 ≤ length result.0.now) }
 {
     match reply {
-        Reply::Task(t) => (b"; task ".as_slice(), Some(t)),
-        Reply::Woke(woke) => (woke_word(woke), None),
-        Reply::Sleep(s) => (b"; sleep ".as_slice(), Some(s)),
-        Reply::Armed => (b"; armed".as_slice(), None),
-        Reply::Elapsed => (b"; elapsed".as_slice(), None),
-        Reply::Dropped(None) => (b"; dropped".as_slice(), None),
-        Reply::Dropped(Some(o)) => (b"; dropped ".as_slice(), Some(o)),
-        Reply::Job(j) => (b"; job ".as_slice(), Some(j)),
-        Reply::Yes => (b"; yes".as_slice(), None),
-        Reply::No => (b"; no".as_slice(), None),
-        Reply::Ended(None) => (b"; ended".as_slice(), None),
-        Reply::Ended(Some(t)) => (b"; ended ".as_slice(), Some(t)),
-        Reply::Pending => (b"; pending".as_slice(), None),
-        Reply::Ready => (b"; ready".as_slice(), None),
-        Reply::Output(o) => (b"; ready ".as_slice(), Some(o)),
-        Reply::Canceled => (b"; canceled".as_slice(), None),
-        Reply::Refused(refusal) => (refused_word(refusal), None),
+        Reply::Task(t) => (b"; task                  ", 7, Some(t)),
+        Reply::Woke(woke) => {
+            let (word, len) = woke_word(woke);
+            (word, len, None)
+        }
+        Reply::Sleep(s) => (b"; sleep                 ", 8, Some(s)),
+        Reply::Armed => (b"; armed                 ", 7, None),
+        Reply::Elapsed => (b"; elapsed               ", 9, None),
+        Reply::Dropped(None) => (b"; dropped               ", 9, None),
+        Reply::Dropped(Some(o)) => (b"; dropped               ", 10, Some(o)),
+        Reply::Job(j) => (b"; job                   ", 6, Some(j)),
+        Reply::Yes => (b"; yes                   ", 5, None),
+        Reply::No => (b"; no                    ", 4, None),
+        Reply::Ended(None) => (b"; ended                 ", 7, None),
+        Reply::Ended(Some(t)) => (b"; ended                 ", 8, Some(t)),
+        Reply::Pending => (b"; pending               ", 9, None),
+        Reply::Ready => (b"; ready                 ", 7, None),
+        Reply::Output(o) => (b"; ready                 ", 8, Some(o)),
+        Reply::Canceled => (b"; canceled              ", 10, None),
+        Reply::Refused(refusal) => {
+            let (word, len) = refused_word(refusal);
+            (word, len, None)
+        }
     }
 }
 
@@ -99,8 +132,8 @@ fn reply_word(reply: Reply) -> (&'static [u8], Option<u64>)
 fn part(out: &mut Vec<u8>, item: Reply) -> Result<(), AllocError>
     ensures { OnOk result (out.new.items ≡ out.old.items ++ reply_part item) }
 {
-    let (text, n) = reply_word(item);
-    put_word(out, text)?;
+    let (word, len, n) = reply_word(item);
+    put_front(out, word.as_slice(), len)?;
     match n {
         Some(n) => put_number(out, n),
         None => Ok(()),
@@ -112,8 +145,9 @@ fn part(out: &mut Vec<u8>, item: Reply) -> Result<(), AllocError>
 fn reply_line(out: &mut Vec<u8>, item: Reply) -> Result<(), AllocError>
     ensures { OnOk result (out.new.items ≡ out.old.items ++ (reply_text item ++ 10 ∷ [])) }
 {
-    let (text, n) = reply_word(item);
-    put_word(out, &text[2..])?;
+    let (word, len, n) = reply_word(item);
+    let text = word.as_slice();
+    put_front(out, &text[2..], len - 2)?;
     if let Some(n) = n {
         put_number(out, n)?;
     }
@@ -134,7 +168,7 @@ fn numbers(out: &mut Vec<u8>, list: &[u64]) -> Result<(), AllocError>
     ensures { OnOk result (out.new.items ≡ out.old.items ++ flat_map number_part list.now) }
 {
     for item in list {
-        put_pair(out, b" ".as_slice(), *item)?;
+        word_and_number(out, b" ".as_slice(), *item)?;
     }
     Ok(())
 }
@@ -144,9 +178,10 @@ fn numbers(out: &mut Vec<u8>, list: &[u64]) -> Result<(), AllocError>
 fn turn(out: &mut Vec<u8>, task: u64, list: &[Reply], ended: Ended) -> Result<(), AllocError>
     ensures { OnOk result (out.new.items ≡ out.old.items ++ (codes "turn " ++ decimal task ++ flat_map reply_part list.now ++ codes "; " ++ ended_text ended ++ 10 ∷ [])) }
 {
-    put_pair(out, b"turn ".as_slice(), task)?;
+    word_and_number(out, b"turn ".as_slice(), task)?;
     replies(out, list)?;
-    put_word(out, ended_word(ended))
+    let (word, len) = ended_word(ended);
+    put_front(out, word.as_slice(), len)
 }
 
 /// Puts a line of a word and numbers at the end: each number behind a blank, and a line feed.

@@ -448,7 +448,7 @@ impl<'a> Reader<'a> {
     /// The event that stands here, without a line feed, and goes past it. None where none stands here; what is left then is
     /// not told. The spare list is used as [`Reader::line`] uses it.
     #[inline(always)]
-    #[tactic(auto, unfolding(crate::specs::Reading::event_at))]
+    #[tactic(auto, using(crate::proofs::Firsts::event_from_s), unfolding(crate::specs::Reading::event_at))]
     pub fn event(
         &mut self,
         alloc: Global,
@@ -456,6 +456,12 @@ impl<'a> Reader<'a> {
     ) -> Result<Option<Event>, AllocError>
         ensures { GivesIf result self.new.rest.now (event_at self.old.rest.now) }
     {
+        if self.first() == b's' {
+            let Some(act) = self.s_act() else {
+                return Ok(None);
+            };
+            return Ok(Some(Event::Act(act)));
+        }
         if self.take(b"turn".as_slice()) {
             let steps = mem::replace(spare, List::new(alloc));
             return self.parts(steps);

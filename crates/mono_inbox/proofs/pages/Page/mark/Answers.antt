@@ -14,7 +14,7 @@ invariant_of-self-2 c =
     let unknown : standing_at c.self.inside.standings.items c.args.at ≡ Unknown = ap (λ s. standing_at s c.args.at) c.self.view_is ∙ c.requires.unknown in
     let same = length-set (grown c.self.inside.standings.items c.args.at) c.args.at c.args.standing in
     let longer = length-grown c.self.inside.standings.items c.args.at in
-    rw c.in_ok-make_entry.ensures.items (record {
+    rw c.in_ok-put_mark.ensures.items (record {
       placed_is = omega (arith, c.self.invariant.placed_is, mark-count c.self.inside.standings.items c.args.at c.args.standing unknown c.requires.placed);
       within = omega (arith, same, longer, c.self.invariant.within, c.requires.inside);
       bare = λ none. absurd (omega (arith, none, same, longer));
