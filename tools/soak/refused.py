@@ -15,7 +15,10 @@ import tempfile
 
 from faults import shim_in
 
-CALLS = ("push", "spawn", "add", "fire", "know", "drain", "register", "make", "open", "acquire", "bucket", "retry", "hire", "send")
+CALLS = (
+    "push", "list", "spawn", "add", "fire", "node", "key", "know", "drain", "record", "register", "make", "open", "acquire",
+    "bucket", "retry", "hire", "send",
+)
 TIMES = 300
 
 

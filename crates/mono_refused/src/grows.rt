@@ -13,6 +13,9 @@ pub enum Called {
     Otherwise,
 }
 
+/// How a row of calls ended: how many were refused, none where one went wrong. Nothing where there was no object.
+pub type Ended = Option<Option<u64>>;
+
 /// An object with a call that takes memory, and that leaves the object as it was where memory is refused.
 pub trait Grows {
     /// The call, for the n-th time, counted from 0. A call that was refused is made once more, with the same n.

@@ -2,31 +2,38 @@
 //! and once more where it was refused. What is refused, a shim before the system's allocator decides.
 #![tactic(auto)]
 
+ghost use Rattle.std.specs.Prelude.{◌≡◌};
+
 mod grows;
 mod services;
 mod tables;
 mod waking;
+mod wheels;
 
-use crate::grows::{Grows, refusals};
+use crate::grows::{Ended, Grows, refusals};
 use crate::services::{Acquired, Buckets, Hired, Opened, Retries, Written};
-use crate::tables::{Added, Fired, Pushed, Spawned};
-use crate::waking::{Drained, Known, Made, Registered};
+use crate::tables::{Added, Fired, Listed, Pushed, Spawned};
+use crate::waking::{Drained, Known, Made, Recorded, Registered};
+use crate::wheels::{Keyed, Linked};
 use mono_actor::Actors;
-use mono_inbox::{Inbox, InboxState, NoUnpark, Registry};
+use mono_inbox::{InboxState, Registry};
 use mono_limit::Limiter;
+use mono_machine::List;
 use mono_model::Host;
 use mono_session::Sessions;
 use mono_table::Table;
 use mono_task::Tasks;
 use mono_time::Timers;
 use std::alloc::Global;
+use std::marker::Brand;
 use std::process::ExitCode;
+use std::sync::ledger::{Blank, Ledger};
 use std::{env, io};
 
 const HELP: &str = "usage: mono_refused CALL CALLS
   The call is made so often; where it was refused memory, the object is looked at, and the call is made once more.
-  Printed is how often it was refused. CALL is one of push spawn add fire know drain register make open acquire bucket
-  retry hire send.
+  Printed is how often it was refused. CALL is one of push list spawn add fire node key know drain record register make
+  open acquire bucket retry hire send.
   status 3: a call did not do what it promises; status 6: there was no memory for the first object";
 
 // The end of a program one of whose calls did not do what it promises.
@@ -34,9 +41,6 @@ const WRONG: u8 = 3;
 
 // The end of a program that found no memory before the first call.
 const NO_MEMORY: u8 = 6;
-
-// How a row of calls ended: how many were refused, none where one went wrong. Nothing where there was no object.
-type Ended = Option<Option<u64>>;
 
 fn grown<R: Host, T: Grows + Drop>(rt: &R, alloc: Global, object: Option<T>, calls: u64) -> Ended {
     let mut object = object?;
@@ -46,6 +50,7 @@ fn grown<R: Host, T: Grows + Drop>(rt: &R, alloc: Global, object: Option<T>, cal
 fn of_tables<R: Host>(rt: &R, alloc: Global, call: &str, calls: u64) -> Option<Ended> {
     Some(match call {
         "push" => grown(rt, alloc, Some(Pushed(Table::new(alloc))), calls),
+        "list" => grown(rt, alloc, Some(Listed(List::new(alloc))), calls),
         "spawn" => grown(rt, alloc, Tasks::new(alloc, calls).ok().map(Spawned), calls),
         "add" => grown(
             rt,
@@ -54,19 +59,25 @@ fn of_tables<R: Host>(rt: &R, alloc: Global, call: &str, calls: u64) -> Option<E
             calls,
         ),
         "fire" => grown(rt, alloc, Fired::new(alloc, calls), calls),
+        "node" => grown(rt, alloc, Linked::new(alloc), calls),
+        "key" => grown(rt, alloc, Keyed::new(alloc), calls),
         _ => return None,
     })
+}
+
+// The drains of a recorded inbox.
+fn drains_recorded<L: Ledger, R: Host>(rt: &R, alloc: Global, calls: u64, blank: Blank) -> Ended
+    requires { (blank.name ≡ L.name) × (blank.parts ≡ L.parts) × (blank.parts ≡ 0) }
+{
+    let inbox: Option<Recorded<L>> = Recorded::new(alloc, calls, blank);
+    grown(rt, alloc, inbox, calls)
 }
 
 fn of_waking<R: Host>(rt: &R, alloc: Global, call: &str, calls: u64) -> Option<Ended> {
     Some(match call {
         "know" => grown(rt, alloc, InboxState::new(alloc, 0).ok().map(Known), calls),
-        "drain" => grown(
-            rt,
-            alloc,
-            Inbox::new(alloc, 0, NoUnpark).ok().map(Drained),
-            calls,
-        ),
+        "drain" => grown(rt, alloc, Drained::new(alloc), calls),
+        "record" => drains_recorded::<Brand, R>(rt, alloc, calls, Blank::new(0)),
         "register" => grown(rt, alloc, Some(Registered(Registry::new(alloc))), calls),
         "make" => grown(rt, alloc, Some(Made), calls),
         _ => return None,

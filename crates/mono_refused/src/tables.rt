@@ -1,5 +1,6 @@
-// Tables, tasks and sleeps.
+// Tables, lists, tasks and sleeps.
 use crate::grows::{Called, Grows};
+use mono_machine::List;
 use mono_model::Host;
 use mono_table::Table;
 use mono_task::{SpawnTask, Tasks};
@@ -24,6 +25,28 @@ impl Grows for Pushed {
 
     fn seen<R: Host>(&self, _rt: &R) -> u64 {
         self.0.len() ^ self.0.count().rotate_left(32)
+    }
+}
+
+/// A list, by pushes.
+#[derive(Drop)]
+pub struct Listed(pub List<u64>);
+
+impl Grows for Listed {
+    fn grow<R: Host>(&mut self, _rt: &R, _alloc: Global, n: u64) -> Called {
+        match self.0.push(n ^ 3) {
+            Ok(()) if self.0.get(n as usize) == Some(&(n ^ 3)) => Called::Done,
+            Ok(()) => Called::Otherwise,
+            Err(_) => Called::Refused,
+        }
+    }
+
+    fn seen<R: Host>(&self, _rt: &R) -> u64 {
+        let mut seen = self.0.len() as u64;
+        for item in self.0.as_slice() {
+            seen = seen.rotate_left(1) ^ *item;
+        }
+        seen
     }
 }
 
