@@ -83,26 +83,79 @@ fn an_inbox_drains_in_order(rt: HostRuntime) -> Result<(), Fail> {
     Ok(())
 }
 
-#[test]
-fn a_registry_counts_from_sixteen(rt: HostRuntime) -> Result<(), Fail> {
-    let alloc = rt.alloc();
-    let registry = Registry::new(alloc);
-    let first = Arc::new(alloc, Inbox::new(alloc, 0, NoUnpark)?)?;
-    let second = Arc::new(alloc, Inbox::new(alloc, 0, NoUnpark)?)?;
-    let waker = first.waker(&rt, alloc, 2)?;
-    assert_eq!(rt; registry.register(&rt, alloc, first)?, 16);
-    assert_eq!(rt; registry.register(&rt, alloc, second)?, 17);
-    let found = registry.get(&rt, 16)?.ok_or("an inbox")?;
-    assert!(rt; waker.wake(&rt));
+/// A registry of inboxes that unpark nobody.
+type Inboxes = Registry<NoUnpark>;
+
+/// Registers one more inbox: its number, or none where there was no memory.
+fn register_one<R: Host>(rt: &R, alloc: Global, registry: &Inboxes) -> Option<u64> {
+    let inbox = Inbox::new(alloc, 0, NoUnpark).ok()?;
+    let inbox = Arc::new(alloc, inbox).ok()?;
+    registry.register(rt, alloc, inbox).ok()
+}
+
+/// The same of an inbox, a waker of whose task 2 is handed out beside the number.
+fn register_with_waker<R: Host>(
+    rt: &R,
+    alloc: Global,
+    registry: &Inboxes,
+) -> Option<(u64, RemoteWaker<NoUnpark>)> {
+    let inbox = Inbox::new(alloc, 0, NoUnpark).ok()?;
+    let waker = inbox.waker(rt, alloc, 2).ok()?;
+    let inbox = Arc::new(alloc, inbox).ok()?;
+    Some((registry.register(rt, alloc, inbox).ok()?, waker))
+}
+
+/// Whether a wake by this waker is the one that waits in the inbox.
+fn takes_the_wake<R: Host>(
+    rt: &R,
+    alloc: Global,
+    inbox: &Inbox<NoUnpark>,
+    waker: &RemoteWaker<NoUnpark>,
+) -> bool {
+    let is_listed = waker.wake(rt);
     let mut tasks = Vec::new(alloc);
-    found.drain(&rt, alloc, &mut tasks)?;
-    assert_eq!(rt; tasks.as_slice(), [2].as_slice());
-    assert!(rt; registry.unregister(&rt, 16));
-    assert!(rt; registry.get(&rt, 16)?.is_none());
-    assert!(rt; !registry.unregister(&rt, 16));
-    let third = Arc::new(alloc, Inbox::new(alloc, 0, NoUnpark)?)?;
-    assert_eq!(rt; registry.register(&rt, alloc, third)?, 18);
-    Ok(())
+    let is_drained = inbox.drain(rt, alloc, &mut tasks).is_ok();
+    is_listed && is_drained && tasks.as_slice() == [2].as_slice()
+}
+
+/// The inbox of this number, where it is in the registry.
+fn inbox_of<R: Host>(
+    rt: &R,
+    registry: &Inboxes,
+    number: u64,
+) -> Option<Arc<Inbox<NoUnpark>, Global>> {
+    match registry.get(rt, number) {
+        Ok(found) => found,
+        Err(_) => None,
+    }
+}
+
+/// Whether it is known that no inbox has this number.
+fn is_gone<R: Host>(rt: &R, registry: &Inboxes, number: u64) -> bool {
+    matches!(registry.get(rt, number), Ok(None))
+}
+
+/// Whether the first two inboxes get the numbers 16 and 17, and the first takes the wakes of its waker.
+fn counts_from_sixteen<R: Host>(rt: &R, alloc: Global, registry: &Inboxes) -> Option<bool> {
+    let (number, waker) = register_with_waker(rt, alloc, registry)?;
+    let second = register_one(rt, alloc, registry);
+    let first = inbox_of(rt, registry, 16)?;
+    let is_first = takes_the_wake(rt, alloc, &first, &waker);
+    Some(number == 16 && second == Some(17) && is_first)
+}
+
+/// Whether the first inbox goes once, and its number is not given again.
+fn goes_for_good<R: Host>(rt: &R, alloc: Global, registry: &Inboxes) -> bool {
+    let goes = registry.unregister(rt, 16) && is_gone(rt, registry, 16);
+    let goes_again = registry.unregister(rt, 16);
+    goes && !goes_again && register_one(rt, alloc, registry) == Some(18)
+}
+
+#[test]
+fn a_registry_counts_from_sixteen(rt: HostRuntime) {
+    let registry = Registry::new(rt.alloc());
+    assert!(rt; counts_from_sixteen(&rt, rt.alloc(), &registry) == Some(true));
+    assert!(rt; goes_for_good(&rt, rt.alloc(), &registry));
 }
 
 #[test]
@@ -393,23 +446,30 @@ fn a_drain_takes_all(rt: HostRuntime) -> Result<(), Fail> {
     Ok(())
 }
 
+/// Whether the second of two inboxes takes the wakes of its waker. It is handed out.
+fn the_second<R: Host>(
+    rt: &R,
+    alloc: Global,
+    registry: &Inboxes,
+) -> Option<(bool, Arc<Inbox<NoUnpark>, Global>)> {
+    let first = register_one(rt, alloc, registry);
+    let (number, waker) = register_with_waker(rt, alloc, registry)?;
+    let second = inbox_of(rt, registry, 17)?;
+    let is_second = takes_the_wake(rt, alloc, &second, &waker);
+    Some((first == Some(16) && number == 17 && is_second, second))
+}
+
+/// Whether the second of two inboxes goes and the first one stays, and the second then gets a new number.
+fn tells_apart<R: Host>(rt: &R, alloc: Global, registry: &Inboxes) -> Option<bool> {
+    let (is_second, second) = the_second(rt, alloc, registry)?;
+    let goes = registry.unregister(rt, 17) && is_gone(rt, registry, 17);
+    let stays = inbox_of(rt, registry, 16).is_some();
+    let again = registry.register(rt, alloc, second);
+    Some(is_second && goes && stays && matches!(again, Ok(18)))
+}
+
 #[test]
-fn a_registry_tells_numbers_apart(rt: HostRuntime) -> Result<(), Fail> {
-    let alloc = rt.alloc();
-    let registry = Registry::new(alloc);
-    let first = Arc::new(alloc, Inbox::new(alloc, 0, NoUnpark)?)?;
-    let second = Arc::new(alloc, Inbox::new(alloc, 0, NoUnpark)?)?;
-    let waker = second.waker(&rt, alloc, 2)?;
-    assert_eq!(rt; registry.register(&rt, alloc, first)?, 16);
-    assert_eq!(rt; registry.register(&rt, alloc, second)?, 17);
-    assert!(rt; waker.wake(&rt));
-    let found = registry.get(&rt, 17)?.ok_or("an inbox")?;
-    let mut tasks = Vec::new(alloc);
-    found.drain(&rt, alloc, &mut tasks)?;
-    assert_eq!(rt; tasks.as_slice(), [2].as_slice());
-    assert!(rt; registry.unregister(&rt, 17));
-    assert!(rt; registry.get(&rt, 17)?.is_none());
-    assert!(rt; registry.get(&rt, 16)?.is_some());
-    assert_eq!(rt; registry.register(&rt, alloc, found)?, 18);
-    Ok(())
+fn a_registry_tells_numbers_apart(rt: HostRuntime) {
+    let registry = Registry::new(rt.alloc());
+    assert!(rt; tells_apart(&rt, rt.alloc(), &registry) == Some(true));
 }
