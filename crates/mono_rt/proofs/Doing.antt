@@ -298,10 +298,6 @@ module _ {O P : Type 0} (number : O → ℕ) where
   blocks_by error.AtCapacity h g main units w a b c d i j k l same p q s =
       does_more (RunsMain h main units (Err error.AtCapacity)) IsRefused a d i l (λ m new xs zs stm stn is. absurd is.ends) (does_main h g main units (Err error.AtCapacity) a b c d i j k l same p q (drops_any main w c d k l s))
 
-  -- no output came back
-  pub blocks_lost : (h g : Bool) (main units : ℕ) (a b c d : Parts O (Seen P)) (i j k l : Journal) → g ≡ h → Does number (IsSpawn main) a b i j → Goes number b c j k → Does number (DropsFor main None) c d k l → Does number (Blocked h units (Err error.Memory)) a d i l
-  blocks_lost h g main units a b c d i j k l same p q s = does_more (RunsMain h main units (Err error.Memory)) (Blocked h units (Err error.Memory)) a d i l (λ m new xs zs stm stn is. inr (main, is)) (does_main h g main units (Err error.Memory) a b c d i j k l same p (does_led number b c j k q) s)
-
   pub blocks_done : (output : ℕ) (h g : Bool) (main units : ℕ) (a b c d : Parts O (Seen P)) (i j k l : Journal) → g ≡ h → Does number (IsSpawn main) a b i j → Does number (Ends {A = ⊤} g main units (Ok tt)) b c j k → Does number (DropsFor main (Some output)) c d k l → Does number (Blocked h units (Ok output)) a d i l
   blocks_done output h g main units a b c d i j k l same p q s = does_more (RunsMain h main units (Ok output)) (Blocked h units (Ok output)) a d i l (λ m new xs zs stm stn is. (main, is)) (does_main h g main units (Ok output) a b c d i j k l same p q s)
 

@@ -29,13 +29,19 @@ impl Model for Acts {
 }
 
 impl Acts {
-    /// No act yet, with room for 512.
-    pub fn with_room(alloc: Global) -> Result<Acts, AllocError>
+    /// No act yet, with room for 512, in the memory of this record where it has any.
+    pub fn with_room(self) -> Result<Acts, AllocError>
         ensures { IfOk result (λ acts. acts ≡ no_acts) }
     {
+        let mut steps = self.steps;
+        let mut replies = self.replies;
+        steps.clear();
+        replies.clear();
+        steps.reserve(ROOM)?;
+        replies.reserve(ROOM)?;
         Ok(Acts {
-            steps: Vec::with_capacity(alloc, ROOM)?,
-            replies: Vec::with_capacity(alloc, ROOM)?,
+            steps,
+            replies,
             is_full: false,
         })
     }

@@ -1,8 +1,10 @@
 // Rounds of turns, waits on the driver, and the main task.
-ghost use Rattle.std.specs.Prelude.{◌≡◌, ◌<◌, ◌≤◌, ◌+◌, ◌++◌, ◌∷◌, [], None, false, length, Some, IfOk, OnOk, IfErr, OnErr, IfSome, IsSome, if◌then◌else◌};
+ghost use Rattle.std.specs.Prelude.{◌≡◌, ◌<◌, ◌≤◌, ◌+◌, ◌++◌, ◌∷◌, [], None, false, length, Some, Ok, IfOk, OnOk, IfErr, OnErr, IfSome, IsSome, if◌then◌else◌};
 ghost use Rattle.std.specs.Option.{option_map};
 ghost use Rattle.mono_time.specs.Instants.{nanos_of};
 ghost use Rattle.mono_machine.specs.Machine.{Machine};
+ghost use Rattle.mono_model.specs.Joins.{drop_answer};
+ghost use Rattle.mono_task.specs.Work.{GivesOutput};
 ghost use Rattle.mono_rt.specs.Numbered.{answer_numbered};
 ghost use Rattle.mono_rt.specs.Reached.{HasPlace};
 ghost use Rattle.mono_rt.specs.Stands.{hosting_of, Matches};
@@ -204,6 +206,7 @@ impl<F: Drop, O: Outcome + Drop, D: Driver, P: ThreadPool + Drop> Runtime<F, O, 
     /// entry has the room that was held for it, so no memory is asked for.
     fn end_main(&mut self, main: u64) -> Option<O>
         requires { 0 < self.old.journal.entries.held }
+        ensures output { (output : O) → drop_answer self.old.cx.parts.tasks.tasks main ≡ Ok (Some output) → result ≡ Some output }
         ensures dropped { Does O.output_number (DropsFor main (option_map O.output_number result)) self.old.cx.parts self.new.cx.parts self.old.journal self.new.journal }
         ensures turn { self.new.cx.parts.tasks.turn ≡ self.old.cx.parts.tasks.turn }
         ensures futures { self.new.cx.futures ≡ self.old.cx.futures }
@@ -287,6 +290,7 @@ where
     fn run<R: Host>(&mut self, rt: &R, alloc: Global, main: u64, turns: u64) -> Result<(), RunError>
         requires callable { (f : F) → F.can_poll f }
         requires rests { self.old.cx.parts.tasks.turn ≡ None }
+        ensures given { OnOk result (GivesOutput self.new.cx.parts.tasks.tasks main) }
         ensures ends { Does O.output_number (Ends self.old.cx.parts.has_timers main turns result) self.old.cx.parts self.new.cx.parts self.old.journal self.new.journal }
         ensures has_timers { self.new.cx.parts.has_timers ≡ self.old.cx.parts.has_timers }
         ensures rests { self.new.cx.parts.tasks.turn ≡ None }
@@ -345,7 +349,7 @@ where
                     Err(error) => Err(error),
                     Ok(()) => match output {
                         Some(output) => Ok(output),
-                        None => Err(RunError::Memory),
+                        None => unreachable!(),
                     },
                 }
             }

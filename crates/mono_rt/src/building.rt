@@ -85,6 +85,7 @@ impl<F: Drop, O: Outcome + Drop, D: Driver, P: ThreadPool + Drop> Runtime<F, O, 
             cx,
             driver,
             journal: Journal::new(alloc, false),
+            spare: Acts::keeping_none(alloc),
         })
     }
 

@@ -101,6 +101,7 @@ impl Journal {
     }
 
     /// One more entry, for which there is room.
+    #[inline(always)]
     pub(crate) fn push(&mut self, entry: Entry)
         requires { HasPlaces self.old 1 }
         ensures entries { self.new.entries.items ≡ pushed self.old entry }

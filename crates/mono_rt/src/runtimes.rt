@@ -35,10 +35,12 @@ pub struct Runtime<F, O, D: Driver, P: ThreadPool> {
     pub(crate) cx: Cx<F, O, P, D::Unpark>,
     pub(crate) driver: D,
     pub(crate) journal: Journal,
+    // the memory of the last turn's record, which the next turn's record uses again
+    pub(crate) spare: Acts,
 }
 
 impl<F: Drop, O: Outcome + Drop, D: Driver, P: ThreadPool + Drop> Runtime<F, O, D, P> {
-    /// The turn that ended is put into the journal.
+    /// The turn that ended is put into the journal. Where that is full the memory of its record is kept for the next turn.
     fn keep_turn(&mut self, alloc: Global, task: u64, end: End, ended: Ended)
         requires { HasPlaces self.old.journal 1 }
         ensures kept { self.new.journal.is_full ≡ false → (self.old.journal.is_full ≡ false) × (self.old.cx.parts.acts.is_full ≡ false) × (self.new.journal.entries.items ≡ self.old.journal.entries.items ++ Ran (event.Turn self.old.cx.parts.acts.steps end) (report.Turn task self.old.cx.parts.acts.replies ended) ∷ []) }
@@ -52,8 +54,12 @@ impl<F: Drop, O: Outcome + Drop, D: Driver, P: ThreadPool + Drop> Runtime<F, O, 
         ensures full { self.new.journal.is_full ≡ (self.old.journal.is_full || self.old.cx.parts.acts.is_full) }
         ensures held { self.new.journal.entries.held ≡ self.old.journal.entries.held }
     {
-        let acts = mem::replace(&mut self.cx.parts.acts, Acts::keeping_none(alloc));
-        self.journal.push_turn(task, acts, end, ended);
+        if self.journal.is_full() {
+            mem::swap(&mut self.spare, &mut self.cx.parts.acts);
+        } else {
+            let acts = mem::replace(&mut self.cx.parts.acts, Acts::keeping_none(alloc));
+            self.journal.push_turn(task, acts, end, ended);
+        }
     }
 
     /// Room for a clock step, and the reading of the clock.
@@ -91,7 +97,7 @@ impl<F: Drop, O: Outcome + Drop, D: Driver, P: ThreadPool + Drop> Runtime<F, O, 
     {
         match self.journal.reserve(2) {
             Err(_) => None,
-            Ok(()) => match Acts::with_room(alloc) {
+            Ok(()) => match mem::replace(&mut self.spare, Acts::keeping_none(alloc)).with_room() {
                 Err(_) => None,
                 Ok(acts) => {
                     let now = self.driver.now();

@@ -1,5 +1,5 @@
 // A turn of the task at the queue's front.
-ghost use Rattle.std.specs.Prelude.{◌≡◌, ◌<◌, None, Some, true, length, IfSome, IfNone, is_some};
+ghost use Rattle.std.specs.Prelude.{◌≡◌, ◌<◌, None, Some, true, length, IfSome, IfNone, is_some, not};
 ghost use Rattle.mono_model.specs.Table.{value_at};
 ghost use Rattle.mono_machine.specs.Machine.{Machine};
 ghost use Rattle.mono_rt.specs.Record.{no_acts};
@@ -23,6 +23,7 @@ impl<F: Drop, O: Outcome + Drop, P: ThreadPool + Drop, U: Unpark> Cx<F, O, P, U>
     /// whether there was memory for it.
     fn open_waker<R: Host>(&mut self, rt: &R, alloc: Global, task: u64) -> bool
         ensures waker { IfSome self.new.waker (λ waker. waker ≡ task) }
+        ensures made { result ≡ is_some self.new.waker }
         ensures parts { self.new.parts ≡ self.old.parts }
         ensures futures { self.new.futures ≡ self.old.futures }
     {
@@ -60,7 +61,7 @@ impl<F: Drop, O: Outcome + Drop, P: ThreadPool + Drop, U: Unpark> Cx<F, O, P, U>
     }
 
     /// The queue's front runs, at this reading of the clock, and its future is taken out of the table. Before its first
-    /// turn its remote waker is made.
+    /// turn its remote waker is made. What is noted of refused memory is what this turn is refused.
     fn begin_turn<R: Host>(
         &mut self,
         rt: &R,
@@ -71,6 +72,7 @@ impl<F: Drop, O: Outcome + Drop, P: ThreadPool + Drop, U: Unpark> Cx<F, O, P, U>
         requires rests { self.old.parts.tasks.turn ≡ None }
         requires queued { 0 < length self.old.parts.tasks.tasks.queue }
         ensures begins { Begins result.0 now acts self.old self.new }
+        ensures noted { self.new.parts.is_out_of_memory ≡ not (is_some self.new.waker) }
         ensures future { result.1 ≡ value_at self.old.futures.items result.0 }
     {
         let Ok(task) = self.parts.tasks.begin_turn() else {
@@ -80,7 +82,7 @@ impl<F: Drop, O: Outcome + Drop, P: ThreadPool + Drop, U: Unpark> Cx<F, O, P, U>
         self.parts.me = task;
         self.parts.now = now;
         self.parts.acts = acts;
-        self.parts.is_out_of_memory = self.parts.is_out_of_memory || !made;
+        self.parts.is_out_of_memory = !made;
         let at = task as usize;
         if at >= self.futures.len() {
             return (task, None);

@@ -1,16 +1,17 @@
 -- A poll and a drop of a handle, on the places of the table.
-use Rattle.std.proofs.Common.{◌≡◌, ◌<◌, ◌+◌, ◌-◌, ℕ, true, false, List, map, length, set, Some, None, Option, refl, ap, sym, ◌∙◌, arith}
+use Rattle.std.proofs.Common.{◌≡◌, ◌<◌, ◌+◌, ◌-◌, ℕ, true, false, List, map, length, set, Some, None, Option, Ok, refl, ap, sym, ◌∙◌, arith}
 use Rattle.std.specs.Prelude.{slice_set, is_some}
 use Rattle.std.proofs.lemmas.List.{map-set, length-map}
 use Rattle.mono_model.specs.Table.{Table, value_at, count_of}
 use Rattle.mono_model.specs.Tasks.{Tasks, Task, Phase, idle, queued, running, taken}
 use Rattle.mono_model.specs.Valid.{once_if}
-use Rattle.mono_model.specs.Joins.{kept_value, kept_task, joined, joined_in, joined_value, waited_for, join_dropped, dropped_in, dropped_value, let_go}
+use Rattle.mono_model.specs.Joins.{kept_value, kept_task, drop_value, joined, joined_in, joined_value, waited_for, join_dropped, dropped_in, dropped_value, let_go}
 use Rattle.mono_task.specs.Stored.{Entry, Gone, Taken, Done, Idle, Queued, Running, Noted}
 use Rattle.mono_task.specs.declared.entries.Handle.{Handle}
 use Rattle.mono_task.specs.declared.entries.Handle.TheVariants as handle
 use Rattle.mono_task.specs.Entries.{task_of, is_unfinished, is_queued, is_running, is_over, is_kept, waiter_of, awaited_by, joined_entry, dropped_entry}
 use Rattle.mono_task.specs.Standing.{entry_at, tasks_of, Keeps}
+use Rattle.mono_task.specs.Work.{has_output, GivesOutput}
 use Rattle.mono_task.proofs.Counting.{count_where-set}
 use Rattle.mono_task.proofs.Counted.{value_at-entries, set_same, count_of-same, count_of-gone}
 use Rattle.mono_task.proofs.Stays.{the_tasks, same_tasks, stays_alone}
@@ -203,6 +204,22 @@ module _ {O : Type 0} (queue : List ℕ) (room : ℕ) (entries : List (Entry O))
     pub lasting_keeps : is_over e ≡ false → Keeps queue room (slice_set entries t new) unfinished live turn
     lasting_keeps lasts = left_as (dropped_entry e) is (drop_queued e) (drop_running e) (drop_lasts e) live
         (keeps.live_is ∙ sym (ap count_of (written (dropped_entry e) is) ∙ count_of-same (map task_of entries) t (task_of (dropped_entry e)) (drop_some e lasts ∙ sym (ap is_some value_is))))
+
+-- a task whose output is there
+output_given : {O : Type 0} (e : Entry O) → has_output (task_of e) ≡ true → (output : O) × (drop_value (kept_value (task_of e)) ≡ Ok (Some output))
+output_given Gone is = cc
+output_given Taken is = cc
+output_given (Done output) is = (output, refl)
+output_given (Idle h) is = cc
+output_given (Queued h) is = cc
+output_given (Running h) is = cc
+output_given (Noted h) is = cc
+
+pub gives_output : {O : Type 0} (queue : List ℕ) (entries : List (Entry O)) (limit t : ℕ) → t < length entries → (e : Entry O) → entry_at entries t ≡ e → has_output (task_of e) ≡ true
+    → GivesOutput (tasks_of queue entries limit) t
+gives_output queue entries limit t inside e at is =
+    let given = output_given e is in
+    (given.0, ap drop_value (kept_at queue entries limit t inside ∙ ap (λ x. kept_value (task_of x)) at) ∙ given.1)
 
 -- a handle of a task that is gone
 pub joined_gone : {O : Type 0} (queue : List ℕ) (entries : List (Entry O)) (limit t : ℕ) → t < length entries → entry_at entries t ≡ Gone

@@ -1,9 +1,10 @@
 -- Tasks with their outputs forgotten, which is what every context can tell.
-use Rattle.std.specs.Prelude.{⊤, ℕ, Bool, true, false, if◌then◌else◌, Option, Some, None, Result, Ok, Err, map}
+use Rattle.std.specs.Prelude.{⊤, ◌≡◌, ℕ, Bool, true, false, if◌then◌else◌, Option, Some, None, Result, Ok, Err, map}
 use Rattle.std.specs.Option.{option_map}
 use Rattle.mono_model.specs.Table.{value_at, is_issued}
 use Rattle.mono_model.specs.declared.task_error.TaskError.{TaskError}
 use Rattle.mono_model.specs.declared.task_error.TaskError.TheVariants.{NoTask}
+use Rattle.mono_model.specs.Joins.{drop_answer}
 use Rattle.mono_model.specs.Tasks.{Tasks, Task, Phase, idle, queued, running, done, taken, is_finished}
 
 abbrev pub phase_without : {O : Type 0} → Phase O → Phase ⊤
@@ -30,6 +31,10 @@ is_done taken = false
 abbrev pub has_output : {O : Type 0} → Option (Task O) → Bool
 has_output None = false
 has_output (Some task) = is_done task.phase
+
+-- the drop of its handle gives an output
+abbrev pub GivesOutput : {O : Type 0} → Tasks O → ℕ → Type 0
+GivesOutput {O} tasks t = (output : O) × (drop_answer tasks t ≡ Ok (Some output))
 
 -- A task that was given out has finished, whether its handle is kept or dropped. One that is not there has finished.
 abbrev pub has_finished : {O : Type 0} → Option (Task O) → Bool

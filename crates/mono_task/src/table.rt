@@ -5,7 +5,7 @@ ghost use Rattle.mono_model.specs.Table.{value_at, next_number, with_next, is_fu
 ghost use Rattle.mono_model.specs.Tasks.{spawned, woken};
 ghost use Rattle.mono_model.specs.Joins.{wake_answer, join_answer, joined, drop_answer, join_dropped, finished_answer};
 ghost use Rattle.mono_task.specs.Schedule.{no_schedule, with_tasks, begin_answer, after_begin, end_answer, after_end};
-ghost use Rattle.mono_task.specs.Work.{has_output, over_answer};
+ghost use Rattle.mono_task.specs.Work.{has_output, GivesOutput, over_answer};
 ghost use Rattle.mono_task.specs.Finishing.{Finishes};
 ghost use Rattle.mono_model.specs.declared.poll.Poll.TheVariants.{Ready, Pending};
 ghost use Rattle.mono_task.specs.declared.error.SpawnTask.TheVariants.{AtCapacity};
@@ -306,9 +306,11 @@ impl<O: Drop> Tasks<O> {
         entry.drop_join()
     }
 
-    /// Whether a task has finished and its output was not taken.
+    /// Whether a task has finished and its output was not taken. Where it is so, its handle is kept, and the drop of it
+    /// gives the output (`given`).
     pub fn has_output(&self, task: u64) -> bool
-        ensures { result ≡ has_output (value_at self.now.tasks.table task) }
+        ensures answer { result ≡ has_output (value_at self.now.tasks.table task) }
+        ensures given { result ≡ true → GivesOutput self.now.tasks task }
     {
         match self.entries.get(task) {
             None => false,

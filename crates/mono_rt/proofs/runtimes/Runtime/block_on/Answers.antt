@@ -1,9 +1,7 @@
-use Rattle.std.proofs.Common.{◌≡◌, ap, ◌∙◌, sym, Ok}
+use Rattle.std.proofs.Common.{◌≡◌, Option, Some, None, ap, ◌∙◌, sym, Ok}
 use Rattle.std.specs.Prelude.{⊤}
 use Rattle.std.specs.Option.{option_map}
-use Rattle.mono_rt.specs.Rounds.{Ends}
-use Rattle.mono_rt.proofs.Going.{goes_of}
-use Rattle.mono_rt.proofs.Doing.{blocks_by, blocks_done, blocks_lost, blocks_refused}
+use Rattle.mono_rt.proofs.Doing.{blocks_by, blocks_done, blocks_refused}
 use Rattle.mono_rt.specs.Telling.{going}
 use Rattle.mono_rt.proofs.Telling.{telling_on, telling_past, telling_more, capacity_ends}
 use Rattle.std.proofs.Common.{Err, subst}
@@ -12,6 +10,15 @@ use Rattle.mono_rt.specs.Polling.{Polling}
 use Rattle.mono_rt.proofs.Polling.{polls_on, polls_drop, polls_main, same_error, on_main, none_made}
 use Rattle.mono_rt.proofs.Filling.{fills_on, fills_not, fills_still}
 use Rattle.mono_rt.proofs.runtimes.Runtime.block_on.Goals as goal
+
+-- where the main task has its output, the drop of its handle gives it
+none_given : {A : Type 0} (v : Option A) (x : A) → v ≡ None → v ≡ Some x → ⊥
+none_given v x none given = cc
+
+pub unreachable-requires : goal.unreachable-requires
+unreachable-requires g c =
+    let given = rw c.in-Ok-answer.is at c.run-answer.ensures.given in
+    none_given c.end_main-output.result given.0 c.in-None.is (c.end_main-output.ensures.output given.0 given.1)
 
 pub returns-in-Err-clause-blocked : goal.returns-in-Err-clause-blocked
 returns-in-Err-clause-blocked g c =
@@ -37,16 +44,6 @@ returns-in-Some-clause-blocked g c =
     blocks_done number (number c.in-Some.output) old.cx.parts.has_timers started.cx.parts.has_timers c.in-Ok.main c.args.turns old.cx.parts started.cx.parts ran.cx.parts ended.cx.parts old.journal started.journal ran.journal ended.journal
     c.start_main.ensures.has_timers c.in-Ok.ensures.spawned (rw c.in-Ok-answer.is at c.run-answer.ensures.ends) (rw c.in-Some.is at c.end_main-output.ensures.dropped)
 
-pub returns-in-None-clause-blocked : goal.returns-in-None-clause-blocked
-returns-in-None-clause-blocked g c =
-    let number = g.O.Outcome.output_number in
-    let old = c.args.self.now in
-    let started = c.start_main.new.self in
-    let ran = c.run-answer.new.self in
-    let ended = c.end_main-output.new.self in
-    blocks_lost number old.cx.parts.has_timers started.cx.parts.has_timers c.in-Ok.main c.args.turns old.cx.parts started.cx.parts ran.cx.parts ended.cx.parts old.journal started.journal ran.journal ended.journal
-    c.start_main.ensures.has_timers c.in-Ok.ensures.spawned (goes_of number (Ends started.cx.parts.has_timers c.in-Ok.main c.args.turns c.run-answer.result) started.cx.parts ran.cx.parts started.journal ran.journal c.run-answer.ensures.ends) (rw c.in-None.is at c.end_main-output.ensures.dropped)
-
 pub returns-in-Err-clause-told : goal.returns-in-Err-clause-told
 returns-in-Err-clause-told g c = telling_more (λ x e. capacity_ends _ c.in-Err.error x c.in-Err.ensures.refused e) c.start_main.ensures.told
 
@@ -55,9 +52,6 @@ returns-in-Err-answer-clause-told g c = telling_more (λ x e. e) (telling_past (
 
 pub returns-in-Some-clause-told : goal.returns-in-Some-clause-told
 returns-in-Some-clause-told g c = telling_past (telling_on {q = going} c.start_main.ensures.told (rw c.in-Ok-answer.is at c.run-answer.ensures.told)) c.end_main-output.ensures.told
-
-pub returns-in-None-clause-told : goal.returns-in-None-clause-told
-returns-in-None-clause-told g c = telling_more (λ x e. tt) (telling_past (telling_on {q = going} c.start_main.ensures.told c.run-answer.ensures.told) c.end_main-output.ensures.told)
 
 pub returns-in-Err-clause-full : goal.returns-in-Err-clause-full
 returns-in-Err-clause-full g c = fills_not g.O.Outcome.output_number g.F.TaskFuture c.args.self.now.cx c.args.self.now.journal c.start_main.new.self.journal c.start_main.ensures.full
@@ -74,16 +68,6 @@ returns-in-Err-answer-clause-full g c =
 
 pub returns-in-Some-clause-full : goal.returns-in-Some-clause-full
 returns-in-Some-clause-full g c =
-    let number = g.O.Outcome.output_number in
-    let old = c.args.self.now in
-    let started = c.start_main.new.self in
-    let ran = c.run-answer.new.self in
-    fills_still number g.F.TaskFuture old.cx old.journal ran.journal c.end_main-output.new.self.journal
-    (fills_on number g.F.TaskFuture old.cx started.cx old.journal started.journal ran.journal c.start_main.ensures.goes (fills_not number g.F.TaskFuture old.cx old.journal started.journal c.start_main.ensures.full) c.run-answer.ensures.full)
-    c.end_main-output.ensures.full
-
-pub returns-in-None-clause-full : goal.returns-in-None-clause-full
-returns-in-None-clause-full g c =
     let number = g.O.Outcome.output_number in
     let old = c.args.self.now in
     let started = c.start_main.new.self in

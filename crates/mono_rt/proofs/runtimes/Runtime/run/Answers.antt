@@ -32,7 +32,7 @@ loop-units-init g c = (
 pub loop-units-preserved : goal.loop-units-preserved
 loop-units-preserved g c = (
   passes_more g.O.Outcome.output_number c.args.self.now.cx.parts.has_timers c.loop-units.self.cx.parts.has_timers c.args.main c.args.turns c.loop-units.units c.in-Ok-pass.left c.args.self.now.cx.parts c.loop-units.self.cx.parts c.pass.new.self.cx.parts c.args.self.now.journal c.loop-units.self.journal c.pass.new.self.journal
-      c.loop-units.invariant.2 (sym c.if-not-has_output.ensures) (omega (arith, c.loop-units-test.true)) c.loop-units.invariant.0 (rw c.in-Ok-pass.is at c.pass.ensures.passes),
+      c.loop-units.invariant.2 (sym c.if-not-has_output.ensures.answer) (omega (arith, c.loop-units-test.true)) c.loop-units.invariant.0 (rw c.in-Ok-pass.is at c.pass.ensures.passes),
   c.pass.ensures.rests,
   c.pass.ensures.has_timers ∙ c.loop-units.invariant.2,
   telling_on {q = going} c.loop-units.invariant.3 (rw c.in-Ok-pass.is at c.pass.ensures.told),
@@ -46,21 +46,21 @@ loop-units-preserved g c = (
 pub returns-in-Err-pass-clause-ends : goal.returns-in-Err-pass-clause-ends
 returns-in-Err-pass-clause-ends g c =
     ends_by g.O.Outcome.output_number c.in-Err-pass.error c.args.self.now.cx.parts.has_timers c.loop-units.self.cx.parts.has_timers c.args.main c.args.turns c.loop-units.units c.args.self.now.cx.parts c.loop-units.self.cx.parts c.pass.new.self.cx.parts c.args.self.now.journal c.loop-units.self.journal c.pass.new.self.journal
-    c.loop-units.invariant.2 (sym c.if-not-has_output.ensures) (omega (arith, c.loop-units-test.true)) c.loop-units.invariant.0 (rw c.in-Err-pass.is at c.pass.ensures.passes)
+    c.loop-units.invariant.2 (sym c.if-not-has_output.ensures.answer) (omega (arith, c.loop-units-test.true)) c.loop-units.invariant.0 (rw c.in-Err-pass.is at c.pass.ensures.passes)
 
 pub returns-then-has_output-clause-ends : goal.returns-then-has_output-clause-ends
 returns-then-has_output-clause-ends g c =
     ends_done g.O.Outcome.output_number c.args.self.now.cx.parts.has_timers c.args.main c.args.turns c.loop-units.units c.args.self.now.cx.parts c.loop-units.self.cx.parts c.args.self.now.journal c.loop-units.self.journal
-    (sym c.if-has_output.ensures) c.loop-units.invariant.0
+    (sym c.if-has_output.ensures.answer) c.loop-units.invariant.0
 
 pub returns-else-has_output-clause-ends : goal.returns-else-has_output-clause-ends
 returns-else-has_output-clause-ends g c =
     ends_turns g.O.Outcome.output_number c.args.self.now.cx.parts.has_timers c.args.main c.args.turns c.loop-units.units c.args.self.now.cx.parts c.loop-units.self.cx.parts c.args.self.now.journal c.loop-units.self.journal
     (elim c.loop-units-test.branch [
-      | then-loop-units-test+else-not-has_output w ↦ absurd (both _ w.if-not-has_output.ensures c.if-has_output.ensures)
+      | then-loop-units-test+else-not-has_output w ↦ absurd (both _ w.if-not-has_output.ensures.answer c.if-has_output.ensures.answer)
       | else-loop-units-test w ↦ omega (arith, w.loop-units-test.false)
     ])
-    (sym c.if-has_output.ensures) c.loop-units.invariant.0
+    (sym c.if-has_output.ensures.answer) c.loop-units.invariant.0
 
 pub returns-in-Err-clause-ends : goal.returns-in-Err-clause-ends
 returns-in-Err-clause-ends g c = does_led g.O.Outcome.output_number c.args.self.now.cx.parts c.round.new.self.cx.parts c.args.self.now.journal c.round.new.self.journal c.round.ensures.goes
@@ -107,3 +107,6 @@ returns-else-has_output-clause-full g c = c.loop-units.invariant.5
 
 pub returns-in-Err-clause-full : goal.returns-in-Err-clause-full
 returns-in-Err-clause-full g c = c.round.ensures.full
+
+pub returns-then-has_output-clause-given : goal.returns-then-has_output-clause-given
+returns-then-has_output-clause-given g c = c.if-has_output.ensures.given refl
