@@ -16,6 +16,24 @@ pub enum Called {
 /// How a row of calls ended: how many were refused, none where one went wrong. Nothing where there was no object.
 pub type Ended = Option<Option<u64>>;
 
+/// Done, where this is so.
+pub fn done_where(is_so: bool) -> Called {
+    if is_so {
+        Called::Done
+    } else {
+        Called::Otherwise
+    }
+}
+
+/// Refused, where this is so.
+pub fn refused_where(is_so: bool) -> Called {
+    if is_so {
+        Called::Refused
+    } else {
+        Called::Otherwise
+    }
+}
+
 /// An object with a call that takes memory, and that leaves the object as it was where memory is refused.
 pub trait Grows {
     /// The call, for the n-th time, counted from 0. A call that was refused is made once more, with the same n.

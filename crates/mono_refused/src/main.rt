@@ -4,13 +4,22 @@
 
 ghost use Rattle.std.specs.Prelude.{◌≡◌};
 
+mod asks;
+mod contexts;
+mod executors;
+mod futures;
 mod grows;
+mod runtimes;
 mod services;
 mod tables;
 mod waking;
 mod wheels;
 
+use crate::contexts::Ask;
+use crate::executors::Ticked;
+use crate::futures::Form;
 use crate::grows::{Ended, Grows, refusals};
+use crate::runtimes::{Entered, had};
 use crate::services::{Acquired, Buckets, Hired, Opened, Retries, Written};
 use crate::tables::{Added, Fired, Listed, Pushed, Spawned};
 use crate::waking::{Drained, Known, Made, Recorded, Registered};
@@ -33,7 +42,7 @@ use std::{env, io};
 const HELP: &str = "usage: mono_refused CALL CALLS
   The call is made so often; where it was refused memory, the object is looked at, and the call is made once more.
   Printed is how often it was refused. CALL is one of push list spawn add fire node key know drain record register make
-  open acquire bucket retry hire send.
+  open acquire bucket retry hire send tick join try select enter child block sleep interval timeout attempt.
   status 3: a call did not do what it promises; status 6: there was no memory for the first object";
 
 // The end of a program one of whose calls did not do what it promises.
@@ -116,6 +125,23 @@ fn of_services<R: Host>(rt: &R, alloc: Global, call: &str, calls: u64) -> Option
     })
 }
 
+fn of_runtimes<R: Host>(rt: &R, alloc: Global, call: &str, calls: u64) -> Option<Ended> {
+    Some(match call {
+        "tick" => grown(rt, alloc, Ticked::new(alloc, calls), calls),
+        "join" => grown(rt, alloc, Some(Form::Join), calls),
+        "try" => grown(rt, alloc, Some(Form::TryJoin), calls),
+        "select" => grown(rt, alloc, Some(Form::Select), calls),
+        "enter" => grown(rt, alloc, Entered::new(alloc), calls),
+        "child" => had(rt, alloc, Ask::Child, calls),
+        "block" => had(rt, alloc, Ask::Block, calls),
+        "sleep" => had(rt, alloc, Ask::Sleep, calls),
+        "interval" => had(rt, alloc, Ask::Interval, calls),
+        "timeout" => had(rt, alloc, Ask::Timeout, calls),
+        "attempt" => had(rt, alloc, Ask::Attempt, calls),
+        _ => return None,
+    })
+}
+
 fn ended_of<R: Host>(rt: &R, alloc: Global, call: &str, calls: u64) -> Option<Ended> {
     if let Some(ended) = of_tables(rt, alloc, call, calls) {
         return Some(ended);
@@ -123,7 +149,10 @@ fn ended_of<R: Host>(rt: &R, alloc: Global, call: &str, calls: u64) -> Option<En
     if let Some(ended) = of_waking(rt, alloc, call, calls) {
         return Some(ended);
     }
-    of_services(rt, alloc, call, calls)
+    if let Some(ended) = of_services(rt, alloc, call, calls) {
+        return Some(ended);
+    }
+    of_runtimes(rt, alloc, call, calls)
 }
 
 fn told(rt: &HostRuntime, call: &str, ended: Ended) -> io::Result<ExitCode> {
