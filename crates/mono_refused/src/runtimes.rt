@@ -67,7 +67,8 @@ pub fn had<R: Host>(rt: &R, alloc: Global, ask: Ask, calls: u64) -> Ended {
     }
 }
 
-// What the task told after its turn. Where a call was refused memory the runtime says so, and may then be used again.
+// What the task told after its turn; none where there was no memory for the turn to begin. Where a call was refused
+// memory the runtime says so, and may then be used again.
 fn had_turn<R: Host>(
     rt: &R,
     alloc: Global,
@@ -78,8 +79,11 @@ fn had_turn<R: Host>(
     requires rests { runtime.old.cx.parts.tasks.turn ≡ None }
 {
     let first = runtime.block_on(rt, alloc, errand, 1);
-    let second = runtime.block_on(rt, alloc, Errand::Ready(9), u64::MAX);
     let ended = *told.lock(rt);
+    if ended.is_none() {
+        return None;
+    }
+    let second = runtime.block_on(rt, alloc, Errand::Ready(9), u64::MAX);
     let is_told = matches!(first, Err(RunError::Memory)) && matches!(second, Ok(9));
     match ended {
         Some(Some(refused)) if refused > 0 && !is_told => Some(None),
