@@ -1,10 +1,11 @@
 -- Parts, and a context, that were reached from others by calls of the running task.
-use Rattle.std.specs.Prelude.{◌≡◌, ℕ, ◌+◌, Bool, true, false, ◌||◌, nat_le, nat_lt, List, [], ◌∷◌, ◌++◌, length, Option, Some, ◌≤◌, ◌<◌, vec_len, vec_capacity, refl}
+use Rattle.std.specs.Prelude.{◌≡◌, ℕ, ◌+◌, Bool, true, false, ◌||◌, nat_le, nat_lt, List, [], ◌∷◌, ◌++◌, length, Option, Some, ◌≤◌, ◌<◌, slice_index_or, zero, suc, refl}
 use Rattle.std.proofs.Common.{sym, ◌∙◌, ap, subst, cond, append_assoc, append-nil, arith}
 use Rattle.std.proofs.Math.Nat.{le_refl}
 use Rattle.std.proofs.lemmas.Bool.{lt-ltb, ltb-true, le-ltb, ltb-false, leb-true, leb-false}
 use Rattle.std.proofs.lemmas.List.{length-append}
 use Rattle.mono_model.specs.Table.{value_at}
+use Rattle.mono_slots.specs.Slots as slots
 use Rattle.mono_rt.specs.declared.contexts.Cx.{Cx}
 use Rattle.mono_machine.specs.Acts.{step_outcome}
 use Rattle.mono_machine.specs.declared.events.Reply.{Reply}
@@ -169,9 +170,19 @@ module _ {O B : Type 0} (number : O → ℕ) (hosting : B → Hosting) where
 abbrev pub KeepsFutures : {F : Type 0} → List (Option F) → List (Option F) → Type 0
 KeepsFutures {F} old new = (t : ℕ) (f : F) → value_at old t ≡ Some f → value_at new t ≡ Some f
 
--- there is room for one more task's future and waker
+-- there is a place for one more task's future and waker
 abbrev pub HasPlace : {F O P U J A V : Type 0} → Cx F O P U J A V → Type 0
-HasPlace c = (vec_len c.futures < vec_capacity c.futures) × (vec_len c.wakers < vec_capacity c.wakers)
+HasPlace c = slots.HasPlace c.futures
+
+-- each number that was lent still is
+abbrev pub KeepsLent : List Bool → List Bool → Type 0
+KeepsLent old new = (t : ℕ) → slice_index_or old t false ≡ true → slice_index_or new t false ≡ true
+
+-- one more number, whose value is there
+pub lent_with_next : (old : List Bool) → KeepsLent old (old ++ false ∷ [])
+lent_with_next [] t is = absurd (true-false (sym is))
+lent_with_next (x ∷ old) zero is = is
+lent_with_next (x ∷ old) (suc t) is = lent_with_next old t is
 
 module _ {F O P U J A V : Type 0} (number : O → ℕ) where
   -- calls of the running task lead from the one context to the other
@@ -179,24 +190,28 @@ module _ {F O P U J A V : Type 0} (number : O → ℕ) where
     pub parts : Leads number hosting_of c.parts d.parts
     pub keeps : KeepsFutures c.futures.items d.futures.items
     pub grows : length c.futures.items ≤ length d.futures.items
+    -- what runs finds its own place again
+    pub lent : KeepsLent c.futures.lent d.futures.lent
     pub same_waker : d.waker ≡ c.waker
 
   pub reaches_itself : (c : Cx F O P U J A V) → Reaches c c
-  reaches_itself c = record { parts = leads_itself number hosting_of c.parts; keeps = λ t f h. h; grows = le_refl _; same_waker = refl }
+  reaches_itself c = record { parts = leads_itself number hosting_of c.parts; keeps = λ t f h. h; grows = le_refl _; lent = λ t h. h; same_waker = refl }
 
   pub reaches_on : (a b c : Cx F O P U J A V) → Reaches a b → Reaches b c → Reaches a c
   reaches_on a b c p q = record {
     parts = leads_on number hosting_of a.parts b.parts c.parts p.parts q.parts;
     keeps = λ t f h. q.keeps t f (p.keeps t f h);
     grows = omega (arith, p.grows, q.grows);
+    lent = λ t h. q.lent t (p.lent t h);
     same_waker = q.same_waker ∙ p.same_waker;
   }
 
   -- a call on the parts alone
-  pub by_parts : (c d : Cx F O P U J A V) → Leads number hosting_of c.parts d.parts → d.futures.items ≡ c.futures.items → d.waker ≡ c.waker → Reaches c d
-  by_parts c d parts same waker = record {
+  pub by_parts : (c d : Cx F O P U J A V) → Leads number hosting_of c.parts d.parts → d.futures.items ≡ c.futures.items → d.futures.lent ≡ c.futures.lent → d.waker ≡ c.waker → Reaches c d
+  by_parts c d parts same lent waker = record {
     parts = parts;
     keeps = λ t f h. ap (λ v. value_at v t) same ∙ h;
     grows = rw same (le_refl _);
+    lent = λ t h. ap (λ xs. slice_index_or xs t false) lent ∙ h;
     same_waker = waker;
   }

@@ -158,7 +158,7 @@ impl<F: Drop, O: Outcome + Drop, D: Driver, P: ThreadPool + Drop> Runtime<F, O, 
         ensures held { IfOk result (λ t. self.new.journal.entries.held ≡ self.old.journal.entries.held + 1) }
         ensures unheld { OnErr result (self.new.journal.entries.held ≡ self.old.journal.entries.held) }
     {
-        match self.open_spawn() {
+        match self.open_spawn(alloc) {
             None => Err(RunError::Memory),
             Some(()) => match self.cx.parts.tasks.spawn(alloc) {
                 Ok(t) => {
@@ -181,8 +181,8 @@ impl<F: Drop, O: Outcome + Drop, D: Driver, P: ThreadPool + Drop> Runtime<F, O, 
         }
     }
 
-    /// Room for the main task's future, for its entry and for that of its handle's drop.
-    fn open_spawn(&mut self) -> Option<()>
+    /// A place for the main task's future, and room for its entry and for that of its handle's drop.
+    fn open_spawn(&mut self, alloc: Global) -> Option<()>
         ensures place { IsSome result → HasPlaces self.new.journal 2 }
         ensures future { IsSome result → HasPlace self.new.cx }
         ensures stays { Does O.output_number Stays self.old.cx.parts self.new.cx.parts self.old.journal self.new.journal }
@@ -195,7 +195,7 @@ impl<F: Drop, O: Outcome + Drop, D: Driver, P: ThreadPool + Drop> Runtime<F, O, 
     {
         match self.journal.reserve(2) {
             Err(_) => None,
-            Ok(()) => match self.cx.make_place() {
+            Ok(()) => match self.cx.make_place(alloc) {
                 Err(_) => None,
                 Ok(()) => Some(()),
             },

@@ -20,6 +20,7 @@ use mono_exec::Limits;
 use mono_inbox::Inbox;
 use mono_joinword::Outcome;
 use mono_model::Host;
+use mono_slots::Slots;
 use mono_task::TaskFuture;
 use mono_time::Instant;
 use std::alloc::{AllocError, Global};
@@ -210,9 +211,8 @@ pub trait Buildable: Driver + Sized {
         let parts = Parts::new(alloc, limits, pool, Self::has_timers(), zero())?;
         let cx = Cx {
             parts,
-            futures: Vec::new(alloc),
+            futures: Slots::new(alloc),
             inbox,
-            wakers: Vec::new(alloc),
             waker: None,
         };
         Ok(Runtime {
@@ -271,7 +271,6 @@ impl<F: Drop, O: Outcome + Drop, D: Driver, P: ThreadPool + Drop> Runtime<F, O, 
             parts,
             futures: _,
             inbox: _,
-            wakers: _,
             waker: _,
         } = cx;
         let Parts { blocking, .. } = parts;

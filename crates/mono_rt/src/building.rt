@@ -16,6 +16,7 @@ use mono_exec::Limits;
 use mono_inbox::Inbox;
 use mono_jobs::Blockings;
 use mono_joinword::Outcome;
+use mono_slots::Slots;
 use mono_task::Tasks;
 use mono_time::{Instant, Timers};
 use std::alloc::{AllocError, Global};
@@ -76,9 +77,8 @@ impl<F: Drop, O: Outcome + Drop, D: Driver, P: ThreadPool + Drop> Runtime<F, O, 
         let parts = Parts::new(alloc, limits, pool, has_timers, start)?;
         let cx = Cx {
             parts,
-            futures: Vec::new(alloc),
+            futures: Slots::new(alloc),
             inbox,
-            wakers: Vec::new(alloc),
             waker: None,
         };
         Ok(Runtime {

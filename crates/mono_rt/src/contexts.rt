@@ -1,6 +1,6 @@
 // The executor as a running task sees it.
 ghost use Rattle.std.proofs.Common.{ap};
-ghost use Rattle.std.specs.Prelude.{refl, ◌≡◌, ◌++◌, ◌∷◌, [], true, Option, Some, None, Err, IfOk, OnOk, OnErr};
+ghost use Rattle.std.specs.Prelude.{refl, ◌≡◌, ◌++◌, ◌∷◌, [], true, false, Option, Some, None, Err, IfOk, OnOk, OnErr};
 ghost use Rattle.mono_model.specs.Table.{next_number};
 ghost use Rattle.mono_model.specs.Tasks.{woken, woken_if_any, spawned};
 ghost use Rattle.mono_model.specs.Joins.{wake_answer, join_answer, joined, drop_answer, join_dropped};
@@ -19,6 +19,7 @@ use mono_blocking::ThreadPool;
 use mono_inbox::{Inbox, RemoteWaker, Unpark};
 use mono_jobs::Blockings;
 use mono_joinword::Outcome;
+use mono_slots::Slots;
 use mono_task::{Context, JoinContext, JoinHandle, Poll, SpawnTask, TaskError, Woke};
 use mono_time::{Error, Instant, SleepError, TimeContext};
 use std::alloc::{AllocError, Global};
@@ -27,10 +28,9 @@ use std::alloc::{AllocError, Global};
 #[derive(Drop)]
 pub struct Cx<F, O, P: ThreadPool, U: Unpark> {
     pub(crate) parts: Parts<O, Blockings<P>>,
-    pub(crate) futures: Vec<Option<F>>,
+    // by the task's number its future, and beside that its remote waker once it has had a turn; its place goes with its end
+    pub(crate) futures: Slots<F, RemoteWaker<U>>,
     pub(crate) inbox: Inbox<U>,
-    // by the task's number its remote waker, once it has had a turn and until it ends
-    pub(crate) wakers: Vec<Option<RemoteWaker<U>>>,
     // that of the task whose turn runs, where there was memory for it
     pub(crate) waker: Option<RemoteWaker<U>>,
 }
@@ -57,7 +57,7 @@ impl<F: Drop, O: Outcome + Drop, P: ThreadPool + Drop, U: Unpark> Cx<F, O, P, U>
         ensures kept { self.new.parts ≡ record self.old.parts { tasks = self.new.parts.tasks; acts = noted_spawn self.old.parts.acts result; is_out_of_memory = lacks_spawn self.old.parts.is_out_of_memory result } }
         ensures reached { Reaches O.output_number self.old self.new }
     {
-        if self.make_place().is_err() {
+        if self.make_place(alloc).is_err() {
             self.parts.is_out_of_memory = true;
             return Err(SpawnRefused::Memory(future));
         }
@@ -73,26 +73,26 @@ impl<F: Drop, O: Outcome + Drop, P: ThreadPool + Drop, U: Unpark> Cx<F, O, P, U>
 }
 
 impl<F: Drop, O: Drop, P: ThreadPool + Drop, U: Unpark> Cx<F, O, P, U> {
-    /// Room for one more task's future and waker.
-    pub(crate) fn make_place(&mut self) -> Result<(), AllocError>
+    /// A place for one more task's future and waker.
+    pub(crate) fn make_place(&mut self, alloc: Global) -> Result<(), AllocError>
         ensures place { OnOk result (HasPlace self.new) }
         ensures parts { self.new.parts ≡ self.old.parts }
         ensures futures { self.new.futures.items ≡ self.old.futures.items }
+        ensures lent { self.new.futures.lent ≡ self.old.futures.lent }
         ensures waker { self.new.waker ≡ self.old.waker }
     {
-        self.futures.reserve(1)?;
-        self.wakers.reserve(1)
+        self.futures.reserve(alloc)
     }
 
-    /// The future of a new task, for which there is room.
+    /// The future of a new task, for which there is a place.
     pub(crate) fn put_future(&mut self, future: F)
         requires { HasPlace self.old }
         ensures parts { self.new.parts ≡ self.old.parts }
         ensures futures { self.new.futures.items ≡ self.old.futures.items ++ Some future ∷ [] }
+        ensures lent { self.new.futures.lent ≡ self.old.futures.lent ++ false ∷ [] }
         ensures waker { self.new.waker ≡ self.old.waker }
     {
-        self.futures.push_reserved(Some(future));
-        self.wakers.push_reserved(None);
+        self.futures.add(future);
     }
 
     /// A remote waker of the task whose turn runs (`task`): a clone of the one that was made before its first turn. Refused

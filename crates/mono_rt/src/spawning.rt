@@ -32,7 +32,7 @@ impl<F: Drop, O: Outcome + Drop, D: Driver, P: ThreadPool + Drop> Runtime<F, O, 
         ensures turn { self.new.cx.parts.tasks.turn ≡ self.old.cx.parts.tasks.turn }
         ensures journal { self.new.journal ≡ self.old.journal }
     {
-        if self.cx.make_place().is_err() {
+        if self.cx.make_place(alloc).is_err() {
             return Err(SpawnRefused::Memory(future));
         }
         match self.cx.parts.tasks.spawn(alloc) {

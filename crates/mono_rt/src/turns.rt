@@ -1,16 +1,17 @@
 // A turn of the task at the queue's front.
-ghost use Rattle.std.specs.Prelude.{◌≡◌, ◌<◌, None, Some, true, length, IfSome, IfNone, is_some, not};
+ghost use Rattle.std.specs.Prelude.{◌≡◌, ◌<◌, None, Some, true, false, length, IfSome, IfNone, is_some, not, slice_set};
 ghost use Rattle.mono_model.specs.Table.{value_at};
 ghost use Rattle.mono_machine.specs.Machine.{Machine};
 ghost use Rattle.mono_rt.specs.Record.{no_acts};
 ghost use Rattle.mono_rt.specs.Stands.{hosting_of, Matches};
+ghost use Rattle.mono_slots.specs.Slots.{lent_at};
 ghost use Rattle.mono_rt.specs.Turns.{Begins, Pauses, Completes, Runs, Turn, IsTurnOf};
 
 use crate::acts::Acts;
 use crate::contexts::Cx;
 use mono_blocking::ThreadPool;
 use mono_exec::{End, Ended};
-use mono_inbox::Unpark;
+use mono_inbox::{RemoteWaker, Unpark};
 use mono_joinword::Outcome;
 use mono_model::Host;
 use mono_task::{Poll, TaskFuture};
@@ -21,20 +22,22 @@ use std::mem;
 impl<F: Drop, O: Outcome + Drop, P: ThreadPool + Drop, U: Unpark> Cx<F, O, P, U> {
     /// The waker of a task that begins a turn: the one that it had, or a new one before its first turn. The answer tells
     /// whether there was memory for it.
-    fn open_waker<R: Host>(&mut self, rt: &R, alloc: Global, task: u64) -> bool
+    fn open_waker<R: Host>(
+        &mut self,
+        rt: &R,
+        alloc: Global,
+        task: u64,
+        had: Option<RemoteWaker<U>>,
+    ) -> bool
         ensures waker { IfSome self.new.waker (λ waker. waker ≡ task) }
         ensures made { result ≡ is_some self.new.waker }
         ensures parts { self.new.parts ≡ self.old.parts }
         ensures futures { self.new.futures ≡ self.old.futures }
     {
-        let at = task as usize;
-        if at < self.wakers.len() {
-            let had = mem::replace(&mut self.wakers[at], None);
-            if let Some(waker) = had {
-                if waker.task() == task {
-                    self.waker = Some(waker);
-                    return true;
-                }
+        if let Some(waker) = had {
+            if waker.task() == task {
+                self.waker = Some(waker);
+                return true;
             }
         }
         match self.inbox.waker(rt, alloc, task) {
@@ -49,14 +52,16 @@ impl<F: Drop, O: Outcome + Drop, P: ThreadPool + Drop, U: Unpark> Cx<F, O, P, U>
         }
     }
 
-    /// The waker of the task whose turn ends goes back to the table.
-    fn close_waker(&mut self, task: u64)
+    /// The future of the task whose turn ends goes back to its place, with the task's waker beside it.
+    fn put_back(&mut self, task: u64, future: Option<F>)
+        requires { IfSome future (λ f. lent_at self.old.futures task ≡ true) }
         ensures parts { self.new.parts ≡ self.old.parts }
-        ensures futures { self.new.futures ≡ self.old.futures }
+        ensures futures { self.new.futures.items ≡ slice_set self.old.futures.items task future }
     {
-        let at = task as usize;
-        if at < self.wakers.len() {
-            self.wakers[at] = mem::replace(&mut self.waker, None);
+        let waker = mem::replace(&mut self.waker, None);
+        match future {
+            Some(future) => self.futures.put(task, future, waker),
+            None => drop(self.futures.take(task)),
         }
     }
 
@@ -74,44 +79,41 @@ impl<F: Drop, O: Outcome + Drop, P: ThreadPool + Drop, U: Unpark> Cx<F, O, P, U>
         ensures begins { Begins result.0 now acts self.old self.new }
         ensures noted { self.new.parts.is_out_of_memory ≡ not (is_some self.new.waker) }
         ensures future { result.1 ≡ value_at self.old.futures.items result.0 }
+        ensures lent { IfSome result.1 (λ future. lent_at self.new.futures result.0 ≡ true) }
     {
         let Ok(task) = self.parts.tasks.begin_turn() else {
             unreachable!()
         };
-        let made = self.open_waker(rt, alloc, task);
+        let (future, had) = self.futures.take(task);
+        let made = self.open_waker(rt, alloc, task, had);
         self.parts.me = task;
         self.parts.now = now;
         self.parts.acts = acts;
         self.parts.is_out_of_memory = !made;
-        let at = task as usize;
-        if at >= self.futures.len() {
-            return (task, None);
-        }
-        let future = mem::replace(&mut self.futures[at], None);
         (task, future)
     }
 
     /// The turn that runs ends pending, and the future goes back to the table.
     fn pause_turn(&mut self, task: u64, future: Option<F>) -> Ended
-        requires { is_some self.old.parts.tasks.turn ≡ true }
+        requires runs { is_some self.old.parts.tasks.turn ≡ true }
+        requires lent { IfSome future (λ f. lent_at self.old.futures task ≡ true) }
         ensures { Pauses task future result self.old self.new }
     {
         let ended = self.parts.tasks.end_turn(Poll::Pending);
-        self.close_waker(task);
-        let at = task as usize;
-        if at < self.futures.len() {
-            self.futures[at] = future;
-        }
+        self.put_back(task, future);
         ended
     }
 
-    /// The turn that runs ends ready: from now on no other thread can list the task.
+    /// The turn that runs ends ready: from now on no other thread can list the task, and its place is gone (`gone`).
     fn complete_turn<R: Host>(&mut self, rt: &R, task: u64, output: O) -> Ended
-        requires { is_some self.old.parts.tasks.turn ≡ true }
-        ensures { Completes output result self.old self.new }
+        requires runs { is_some self.old.parts.tasks.turn ≡ true }
+        requires lent { lent_at self.old.futures task ≡ true }
+        ensures completes { Completes output result self.old self.new }
+        ensures gone { self.new.futures.lent ≡ slice_set self.old.futures.lent task false }
     {
         self.inbox.retire(rt, task);
         self.waker = None;
+        self.futures.remove(task);
         self.parts.tasks.end_turn(Poll::Ready(output))
     }
 }
@@ -133,6 +135,7 @@ where
     ) -> (End, Ended)
         requires callable { (f : F) → F.can_poll f }
         requires runs { self.old.parts.tasks.turn ≡ Some task }
+        requires lent { IfSome taken (λ f. lent_at self.old.futures task ≡ true) }
         ensures { Runs O.output_number F.TaskFuture taken task result.0 result.1 self.old self.new }
     {
         let Some(mut future) = taken else {

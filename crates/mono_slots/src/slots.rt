@@ -1,0 +1,103 @@
+// Values by number that may be lent.
+ghost use Rattle.std.specs.Prelude.{◌≡◌, ◌++◌, ◌∷◌, [], true, false, None, Some, OnOk, OnErr, IfSome, slice_set, ℕ};
+ghost use Rattle.mono_model.specs.Table.{value_at};
+ghost use Rattle.mono_slots.specs.Slots.{HasPlace, lent_at, SameSlots};
+
+use mono_ready::ReadyTable;
+use std::alloc::{AllocError, Global};
+use std::marker::Model;
+
+/// What stands in a place that is not gone.
+#[derive(Drop)]
+pub enum Slot<T, W> {
+    /// A value, and what its holder put beside it.
+    Kept(T, Option<W>),
+    /// Its value is with whoever took it. So a place stands, too, that was made ready for the next number.
+    Lent,
+}
+
+/// Values by numbers that are given out from 0 on and never twice. A value is taken for a while (`take`), and then either
+/// comes back (`put`) or does not, and its place is gone (`remove`).
+///
+/// Its view tells for each number the value that is there, or none while it is lent and once it is gone (`items`); whether it
+/// is lent (`lent`); and for how many numbers there is a place (`room`). What stands beside a value is not told.
+///
+/// It costs what its table costs (`mono_table`): a page goes back once all its numbers were given out and all their places
+/// are gone.
+#[derive(Drop)]
+pub struct Slots<T, W> {
+    places: ReadyTable<Slot<T, W>>,
+}
+
+impl<T, W> Model for Slots<T, W> {
+    ghost use Rattle.mono_slots.specs.Slots.{Seen, items_of, lent_of};
+
+    ghost Value = { Seen T };
+
+    ghost view = { λ a. record { items = items_of a.places.table; lent = lent_of a.places.table; room = a.places.room } };
+}
+
+impl<T: Drop, W: Drop> Slots<T, W> {
+    /// No number was given out. It takes no memory.
+    pub fn new(alloc: Global) -> Slots<T, W>
+        ensures { result ≡ record { items = []; lent = []; room = 0 } }
+    {
+        Slots {
+            places: ReadyTable::new(alloc),
+        }
+    }
+
+    /// A place for the next number. Where one stands ready, it stays.
+    ///
+    /// Refused for want of memory, or where the numbers are used up. All is as it was then.
+    pub fn reserve(&mut self, alloc: Global) -> Result<(), AllocError>
+        ensures place { OnOk result (HasPlace self.new) }
+        ensures same { SameSlots self.old self.new }
+        ensures refused { OnErr result (self.new ≡ self.old) }
+    {
+        self.places.reserve(alloc, Slot::Lent)
+    }
+
+    /// Gives the next number out, with this value and nothing beside it, where its place stands ready. It takes no memory.
+    pub fn add(&mut self, value: T)
+        requires { HasPlace self.old }
+        ensures items { self.new.items ≡ self.old.items ++ Some value ∷ [] }
+        ensures lent { self.new.lent ≡ self.old.lent ++ false ∷ [] }
+    {
+        self.places.add(Slot::Kept(value, None));
+    }
+
+    /// Takes the value of a number, with what stands beside it. The number is lent from now on, where it had a value.
+    pub fn take(&mut self, number: u64) -> (Option<T>, Option<W>)
+        ensures value { result.0 ≡ value_at self.old.items number }
+        ensures items { self.new.items ≡ slice_set self.old.items number None }
+        ensures lent { IfSome result.0 (λ value. lent_at self.new number ≡ true) }
+    {
+        if !self.places.has(number) {
+            return (None, None);
+        }
+        match self.places.replace(number, Slot::Lent) {
+            Slot::Kept(value, beside) => (Some(value), beside),
+            Slot::Lent => (None, None),
+        }
+    }
+
+    /// A value comes back to a number that is lent, with what is to stand beside it. It takes no memory.
+    pub fn put(&mut self, number: u64, value: T, beside: Option<W>)
+        requires { lent_at self.old number ≡ true }
+        ensures items { self.new.items ≡ slice_set self.old.items number (Some value) }
+        ensures lent { self.new.lent ≡ slice_set self.old.lent number false }
+    {
+        drop(self.places.replace(number, Slot::Kept(value, beside)));
+    }
+
+    /// A number that is lent is gone. It takes no memory, and gives back the memory of a page in which nothing is left and in
+    /// which no number comes.
+    pub fn remove(&mut self, number: u64)
+        requires { lent_at self.old number ≡ true }
+        ensures items { self.new.items ≡ self.old.items }
+        ensures lent { self.new.lent ≡ slice_set self.old.lent number false }
+    {
+        self.places.remove(number);
+    }
+}
