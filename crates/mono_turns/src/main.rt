@@ -14,11 +14,12 @@ use std::process::ExitCode;
 use std::{env, io};
 use work::Work;
 
-const HELP: &str = "usage: mono_turns spawn|pair|sleeps N [RUNS]
+const HELP: &str = "usage: mono_turns spawn|pair|sleeps|come N [RUNS]
   spawn: a task makes N tasks, each ready at its first turn, and ends after them
   pair: two tasks wake each other, N turns in all
   sleeps: N tasks sleep once, in random order, below 2^32 milliseconds
-  N: below 2^20 where N tasks are made; RUNS: how often it is done, once where it is not said";
+  come: N tasks come and go, each with a turn, a thousand at a time, while one lives from the start to the end
+  N: below 2^20 where N tasks live at once; RUNS: how often it is done, once where it is not said";
 
 /// A job that is never made.
 #[derive(Drop)]
@@ -48,6 +49,7 @@ fn chosen(name: &str, count: u64) -> Option<Work> {
         "spawn" => Some(Work::Spawns(count)),
         "pair" => Some(Work::Opens(count)),
         "sleeps" => Some(Work::Lulls(count)),
+        "come" => Some(Work::Comes(count)),
         _ => None,
     }
 }

@@ -29,6 +29,12 @@ pub enum Work {
     Sleeps(u64, u64),
     /// It drops the sleep of this number, and is ready with the second.
     Rises(u64, u64),
+    /// It lets so many tasks come and go, at most a thousand at a time, and goes behind them.
+    Comes(u64),
+    /// It makes the next of so many tasks that follow one another, itself among them, and is ready.
+    Follows(u64),
+    /// It goes to the queue's back so often, and is ready with how many tasks were made before.
+    Watches(u64),
 }
 
 // The context of the tasks.
@@ -119,6 +125,45 @@ fn open(alloc: Global, cx: &mut Own, turns: u64) -> Work
     }
 }
 
+// The first of so many tasks that follow one another.
+fn put_line(alloc: Global, cx: &mut Own, share: u64)
+    ensures { Reaches (λ n. n) cx.old cx.new }
+{
+    if share == 0 {
+        return;
+    }
+    let _ = put(alloc, cx, Work::Follows(share));
+}
+
+// A thousand tasks at most, each the first of its share of so many.
+fn put_lines(alloc: Global, cx: &mut Own, count: u64)
+    ensures { Reaches (λ n. n) cx.old cx.new }
+{
+    for line in 0..1000u64 {
+        put_line(alloc, cx, count.saturating_add(line) / 1000);
+    }
+}
+
+// The first of the tasks that come and go, and the running task behind them.
+fn come_all(alloc: Global, cx: &mut Own, count: u64) -> Work
+    ensures { Reaches (λ n. n) cx.old cx.new }
+{
+    put_lines(alloc, cx, count);
+    let me = cx.me();
+    let _ = cx.wake(me);
+    Work::Watches(count / 1000)
+}
+
+// How many tasks were made so far, beside the main one: the number of one more tells it.
+fn made(alloc: Global, cx: &mut Own) -> u64
+    ensures { Reaches (λ n. n) cx.old cx.new }
+{
+    match put(alloc, cx, Work::Ends(0)) {
+        Some(number) => number.saturating_sub(1),
+        None => 0,
+    }
+}
+
 // The turn's end where something is left to do.
 fn later(this: &mut Work, next: Work) -> Poll<u64> {
     *this = next;
@@ -156,6 +201,17 @@ impl TaskFuture<Own> for Work {
             Work::Rises(sleep, output) => {
                 let _ = cx.drop_sleep(sleep);
                 Poll::Ready(output)
+            }
+            Work::Comes(count) => later(self, come_all(alloc, cx, count)),
+            Work::Follows(share) => {
+                put_line(alloc, cx, share.saturating_sub(1));
+                Poll::Ready(0)
+            }
+            Work::Watches(0) => Poll::Ready(made(alloc, cx)),
+            Work::Watches(left) => {
+                let me = cx.me();
+                let _ = cx.wake(me);
+                later(self, Work::Watches(left - 1))
             }
         }
     }
