@@ -23,6 +23,3 @@ pub use recorded_inbox::{RecordedInbox, RecordedWaker};
 pub use registry::{RegisterError, Registry, RegistryState};
 pub use state::InboxState;
 pub use waker::{NoUnpark, RemoteWaker, Unpark};
-
-#[cfg(test)]
-mod recorded_tests;

@@ -1,5 +1,7 @@
 // An inbox that keeps its calls, whose callers count their wakes in shares of one ledger.
 ghost use Rattle.std.specs.Prelude.{◌≡◌, ◌-◌, ◌<◌, ◌≤◌, ◌^◌, vec_len, sum_by, IfOk, IfErr, OnOk, OnErr};
+ghost use Rattle.std.specs.Fn.{FnOnceReturnsAt};
+ghost use Rattle.mono_inbox.specs.Log.{Recording};
 ghost use Rattle.mono_inbox.specs.State.{AppendsOnce};
 ghost use Rattle.mono_inbox.specs.Callers.{new_callers, CountsKept};
 
@@ -15,15 +17,15 @@ use std::sync::{Arc, Mutex};
 /// What a recorded inbox and its wakers share. Whoever takes the lock knows of the value what `Recorded` and
 /// `InboxState` say of themselves.
 #[derive(Drop)]
-pub(crate) struct RecordedShared<U: Unpark, L: Ledger> {
-    pub(crate) recorded: Mutex<Recorded<L>>,
+struct RecordedShared<U: Unpark, L: Ledger> {
+    recorded: Mutex<Recorded<L>>,
     unpark: U,
 }
 
 /// As an `Inbox`, over a recorded state, whose wakes with shares are counted in a ledger with one part for each caller.
 #[derive(Drop)]
 pub struct RecordedInbox<U: Unpark, L: Ledger> {
-    pub(crate) shared: Arc<RecordedShared<U, L>, Global>,
+    shared: Arc<RecordedShared<U, L>, Global>,
     callers: u64,
 }
 
@@ -101,6 +103,16 @@ impl<U: Unpark, L: Ledger> RecordedInbox<U, L> {
     /// As `Inbox::retire`.
     pub fn retire<R: Host>(&self, rt: &R, task: u64) {
         self.shared.recorded.lock(rt).retire(task);
+    }
+
+    /// What `look` answers of the state and the calls that it kept. It is lent them under the lock, so no other call
+    /// is made meanwhile.
+    pub fn look<R: Host, T, F: FnOnce(&InboxState) -> T>(&self, rt: &R, look: F) -> T
+        requires { F.IsAlwaysCallable look }
+        ensures { (state : Recording) × FnOnceReturnsAt F.FnOnce look state result }
+    {
+        let recorded = self.shared.recorded.lock(rt);
+        look(&recorded.state)
     }
 }
 

@@ -1,4 +1,4 @@
-//! Tests of join words, inboxes, parkers, registries, blocking jobs, their table and pools, and of drivers, over their public calls.
+//! Tests of join words, inboxes, recorded ones, parkers, registries, blocking jobs, their table and pools, and of drivers, over their public calls.
 #![tactic(auto)]
 
 #[cfg(test)]
@@ -17,3 +17,5 @@ mod marks;
 mod pairs;
 #[cfg(test)]
 mod pools;
+#[cfg(test)]
+mod recorded_inboxes;
