@@ -91,12 +91,14 @@ fn owners(sessions: &Sessions, keys: u64) -> u64 {
     sum
 }
 
-// All seconds. What was done, and the sum over the owners then.
-fn keep<L: Ledger>(alloc: Global, count: u64, seconds: u64, blank: Blank) -> Option<(Tally, u64)>
-    requires { (blank.name ≡ L.name) × (blank.parts ≡ L.parts) × (0 < L.parts) }
-{
-    let mut steps: Steps<L> = Steps::new(blank);
-    let mut sessions = open_all(alloc, count)?;
+// All seconds. What was done.
+fn keep_all<L: Ledger>(
+    alloc: Global,
+    sessions: &mut Sessions,
+    count: u64,
+    seconds: u64,
+    steps: &mut Steps<L>,
+) -> Option<Tally> {
     let mut closed = Vec::new(alloc);
     let mut tally = Tally {
         beats: 0,
@@ -105,16 +107,22 @@ fn keep<L: Ledger>(alloc: Global, count: u64, seconds: u64, blank: Blank) -> Opt
     };
     let mut first = 0u64;
     for second in 0..seconds {
-        first = beat_some(&mut sessions, count, first, &mut tally);
-        clock_step(
-            &mut sessions,
-            second.wrapping_add(1),
-            &mut closed,
-            &mut steps,
-            &mut tally,
-        )?;
+        first = beat_some(sessions, count, first, &mut tally);
+        let now = second.wrapping_add(1);
+        clock_step(sessions, now, &mut closed, steps, &mut tally)?;
     }
-    Some((tally, owners(&sessions, count / 2)))
+    Some(tally)
+}
+
+// So many sessions over so many seconds. What was done, and the sum over the owners then.
+fn keep<L: Ledger>(alloc: Global, count: u64, seconds: u64, blank: Blank) -> Option<(Tally, u64)>
+    requires { (blank.name ≡ L.name) × (blank.parts ≡ L.parts) × (0 < L.parts) }
+{
+    let mut sessions = open_all(alloc, count)?;
+    let mut steps: Steps<L> = Steps::new(blank);
+    let done = keep_all(alloc, &mut sessions, count, seconds, &mut steps);
+    let owners = owners(&sessions, count / 2);
+    done.map(|tally| (tally, owners))
 }
 
 fn run_words(rt: &HostRuntime, words: &Vec<String>) -> io::Result<bool> {

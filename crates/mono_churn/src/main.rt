@@ -111,14 +111,18 @@ fn come_and_go(alloc: Global, tasks: u64, alive: u64) -> Result<(u64, u64), Allo
         sleeps: most,
     };
     let mut desk = Desk {
-        exec: Exec::new(alloc, limits, Blocking::Panic)?,
         steps: List::new(alloc),
         replies: List::new(alloc),
         fired: 0,
         sum: 0,
+        exec: Exec::new(alloc, limits, Blocking::Panic)?,
     };
-    all_come_and_go(alloc, &mut desk, tasks, alive)?;
-    Ok((desk.fired, desk.sum))
+    let done = all_come_and_go(alloc, &mut desk, tasks, alive);
+    let counted = (desk.fired, desk.sum);
+    match done {
+        Ok(()) => Ok(counted),
+        Err(refused) => Err(refused),
+    }
 }
 
 fn run_words(rt: &HostRuntime, words: &Vec<String>) -> io::Result<bool> {

@@ -74,9 +74,28 @@ impl Desk {
         }
         true
     }
+
+    // How many outputs of so many jobs came back, and the sum of their numbers.
+    fn outputs_of<R: Host>(
+        &mut self,
+        rt: &R,
+        alloc: Global,
+        jobs: u64,
+        alive: u64,
+    ) -> Option<(u64, u64)> {
+        if !self.come_and_go(rt, alloc, jobs, alive) {
+            return None;
+        }
+        let first = jobs.saturating_sub(alive).max(1);
+        for number in first..jobs {
+            self.go(number);
+        }
+        self.go(0);
+        Some((self.outputs, self.sum))
+    }
 }
 
-// How many outputs of so many jobs came back, and the sum of their numbers.
+// The same of a new pool, which runs each job in the call.
 fn outputs<R: Host + Send + 'static>(
     rt: &R,
     alloc: Global,
@@ -94,15 +113,7 @@ fn outputs<R: Host + Send + 'static>(
         outputs: 0,
         sum: 0,
     };
-    if !desk.come_and_go(rt, alloc, jobs, alive) {
-        return None;
-    }
-    let first = jobs.saturating_sub(alive).max(1);
-    for number in first..jobs {
-        desk.go(number);
-    }
-    desk.go(0);
-    Some((desk.outputs, desk.sum))
+    desk.outputs_of(rt, alloc, jobs, alive)
 }
 
 fn told(rt: &HostRuntime, jobs: u64, outputs: Option<(u64, u64)>) -> io::Result<()> {

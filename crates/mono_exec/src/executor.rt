@@ -1,7 +1,7 @@
 // The executor.
 ghost use Rattle.std.specs.Prelude.{◌≡◌, ℕ, IfOk, OnOk, Option, None};
 ghost use Rattle.mono_machine.specs.Machine.{Machine, start_machine};
-ghost use Rattle.mono_machine.specs.Steps.{Step, Run};
+ghost use Rattle.mono_machine.specs.Steps.{Step};
 
 use crate::clock_steps::Due;
 use crate::parts::Parts;
@@ -110,24 +110,4 @@ impl Exec {
         self.parts.timers.registers_armed();
         &self.parts.timers
     }
-}
-
-/// Takes all events in order, from a new executor, and answers one report for each.
-///
-/// The reports are those of a run of the plain machine from its start (`Run`). The only error is want of memory.
-pub fn replay(
-    alloc: Global,
-    limits: Limits,
-    blocking: Blocking,
-    events: &Vec<Event>,
-) -> Result<Vec<Report>, AllocError>
-    ensures { IfOk result (λ reports. (new : Machine) × Run (start_machine limits blocking) events.now.items reports.items new) }
-{
-    let mut exec = Exec::new(alloc, limits, blocking)?;
-    let mut reports = Vec::new(alloc);
-    for event in events {
-        let report = exec.apply(alloc, event)?;
-        reports.push(report)?;
-    }
-    Ok(reports)
 }

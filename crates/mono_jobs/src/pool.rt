@@ -1,7 +1,9 @@
 // Who runs the blocking jobs, and the table of those jobs.
-ghost use Rattle.std.specs.Prelude.{◌≡◌, ◌≤◌, IfSome, IfNone};
+ghost use Rattle.std.specs.Prelude.{◌≡◌, ◌≤◌, false, IfSome, IfNone};
 ghost use Rattle.mono_model.specs.Jobs.{no_jobs};
+ghost use Rattle.mono_model.specs.Table.{is_full};
 ghost use Rattle.mono_machine.specs.JobCalls.{poll_answer, job_polled, drop_answer, job_dropped};
+ghost use Rattle.mono_machine.specs.declared.events.Blocking.TheVariants as strategy;
 ghost use Rattle.mono_blocking.specs.declared.strategy.BlockingHandle.TheVariants.{Attached};
 ghost use Rattle.mono_jobs.specs.Asking.{IsEnd, after_end, polled_reply, dropped_reply, used, left, PollShown, DropShown, FinishShown};
 ghost use Rattle.mono_jobs.specs.Spawning.{Spawned, strategy_of, refusals_of, IsApart};
@@ -37,6 +39,54 @@ impl<P: ThreadPool> Model for Blockings<P> {
     ghost view = { λ a. record { table = a.jobs; pool = a.pool } };
 }
 
+// A job is run in this call, where there is a place for it, and its output stands in the table.
+fn run_here<J: Job>(
+    alloc: Global,
+    jobs: &mut JobTable<J>,
+    job: J,
+) -> Result<JobHandle, SpawnError<J>>
+    requires { is_full jobs.old.jobs.table jobs.old.jobs.limit ≡ false }
+    ensures { Spawned J.output_number job result strategy.ExecuteLocal 0 0 jobs.old.jobs jobs.new.jobs }
+{
+    if jobs.reserve(alloc).is_err() {
+        return Err(SpawnError::Memory(job));
+    }
+    let number = job.number();
+    Ok(JobHandle::of_job(jobs.keep(number, job.run())))
+}
+
+// A job is handed to the pool, where there is a place for it.
+fn hand_over<P: ThreadPool + Drop, R: Host>(
+    rt: &R,
+    alloc: Global,
+    jobs: &mut JobTable<P::Job>,
+    pool: &mut P,
+    job: P::Job,
+) -> Result<JobHandle, SpawnError<P::Job>>
+    requires { is_full jobs.old.jobs.table jobs.old.jobs.limit ≡ false }
+    ensures spawned { Spawned P.Job.output_number job result strategy.Attached (P.refusals pool.old) (P.refusals pool.new) jobs.old.jobs jobs.new.jobs }
+    ensures later { P.refusals pool.old ≤ P.refusals pool.new }
+{
+    if jobs.reserve(alloc).is_err() {
+        return Err(SpawnError::Memory(job));
+    }
+    let number = job.number();
+    match BlockingTask::new(alloc, job) {
+        Err(job) => Err(SpawnError::Memory(job)),
+        Ok((task, joiner)) => match pool.schedule_task(rt, alloc, task) {
+            Ok(()) => Ok(JobHandle::of_job(jobs.start(number, joiner))),
+            Err(ScheduleError::Memory(task)) => {
+                let (job, _spent) = task.cancel(rt);
+                Err(SpawnError::Memory(job))
+            }
+            Err(ScheduleError::Refused(task)) => {
+                drop(task.cancel(rt));
+                Err(SpawnError::PoolFault)
+            }
+        },
+    }
+}
+
 impl<P: ThreadPool + Drop> Blockings<P> {
     /// No job, and who runs the jobs; at most so many are kept at once.
     pub fn new(alloc: Global, pool: BlockingHandle<P>, limit: u64) -> Blockings<P>
@@ -69,32 +119,9 @@ impl<P: ThreadPool + Drop> Blockings<P> {
         match &mut self.pool {
             BlockingHandle::Empty(BlockingStrategy::Panic) => Err(SpawnError::NoPool(job)),
             BlockingHandle::Empty(BlockingStrategy::ExecuteLocal) => {
-                if self.jobs.reserve(alloc).is_err() {
-                    return Err(SpawnError::Memory(job));
-                }
-                let number = job.number();
-                Ok(JobHandle::of_job(self.jobs.keep(number, job.run())))
+                run_here(alloc, &mut self.jobs, job)
             }
-            BlockingHandle::Attached(pool) => {
-                if self.jobs.reserve(alloc).is_err() {
-                    return Err(SpawnError::Memory(job));
-                }
-                let number = job.number();
-                match BlockingTask::new(alloc, job) {
-                    Err(job) => Err(SpawnError::Memory(job)),
-                    Ok((task, joiner)) => match pool.schedule_task(rt, alloc, task) {
-                        Ok(()) => Ok(JobHandle::of_job(self.jobs.start(number, joiner))),
-                        Err(ScheduleError::Memory(task)) => {
-                            let (job, _spent) = task.cancel(rt);
-                            Err(SpawnError::Memory(job))
-                        }
-                        Err(ScheduleError::Refused(task)) => {
-                            drop(task.cancel(rt));
-                            Err(SpawnError::PoolFault)
-                        }
-                    },
-                }
-            }
+            BlockingHandle::Attached(pool) => hand_over(rt, alloc, &mut self.jobs, pool, job),
         }
     }
 

@@ -1,6 +1,9 @@
 // The load itself.
 ghost use Rattle.std.specs.Prelude.{◌≡◌, ◌-◌, ◌≤◌, ◌*◌, ◌<◌, IfOk, OnOk};
-ghost use Rattle.mono_load.specs.Load.{Goes, GoesOn, IsSummary, sleep_turn, sleepers, clocks, endings};
+ghost use Rattle.mono_machine.specs.Machine.{start_machine};
+ghost use Rattle.mono_machine.specs.declared.events.Blocking.TheVariants.{Panic};
+ghost use Rattle.mono_exec.specs.Stands.{Stands};
+ghost use Rattle.mono_load.specs.Load.{Goes, GoesOn, IsSummary, load_limits, sleep_turn, sleepers, clocks, endings};
 
 use crate::tallies::{Tally, added};
 use mono_combine::FastRand;
@@ -91,6 +94,28 @@ fn all_endings(
     Ok(())
 }
 
+/// The load of this seed and count, event by event, with its reports summed up one by one.
+fn summary_of(alloc: Global, exec: &mut Exec, seed: u64, count: u64) -> Result<Summary, AllocError>
+    requires count { count ≤ 100000 }
+    requires start { Stands exec.old (start_machine (load_limits count) Panic) }
+    ensures { IfOk result (IsSummary seed count) }
+{
+    let mut sum = Tally {
+        fired: 0,
+        refused: 0,
+        order: 0,
+    };
+    all_sleepers(alloc, exec, &mut sum, FastRand::new(seed), count)?;
+    all_clocks(alloc, exec, &mut sum)?;
+    all_endings(alloc, exec, &mut sum, count)?;
+    Ok(Summary {
+        events: 3 * count + 16,
+        fired: sum.fired,
+        refused: sum.refused,
+        order: sum.order,
+    })
+}
+
 /// Replays the load of this seed and count, and sums up its reports one by one.
 pub fn load(alloc: Global, seed: u64, count: u64) -> Result<Summary, AllocError>
     requires { count ≤ 100000 }
@@ -102,18 +127,5 @@ pub fn load(alloc: Global, seed: u64, count: u64) -> Result<Summary, AllocError>
         sleeps: count,
     };
     let mut exec = Exec::new(alloc, limits, Blocking::Panic)?;
-    let mut sum = Tally {
-        fired: 0,
-        refused: 0,
-        order: 0,
-    };
-    all_sleepers(alloc, &mut exec, &mut sum, FastRand::new(seed), count)?;
-    all_clocks(alloc, &mut exec, &mut sum)?;
-    all_endings(alloc, &mut exec, &mut sum, count)?;
-    Ok(Summary {
-        events: 3 * count + 16,
-        fired: sum.fired,
-        refused: sum.refused,
-        order: sum.order,
-    })
+    summary_of(alloc, &mut exec, seed, count)
 }

@@ -56,25 +56,27 @@ fn turn(
     passes(alloc, trace, &Event::Turn(steps, End::Pending), &report)
 }
 
+// The one task is made.
+fn spawn(alloc: Global, trace: &mut Trace) -> Result<bool, AllocError> {
+    let made = Report::Reply(Reply::Task(0));
+    passes(alloc, trace, &Event::Act(Act::Spawn), &made)
+}
+
+// The one task is woken.
+fn wake(alloc: Global, trace: &mut Trace) -> Result<bool, AllocError> {
+    let queued = Report::Reply(Reply::Woke(Woke::Queued));
+    passes(alloc, trace, &Event::Act(Act::Wake(0)), &queued)
+}
+
 // All sleeps are polled, in turns of the one task, which is woken after each.
 fn turns(alloc: Global, trace: &mut Trace, sleeps: u64, ticks: u64) -> Result<bool, AllocError> {
-    let spawn = Event::Act(Act::Spawn);
-    if !passes(alloc, trace, &spawn, &Report::Reply(Reply::Task(0)))? {
-        return Ok(false);
-    }
-    let wake = Event::Act(Act::Wake(0));
-    let queued = Report::Reply(Reply::Woke(Woke::Queued));
+    let mut passed = spawn(alloc, trace)?;
     for part in 0..=sleeps / TURN {
         let first = part.saturating_mul(TURN);
         let end = first.saturating_add(TURN).min(sleeps);
-        if !turn(alloc, trace, first, end, sleeps, ticks)? {
-            return Ok(false);
-        }
-        if !passes(alloc, trace, &wake, &queued)? {
-            return Ok(false);
-        }
+        passed = passed && turn(alloc, trace, first, end, sleeps, ticks)? && wake(alloc, trace)?;
     }
-    Ok(true)
+    Ok(passed)
 }
 
 // A clock step to the last tick, with so many sleeps in its list.
@@ -88,6 +90,19 @@ fn sweep(alloc: Global, trace: &mut Trace, listed: u64, ticks: u64) -> Result<bo
 }
 
 // Whether the turns are passed, the clock step without its last sleep, and the whole one.
+fn verdicts_on(
+    alloc: Global,
+    trace: &mut Trace,
+    sleeps: u64,
+    ticks: u64,
+) -> Result<(bool, bool, bool), AllocError> {
+    let turned = turns(alloc, trace, sleeps, ticks)?;
+    let short = sweep(alloc, trace, sleeps.saturating_sub(1), ticks)?;
+    let whole = sweep(alloc, trace, sleeps, ticks)?;
+    Ok((turned, short, whole))
+}
+
+// The same of a new trace.
 fn verdicts(alloc: Global, sleeps: u64, ticks: u64) -> Result<(bool, bool, bool), AllocError> {
     let limits = Limits {
         tasks: 1,
@@ -95,10 +110,7 @@ fn verdicts(alloc: Global, sleeps: u64, ticks: u64) -> Result<(bool, bool, bool)
         sleeps,
     };
     let mut trace = Trace::new(alloc, limits, Blocking::Panic);
-    let turned = turns(alloc, &mut trace, sleeps, ticks)?;
-    let short = sweep(alloc, &mut trace, sleeps.saturating_sub(1), ticks)?;
-    let whole = sweep(alloc, &mut trace, sleeps, ticks)?;
-    Ok((turned, short, whole))
+    verdicts_on(alloc, &mut trace, sleeps, ticks)
 }
 
 fn word(passed: bool) -> &'static str {

@@ -1,6 +1,7 @@
 // The check of a whole list of events with their reports.
 ghost use Rattle.std.specs.Prelude.{◌≡◌, ◌<◌, ◌^◌, length, IfOk};
-ghost use Rattle.mono_trace.specs.Verdicts.{Checked};
+ghost use Rattle.mono_trace.specs.Stands.{machine_of};
+ghost use Rattle.mono_trace.specs.Verdicts.{Checked, IsVerdict};
 
 use crate::{Trace, Verdict};
 use mono_machine::{Blocking, Event, Limits, Report};
@@ -23,6 +24,21 @@ pub fn check(
     ensures { IfOk result (λ verdict. Checked limits blocking events.now.items reports.now.items verdict) }
 {
     let mut trace = Trace::new(alloc, limits, blocking);
+    verdict_on(alloc, &mut trace, events, reports)
+}
+
+/// The verdict on all pairs, from the machine of a trace that has seen no arming yet.
+fn verdict_on(
+    alloc: Global,
+    trace: &mut Trace,
+    events: &Vec<Event>,
+    reports: &Vec<Report>,
+) -> Result<Verdict, AllocError>
+    requires same_length { length events.now.items ≡ length reports.now.items }
+    requires not_too_long { length events.now.items < 2 ^ 63 }
+    requires fresh { (machine_of trace.old).sleeps.arm_count ≡ 0 }
+    ensures { IfOk result (λ verdict. IsVerdict (machine_of trace.old) events.now.items reports.now.items verdict) }
+{
     for i in 0..events.len() {
         if !trace.step(alloc, &events[i], &reports[i])? {
             return Ok(Verdict::No(i as u64));

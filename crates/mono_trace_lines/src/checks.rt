@@ -1,7 +1,8 @@
 // The check of a whole journal.
-ghost use Rattle.std.specs.Prelude.{◌-◌, ◌<◌, IfOk, OnOk};
+ghost use Rattle.std.specs.Prelude.{◌≡◌, ◌-◌, ◌<◌, true, false, IfOk, OnOk};
 ghost use Rattle.mono_trace.specs.Stands.{machine_of};
-ghost use Rattle.mono_trace_lines.specs.Journal.{IsAnswer};
+ghost use Rattle.mono_trace_lines.specs.Journal.{BeginsWith, BeginsWithNone, IsAnswer};
+ghost use Rattle.mono_trace_lines.specs.declared.journal.JournalLine.{JournalLine};
 ghost use Rattle.mono_trace_lines.specs.Taking.{LeadsOn, HasFewArms};
 
 use crate::journal::{JournalLine, read_line};
@@ -82,6 +83,29 @@ fn keep_list(item: JournalLine, spare: &mut List<TurnStep>) {
     }
 }
 
+// Takes the next line, which has this number. False where it is no line of a journal.
+#[inline(always)]
+fn take_next(
+    alloc: Global,
+    checking: &mut Checking,
+    reader: &mut Reader,
+    spare: &mut List<TurnStep>,
+    line: usize,
+) -> Result<bool, AllocError>
+    requires counted { 0 < line }
+    requires few { HasFewArms (line - 1) (machine_of checking.old.trace) }
+    ensures taken { IfOk result (λ taken. taken ≡ true → (item : JournalLine) × BeginsWith reader.old.rest.now item reader.new.rest.now × LeadsOn line item checking.old.failed (machine_of checking.old.trace) checking.new.failed (machine_of checking.new.trace)) }
+    ensures none { IfOk result (λ taken. taken ≡ false → BeginsWithNone reader.old.rest.now) }
+    ensures few { OnOk result (HasFewArms line (machine_of checking.new.trace)) }
+{
+    let Some(item) = read_line(alloc, reader, spare)? else {
+        return Ok(false);
+    };
+    take_line(alloc, checking, &item, line)?;
+    keep_list(item, spare);
+    Ok(true)
+}
+
 /// Whether a journal is a run of the machine, from the start machine with these limits and this strategy.
 ///
 /// The first line that is no line of a journal is named, wherever it stands. Else the answer is that of
@@ -102,11 +126,9 @@ pub fn check_lines(
     let mut spare = List::new(alloc);
     let mut count = 0usize;
     'lines: while !reader.is_empty() {
-        let Some(item) = read_line(alloc, &mut reader, &mut spare)? else {
+        if !take_next(alloc, &mut checking, &mut reader, &mut spare, count + 1)? {
             return Ok(Answer::BadLine(count + 1));
-        };
-        take_line(alloc, &mut checking, &item, count + 1)?;
-        keep_list(item, &mut spare);
+        }
         count += 1;
     }
     match checking.failed {

@@ -1,24 +1,23 @@
 use Rattle.std.proofs.Common.{◌≡◌, ◌<◌, length, rules, arith, subst, sym}
 use Rattle.mono_machine.specs.Machine.{start_machine}
 use Rattle.mono_trace.specs.Stands.{machine_of}
-use Rattle.mono_trace_lines.specs.Journal.{BeginsWith, BeginsWithNone}
 use Rattle.mono_trace_lines.specs.Taking.{HasFewArms}
 use Rattle.mono_trace_lines.proofs.Checking.{Progress, started, one_more, all_passed, one_failed, first_bad}
 use Rattle.mono_trace_lines.proofs.checks.check_lines.Goals as goal
 
 pub lines-preserved : goal.lines-preserved
 lines-preserved c =
-    let b : BeginsWith c.lines.reader.rest.now c.in-Some.item c.read_line.new.reader.rest.now = rw c.in-Some.is at c.in_ok-item.ensures.found in (
-      one_more c.args.limits c.args.blocking c.args.input.now c.lines.count c.lines.checking.failed c.take_line.new.checking.failed (machine_of c.lines.checking.trace) (machine_of c.take_line.new.checking.trace)
-          c.lines.reader.rest.now c.read_line.new.reader.rest.now c.in-Some.item c.lines.invariant.0 b c.in_ok-take_line.ensures.leads,
-      c.in_ok-take_line.ensures.few,
+    let taken = c.in_ok-take_next.ensures.taken c.if-not-branch.false in (
+      one_more c.args.limits c.args.blocking c.args.input.now c.lines.count c.lines.checking.failed c.take_next.new.checking.failed (machine_of c.lines.checking.trace) (machine_of c.take_next.new.checking.trace)
+          c.lines.reader.rest.now c.take_next.new.reader.rest.now taken.0 c.lines.invariant.0 taken.1 taken.2,
+      c.in_ok-take_next.ensures.few,
     )
 
-pub returns-in_default : goal.returns-in_default
-returns-in_default c =
-    let none : BeginsWithNone c.lines.reader.rest.now = search rules in
+pub returns-then-not-branch : goal.returns-then-not-branch
+returns-then-not-branch c =
     let some : 0 < length c.lines.reader.rest.now = search rules in
-    first_bad c.args.limits c.args.blocking c.args.input.now c.lines.count c.lines.checking.failed (machine_of c.lines.checking.trace) c.lines.reader.rest.now c.lines.invariant.0 some none
+    first_bad c.args.limits c.args.blocking c.args.input.now c.lines.count c.lines.checking.failed (machine_of c.lines.checking.trace) c.lines.reader.rest.now c.lines.invariant.0 some
+    (c.in_ok-take_next.ensures.none c.if-not-branch.true)
 
 pub lines-init : goal.lines-init
 lines-init c =
@@ -39,5 +38,5 @@ returns c =
     let m = machine_of c.lines.checking.trace in
     let rest = c.lines.reader.rest.now in
     let none : length rest ≡ 0 = search rules in
-    one_failed c.args.limits c.args.blocking c.args.input.now c.lines.count c.in-Some-failed.n m rest
-    (subst (λ f. Progress c.args.limits c.args.blocking c.args.input.now c.lines.count f m rest) c.in-Some-failed.is c.lines.invariant.0) none
+    one_failed c.args.limits c.args.blocking c.args.input.now c.lines.count c.in-Some.n m rest
+    (subst (λ f. Progress c.args.limits c.args.blocking c.args.input.now c.lines.count f m rest) c.in-Some.is c.lines.invariant.0) none

@@ -1,12 +1,11 @@
 use Rattle.std.proofs.Common.{◌≤◌, ◌*◌, drop}
-use Rattle.mono_machine.specs.Machine.{start_machine}
 use Rattle.mono_trace.specs.Stands.{machine_of}
 use Rattle.mono_trace.specs.Verdicts.{IsVerdict}
 use Rattle.mono_trace.specs.declared.Verdict.{Verdict}
 use Rattle.mono_trace.proofs.Verdicts.{later}
-use Rattle.mono_trace.proofs.checks.check.Given as goal
+use Rattle.mono_trace.proofs.checks.verdict_on.Given as goal
 
 -- what the verdict on the pairs that are left says of all
 abbrev pub invariant-loop-i : goal.invariant-loop-i
 invariant-loop-i l = ((machine_of l.trace).sleeps.arm_count ≤ l.i * 9223372036854775808)
-    × ((v : Verdict) → IsVerdict (machine_of l.trace) (drop l.i l.events.items) (drop l.i l.reports.items) v → IsVerdict (start_machine l.fn.limits l.fn.blocking) l.events.items l.reports.items (later l.i v))
+    × ((v : Verdict) → IsVerdict (machine_of l.trace) (drop l.i l.events.items) (drop l.i l.reports.items) v → IsVerdict (machine_of l.fn.trace) l.events.items l.reports.items (later l.i v))

@@ -1,13 +1,12 @@
 use Rattle.std.proofs.Common.{◌≡◌, ◌+◌, sym, ◌∙◌, ap, subst, List, ◌++◌, ◌∷◌, [], append_assoc, append-nil, refl, drop}
-use Rattle.mono_machine.specs.Machine.{start_machine}
 use Rattle.mono_machine.specs.Steps.{Run}
 use Rattle.mono_machine.specs.declared.events.Event.{Event}
 use Rattle.mono_machine.proofs.Running.{item_and_rest, nothing_left}
-use Rattle.mono_exec.proofs.executor.replay.Goals as goal
+use Rattle.mono_exec.proofs.replaying.report_all.Goals as goal
 
 pub loop-event-preserved : goal.loop-event-preserved
-loop-event-preserved c =
-    let before = c.loop-event.invariant in
+loop-event-preserved c = λ m stands.
+    let before = c.loop-event.invariant m stands in
     let events : List Event = c.args.events.now.items in
     let i = c.loop-event.event-index in
     let report = c.in_ok-report.report in
@@ -18,17 +17,17 @@ loop-event-preserved c =
       step.0,
       step.2,
       λ answers new run.
-          let all : Run (start_machine c.args.limits c.args.blocking) events (reports ++ report ∷ answers) new =
+          let all : Run m events (reports ++ report ∷ answers) new =
           before.2 (report ∷ answers) new (subst (λ xs. Run before.0 xs (report ∷ answers) new) (sym first) (step.0, step.1, run)) in
-          subst (λ xs. Run (start_machine c.args.limits c.args.blocking) events xs new) (sym (ap (λ xs. xs ++ answers) c.in_ok-push.ensures.items ∙ append_assoc reports (report ∷ []) answers)) all,
+          subst (λ xs. Run m events xs new) (sym (ap (λ xs. xs ++ answers) c.in_ok-push.ensures.items ∙ append_assoc reports (report ∷ []) answers)) all,
     )
 
 pub returns : goal.returns
-returns c =
-    let before = c.loop-event.invariant in
+returns c = λ m stands.
+    let before = c.loop-event.invariant m stands in
     let events : List Event = c.args.events.now.items in
     let i = c.loop-event.event-index in
     let rest : drop i events ≡ [] = subst (λ xs. drop i xs ≡ []) c.deref-event-items.ensures.value (nothing_left c.deref-event-items.result.now i c.loop-event-test.false) in
-    let all : Run (start_machine c.args.limits c.args.blocking) events (c.loop-event.reports.items ++ []) before.0 =
+    let all : Run m events (c.loop-event.reports.items ++ []) before.0 =
     before.2 [] before.0 (subst (λ xs. Run before.0 xs [] before.0) (sym rest) refl) in
-    (before.0, subst (λ xs. Run (start_machine c.args.limits c.args.blocking) events xs before.0) (append-nil c.loop-event.reports.items) all)
+    (before.0, subst (λ xs. Run m events xs before.0) (append-nil c.loop-event.reports.items) all)
