@@ -1,23 +1,21 @@
 -- Where the sleeps are registered after each event.
-use Rattle.std.proofs.Common.{◌≡◌, ◌≢◌, ◌<◌, ◌≤◌, inl, inr, ℕ, ◌+◌, true, false, Bool, cond, List, [], ◌∷◌, ◌++◌, length, drop, get_or, Some, None, Option, max, refl, ap, sym, subst, ◌∙◌, arith}
-use Rattle.std.specs.Prelude.{Ok, Err, nat_lt, nat_le, ◌==◌, ◌||◌, IfSome, slice_set}
+use Rattle.std.proofs.Common.{◌≡◌, ◌≢◌, ◌<◌, ◌≤◌, inl, inr, ℕ, ◌+◌, true, false, Bool, cond, List, [], ◌∷◌, length, drop, get_or, Some, None, Option, refl, ap, sym, subst, ◌∙◌, arith}
+use Rattle.std.specs.Prelude.{nat_lt, nat_le, ◌||◌, slice_set}
 use Rattle.std.specs.Option.{option_map}
 use Rattle.std.proofs.lemmas.Bool.{eq-eqb, ne_eqb, cases_eq, cases_lt, le-ltb}
 use Rattle.std.proofs.lemmas.List.{get_or-set_other, get_or-set_same, get_or_past, get_or_append_left, get_or_push, length_push}
-use Rattle.mono_model.specs.Ticks.{up, down, max_nanos}
-use Rattle.mono_model.specs.Table.{Table, value_at, with_next, with_value, next_number, is_full}
+use Rattle.mono_model.specs.Ticks.{up, max_nanos}
+use Rattle.mono_model.specs.Table.{value_at, with_next, with_value, next_number, is_full}
 use Rattle.mono_model.specs.Sleeps.{Sleeps, Sleep, Arming, fresh, armed, elapsed, with_sleep, without_sleep, armed_anew, armed_later, armed_above, after_arming}
 use Rattle.mono_model.specs.SleepActs as machine
-use Rattle.mono_model.specs.Valid.{AreValidSleeps, IsValidSleep}
-use Rattle.mono_wheel.specs.Start.{start, top_level}
 use Rattle.mono_time.specs.Sleeps as table
 use Rattle.mono_time.specs.Sleeps.{SleepTable, IsNoneArmedUpTo}
 use Rattle.mono_time.specs.Stands.{StandsForSleeps, seen}
-use Rattle.mono_time.specs.Registered.{RegistersOnly, anew_above, polled_registered, reset_registered, stepped_registered, IsRegistered, NextExpiration, FirstSlot, IsOnePending}
+use Rattle.mono_time.specs.Registered.{RegistersOnly, polled_registered, reset_registered, stepped_registered, IsRegistered, NextExpiration, FirstSlot}
 use Rattle.mono_time.specs.Timers.{sleeps_of, elapsed_tick, registered_of}
 use Rattle.mono_time.specs.declared.timers.Timers.{Timers}
 use Rattle.mono_machine.specs.Machine.{Machine, with_tasks, with_sleeps}
-use Rattle.mono_machine.specs.Acts.{Outcome, answered, act_outcome, block, for_sleep, refused, step_outcome}
+use Rattle.mono_machine.specs.Acts.{answered, act_outcome, block, for_sleep, refused, step_outcome}
 use Rattle.mono_machine.specs.Acts.{reset as resetting}
 use Rattle.mono_model.specs.Tasks.{spawned}
 use Rattle.mono_machine.specs.Steps.{greatest_at, after_fire, after_fires}
@@ -29,8 +27,7 @@ use Rattle.mono_machine.specs.declared.events.Refusal.TheVariants as refusal
 use Rattle.mono_machine.specs.declared.events.Reply.TheVariants as reply
 use Rattle.mono_machine.specs.declared.events.Event.TheVariants as event
 use Rattle.mono_machine.specs.declared.events.TurnStep.{TurnStep}
-use Rattle.mono_exec.specs.Matches.{Rests}
-use Rattle.mono_exec.specs.Registered.{armed_by_act, by_act, gone_on, by_clock, registered_by_act, registered_by_steps, registered_after, FollowsAct, IsNext}
+use Rattle.mono_exec.specs.Registered.{armed_by_act, by_act, by_clock, registered_by_act, registered_by_steps, registered_after, FollowsAct, IsNext}
 use Rattle.mono_exec.proofs.Timing.{value-seen}
 
 -- where each sleep is registered exactly while it is armed

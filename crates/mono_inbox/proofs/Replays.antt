@@ -1,11 +1,11 @@
 -- A history goes on by one call, and each call on the state goes on as its replay does.
-use Rattle.std.proofs.Common.{◌≡◌, ◌≢◌, ◌<◌, ◌≤◌, ℕ, ◌+◌, Bool, true, false, List, [], ◌∷◌, ◌++◌, length, refl, ap, sym, subst, ◌∙◌, arith, eq-eqb}
+use Rattle.std.proofs.Common.{◌≡◌, ◌≢◌, ◌<◌, ◌≤◌, ℕ, ◌+◌, Bool, true, false, List, [], ◌∷◌, ◌++◌, length, refl, ap, sym, ◌∙◌, arith, eq-eqb}
 use Rattle.std.specs.Prelude.{◌==◌, ◌||◌, ◌&&◌, not, if◌then◌else◌, slice_index_or, Option, Some, None, MatchOption}
 use Rattle.mono_model.specs.Inbox.{is_waiting, with_waiting}
 use Rattle.mono_inbox.specs.declared.log.CallEntry.{CallEntry}
 use Rattle.mono_inbox.specs.declared.log.CallEntry.TheVariants.{Know, Put, DrainOne, Drain, Retire}
 use Rattle.mono_inbox.specs.State.{State, is_known, is_unlisted, put_answer, after_put, with_list, AlsoKnows, Forgets}
-use Rattle.mono_inbox.specs.History.{Replay, at_first, is_listed, is_first_of, without_first, is_right, after, replay_from, replies_from, replay, is_history, Agrees, StandsFor, put_in, count_puts}
+use Rattle.mono_inbox.specs.History.{Replay, at_first, is_listed, is_right, after, replay_from, replies_from, replay, is_history, Agrees, put_in, count_puts}
 use Rattle.mono_inbox.specs.Log.{Log, is_full, IsFaithful}
 
 true-false : true ≡ false → ⊥

@@ -1,4 +1,4 @@
-use Rattle.std.proofs.Common.{◌≡◌, ap, sym, ◌∙◌, subst}
+use Rattle.std.proofs.Common.{ap, ◌∙◌, subst}
 use Rattle.mono_exec.specs.Matches.{Matches}
 use Rattle.mono_machine.specs.Turns.{turn_report, after_turn}
 use Rattle.mono_machine.specs.declared.events.Report.TheVariants.{Reply}

@@ -1,11 +1,6 @@
-use Rattle.std.proofs.Common.{◌≡◌, sym, ◌∙◌, ap, subst, ◌≤◌}
-use Rattle.mono_model.specs.Ticks.{max_nanos}
-use Rattle.std.proofs.lemmas.Bool.{le-ltb}
-use Rattle.mono_time.specs.Timers.{elapsed_tick, registered_of}
-use Rattle.mono_machine.specs.Steps.{at_clock, greatest_at}
-use Rattle.mono_machine.specs.declared.events.Event.TheVariants as event
-use Rattle.mono_exec.specs.Registered.{registered_after}
-use Rattle.mono_exec.proofs.Registering.{registered-clock, fires-greatest, clock-on}
+use Rattle.std.proofs.Common.{sym, ◌∙◌}
+use Rattle.mono_machine.specs.Steps.{at_clock}
+use Rattle.mono_exec.proofs.Registering.{fires-greatest, clock-on}
 use Rattle.mono_exec.proofs.Firing.{clock_took}
 use Rattle.mono_exec.proofs.parts.Parts.clock.Goals as goal
 

@@ -7,7 +7,7 @@ use Rattle.mono_machine.specs.SleepCalls.{poll_reply}
 use Rattle.mono_machine.proofs.Known.{alike_joined}
 use Rattle.mono_exec.proofs.Matching.{changed}
 use Rattle.mono_exec.proofs.Timing.{other_timers, rests, alike_polled}
-use Rattle.mono_exec.proofs.Registering.{sleeps-stay, registered-polled}
+use Rattle.mono_exec.proofs.Registering.{registered-polled}
 use Rattle.mono_exec.proofs.parts.Parts.query.Goals as goal
 
 pub returns-in-Sleep-clause-reply : goal.returns-in-Sleep-clause-reply
