@@ -1,6 +1,6 @@
 //! The workloads, and what one run of them gives.
-ghost use Rattle.std.specs.Prelude.{◌≡◌, ◌<◌, ◌^◌, true, length};
-ghost use Rattle.mono_bench.specs.Ready.{AllIn, AllLow};
+ghost use Rattle.std.specs.Prelude.{◌≡◌, ◌+◌, ◌<◌, ◌^◌, true, length};
+ghost use Rattle.mono_bench.specs.Ready.{AllIn, AllLow, IsRow, RowIn};
 
 use crate::table::Table;
 use crate::watch::Watch;
@@ -120,6 +120,21 @@ fn ask_next<L: Ledger>(
     Ok(())
 }
 
+// Whether the keys are numbers in a row from `base` on.
+fn is_row(keys: &[usize], base: usize) -> bool
+    ensures { result ≡ true → IsRow base keys.now }
+{
+    if keys.len() > usize::MAX - base {
+        return false;
+    }
+    for place in 0..keys.len() {
+        if keys[place] != base + place {
+            return false;
+        }
+    }
+    true
+}
+
 // Whether there are as many ticks as keys, each key is in, and each tick is low enough for the resets.
 fn is_ready<L: Ledger>(table: &Table<L>, keys: &[usize], ticks: &[u64]) -> bool
     ensures { result ≡ true → (length keys.now ≡ length ticks.now) × (AllIn table.now.wheel keys.now × AllLow ticks.now) }
@@ -135,34 +150,30 @@ fn is_ready<L: Ledger>(table: &Table<L>, keys: &[usize], ticks: &[u64]) -> bool
     true
 }
 
-// Each key is let be due so much after its first tick.
-fn put_off<L: Ledger>(table: &mut Table<L>, keys: &[usize], ticks: &[u64], later: u64)
-    requires as_many { length keys.now ≡ length ticks.now }
-    requires within { AllIn table.old.wheel keys.now }
+// Each key of a row, one for each tick, is let be due so much after its first tick. The keys are counted and not read,
+// and there is one loop for all rounds, so that it is aligned as loops are that run often.
+#[inline(never)]
+fn put_off<L: Ledger>(table: &mut Table<L>, base: usize, ticks: &[u64], later: u64)
+    requires row { base + length ticks.now < 2 ^ 64 }
+    requires within { RowIn table.old.wheel base (length ticks.now) }
     requires low { AllLow ticks.now }
     requires later { later < 2 ^ 62 }
-    ensures { AllIn table.new.wheel keys.now }
+    ensures { RowIn table.new.wheel base (length ticks.now) }
 {
-    for place in 0..keys.len() {
-        table.later(keys[place], ticks[place] + later);
+    for place in 0..ticks.len() {
+        table.later(base + place, ticks[place] + later);
     }
 }
 
 // The rounds of resets. They end with the first key that fires, which would be in no more; no tick of the
 // workload is due before the last round.
-fn keep_alive<L: Ledger>(
-    table: &mut Table<L>,
-    keys: &[usize],
-    ticks: &[u64],
-    base: usize,
-    outcome: &mut Outcome,
-)
-    requires as_many { length keys.now ≡ length ticks.now }
-    requires within { AllIn table.old.wheel keys.now }
+fn keep_alive<L: Ledger>(table: &mut Table<L>, base: usize, ticks: &[u64], outcome: &mut Outcome)
+    requires row { base + length ticks.now < 2 ^ 64 }
+    requires within { RowIn table.old.wheel base (length ticks.now) }
     requires low { AllLow ticks.now }
 {
     for round in 1..=10u64 {
-        put_off(table, keys, ticks, round * 1000);
+        put_off(table, base, ticks, round * 1000);
         if let Some(key) = table.fire(round * 1000) {
             outcome.note(base, key);
             advance(table, base, round * 1000, outcome);
@@ -172,7 +183,7 @@ fn keep_alive<L: Ledger>(
 }
 
 // Ends the phase of the insertions, and then resets each key. What a reset asks of its key and its tick is
-// known before, so that the time of the resets is that of the calls.
+// known before, and which number each key is, so that the time of the resets is that of the calls.
 fn reset_all<R: Clock, L: Ledger>(
     rt: &R,
     table: &mut Table<L>,
@@ -182,12 +193,13 @@ fn reset_all<R: Clock, L: Ledger>(
     watch: &mut Watch,
     outcome: &mut Outcome,
 ) -> io::Result<()> {
+    let is_row = is_row(keys, base);
     let is_ready = is_ready(table, keys, ticks);
     watch.lap(rt)?;
-    if !is_ready {
+    if !is_row || !is_ready {
         return Err(io::ErrorKind::InvalidInput.into());
     }
-    keep_alive(table, keys, ticks, base, outcome);
+    keep_alive(table, base, ticks, outcome);
     watch.lap(rt)
 }
 

@@ -1,5 +1,6 @@
-use Rattle.mono_bench.specs.Ready.{AllIn}
+use Rattle.std.specs.Prelude.{length}
+use Rattle.mono_bench.specs.Ready.{RowIn}
 use Rattle.mono_bench.proofs.work.keep_alive.Given as goal
 
 abbrev pub invariant-loop-round : goal.invariant-loop-round
-invariant-loop-round g l = AllIn l.table.wheel l.keys
+invariant-loop-round g l = RowIn l.table.wheel l.base (length l.ticks)
