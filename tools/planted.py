@@ -5,9 +5,9 @@ usage: tools/planted.py [CRATE ..]
 
 Each planted/*.edit has the form of a must-fail edit. For each a row is printed: the crate, the body, and what refuses it:
 "clause" with the prover's words, "proof's text" where only a name that the edit took away is missed, "test" where the
-prover lets it through and a test of the crate or of one above it fails, with that crate, "no verdict" where the tests of
-one do not end in time, "bad edit" where it does not apply or compile, or "GOT THROUGH". What the prover refuses is
-printed first.
+prover lets it through and a test of the crate or of one above it fails, or the stored run of a program above it, with that
+crate, "no verdict" where the tests of one do not end in time, "bad edit" where it does not apply or compile, or "GOT
+THROUGH". What the prover refuses is printed first.
 """
 import os
 import re
@@ -92,33 +92,72 @@ def has_tests(copy, crate):
     return False
 
 
-def with_tests(copy, crate):
-    """The crates whose tests may run the crate's code: itself, those that name it, and those that stand on it."""
+def has_input(copy, crate):
+    """Whether the crate is a program whose stored run reads an input."""
+    return os.path.exists(os.path.join(copy, "crates", crate, "stdin"))
+
+
+def above(crate):
+    """The crates that may run the crate's code: itself, those that name it, and those that stand on it."""
     libraries = below.libraries()
     reached, row = [], [crate]
     while row:
         reached += row
         row = [name for name, of in libraries.items() if name not in reached and set(of) & set(row)]
-    return [name for name in reached if has_tests(copy, name)]
+    return reached
+
+
+def run_tests(copy, crate):
+    """How the crate's tests end: the status of rt."""
+    return subprocess.run(
+        ["rt", "try", "--test"],
+        cwd=os.path.join(copy, "crates", crate),
+        stdout=subprocess.DEVNULL,
+        stderr=subprocess.DEVNULL,
+        timeout=LIMIT,
+    ).returncode
+
+
+def stored(folder, name):
+    path = os.path.join(folder, name)
+    if not os.path.exists(path):
+        return b""
+    with open(path, "rb") as file:
+        return file.read()
+
+
+def run_program(copy, crate):
+    """How the crate's stored run ends: 0 where it prints what is stored, 1 where it prints something else, else 2."""
+    folder = os.path.join(copy, "crates", crate)
+    words = stored(folder, "args").decode().splitlines()
+    run = subprocess.run(
+        ["rt", "try", "--steps", "1", "--seconds", str(LIMIT), "--", *words],
+        cwd=folder,
+        input=stored(folder, "stdin"),
+        stdout=subprocess.PIPE,
+        stderr=subprocess.DEVNULL,
+        timeout=2 * LIMIT,
+    )
+    if run.stdout == stored(folder, "stdout"):
+        return 0
+    return 2 if run.returncode == 2 else 1
 
 
 def failing_tests(copy, crate, edit):
     """The kind of verdict, and the nearest crate of which a test fails with the edit, or does not end."""
     before = apply(os.path.join(copy, "crates", crate), edit)
     kind, text = "GOT THROUGH", "the prover and all tests"
-    for name in with_tests(copy, crate):
+    for name in above(crate):
         try:
-            run = subprocess.run(
-                ["rt", "try", "--test"],
-                cwd=os.path.join(copy, "crates", name),
-                stdout=subprocess.DEVNULL,
-                stderr=subprocess.DEVNULL,
-                timeout=LIMIT,
-            )
+            status = 0
+            if has_tests(copy, name):
+                status = run_tests(copy, name)
+            elif has_input(copy, name):
+                status = run_program(copy, name)
         except subprocess.TimeoutExpired:
             kind, text = "no verdict", f"the tests of {name} had not ended after {LIMIT} seconds"
             break
-        if run.returncode not in (0, 2):
+        if status not in (0, 2):
             kind, text = "test", f"of {name}"
             break
     for file, text_before in before.items():

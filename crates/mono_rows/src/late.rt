@@ -3,12 +3,13 @@ ghost use Rattle.std.specs.Prelude.{◌≡◌, ◌<◌, IfNone, IfSome};
 ghost use Rattle.std.specs.Vec.{vec_len, vec_capacity};
 ghost use Rattle.mono_blocking.specs.Counts.{counted_by};
 
-use crate::running::{PLAIN, run_on};
+use crate::running::{ROOM, status_on};
 use mono_blocking::{Entry, Spawner, ThreadSpawner};
-use std::alloc::Global;
+use mono_model::Host;
+use mono_script::{MemSink, MemSource};
+use std::alloc::{AllocError, Global};
 use std::sync::Arc;
 use std::sync::atomic::{AtomicU64, Ordering};
-use std::test::Fail;
 use std::thread::JoinHandle;
 
 /// How often a thread reads a word before it runs its worker.
@@ -73,26 +74,33 @@ impl Spawner for LateSpawner {
     }
 }
 
+// Whether the run ends with its main task's output, and a wake of its worker was listed.
+fn is_woken<R: Host + Send + 'static>(
+    rt: &R,
+    alloc: Global,
+    spawner: &mut LateSpawner,
+) -> Option<bool> {
+    let script =
+        b"limits 8 8 8\ntask\nspawn 1\nblock 4\nawait-job 0\ndone 1\ntask\nawait-sleep 63000000\ndone 2\n";
+    let mut source = MemSource::new(Vec::from_slice(alloc, script).ok()?, Vec::new(alloc));
+    let mut sink = MemSink::new(alloc, ROOM, Vec::new(alloc)).ok()?;
+    let status = status_on(rt, alloc, "run 1 400", &mut source, &mut sink, 0, spawner)?;
+    let output = str::from_utf8(sink.bytes()).ok()?;
+    Some(status == 0 && output.contains("\nremote 0 -> listed\n") && output.ends_with("\nmain 1\n"))
+}
+
 // The job is done by the worker once it begins, while the main task waits for it and the other one sleeps on. No park lasts
 // more than 63 milliseconds, so the run ends by itself.
 #[test]
-fn a_worker_that_begins_late_wakes_the_main_task(rt: HostRuntime) -> Result<(), Fail> {
+fn a_worker_that_begins_late_wakes_the_main_task(rt: HostRuntime) -> Result<(), AllocError> {
     let alloc = rt.alloc();
-    let script =
-        b"limits 8 8 8\ntask\nspawn 1\nblock 4\nawait-job 0\ndone 1\ntask\nawait-sleep 63000000\ndone 2\n".as_slice();
     let mut spawner = LateSpawner {
         inner: ThreadSpawner::new(alloc),
         word: Arc::new(alloc, AtomicU64::new(0))?,
     };
-    let input = Vec::from_slice(alloc, script)?;
-    let ran = run_on(&rt, alloc, "run 1 400", input, PLAIN, 0, &mut spawner)?;
+    let woken = is_woken(&rt, alloc, &mut spawner);
     let LateSpawner { inner, word: _word } = spawner;
     inner.join(&rt);
-    assert_eq!(rt; ran.status, 0);
-    let Ok(output) = String::from_utf8(ran.output) else {
-        return Err("no text".into());
-    };
-    assert!(rt; output.contains("\nremote 0 -> listed\n"));
-    assert!(rt; output.ends_with("\nmain 1\n"));
+    assert!(&rt; matches!(woken, Some(true)));
     Ok(())
 }

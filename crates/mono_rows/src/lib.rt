@@ -1,34 +1,15 @@
-//! Bytes to bytes: what a caller of the top call may rely on, and rows of inputs with their outputs as tests.
+//! Bytes to bytes: what a caller of the top call may rely on, and as tests what no plain row says: calls that fail, inputs
+//! that are no text or have no end, long inputs, a clock that is read, and a worker that begins late.
 #![tactic(auto)]
 
-#[cfg(test)]
-mod actors;
 mod caller;
 #[cfg(test)]
-mod faults;
-#[cfg(test)]
-mod hostile_jobs;
-#[cfg(test)]
-mod hostile_sleeps;
-#[cfg(test)]
-mod hostile_tasks;
-#[cfg(test)]
-mod journals;
+mod cases;
 #[cfg(test)]
 mod late;
 #[cfg(test)]
-mod limiters;
-#[cfg(test)]
-mod refusals;
-#[cfg(test)]
-mod replays;
+mod many;
 #[cfg(test)]
 mod running;
-#[cfg(test)]
-mod runs;
-#[cfg(test)]
-mod sessions;
-#[cfg(test)]
-mod waits;
 
 pub use caller::status_of;
