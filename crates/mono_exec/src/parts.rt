@@ -90,6 +90,7 @@ impl Parts {
     }
 
     /// An act is answered as the machine answers it, and leaves the machine's outcome.
+    #[inline(always)]
     pub fn act(&mut self, alloc: Global, act: Act) -> Result<Reply, AllocError>
         ensures reply { IfOk result (λ r. (m : Machine) → Matches self.old m → r ≡ (act_outcome act m).reply) }
         ensures matches { OnOk result ((m : Machine) → Matches self.old m → Matches self.new (act_outcome act m).machine) }

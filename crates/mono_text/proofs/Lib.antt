@@ -9,3 +9,4 @@ pub mod Numbers
 pub mod Serving
 pub mod Calls
 pub mod Firsts
+pub mod Counted
