@@ -4,8 +4,7 @@ use mono_machine::{
     Woke,
 };
 use mono_trace::{Trace, Verdict, check};
-use std::alloc::{AllocError, Global};
-use std::test::Fail;
+use std::alloc::Global;
 use use_check::checked_replay;
 
 const LIMITS: Limits = Limits {
@@ -14,63 +13,67 @@ const LIMITS: Limits = Limits {
     sleeps: 200000,
 };
 
-fn turn(alloc: Global, steps: &[TurnStep], end: End) -> Result<Event, AllocError> {
-    let mut list = List::new(alloc);
-    for step in steps {
-        list.push(*step)?;
-    }
-    Ok(Event::Turn(list, end))
-}
+const YES: Option<Verdict> = Some(Verdict::Yes);
 
-fn had(alloc: Global, task: u64, replies: &[Reply], ended: Ended) -> Result<Report, AllocError> {
-    let mut list = List::new(alloc);
-    for reply in replies {
-        list.push(*reply)?;
-    }
-    Ok(Report::Turn(task, list, ended))
-}
+// The third pair, a clock step, is the first that no step allows.
+const NOT_THE_CLOCK: Option<Verdict> = Some(Verdict::No(2));
 
-fn numbers(alloc: Global, items: &[u64]) -> Result<List<u64>, AllocError> {
+// A list of these items. Where memory ends it is shorter, and is no list that a test expects.
+fn list<T: Copy>(alloc: Global, items: &[T]) -> List<T> {
     let mut list = List::new(alloc);
     for item in items {
-        list.push(*item)?;
+        let _ = list.push(*item);
     }
-    Ok(list)
+    list
 }
 
-/// A spawn, a turn, and a clock step to so many nanoseconds.
-fn events_of(alloc: Global, steps: Event, nanos: u128) -> Result<Vec<Event>, AllocError> {
-    let mut events = Vec::with_capacity(alloc, 3)?;
-    events.push(Event::Act(Act::Spawn))?;
-    events.push(steps)?;
-    events.push(Event::Clock(nanos))?;
-    Ok(events)
+// An event and its report are put last.
+fn tell(events: &mut Vec<Event>, reports: &mut Vec<Report>, event: Event, report: Report) {
+    let _ = events.push(event);
+    let _ = reports.push(report);
 }
 
-/// Task 0, what is told of its turn, and these sleeps at the clock step.
-fn reports_of(alloc: Global, told: Report, fired: List<u64>) -> Result<Vec<Report>, AllocError> {
-    let mut reports = Vec::with_capacity(alloc, 3)?;
-    reports.push(Report::Reply(Reply::Task(0)))?;
-    reports.push(told)?;
-    reports.push(Report::Fired(fired))?;
-    Ok(reports)
+// The verdict on three pairs; none where there are more or fewer.
+fn judged(alloc: Global, events: &Vec<Event>, reports: &Vec<Report>) -> Option<Verdict> {
+    if events.len() != 3 || reports.len() != 3 {
+        return None;
+    }
+    check(alloc, LIMITS, Blocking::Attached, events, reports).ok()
 }
 
-/// The verdict on these pairs; none where there are more events than reports or fewer.
+// The verdict on a spawn, a turn and a clock step to so many nanoseconds, where these are the replies of the turn and these
+// sleeps are told to fire.
 fn verdict(
     alloc: Global,
-    events: &Vec<Event>,
-    reports: &Vec<Report>,
-) -> Result<Option<Verdict>, AllocError> {
-    if events.len() != reports.len() {
-        return Ok(None);
-    }
-    let verdict = check(alloc, LIMITS, Blocking::Attached, events, reports)?;
-    Ok(Some(verdict))
+    steps: List<TurnStep>,
+    replies: List<Reply>,
+    nanos: u128,
+    fired: List<u64>,
+) -> Option<Verdict> {
+    let (mut events, mut reports) = (Vec::new(alloc), Vec::new(alloc));
+    tell(
+        &mut events,
+        &mut reports,
+        Event::Act(Act::Spawn),
+        Report::Reply(Reply::Task(0)),
+    );
+    tell(
+        &mut events,
+        &mut reports,
+        Event::Turn(steps, End::Pending),
+        Report::Turn(0, replies, Ended::Idle),
+    );
+    tell(
+        &mut events,
+        &mut reports,
+        Event::Clock(nanos),
+        Report::Fired(fired),
+    );
+    judged(alloc, &events, &reports)
 }
 
-/// Two sleeps of one tick that are moved to another.
-fn moves(alloc: Global) -> Result<Event, AllocError> {
+// Two sleeps of one tick that are moved to another, and a clock step there that is told to list these.
+fn moved(alloc: Global, fired: &[u64]) -> Option<Verdict> {
     let steps = [
         TurnStep::Act(Act::NewSleep(5000000)),
         TurnStep::Act(Act::NewSleep(5000000)),
@@ -79,10 +82,6 @@ fn moves(alloc: Global) -> Result<Event, AllocError> {
         TurnStep::Act(Act::Reset(0, 9000000)),
         TurnStep::Act(Act::Reset(1, 9000000)),
     ];
-    turn(alloc, &steps, End::Pending)
-}
-
-fn told_of_moves(alloc: Global) -> Result<Report, AllocError> {
     let replies = [
         Reply::Sleep(0),
         Reply::Sleep(1),
@@ -91,143 +90,126 @@ fn told_of_moves(alloc: Global) -> Result<Report, AllocError> {
         Reply::Armed,
         Reply::Armed,
     ];
-    had(alloc, 0, &replies, Ended::Idle)
-}
-
-/// Two sleeps that are moved to one tick, and a clock step there that is told to list these.
-fn moved(alloc: Global, fired: &[u64]) -> Result<Option<Verdict>, AllocError> {
-    let events = events_of(alloc, moves(alloc)?, 9000000)?;
-    let fired = numbers(alloc, fired)?;
-    let reports = reports_of(alloc, told_of_moves(alloc)?, fired)?;
-    verdict(alloc, &events, &reports)
-}
-
-#[test]
-fn moved_sleeps_fire_in_any_order(rt: HostRuntime) -> Result<(), Fail> {
-    let cases = [
-        ([1, 0].as_slice(), Verdict::Yes),
-        ([0, 1].as_slice(), Verdict::Yes),
-        ([0, 0].as_slice(), Verdict::No(2)),
-        ([0].as_slice(), Verdict::No(2)),
-        ([].as_slice(), Verdict::No(2)),
-    ];
-    for (fired, told) in cases {
-        assert_eq!(rt; moved(rt.alloc(), fired)?, Some(told));
-    }
-    Ok(())
-}
-
-/// A sleep that is never polled, and a clock step past it that is told to list it.
-fn not_armed(alloc: Global) -> Result<Option<Verdict>, AllocError> {
-    let steps = turn(alloc, &[TurnStep::Act(Act::NewSleep(5))], End::Pending)?;
-    let events = events_of(alloc, steps, 5000000)?;
-    let fired = numbers(alloc, &[0])?;
-    let told = had(alloc, 0, &[Reply::Sleep(0)], Ended::Idle)?;
-    let reports = reports_of(alloc, told, fired)?;
-    verdict(alloc, &events, &reports)
+    verdict(
+        alloc,
+        list(alloc, &steps),
+        list(alloc, &replies),
+        9000000,
+        list(alloc, fired),
+    )
 }
 
 #[test]
-fn a_sleep_that_is_not_armed_does_not_fire(rt: HostRuntime) -> Result<(), Fail> {
-    assert_eq!(rt; not_armed(rt.alloc())?, Some(Verdict::No(2)));
-    Ok(())
+fn moved_sleeps_fire_in_any_order(rt: HostRuntime) {
+    let alloc = rt.alloc();
+    let either = [moved(alloc, &[1, 0]), moved(alloc, &[0, 1])];
+    let others = [moved(alloc, &[0, 0]), moved(alloc, &[0]), moved(alloc, &[])];
+    assert!(rt; either == [YES; 2] && others == [NOT_THE_CLOCK; 3]);
 }
 
-/// A turn that makes so many sleeps of one tick and polls each.
-fn many_polls(alloc: Global, count: u64) -> Result<Event, AllocError> {
+#[test]
+fn a_sleep_that_is_not_armed_does_not_fire(rt: HostRuntime) {
+    let alloc = rt.alloc();
+    let steps = list(alloc, &[TurnStep::Act(Act::NewSleep(5))]);
+    let replies = list(alloc, &[Reply::Sleep(0)]);
+    let answer = verdict(alloc, steps, replies, 5000000, list(alloc, &[0]));
+    assert!(rt; answer == NOT_THE_CLOCK);
+}
+
+// The steps of a turn that makes so many sleeps of one tick, polls each, and perhaps moves it to another.
+fn polls(alloc: Global, count: u64, moves: bool) -> List<TurnStep> {
     let mut steps = List::new(alloc);
     for s in 0..count {
-        steps.push(TurnStep::Act(Act::NewSleep(3000000)))?;
-        steps.push(TurnStep::Query(Query::Sleep(s)))?;
+        let _ = steps.push(TurnStep::Act(Act::NewSleep(3000000)));
+        let _ = steps.push(TurnStep::Query(Query::Sleep(s)));
+        if moves {
+            let _ = steps.push(TurnStep::Act(Act::Reset(s, 8000000)));
+        }
     }
-    Ok(Event::Turn(steps, End::Pending))
+    steps
 }
 
-fn told_of_many_polls(alloc: Global, count: u64) -> Result<Report, AllocError> {
+// The replies where none is moved.
+fn told_of_polls(alloc: Global, count: u64) -> List<Reply> {
     let mut replies = List::new(alloc);
     for s in 0..count {
-        replies.push(Reply::Sleep(s))?;
-        replies.push(Reply::Pending)?;
+        let _ = replies.push(Reply::Sleep(s));
+        let _ = replies.push(Reply::Pending);
     }
-    Ok(Report::Turn(0, replies, Ended::Idle))
+    replies
 }
 
-/// So many sleeps of one tick, each polled, and what is told of a clock step there.
-fn many(alloc: Global, count: u64, fired: List<u64>) -> Result<Option<Verdict>, AllocError> {
-    let events = events_of(alloc, many_polls(alloc, count)?, 3999999)?;
-    let reports = reports_of(alloc, told_of_many_polls(alloc, count)?, fired)?;
-    verdict(alloc, &events, &reports)
-}
-
-/// An order of the numbers below a count: ascending, the last first, or two neighbours swapped.
-#[derive(Clone, Copy)]
+// An order of the numbers below a count: ascending, the last first, or ascending with this even number and the next
+// swapped.
 enum Order {
     Ascending,
     LastFirst,
     Swapped(u64),
 }
 
-fn number_at(order: Order, count: u64, place: u64) -> u64 {
-    match order {
-        Order::Ascending => place,
-        Order::LastFirst => count.saturating_sub(1).saturating_sub(place),
-        Order::Swapped(first) if place == first => first.saturating_add(1),
-        Order::Swapped(first) if place == first.saturating_add(1) => first,
-        Order::Swapped(_) => place,
-    }
-}
-
-/// So many numbers in an order of those below a count.
-fn listed(alloc: Global, order: Order, count: u64, told: u64) -> Result<List<u64>, AllocError> {
+// The numbers below a count in an order.
+fn numbers(alloc: Global, count: u64, order: &Order) -> List<u64> {
     let mut list = List::new(alloc);
-    for place in 0..told {
-        list.push(number_at(order, count, place))?;
+    for place in 0..count {
+        let number = match order {
+            Order::LastFirst => count.saturating_sub(1).saturating_sub(place),
+            Order::Swapped(first) if place / 2 == *first / 2 => place ^ 1,
+            _ => place,
+        };
+        let _ = list.push(number);
     }
-    Ok(list)
+    list
+}
+
+// So many sleeps of one tick, each polled, and a clock step there that is told to list so many of them in an order.
+fn many(alloc: Global, count: u64, told: u64, order: &Order) -> Option<Verdict> {
+    verdict(
+        alloc,
+        polls(alloc, count, false),
+        told_of_polls(alloc, count),
+        3999999,
+        numbers(alloc, told, order),
+    )
 }
 
 #[test]
-fn long_lists(rt: HostRuntime) -> Result<(), Fail> {
-    let cases = [
-        (Order::Ascending, 300, Verdict::Yes),
-        (Order::Ascending, 299, Verdict::No(2)),
-        (Order::Swapped(150), 300, Verdict::No(2)),
+fn long_lists(rt: HostRuntime) {
+    let alloc = rt.alloc();
+    let answers = [
+        many(alloc, 300, 300, &Order::Ascending),
+        many(alloc, 300, 299, &Order::Ascending),
+        many(alloc, 300, 300, &Order::Swapped(150)),
     ];
-    for (order, told, answer) in cases {
-        let list = listed(rt.alloc(), order, 300, told)?;
-        assert_eq!(rt; many(rt.alloc(), 300, list)?, Some(answer));
-    }
-    Ok(())
+    assert!(rt; answers == [YES, NOT_THE_CLOCK, NOT_THE_CLOCK]);
 }
 
 #[test]
-fn a_long_list_of_one_tick(rt: HostRuntime) -> Result<(), Fail> {
-    let cases = [
-        (Order::Ascending, Verdict::Yes),
-        (Order::LastFirst, Verdict::No(2)),
+fn a_long_list_of_one_tick(rt: HostRuntime) {
+    let alloc = rt.alloc();
+    let answers = [
+        many(alloc, 100000, 100000, &Order::Ascending),
+        many(alloc, 100000, 100000, &Order::LastFirst),
     ];
-    for (order, answer) in cases {
-        let list = listed(rt.alloc(), order, 100000, 100000)?;
-        assert_eq!(rt; many(rt.alloc(), 100000, list)?, Some(answer));
-    }
-    Ok(())
+    assert!(rt; answers == [YES, NOT_THE_CLOCK]);
 }
 
-/// Whether the pair is taken.
-fn takes(
-    alloc: Global,
-    trace: &mut Trace,
-    event: Event,
-    report: Report,
-) -> Result<bool, AllocError> {
+// Whether the pair is taken, and how many sleeps were armed then.
+fn taken(alloc: Global, trace: &mut Trace, event: &Event, report: &Report) -> Option<(bool, u128)> {
     if trace.arms() > 1000000 {
-        return Ok(false);
+        return None;
     }
-    trace.step(alloc, &event, &report)
+    let is_taken = trace.step(alloc, event, report).ok()?;
+    Some((is_taken, trace.arms()))
 }
 
-/// A turn of a job, a sleep and a wake of its own task.
-fn works(alloc: Global) -> Result<Event, AllocError> {
+// Whether the pair of a spawn, told to make this task, is taken.
+fn takes_spawn(alloc: Global, trace: &mut Trace, task: u64) -> Option<(bool, u128)> {
+    let (event, report) = (Event::Act(Act::Spawn), Report::Reply(Reply::Task(task)));
+    taken(alloc, trace, &event, &report)
+}
+
+// The same of a turn of a job, a sleep and a wake of its own task, where this is told of its wake and its end.
+fn takes_works(alloc: Global, trace: &mut Trace, woke: Woke, ended: Ended) -> Option<(bool, u128)> {
     let steps = [
         TurnStep::Act(Act::Block(3)),
         TurnStep::Query(Query::Job(0)),
@@ -235,10 +217,6 @@ fn works(alloc: Global) -> Result<Event, AllocError> {
         TurnStep::Query(Query::Sleep(0)),
         TurnStep::Act(Act::Wake(0)),
     ];
-    turn(alloc, &steps, End::Pending)
-}
-
-fn told_of_works(alloc: Global, woke: Woke, ended: Ended) -> Result<Report, AllocError> {
     let replies = [
         Reply::Job(0),
         Reply::Pending,
@@ -246,145 +224,96 @@ fn told_of_works(alloc: Global, woke: Woke, ended: Ended) -> Result<Report, Allo
         Reply::Pending,
         Reply::Woke(woke),
     ];
-    had(alloc, 0, &replies, ended)
+    let event = Event::Turn(list(alloc, &steps), End::Pending);
+    let report = Report::Turn(0, list(alloc, &replies), ended);
+    taken(alloc, trace, &event, &report)
 }
 
-/// Whether a turn that works is taken where this is told of its wake and its end, and how many sleeps were armed then.
-fn takes_works(
-    alloc: Global,
-    trace: &mut Trace,
-    woke: Woke,
-    ended: Ended,
-) -> Result<(bool, u128), AllocError> {
-    let event = works(alloc)?;
-    let report = told_of_works(alloc, woke, ended)?;
-    let taken = takes(alloc, trace, event, report)?;
-    Ok((taken, trace.arms()))
-}
-
-/// Whether a spawn is taken where this task is told of it.
-fn takes_spawn(alloc: Global, trace: &mut Trace, task: u64) -> Result<bool, AllocError> {
-    let report = Report::Reply(Reply::Task(task));
-    takes(alloc, trace, Event::Act(Act::Spawn), report)
-}
-
-/// Whether of a spawn and of a turn the pairs are taken that are right, after others were not.
-fn takes_the_right_ones(alloc: Global, trace: &mut Trace) -> Result<bool, AllocError> {
-    for (task, taken) in [(1, false), (0, true)] {
-        if takes_spawn(alloc, trace, task)? != taken {
-            return Ok(false);
-        }
-    }
-    let cases = [
-        (Woke::Queued, Ended::Again, (false, 0)),
-        (Woke::Noted, Ended::Idle, (false, 0)),
-        (Woke::Noted, Ended::Again, (true, 1)),
-    ];
-    for (woke, ended, answer) in cases {
-        if takes_works(alloc, trace, woke, ended)? != answer {
-            return Ok(false);
-        }
-    }
-    Ok(true)
+// What is answered of a spawn and of a turn, each told wrongly first.
+fn answers_in_turn(alloc: Global, trace: &mut Trace) -> [Option<(bool, u128)>; 5] {
+    [
+        takes_spawn(alloc, trace, 1),
+        takes_spawn(alloc, trace, 0),
+        takes_works(alloc, trace, Woke::Queued, Ended::Again),
+        takes_works(alloc, trace, Woke::Noted, Ended::Idle),
+        takes_works(alloc, trace, Woke::Noted, Ended::Again),
+    ]
 }
 
 #[test]
-fn a_pair_that_fails_changes_nothing(rt: HostRuntime) -> Result<(), Fail> {
+fn a_pair_that_fails_changes_nothing(rt: HostRuntime) {
     let mut trace = Trace::new(rt.alloc(), LIMITS, Blocking::Attached);
-    assert!(rt; takes_the_right_ones(rt.alloc(), &mut trace)?);
-    Ok(())
+    let answers = answers_in_turn(rt.alloc(), &mut trace);
+    let (no, yes) = (Some((false, 0)), Some((true, 0)));
+    assert!(rt; answers == [no, yes, no, no, Some((true, 1))]);
 }
 
-/// A task asks for a job and polls it.
-fn asks(alloc: Global) -> Result<(Event, Report), AllocError> {
-    let steps = [TurnStep::Act(Act::Block(3)), TurnStep::Query(Query::Job(0))];
-    let event = turn(alloc, &steps, End::Pending)?;
-    let report = had(alloc, 0, &[Reply::Job(0), Reply::Pending], Ended::Idle)?;
-    Ok((event, report))
+// Whether the pair is taken and no sleep was armed.
+fn takes(alloc: Global, trace: &mut Trace, event: Event, report: Report) -> bool {
+    taken(alloc, trace, &event, &report) == Some((true, 0))
 }
 
-/// A turn where no task waits.
-fn idles(alloc: Global) -> Result<(Event, Report), AllocError> {
-    let event = turn(alloc, &[], End::Pending)?;
-    Ok((event, Report::Reply(Reply::Refused(Refusal::Idle))))
+// The same of a turn of the task 0, which then waits.
+fn takes_turn(alloc: Global, trace: &mut Trace, steps: &[TurnStep], replies: &[Reply]) -> bool {
+    let event = Event::Turn(list(alloc, steps), End::Pending);
+    let report = Report::Turn(0, list(alloc, replies), Ended::Idle);
+    takes(alloc, trace, event, report)
 }
 
-/// The inbox hands the task out.
-fn drains(alloc: Global) -> Result<(Event, Report), AllocError> {
-    let report = Report::Drained(numbers(alloc, &[0])?);
-    Ok((Event::Drain, report))
-}
-
-/// The task takes the job's output.
-fn takes_output(alloc: Global) -> Result<(Event, Report), AllocError> {
-    let event = turn(alloc, &[TurnStep::Query(Query::Job(0))], End::Pending)?;
-    let report = had(alloc, 0, &[Reply::Output(3)], Ended::Idle)?;
-    Ok((event, report))
-}
-
-/// A pair of a job that ends, of its waiter and of the inbox, by its place.
-fn pair(alloc: Global, place: u64) -> Result<(Event, Report), AllocError> {
-    match place {
-        0 => Ok((Event::Act(Act::Spawn), Report::Reply(Reply::Task(0)))),
-        1 => asks(alloc),
-        2 => Ok((
-            Event::Act(Act::JobEnd(0, How::Ran)),
-            Report::Reply(Reply::Ended(Some(0))),
-        )),
-        3 => idles(alloc),
-        4 => Ok((Event::Remote(0), Report::Listed)),
-        5 => Ok((Event::Remote(0), Report::Unlisted)),
-        6 => drains(alloc),
-        7 => takes_output(alloc),
-        _ => Ok((
-            Event::Clock(9223372036854775807000001),
-            Report::Reply(Reply::Refused(Refusal::Invalid)),
-        )),
-    }
-}
-
-/// How many of the pairs are taken in order.
-fn taken_in_order(alloc: Global, trace: &mut Trace) -> Result<u64, AllocError> {
-    for place in 0..9 {
-        let (event, report) = pair(alloc, place)?;
-        if !takes(alloc, trace, event, report)? {
-            return Ok(place);
-        }
-    }
-    Ok(9)
+// Of which of these pairs, of a job that ends, of its waiter and of the inbox, each is taken.
+fn taken_in_order(alloc: Global, trace: &mut Trace) -> [bool; 9] {
+    let (block, poll) = (TurnStep::Act(Act::Block(3)), TurnStep::Query(Query::Job(0)));
+    let (spawn, task) = (Event::Act(Act::Spawn), Report::Reply(Reply::Task(0)));
+    let (end, waiter) = (
+        Event::Act(Act::JobEnd(0, How::Ran)),
+        Report::Reply(Reply::Ended(Some(0))),
+    );
+    let empty = Event::Turn(List::new(alloc), End::Pending);
+    let (idle, late) = (
+        Report::Reply(Reply::Refused(Refusal::Idle)),
+        Report::Reply(Reply::Refused(Refusal::Invalid)),
+    );
+    let drained = Report::Drained(list(alloc, &[0]));
+    [
+        takes(alloc, trace, spawn, task),
+        takes_turn(
+            alloc,
+            trace,
+            &[block, poll],
+            &[Reply::Job(0), Reply::Pending],
+        ),
+        takes(alloc, trace, end, waiter),
+        takes(alloc, trace, empty, idle),
+        takes(alloc, trace, Event::Remote(0), Report::Listed),
+        takes(alloc, trace, Event::Remote(0), Report::Unlisted),
+        takes(alloc, trace, Event::Drain, drained),
+        takes_turn(alloc, trace, &[poll], &[Reply::Output(3)]),
+        takes(alloc, trace, Event::Clock(9223372036854775807000001), late),
+    ]
 }
 
 #[test]
-fn jobs_and_the_inbox(rt: HostRuntime) -> Result<(), Fail> {
+fn jobs_and_the_inbox(rt: HostRuntime) {
     let mut trace = Trace::new(rt.alloc(), LIMITS, Blocking::Attached);
-    assert_eq!(rt; taken_in_order(rt.alloc(), &mut trace)?, 9);
-    Ok(())
+    let answers = taken_in_order(rt.alloc(), &mut trace);
+    assert!(rt; answers == [true; 9]);
 }
 
-/// A turn that makes so many sleeps of one tick, polls each and moves it to another.
-fn many_moves(alloc: Global, count: u64) -> Result<Event, AllocError> {
-    let mut steps = List::new(alloc);
-    for s in 0..count {
-        steps.push(TurnStep::Act(Act::NewSleep(3000000)))?;
-        steps.push(TurnStep::Query(Query::Sleep(s)))?;
-        steps.push(TurnStep::Act(Act::Reset(s, 8000000)))?;
+// The verdict on what the executor answers to moves, a clock step before them and one at them, and a drain.
+fn replayed(alloc: Global) -> Option<Verdict> {
+    let mut events = Vec::new(alloc);
+    let _ = events.push(Event::Act(Act::Spawn));
+    let _ = events.push(Event::Turn(polls(alloc, 300, true), End::Pending));
+    let _ = events.push(Event::Clock(7999999));
+    let _ = events.push(Event::Clock(8000000));
+    let _ = events.push(Event::Drain);
+    if events.len() != 5 {
+        return None;
     }
-    Ok(Event::Turn(steps, End::Pending))
-}
-
-/// The moves, a clock step before them and one at them, and a drain.
-fn events_of_moves(alloc: Global) -> Result<Vec<Event>, AllocError> {
-    let mut events = events_of(alloc, many_moves(alloc, 300)?, 7999999)?;
-    events.push(Event::Clock(8000000))?;
-    events.push(Event::Drain)?;
-    Ok(events)
+    checked_replay(alloc, LIMITS, Blocking::Attached, &events).ok()
 }
 
 #[test]
-fn what_the_executor_answers_is_passed(rt: HostRuntime) -> Result<(), Fail> {
-    let alloc = rt.alloc();
-    let events = events_of_moves(alloc)?;
-    let verdict = checked_replay(alloc, LIMITS, Blocking::Attached, &events)?;
-    assert_eq!(rt; verdict, Verdict::Yes);
-    Ok(())
+fn what_the_executor_answers_is_passed(rt: HostRuntime) {
+    assert!(rt; replayed(rt.alloc()) == YES);
 }

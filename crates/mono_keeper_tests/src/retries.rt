@@ -12,7 +12,6 @@ use mono_wheel::Steps;
 use std::alloc::Global;
 use std::marker::Brand;
 use std::sync::ledger::{Blank, Ledger};
-use std::test::Fail;
 
 /// A context of task 7, whose sleeps are those of its timers.
 #[derive(Drop)]
@@ -125,121 +124,126 @@ impl<C: TimeContext> TaskFuture<C> for Attempt {
     fn cancel(self, _cx: &mut C) {}
 }
 
+// What a poll of a retry answers; none where it was not polled.
+type Answer = Option<Poll<Result<u64, RetryError<u64>>>>;
+
 // A poll of a future that has not answered for good.
-fn polled<C: TimeContext, F: TaskFuture<C>, R: Host>(
+fn polled<R: Host, F: TaskFuture<Desk, Output = Result<u64, RetryError<u64>>>>(
     rt: &R,
     alloc: Global,
-    cx: &mut C,
+    cx: &mut Desk,
     future: &mut F,
-) -> Result<Poll<F::Output>, Fail>
+) -> Answer
     requires { F.can_poll future.old }
     ensures { F.can_poll future.new }
 {
     if future.spent() {
-        return Err(Fail::new("spent"));
+        return None;
     }
-    Ok(future.poll(rt, alloc, cx))
-}
-
-fn make_desk(alloc: Global, now: u128) -> Result<Desk, Fail> {
-    Ok(Desk {
-        now: Instant::from_nanos(now).ok_or("no instant")?,
-        is_out_of_memory: false,
-        timers: Timers::new(alloc, 4, true)?,
-    })
+    Some(future.poll(rt, alloc, cx))
 }
 
 // Goes to a time, by a clock step in which at most one sleep fires.
-fn go_to<L: Ledger>(cx: &mut Desk, nanos: u128, steps: &mut Steps<L>) -> Result<(), Fail> {
-    let now = Instant::from_nanos(nanos).ok_or("no instant")?;
-    cx.now = now;
-    let _ = cx.timers.clock(now, steps);
-    let _ = cx.timers.clock(now, steps);
-    Ok(())
+fn go_to<L: Ledger>(cx: &mut Desk, nanos: u128, steps: &mut Steps<L>) {
+    if let Some(now) = Instant::from_nanos(nanos) {
+        cx.now = now;
+        let _ = cx.timers.clock(now, steps);
+        let _ = cx.timers.clock(now, steps);
+    }
 }
 
-// The polls of a retry of at most so many attempts at 0, 99, 100 and 300 ms.
-fn polls<R: Host, L: Ledger>(
-    rt: &R,
-    alloc: Global,
-    steps: &mut Steps<L>,
-    good: u64,
-) -> Result<(bool, Poll<Result<u64, RetryError<u64>>>), Fail> {
-    let mut cx = make_desk(alloc, 0)?;
-    polls_on(rt, alloc, &mut cx, steps, good)
-}
-
-fn polls_on<R: Host, L: Ledger>(
-    rt: &R,
-    alloc: Global,
-    cx: &mut Desk,
-    steps: &mut Steps<L>,
-    good: u64,
-) -> Result<(bool, Poll<Result<u64, RetryError<u64>>>), Fail> {
-    let make = |number| Attempt { number, good };
-    let Ok(mut retry) = Retry::new(alloc, cx, make, 100, 250, 3) else {
-        return Err(Fail::new("no retry"));
-    };
-    let answer = polled_in_time(rt, alloc, cx, &mut retry, steps);
-    let is_gone = cx.sleep_elapsed(0) == Err(Error::Shutdown);
-    retry.cancel(cx);
-    let (waited, third) = answer?;
-    Ok((waited && is_gone, third))
-}
-
-// Whether the first three polls are told to wait, and what the last one is told.
+// The polls of a retry at 0, 99, 100 and 300 ms.
 fn polled_in_time<R: Host, L: Ledger, F: TaskFuture<Desk, Output = Result<u64, RetryError<u64>>>>(
     rt: &R,
     alloc: Global,
     cx: &mut Desk,
     retry: &mut F,
     steps: &mut Steps<L>,
-) -> Result<(bool, Poll<Result<u64, RetryError<u64>>>), Fail>
+) -> [Answer; 4]
     requires { F.can_poll retry.old }
     ensures { F.can_poll retry.new }
 {
-    let first = polled(rt, alloc, cx, retry)?;
-    go_to(cx, 99999999, steps)?;
-    let early = polled(rt, alloc, cx, retry)?;
-    go_to(cx, 100000000, steps)?;
-    let second = polled(rt, alloc, cx, retry)?;
-    go_to(cx, 300000000, steps)?;
-    let third = polled(rt, alloc, cx, retry)?;
-    let waited = first == Poll::Pending && early == Poll::Pending && second == Poll::Pending;
-    Ok((waited, third))
+    let first = polled(rt, alloc, cx, retry);
+    go_to(cx, 99999999, steps);
+    let early = polled(rt, alloc, cx, retry);
+    go_to(cx, 100000000, steps);
+    let second = polled(rt, alloc, cx, retry);
+    go_to(cx, 300000000, steps);
+    [first, early, second, polled(rt, alloc, cx, retry)]
+}
+
+// The same of a retry of at most three attempts, where this one is the good one, and whether its sleep is gone then.
+fn waits<R: Host, L: Ledger>(
+    rt: &R,
+    alloc: Global,
+    cx: &mut Desk,
+    steps: &mut Steps<L>,
+    good: u64,
+) -> Option<([Answer; 4], bool)> {
+    let make = |number| Attempt { number, good };
+    let mut retry = Retry::new(alloc, cx, make, 100, 250, 3).ok()?;
+    let answers = polled_in_time(rt, alloc, cx, &mut retry, steps);
+    let is_gone = cx.sleep_elapsed(0) == Err(Error::Shutdown);
+    retry.cancel(cx);
+    Some((answers, is_gone))
 }
 
 // The next attempt would be past the last instant.
-fn too_far<R: Host>(rt: &R, alloc: Global) -> Result<bool, Fail> {
-    let mut cx = make_desk(alloc, MAX_NANOS)?;
+fn is_far<R: Host>(rt: &R, alloc: Global, cx: &mut Desk) -> Answer {
+    let make = |number| Attempt { number, good: 0 };
+    let mut retry = Retry::new(alloc, cx, make, 1, 1, 2).ok()?;
+    let answer = polled(rt, alloc, cx, &mut retry);
+    retry.cancel(cx);
+    answer
+}
+
+// A desk at the clock's zero.
+fn make_desk(alloc: Global) -> Option<Desk> {
+    let now = Instant::from_nanos(0)?;
+    let timers = Timers::new(alloc, 4, true).ok()?;
+    Some(Desk {
+        now,
+        is_out_of_memory: false,
+        timers,
+    })
+}
+
+fn waits_at_desk<R: Host, L: Ledger>(
+    rt: &R,
+    alloc: Global,
+    steps: &mut Steps<L>,
+    good: u64,
+) -> Option<([Answer; 4], bool)> {
+    let mut cx = make_desk(alloc)?;
+    waits(rt, alloc, &mut cx, steps, good)
+}
+
+fn far_from_desk<R: Host>(rt: &R, alloc: Global) -> Answer {
+    let mut cx = make_desk(alloc)?;
+    if let Some(now) = Instant::from_nanos(MAX_NANOS) {
+        cx.now = now;
+    }
     is_far(rt, alloc, &mut cx)
 }
 
-fn is_far<R: Host>(rt: &R, alloc: Global, cx: &mut Desk) -> Result<bool, Fail> {
-    let make = |number| Attempt { number, good: 0 };
-    let Ok(mut retry) = Retry::new(alloc, cx, make, 1, 1, 2) else {
-        return Err(Fail::new("no retry"));
-    };
-    let answer = polled(rt, alloc, cx, &mut retry);
-    retry.cancel(cx);
-    Ok(answer? == Poll::Ready(Err(RetryError::Far(1))))
-}
-
-fn rows<R: Host, L: Ledger>(rt: &R, alloc: Global, blank: Blank) -> Result<bool, Fail>
+fn rows<R: Host, L: Ledger>(rt: &R, alloc: Global, blank: Blank) -> bool
     requires { (blank.name ≡ L.name) × (blank.parts ≡ L.parts) × (0 < L.parts) }
 {
     let mut steps: Steps<L> = Steps::new(blank);
-    let gave_up = polls(rt, alloc, &mut steps, 0)?;
-    let went_well = polls(rt, alloc, &mut steps, 3)?;
-    Ok(
-        gave_up == (true, Poll::Ready(Err(RetryError::Last(3))))
-            && went_well == (true, Poll::Ready(Ok(3)))
-            && too_far(rt, alloc)?,
-    )
+    let gave_up = waits_at_desk(rt, alloc, &mut steps, 0);
+    let went_well = waits_at_desk(rt, alloc, &mut steps, 3);
+    let far = far_from_desk(rt, alloc);
+    let wait = Some(Poll::Pending);
+    let (last, well) = (
+        Some(Poll::Ready(Err(RetryError::Last(3)))),
+        Some(Poll::Ready(Ok(3))),
+    );
+    gave_up == Some(([wait, wait, wait, last], true))
+        && went_well == Some(([wait, wait, wait, well], true))
+        && far == Some(Poll::Ready(Err(RetryError::Far(1))))
 }
 
 #[test]
-fn retries(rt: HostRuntime) -> Result<(), Fail> {
-    assert!(rt; rows::<HostRuntime, Brand>(&rt, rt.alloc(), Blank::new(1))?);
-    Ok(())
+fn retries(rt: HostRuntime) {
+    assert!(rt; rows::<HostRuntime, Brand>(&rt, rt.alloc(), Blank::new(1)));
 }
