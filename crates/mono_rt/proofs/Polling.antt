@@ -112,7 +112,7 @@ module _ {F O P U J A V : Type 0} (number : O → ℕ) (future : FutureOf F (Cx 
   -- the clock is read and a task has its turn
   pub polls_turn : (old opened done left : Cx F O P U J A V) (i j k : Journal) (t : ℕ) (now : Instant) (e : End) (ended : Ended) → opened ≡ old
       → Does number (ReadsAt (nanos_of now)) old.parts opened.parts i j
-      → Turn number future t now no_acts e ended opened done
+      → (k.is_full ≡ false → Turn number future t now no_acts e ended opened done)
       → Does number (IsStep (event.Turn done.parts.acts.steps e) (report.Turn t done.parts.acts.replies ended)) opened.parts left.parts j k
       → (k.is_full ≡ false → done.parts.acts.is_full ≡ false) → old.parts.has_timers ≡ h → done.parts.is_out_of_memory ≡ false → left.futures.items ≡ done.futures.items
       → Does number (Polling number future h old.futures.items left.futures.items) old.parts left.parts i k
@@ -142,7 +142,7 @@ module _ {F O P U J A V : Type 0} (number : O → ℕ) (future : FutureOf F (Cx 
                         ended = ended;
                         before = opened;
                         after = done;
-                        turn = turn;
+                        turn = turn whole;
                         reads = refl;
                         stands = st;
                         timers = ap (λ c. c.parts.has_timers) same ∙ timers;

@@ -10,6 +10,7 @@ use std::marker::Model;
 const ROOM: usize = 512;
 
 /// The acts of the turn that runs, with their replies, up to 512. One more, and the record is full: nothing more is kept.
+/// Where no journal reads it, it is full from the start.
 #[derive(Drop)]
 pub struct Acts {
     steps: Vec<TurnStep>,
@@ -29,14 +30,12 @@ impl Model for Acts {
 }
 
 impl Acts {
-    /// No act yet, with room for 512, in the memory of this record where it has any.
-    pub fn with_room(self) -> Result<Acts, AllocError>
+    /// No act yet, with room for 512.
+    pub fn with_room(alloc: Global) -> Result<Acts, AllocError>
         ensures { IfOk result (λ acts. acts ≡ no_acts) }
     {
-        let mut steps = self.steps;
-        let mut replies = self.replies;
-        steps.clear();
-        replies.clear();
+        let mut steps = Vec::new(alloc);
+        let mut replies = Vec::new(alloc);
         steps.reserve(ROOM)?;
         replies.reserve(ROOM)?;
         Ok(Acts {

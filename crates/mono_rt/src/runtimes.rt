@@ -1,5 +1,5 @@
 // A runtime, and the turns and clock steps that it does.
-ghost use Rattle.std.specs.Prelude.{◌≡◌, ◌<◌, ◌≤◌, ◌+◌, ◌++◌, ◌∷◌, ◌||◌, [], None, true, false, length, vec_len, vec_capacity, OnOk, OnErr, IfSome, IfNone};
+ghost use Rattle.std.specs.Prelude.{◌≡◌, ◌<◌, ◌≤◌, ◌+◌, ◌++◌, ◌∷◌, ◌||◌, [], None, true, false, length, vec_len, vec_capacity, OnOk, OnErr, IfOk, IfSome, IfNone};
 ghost use Rattle.mono_time.specs.Instants.{nanos_of};
 ghost use Rattle.mono_time.specs.Sleeps.{armed_count};
 ghost use Rattle.mono_time.specs.Timers.{sleeps_of};
@@ -24,7 +24,7 @@ use mono_joinword::Outcome;
 use mono_model::Host;
 use mono_task::TaskFuture;
 use mono_time::Instant;
-use std::alloc::Global;
+use std::alloc::{AllocError, Global};
 use std::marker::Brand;
 use std::mem;
 use std::sync::ledger::Blank;
@@ -35,12 +35,10 @@ pub struct Runtime<F, O, D: Driver, P: ThreadPool> {
     pub(crate) cx: Cx<F, O, P, D::Unpark>,
     pub(crate) driver: D,
     pub(crate) journal: Journal,
-    // the memory of the last turn's record, which the next turn's record uses again
-    pub(crate) spare: Acts,
 }
 
 impl<F: Drop, O: Outcome + Drop, D: Driver, P: ThreadPool + Drop> Runtime<F, O, D, P> {
-    /// The turn that ended is put into the journal. Where that is full the memory of its record is kept for the next turn.
+    /// The turn that ended is put into the journal, unless that is full.
     fn keep_turn(&mut self, alloc: Global, task: u64, end: End, ended: Ended)
         requires { HasPlaces self.old.journal 1 }
         ensures kept { self.new.journal.is_full ≡ false → (self.old.journal.is_full ≡ false) × (self.old.cx.parts.acts.is_full ≡ false) × (self.new.journal.entries.items ≡ self.old.journal.entries.items ++ Ran (event.Turn self.old.cx.parts.acts.steps end) (report.Turn task self.old.cx.parts.acts.replies ended) ∷ []) }
@@ -54,9 +52,7 @@ impl<F: Drop, O: Outcome + Drop, D: Driver, P: ThreadPool + Drop> Runtime<F, O, 
         ensures full { self.new.journal.is_full ≡ (self.old.journal.is_full || self.old.cx.parts.acts.is_full) }
         ensures held { self.new.journal.entries.held ≡ self.old.journal.entries.held }
     {
-        if self.journal.is_full() {
-            mem::swap(&mut self.spare, &mut self.cx.parts.acts);
-        } else {
+        if !self.journal.is_full() {
             let acts = mem::replace(&mut self.cx.parts.acts, Acts::keeping_none(alloc));
             self.journal.push_turn(task, acts, end, ended);
         }
@@ -83,9 +79,19 @@ impl<F: Drop, O: Outcome + Drop, D: Driver, P: ThreadPool + Drop> Runtime<F, O, 
         }
     }
 
+    /// The record of a turn that begins. Where the journal is full nothing reads it, and it keeps nothing.
+    fn open_record(&self, alloc: Global) -> Result<Acts, AllocError>
+        ensures { IfOk result (λ acts. self.now.journal.is_full ≡ false → acts ≡ no_acts) }
+    {
+        if self.journal.is_full() {
+            return Ok(Acts::keeping_none(alloc));
+        }
+        Acts::with_room(alloc)
+    }
+
     /// Room for a turn, and the reading of the clock, which stands in the journal.
     fn open_turn(&mut self, alloc: Global) -> Option<(Instant, Acts)>
-        ensures acts { IfSome result (λ x. x.1 ≡ no_acts) }
+        ensures acts { IfSome result (λ x. self.old.journal.is_full ≡ false → x.1 ≡ no_acts) }
         ensures place { IfSome result (λ x. HasPlaces self.new.journal 1) }
         ensures reading { IfSome result (λ x. Does O.output_number IsReading self.old.cx.parts self.new.cx.parts self.old.journal self.new.journal) }
         ensures at { IfSome result (λ x. Does O.output_number (ReadsAt (nanos_of x.0)) self.old.cx.parts self.new.cx.parts self.old.journal self.new.journal) }
@@ -97,7 +103,7 @@ impl<F: Drop, O: Outcome + Drop, D: Driver, P: ThreadPool + Drop> Runtime<F, O, 
     {
         match self.journal.reserve(2) {
             Err(_) => None,
-            Ok(()) => match mem::replace(&mut self.spare, Acts::keeping_none(alloc)).with_room() {
+            Ok(()) => match self.open_record(alloc) {
                 Err(_) => None,
                 Ok(acts) => {
                     let now = self.driver.now();

@@ -94,6 +94,7 @@ impl<F: Drop, O: Outcome + Drop, P: ThreadPool + Drop, U: Unpark> Cx<F, O, P, U>
     }
 
     /// The turn that runs ends pending, and the future goes back to the table.
+    #[inline(always)]
     fn pause_turn(&mut self, task: u64, future: Option<F>) -> Ended
         requires runs { is_some self.old.parts.tasks.turn ≡ true }
         requires lent { IfSome future (λ f. lent_at self.old.futures task ≡ true) }
@@ -165,9 +166,8 @@ where
         requires callable { (f : F) → F.can_poll f }
         requires rests { self.old.parts.tasks.turn ≡ None }
         requires queued { 0 < length self.old.parts.tasks.tasks.queue }
-        requires empty { acts ≡ no_acts }
         ensures turn { Turn O.output_number F.TaskFuture result.0 now acts result.1 result.2 self.old self.new }
-        ensures is { (m : Machine) → Matches O.output_number hosting_of self.old.parts m → IsTurnOf O.output_number result.0 result.1 result.2 self.old.parts self.new.parts m }
+        ensures is { acts ≡ no_acts → (m : Machine) → Matches O.output_number hosting_of self.old.parts m → IsTurnOf O.output_number result.0 result.1 result.2 self.old.parts self.new.parts m }
         ensures has_timers { self.new.parts.has_timers ≡ self.old.parts.has_timers }
         ensures rests { self.new.parts.tasks.turn ≡ None }
     {
