@@ -1,5 +1,5 @@
 // The acts of the turn that runs, as they are kept for the journal.
-ghost use Rattle.std.specs.Prelude.{◌≡◌, true, false, IfOk, IfSome, IfNone, vec_capacity};
+ghost use Rattle.std.specs.Prelude.{◌≡◌, true, false, IfOk, OnOk, IfSome, IfNone, vec_capacity};
 ghost use Rattle.mono_rt.specs.Record.{no_acts, no_record, noted};
 
 use mono_exec::{List, Reply, TurnStep};
@@ -43,6 +43,16 @@ impl Acts {
             replies,
             is_full: false,
         })
+    }
+
+    /// No act yet, with room for 512. Where nobody reads the record it stays as it is.
+    pub fn begin(&mut self, alloc: Global, is_unread: bool) -> Result<(), AllocError>
+        ensures { OnOk result (is_unread ≡ false → self.new ≡ no_acts) }
+    {
+        if !is_unread {
+            *self = Acts::with_room(alloc)?;
+        }
+        Ok(())
     }
 
     /// A record that keeps nothing.

@@ -1,5 +1,5 @@
 // A runtime, and the turns and clock steps that it does.
-ghost use Rattle.std.specs.Prelude.{◌≡◌, ◌<◌, ◌≤◌, ◌+◌, ◌++◌, ◌∷◌, ◌||◌, [], None, true, false, length, vec_len, vec_capacity, OnOk, OnErr, IfOk, IfSome, IfNone};
+ghost use Rattle.std.specs.Prelude.{◌≡◌, ◌<◌, ◌≤◌, ◌+◌, ◌++◌, ◌∷◌, ◌||◌, [], None, true, false, length, vec_len, vec_capacity, OnOk, OnErr, IfSome, IfNone};
 ghost use Rattle.mono_time.specs.Instants.{nanos_of};
 ghost use Rattle.mono_time.specs.Sleeps.{armed_count};
 ghost use Rattle.mono_time.specs.Timers.{sleeps_of};
@@ -24,7 +24,7 @@ use mono_joinword::Outcome;
 use mono_model::Host;
 use mono_task::TaskFuture;
 use mono_time::Instant;
-use std::alloc::{AllocError, Global};
+use std::alloc::Global;
 use std::marker::Brand;
 use std::mem;
 use std::sync::ledger::Blank;
@@ -79,36 +79,28 @@ impl<F: Drop, O: Outcome + Drop, D: Driver, P: ThreadPool + Drop> Runtime<F, O, 
         }
     }
 
-    /// The record of a turn that begins. Where the journal is full nothing reads it, and it keeps nothing.
-    fn open_record(&self, alloc: Global) -> Result<Acts, AllocError>
-        ensures { IfOk result (λ acts. self.now.journal.is_full ≡ false → acts ≡ no_acts) }
-    {
-        if self.journal.is_full() {
-            return Ok(Acts::keeping_none(alloc));
-        }
-        Acts::with_room(alloc)
-    }
-
     /// Room for a turn, and the reading of the clock, which stands in the journal.
-    fn open_turn(&mut self, alloc: Global) -> Option<(Instant, Acts)>
-        ensures acts { IfSome result (λ x. self.old.journal.is_full ≡ false → x.1 ≡ no_acts) }
+    fn open_turn(&mut self, alloc: Global) -> Option<Instant>
+        ensures acts { IfSome result (λ now. self.old.journal.is_full ≡ false → self.new.cx.parts.acts ≡ no_acts) }
         ensures place { IfSome result (λ x. HasPlaces self.new.journal 1) }
         ensures reading { IfSome result (λ x. Does O.output_number IsReading self.old.cx.parts self.new.cx.parts self.old.journal self.new.journal) }
-        ensures at { IfSome result (λ x. Does O.output_number (ReadsAt (nanos_of x.0)) self.old.cx.parts self.new.cx.parts self.old.journal self.new.journal) }
+        ensures at { IfSome result (λ x. Does O.output_number (ReadsAt (nanos_of x)) self.old.cx.parts self.new.cx.parts self.old.journal self.new.journal) }
         ensures goes { Goes O.output_number self.old.cx.parts self.new.cx.parts self.old.journal self.new.journal }
-        ensures same { self.new.cx ≡ self.old.cx }
+        ensures same { self.new.cx ≡ record self.old.cx { parts = record self.old.cx.parts { acts = self.new.cx.parts.acts } } }
+        ensures tasks { self.new.cx.parts.tasks ≡ self.old.cx.parts.tasks }
+        ensures has_timers { self.new.cx.parts.has_timers ≡ self.old.cx.parts.has_timers }
         ensures told { Telling (Still going) (telling (D.readings self.old.driver) (D.time self.old.driver) (D.parks self.old.driver)) going self.old.journal self.new.journal (telling (D.readings self.new.driver) (D.time self.new.driver) (D.parks self.new.driver)) }
         ensures full { self.new.journal.is_full ≡ self.old.journal.is_full }
         ensures held { self.new.journal.entries.held ≡ self.old.journal.entries.held }
     {
         match self.journal.reserve(2) {
             Err(_) => None,
-            Ok(()) => match self.open_record(alloc) {
+            Ok(()) => match self.cx.parts.acts.begin(alloc, self.journal.is_full()) {
                 Err(_) => None,
-                Ok(acts) => {
+                Ok(()) => {
                     let now = self.driver.now();
                     self.journal.push(Entry::Now(now.as_nanos()));
-                    Some((now, acts))
+                    Some(now)
                 }
             },
         }
@@ -160,10 +152,10 @@ where
         ensures full { Fills O.output_number F.TaskFuture self.old.cx self.old.journal self.new.journal }
         ensures held { self.new.journal.entries.held ≡ self.old.journal.entries.held }
     {
-        let Some((now, acts)) = self.open_turn(alloc) else {
+        let Some(now) = self.open_turn(alloc) else {
             return Err(RunError::Memory);
         };
-        let (task, end, ended) = self.cx.turn(rt, alloc, now, acts);
+        let (task, end, ended) = self.cx.turn(rt, alloc, now);
         self.keep_turn(alloc, task, end, ended);
         if self.cx.parts.is_out_of_memory {
             return Err(RunError::Memory);

@@ -18,7 +18,7 @@ returns-clause-is g c = λ empty m st.
 pub returns-clause-rests : goal.returns-clause-rests
 returns-clause-rests g c =
     rests_after g.O.Outcome.output_number g.F.TaskFuture c.begin_turn-task.result.1 c.begin_turn-task.new.self c.run_turn-end.new.self c.begin_turn-task.result.0 _ _
-    (begun_turn g.O.Outcome.output_number c.args.self.now.parts c.begin_turn-task.new.self.parts c.begin_turn-task.result.0 c.args.now c.args.acts c.begin_turn-task.ensures.begins.parts) c.run_turn-end.ensures
+    (begun_turn g.O.Outcome.output_number c.args.self.now.parts c.begin_turn-task.new.self.parts c.begin_turn-task.result.0 c.args.now c.args.self.now.parts.acts c.begin_turn-task.ensures.begins.parts) c.run_turn-end.ensures
 
 pub returns-clause-has_timers : goal.returns-clause-has_timers
 returns-clause-has_timers g c =

@@ -48,7 +48,7 @@ returns-clause-polled g c =
     let opened = c.open_turn.new.self in
     let done = c.turn-task.new.self in
     let left = c.keep_turn.new.self in
-    polls_turn number g.F.TaskFuture old.cx.parts.has_timers old.cx opened.cx done left.cx old.journal opened.journal left.journal c.turn-task.result.0 c.in-Some.now c.turn-task.result.1 c.turn-task.result.2 c.open_turn.ensures.same c.in-Some.ensures.at
+    polls_turn number g.F.TaskFuture old.cx.parts.has_timers old.cx opened.cx done left.cx old.journal opened.journal left.journal c.turn-task.result.0 c.in-Some.now c.turn-task.result.1 c.turn-task.result.2 (ap (λ x. x.parts.has_timers) c.open_turn.ensures.same) (ap (λ x. x.futures.items) c.open_turn.ensures.same) c.in-Some.ensures.at
     (λ unfull. subst (λ acts. Turn number g.F.TaskFuture c.turn-task.result.0 c.in-Some.now acts c.turn-task.result.1 c.turn-task.result.2 opened.cx done)
     (c.in-Some.ensures.acts (sym c.open_turn.ensures.full ∙ (c.keep_turn.ensures.kept unfull).0)) c.turn-task.ensures.turn)
     (does_turn number opened.cx.parts done.parts left.cx.parts opened.journal left.journal _ _ _ (λ unfull. c.turn-task.ensures.is (c.in-Some.ensures.acts (sym c.open_turn.ensures.full ∙ (c.keep_turn.ensures.kept unfull).0))) c.keep_turn.ensures.kept
