@@ -44,8 +44,8 @@ module _ {F O P U J A V : Type 0} (number : O → ℕ) (future : FutureOf F (Cx 
   fills_still a i j k first same full = first (sym same ∙ full)
 
   -- a turn
-  pub fills_turn : (c b d : Cx F O P U J A V) (i j k : Journal) (t : ℕ) (now : Instant) (acts : Record) (e : End) (ended : Ended) → Goes number c.parts b.parts i j → j.is_full ≡ i.is_full → acts ≡ no_acts
-      → Turn number future t now acts e ended b d → ((m : Machine) → Matches number hosting_of b.parts m → IsTurnOf number t e ended b.parts d.parts m)
+  pub fills_turn : (c b d : Cx F O P U J A V) (i j k : Journal) (t : ℕ) (now : Instant) (acts : Record) (e : End) (ended : Ended) → Goes number c.parts b.parts i j → j.is_full ≡ i.is_full → (j.is_full ≡ false → acts ≡ no_acts)
+      → Turn number future t now acts e ended b d → (j.is_full ≡ false → (m : Machine) → Matches number hosting_of b.parts m → IsTurnOf number t e ended b.parts d.parts m)
       → k.is_full ≡ (j.is_full || d.parts.acts.is_full) → Fills number future c i k
   fills_turn c b d i j k t now acts e ended goes same empty turn is kept full = elim (either j.is_full d.parts.acts.is_full (sym kept ∙ full)) [
     | inl was ↦ inl (sym same ∙ was)
@@ -60,9 +60,9 @@ module _ {F O P U J A V : Type 0} (number : O → ℕ) (future : FutureOf F (Cx 
         now = now;
         ending = e;
         ended = ended;
-        turn = subst (λ a. Turn number future t now a e ended b d) empty turn;
+        turn = subst (λ a. Turn number future t now a e ended b d) (empty unfull) turn;
         is_full = long;
-        acts = λ m st. (is m st, ltb-true room (length (is m st).steps) (sym (is m st).full ∙ long));
+        acts = λ m st. (is unfull m st, ltb-true room (length (is unfull m st).steps) (sym (is unfull m st).full ∙ long));
       };
     })
   ]

@@ -126,13 +126,13 @@ module _ {O P : Type 0} (number : O → ℕ) where
   }
 
   -- a turn
-  pub does_turn : (c d x : Parts O (Seen P)) (j k : Journal) (t : ℕ) (e : End) (ended : Ended) → ((m : Machine) → Matches number hosting_of c m → IsTurnOf number t e ended c d m)
+  pub does_turn : (c d x : Parts O (Seen P)) (j k : Journal) (t : ℕ) (e : End) (ended : Ended) → (k.is_full ≡ false → (m : Machine) → Matches number hosting_of c m → IsTurnOf number t e ended c d m)
       → (k.is_full ≡ false → (j.is_full ≡ false) × (d.acts.is_full ≡ false) × (k.entries.items ≡ j.entries.items ++ Ran (event.Turn d.acts.steps e) (report.Turn t d.acts.replies ended) ∷ []))
       → ((m : Machine) → Matches number hosting_of d m → Matches number hosting_of x m) → x.timers ≡ d.timers → Does number (IsStep (event.Turn d.acts.steps e) (report.Turn t d.acts.replies ended)) c x j k
   does_turn c d x j k t e ended is kept same timers = record {
     opens = λ unfull. (kept unfull).0;
     did = λ m st unfull.
-        let turn : IsTurnOf number t e ended c d m = is m st in
+        let turn : IsTurnOf number t e ended c d m = is unfull m st in
         let told = turn.kept (kept unfull).1 in
         let step : Step m (event.Turn d.acts.steps e) (report.Turn t d.acts.replies ended) (after_turn turn.steps e m) = (sym told.1 ∙ ap (λ s. turn_report s e m) (sym told.0), ap (λ s. after_turn s e m) (sym told.0)) in
         record {

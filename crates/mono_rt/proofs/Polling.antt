@@ -110,13 +110,13 @@ module _ {F O P U J A V : Type 0} (number : O → ℕ) (future : FutureOf F (Cx 
   From fs gs n m part new rest = ((reading : ℕ) → Polled number future h new gs reading rest) → Polled number future h m fs n part
 
   -- the clock is read and a task has its turn
-  pub polls_turn : (old opened done left : Cx F O P U J A V) (i j k : Journal) (t : ℕ) (now : Instant) (e : End) (ended : Ended) → opened ≡ old
+  pub polls_turn : (old opened done left : Cx F O P U J A V) (i j k : Journal) (t : ℕ) (now : Instant) (e : End) (ended : Ended) → opened.parts.has_timers ≡ old.parts.has_timers → opened.futures.items ≡ old.futures.items
       → Does number (ReadsAt (nanos_of now)) old.parts opened.parts i j
-      → Turn number future t now no_acts e ended opened done
+      → (k.is_full ≡ false → Turn number future t now no_acts e ended opened done)
       → Does number (IsStep (event.Turn done.parts.acts.steps e) (report.Turn t done.parts.acts.replies ended)) opened.parts left.parts j k
       → (k.is_full ≡ false → done.parts.acts.is_full ≡ false) → old.parts.has_timers ≡ h → done.parts.is_out_of_memory ≡ false → left.futures.items ≡ done.futures.items
       → Does number (Polling number future h old.futures.items left.futures.items) old.parts left.parts i k
-  polls_turn old opened done left i j k t now e ended same read turn step unfull timers memory kept =
+  polls_turn old opened done left i j k t now e ended same_timers same_futures read turn step unfull timers memory kept =
       does_on number (ReadsAt (nanos_of now)) (From old.futures.items left.futures.items (nanos_of now)) (Polling number future h old.futures.items left.futures.items) old.parts opened.parts left.parts i j k
       (λ m mid new xs ys zs stm std stn reads tells. λ polled reading.
       subst (λ ws. Polled number future h m old.futures.items reading ws) (sym reads.0)
@@ -142,11 +142,11 @@ module _ {F O P U J A V : Type 0} (number : O → ℕ) (future : FutureOf F (Cx 
                         ended = ended;
                         before = opened;
                         after = done;
-                        turn = turn;
+                        turn = turn whole;
                         reads = refl;
                         stands = st;
-                        timers = ap (λ c. c.parts.has_timers) same ∙ timers;
-                        had = ap (λ c. c.futures.items) same;
+                        timers = same_timers ∙ timers;
+                        had = same_futures;
                         has = sym kept;
                         unfull = unfull whole;
                         memory = memory;

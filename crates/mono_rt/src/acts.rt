@@ -1,5 +1,5 @@
 // The acts of the turn that runs, as they are kept for the journal.
-ghost use Rattle.std.specs.Prelude.{◌≡◌, true, false, IfOk, IfSome, IfNone, vec_capacity};
+ghost use Rattle.std.specs.Prelude.{◌≡◌, true, false, IfOk, OnOk, IfSome, IfNone, vec_capacity};
 ghost use Rattle.mono_rt.specs.Record.{no_acts, no_record, noted};
 
 use mono_exec::{List, Reply, TurnStep};
@@ -10,6 +10,7 @@ use std::marker::Model;
 const ROOM: usize = 512;
 
 /// The acts of the turn that runs, with their replies, up to 512. One more, and the record is full: nothing more is kept.
+/// Where no journal reads it, it is full from the start.
 #[derive(Drop)]
 pub struct Acts {
     steps: Vec<TurnStep>,
@@ -29,14 +30,12 @@ impl Model for Acts {
 }
 
 impl Acts {
-    /// No act yet, with room for 512, in the memory of this record where it has any.
-    pub fn with_room(self) -> Result<Acts, AllocError>
+    /// No act yet, with room for 512.
+    pub fn with_room(alloc: Global) -> Result<Acts, AllocError>
         ensures { IfOk result (λ acts. acts ≡ no_acts) }
     {
-        let mut steps = self.steps;
-        let mut replies = self.replies;
-        steps.clear();
-        replies.clear();
+        let mut steps = Vec::new(alloc);
+        let mut replies = Vec::new(alloc);
         steps.reserve(ROOM)?;
         replies.reserve(ROOM)?;
         Ok(Acts {
@@ -44,6 +43,16 @@ impl Acts {
             replies,
             is_full: false,
         })
+    }
+
+    /// No act yet, with room for 512. Where nobody reads the record it stays as it is.
+    pub fn begin(&mut self, alloc: Global, is_unread: bool) -> Result<(), AllocError>
+        ensures { OnOk result (is_unread ≡ false → self.new ≡ no_acts) }
+    {
+        if !is_unread {
+            *self = Acts::with_room(alloc)?;
+        }
+        Ok(())
     }
 
     /// A record that keeps nothing.

@@ -8,7 +8,6 @@ ghost use Rattle.mono_rt.specs.Stands.{hosting_of, Matches};
 ghost use Rattle.mono_blocking.specs.declared.strategy.BlockingHandle.TheVariants.{Attached, Empty};
 ghost use Rattle.mono_blocking.specs.declared.strategy.BlockingStrategy.TheVariants.{Panic};
 
-use crate::acts::Acts;
 use crate::contexts::Cx;
 use crate::errors::RunError;
 use crate::journals::Journal;
@@ -219,7 +218,6 @@ pub trait Buildable: Driver + Sized {
             cx,
             driver,
             journal: Journal::new(alloc, !keeps_journal),
-            spare: Acts::keeping_none(alloc),
         })
     }
 }
@@ -265,7 +263,6 @@ impl<F: Drop, O: Outcome + Drop, D: Driver, P: ThreadPool + Drop> Runtime<F, O, 
             cx,
             driver: _,
             journal: _,
-            spare: _,
         } = self;
         let Cx {
             parts,

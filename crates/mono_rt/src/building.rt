@@ -85,7 +85,6 @@ impl<F: Drop, O: Outcome + Drop, D: Driver, P: ThreadPool + Drop> Runtime<F, O, 
             cx,
             driver,
             journal: Journal::new(alloc, false),
-            spare: Acts::keeping_none(alloc),
         })
     }
 

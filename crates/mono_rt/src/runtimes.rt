@@ -35,12 +35,10 @@ pub struct Runtime<F, O, D: Driver, P: ThreadPool> {
     pub(crate) cx: Cx<F, O, P, D::Unpark>,
     pub(crate) driver: D,
     pub(crate) journal: Journal,
-    // the memory of the last turn's record, which the next turn's record uses again
-    pub(crate) spare: Acts,
 }
 
 impl<F: Drop, O: Outcome + Drop, D: Driver, P: ThreadPool + Drop> Runtime<F, O, D, P> {
-    /// The turn that ended is put into the journal. Where that is full the memory of its record is kept for the next turn.
+    /// The turn that ended is put into the journal, unless that is full.
     fn keep_turn(&mut self, alloc: Global, task: u64, end: End, ended: Ended)
         requires { HasPlaces self.old.journal 1 }
         ensures kept { self.new.journal.is_full ≡ false → (self.old.journal.is_full ≡ false) × (self.old.cx.parts.acts.is_full ≡ false) × (self.new.journal.entries.items ≡ self.old.journal.entries.items ++ Ran (event.Turn self.old.cx.parts.acts.steps end) (report.Turn task self.old.cx.parts.acts.replies ended) ∷ []) }
@@ -54,9 +52,7 @@ impl<F: Drop, O: Outcome + Drop, D: Driver, P: ThreadPool + Drop> Runtime<F, O, 
         ensures full { self.new.journal.is_full ≡ (self.old.journal.is_full || self.old.cx.parts.acts.is_full) }
         ensures held { self.new.journal.entries.held ≡ self.old.journal.entries.held }
     {
-        if self.journal.is_full() {
-            mem::swap(&mut self.spare, &mut self.cx.parts.acts);
-        } else {
+        if !self.journal.is_full() {
             let acts = mem::replace(&mut self.cx.parts.acts, Acts::keeping_none(alloc));
             self.journal.push_turn(task, acts, end, ended);
         }
@@ -84,25 +80,27 @@ impl<F: Drop, O: Outcome + Drop, D: Driver, P: ThreadPool + Drop> Runtime<F, O, 
     }
 
     /// Room for a turn, and the reading of the clock, which stands in the journal.
-    fn open_turn(&mut self, alloc: Global) -> Option<(Instant, Acts)>
-        ensures acts { IfSome result (λ x. x.1 ≡ no_acts) }
+    fn open_turn(&mut self, alloc: Global) -> Option<Instant>
+        ensures acts { IfSome result (λ now. self.old.journal.is_full ≡ false → self.new.cx.parts.acts ≡ no_acts) }
         ensures place { IfSome result (λ x. HasPlaces self.new.journal 1) }
         ensures reading { IfSome result (λ x. Does O.output_number IsReading self.old.cx.parts self.new.cx.parts self.old.journal self.new.journal) }
-        ensures at { IfSome result (λ x. Does O.output_number (ReadsAt (nanos_of x.0)) self.old.cx.parts self.new.cx.parts self.old.journal self.new.journal) }
+        ensures at { IfSome result (λ x. Does O.output_number (ReadsAt (nanos_of x)) self.old.cx.parts self.new.cx.parts self.old.journal self.new.journal) }
         ensures goes { Goes O.output_number self.old.cx.parts self.new.cx.parts self.old.journal self.new.journal }
-        ensures same { self.new.cx ≡ self.old.cx }
+        ensures same { self.new.cx ≡ record self.old.cx { parts = record self.old.cx.parts { acts = self.new.cx.parts.acts } } }
+        ensures tasks { self.new.cx.parts.tasks ≡ self.old.cx.parts.tasks }
+        ensures has_timers { self.new.cx.parts.has_timers ≡ self.old.cx.parts.has_timers }
         ensures told { Telling (Still going) (telling (D.readings self.old.driver) (D.time self.old.driver) (D.parks self.old.driver)) going self.old.journal self.new.journal (telling (D.readings self.new.driver) (D.time self.new.driver) (D.parks self.new.driver)) }
         ensures full { self.new.journal.is_full ≡ self.old.journal.is_full }
         ensures held { self.new.journal.entries.held ≡ self.old.journal.entries.held }
     {
         match self.journal.reserve(2) {
             Err(_) => None,
-            Ok(()) => match mem::replace(&mut self.spare, Acts::keeping_none(alloc)).with_room() {
+            Ok(()) => match self.cx.parts.acts.begin(alloc, self.journal.is_full()) {
                 Err(_) => None,
-                Ok(acts) => {
+                Ok(()) => {
                     let now = self.driver.now();
                     self.journal.push(Entry::Now(now.as_nanos()));
-                    Some((now, acts))
+                    Some(now)
                 }
             },
         }
@@ -154,10 +152,10 @@ where
         ensures full { Fills O.output_number F.TaskFuture self.old.cx self.old.journal self.new.journal }
         ensures held { self.new.journal.entries.held ≡ self.old.journal.entries.held }
     {
-        let Some((now, acts)) = self.open_turn(alloc) else {
+        let Some(now) = self.open_turn(alloc) else {
             return Err(RunError::Memory);
         };
-        let (task, end, ended) = self.cx.turn(rt, alloc, now, acts);
+        let (task, end, ended) = self.cx.turn(rt, alloc, now);
         self.keep_turn(alloc, task, end, ended);
         if self.cx.parts.is_out_of_memory {
             return Err(RunError::Memory);

@@ -7,7 +7,6 @@ ghost use Rattle.mono_rt.specs.Stands.{hosting_of, Matches};
 ghost use Rattle.mono_slots.specs.Slots.{lent_at};
 ghost use Rattle.mono_rt.specs.Turns.{Begins, Pauses, Completes, Runs, Turn, IsTurnOf};
 
-use crate::acts::Acts;
 use crate::contexts::Cx;
 use mono_blocking::ThreadPool;
 use mono_exec::{End, Ended};
@@ -53,6 +52,7 @@ impl<F: Drop, O: Outcome + Drop, P: ThreadPool + Drop, U: Unpark> Cx<F, O, P, U>
     }
 
     /// The future of the task whose turn ends goes back to its place, with the task's waker beside it.
+    #[inline(always)]
     fn put_back(&mut self, task: u64, future: Option<F>)
         requires { IfSome future (λ f. lent_at self.old.futures task ≡ true) }
         ensures parts { self.new.parts ≡ self.old.parts }
@@ -67,16 +67,10 @@ impl<F: Drop, O: Outcome + Drop, P: ThreadPool + Drop, U: Unpark> Cx<F, O, P, U>
 
     /// The queue's front runs, at this reading of the clock, and its future is taken out of the table. Before its first
     /// turn its remote waker is made. What is noted of refused memory is what this turn is refused.
-    fn begin_turn<R: Host>(
-        &mut self,
-        rt: &R,
-        alloc: Global,
-        now: Instant,
-        acts: Acts,
-    ) -> (u64, Option<F>)
+    fn begin_turn<R: Host>(&mut self, rt: &R, alloc: Global, now: Instant) -> (u64, Option<F>)
         requires rests { self.old.parts.tasks.turn ≡ None }
         requires queued { 0 < length self.old.parts.tasks.tasks.queue }
-        ensures begins { Begins result.0 now acts self.old self.new }
+        ensures begins { Begins result.0 now self.old.parts.acts self.old self.new }
         ensures noted { self.new.parts.is_out_of_memory ≡ not (is_some self.new.waker) }
         ensures future { result.1 ≡ value_at self.old.futures.items result.0 }
         ensures lent { IfSome result.1 (λ future. lent_at self.new.futures result.0 ≡ true) }
@@ -88,12 +82,12 @@ impl<F: Drop, O: Outcome + Drop, P: ThreadPool + Drop, U: Unpark> Cx<F, O, P, U>
         let made = self.open_waker(rt, alloc, task, had);
         self.parts.me = task;
         self.parts.now = now;
-        self.parts.acts = acts;
         self.parts.is_out_of_memory = !made;
         (task, future)
     }
 
     /// The turn that runs ends pending, and the future goes back to the table.
+    #[inline(always)]
     fn pause_turn(&mut self, task: u64, future: Option<F>) -> Ended
         requires runs { is_some self.old.parts.tasks.turn ≡ true }
         requires lent { IfSome future (λ f. lent_at self.old.futures task ≡ true) }
@@ -155,23 +149,16 @@ where
     }
 
     /// One turn of the task at the queue's front.
-    pub(crate) fn turn<R: Host>(
-        &mut self,
-        rt: &R,
-        alloc: Global,
-        now: Instant,
-        acts: Acts,
-    ) -> (u64, End, Ended)
+    pub(crate) fn turn<R: Host>(&mut self, rt: &R, alloc: Global, now: Instant) -> (u64, End, Ended)
         requires callable { (f : F) → F.can_poll f }
         requires rests { self.old.parts.tasks.turn ≡ None }
         requires queued { 0 < length self.old.parts.tasks.tasks.queue }
-        requires empty { acts ≡ no_acts }
-        ensures turn { Turn O.output_number F.TaskFuture result.0 now acts result.1 result.2 self.old self.new }
-        ensures is { (m : Machine) → Matches O.output_number hosting_of self.old.parts m → IsTurnOf O.output_number result.0 result.1 result.2 self.old.parts self.new.parts m }
+        ensures turn { Turn O.output_number F.TaskFuture result.0 now self.old.parts.acts result.1 result.2 self.old self.new }
+        ensures is { self.old.parts.acts ≡ no_acts → (m : Machine) → Matches O.output_number hosting_of self.old.parts m → IsTurnOf O.output_number result.0 result.1 result.2 self.old.parts self.new.parts m }
         ensures has_timers { self.new.parts.has_timers ≡ self.old.parts.has_timers }
         ensures rests { self.new.parts.tasks.turn ≡ None }
     {
-        let (task, taken) = self.begin_turn(rt, alloc, now, acts);
+        let (task, taken) = self.begin_turn(rt, alloc, now);
         let (end, ended) = self.run_turn(rt, alloc, task, taken);
         (task, end, ended)
     }

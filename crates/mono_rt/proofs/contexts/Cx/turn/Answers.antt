@@ -7,18 +7,18 @@ pub returns-clause-turn : goal.returns-clause-turn
 returns-clause-turn g c = record { begun = _; begins = c.begin_turn-task.ensures.begins; runs = rw (sym c.begin_turn-task.ensures.future) c.run_turn-end.ensures }
 
 pub returns-clause-is : goal.returns-clause-is
-returns-clause-is g c = λ m st.
+returns-clause-is g c = λ empty m st.
     let number = g.O.Outcome.output_number in
     let old = c.args.self.now in
     let begun = c.begin_turn-task.new.self in
     let t = c.begin_turn-task.result.0 in
     turn_is number g.F.TaskFuture c.begin_turn-task.result.1 old begun c.run_turn-end.new.self t c.args.now _ _ m
-    (subst (λ a. BeginsParts t c.args.now a old.parts begun.parts) c.requires.empty c.begin_turn-task.ensures.begins.parts) c.run_turn-end.ensures st
+    (subst (λ a. BeginsParts t c.args.now a old.parts begun.parts) empty c.begin_turn-task.ensures.begins.parts) c.run_turn-end.ensures st
 
 pub returns-clause-rests : goal.returns-clause-rests
 returns-clause-rests g c =
     rests_after g.O.Outcome.output_number g.F.TaskFuture c.begin_turn-task.result.1 c.begin_turn-task.new.self c.run_turn-end.new.self c.begin_turn-task.result.0 _ _
-    (begun_turn g.O.Outcome.output_number c.args.self.now.parts c.begin_turn-task.new.self.parts c.begin_turn-task.result.0 c.args.now c.args.acts c.begin_turn-task.ensures.begins.parts) c.run_turn-end.ensures
+    (begun_turn g.O.Outcome.output_number c.args.self.now.parts c.begin_turn-task.new.self.parts c.begin_turn-task.result.0 c.args.now c.args.self.now.parts.acts c.begin_turn-task.ensures.begins.parts) c.run_turn-end.ensures
 
 pub returns-clause-has_timers : goal.returns-clause-has_timers
 returns-clause-has_timers g c =

@@ -10,23 +10,24 @@ use Rattle.std.proofs.Common.{ap}
 use Rattle.mono_rt.specs.Polling.{ReadsAt}
 use Rattle.mono_rt.proofs.runtimes.Runtime.open_turn.Goals as goal
 
-pub returns-in-Ok-with_room-clause-reading : goal.returns-in-Ok-with_room-clause-reading
-returns-in-Ok-with_room-clause-reading g c =
+pub returns-in-Ok-begin-clause-reading : goal.returns-in-Ok-begin-clause-reading
+returns-in-Ok-begin-clause-reading g c =
     let number = g.O.Outcome.output_number in
     let parts = c.args.self.now.cx.parts in
+    let opened = record parts { acts = c.begin.new.self } in
     let n = c.as_nanos.result in
-    stay_on number IsReading parts parts parts c.args.self.now.journal c.reserve.new.self c.push.new.self
-    (does_stay number parts parts c.args.self.now.journal c.reserve.new.self refl refl refl refl c.reserve.ensures.entries c.reserve.ensures.full)
-    (does_past number IsReading parts c.reserve.new.self c.push.new.self (Now n ∷ []) (λ unfull. c.push.ensures.entries ∙ pushed_open c.reserve.new.self (Now n) (sym c.push.ensures.full ∙ unfull)) c.push.ensures.full (λ m. refl) (λ m st. (refl, λ s. refl)) (λ m st rest. (n, (refl, refl))))
+    stay_on number IsReading parts opened opened c.args.self.now.journal c.reserve.new.self c.push.new.self
+    (does_stay number parts opened c.args.self.now.journal c.reserve.new.self refl refl refl refl c.reserve.ensures.entries c.reserve.ensures.full)
+    (does_past number IsReading opened c.reserve.new.self c.push.new.self (Now n ∷ []) (λ unfull. c.push.ensures.entries ∙ pushed_open c.reserve.new.self (Now n) (sym c.push.ensures.full ∙ unfull)) c.push.ensures.full (λ m. refl) (λ m st. (refl, λ s. refl)) (λ m st rest. (n, (refl, refl))))
 
-pub returns-in-Ok-with_room-clause-goes : goal.returns-in-Ok-with_room-clause-goes
-returns-in-Ok-with_room-clause-goes g c = goes_of g.O.Outcome.output_number IsReading c.args.self.now.cx.parts c.args.self.now.cx.parts c.args.self.now.journal c.push.new.self (returns-in-Ok-with_room-clause-reading g c)
+pub returns-in-Ok-begin-clause-goes : goal.returns-in-Ok-begin-clause-goes
+returns-in-Ok-begin-clause-goes g c = goes_of g.O.Outcome.output_number IsReading c.args.self.now.cx.parts (record c.args.self.now.cx.parts { acts = c.begin.new.self }) c.args.self.now.journal c.push.new.self (returns-in-Ok-begin-clause-reading g c)
 
-pub returns-in-Ok-with_room-clause-place : goal.returns-in-Ok-with_room-clause-place
-returns-in-Ok-with_room-clause-place g c = c.push.ensures.room 1 c.in-Ok.ensures.room
+pub returns-in-Ok-begin-clause-place : goal.returns-in-Ok-begin-clause-place
+returns-in-Ok-begin-clause-place g c = c.push.ensures.room 1 c.in-Ok.ensures.room
 
-pub returns-in-Ok-with_room-clause-told : goal.returns-in-Ok-with_room-clause-told
-returns-in-Ok-with_room-clause-told g c =
+pub returns-in-Ok-begin-clause-told : goal.returns-in-Ok-begin-clause-told
+returns-in-Ok-begin-clause-told g c =
     let read = c.now-now.ensures in
     telling_on {j = c.reserve.new.self} (tells_nothing refl refl c.reserve.ensures.entries c.reserve.ensures.full)
     (tells_one going (Now c.as_nanos.result) refl (refl, (_, (read_at c.as_nanos.result (nanos_of c.now-now.result) c.as_nanos.ensures (record { reads = read.reads; reads_time = read.reads_time; time = read.time; parks = read.parks }), (refl, refl)))) c.push.ensures.entries c.push.ensures.full)
@@ -34,21 +35,22 @@ returns-in-Ok-with_room-clause-told g c =
 pub returns-in-Err-clause-told : goal.returns-in-Err-clause-told
 returns-in-Err-clause-told g c = tells_nothing refl refl c.reserve.ensures.entries c.reserve.ensures.full
 
-pub returns-in-Err-with_room-clause-told : goal.returns-in-Err-with_room-clause-told
-returns-in-Err-with_room-clause-told g c = tells_nothing refl refl c.reserve.ensures.entries c.reserve.ensures.full
+pub returns-in-Err-begin-clause-told : goal.returns-in-Err-begin-clause-told
+returns-in-Err-begin-clause-told g c = tells_nothing refl refl c.reserve.ensures.entries c.reserve.ensures.full
 
-pub returns-in-Ok-with_room-clause-at : goal.returns-in-Ok-with_room-clause-at
-returns-in-Ok-with_room-clause-at g c =
+pub returns-in-Ok-begin-clause-at : goal.returns-in-Ok-begin-clause-at
+returns-in-Ok-begin-clause-at g c =
     let number = g.O.Outcome.output_number in
     let parts = c.args.self.now.cx.parts in
+    let opened = record parts { acts = c.begin.new.self } in
     let n = c.as_nanos.result in
-    stay_on number (ReadsAt (nanos_of c.now-now.result)) parts parts parts c.args.self.now.journal c.reserve.new.self c.push.new.self
-    (does_stay number parts parts c.args.self.now.journal c.reserve.new.self refl refl refl refl c.reserve.ensures.entries c.reserve.ensures.full)
-    (does_past number (ReadsAt (nanos_of c.now-now.result)) parts c.reserve.new.self c.push.new.self (Now n ∷ []) (λ unfull. c.push.ensures.entries ∙ pushed_open c.reserve.new.self (Now n) (sym c.push.ensures.full ∙ unfull)) c.push.ensures.full (λ m. refl) (λ m st. (refl, λ s. refl))
+    stay_on number (ReadsAt (nanos_of c.now-now.result)) parts opened opened c.args.self.now.journal c.reserve.new.self c.push.new.self
+    (does_stay number parts opened c.args.self.now.journal c.reserve.new.self refl refl refl refl c.reserve.ensures.entries c.reserve.ensures.full)
+    (does_past number (ReadsAt (nanos_of c.now-now.result)) opened c.reserve.new.self c.push.new.self (Now n ∷ []) (λ unfull. c.push.ensures.entries ∙ pushed_open c.reserve.new.self (Now n) (sym c.push.ensures.full ∙ unfull)) c.push.ensures.full (λ m. refl) (λ m st. (refl, λ s. refl))
     (λ m st rest. (ap (λ x. Now x ∷ rest) c.as_nanos.ensures, refl)))
 
 pub returns-in-Err-clause-goes : goal.returns-in-Err-clause-goes
 returns-in-Err-clause-goes g c = goes_nowhere g.O.Outcome.output_number c.args.self.now.cx.parts c.args.self.now.cx.parts c.args.self.now.journal c.reserve.new.self refl refl refl refl c.reserve.ensures.entries c.reserve.ensures.full
 
-pub returns-in-Err-with_room-clause-goes : goal.returns-in-Err-with_room-clause-goes
-returns-in-Err-with_room-clause-goes g c = goes_nowhere g.O.Outcome.output_number c.args.self.now.cx.parts c.args.self.now.cx.parts c.args.self.now.journal c.reserve.new.self refl refl refl refl c.reserve.ensures.entries c.reserve.ensures.full
+pub returns-in-Err-begin-clause-goes : goal.returns-in-Err-begin-clause-goes
+returns-in-Err-begin-clause-goes g c = goes_nowhere g.O.Outcome.output_number c.args.self.now.cx.parts (record c.args.self.now.cx.parts { acts = c.begin.new.self }) c.args.self.now.journal c.reserve.new.self refl refl refl refl c.reserve.ensures.entries c.reserve.ensures.full

@@ -18,7 +18,7 @@ returns-then-self-clause-goes g c =
     let done = c.turn-task.new.self in
     let left = c.keep_turn.new.self in
     goes_on number old.cx.parts opened.cx.parts left.cx.parts old.journal opened.journal left.journal c.open_turn.ensures.goes
-    (goes_of number _ opened.cx.parts left.cx.parts opened.journal left.journal (does_turn number opened.cx.parts done.parts left.cx.parts opened.journal left.journal _ _ _ c.turn-task.ensures.is c.keep_turn.ensures.kept
+    (goes_of number _ opened.cx.parts left.cx.parts opened.journal left.journal (does_turn number opened.cx.parts done.parts left.cx.parts opened.journal left.journal _ _ _ (λ unfull. c.turn-task.ensures.is (c.in-Some.ensures.acts (sym c.open_turn.ensures.full ∙ (c.keep_turn.ensures.kept unfull).0))) c.keep_turn.ensures.kept
     (λ m st. same_machine number hosting_of done.parts left.cx.parts m c.keep_turn.ensures.tasks c.keep_turn.ensures.timers c.keep_turn.ensures.has_timers c.keep_turn.ensures.blocking st) c.keep_turn.ensures.timers))
 
 pub returns-clause-turned : goal.returns-clause-turned
@@ -29,7 +29,7 @@ returns-clause-turned g c =
     let done = c.turn-task.new.self in
     let left = c.keep_turn.new.self in
     does_one number old.cx.parts opened.cx.parts left.cx.parts old.journal opened.journal left.journal _ _ _ _ _ c.in-Some.ensures.reading
-    (does_turn number opened.cx.parts done.parts left.cx.parts opened.journal left.journal _ _ _ c.turn-task.ensures.is c.keep_turn.ensures.kept
+    (does_turn number opened.cx.parts done.parts left.cx.parts opened.journal left.journal _ _ _ (λ unfull. c.turn-task.ensures.is (c.in-Some.ensures.acts (sym c.open_turn.ensures.full ∙ (c.keep_turn.ensures.kept unfull).0))) c.keep_turn.ensures.kept
     (λ m st. same_machine number hosting_of done.parts left.cx.parts m c.keep_turn.ensures.tasks c.keep_turn.ensures.timers c.keep_turn.ensures.has_timers c.keep_turn.ensures.blocking st) c.keep_turn.ensures.timers)
 
 pub returns-clause-goes : goal.returns-clause-goes
@@ -48,9 +48,10 @@ returns-clause-polled g c =
     let opened = c.open_turn.new.self in
     let done = c.turn-task.new.self in
     let left = c.keep_turn.new.self in
-    polls_turn number g.F.TaskFuture old.cx.parts.has_timers old.cx opened.cx done left.cx old.journal opened.journal left.journal c.turn-task.result.0 c.in-Some.now c.turn-task.result.1 c.turn-task.result.2 c.open_turn.ensures.same c.in-Some.ensures.at
-    (subst (λ acts. Turn number g.F.TaskFuture c.turn-task.result.0 c.in-Some.now acts c.turn-task.result.1 c.turn-task.result.2 opened.cx done) c.in-Some.ensures.acts c.turn-task.ensures.turn)
-    (does_turn number opened.cx.parts done.parts left.cx.parts opened.journal left.journal _ _ _ c.turn-task.ensures.is c.keep_turn.ensures.kept
+    polls_turn number g.F.TaskFuture old.cx.parts.has_timers old.cx opened.cx done left.cx old.journal opened.journal left.journal c.turn-task.result.0 c.in-Some.now c.turn-task.result.1 c.turn-task.result.2 (ap (λ x. x.parts.has_timers) c.open_turn.ensures.same) (ap (λ x. x.futures.items) c.open_turn.ensures.same) c.in-Some.ensures.at
+    (λ unfull. subst (λ acts. Turn number g.F.TaskFuture c.turn-task.result.0 c.in-Some.now acts c.turn-task.result.1 c.turn-task.result.2 opened.cx done)
+    (c.in-Some.ensures.acts (sym c.open_turn.ensures.full ∙ (c.keep_turn.ensures.kept unfull).0)) c.turn-task.ensures.turn)
+    (does_turn number opened.cx.parts done.parts left.cx.parts opened.journal left.journal _ _ _ (λ unfull. c.turn-task.ensures.is (c.in-Some.ensures.acts (sym c.open_turn.ensures.full ∙ (c.keep_turn.ensures.kept unfull).0))) c.keep_turn.ensures.kept
     (λ m st. same_machine number hosting_of done.parts left.cx.parts m c.keep_turn.ensures.tasks c.keep_turn.ensures.timers c.keep_turn.ensures.has_timers c.keep_turn.ensures.blocking st) c.keep_turn.ensures.timers)
     (λ unfull. (c.keep_turn.ensures.kept unfull).1) refl (sym c.keep_turn.ensures.memory ∙ c.if-self.false) (ap (λ v. v.items) c.keep_turn.ensures.futures)
 
@@ -59,11 +60,13 @@ returns-then-self-clause-full g c =
     let old = c.args.self.now in
     let opened = c.open_turn.new.self in
     fills_turn g.O.Outcome.output_number g.F.TaskFuture old.cx opened.cx c.turn-task.new.self old.journal opened.journal c.keep_turn.new.self.journal _ _ _ _ _
-    c.open_turn.ensures.goes c.open_turn.ensures.full c.in-Some.ensures.acts c.turn-task.ensures.turn c.turn-task.ensures.is c.keep_turn.ensures.full
+    c.open_turn.ensures.goes c.open_turn.ensures.full (λ unfull. c.in-Some.ensures.acts (sym c.open_turn.ensures.full ∙ unfull)) c.turn-task.ensures.turn
+    (λ unfull. c.turn-task.ensures.is (c.in-Some.ensures.acts (sym c.open_turn.ensures.full ∙ unfull))) c.keep_turn.ensures.full
 
 pub returns-clause-full : goal.returns-clause-full
 returns-clause-full g c =
     let old = c.args.self.now in
     let opened = c.open_turn.new.self in
     fills_turn g.O.Outcome.output_number g.F.TaskFuture old.cx opened.cx c.turn-task.new.self old.journal opened.journal c.keep_turn.new.self.journal _ _ _ _ _
-    c.open_turn.ensures.goes c.open_turn.ensures.full c.in-Some.ensures.acts c.turn-task.ensures.turn c.turn-task.ensures.is c.keep_turn.ensures.full
+    c.open_turn.ensures.goes c.open_turn.ensures.full (λ unfull. c.in-Some.ensures.acts (sym c.open_turn.ensures.full ∙ unfull)) c.turn-task.ensures.turn
+    (λ unfull. c.turn-task.ensures.is (c.in-Some.ensures.acts (sym c.open_turn.ensures.full ∙ unfull))) c.keep_turn.ensures.full
