@@ -1,59 +1,24 @@
 //! A user's deadlines over the timers.
-use mono_time::Instant;
-use std::alloc::Global;
-use std::test::Fail;
+use crate::desks::at_millis;
 use use_deadlines::Sessions;
 
-fn at_millis(millis: u64) -> Result<Instant, Fail> {
-    Ok(Instant::from_nanos(u128::from(millis) * 1000000).ok_or("an instant")?)
-}
-
-// Whether the first two sessions have the numbers 0 and 1.
-fn open_two(sessions: &mut Sessions, alloc: Global) -> Result<bool, Fail> {
-    let first = sessions.open(alloc, at_millis(20)?);
-    let second = sessions.open(alloc, at_millis(10)?);
-    Ok(first == Ok(0) && second == Ok(1))
-}
-
-// Whether a session's deadline was moved.
-fn touch(sessions: &mut Sessions, session: u64, millis: u64) -> Result<bool, Fail> {
-    Ok(sessions.touch(session, at_millis(millis)?).is_ok())
-}
-
-// The sessions whose deadlines have come, behind those that were gone.
-fn expire(sessions: &mut Sessions, millis: u64, gone: &mut Vec<u64>) -> Result<(), Fail> {
-    let now = at_millis(millis)?;
-    sessions.expire_all(now, gone)?;
-    Ok(())
-}
-
-// Whether none is gone before the first deadline, and the second session at the deadline that the first one had.
-fn one_is_gone(sessions: &mut Sessions, gone: &mut Vec<u64>) -> Result<bool, Fail> {
-    expire(sessions, 9, gone)?;
-    let none = gone.is_empty();
-    let moved = touch(sessions, 0, 30)?;
-    expire(sessions, 20, gone)?;
-    Ok(none && moved && gone.as_slice() == [1].as_slice())
-}
-
-// Whether a session that is gone can't be moved, and the other one is gone at its new deadline.
-fn both_are_gone(sessions: &mut Sessions, gone: &mut Vec<u64>) -> Result<bool, Fail> {
-    let moved = touch(sessions, 1, 40)?;
-    expire(sessions, 30, gone)?;
-    Ok(!moved && gone.as_slice() == [1, 0].as_slice())
-}
-
-fn expire_in_order(sessions: &mut Sessions, alloc: Global) -> Result<bool, Fail> {
-    let mut gone = Vec::new(alloc);
-    let is_open = open_two(sessions, alloc)?;
-    let is_one = one_is_gone(sessions, &mut gone)?;
-    let are_both = both_are_gone(sessions, &mut gone)?;
-    Ok(is_open && is_one && are_both)
+// Whether these sessions are gone at a time, of which some were gone before.
+fn expires(sessions: &mut Sessions, millis: u32, gone: &mut Vec<u64>, told: &[u64]) -> bool {
+    sessions.expire_all(at_millis(millis), gone).is_ok() && gone.as_slice() == told
 }
 
 #[test]
-fn sessions_expire_in_order(rt: HostRuntime) -> Result<(), Fail> {
-    let mut sessions = Sessions::new(rt.alloc(), 8)?;
-    assert!(rt; expire_in_order(&mut sessions, rt.alloc())?);
-    Ok(())
+fn sessions_expire_in_order(rt: HostRuntime) {
+    let alloc = rt.alloc();
+    let mut sessions = Sessions::new(alloc, 8).expect(&rt, "memory");
+    let mut gone = Vec::new(alloc);
+    assert!(rt; sessions.open(alloc, at_millis(20)) == Ok(0));
+    assert!(rt; sessions.open(alloc, at_millis(10)) == Ok(1));
+    // none is gone before the first deadline, and the second session at the deadline that the first one had
+    assert!(rt; expires(&mut sessions, 9, &mut gone, &[]));
+    assert!(rt; sessions.touch(0, at_millis(30)).is_ok());
+    assert!(rt; expires(&mut sessions, 20, &mut gone, &[1]));
+    // a session that is gone can't be moved, and the other one is gone at its new deadline
+    assert!(rt; sessions.touch(1, at_millis(40)).is_err());
+    assert!(rt; expires(&mut sessions, 30, &mut gone, &[1, 0]));
 }

@@ -1,12 +1,16 @@
 // A small context for tests: timers, and no tasks.
-ghost use Rattle.std.specs.Prelude.{◌≡◌, true, refl};
+ghost use Rattle.std.specs.Prelude.{◌≡◌, ◌<◌, true, false, refl, IfSome};
 ghost use Rattle.std.proofs.Common.{◌∙◌, ap};
 ghost use Rattle.mono_model.specs.Tasks.{no_tasks};
 ghost use Rattle.mono_time.specs.Timers.{sleeps_of};
 
-use mono_task::{Context, Poll, TaskError, Woke};
+use mono_model::Host;
+use mono_task::{Context, Poll, TaskError, TaskFuture, Woke};
 use mono_time::{Error, Instant, SleepError, TimeContext, Timers};
+use mono_wheel::Steps;
 use std::alloc::Global;
+use std::marker::Brand;
+use std::sync::ledger::{Blank, Ledger};
 
 /// A context of task `me` at `now`, whose sleeps are those of its timers.
 #[derive(Drop)]
@@ -87,4 +91,52 @@ impl TimeContext for Desk {
     }
 
     ghost wakes_no_sleep = { λ c d t r w. ap (λ x. sleeps_of x.timers) w };
+}
+
+/// The desk of task 7 at a time, with room for four sleeps.
+pub(crate) fn empty_desk(alloc: Global, now: Instant) -> Option<Desk>
+    ensures { IfSome result (λ cx. (sleeps_of cx.timers).greatest ≡ 0) }
+{
+    match Timers::new(alloc, 4, true) {
+        Ok(timers) => Some(Desk {
+            me: 7,
+            now,
+            is_out_of_memory: false,
+            timers,
+        }),
+        Err(_) => None,
+    }
+}
+
+/// The instant so many milliseconds after the clock's zero.
+pub(crate) fn at_millis(millis: u32) -> Instant {
+    match Instant::from_nanos(u128::from(millis) * 1000000) {
+        Some(instant) => instant,
+        None => unreachable!(),
+    }
+}
+
+/// A future's poll, through its bound.
+pub(crate) fn polled<F: TaskFuture<Desk>, R: Host>(
+    rt: &R,
+    alloc: Global,
+    cx: &mut Desk,
+    future: &mut F,
+) -> Poll<F::Output>
+    requires unspent { F.is_spent future.old ≡ false }
+    requires callable { F.can_poll future.old }
+{
+    future.poll(rt, alloc, cx)
+}
+
+fn fired<L: Ledger>(timers: &mut Timers, now: Instant, blank: Blank) -> Option<(u64, Option<u64>)>
+    requires { (blank.name ≡ L.name) × (blank.parts ≡ L.parts) × (0 < L.parts) }
+{
+    let mut steps: Steps<L> = Steps::new(blank);
+    timers.clock(now, &mut steps)
+}
+
+/// The next sleep that fires in a clock step.
+pub(crate) fn fires(timers: &mut Timers, now: Instant) -> Option<(u64, Option<u64>)> {
+    fired::<Brand>(timers, now, Blank::new(1))
 }

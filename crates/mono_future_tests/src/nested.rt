@@ -1,168 +1,83 @@
 // The nest over a small context with timers and no tasks.
-ghost use Rattle.std.specs.Prelude.{◌≡◌, ◌<◌, false, true, refl, IfOk};
-ghost use Rattle.std.proofs.Common.{◌∙◌, ap};
-ghost use Rattle.mono_model.specs.Tasks.{no_tasks};
-ghost use Rattle.mono_time.specs.Timers.{sleeps_of};
+ghost use Rattle.std.specs.Prelude.{◌≡◌, ◌<◌, false, IfSome};
 
+use crate::desks::{Desk, at_millis, empty_desk};
 use mono_combine::Out2;
-use mono_model::{Host, Poll, TaskError, Woke};
+use mono_model::{Host, Poll};
 use mono_nest::{Answer, Countdown, Limited, begin, nest, race};
-use mono_task::{Context, TaskFuture};
-use mono_time::{
-    Elapsed, Error, Instant, SleepError, TimeContext, TimeoutError, Timers, timeout_at,
-};
+use mono_task::TaskFuture;
+use mono_time::{Elapsed, Error, Instant, TimeContext, TimeoutError, timeout_at};
 use std::alloc::Global;
-use std::test::Fail;
-
-/// A context of task 7 at the clock's zero, whose sleeps are those of its timers.
-#[derive(Drop)]
-struct Desk {
-    now: Instant,
-    is_out_of_memory: bool,
-    timers: Timers,
-}
-
-impl Context for Desk {
-    ghost number = { λ c. 7 };
-
-    ghost nanos = { λ c. c.now.nanos };
-
-    ghost is_out_of_memory = { λ c. c.is_out_of_memory };
-
-    ghost work = { λ c. no_tasks 0 };
-
-    ghost reaches = { λ c d. (d.now ≡ c.now) × (c.is_out_of_memory ≡ true → d.is_out_of_memory ≡ true) };
-
-    ghost wakes = { λ c t r d. d ≡ c };
-
-    fn me(&self) -> u64 {
-        7
-    }
-
-    fn now(&self) -> u128 {
-        self.now.as_nanos()
-    }
-
-    fn wake(&mut self, _task: u64) -> Result<Woke, TaskError> {
-        Err(TaskError::NoTask)
-    }
-
-    ghost reaches_itself = { λ c. (refl, λ h. h) };
-
-    ghost reaches_on = { λ a b c p q. (q.0 ∙ p.0, λ h. q.1 (p.1 h)) };
-
-    ghost same_number = { λ a b r. refl };
-
-    ghost same_nanos = { λ a b r. ap (λ t. t.nanos) r.0 };
-
-    ghost stays_out_of_memory = { λ a b r. r.1 };
-}
-
-impl TimeContext for Desk {
-    ghost sleeps = { λ c. sleeps_of c.timers };
-
-    fn add_sleep(&mut self, alloc: Global, deadline: Instant) -> Result<u64, SleepError> {
-        match self.timers.add(alloc, deadline) {
-            Ok(sleep) => Ok(sleep),
-            Err(SleepError::Memory) => {
-                self.is_out_of_memory = true;
-                Err(SleepError::Memory)
-            }
-            Err(SleepError::Timer(error)) => Err(SleepError::Timer(error)),
-        }
-    }
-
-    fn poll_sleep(&mut self, sleep: u64) -> Result<Poll<()>, Error> {
-        self.timers.poll(sleep, 7)
-    }
-
-    fn reset_sleep(&mut self, sleep: u64, deadline: Instant) -> Result<(), Error> {
-        match self.timers.reset(sleep, deadline) {
-            Ok(_) => Ok(()),
-            Err(error) => Err(error),
-        }
-    }
-
-    fn drop_sleep(&mut self, sleep: u64) -> Result<(), Error> {
-        self.timers.remove(sleep)
-    }
-
-    fn sleep_elapsed(&self, sleep: u64) -> Result<bool, Error> {
-        self.timers.is_elapsed(sleep)
-    }
-
-    ghost wakes_no_sleep = { λ c d t r w. ap (λ x. sleeps_of x.timers) w };
-}
 
 /// A countdown with a deadline, none of whose polls has answered.
-fn limited(
-    alloc: Global,
-    cx: &mut Desk,
-    millis: u128,
-    left: u64,
-    value: u64,
-) -> Result<Limited, Fail>
-    requires { millis < 100 }
-    ensures { IfOk result (λ t. t.value.has_answered ≡ false) }
+fn limited(alloc: Global, cx: &mut Desk, millis: u32, left: u64, value: u64) -> Option<Limited>
+    ensures { IfSome result (λ t. t.value.has_answered ≡ false) }
 {
-    let deadline = Instant::from_nanos(millis * 1000000).ok_or("no instant")?;
-    match timeout_at(alloc, cx, deadline, Countdown::new(left, value)) {
-        Ok(limited) => Ok(limited),
-        Err(_) => Err(Fail::new("no timeout")),
+    match timeout_at(alloc, cx, at_millis(millis), Countdown::new(left, value)) {
+        Ok(limited) => Some(limited),
+        Err(_) => None,
     }
 }
 
-/// A desk at the clock's zero.
-fn fresh_desk(alloc: Global) -> Result<Desk, Fail>
-    ensures { IfOk result (λ d. (sleeps_of d.timers).greatest ≡ 0) }
-{
-    Ok(Desk {
-        now: Instant::from_nanos(0).ok_or("no instant")?,
-        is_out_of_memory: false,
-        timers: Timers::new(alloc, 4, true)?,
-    })
-}
-
-/// The first poll of a nest none of whose deadlines is due.
-fn first_poll<R: Host>(rt: &R, alloc: Global) -> Result<bool, Fail> {
-    let mut cx = fresh_desk(alloc)?;
-    let at = Instant::from_nanos(10000000).ok_or("no instant")?;
+/// Whether the first poll of a nest waits none of whose deadlines is due, and leaves no sleep.
+fn first_poll<R: Host>(rt: &R, alloc: Global) -> bool {
+    let Some(mut cx) = empty_desk(alloc, at_millis(0)) else {
+        return false;
+    };
+    let Some(at) = Instant::from_nanos(10000000) else {
+        return false;
+    };
     let waits = begin(rt, alloc, &mut cx, (at, at), ((1, 2), (3, 4)));
-    Ok(waits == Ok(true) && cx.sleep_elapsed(0) == Err(Error::Shutdown))
+    waits == Ok(true) && cx.sleep_elapsed(0) == Err(Error::Shutdown)
 }
 
 #[test]
-fn begun(rt: HostRuntime) -> Result<(), Fail> {
-    assert!(rt; first_poll(&rt, rt.alloc())?);
-    Ok(())
+fn begun(rt: HostRuntime) {
+    assert!(rt; first_poll(&rt, rt.alloc()));
+}
+
+/// Two countdowns with deadlines, none of whose polls has answered.
+fn pair(
+    alloc: Global,
+    cx: &mut Desk,
+    millis: (u32, u32),
+    left: (u64, u64),
+    values: (u64, u64),
+) -> Option<(Limited, Limited)>
+    ensures first { IfSome result (λ t. t.0.value.has_answered ≡ false) }
+    ensures second { IfSome result (λ t. t.1.value.has_answered ≡ false) }
+{
+    let first = limited(alloc, cx, millis.0, left.0, values.0)?;
+    match limited(alloc, cx, millis.1, left.1, values.1) {
+        Some(second) => Some((first, second)),
+        None => None,
+    }
 }
 
 /// Two polls of a nest: in the first the fourth is out of time and the others wait, and in the second the first answers.
-fn two_polls<R: Host>(rt: &R, alloc: Global) -> Result<bool, Fail> {
-    let mut cx = fresh_desk(alloc)?;
-    let a = limited(alloc, &mut cx, 10, 1, 5)?;
-    let b = limited(alloc, &mut cx, 10, 9, 6)?;
-    let e = limited(alloc, &mut cx, 10, 9, 7)?;
-    let f = limited(alloc, &mut cx, 0, 9, 8)?;
+fn two_polls<R: Host>(rt: &R, alloc: Global, cx: &mut Desk) -> bool {
+    let Some((a, b)) = pair(alloc, cx, (10, 10), (1, 9), (5, 6)) else {
+        return false;
+    };
+    let Some((e, f)) = pair(alloc, cx, (10, 0), (9, 9), (7, 8)) else {
+        return false;
+    };
     let mut both = nest::<Desk, _, _, _, _>(
         race(a, b, |_: &Answer| true, |_: &Answer| true),
         race(e, f, |_: &Answer| true, |_: &Answer| true),
     );
-    if both.poll(rt, alloc, &mut cx).is_ready() {
-        return Ok(false);
+    if both.poll(rt, alloc, cx).is_ready() {
+        return false;
     }
     let late = cx.sleep_elapsed(3) == Err(Error::Shutdown) && cx.sleep_elapsed(1) == Ok(false);
-    let answer = both.poll(rt, alloc, &mut cx);
+    let answer = both.poll(rt, alloc, cx);
     let first = Out2::First(Ok(5));
     let second = Out2::Second(Err(TimeoutError::Elapsed(Elapsed)));
-    Ok(
-        late && answer == Poll::Ready((first, second))
-            && cx.sleep_elapsed(1) == Err(Error::Shutdown),
-    )
+    late && answer == Poll::Ready((first, second)) && cx.sleep_elapsed(1) == Err(Error::Shutdown)
 }
 
 #[test]
-fn nested(rt: HostRuntime) -> Result<(), Fail> {
-    assert!(rt; two_polls(&rt, rt.alloc())?);
-    Ok(())
+fn nested(rt: HostRuntime) {
+    let mut cx = empty_desk(rt.alloc(), at_millis(0)).expect(&rt, "memory");
+    assert!(rt; two_polls(&rt, rt.alloc(), &mut cx));
 }

@@ -1,80 +1,12 @@
 // The table of tasks call by call, and two futures over a small context.
-ghost use Rattle.std.specs.Prelude.{◌≡◌, ◌≤◌, ◌+◌, ◌==◌, true, None, refl};
-ghost use Rattle.std.proofs.Common.{◌∙◌};
-ghost use Rattle.mono_model.specs.Ticks.{max_nanos};
+ghost use Rattle.std.specs.Prelude.{◌≡◌, ◌+◌, ◌==◌, None};
 ghost use Rattle.mono_model.specs.Tasks.{woken};
-ghost use Rattle.mono_model.specs.Joins.{wake_answer};
 ghost use Rattle.mono_model.specs.Poll.{is_ready, OnPending};
-ghost use Rattle.mono_task.specs.Work.{without_outputs};
 
+use crate::boards::{Board, empty_board};
 use mono_model::Host;
-use mono_task::{
-    Context, Ended, JoinContext, JoinHandle, Poll, SpawnTask, TaskError, TaskFuture, Tasks, Woke,
-};
+use mono_task::{Context, Ended, JoinHandle, Poll, SpawnTask, TaskError, TaskFuture, Tasks, Woke};
 use std::alloc::Global;
-
-/// A context over a table of tasks alone.
-#[derive(Drop)]
-struct Desk<O> {
-    me: u64,
-    tasks: Tasks<O>,
-}
-
-impl<O: Drop> Context for Desk<O> {
-    ghost number = { λ c. c.me };
-
-    ghost nanos = { λ c. 7 };
-
-    ghost is_out_of_memory = { λ c. true };
-
-    ghost work = { λ c. without_outputs c.tasks.tasks };
-
-    ghost reaches = { λ c d. (d.me ≡ c.me) × (d.tasks.turn ≡ c.tasks.turn) };
-
-    ghost wakes = { λ c t r d. (r ≡ wake_answer c.tasks.tasks t) × (d.tasks.tasks ≡ woken c.tasks.tasks t) };
-
-    fn me(&self) -> u64 {
-        self.me
-    }
-
-    fn now(&self) -> u128 {
-        7
-    }
-
-    fn wake(&mut self, task: u64) -> Result<Woke, TaskError> {
-        self.tasks.wake(task)
-    }
-
-    ghost reaches_itself = { λ c. (refl, refl) };
-
-    ghost reaches_on = { λ a b c p q. (q.0 ∙ p.0, q.1 ∙ p.1) };
-
-    ghost same_number = { λ a b r. r.0 };
-
-    ghost same_nanos = { λ a b r. refl };
-
-    ghost stays_out_of_memory = { λ a b r h. refl };
-}
-
-impl<O: Drop> JoinContext<O> for Desk<O> {
-    ghost tasks = { λ c. c.tasks.tasks };
-
-    fn poll_join(&mut self, task: u64) -> Result<Poll<O>, TaskError> {
-        self.tasks.poll_join(task, self.me)
-    }
-
-    fn drop_join(&mut self, task: u64) -> Result<Option<O>, TaskError> {
-        self.tasks.drop_join(task)
-    }
-
-    fn is_finished(&self, task: u64) -> Result<bool, TaskError> {
-        self.tasks.is_finished(task)
-    }
-
-    ghost same_work = { λ c. refl };
-
-    ghost wakes_tasks = { λ c d t r w. w.1 };
-}
 
 /// A future that wakes its own task until it has been polled often enough.
 #[derive(Drop)]
@@ -110,52 +42,48 @@ impl<C: Context> TaskFuture<C> for Countdown {
     fn cancel(self, _cx: &mut C) {}
 }
 
-/// One task is spawned and a second refused; the first finishes with an output, which its handle takes once.
-fn one_task(alloc: Global) -> Result<bool, SpawnTask> {
-    let mut tasks: Tasks<u64> = Tasks::new(alloc, 1).map_err(|_| SpawnTask::Memory)?;
-    let first = tasks.spawn(alloc)?;
-    let second = match tasks.spawn(alloc) {
-        Ok(_) => return Ok(false),
-        Err(error) => error,
-    };
-    let queued = tasks.queue_len();
-    let begun = match tasks.begin_turn() {
-        Ok(task) => task,
-        Err(_) => return Ok(false),
-    };
+/// Whether one task is spawned and a second refused.
+fn spawns_one(alloc: Global, tasks: &mut Tasks<u64>) -> bool
+    requires { tasks.old.turn ≡ None }
+    ensures { tasks.new.turn ≡ None }
+{
+    let first = tasks.spawn(alloc);
+    let second = tasks.spawn(alloc);
+    first == Ok(0) && second == Err(SpawnTask::AtCapacity) && tasks.queue_len() == 1
+}
+
+/// Whether the first task's turns go on after its own wake, and end with an output, which its handle takes once.
+fn ends_once(tasks: &mut Tasks<u64>) -> bool
+    requires { tasks.old.turn ≡ None }
+{
+    if tasks.begin_turn() != Ok(0) {
+        return false;
+    }
     let own = tasks.wake(0);
     let ended = tasks.end_turn(Poll::Pending);
     if tasks.begin_turn().is_err() {
-        return Ok(false);
+        return false;
     }
     let done = tasks.end_turn(Poll::Ready(3));
-    let finished = tasks.is_finished(0);
-    let output = tasks.poll_join(0, 0);
-    let again = tasks.poll_join(0, 0);
-    let dropped = tasks.drop_join(0);
-    let gone = tasks.drop_join(0);
-    let unknown = tasks.wake(1);
-    Ok(
-        first == 0
-            && second == SpawnTask::AtCapacity
-            && queued == 1
-            && begun == 0
-            && own == Ok(Woke::Noted)
-            && ended == Ended::Again
-            && done == Ended::Done
-            && finished == Ok(true)
-            && output == Ok(Poll::Ready(3))
-            && again == Err(TaskError::Taken)
-            && dropped == Ok(None)
-            && gone == Err(TaskError::NoHandle)
-            && unknown == Err(TaskError::NoTask)
-            && tasks.turns() == 2,
-    )
+    own == Ok(Woke::Noted) && ended == Ended::Again && done == Ended::Done && is_taken_once(tasks)
+}
+
+/// Whether the handle of a task that has ended takes its output once, and is let go once.
+fn is_taken_once(tasks: &mut Tasks<u64>) -> bool {
+    let finished = tasks.is_finished(0) == Ok(true);
+    let output = tasks.poll_join(0, 0) == Ok(Poll::Ready(3));
+    let again = tasks.poll_join(0, 0) == Err(TaskError::Taken);
+    let dropped = tasks.drop_join(0) == Ok(None);
+    let gone = tasks.drop_join(0) == Err(TaskError::NoHandle);
+    let unknown = tasks.wake(1) == Err(TaskError::NoTask);
+    finished && output && again && dropped && gone && unknown && tasks.turns() == 2
 }
 
 #[test]
 fn table(rt: HostRuntime) {
-    assert_eq!(rt; one_task(rt.alloc()), Ok(true));
+    let mut tasks: Tasks<u64> = Tasks::new(rt.alloc(), 1).expect(&rt, "memory");
+    assert!(rt; spawns_one(rt.alloc(), &mut tasks));
+    assert!(rt; ends_once(&mut tasks));
 }
 
 // As many turns as that, each of the next number and pending; where it is asked for, each task wakes itself meanwhile.
@@ -178,67 +106,75 @@ fn turns_in_order(tasks: &mut Tasks<u64>, count: u64, again: bool) -> bool
     in_order
 }
 
-/// Three hundred tasks, which wake themselves in their turns, so that the queue goes round, and which are woken again.
-fn many_tasks(alloc: Global) -> Result<bool, SpawnTask> {
-    let mut tasks: Tasks<u64> = Tasks::new(alloc, 300).map_err(|_| SpawnTask::Memory)?;
+/// Whether three hundred tasks are spawned in order.
+fn spawns_all(alloc: Global, tasks: &mut Tasks<u64>) -> bool
+    requires { tasks.old.turn ≡ None }
+    ensures { tasks.new.turn ≡ None }
+{
     for number in 0..300u64 {
-        if tasks.spawn(alloc)? != number {
-            return Ok(false);
+        if tasks.spawn(alloc) != Ok(number) {
+            return false;
         }
     }
-    let first = turns_in_order(&mut tasks, 300, true);
-    let second = turns_in_order(&mut tasks, 300, false);
-    let idle = tasks.queue_len();
+    true
+}
+
+/// Whether each of three hundred tasks is queued by a wake, and once.
+fn wakes_all(tasks: &mut Tasks<u64>) -> bool
+    requires { tasks.old.turn ≡ None }
+    ensures { tasks.new.turn ≡ None }
+{
     for number in 0..300u64 {
         if tasks.wake(number) != Ok(Woke::Queued) || tasks.wake(number) != Ok(Woke::Nothing) {
-            return Ok(false);
+            return false;
         }
     }
-    let queued = tasks.queue_len();
-    let third = turns_in_order(&mut tasks, 300, false);
-    Ok(first && second && third && idle == 0 && queued == 300)
+    true
 }
 
+/// Three hundred tasks, which wake themselves in their turns, so that the queue goes round, and which are woken again.
 #[test]
 fn many(rt: HostRuntime) {
-    assert_eq!(rt; many_tasks(rt.alloc()), Ok(true));
+    let mut tasks: Tasks<u64> = Tasks::new(rt.alloc(), 300).expect(&rt, "memory");
+    assert!(rt; spawns_all(rt.alloc(), &mut tasks));
+    assert!(rt; turns_in_order(&mut tasks, 300, true));
+    assert!(rt; turns_in_order(&mut tasks, 300, false));
+    assert_eq!(rt; tasks.queue_len(), 0);
+    assert!(rt; wakes_all(&mut tasks));
+    assert_eq!(rt; tasks.queue_len(), 300);
+    assert!(rt; turns_in_order(&mut tasks, 300, false));
 }
 
-/// A future that makes calls of its own, and the handle of a task that ends, both over the small context.
-fn two_futures<R: Host>(rt: &R, alloc: Global) -> Result<bool, SpawnTask> {
-    let mut tasks: Tasks<u64> = Tasks::new(alloc, 2).map_err(|_| SpawnTask::Memory)?;
-    let task = tasks.spawn(alloc)?;
-    if tasks.begin_turn().is_err() {
-        return Ok(false);
+/// Whether a future makes calls of its own, and the handle of a task that ends gives its output once.
+fn two_futures<R: Host>(rt: &R, alloc: Global, cx: &mut Board) -> bool
+    requires { cx.old.tasks.turn ≡ None }
+{
+    let Ok(task) = cx.tasks.spawn(alloc) else {
+        return false;
+    };
+    if cx.tasks.begin_turn().is_err() {
+        return false;
     }
-    let mut cx = Desk { me: 0, tasks };
     let mut count = Countdown {
         left: 1,
         has_answered: false,
     };
     let mut handle = JoinHandle::of_task(task);
-    if let Poll::Ready(()) = count.poll(rt, alloc, &mut cx) {
-        return Ok(false);
+    if count.poll(rt, alloc, cx).is_ready() {
+        return false;
     }
-    let waits = handle.poll(rt, alloc, &mut cx);
-    let counted = count.poll(rt, alloc, &mut cx);
-    let ended = cx.tasks.end_turn(Poll::Ready(5));
-    let output = handle.poll(rt, alloc, &mut cx);
-    let again = handle.poll(rt, alloc, &mut cx);
-    let finished = handle.is_finished(&cx);
-    let dropped = handle.cancel_join(&mut cx);
-    Ok(
-        waits == Poll::Pending
-            && counted == Poll::Ready(())
-            && ended == Ended::Done
-            && output == Poll::Ready(Ok(5))
-            && again == Poll::Ready(Err(TaskError::Taken))
-            && finished == Ok(true)
-            && dropped == Ok(None),
-    )
+    let waits = handle.poll(rt, alloc, cx) == Poll::Pending;
+    let counted = count.poll(rt, alloc, cx).is_ready();
+    let ended = cx.tasks.end_turn(Poll::Ready(5)) == Ended::Done;
+    let output = handle.poll(rt, alloc, cx) == Poll::Ready(Ok(5));
+    let again = handle.poll(rt, alloc, cx) == Poll::Ready(Err(TaskError::Taken));
+    let finished = handle.is_finished(cx) == Ok(true);
+    let dropped = handle.cancel_join(cx) == Ok(None);
+    waits && counted && ended && output && again && finished && dropped
 }
 
 #[test]
 fn futures(rt: HostRuntime) {
-    assert_eq!(rt; two_futures(&rt, rt.alloc()), Ok(true));
+    let mut cx = empty_board(rt.alloc(), 2).expect(&rt, "memory");
+    assert!(rt; two_futures(&rt, rt.alloc(), &mut cx));
 }

@@ -1,50 +1,23 @@
 //! Intervals and timeouts on a small context.
-ghost use Rattle.std.specs.Prelude.{◌≡◌, ◌<◌, ◌≤◌, ◌*◌, ◌^◌, false};
-ghost use Rattle.std.specs.Duration.{as_nanos};
+ghost use Rattle.std.specs.Prelude.{◌≡◌, false};
 
-use crate::desks::Desk;
+use crate::desks::{Desk, at_millis, empty_desk, fires, polled};
 use mono_model::Host;
 use mono_task::{Poll, TaskFuture};
 use mono_time::*;
-use mono_wheel::Steps;
 use std::alloc::Global;
-use std::marker::Brand;
-use std::sync::ledger::{Blank, Ledger};
-use std::test::Fail;
 use std::time::Duration;
 
-fn at_millis(millis: u64) -> Instant
-    requires { millis < 2 ^ 63 }
-{
-    match Instant::from_nanos(millis as u128 * 1000000) {
-        Some(instant) => instant,
-        None => unreachable!(),
-    }
-}
-
-fn desk(alloc: Global) -> Result<Desk, Fail> {
-    Ok(Desk {
-        me: 7,
-        now: at_millis(0),
-        is_out_of_memory: false,
-        timers: Timers::new(alloc, 4, true)?,
-    })
-}
-
 // Goes to a time, by a clock step in which at most one sleep fires.
-fn go_to<L: Ledger>(cx: &mut Desk, millis: u64, steps: &mut Steps<L>)
-    requires { millis < 2 ^ 63 }
-{
+fn go_to(cx: &mut Desk, millis: u32) {
     let now = at_millis(millis);
     cx.now = now;
-    let _ = cx.timers.clock(now, steps);
-    let _ = cx.timers.clock(now, steps);
+    let _ = fires(&mut cx.timers, now);
+    let _ = fires(&mut cx.timers, now);
 }
 
 // Whether a poll of the interval answers this tick.
-fn ticks_at(cx: &mut Desk, interval: &mut Interval, millis: u64) -> bool
-    requires { millis < 2 ^ 63 }
-{
+fn ticks_at(cx: &mut Desk, interval: &mut Interval, millis: u32) -> bool {
     interval.poll_tick(cx) == Ok(Poll::Ready(at_millis(millis)))
 }
 
@@ -52,116 +25,104 @@ fn waits(cx: &mut Desk, interval: &mut Interval) -> bool {
     interval.poll_tick(cx) == Ok(Poll::Pending)
 }
 
-// Whether the interval ticks at this time, and no sooner than then once more.
-fn ticks_once<L: Ledger>(
-    cx: &mut Desk,
-    interval: &mut Interval,
-    millis: u64,
-    steps: &mut Steps<L>,
-) -> bool
-    requires { millis < 2 ^ 63 }
-{
-    go_to(cx, millis, steps);
-    ticks_at(cx, interval, millis) && waits(cx, interval)
+// Whether the interval ticks at each of these times, and no sooner than then once more.
+fn ticks_once(cx: &mut Desk, interval: &mut Interval, times: &[u32]) -> bool {
+    for millis in times {
+        go_to(cx, *millis);
+        if !ticks_at(cx, interval, *millis) || !waits(cx, interval) {
+            return false;
+        }
+    }
+    true
 }
 
 // An interval from now on, and one from a start.
-fn in_time<L: Ledger>(alloc: Global, steps: &mut Steps<L>) -> Result<bool, Fail> {
-    let mut cx = desk(alloc)?;
-    let mut now = interval(alloc, &mut cx, Duration::from_millis(10))?;
-    let mut later = interval_at(alloc, &mut cx, at_millis(50), Duration::from_millis(10))?;
-    Ok(
-        ticks_once(&mut cx, &mut now, 0, steps)
-            && ticks_once(&mut cx, &mut now, 10, steps)
-            && ticks_once(&mut cx, &mut now, 20, steps)
-            && ticks_once(&mut cx, &mut later, 50, steps)
-            && ticks_once(&mut cx, &mut later, 60, steps)
-            && ticks_once(&mut cx, &mut later, 70, steps),
-    )
+fn in_time(alloc: Global, cx: &mut Desk) -> bool {
+    let Ok(mut now) = interval(alloc, cx, Duration::from_millis(10)) else {
+        return false;
+    };
+    let Ok(mut later) = interval_at(alloc, cx, at_millis(50), Duration::from_millis(10)) else {
+        return false;
+    };
+    ticks_once(cx, &mut now, &[0, 10, 20]) && ticks_once(cx, &mut later, &[50, 60, 70])
 }
 
 // Ticks that were missed follow at once.
-fn burst<L: Ledger>(alloc: Global, steps: &mut Steps<L>) -> Result<bool, Fail> {
-    let mut cx = desk(alloc)?;
-    let mut ticks = interval(alloc, &mut cx, Duration::from_millis(50))?;
-    go_to(&mut cx, 199, steps);
-    Ok(
-        ticks.period().as_nanos() == 50000000
-            && ticks.missed_tick_behavior() == MissedTickBehavior::default()
-            && ticks_at(&mut cx, &mut ticks, 0)
-            && ticks_at(&mut cx, &mut ticks, 50)
-            && ticks_at(&mut cx, &mut ticks, 100)
-            && ticks_at(&mut cx, &mut ticks, 150)
-            && waits(&mut cx, &mut ticks),
-    )
-}
-
-// An interval of 50 ms from a start, with the tick of that start polled at a time: the next deadline.
-fn next_deadline<L: Ledger>(
-    alloc: Global,
-    steps: &mut Steps<L>,
-    behavior: MissedTickBehavior,
-    start: u64,
-    now: u64,
-) -> Result<u128, Fail>
-    requires start { start < 2 ^ 63 }
-    requires now { now < 2 ^ 63 }
-{
-    let mut cx = desk(alloc)?;
-    let mut ticks = interval_at(alloc, &mut cx, at_millis(start), Duration::from_millis(50))?;
-    ticks.set_missed_tick_behavior(behavior);
-    go_to(&mut cx, now, steps);
-    let ticked = ticks_at(&mut cx, &mut ticks, start);
-    go_to(&mut cx, 1000, steps);
-    let next = match ticks.poll_tick(&mut cx) {
-        Ok(Poll::Ready(deadline)) => deadline.as_nanos(),
-        _ => 0,
+fn burst(alloc: Global, cx: &mut Desk) -> bool {
+    let Ok(mut ticks) = interval(alloc, cx, Duration::from_millis(50)) else {
+        return false;
     };
-    ticks.cancel(&mut cx);
-    if ticked { Ok(next / 1000000) } else { Ok(0) }
+    go_to(cx, 199);
+    for millis in [0, 50, 100, 150] {
+        if !ticks_at(cx, &mut ticks, millis) {
+            return false;
+        }
+    }
+    waits(cx, &mut ticks)
+        && ticks.period().as_nanos() == 50000000
+        && ticks.missed_tick_behavior() == MissedTickBehavior::default()
 }
 
-// One tick that came late enough to be missed, or 5 ms late, which is not.
-fn late<L: Ledger>(
+// An interval of 50 ms from a start, with the tick of that start polled at a time: the next deadline in milliseconds.
+fn next_deadline(
     alloc: Global,
-    steps: &mut Steps<L>,
+    cx: &mut Desk,
     behavior: MissedTickBehavior,
-) -> Result<(u128, u128), Fail> {
-    let in_time = next_deadline(alloc, steps, behavior, 100, 105)?;
-    let missed = next_deadline(alloc, steps, behavior, 100, 106)?;
-    Ok((in_time, missed))
+    start: u32,
+    now: u32,
+) -> Option<u128> {
+    let mut ticks = interval_at(alloc, cx, at_millis(start), Duration::from_millis(50)).ok()?;
+    ticks.set_missed_tick_behavior(behavior);
+    go_to(cx, now);
+    if !ticks_at(cx, &mut ticks, start) {
+        return None;
+    }
+    go_to(cx, 1000);
+    let next = ticks.poll_tick(cx);
+    ticks.cancel(cx);
+    match next {
+        Ok(Poll::Ready(deadline)) => Some(deadline.as_nanos() / 1000000),
+        _ => None,
+    }
 }
 
-fn next_deadlines<L: Ledger>(alloc: Global, steps: &mut Steps<L>) -> Result<bool, Fail> {
-    let skips = next_deadline(alloc, steps, MissedTickBehavior::Skip, 0, 75)?;
-    let delays = next_deadline(alloc, steps, MissedTickBehavior::Delay, 0, 200)?;
-    let burst = late(alloc, steps, MissedTickBehavior::Burst)?;
-    let delay = late(alloc, steps, MissedTickBehavior::Delay)?;
-    let skip = late(alloc, steps, MissedTickBehavior::Skip)?;
-    Ok(
-        skips == 100
-            && delays == 250
-            && burst == (150, 150)
-            && delay == (150, 156)
-            && skip == (150, 150),
-    )
+// The same on a new desk.
+fn next_of_new(alloc: Global, behavior: MissedTickBehavior, start: u32, now: u32) -> Option<u128> {
+    let mut cx = empty_desk(alloc, at_millis(0))?;
+    next_deadline(alloc, &mut cx, behavior, start, now)
 }
 
-fn intervals<L: Ledger>(alloc: Global, blank: Blank) -> Result<bool, Fail>
-    requires { (blank.name ≡ L.name) × (blank.parts ≡ L.parts) × (0 < L.parts) }
-{
-    let mut steps: Steps<L> = Steps::new(blank);
-    Ok(
-        in_time(alloc, &mut steps)?
-            && burst(alloc, &mut steps)?
-            && next_deadlines(alloc, &mut steps)?,
-    )
+// The number of the first interval whose next deadline is another, or none.
+fn wrong_deadline(alloc: Global) -> Option<usize> {
+    // a tick that is 5 ms late is not missed
+    let cases = [
+        (MissedTickBehavior::Skip, 0, 75, 100),
+        (MissedTickBehavior::Delay, 0, 200, 250),
+        (MissedTickBehavior::Burst, 100, 105, 150),
+        (MissedTickBehavior::Burst, 100, 106, 150),
+        (MissedTickBehavior::Delay, 100, 105, 150),
+        (MissedTickBehavior::Delay, 100, 106, 156),
+        (MissedTickBehavior::Skip, 100, 105, 150),
+        (MissedTickBehavior::Skip, 100, 106, 150),
+    ];
+    let mut number = 0usize;
+    for (behavior, start, now, next) in cases {
+        if next_of_new(alloc, behavior, start, now) != Some(next) {
+            return Some(number);
+        }
+        number = number.wrapping_add(1);
+    }
+    None
 }
 
 #[test]
-fn interval_ticks(rt: HostRuntime) -> Result<(), Fail> {
-    assert!(rt; intervals::<Brand>(rt.alloc(), Blank::new(1))?);
-    Ok(())
+fn interval_ticks(rt: HostRuntime) {
+    let alloc = rt.alloc();
+    let mut cx = empty_desk(alloc, at_millis(0)).expect(&rt, "memory");
+    assert!(rt; in_time(alloc, &mut cx));
+    let mut cx = empty_desk(alloc, at_millis(0)).expect(&rt, "memory");
+    assert!(rt; burst(alloc, &mut cx));
+    assert_eq!(rt; wrong_deadline(alloc), None);
 }
 
 // A future that answers the same at each poll.
@@ -170,7 +131,7 @@ struct Answer {
     value: Option<u64>,
 }
 
-impl<C: TimeContext> TaskFuture<C> for Answer {
+impl TaskFuture<Desk> for Answer {
     type Output = u64;
 
     ghost is_spent = { λ f. false };
@@ -183,64 +144,49 @@ impl<C: TimeContext> TaskFuture<C> for Answer {
         false
     }
 
-    fn poll<R: Host>(&mut self, _rt: &R, _alloc: Global, _cx: &mut C) -> Poll<u64> {
+    fn poll<R: Host>(&mut self, _rt: &R, _alloc: Global, _cx: &mut Desk) -> Poll<u64> {
         match self.value {
             Some(value) => Poll::Ready(value),
             None => Poll::Pending,
         }
     }
 
-    fn cancel(self, _cx: &mut C) {}
+    fn cancel(self, _cx: &mut Desk) {}
 }
 
-// One poll of a future with a deadline.
-fn one_poll<C: TimeContext, F: TaskFuture<C>, R: Host>(
+// What a future with a deadline that has come answers.
+fn limited<R: Host>(
     rt: &R,
     alloc: Global,
-    cx: &mut C,
-    future: &mut F,
-) -> Poll<F::Output>
-    requires unspent { F.is_spent future.old ≡ false }
-    requires callable { F.can_poll future.old }
-{
-    future.poll(rt, alloc, cx)
+    cx: &mut Desk,
+    value: Option<u64>,
+) -> Option<Poll<Result<u64, TimeoutError>>> {
+    match timeout_at(alloc, cx, at_millis(0), Answer { value }) {
+        Ok(mut limited) => Some(polled(rt, alloc, cx, &mut limited)),
+        Err(_) => None,
+    }
+}
+
+fn taken_back(alloc: Global, cx: &mut Desk) -> bool {
+    let value = Answer { value: Some(6) };
+    let Ok(timeout) = timeout(alloc, cx, Duration::from_secs(1), value) else {
+        return false;
+    };
+    let kept = timeout.get_ref().value;
+    let back = timeout.into_inner(cx);
+    kept == Some(6) && back.value == Some(6) && cx.sleep_elapsed(0) == Err(Error::Shutdown)
 }
 
 // A value that is ready is answered, and one that is not has elapsed: its delay stays.
-fn limits<R: Host>(rt: &R, alloc: Global) -> Result<bool, Fail> {
-    let mut cx = desk(alloc)?;
-    let ready = Answer { value: Some(5) };
-    let Ok(mut first) = timeout_at(alloc, &mut cx, at_millis(0), ready) else {
-        return Ok(false);
-    };
-    let value = one_poll(rt, alloc, &mut cx, &mut first);
-    let pending = Answer { value: None };
-    let Ok(mut second) = timeout_at(alloc, &mut cx, at_millis(0), pending) else {
-        return Ok(false);
-    };
-    let late = one_poll(rt, alloc, &mut cx, &mut second);
-    Ok(
-        value == Poll::Ready(Ok(5))
-            && late == Poll::Ready(Err(TimeoutError::Elapsed(Elapsed)))
-            && cx.sleep_elapsed(0) == Err(Error::Shutdown)
-            && cx.sleep_elapsed(1) == Ok(true),
-    )
-}
-
-fn taken_back(alloc: Global) -> Result<bool, Fail> {
-    let mut cx = desk(alloc)?;
-    let value = Answer { value: Some(6) };
-    let Ok(timeout) = timeout(alloc, &mut cx, Duration::from_secs(1), value) else {
-        return Ok(false);
-    };
-    let kept = timeout.get_ref().value;
-    let back = timeout.into_inner(&mut cx);
-    Ok(kept == Some(6) && back.value == Some(6) && cx.sleep_elapsed(0) == Err(Error::Shutdown))
-}
-
 #[test]
-fn timeouts(rt: HostRuntime) -> Result<(), Fail> {
-    assert!(rt; limits(&rt, rt.alloc())?);
-    assert!(rt; taken_back(rt.alloc())?);
-    Ok(())
+fn timeouts(rt: HostRuntime) {
+    let alloc = rt.alloc();
+    let mut cx = empty_desk(alloc, at_millis(0)).expect(&rt, "memory");
+    assert!(rt; limited(&rt, alloc, &mut cx, Some(5)) == Some(Poll::Ready(Ok(5))));
+    let late = Some(Poll::Ready(Err(TimeoutError::Elapsed(Elapsed))));
+    assert!(rt; limited(&rt, alloc, &mut cx, None) == late);
+    assert!(rt; cx.sleep_elapsed(0) == Err(Error::Shutdown));
+    assert!(rt; cx.sleep_elapsed(1) == Ok(true));
+    let mut cx = empty_desk(alloc, at_millis(0)).expect(&rt, "memory");
+    assert!(rt; taken_back(alloc, &mut cx));
 }

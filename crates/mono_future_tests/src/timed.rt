@@ -1,239 +1,257 @@
 //! The table of sleeps, call by call, and sleeps on a small context.
-ghost use Rattle.std.specs.Prelude.{◌≡◌, ◌<◌, false};
-
-use crate::desks::Desk;
+use crate::desks::{Desk, at_millis, empty_desk, fires, polled};
 use mono_model::{Host, MAX_NANOS};
 use mono_task::{Poll, TaskFuture};
 use mono_time::*;
-use mono_wheel::Steps;
 use std::alloc::Global;
-use std::marker::Brand;
-use std::sync::ledger::{Blank, Ledger};
-use std::test::Fail;
 use std::time::Duration;
 
-fn at(nanos: u128) -> Result<Instant, Fail> {
-    Ok(Instant::from_nanos(nanos).ok_or("no instant")?)
+/// A call on timers, with what it answers. Those that take a time take it from beside the call.
+#[derive(Drop)]
+enum Call {
+    Add(Result<u64, SleepError>),
+    Poll(u64, u64, Result<Poll<()>, Error>),
+    Reset(u64, Result<Option<u64>, Error>),
+    Remove(u64, Result<(), Error>),
+    IsElapsed(u64, Result<bool, Error>),
+    Next(Option<u64>),
+    Clock(Option<(u64, Option<u64>)>),
+    Greatest(u64),
 }
 
-fn at_millis(millis: u128) -> Instant
-    requires { millis < 9000000000000 }
-{
-    match Instant::from_nanos(millis * 1000000) {
-        Some(instant) => instant,
-        None => unreachable!(),
+/// Whether a call answers what stands there.
+fn answers(alloc: Global, timers: &mut Timers, at: Instant, call: &Call) -> bool {
+    match call {
+        Call::Add(told) => timers.add(alloc, at) == *told,
+        Call::Poll(sleep, by, told) => timers.poll(*sleep, *by) == *told,
+        Call::Reset(sleep, told) => timers.reset(*sleep, at) == *told,
+        Call::Remove(sleep, told) => timers.remove(*sleep) == *told,
+        Call::IsElapsed(sleep, told) => timers.is_elapsed(*sleep) == *told,
+        Call::Next(told) => timers.next_expiration_time() == *told,
+        Call::Clock(told) => fires(timers, at) == *told,
+        Call::Greatest(told) => timers.greatest() == *told,
     }
 }
 
-// A first poll of a sleep for a deadline: whether it is ready, and the next tick.
-fn first_poll(alloc: Global, nanos: u128) -> Result<(bool, Option<u64>), Fail> {
-    let mut timers = Timers::new(alloc, 1, true)?;
-    let sleep = timers.add(alloc, at(nanos)?)?;
-    let answer = timers.poll(sleep, 0)?;
-    Ok((answer.is_ready(), timers.next_expiration_time()))
+/// The number of the first of these calls that answers something else, or none. Each stands behind its time in nanoseconds.
+fn first_wrong(alloc: Global, timers: &mut Timers, calls: &[(u128, Call)]) -> Option<usize> {
+    let mut number = 0usize;
+    for (nanos, call) in calls {
+        let Some(at) = Instant::from_nanos(*nanos) else {
+            return Some(number);
+        };
+        if !answers(alloc, timers, at, call) {
+            return Some(number);
+        }
+        number = number.wrapping_add(1);
+    }
+    None
+}
+
+/// The same on new timers.
+fn first_wrong_of(alloc: Global, limit: u64, calls: &[(u128, Call)]) -> Option<usize> {
+    match Timers::new(alloc, limit, true) {
+        Ok(mut timers) => first_wrong(alloc, &mut timers, calls),
+        Err(_) => Some(usize::MAX),
+    }
 }
 
 // Each rounding of the deadline.
-fn first_polls(alloc: Global) -> Result<bool, Fail> {
-    Ok(
-        first_poll(alloc, 0)? == (true, None)
-            && first_poll(alloc, 1)? == (false, Some(1))
-            && first_poll(alloc, 1000000)? == (false, Some(1))
-            && first_poll(alloc, 1000001)? == (false, Some(2)),
-    )
+#[test]
+fn first_polls(rt: HostRuntime) {
+    let cases = [
+        (0, Poll::Ready(()), None),
+        (1, Poll::Pending, Some(1)),
+        (1000000, Poll::Pending, Some(1)),
+        (1000001, Poll::Pending, Some(2)),
+    ];
+    for (nanos, answer, next) in cases {
+        let calls = [
+            (nanos, Call::Add(Ok(0))),
+            (0, Call::Poll(0, 0, Ok(answer))),
+            (0, Call::Next(next)),
+        ];
+        assert_eq!(rt; first_wrong_of(rt.alloc(), 1, &calls), None);
+    }
 }
 
 // Refusals, and a sleep from its making to its removal.
-fn one_sleep(alloc: Global) -> Result<bool, Fail> {
-    let now = at_millis(0);
-    let mut timers = Timers::new(alloc, 1, true)?;
-    let first = timers.add(alloc, now);
-    let full = timers.add(alloc, now);
-    let fresh = timers.is_elapsed(0);
-    let ready = timers.poll(0, 4);
-    let elapsed = timers.is_elapsed(0);
-    let removed = timers.remove(0);
-    let gone = timers.poll(0, 4);
-    let next = timers.add(alloc, now);
-    Ok(
-        first == Ok(0)
-            && full == Err(SleepError::Timer(Error::AtCapacity))
-            && fresh == Ok(false)
-            && ready == Ok(Poll::Ready(()))
-            && elapsed == Ok(true)
-            && removed == Ok(())
-            && gone == Err(Error::Shutdown)
-            && next == Ok(1),
-    )
+#[test]
+fn one_sleep(rt: HostRuntime) {
+    let calls = [
+        (0, Call::Add(Ok(0))),
+        (0, Call::Add(Err(SleepError::Timer(Error::AtCapacity)))),
+        (0, Call::IsElapsed(0, Ok(false))),
+        (0, Call::Poll(0, 4, Ok(Poll::Ready(())))),
+        (0, Call::IsElapsed(0, Ok(true))),
+        (0, Call::Remove(0, Ok(()))),
+        (0, Call::Poll(0, 4, Err(Error::Shutdown))),
+        (0, Call::Add(Ok(1))),
+    ];
+    assert_eq!(rt; first_wrong_of(rt.alloc(), 1, &calls), None);
+    let mut none = Timers::new(rt.alloc(), 1, false).expect(&rt, "memory");
+    let refused = none.add(rt.alloc(), at_millis(0));
+    assert!(rt; refused == Err(SleepError::Timer(Error::Shutdown)));
 }
 
-fn no_timers(alloc: Global) -> Result<bool, Fail> {
-    let mut none = Timers::new(alloc, 1, false)?;
-    let refused = none.add(alloc, at_millis(0));
-    Ok(refused == Err(SleepError::Timer(Error::Shutdown)))
-}
-
-// Timers with a sleep for each of two ticks, which tasks 3 and 4 wait for. The second sleep was armed first.
-fn two_armed(alloc: Global, first: Instant, second: Instant) -> Result<Timers, Fail> {
-    let mut timers = Timers::new(alloc, 3, true)?;
-    timers.add(alloc, first)?;
-    timers.add(alloc, second)?;
-    timers.poll(1, 4)?;
-    timers.poll(0, 3)?;
-    Ok(timers)
+// Sleeps for two instants, which tasks 3 and 4 wait for, and calls on them. The second sleep was armed first.
+fn first_wrong_of_two(
+    alloc: Global,
+    first: u128,
+    second: u128,
+    calls: &[(u128, Call)],
+) -> Option<usize> {
+    let arms = [
+        (first, Call::Add(Ok(0))),
+        (second, Call::Add(Ok(1))),
+        (0, Call::Poll(1, 4, Ok(Poll::Pending))),
+        (0, Call::Poll(0, 3, Ok(Poll::Pending))),
+    ];
+    let Ok(mut timers) = Timers::new(alloc, 3, true) else {
+        return Some(usize::MAX);
+    };
+    match first_wrong(alloc, &mut timers, &arms) {
+        Some(_) => Some(usize::MAX),
+        None => first_wrong(alloc, &mut timers, calls),
+    }
 }
 
 // Sleeps of one tick fire as they were armed, each with the task that polled it last.
-fn ties<L: Ledger>(alloc: Global, steps: &mut Steps<L>) -> Result<bool, Fail> {
-    let tick = at_millis(100);
-    let mut timers = two_armed(alloc, tick, tick)?;
-    timers.poll(1, 8)?;
-    let next = timers.next_expiration_time();
-    let none = timers.clock(at_millis(64), steps);
-    let first = timers.clock(tick, steps);
-    let second = timers.clock(tick, steps);
-    let last = timers.clock(tick, steps);
-    Ok(
-        next == Some(64)
-            && none == None
-            && first == Some((1, Some(8)))
-            && second == Some((0, Some(3)))
-            && last == None
-            && timers.next_expiration_time() == None,
-    )
+#[test]
+fn ties(rt: HostRuntime) {
+    let calls = [
+        (0, Call::Poll(1, 8, Ok(Poll::Pending))),
+        (0, Call::Next(Some(64))),
+        (64000000, Call::Clock(None)),
+        (100000000, Call::Clock(Some((1, Some(8))))),
+        (100000000, Call::Clock(Some((0, Some(3))))),
+        (100000000, Call::Clock(None)),
+        (0, Call::Next(None)),
+    ];
+    assert_eq!(rt;
+        first_wrong_of_two(rt.alloc(), 100000000, 100000000, &calls),
+        None
+    );
 }
 
 // Sleeps that are moved later and earlier.
-fn moves<L: Ledger>(alloc: Global, steps: &mut Steps<L>) -> Result<bool, Fail> {
-    let mut timers = two_armed(alloc, at_millis(50), at_millis(90))?;
-    let later = timers.reset(0, at_millis(80));
-    let earlier = timers.reset(1, at_millis(60));
-    let none = timers.clock(at_millis(50), steps);
-    let first = timers.clock(at_millis(80), steps);
-    let second = timers.clock(at_millis(80), steps);
-    Ok(
-        later == Ok(None)
-            && earlier == Ok(None)
-            && none == None
-            && first == Some((1, Some(4)))
-            && second == Some((0, Some(3))),
-    )
+#[test]
+fn moves(rt: HostRuntime) {
+    let calls = [
+        (80000000, Call::Reset(0, Ok(None))),
+        (60000000, Call::Reset(1, Ok(None))),
+        (50000000, Call::Clock(None)),
+        (80000000, Call::Clock(Some((1, Some(4))))),
+        (80000000, Call::Clock(Some((0, Some(3))))),
+    ];
+    assert_eq!(rt;
+        first_wrong_of_two(rt.alloc(), 50000000, 90000000, &calls),
+        None
+    );
 }
 
 // The clock does not go back, and a sleep that is moved to a tick that has passed hands out its task.
-fn passes<L: Ledger>(alloc: Global, steps: &mut Steps<L>) -> Result<bool, Fail> {
-    let mut timers = two_armed(alloc, at_millis(90), at_millis(90))?;
-    let none = timers.clock(at_millis(80), steps);
-    let back = timers.clock(at_millis(5), steps);
-    let passed = timers.reset(1, at_millis(80));
-    Ok(none == None && back == None && timers.greatest() == 80 && passed == Ok(Some(4)))
+#[test]
+fn passes(rt: HostRuntime) {
+    let calls = [
+        (80000000, Call::Clock(None)),
+        (5000000, Call::Clock(None)),
+        (80000000, Call::Reset(1, Ok(Some(4)))),
+        (0, Call::Greatest(80)),
+    ];
+    assert_eq!(rt;
+        first_wrong_of_two(rt.alloc(), 90000000, 90000000, &calls),
+        None
+    );
 }
 
 // Of two sleeps that are far apart the nearer one fires first.
-fn far_apart<L: Ledger>(alloc: Global, steps: &mut Steps<L>) -> Result<bool, Fail> {
-    let near = at_millis(0x10_0000_0000);
-    let mut timers = two_armed(alloc, at_millis(0x400_0000_0000), near)?;
-    let fired = timers.clock(near, steps);
-    let none = timers.clock(near, steps);
-    Ok(fired == Some((1, Some(4))) && none == None && timers.is_elapsed(0) == Ok(false))
+#[test]
+fn far_apart(rt: HostRuntime) {
+    let near = 0x10_0000_0000 * 1000000;
+    let calls = [
+        (near, Call::Clock(Some((1, Some(4))))),
+        (near, Call::Clock(None)),
+        (0, Call::IsElapsed(0, Ok(false))),
+    ];
+    let far = 0x400_0000_0000 * 1000000;
+    assert_eq!(rt; first_wrong_of_two(rt.alloc(), far, near, &calls), None);
+}
+
+/// Whether a whole clock step fires these sleeps at once, behind what the list has.
+fn fire(
+    alloc: Global,
+    timers: &mut Timers,
+    millis: u32,
+    fired: &mut Vec<(u64, Option<u64>)>,
+    told: &[(u64, Option<u64>)],
+) -> bool {
+    timers.fire_all(alloc, at_millis(millis), fired).is_ok() && fired.as_slice() == told
 }
 
 // A whole clock step at once, behind what the list has.
-fn at_once<L: Ledger>(alloc: Global, steps: &mut Steps<L>) -> Result<bool, Fail> {
-    let mut timers = two_armed(alloc, at_millis(90), at_millis(80))?;
-    let mut fired = Vec::new(alloc);
-    fired.push((7, None))?;
-    timers.fire_all(alloc, at_millis(85), &mut fired)?;
-    timers.fire_all(alloc, at_millis(90), &mut fired)?;
-    let none = timers.clock(at_millis(90), steps);
-    Ok(
-        fired.as_slice() == [(7, None), (1, Some(4)), (0, Some(3))].as_slice()
-            && timers.live() == 2
-            && none == None,
-    )
-}
-
-fn clock_steps<L: Ledger>(alloc: Global, blank: Blank) -> Result<bool, Fail>
-    requires { (blank.name ≡ L.name) × (blank.parts ≡ L.parts) × (0 < L.parts) }
-{
-    let mut steps: Steps<L> = Steps::new(blank);
-    Ok(
-        ties(alloc, &mut steps)?
-            && moves(alloc, &mut steps)?
-            && passes(alloc, &mut steps)?
-            && far_apart(alloc, &mut steps)?
-            && at_once(alloc, &mut steps)?,
-    )
-}
-
 #[test]
-fn timers(rt: HostRuntime) -> Result<(), Fail> {
+fn at_once(rt: HostRuntime) {
     let alloc = rt.alloc();
-    assert!(rt; first_polls(alloc)?);
-    assert!(rt; one_sleep(alloc)?);
-    assert!(rt; no_timers(alloc)?);
-    assert!(rt; clock_steps::<Brand>(alloc, Blank::new(1))?);
-    Ok(())
-}
-
-fn desk(alloc: Global, now: Instant) -> Result<Desk, Fail> {
-    Ok(Desk {
-        me: 7,
-        now,
-        is_out_of_memory: false,
-        timers: Timers::new(alloc, 4, true)?,
-    })
-}
-
-// A future's poll, through its bound.
-fn polled<C: TimeContext, F: TaskFuture<C>, R: Host>(
-    rt: &R,
-    alloc: Global,
-    cx: &mut C,
-    future: &mut F,
-) -> Poll<F::Output>
-    requires unspent { F.is_spent future.old ≡ false }
-    requires callable { F.can_poll future.old }
-{
-    future.poll(rt, alloc, cx)
+    let mut timers = Timers::new(alloc, 3, true).expect(&rt, "memory");
+    let arms = [
+        (90000000, Call::Add(Ok(0))),
+        (80000000, Call::Add(Ok(1))),
+        (0, Call::Poll(1, 4, Ok(Poll::Pending))),
+        (0, Call::Poll(0, 3, Ok(Poll::Pending))),
+    ];
+    assert_eq!(rt; first_wrong(alloc, &mut timers, &arms), None);
+    let mut fired = Vec::new(alloc);
+    assert!(rt; fired.push((7, None)).is_ok());
+    assert!(rt;
+        fire(
+            alloc,
+            &mut timers,
+            85,
+            &mut fired,
+            &[(7, None), (1, Some(4))]
+        )
+    );
+    let all = [(7, None), (1, Some(4)), (0, Some(3))];
+    assert!(rt; fire(alloc, &mut timers, 90, &mut fired, &all));
+    assert!(rt; timers.live() == 2 && fires(&mut timers, at_millis(90)) == None);
 }
 
 // Deadlines that are too far off.
-fn far_off(alloc: Global) -> Result<bool, Fail> {
-    let mut cx = desk(alloc, at(0)?)?;
-    let far = sleep(alloc, &mut cx, Duration::MAX)?;
-    let same = sleep_until(alloc, &mut cx, far.deadline())?;
-    let mut end = desk(alloc, at(MAX_NANOS)?)?;
-    let invalid = sleep(alloc, &mut end, Duration::MAX);
-    Ok(
-        far.deadline().as_nanos() == 946080000000000000
-            && same.deadline() == far.deadline()
-            && same.number() == 1
-            && invalid == Err(SleepError::Timer(Error::Invalid)),
-    )
+fn far_off(alloc: Global, cx: &mut Desk) -> bool {
+    let Ok(far) = sleep(alloc, cx, Duration::MAX) else {
+        return false;
+    };
+    let Ok(same) = sleep_until(alloc, cx, far.deadline()) else {
+        return false;
+    };
+    far.deadline().as_nanos() == 946080000000000000
+        && same.deadline() == far.deadline()
+        && same.number() == 1
 }
 
 // A sleep that waits, is moved and is given up.
-fn sleeps<R: Host>(rt: &R, alloc: Global) -> Result<bool, Fail> {
-    let mut cx = desk(alloc, at_millis(0))?;
-    let mut short = sleep(alloc, &mut cx, Duration::from_millis(3))?;
-    let waits = polled(rt, alloc, &mut cx, &mut short);
-    let moved = short.reset(&mut cx, at_millis(0));
-    let elapsed = short.is_elapsed(&cx);
-    let ready = polled(rt, alloc, &mut cx, &mut short);
-    short.cancel(&mut cx);
-    Ok(
-        waits == Poll::Pending
-            && moved == Ok(())
-            && elapsed == Ok(true)
-            && ready == Poll::Ready(Ok(()))
-            && cx.sleep_elapsed(0) == Err(Error::Shutdown),
-    )
+fn sleeps<R: Host>(rt: &R, alloc: Global, cx: &mut Desk) -> bool {
+    let Ok(mut short) = sleep(alloc, cx, Duration::from_millis(3)) else {
+        return false;
+    };
+    let waits = polled(rt, alloc, cx, &mut short).is_pending();
+    let moved = short.reset(cx, at_millis(0)) == Ok(());
+    let elapsed = short.is_elapsed(cx) == Ok(true);
+    let ready = polled(rt, alloc, cx, &mut short) == Poll::Ready(Ok(()));
+    short.cancel(cx);
+    waits && moved && elapsed && ready && cx.sleep_elapsed(0) == Err(Error::Shutdown)
 }
 
 #[test]
-fn futures(rt: HostRuntime) -> Result<(), Fail> {
-    assert!(rt; far_off(rt.alloc())?);
-    assert!(rt; sleeps(&rt, rt.alloc())?);
-    Ok(())
+fn futures(rt: HostRuntime) {
+    let alloc = rt.alloc();
+    let mut cx = empty_desk(alloc, at_millis(0)).expect(&rt, "memory");
+    assert!(rt; sleeps(&rt, alloc, &mut cx));
+    let mut cx = empty_desk(alloc, at_millis(0)).expect(&rt, "memory");
+    assert!(rt; far_off(alloc, &mut cx));
+    let end = Instant::from_nanos(MAX_NANOS).expect(&rt, "an instant");
+    let mut cx = empty_desk(alloc, end).expect(&rt, "memory");
+    let invalid = sleep(alloc, &mut cx, Duration::MAX);
+    assert!(rt; invalid == Err(SleepError::Timer(Error::Invalid)));
 }

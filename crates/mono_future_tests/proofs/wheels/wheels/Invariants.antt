@@ -1,4 +1,4 @@
 use Rattle.mono_future_tests.proofs.wheels.wheels.Given as goal
 
-abbrev pub ghosts-wheel_calls : goal.ghosts-wheel_calls
-ghosts-wheel_calls g a = record { name = a.blank.name; parts = a.blank.parts }
+abbrev pub ghosts-in_turn_on_new : goal.ghosts-in_turn_on_new
+ghosts-in_turn_on_new g a = record { name = a.blank.name; parts = a.blank.parts }
