@@ -2,9 +2,9 @@
 use mono_inbox::*;
 use mono_model::Host;
 use std::alloc::{AllocError, Global};
+use std::process::Abort;
 use std::sync::Arc;
 use std::sync::atomic::{AtomicU64, Ordering};
-use std::test::Fail;
 use std::thread;
 use std::thread::JoinHandle;
 use std::time::Duration;
@@ -16,71 +16,68 @@ const TASKS: usize = 8;
 const ROUNDS: u64 = 500;
 
 /// All that waits in the state, in order.
-fn drained(alloc: Global, state: &mut InboxState) -> Result<Vec<u64>, AllocError> {
+pub(crate) fn drained<R: Abort>(rt: &R, alloc: Global, state: &mut InboxState) -> Vec<u64> {
     let mut tasks = Vec::new(alloc);
-    tasks.reserve(state.waiting())?;
+    tasks.reserve(state.waiting()).expect(rt, "memory");
     state.drain(&mut tasks);
-    Ok(tasks)
+    tasks
 }
 
 #[test]
-fn a_state_lists_known_tasks_once(rt: HostRuntime) -> Result<(), Fail> {
+fn a_state_lists_known_tasks_once(rt: HostRuntime) {
     let alloc = rt.alloc();
-    let mut state = InboxState::new(alloc, 0)?;
-    state.know(alloc, 3)?;
+    let mut state = InboxState::new(alloc, 0).expect(&rt, "memory");
+    state.know(alloc, 3).expect(&rt, "memory");
     assert!(rt; state.put(3));
     assert!(rt; !state.put(3));
     assert!(rt; !state.put(9));
-    assert_eq!(rt; drained(alloc, &mut state)?.as_slice(), [3].as_slice());
+    assert!(rt; drained(&rt, alloc, &mut state).as_slice() == [3].as_slice());
     state.retire(3);
     assert!(rt; !state.put(3));
-    assert_eq!(rt; state.waiting(), 0);
-    Ok(())
+    assert!(rt; state.waiting() == 0);
 }
 
 #[test]
-fn a_retired_task_waits_until_the_drain(rt: HostRuntime) -> Result<(), Fail> {
+fn a_retired_task_waits_until_the_drain(rt: HostRuntime) {
     let alloc = rt.alloc();
-    let mut state = InboxState::new(alloc, 2)?;
-    state.know(alloc, 7)?;
-    state.know(alloc, 1)?;
+    let mut state = InboxState::new(alloc, 2).expect(&rt, "memory");
+    state.know(alloc, 7).expect(&rt, "memory");
+    state.know(alloc, 1).expect(&rt, "memory");
     assert!(rt; state.put(7));
     assert!(rt; state.put(1));
     state.retire(7);
-    state.know(alloc, 7)?;
+    state.know(alloc, 7).expect(&rt, "memory");
     assert!(rt; !state.put(7));
     state.retire(1);
-    assert_eq!(rt; state.waiting(), 2);
-    assert_eq!(rt; state.drain_one(), Some(7));
-    assert_eq!(rt; state.drain_one(), Some(1));
-    assert_eq!(rt; state.drain_one(), None);
+    assert!(rt; state.waiting() == 2);
+    assert!(rt; state.drain_one() == Some(7));
+    assert!(rt; state.drain_one() == Some(1));
+    assert!(rt; state.drain_one() == None);
     assert!(rt; state.put(7));
     assert!(rt; !state.put(1));
     assert!(rt; state.know(alloc, u64::MAX).is_err());
-    assert_eq!(rt; drained(alloc, &mut state)?.as_slice(), [7].as_slice());
-    Ok(())
+    assert!(rt; drained(&rt, alloc, &mut state).as_slice() == [7].as_slice());
 }
 
 #[test]
-fn an_inbox_drains_in_order(rt: HostRuntime) -> Result<(), Fail> {
+fn an_inbox_drains_in_order(rt: HostRuntime) {
     let alloc = rt.alloc();
-    let inbox = Inbox::new(alloc, 16, NoUnpark)?;
-    let third = inbox.waker(&rt, alloc, 3)?;
-    let fifth = inbox.waker(&rt, alloc, 5)?;
-    assert_eq!(rt; fifth.task(), 5);
+    let mut tasks = Vec::new(alloc);
+    let inbox = Inbox::new(alloc, 16, NoUnpark).expect(&rt, "memory");
+    let third = inbox.waker(&rt, alloc, 3).expect(&rt, "memory");
+    let fifth = inbox.waker(&rt, alloc, 5).expect(&rt, "memory");
+    let third_again = third.clone().expect(&rt, "memory");
+    assert!(rt; fifth.task() == 5);
     assert!(rt; fifth.wake(&rt));
-    let third_again = third.clone()?;
     assert!(rt; third.wake(&rt));
     assert!(rt; !third_again.wake(&rt));
-    let mut tasks = Vec::new(alloc);
-    inbox.drain(&rt, alloc, &mut tasks)?;
-    assert_eq!(rt; tasks.as_slice(), [5, 3].as_slice());
+    inbox.drain(&rt, alloc, &mut tasks).expect(&rt, "memory");
+    assert!(rt; tasks.as_slice() == [5, 3].as_slice());
     inbox.retire(&rt, 3);
     assert!(rt; !third.wake(&rt));
     assert!(rt; fifth.wake(&rt));
-    inbox.drain(&rt, alloc, &mut tasks)?;
-    assert_eq!(rt; tasks.as_slice(), [5, 3, 5].as_slice());
-    Ok(())
+    inbox.drain(&rt, alloc, &mut tasks).expect(&rt, "memory");
+    assert!(rt; tasks.as_slice() == [5, 3, 5].as_slice());
 }
 
 /// A registry of inboxes that unpark nobody.
@@ -159,47 +156,51 @@ fn a_registry_counts_from_sixteen(rt: HostRuntime) {
 }
 
 #[test]
-fn a_token_is_taken_once(rt: HostRuntime) -> Result<(), Fail> {
+fn a_token_is_taken_once(rt: HostRuntime) {
     let mut token = Token::new();
     assert!(rt; !token.take());
     token.set();
     token.set();
     assert!(rt; token.take());
     assert!(rt; !token.take());
-    Ok(())
 }
 
 #[test]
-fn a_park_takes_the_token(rt: HostRuntime) -> Result<(), Fail> {
-    let parker = Parker::new(rt.alloc())?;
-    let handle = parker.handle()?;
+fn a_park_takes_the_token(rt: HostRuntime) {
+    let parker = Parker::new(rt.alloc()).expect(&rt, "memory");
+    let handle = parker.handle().expect(&rt, "memory");
     handle.unpark(&rt);
     parker.park(&rt);
-    handle.clone()?.unpark(&rt);
+    handle.clone().expect(&rt, "memory").unpark(&rt);
     parker.park_timeout(&rt, Duration::from_secs(3600));
     parker.park_timeout(&rt, Duration::from_millis(1));
-    Ok(())
+}
+
+/// Starts a thread that sleeps so long and then unparks.
+fn start_unparking<R: Host + Copy + Send + 'static>(
+    rt: R,
+    handle: UnparkHandle,
+    after: Duration,
+) -> Option<JoinHandle<()>> {
+    thread::spawn(&rt, move || {
+        thread::sleep(&rt, after);
+        handle.unpark(&rt);
+    })
+    .ok()
 }
 
 #[test]
-fn a_park_ends_by_another_thread(rt: HostRuntime) -> Result<(), Fail> {
-    let parker = Parker::new(rt.alloc())?;
-    let early = parker.handle()?;
-    thread::spawn(&rt, move || early.unpark(&rt))
-        .ok()
-        .ok_or("a thread")?
+fn a_park_ends_by_another_thread(rt: HostRuntime) {
+    let parker = Parker::new(rt.alloc()).expect(&rt, "memory");
+    let early = parker.handle().expect(&rt, "memory");
+    start_unparking(rt, early, Duration::ZERO)
+        .expect(&rt, "a thread")
         .join(&rt);
     parker.park(&rt);
-    let late = parker.handle()?;
-    let other = thread::spawn(&rt, move || {
-        thread::sleep(&rt, Duration::from_millis(30));
-        late.unpark(&rt);
-    })
-    .ok()
-    .ok_or("a thread")?;
+    let late = parker.handle().expect(&rt, "memory");
+    let other = start_unparking(rt, late, Duration::from_millis(30)).expect(&rt, "a thread");
     parker.park(&rt);
     other.join(&rt);
-    Ok(())
 }
 
 /// Wakes each task many times, and answers how many wakes were listed.
@@ -245,70 +246,105 @@ fn start_waking<R: Host + Copy + Send + 'static>(
     .ok()
 }
 
-#[test]
-fn four_threads_wake_eight_tasks(rt: HostRuntime) -> Result<(), Fail> {
-    let alloc = rt.alloc();
-    let parker = Parker::new(alloc)?;
-    let inbox = Inbox::new(alloc, 0, parker.handle()?)?;
-    let mut wakers = Vec::new(alloc);
-    for task in 0..TASKS {
-        wakers.push(inbox.waker(&rt, alloc, task as u64)?)?;
-    }
-    let finished = Arc::new(alloc, AtomicU64::new(0))?;
+/// Starts all threads, each with further wakers of the same tasks.
+fn start_all<R: Host + Abort + Copy + Send + 'static>(
+    rt: R,
+    alloc: Global,
+    wakers: &Vec<RemoteWaker<UnparkHandle>>,
+    parker: &Parker,
+    finished: &Arc<AtomicU64, Global>,
+) -> Vec<JoinHandle<u64>> {
     let mut threads = Vec::new(alloc);
     for _ in 0..THREADS {
-        let thread = start_waking(
-            rt,
-            wakers.clone()?,
-            Arc::try_clone(&finished)?,
-            parker.handle()?,
-        );
-        threads.push(thread.ok_or("a thread")?)?;
+        let wakers = wakers.clone().expect(&rt, "memory");
+        let finished = Arc::try_clone(finished).expect(&rt, "memory");
+        let handle = parker.handle().expect(&rt, "memory");
+        let thread = start_waking(rt, wakers, finished, handle).expect(&rt, "a thread");
+        threads.push(thread).expect(&rt, "memory");
     }
-    let mut counts = [0u64; TASKS];
+    threads
+}
+
+/// Drains until all threads have finished, and once more: false where one drain had a task twice or a strange one.
+fn drain_until_all_finished<R: Host>(
+    rt: &R,
+    alloc: Global,
+    inbox: &Inbox<UnparkHandle>,
+    parker: &Parker,
+    finished: &AtomicU64,
+    counts: &mut [u64; TASKS],
+) -> bool {
     let mut tasks = Vec::new(alloc);
     for _ in rt.forever() {
         let is_last = finished.load(Ordering::SeqCst) == THREADS;
-        inbox.drain(&rt, alloc, &mut tasks)?;
-        assert!(rt; count_drained(tasks.as_slice(), &mut counts));
+        let is_drained = inbox.drain(rt, alloc, &mut tasks).is_ok();
+        if !is_drained || !count_drained(tasks.as_slice(), counts) {
+            return false;
+        }
         tasks.clear();
         if is_last {
-            break;
+            return true;
         }
-        parker.park(&rt);
+        parker.park(rt);
     }
+    false
+}
+
+#[test]
+fn four_threads_wake_eight_tasks(rt: HostRuntime) {
+    let alloc = rt.alloc();
+    let mut counts = [0u64; TASKS];
+    let parker = Parker::new(alloc).expect(&rt, "memory");
+    let handle = parker.handle().expect(&rt, "memory");
+    let inbox = Inbox::new(alloc, 0, handle).expect(&rt, "memory");
+    let mut wakers = Vec::new(alloc);
+    for task in 0..TASKS {
+        let waker = inbox.waker(&rt, alloc, task as u64).expect(&rt, "memory");
+        wakers.push(waker).expect(&rt, "memory");
+    }
+    let finished = Arc::new(alloc, AtomicU64::new(0)).expect(&rt, "memory");
+    let threads = start_all(rt, alloc, &wakers, &parker, &finished);
+    assert!(rt; drain_until_all_finished(&rt, alloc, &inbox, &parker, &finished, &mut counts));
     let mut listed = 0u64;
     for thread in threads {
         listed = listed.wrapping_add(thread.join(&rt));
     }
-    inbox.drain(&rt, alloc, &mut tasks)?;
+    let mut tasks = Vec::new(alloc);
+    inbox.drain(&rt, alloc, &mut tasks).expect(&rt, "memory");
     assert!(rt; tasks.is_empty());
     let mut drained = 0u64;
     for count in counts {
         assert!(rt; count > 0);
         drained = drained.wrapping_add(count);
     }
-    assert_eq!(rt; drained, listed);
-    Ok(())
+    assert!(rt; drained == listed);
+}
+
+/// A thread that unparks once it has set the flag.
+pub(crate) fn start_setting<R: Host + Copy + Send + 'static>(
+    rt: R,
+    flag: Arc<AtomicU64, Global>,
+    handle: UnparkHandle,
+) -> Option<JoinHandle<()>> {
+    thread::spawn(&rt, move || {
+        thread::sleep(&rt, Duration::from_millis(30));
+        flag.store(1, Ordering::SeqCst);
+        handle.unpark(&rt);
+    })
+    .ok()
 }
 
 /// Whether a park sees the flag that another thread sets before it unparks.
-fn parks_for_the_flag<R: Host + Copy + Send + 'static>(
+fn parks_for_the_flag<R: Host + Abort + Copy + Send + 'static>(
     rt: R,
     alloc: Global,
     parker: &Parker,
     is_limited: bool,
-) -> Result<bool, Fail> {
-    let flag = Arc::new(alloc, AtomicU64::new(0))?;
-    let theirs = Arc::try_clone(&flag)?;
-    let handle = parker.handle()?;
-    let other = thread::spawn(&rt, move || {
-        thread::sleep(&rt, Duration::from_millis(30));
-        theirs.store(1, Ordering::SeqCst);
-        handle.unpark(&rt);
-    })
-    .ok()
-    .ok_or("a thread")?;
+) -> bool {
+    let flag = Arc::new(alloc, AtomicU64::new(0)).expect(&rt, "memory");
+    let theirs = Arc::try_clone(&flag).expect(&rt, "memory");
+    let handle = parker.handle().expect(&rt, "memory");
+    let other = start_setting(rt, theirs, handle).expect(&rt, "a thread");
     if is_limited {
         parker.park_timeout(&rt, Duration::from_secs(3600));
     } else {
@@ -316,19 +352,17 @@ fn parks_for_the_flag<R: Host + Copy + Send + 'static>(
     }
     let was_set = flag.load(Ordering::SeqCst) == 1;
     other.join(&rt);
-    Ok(was_set)
+    was_set
 }
 
 #[test]
-fn a_park_that_returns_took_the_token(rt: HostRuntime) -> Result<(), Fail> {
-    let alloc = rt.alloc();
-    let parker = Parker::new(alloc)?;
-    parker.handle()?.unpark(&rt);
+fn a_park_that_returns_took_the_token(rt: HostRuntime) {
+    let parker = Parker::new(rt.alloc()).expect(&rt, "memory");
+    parker.handle().expect(&rt, "memory").unpark(&rt);
     parker.park(&rt);
     for is_limited in [false, true, false] {
-        assert!(rt; parks_for_the_flag(rt, alloc, &parker, is_limited)?);
+        assert!(rt; parks_for_the_flag(rt, rt.alloc(), &parker, is_limited));
     }
-    Ok(())
 }
 
 /// Unparks the thread that drains, and waits until that has drained.
@@ -355,26 +389,26 @@ impl Unpark for UnparksAndWaits {
 }
 
 #[test]
-fn a_wake_is_listed_before_it_unparks(rt: HostRuntime) -> Result<(), Fail> {
+fn a_wake_is_listed_before_it_unparks(rt: HostRuntime) {
     let alloc = rt.alloc();
-    let parker = Parker::new(alloc)?;
-    let drained = Arc::new(alloc, Parker::new(alloc)?)?;
+    let parker = Parker::new(alloc).expect(&rt, "memory");
+    let drained = Parker::new(alloc).expect(&rt, "memory");
+    let drained = Arc::new(alloc, drained).expect(&rt, "memory");
     let unpark = UnparksAndWaits {
-        drainer: parker.handle()?,
-        drained: Arc::try_clone(&drained)?,
+        drainer: parker.handle().expect(&rt, "memory"),
+        drained: Arc::try_clone(&drained).expect(&rt, "memory"),
     };
-    let inbox = Inbox::new(alloc, 0, unpark)?;
-    let waker = inbox.waker(&rt, alloc, 3)?;
+    let inbox = Inbox::new(alloc, 0, unpark).expect(&rt, "memory");
+    let waker = inbox.waker(&rt, alloc, 3).expect(&rt, "memory");
     let other = thread::spawn(&rt, move || waker.wake(&rt))
         .ok()
-        .ok_or("a thread")?;
+        .expect(&rt, "a thread");
     parker.park(&rt);
     let mut tasks = Vec::new(alloc);
-    inbox.drain(&rt, alloc, &mut tasks)?;
-    drained.handle()?.unpark(&rt);
+    inbox.drain(&rt, alloc, &mut tasks).expect(&rt, "memory");
+    drained.handle().expect(&rt, "memory").unpark(&rt);
     assert!(rt; other.join(&rt));
-    assert_eq!(rt; tasks.as_slice(), [3].as_slice());
-    Ok(())
+    assert!(rt; tasks.as_slice() == [3].as_slice());
 }
 
 /// How often a token is handed to and fro: far more often than a wake that is lost now and then would stay unseen.
@@ -415,35 +449,34 @@ fn start_handing<R: Host + Copy + Send + 'static>(
 }
 
 #[test]
-fn a_token_goes_to_and_fro(rt: HostRuntime) -> Result<(), Fail> {
+fn a_token_goes_to_and_fro(rt: HostRuntime) {
     let alloc = rt.alloc();
-    let mine = Parker::new(alloc)?;
-    let theirs = Parker::new(alloc)?;
-    let other = theirs.handle()?;
-    let count = Arc::new(alloc, AtomicU64::new(0))?;
-    let thread = start_handing(rt, theirs, mine.handle()?, Arc::try_clone(&count)?).ok_or(
-        "a thread",
-    )?;
+    let mine = Parker::new(alloc).expect(&rt, "memory");
+    let theirs = Parker::new(alloc).expect(&rt, "memory");
+    let handle = mine.handle().expect(&rt, "memory");
+    let other = theirs.handle().expect(&rt, "memory");
+    let count = Arc::new(alloc, AtomicU64::new(0)).expect(&rt, "memory");
+    let their_count = Arc::try_clone(&count).expect(&rt, "memory");
+    let thread = start_handing(rt, theirs, handle, their_count).expect(&rt, "a thread");
     let is_counted = hands_over(&rt, &mine, &other, &count);
     thread.join(&rt);
     assert!(rt; is_counted);
-    Ok(())
 }
 
 /// More tasks than an inbox makes room for at once.
 const MANY: u64 = 300;
 
 #[test]
-fn a_drain_takes_all(rt: HostRuntime) -> Result<(), Fail> {
+fn a_drain_takes_all(rt: HostRuntime) {
     let alloc = rt.alloc();
-    let inbox = Inbox::new(alloc, 0, NoUnpark)?;
-    for task in 0..MANY {
-        assert!(rt; inbox.waker(&rt, alloc, task)?.wake(&rt));
-    }
     let mut tasks = Vec::new(alloc);
-    inbox.drain(&rt, alloc, &mut tasks)?;
-    assert_eq!(rt; tasks.len() as u64, MANY);
-    Ok(())
+    let inbox = Inbox::new(alloc, 0, NoUnpark).expect(&rt, "memory");
+    for task in 0..MANY {
+        let waker = inbox.waker(&rt, alloc, task).expect(&rt, "memory");
+        assert!(rt; waker.wake(&rt));
+    }
+    inbox.drain(&rt, alloc, &mut tasks).expect(&rt, "memory");
+    assert!(rt; tasks.len() as u64 == MANY);
 }
 
 /// Whether the second of two inboxes takes the wakes of its waker. It is handed out.

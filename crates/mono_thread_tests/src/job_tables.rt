@@ -3,38 +3,14 @@ ghost use Rattle.std.specs.Prelude.{◌≡◌};
 ghost use Rattle.mono_blocking.specs.Pool.{Offers};
 ghost use Rattle.mono_blocking.specs.declared.strategy.Offered.TheVariants.{Here};
 
-use mono_blocking::{
-    BlockingHandle, BlockingStrategy, BlockingTask, Job, JobWaker, Offered, Outcome, ThreadPool,
-};
-use mono_inbox::{Inbox, NoUnpark};
+use crate::jobs::{Gives, waker};
+use mono_blocking::{BlockingHandle, BlockingStrategy, BlockingTask, Offered, ThreadPool};
 use mono_jobs::*;
 use mono_machine::{How, Refusal};
 use mono_model::{Host, Poll};
-use std::alloc::{AllocError, Global};
+use std::alloc::Global;
+use std::process::Abort;
 use std::sync::{Arc, Mutex};
-use std::test::Fail;
-
-/// Gives its number.
-#[derive(Drop)]
-struct Gives(u64);
-
-impl Outcome for Gives {
-    ghost output_number = { λ job. job.0 };
-
-    fn number(&self) -> u64 {
-        self.0
-    }
-}
-
-impl Job for Gives {
-    type Output = u64;
-
-    type Unpark = NoUnpark;
-
-    fn run(self) -> u64 {
-        self.0
-    }
-}
 
 /// Tasks that wait.
 type Waiting = Arc<Mutex<Vec<BlockingTask<Gives>>>, Global>;
@@ -80,20 +56,21 @@ impl ThreadPool for Keeps {
 }
 
 /// Jobs on a pool that refuses this task, and the tasks that wait there.
-fn jobs_on(
+fn jobs_on<R: Abort>(
+    rt: &R,
     alloc: Global,
     refused: u64,
     limit: u64,
-) -> Result<(Blockings<Keeps>, Waiting), AllocError> {
-    let waiting = Arc::new(alloc, Mutex::new(Vec::new(alloc)))?;
+) -> (Blockings<Keeps>, Waiting) {
+    let waiting = Arc::new(alloc, Mutex::new(Vec::new(alloc))).expect(rt, "memory");
     let pool = Keeps {
-        waiting: Arc::try_clone(&waiting)?,
+        waiting: Arc::try_clone(&waiting).expect(rt, "memory"),
         asked: 0,
         refused,
         refusals: 0,
     };
     let jobs = Blockings::new(alloc, BlockingHandle::Attached(pool), limit);
-    Ok((jobs, waiting))
+    (jobs, waiting)
 }
 
 /// Runs all tasks that wait.
@@ -109,82 +86,63 @@ fn run_all<R: Host>(rt: &R, waiting: &Waiting) {
 /// More jobs than a table makes room for at first.
 const MANY: u64 = 300;
 
-/// A waker of this task.
-fn waker<R: Host>(rt: &R, alloc: Global, task: u64) -> Result<JobWaker<NoUnpark>, AllocError> {
-    let inbox = Inbox::new(alloc, 1, NoUnpark)?;
-    Ok(JobWaker::new(inbox.waker(rt, alloc, task)?))
-}
-
-/// The number of the job that was made.
-fn made(answer: Result<JobHandle, SpawnError<Gives>>) -> Result<u64, Fail> {
+/// The number of the job, where one was made.
+fn made(answer: Result<JobHandle, SpawnError<Gives>>) -> Option<u64> {
     match answer {
-        Ok(handle) => Ok(handle.job()),
-        Err(_) => Err("no job was made".into()),
+        Ok(handle) => Some(handle.job()),
+        Err(_) => None,
     }
 }
 
 #[test]
-fn a_job_on_the_caller_has_ended(rt: HostRuntime) -> Result<(), Fail> {
+fn a_job_on_the_caller_has_ended(rt: HostRuntime) {
     let alloc = rt.alloc();
     let local = BlockingHandle::Empty(BlockingStrategy::ExecuteLocal);
     let mut jobs: Blockings<Keeps> = Blockings::new(alloc, local, 2);
-    assert_eq!(rt; made(jobs.spawn(&rt, alloc, Gives(4)))?, 0);
-    assert_eq!(rt; made(jobs.spawn(&rt, alloc, Gives(5)))?, 1);
-    assert!(rt;
-        matches!(
-            jobs.spawn(&rt, alloc, Gives(6)),
-            Err(SpawnError::AtCapacity(Gives(6)))
-        )
-    );
+    assert!(rt; made(jobs.spawn(&rt, alloc, Gives(4))) == Some(0));
+    assert!(rt; made(jobs.spawn(&rt, alloc, Gives(5))) == Some(1));
+    let third = jobs.spawn(&rt, alloc, Gives(6));
+    assert!(rt; matches!(third, Err(SpawnError::AtCapacity(Gives(6)))));
     assert!(rt; matches!(jobs.has_ended(0), Ok(true)));
-    let polled = jobs.poll(0, waker(&rt, alloc, 3)?);
+    let polled = jobs.poll(0, waker(&rt, alloc, 3));
     assert!(rt; polled.end.is_none());
     assert!(rt; matches!(polled.answer, Ok(Poll::Ready(Ok(4)))));
-    let again = jobs.poll(0, waker(&rt, alloc, 3)?);
+    let again = jobs.poll(0, waker(&rt, alloc, 3));
     assert!(rt; matches!(again.answer, Err(Refusal::Taken)));
     assert!(rt; matches!(jobs.has_ended(0), Ok(true)));
     assert!(rt; matches!(jobs.drop_handle(1).answer, Ok(Some(Ok(5)))));
     assert!(rt; matches!(jobs.drop_handle(1).answer, Err(Refusal::NoHandle)));
     assert!(rt; matches!(jobs.has_ended(2), Err(Refusal::NoTask)));
     assert!(rt; jobs.into_pool().is_none());
-    Ok(())
+}
+
+/// Jobs without a pool, where each is refused that has room.
+fn jobs_of_none(alloc: Global, limit: u64) -> Blockings<Keeps> {
+    let panic = BlockingHandle::Empty(BlockingStrategy::Panic);
+    Blockings::new(alloc, panic, limit)
 }
 
 #[test]
-fn no_pool_comes_after_at_capacity(rt: HostRuntime) -> Result<(), Fail> {
+fn no_pool_comes_after_at_capacity(rt: HostRuntime) {
     let alloc = rt.alloc();
-    let panic = BlockingHandle::Empty(BlockingStrategy::Panic);
-    let mut jobs: Blockings<Keeps> = Blockings::new(alloc, panic, 1);
-    assert!(rt;
-        matches!(
-            jobs.spawn(&rt, alloc, Gives(4)),
-            Err(SpawnError::NoPool(Gives(4)))
-        )
-    );
-    let panic = BlockingHandle::Empty(BlockingStrategy::Panic);
-    let mut jobs: Blockings<Keeps> = Blockings::new(alloc, panic, 0);
-    assert!(rt;
-        matches!(
-            jobs.spawn(&rt, alloc, Gives(4)),
-            Err(SpawnError::AtCapacity(Gives(4)))
-        )
-    );
-    Ok(())
+    let with_room = jobs_of_none(alloc, 1).spawn(&rt, alloc, Gives(4));
+    assert!(rt; matches!(with_room, Err(SpawnError::NoPool(Gives(4)))));
+    let without = jobs_of_none(alloc, 0).spawn(&rt, alloc, Gives(4));
+    assert!(rt; matches!(without, Err(SpawnError::AtCapacity(Gives(4)))));
 }
 
 #[test]
-fn a_refused_task_makes_no_job(rt: HostRuntime) -> Result<(), Fail> {
+fn a_refused_task_makes_no_job(rt: HostRuntime) {
     let alloc = rt.alloc();
-    let (mut jobs, waiting) = jobs_on(alloc, 1, 3)?;
-    assert_eq!(rt; made(jobs.spawn(&rt, alloc, Gives(4)))?, 0);
+    let (mut jobs, waiting) = jobs_on(&rt, alloc, 1, 3);
+    assert!(rt; made(jobs.spawn(&rt, alloc, Gives(4))) == Some(0));
     assert!(rt; matches!(jobs.spawn(&rt, alloc, Gives(5)), Err(SpawnError::PoolFault)));
     assert!(rt; matches!(jobs.has_ended(1), Err(Refusal::NoTask)));
     assert!(rt; matches!(jobs.has_ended(0), Ok(false)));
-    assert_eq!(rt; made(jobs.spawn(&rt, alloc, Gives(6)))?, 1);
-    let pool = jobs.into_pool().ok_or("no pool")?;
-    assert_eq!(rt; pool.refusals, 1);
-    assert_eq!(rt; waiting.lock(&rt).len(), 2);
-    Ok(())
+    assert!(rt; made(jobs.spawn(&rt, alloc, Gives(6))) == Some(1));
+    let pool = jobs.into_pool().expect(&rt, "a pool");
+    assert!(rt; pool.refusals == 1);
+    assert!(rt; waiting.lock(&rt).len() == 2);
 }
 
 /// Jobs past the second page of the table.
@@ -200,111 +158,115 @@ fn one_comes_one_goes<R: Host>(
     jobs: &mut Blockings<Keeps>,
     waiting: &Waiting,
     number: u64,
-) -> Result<u64, Fail> {
-    if made(jobs.spawn(rt, alloc, Gives(number)))? != number {
-        return Err("another number".into());
+) -> Option<u64> {
+    if made(jobs.spawn(rt, alloc, Gives(number))) != Some(number) {
+        return None;
     }
     run_all(rt, waiting);
     if number <= ALIVE {
-        return Ok(0);
+        return Some(0);
     }
     let gone = number.wrapping_sub(ALIVE);
     match jobs.drop_handle(gone).answer {
-        Ok(Some(Ok(output))) if jobs.has_ended(gone).is_err() => Ok(output),
-        _ => Err("no output".into()),
+        Ok(Some(Ok(output))) if jobs.has_ended(gone).is_err() => Some(output),
+        _ => None,
     }
 }
 
 #[test]
-fn the_first_job_outlives_pages(rt: HostRuntime) -> Result<(), Fail> {
+fn the_first_job_outlives_pages(rt: HostRuntime) {
     let alloc = rt.alloc();
-    let (mut jobs, waiting) = jobs_on(alloc, u64::MAX, ALIVE.wrapping_add(2))?;
-    assert_eq!(rt; made(jobs.spawn(&rt, alloc, Gives(7)))?, 0);
+    let (mut jobs, waiting) = jobs_on(&rt, alloc, u64::MAX, ALIVE.wrapping_add(2));
+    assert!(rt; made(jobs.spawn(&rt, alloc, Gives(7))) == Some(0));
     let mut sum = 0u64;
     for number in 1..THROUGH {
-        let output = one_comes_one_goes(&rt, alloc, &mut jobs, &waiting, number)?;
-        sum = sum.wrapping_add(output);
+        let output = one_comes_one_goes(&rt, alloc, &mut jobs, &waiting, number);
+        sum = sum.wrapping_add(output.expect(&rt, "the number and an output"));
     }
-    assert_eq!(rt; sum, 173755);
+    assert!(rt; sum == 173755);
     for number in [1u64, 255, 256, 511, 512, 589] {
         assert!(rt; matches!(jobs.has_ended(number), Err(Refusal::NoHandle)));
         assert!(rt; matches!(jobs.drop_handle(number).answer, Err(Refusal::NoHandle)));
     }
     assert!(rt; matches!(jobs.has_ended(THROUGH), Err(Refusal::NoTask)));
     assert!(rt; matches!(jobs.has_ended(590), Ok(true)));
-    let polled = jobs.poll(0, waker(&rt, alloc, 3)?);
+    let polled = jobs.poll(0, waker(&rt, alloc, 3));
     assert!(rt; matches!(polled.answer, Ok(Poll::Ready(Ok(7)))));
-    assert_eq!(rt; made(jobs.spawn(&rt, alloc, Gives(8)))?, THROUGH);
-    assert!(rt;
-        matches!(
-            jobs.spawn(&rt, alloc, Gives(9)),
-            Err(SpawnError::AtCapacity(Gives(9)))
-        )
-    );
+    assert!(rt; made(jobs.spawn(&rt, alloc, Gives(8))) == Some(THROUGH));
+    let too_many = jobs.spawn(&rt, alloc, Gives(9));
+    assert!(rt; matches!(too_many, Err(SpawnError::AtCapacity(Gives(9)))));
     assert!(rt; matches!(jobs.drop_handle(0).answer, Ok(None)));
     assert!(rt; matches!(jobs.has_ended(0), Err(Refusal::NoHandle)));
-    Ok(())
+}
+
+/// Whether a poll of a job that was not run is pending, and sees no end.
+fn is_pending<R: Host + Abort>(
+    rt: &R,
+    alloc: Global,
+    jobs: &mut Blockings<Keeps>,
+    number: u64,
+) -> bool {
+    let polled = jobs.poll(number, waker(rt, alloc, 7));
+    polled.end.is_none()
+        && matches!(polled.answer, Ok(Poll::Pending))
+        && matches!(jobs.has_ended(number), Ok(false))
+}
+
+/// Whether a poll of a job that was run sees its end, with who waited, and the drop after it sees none.
+fn ends_once<R: Host + Abort>(
+    rt: &R,
+    alloc: Global,
+    jobs: &mut Blockings<Keeps>,
+    number: u64,
+) -> bool {
+    if !matches!(jobs.has_ended(number), Ok(true)) || !matches!(jobs.has_ended(number), Ok(true)) {
+        return false;
+    }
+    let polled = jobs.poll(number, waker(rt, alloc, 8));
+    polled.end == Some(ran(Some(7)))
+        && matches!(polled.answer, Ok(Poll::Ready(Ok(gave))) if gave == number)
+        && jobs.drop_handle(number).end.is_none()
+}
+
+/// The end of a job that was run.
+fn ran(waiter: Option<u64>) -> End {
+    End {
+        how: How::Ran,
+        waiter,
+    }
 }
 
 #[test]
-fn an_end_is_seen_once(rt: HostRuntime) -> Result<(), Fail> {
+fn an_end_is_seen_once(rt: HostRuntime) {
     let alloc = rt.alloc();
-    let (mut jobs, waiting) = jobs_on(alloc, MANY, MANY)?;
+    let (mut jobs, waiting) = jobs_on(&rt, alloc, MANY, MANY);
     for number in 0..MANY {
-        assert_eq!(rt; made(jobs.spawn(&rt, alloc, Gives(number)))?, number);
+        assert!(rt; made(jobs.spawn(&rt, alloc, Gives(number))) == Some(number));
     }
     for number in 0..MANY {
-        let polled = jobs.poll(number, waker(&rt, alloc, 7)?);
-        assert!(rt; polled.end.is_none());
-        assert!(rt; matches!(polled.answer, Ok(Poll::Pending)));
-        assert!(rt; matches!(jobs.has_ended(number), Ok(false)));
+        assert!(rt; is_pending(&rt, alloc, &mut jobs, number));
     }
     run_all(&rt, &waiting);
     for number in 0..MANY {
-        assert!(rt; matches!(jobs.has_ended(number), Ok(true)));
-        assert!(rt; matches!(jobs.has_ended(number), Ok(true)));
-        let polled = jobs.poll(number, waker(&rt, alloc, 8)?);
-        assert_eq!(rt;
-            polled.end,
-            Some(End {
-                how: How::Ran,
-                waiter: Some(7)
-            })
-        );
-        assert!(rt; matches!(polled.answer, Ok(Poll::Ready(Ok(gave))) if gave == number));
-        assert!(rt; jobs.drop_handle(number).end.is_none());
+        assert!(rt; ends_once(&rt, alloc, &mut jobs, number));
     }
-    Ok(())
 }
 
 #[test]
-fn a_poll_and_a_drop_see_the_end(rt: HostRuntime) -> Result<(), Fail> {
+fn a_poll_and_a_drop_see_the_end(rt: HostRuntime) {
     let alloc = rt.alloc();
-    let (mut jobs, waiting) = jobs_on(alloc, 9, 3)?;
+    let (mut jobs, waiting) = jobs_on(&rt, alloc, 9, 3);
     for number in [4u64, 5, 6] {
-        made(jobs.spawn(&rt, alloc, Gives(number)))?;
+        assert!(rt; made(jobs.spawn(&rt, alloc, Gives(number))).is_some());
     }
     let early = jobs.drop_handle(2);
     assert!(rt; early.end.is_none());
     assert!(rt; matches!(early.answer, Ok(None)));
     run_all(&rt, &waiting);
-    let polled = jobs.poll(0, waker(&rt, alloc, 7)?);
-    assert_eq!(rt;
-        polled.end,
-        Some(End {
-            how: How::Ran,
-            waiter: None
-        })
-    );
+    let polled = jobs.poll(0, waker(&rt, alloc, 7));
+    assert!(rt; polled.end == Some(ran(None)));
     assert!(rt; matches!(polled.answer, Ok(Poll::Ready(Ok(4)))));
     let dropped = jobs.drop_handle(1);
-    assert_eq!(rt;
-        dropped.end,
-        Some(End {
-            how: How::Ran,
-            waiter: None
-        })
-    );
+    assert!(rt; dropped.end == Some(ran(None)));
     assert!(rt; matches!(dropped.answer, Ok(Some(Ok(5)))));
-    Ok(())
 }

@@ -2,8 +2,8 @@
 use mono_blocking::*;
 use mono_inbox::{Inbox, NoUnpark, RemoteWaker};
 use mono_model::{Host, Poll};
-use std::alloc::{AllocError, Global};
-use std::test::Fail;
+use std::alloc::Global;
+use std::process::Abort;
 
 /// Gives its number.
 #[derive(Drop)]
@@ -27,63 +27,52 @@ impl Job for Gives {
     }
 }
 
-/// A waker of the task, and a further one.
-fn wakers<R: Host>(
-    rt: &R,
-    alloc: Global,
-    inbox: &Inbox<NoUnpark>,
-    task: u64,
-) -> Result<(JobWaker<NoUnpark>, RemoteWaker<NoUnpark>), AllocError> {
-    let waker = inbox.waker(rt, alloc, task)?;
-    let other = waker.clone()?;
-    Ok((JobWaker::new(waker), other))
+/// A waker of this task of an inbox of its own, for a joiner.
+pub(crate) fn waker<R: Host + Abort>(rt: &R, alloc: Global, task: u64) -> JobWaker<NoUnpark> {
+    let inbox = Inbox::new(alloc, 1, NoUnpark).expect(rt, "memory");
+    JobWaker::new(inbox.waker(rt, alloc, task).expect(rt, "memory"))
+}
+
+/// A task, its joiner, which waits with a waker, and a further one of that waker.
+type Awaited = (BlockingTask<Gives>, JobJoiner<Gives>, RemoteWaker<NoUnpark>);
+
+fn awaited<R: Host + Abort>(rt: &R, alloc: Global) -> Awaited {
+    let inbox = Inbox::new(alloc, 1, NoUnpark).expect(rt, "memory");
+    let waker = inbox.waker(rt, alloc, 3).expect(rt, "memory");
+    let other = waker.clone().expect(rt, "memory");
+    let made = BlockingTask::new(alloc, Gives(4)).ok();
+    let (task, mut joiner) = made.expect(rt, "memory");
+    assert!(rt; joiner.poll(JobWaker::new(waker)).is_pending());
+    (task, joiner, other)
 }
 
 #[test]
-fn a_run_ends_the_word_and_wakes(rt: HostRuntime) -> Result<(), Fail> {
-    let alloc = rt.alloc();
-    let inbox = Inbox::new(alloc, 1, NoUnpark)?;
-    let (waker, other) = wakers(&rt, alloc, &inbox, 3)?;
-    let Ok((task, mut joiner)) = BlockingTask::new(alloc, Gives(4)) else {
-        return Err("memory".into());
-    };
-    assert!(rt; joiner.poll(waker).is_pending());
+fn a_run_ends_the_word_and_wakes(rt: HostRuntime) {
+    let (task, mut joiner, other) = awaited(&rt, rt.alloc());
     drop(task.run(&rt));
     assert!(rt; !other.wake(&rt));
     let again = JobWaker::new(other);
+    assert!(rt; !joiner.is_taken());
     assert!(rt; matches!(joiner.poll(again), Poll::Ready(Ok(4))));
-    Ok(())
 }
 
 #[test]
-fn a_cancel_hands_the_job_back_and_wakes(rt: HostRuntime) -> Result<(), Fail> {
-    let alloc = rt.alloc();
-    let inbox = Inbox::new(alloc, 1, NoUnpark)?;
-    let (waker, other) = wakers(&rt, alloc, &inbox, 3)?;
-    let Ok((task, mut joiner)) = BlockingTask::new(alloc, Gives(4)) else {
-        return Err("memory".into());
-    };
-    assert!(rt; joiner.poll(waker).is_pending());
+fn a_cancel_hands_the_job_back_and_wakes(rt: HostRuntime) {
+    let (task, mut joiner, other) = awaited(&rt, rt.alloc());
     let (job, _spent) = task.cancel(&rt);
-    assert_eq!(rt; job.0, 4);
+    assert!(rt; job.0 == 4);
     assert!(rt; !other.wake(&rt));
     let again = JobWaker::new(other);
+    assert!(rt; !joiner.is_taken());
     assert!(rt; matches!(joiner.poll(again), Poll::Ready(Err(JoinError::Canceled))));
-    Ok(())
 }
 
 #[test]
-fn a_dropped_task_ends_canceled_and_wakes_nobody(rt: HostRuntime) -> Result<(), Fail> {
-    let alloc = rt.alloc();
-    let inbox = Inbox::new(alloc, 1, NoUnpark)?;
-    let (waker, other) = wakers(&rt, alloc, &inbox, 3)?;
-    let Ok((task, mut joiner)) = BlockingTask::new(alloc, Gives(4)) else {
-        return Err("memory".into());
-    };
-    assert!(rt; joiner.poll(waker).is_pending());
+fn a_dropped_task_ends_canceled_and_wakes_nobody(rt: HostRuntime) {
+    let (task, mut joiner, other) = awaited(&rt, rt.alloc());
     drop(task);
     assert!(rt; other.wake(&rt));
     let again = JobWaker::new(other);
+    assert!(rt; !joiner.is_taken());
     assert!(rt; matches!(joiner.poll(again), Poll::Ready(Err(JoinError::Canceled))));
-    Ok(())
 }

@@ -1,10 +1,9 @@
-use mono_joinword::{JoinError, Outcome, Poll, Wakes, pair};
-use std::alloc::{AllocError, Global};
+use mono_joinword::{Completed, JoinError, Joiner, Outcome, Poll, Wakes, pair};
+use std::alloc::Global;
 use std::process::Abort;
 use std::sync::Arc;
 use std::sync::atomic::{AtomicU64, Ordering};
-use std::test::Fail;
-use std::thread::{self, Threads};
+use std::thread::{self, JoinHandle, Threads};
 
 #[derive(Drop)]
 struct Named(u64);
@@ -18,8 +17,8 @@ impl Wakes for Named {
 }
 
 #[test]
-fn the_waker_comes_back_and_then_the_output(rt: HostRuntime) -> Result<(), Fail> {
-    let (runner, mut joiner) = pair::<u64, Named>(rt.alloc(), 4)?;
+fn the_waker_comes_back_and_then_the_output(rt: HostRuntime) {
+    let (runner, mut joiner) = pair::<u64, Named>(rt.alloc(), 4).expect(&rt, "memory");
     assert!(rt; joiner.poll(Named(7)).is_pending());
     let done = runner.complete(Ok(4));
     assert!(rt; !done.dropped);
@@ -28,41 +27,37 @@ fn the_waker_comes_back_and_then_the_output(rt: HostRuntime) -> Result<(), Fail>
     assert!(rt; joiner.poll(Named(7)) == Poll::Ready(Ok(4)));
     assert!(rt; joiner.is_taken());
     assert!(rt; joiner.cancel().is_none());
-    Ok(())
 }
 
 #[test]
-fn a_cancelled_word_drops_the_output(rt: HostRuntime) -> Result<(), Fail> {
-    let (runner, joiner) = pair::<u64, Named>(rt.alloc(), 4)?;
+fn a_cancelled_word_drops_the_output(rt: HostRuntime) {
+    let (runner, joiner) = pair::<u64, Named>(rt.alloc(), 4).expect(&rt, "memory");
     assert!(rt; joiner.cancel().is_none());
     let done = runner.complete(Ok(4));
     assert!(rt; done.dropped && done.woke.is_none());
-    Ok(())
 }
 
 #[test]
-fn a_canceled_job_is_told(rt: HostRuntime) -> Result<(), Fail> {
-    let (runner, mut joiner) = pair::<u64, Named>(rt.alloc(), 4)?;
+fn a_canceled_job_is_told(rt: HostRuntime) {
+    let (runner, mut joiner) = pair::<u64, Named>(rt.alloc(), 4).expect(&rt, "memory");
     assert!(rt; !joiner.is_finished());
     let done = runner.complete(Err(JoinError::Canceled));
     assert!(rt; !done.dropped && done.woke.is_none());
     assert!(rt; joiner.is_finished());
     assert!(rt; joiner.cancel() == Some(Err(JoinError::Canceled)));
-    Ok(())
 }
 
 #[test]
-fn a_runner_that_is_let_go_cancels(rt: HostRuntime) -> Result<(), Fail> {
-    let (runner, mut joiner) = pair::<(), Named>(rt.alloc(), 0)?;
+fn a_runner_that_is_let_go_cancels(rt: HostRuntime) {
+    let (runner, mut joiner) = pair::<(), Named>(rt.alloc(), 0).expect(&rt, "memory");
     assert!(rt; joiner.poll(Named(7)).is_pending());
     drop(runner);
     assert!(rt; joiner.poll(Named(7)) == Poll::Ready(Err(JoinError::Canceled)));
-    Ok(())
 }
 
 #[test]
-fn the_latest_waker_alone_comes_back(rt: HostRuntime) -> Result<(), Fail> {
-    let (runner, mut joiner) = pair::<bool, Named>(rt.alloc(), 1)?;
+fn the_latest_waker_alone_comes_back(rt: HostRuntime) {
+    let (runner, mut joiner) = pair::<bool, Named>(rt.alloc(), 1).expect(&rt, "memory");
     for number in [7, 7, 8] {
         if !joiner.is_taken() {
             assert!(rt; joiner.poll(Named(number)).is_pending());
@@ -72,7 +67,6 @@ fn the_latest_waker_alone_comes_back(rt: HostRuntime) -> Result<(), Fail> {
     assert!(rt; done.woke.expect(&rt, "a waker").number() == 8);
     let ended = joiner.cancel_with_seat();
     assert!(rt; ended.output == Some(Ok(true)));
-    Ok(())
 }
 
 // An output that counts how often one is let go.
@@ -96,19 +90,22 @@ impl Drop for Counted {
     }
 }
 
-// The joiner polls with the waker 8 while another thread completes. Where it waits, the waker 7 is in place before.
-fn poll_in_time<R: Threads + Abort>(
+// A joiner, and the thread on which its runner completes. Where it waits, the waker 7 is in place before.
+type Racing = (
+    Joiner<Counted, Named>,
+    JoinHandle<Completed<Counted, Named>>,
+);
+
+fn start_completing<R: Threads + Abort>(
     rt: &R,
     alloc: Global,
     waits: bool,
     spins: u64,
     drops: &Arc<AtomicU64, Global>,
-) -> Result<(), AllocError> {
-    let (runner, mut joiner) = pair::<Counted, Named>(alloc, 4)?;
-    let output = Counted {
-        number: 4,
-        drops: Arc::try_clone(drops)?,
-    };
+) -> Racing {
+    let drops = Arc::try_clone(drops).expect(rt, "memory");
+    let output = Counted { number: 4, drops };
+    let (runner, mut joiner) = pair::<Counted, Named>(alloc, 4).expect(rt, "memory");
     if waits {
         assert!(rt; joiner.poll(Named(7)).is_pending());
     }
@@ -118,6 +115,18 @@ fn poll_in_time<R: Threads + Abort>(
     for _ in 0..spins {
         joiner.is_finished();
     }
+    (joiner, child)
+}
+
+// The joiner polls with the waker 8 while another thread completes.
+fn poll_in_time<R: Threads + Abort>(
+    rt: &R,
+    alloc: Global,
+    waits: bool,
+    spins: u64,
+    drops: &Arc<AtomicU64, Global>,
+) {
+    let (mut joiner, child) = start_completing(rt, alloc, waits, spins, drops);
     assert!(rt; !joiner.is_taken());
     let answer = joiner.poll(Named(8));
     let done = child.join(rt);
@@ -130,15 +139,12 @@ fn poll_in_time<R: Threads + Abort>(
         }
         Poll::Pending => {
             assert!(rt; woke == 8);
-            let Poll::Ready(Ok(output)) = joiner.poll(Named(9)) else {
-                return Err(AllocError);
-            };
-            assert!(rt; output.number() == 4);
+            let late = joiner.poll(Named(9));
+            assert!(rt; matches!(late, Poll::Ready(Ok(Counted { number: 4, .. }))));
         }
     }
     assert!(rt; joiner.is_taken());
     assert!(rt; joiner.cancel().is_none());
-    Ok(())
 }
 
 // The joiner cancels while another thread completes.
@@ -148,38 +154,23 @@ fn cancel_in_time<R: Threads + Abort>(
     waits: bool,
     spins: u64,
     drops: &Arc<AtomicU64, Global>,
-) -> Result<(), AllocError> {
-    let (runner, mut joiner) = pair::<Counted, Named>(alloc, 4)?;
-    let output = Counted {
-        number: 4,
-        drops: Arc::try_clone(drops)?,
-    };
-    if waits {
-        assert!(rt; joiner.poll(Named(7)).is_pending());
-    }
-    let child = thread::spawn(rt, move || runner.complete(Ok(output)))
-        .ok()
-        .expect(rt, "a thread");
-    for _ in 0..spins {
-        joiner.is_finished();
-    }
+) {
+    let (joiner, child) = start_completing(rt, alloc, waits, spins, drops);
     let handed = joiner.cancel().is_some();
     let done = child.join(rt);
     assert!(rt; done.dropped != handed);
     let woke = done.woke.map_or(0, |waker| waker.0);
     assert!(rt; woke == if handed && waits { 7 } else { 0 });
-    Ok(())
 }
 
 #[test]
-fn each_output_is_handed_out_or_dropped_once(rt: HostRuntime) -> Result<(), Fail> {
-    let drops = Arc::new(rt.alloc(), AtomicU64::new(0))?;
+fn each_output_is_handed_out_or_dropped_once(rt: HostRuntime) {
+    let drops = Arc::new(rt.alloc(), AtomicU64::new(0)).expect(&rt, "memory");
     for round in 0..200 {
         for waits in [false, true] {
-            poll_in_time(&rt, rt.alloc(), waits, round * 16, &drops)?;
-            cancel_in_time(&rt, rt.alloc(), waits, round * 16, &drops)?;
+            poll_in_time(&rt, rt.alloc(), waits, round * 16, &drops);
+            cancel_in_time(&rt, rt.alloc(), waits, round * 16, &drops);
         }
     }
-    assert_eq!(rt; drops.load(Ordering::SeqCst), 800);
-    Ok(())
+    assert!(rt; drops.load(Ordering::SeqCst) == 800);
 }

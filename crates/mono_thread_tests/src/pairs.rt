@@ -2,7 +2,6 @@
 use mono_blocking::{DefaultThreadPool, Job, ThreadSpawner};
 use mono_inbox::{Inbox, Parker, UnparkHandle};
 use mono_joinword::Outcome;
-use std::test::Fail;
 use use_pair::both;
 
 /// Gives its number.
@@ -28,15 +27,15 @@ impl Job for Gives {
 }
 
 #[test]
-fn two_jobs(rt: HostRuntime) -> Result<(), Fail> {
+fn two_jobs(rt: HostRuntime) {
     let alloc = rt.alloc();
-    let parker = Parker::new(alloc)?;
-    let inbox = Inbox::new(alloc, 2, parker.handle()?)?;
+    let parker = Parker::new(alloc).expect(&rt, "memory");
+    let handle = parker.handle().expect(&rt, "memory");
+    let inbox = Inbox::new(alloc, 2, handle).expect(&rt, "memory");
     let mut spawner = ThreadSpawner::new(alloc);
-    let mut pool = DefaultThreadPool::new(&rt, alloc, 2, &mut spawner)?;
+    let mut pool = DefaultThreadPool::new(&rt, alloc, 2, &mut spawner).expect(&rt, "memory");
     let outputs = both(&rt, alloc, &mut pool, &inbox, &parker, Gives(4), Gives(9));
     pool.close(&rt);
     spawner.join(&rt);
     assert!(rt; matches!(outputs, Ok((4, 9))));
-    Ok(())
 }

@@ -5,37 +5,30 @@ ghost use Rattle.mono_blocking.specs.Counts.{counted_by};
 ghost use Rattle.mono_blocking.specs.Pool.{Offers};
 ghost use Rattle.mono_blocking.specs.declared.strategy.Offered.TheVariants.{Here};
 
-use crate::jobs::Gives;
+use crate::jobs::{Gives, waker};
 use mono_blocking::*;
-use mono_inbox::{Inbox, NoUnpark};
+use mono_inbox::NoUnpark;
 use mono_model::{Host, Poll};
-use std::alloc::{AllocError, Global};
+use std::alloc::Global;
+use std::process::Abort;
 use std::sync::Arc;
 use std::sync::atomic::{AtomicU64, Ordering};
-use std::test::Fail;
 use std::thread;
 use std::thread::JoinHandle;
 use std::time::Duration;
 
-/// A waker of task 0 for a joiner.
-fn waker<R: Host>(rt: &R, alloc: Global) -> Result<JobWaker<NoUnpark>, AllocError> {
-    let inbox = Inbox::new(alloc, 1, NoUnpark)?;
-    Ok(JobWaker::new(inbox.waker(rt, alloc, 0)?))
-}
-
 #[test]
-fn a_pool_without_workers_runs_on_the_caller(rt: HostRuntime) -> Result<(), Fail> {
+fn a_pool_without_workers_runs_on_the_caller(rt: HostRuntime) {
     let alloc = rt.alloc();
     let mut spawner = NoSpawner::new();
-    let mut pool = DefaultThreadPool::new(&rt, alloc, 2, &mut spawner)?;
-    assert_eq!(rt; pool.workers(), 0);
-    let Ok((task, mut joiner)) = BlockingTask::new(alloc, Gives(4)) else {
-        return Err("memory".into());
-    };
+    let mut pool = DefaultThreadPool::new(&rt, alloc, 2, &mut spawner).expect(&rt, "memory");
+    assert!(rt; pool.workers() == 0);
+    let made = BlockingTask::new(alloc, Gives(4)).ok();
+    let (task, mut joiner) = made.expect(&rt, "memory");
     assert!(rt; pool.schedule_task(&rt, alloc, task).is_ok());
-    assert!(rt; matches!(joiner.poll(waker(&rt, alloc)?), Poll::Ready(Ok(4))));
+    let waker = waker(&rt, alloc, 0);
+    assert!(rt; matches!(joiner.poll(waker), Poll::Ready(Ok(4))));
     pool.close(&rt);
-    Ok(())
 }
 
 /// How often the first job looks for the second.
@@ -97,64 +90,53 @@ impl Job for Meets {
     }
 }
 
+/// A job that sets or looks for this flag.
+fn job_on<R: Abort>(rt: &R, number: u64, flag: &Arc<AtomicU64, Global>) -> Meets {
+    let flag = Arc::try_clone(flag).expect(rt, "memory");
+    Meets { number, flag }
+}
+
 /// Gives the pool a job, and hands out its joiner.
-fn schedule<R: Host>(
+fn schedule<R: Host + Abort>(
     rt: &R,
     alloc: Global,
     pool: &mut DefaultThreadPool<Meets>,
     job: Meets,
-) -> Option<JobJoiner<Meets>> {
-    let Ok((task, joiner)) = BlockingTask::new(alloc, job) else {
-        return None;
-    };
-    if pool.schedule_task(rt, alloc, task).is_err() {
-        return None;
-    }
-    Some(joiner)
+) -> JobJoiner<Meets> {
+    let made = BlockingTask::new(alloc, job).ok();
+    let (task, joiner) = made.expect(rt, "memory");
+    assert!(rt; pool.schedule_task(rt, alloc, task).is_ok());
+    joiner
 }
 
-/// What the job answered, where it is done.
-fn answer<R: Host>(
+/// Whether the job is done, has this number and saw the other.
+fn has_met<R: Host + Abort>(
     rt: &R,
     alloc: Global,
     mut joiner: JobJoiner<Meets>,
-) -> Result<Option<(u64, bool)>, AllocError> {
-    let waker = waker(rt, alloc)?;
-    if joiner.is_taken() {
-        return Ok(None);
-    }
+    number: u64,
+) -> bool {
+    let waker = waker(rt, alloc, 0);
+    assert!(rt; !joiner.is_taken());
     match joiner.poll(waker) {
-        Poll::Ready(Ok(met)) => Ok(Some((met.number, met.saw))),
-        _ => Ok(None),
+        Poll::Ready(Ok(met)) => met.saw && met.number == number,
+        _ => false,
     }
 }
 
 #[test]
-fn two_workers_run_two_jobs_at_once(rt: HostRuntime) -> Result<(), Fail> {
+fn two_workers_run_two_jobs_at_once(rt: HostRuntime) {
     let alloc = rt.alloc();
+    let flag = Arc::new(alloc, AtomicU64::new(0)).expect(&rt, "memory");
     let mut spawner = ThreadSpawner::new(alloc);
-    let mut pool = DefaultThreadPool::new(&rt, alloc, 2, &mut spawner)?;
-    assert_eq!(rt; pool.workers(), 2);
-    let flag = Arc::new(alloc, AtomicU64::new(0))?;
-    let other = Arc::try_clone(&flag)?;
-    let first = schedule(&rt, alloc, &mut pool, Meets { number: 1, flag });
-    let second = schedule(
-        &rt,
-        alloc,
-        &mut pool,
-        Meets {
-            number: 2,
-            flag: other,
-        },
-    );
+    let mut pool = DefaultThreadPool::new(&rt, alloc, 2, &mut spawner).expect(&rt, "memory");
+    assert!(rt; pool.workers() == 2);
+    let first = schedule(&rt, alloc, &mut pool, job_on(&rt, 1, &flag));
+    let second = schedule(&rt, alloc, &mut pool, job_on(&rt, 2, &flag));
     pool.close(&rt);
     spawner.join(&rt);
-    let (Some(first), Some(second)) = (first, second) else {
-        return Err("a job was not taken".into());
-    };
-    assert!(rt; matches!(answer(&rt, alloc, first)?, Some((1, true))));
-    assert!(rt; matches!(answer(&rt, alloc, second)?, Some((2, true))));
-    Ok(())
+    assert!(rt; has_met(&rt, alloc, first, 1));
+    assert!(rt; has_met(&rt, alloc, second, 2));
 }
 
 /// Sets the flag.
@@ -215,23 +197,19 @@ impl Spawner for SetsFirst {
 }
 
 #[test]
-fn a_thread_enters_before_its_worker(rt: HostRuntime) -> Result<(), Fail> {
+fn a_thread_enters_before_its_worker(rt: HostRuntime) {
     let alloc = rt.alloc();
-    let flag = Arc::new(alloc, AtomicU64::new(0))?;
+    let flag = Arc::new(alloc, AtomicU64::new(0)).expect(&rt, "memory");
     let mut spawner = SetsFirst {
         inner: ThreadSpawner::new(alloc),
-        flag: Arc::try_clone(&flag)?,
+        flag: Arc::try_clone(&flag).expect(&rt, "memory"),
     };
-    let mut pool = DefaultThreadPool::new(&rt, alloc, 1, &mut spawner)?;
-    let joiner = schedule(&rt, alloc, &mut pool, Meets { number: 1, flag });
+    let mut pool = DefaultThreadPool::new(&rt, alloc, 1, &mut spawner).expect(&rt, "memory");
+    let joiner = schedule(&rt, alloc, &mut pool, job_on(&rt, 1, &flag));
     pool.close(&rt);
     let SetsFirst { inner, flag: _flag } = spawner;
     inner.join(&rt);
-    let Some(joiner) = joiner else {
-        return Err("the job was not taken".into());
-    };
-    assert!(rt; matches!(answer(&rt, alloc, joiner)?, Some((1, true))));
-    Ok(())
+    assert!(rt; has_met(&rt, alloc, joiner, 1));
 }
 
 /// Refuses each task.
@@ -260,45 +238,37 @@ impl ThreadPool for RefusesAll {
 }
 
 #[test]
-fn a_refused_task_comes_back(rt: HostRuntime) -> Result<(), Fail> {
+fn a_refused_task_comes_back(rt: HostRuntime) {
     let alloc = rt.alloc();
     let mut pool = RefusesAll { refusals: 0 };
-    let Ok((task, mut joiner)) = BlockingTask::new(alloc, Gives(4)) else {
-        return Err("memory".into());
-    };
+    let made = BlockingTask::new(alloc, Gives(4)).ok();
+    let (task, mut joiner) = made.expect(&rt, "memory");
     let Err(ScheduleError::Refused(task)) = pool.schedule_task(&rt, alloc, task) else {
-        return Err("the pool took the task".into());
+        assert!(rt; false, "the pool took the task");
+        return;
     };
-    assert_eq!(rt; pool.refusals, 1);
+    assert!(rt; pool.refusals == 1);
     let (job, _spent) = task.cancel(&rt);
-    assert_eq!(rt; job.0, 4);
-    assert!(rt;
-        matches!(
-            joiner.poll(waker(&rt, alloc)?),
-            Poll::Ready(Err(JoinError::Canceled))
-        )
-    );
-    Ok(())
+    assert!(rt; job.0 == 4);
+    let waker = waker(&rt, alloc, 0);
+    assert!(rt; matches!(joiner.poll(waker), Poll::Ready(Err(JoinError::Canceled))));
 }
 
 /// Gives the pool so many jobs, and hands out their joiners. The output of each is its place.
-fn give_all<R: Host>(
+fn give_all<R: Host + Abort>(
     rt: &R,
     alloc: Global,
     pool: &mut DefaultThreadPool<Gives>,
     jobs: u64,
-) -> Result<Vec<JobJoiner<Gives>>, Fail> {
+) -> Vec<JobJoiner<Gives>> {
     let mut joiners = Vec::new(alloc);
     for number in 0..jobs {
-        let Ok((task, joiner)) = BlockingTask::new(alloc, Gives(number)) else {
-            return Err("memory".into());
-        };
-        if pool.schedule_task(rt, alloc, task).is_err() {
-            return Err("a job was not taken".into());
-        }
-        joiners.push(joiner)?;
+        let made = BlockingTask::new(alloc, Gives(number)).ok();
+        let (task, joiner) = made.expect(rt, "memory");
+        assert!(rt; pool.schedule_task(rt, alloc, task).is_ok());
+        joiners.push(joiner).expect(rt, "memory");
     }
-    Ok(joiners)
+    joiners
 }
 
 /// How many jobs have ended with their place as their output, up to the first that has not.
@@ -313,90 +283,62 @@ fn ended(joiners: Vec<JobJoiner<Gives>>) -> u64 {
     number
 }
 
-#[test]
-fn one_worker_runs_all(rt: HostRuntime) -> Result<(), Fail> {
-    let alloc = rt.alloc();
+/// How many jobs so many workers have run when the pool was closed. It gets the jobs after so long.
+fn run_by<R: Host + Abort + Send + 'static>(
+    rt: &R,
+    alloc: Global,
+    workers: usize,
+    after: Duration,
+    jobs: u64,
+) -> u64 {
     let mut spawner = ThreadSpawner::new(alloc);
-    let mut pool = DefaultThreadPool::new(&rt, alloc, 1, &mut spawner)?;
-    assert_eq!(rt; pool.workers(), 1);
-    let joiners = give_all(&rt, alloc, &mut pool, 5)?;
-    pool.close(&rt);
-    spawner.join(&rt);
-    assert_eq!(rt; ended(joiners), 5);
-    Ok(())
+    let mut pool = DefaultThreadPool::new(rt, alloc, workers, &mut spawner).expect(rt, "memory");
+    assert!(rt; pool.workers() == workers);
+    thread::sleep(rt, after);
+    let joiners = give_all(rt, alloc, &mut pool, jobs);
+    pool.close(rt);
+    spawner.join(rt);
+    ended(joiners)
 }
 
 #[test]
-fn eight_workers_run_thirty_two_jobs(rt: HostRuntime) -> Result<(), Fail> {
-    let alloc = rt.alloc();
-    let mut spawner = ThreadSpawner::new(alloc);
-    let mut pool = DefaultThreadPool::new(&rt, alloc, 8, &mut spawner)?;
-    assert_eq!(rt; pool.workers(), 8);
-    let joiners = give_all(&rt, alloc, &mut pool, 32)?;
-    pool.close(&rt);
-    spawner.join(&rt);
-    assert_eq!(rt; ended(joiners), 32);
-    Ok(())
+fn one_worker_runs_all(rt: HostRuntime) {
+    assert!(rt; run_by(&rt, rt.alloc(), 1, Duration::ZERO, 5) == 5);
 }
 
 #[test]
-fn close_ends_workers_that_wait(rt: HostRuntime) -> Result<(), Fail> {
+fn eight_workers_run_thirty_two_jobs(rt: HostRuntime) {
+    assert!(rt; run_by(&rt, rt.alloc(), 8, Duration::ZERO, 32) == 32);
+}
+
+#[test]
+fn close_ends_workers_that_wait(rt: HostRuntime) {
+    assert!(rt; run_by(&rt, rt.alloc(), 3, Duration::from_millis(50), 0) == 0);
+}
+
+#[test]
+fn a_worker_that_waits_is_told(rt: HostRuntime) {
     let alloc = rt.alloc();
+    let flag = Arc::new(alloc, AtomicU64::new(0)).expect(&rt, "memory");
     let mut spawner = ThreadSpawner::new(alloc);
-    let pool: DefaultThreadPool<Gives> = DefaultThreadPool::new(&rt, alloc, 3, &mut spawner)?;
-    assert_eq!(rt; pool.workers(), 3);
+    let mut pool = DefaultThreadPool::new(&rt, alloc, 1, &mut spawner).expect(&rt, "memory");
     thread::sleep(&rt, Duration::from_millis(50));
-    pool.close(&rt);
-    spawner.join(&rt);
-    Ok(())
-}
-
-#[test]
-fn a_worker_that_waits_is_told(rt: HostRuntime) -> Result<(), Fail> {
-    let alloc = rt.alloc();
-    let mut spawner = ThreadSpawner::new(alloc);
-    let mut pool = DefaultThreadPool::new(&rt, alloc, 1, &mut spawner)?;
-    thread::sleep(&rt, Duration::from_millis(50));
-    let flag = Arc::new(alloc, AtomicU64::new(0))?;
-    let theirs = Arc::try_clone(&flag)?;
-    let joiner = schedule(
-        &rt,
-        alloc,
-        &mut pool,
-        Meets {
-            number: 2,
-            flag: theirs,
-        },
-    );
+    let joiner = schedule(&rt, alloc, &mut pool, job_on(&rt, 2, &flag));
     assert!(rt; looks(&flag));
     pool.close(&rt);
     spawner.join(&rt);
-    assert!(rt; joiner.is_some());
-    Ok(())
+    drop(joiner);
 }
 
 #[test]
-fn one_worker_leaves_the_caller_free(rt: HostRuntime) -> Result<(), Fail> {
+fn one_worker_leaves_the_caller_free(rt: HostRuntime) {
     let alloc = rt.alloc();
+    let flag = Arc::new(alloc, AtomicU64::new(0)).expect(&rt, "memory");
     let mut spawner = ThreadSpawner::new(alloc);
-    let mut pool = DefaultThreadPool::new(&rt, alloc, 1, &mut spawner)?;
-    let flag = Arc::new(alloc, AtomicU64::new(0))?;
-    let theirs = Arc::try_clone(&flag)?;
-    let joiner = schedule(
-        &rt,
-        alloc,
-        &mut pool,
-        Meets {
-            number: 1,
-            flag: theirs,
-        },
-    );
+    let mut pool = DefaultThreadPool::new(&rt, alloc, 1, &mut spawner).expect(&rt, "memory");
+    let joiner = schedule(&rt, alloc, &mut pool, job_on(&rt, 1, &flag));
     flag.store(1, Ordering::SeqCst);
     pool.close(&rt);
     spawner.join(&rt);
-    let Some(joiner) = joiner else {
-        return Err("the job was not taken".into());
-    };
-    assert!(rt; matches!(answer(&rt, alloc, joiner)?, Some((1, true))));
-    Ok(())
+    assert!(rt; has_met(&rt, alloc, joiner, 1));
 }

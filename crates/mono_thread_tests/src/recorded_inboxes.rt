@@ -1,21 +1,23 @@
 // The recorded state and the recorded inbox: what is kept, and how many wakes the shares count.
 ghost use Rattle.std.specs.Prelude.{◌≡◌};
 
+use crate::inboxes::drained;
 use mono_inbox::*;
 use mono_model::Host;
 use std::alloc::Global;
 use std::marker::Brand;
+use std::process::Abort;
 use std::sync::ledger::{Blank, Ledger};
 use std::thread;
 use std::thread::JoinHandle;
 
 /// Makes one call: whether its reply is that of the entry.
-fn replies_as(alloc: Global, state: &mut InboxState, entry: &CallEntry) -> bool {
+fn replies_as<R: Abort>(rt: &R, alloc: Global, state: &mut InboxState, entry: &CallEntry) -> bool {
     match entry {
         CallEntry::Know(task) => state.know(alloc, *task).is_ok(),
         CallEntry::Put(task, listed) => state.put(*task) == *listed,
         CallEntry::DrainOne(task) => state.drain_one() == *task,
-        CallEntry::Drain(tasks) => drained(alloc, state) == Some(*tasks),
+        CallEntry::Drain(tasks) => drained(rt, alloc, state).len() as u64 == *tasks,
         CallEntry::Retire(task) => {
             state.retire(*task);
             true
@@ -23,18 +25,16 @@ fn replies_as(alloc: Global, state: &mut InboxState, entry: &CallEntry) -> bool 
     }
 }
 
-/// How many tasks one drain took, where there was memory.
-fn drained(alloc: Global, state: &mut InboxState) -> Option<u64> {
-    let mut tasks = Vec::with_capacity(alloc, state.waiting()).ok()?;
-    state.drain(&mut tasks);
-    Some(tasks.len() as u64)
-}
-
 /// How many of these calls have their replies, up to the first that has another.
-fn replies(alloc: Global, state: &mut InboxState, entries: &[CallEntry]) -> usize {
+fn replies<R: Abort>(
+    rt: &R,
+    alloc: Global,
+    state: &mut InboxState,
+    entries: &[CallEntry],
+) -> usize {
     let mut replied = 0usize;
     for entry in entries {
-        if !replies_as(alloc, state, entry) {
+        if !replies_as(rt, alloc, state, entry) {
             return replied;
         }
         replied = replied.wrapping_add(1);
@@ -45,10 +45,7 @@ fn replies(alloc: Global, state: &mut InboxState, entries: &[CallEntry]) -> usiz
 #[test]
 fn a_state_keeps_its_calls(rt: HostRuntime) {
     let alloc = rt.alloc();
-    let Ok(mut state) = InboxState::recorded(alloc, 4, 9) else {
-        assert!(rt; false);
-        return;
-    };
+    let mut state = InboxState::recorded(alloc, 4, 9).expect(&rt, "memory");
     let kept = [
         CallEntry::Know(3),
         CallEntry::Know(5),
@@ -60,67 +57,67 @@ fn a_state_keeps_its_calls(rt: HostRuntime) {
         CallEntry::Drain(1),
         CallEntry::DrainOne(None),
     ];
-    assert!(rt; replies(alloc, &mut state, &kept[..2]) == 2);
+    assert!(rt; replies(&rt, alloc, &mut state, &kept[..2]) == 2);
     assert!(rt; state.know(alloc, u64::MAX).is_err());
-    assert!(rt; replies(alloc, &mut state, &kept[2..8]) == 6);
+    assert!(rt; replies(&rt, alloc, &mut state, &kept[2..8]) == 6);
     assert!(rt; !state.is_full());
-    assert!(rt; replies(alloc, &mut state, &kept[8..]) == 1);
+    assert!(rt; replies(&rt, alloc, &mut state, &kept[8..]) == 1);
     assert!(rt; state.is_full());
     assert!(rt; state.put(3));
     assert!(rt; state.plain_puts() == 3);
     assert!(rt; state.ledger_puts() == 0);
     assert!(rt; state.history().as_slice() == kept.as_slice());
-    assert!(rt; InboxState::new(alloc, 4).is_ok_and(|plain| plain.is_full()));
+    let plain = InboxState::new(alloc, 4).expect(&rt, "memory");
+    assert!(rt; plain.is_full());
 }
 
 /// A recorded inbox that keeps so many calls, and the shares of its callers.
 type Opened<L> = (RecordedInbox<NoUnpark, L>, Vec<CallShare<L>>);
 
-fn opened<L: Ledger>(
+fn opened<L: Ledger, R: Abort>(
+    rt: &R,
     alloc: Global,
     capacity: usize,
     calls: usize,
     callers: u64,
     blank: Blank,
-) -> Option<Opened<L>>
+) -> Opened<L>
     requires { (blank.name ≡ L.name) × (blank.parts ≡ L.parts) × (blank.parts ≡ callers) }
 {
     let (book, all) = blank.open::<L>();
-    RecordedInbox::new(alloc, capacity, calls, callers, NoUnpark, book, all).ok()
+    let made = RecordedInbox::new(alloc, capacity, calls, callers, NoUnpark, book, all);
+    made.expect(rt, "memory")
 }
 
-/// Whether two wakes are listed, and a third and one of a retired task are not; what a drain takes between.
-fn takes_in_order<L: Ledger, R: Host>(
+fn drains_in_order<L: Ledger, R: Host + Abort>(
     rt: &R,
     alloc: Global,
     inbox: &RecordedInbox<NoUnpark, L>,
-    tasks: &mut Vec<u64>,
-) -> Option<bool> {
-    let third = inbox.waker(rt, alloc, 3).ok()?;
-    let fifth = inbox.waker(rt, alloc, 5).ok()?;
-    let woke_fifth = fifth.wake(rt);
-    let woke_third = third.wake(rt);
-    let woke_again = third.wake(rt);
-    let drained = inbox.drain(rt, alloc, tasks).is_ok();
+) {
+    let mut tasks = Vec::new(alloc);
+    let third = inbox.waker(rt, alloc, 3).expect(rt, "memory");
+    let fifth = inbox.waker(rt, alloc, 5).expect(rt, "memory");
+    assert!(rt; fifth.task() == 5);
+    assert!(rt; fifth.wake(rt));
+    assert!(rt; third.wake(rt));
+    assert!(rt; !third.wake(rt));
+    inbox.drain(rt, alloc, &mut tasks).expect(rt, "memory");
+    assert!(rt; tasks.as_slice() == [5, 3].as_slice());
     inbox.retire(rt, 3);
-    let woke_retired = third.wake(rt);
-    let named = fifth.task() == 5;
-    Some(named && woke_fifth && woke_third && !woke_again && drained && !woke_retired)
+    assert!(rt; !third.wake(rt));
 }
 
-fn drains_in_order<L: Ledger, R: Host>(rt: &R, alloc: Global, blank: Blank) -> Option<bool>
+fn drained_without_shares<L: Ledger, R: Host + Abort>(rt: &R, alloc: Global, blank: Blank)
     requires { (blank.name ≡ L.name) × (blank.parts ≡ L.parts) × (blank.parts ≡ 0) }
 {
-    let mut tasks = Vec::new(alloc);
-    let (inbox, shares) = opened::<L>(alloc, 16, 4, 0, blank)?;
-    let answers = takes_in_order(rt, alloc, &inbox, &mut tasks) == Some(true);
-    let gathered = matches!(inbox.gather(rt, shares), Ok(0));
-    Some(answers && gathered && tasks.as_slice() == [5, 3].as_slice())
+    let (inbox, shares) = opened::<L, R>(rt, alloc, 16, 4, 0, blank);
+    drains_in_order(rt, alloc, &inbox);
+    assert!(rt; matches!(inbox.gather(rt, shares), Ok(0)));
 }
 
 #[test]
 fn a_recorded_inbox_drains_in_order(rt: HostRuntime) {
-    assert!(rt; drains_in_order::<Brand, _>(&rt, rt.alloc(), Blank::new(0)) == Some(true));
+    drained_without_shares::<Brand, _>(&rt, rt.alloc(), Blank::new(0));
 }
 
 /// How often each caller wakes its task.
@@ -157,20 +154,20 @@ fn start<L: Ledger + Send + Sync + 'static, R: Host + Copy + Send + 'static>(
 }
 
 /// Two threads, each of which wakes a task of its own.
-fn start_two<L: Ledger + Send + Sync + 'static, R: Host + Copy + Send + 'static>(
+fn start_two<L: Ledger + Send + Sync + 'static, R: Host + Abort + Copy + Send + 'static>(
     rt: R,
     alloc: Global,
     inbox: &RecordedInbox<NoUnpark, L>,
     shares: &mut Vec<CallShare<L>>,
-) -> Option<(Waking<L>, Waking<L>)> {
-    let second = shares.pop()?;
-    let first = shares.pop()?;
-    if first.number() != 0 || second.number() != 1 {
-        return None;
-    }
-    let first = start(rt, inbox.waker(&rt, alloc, 0).ok()?, first)?;
-    let second = start(rt, inbox.waker(&rt, alloc, 1).ok()?, second)?;
-    Some((first, second))
+) -> (Waking<L>, Waking<L>) {
+    let second = shares.pop().expect(&rt, "a share");
+    let first = shares.pop().expect(&rt, "a share");
+    assert!(rt; first.number() == 0 && second.number() == 1);
+    let waker = inbox.waker(&rt, alloc, 0).expect(&rt, "memory");
+    let first = start(rt, waker, first).expect(&rt, "a thread");
+    let waker = inbox.waker(&rt, alloc, 1).expect(&rt, "memory");
+    let second = start(rt, waker, second).expect(&rt, "a thread");
+    (first, second)
 }
 
 /// How many wakes of the task were kept.
@@ -193,61 +190,56 @@ fn keeps_all(state: &InboxState, gathered: u64) -> bool {
         && !state.is_full()
 }
 
-fn two_callers<L: Ledger + Send + Sync + 'static, R: Host + Copy + Send + 'static>(
+fn two_callers<L: Ledger + Send + Sync + 'static, R: Host + Abort + Copy + Send + 'static>(
     rt: R,
     alloc: Global,
     blank: Blank,
-) -> Option<u64>
+) -> u64
     requires { (blank.name ≡ L.name) × (blank.parts ≡ L.parts) × (blank.parts ≡ 2) }
 {
-    let (inbox, mut shares) = opened::<L>(alloc, 4, 256, 2, blank)?;
-    let (first, second) = start_two(rt, alloc, &inbox, &mut shares)?;
+    let (inbox, mut shares) = opened::<L, R>(&rt, alloc, 4, 256, 2, blank);
+    let (first, second) = start_two(rt, alloc, &inbox, &mut shares);
     let (first, first_wakes) = first.join(&rt);
     let (second, second_wakes) = second.join(&rt);
-    shares.push(first).ok()?;
-    let mut shares = inbox.gather(&rt, shares).err()?;
-    shares.push(second).ok()?;
-    let gathered = inbox.gather(&rt, shares).ok()?;
-    let kept = inbox.look(&rt, |state| keeps_all(state, gathered));
-    if kept && first_wakes == WAKES && second_wakes == WAKES {
-        Some(gathered)
-    } else {
-        None
-    }
+    assert!(rt; first_wakes == WAKES && second_wakes == WAKES);
+    shares.push(first).expect(&rt, "memory");
+    let mut shares = inbox
+        .gather(&rt, shares)
+        .err()
+        .expect(&rt, "a share is missing");
+    shares.push(second).expect(&rt, "memory");
+    let gathered = inbox.gather(&rt, shares).ok().expect(&rt, "all shares");
+    assert!(rt; inbox.look(&rt, |state| keeps_all(state, gathered)));
+    gathered
 }
 
 #[test]
 fn two_threads_count_their_wakes(rt: HostRuntime) {
-    assert!(rt; two_callers::<Brand, _>(rt, rt.alloc(), Blank::new(2)) == Some(200));
+    assert!(rt; two_callers::<Brand, _>(rt, rt.alloc(), Blank::new(2)) == 200);
 }
 
-/// Whether the first wake is kept and counted, and the second is not, since the state then keeps no more calls.
-fn counts_one<L: Ledger, R: Host>(
+/// The first wake is kept and counted, and the second is not, since the state then keeps no more calls.
+fn counts_one<L: Ledger, R: Host + Abort>(
     rt: &R,
     waker: &RecordedWaker<NoUnpark, L>,
     share: &mut CallShare<L>,
-) -> bool {
-    if share.calls() != 0 {
-        return false;
-    }
-    let kept = waker.wake_with(rt, share);
-    if share.calls() != 1 {
-        return false;
-    }
-    let unkept = waker.wake_with(rt, share);
-    kept == PutReply::Kept(true) && unkept == PutReply::Unkept(false)
+) {
+    assert!(rt; share.calls() == 0);
+    assert!(rt; waker.wake_with(rt, share) == PutReply::Kept(true));
+    assert!(rt; share.calls() == 1);
+    assert!(rt; waker.wake_with(rt, share) == PutReply::Unkept(false));
 }
 
-fn full_state<L: Ledger, R: Host>(rt: &R, alloc: Global, blank: Blank) -> Option<bool>
+fn full_state<L: Ledger, R: Host + Abort>(rt: &R, alloc: Global, blank: Blank)
     requires { (blank.name ≡ L.name) × (blank.parts ≡ L.parts) × (blank.parts ≡ 1) }
 {
-    let (inbox, mut shares) = opened::<L>(alloc, 4, 2, 1, blank)?;
-    let waker = inbox.waker(rt, alloc, 7).ok()?;
-    let counts = counts_one(rt, &waker, shares.last_mut()?);
-    Some(counts && matches!(inbox.gather(rt, shares), Ok(1)))
+    let (inbox, mut shares) = opened::<L, R>(rt, alloc, 4, 2, 1, blank);
+    let waker = inbox.waker(rt, alloc, 7).expect(rt, "memory");
+    counts_one(rt, &waker, shares.last_mut().expect(rt, "a share"));
+    assert!(rt; matches!(inbox.gather(rt, shares), Ok(1)));
 }
 
 #[test]
 fn a_full_state_counts_no_more(rt: HostRuntime) {
-    assert!(rt; full_state::<Brand, _>(&rt, rt.alloc(), Blank::new(1)) == Some(true));
+    full_state::<Brand, _>(&rt, rt.alloc(), Blank::new(1));
 }
