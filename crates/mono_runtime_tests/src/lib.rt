@@ -4,10 +4,14 @@
 #[cfg(test)]
 mod builders;
 #[cfg(test)]
+mod cases;
+#[cfg(test)]
 mod jobs;
 #[cfg(test)]
 mod pools;
 #[cfg(test)]
 mod runtimes;
+#[cfg(test)]
+mod turning;
 #[cfg(test)]
 mod waits;

@@ -1,45 +1,20 @@
 // Another thread that wakes a sleeping runtime.
-ghost use Rattle.std.specs.Prelude.{◌≡◌, ⊤, false, None, IfOk};
+ghost use Rattle.std.specs.Prelude.{◌≡◌, ⊤, false, None};
 
-use mono_blocking::{BlockingHandle, BlockingStrategy, Job, NoPool, Outcome};
+use crate::cases::{Sleeping, a_runtime};
+use crate::turning::Gives;
+use mono_blocking::{BlockingHandle, BlockingStrategy, NoPool};
 use mono_inbox::{RemoteWaker, UnparkHandle};
 use mono_model::Host;
-use mono_rt::{Cx, Instant, Limits, ListClock, RunError, Runtime, ThreadDriver};
+use mono_rt::{Cx, RunError};
 use mono_task::{Poll, TaskFuture};
-use std::alloc::Global;
+use std::alloc::{AllocError, Global};
 use std::sync::atomic::{AtomicU64, Ordering};
 use std::sync::{Arc, Mutex};
-use std::test::Fail;
 use std::time::Duration;
 use std::{thread, time};
 
 const WAKES: u64 = 10000;
-
-const LIMITS: Limits = Limits {
-    tasks: 4,
-    jobs: 4,
-    sleeps: 4,
-};
-
-/// A job that is never handed out.
-#[derive(Drop)]
-struct Nothing;
-
-impl Outcome for Nothing {
-    ghost output_number = { λ _. 0 };
-
-    fn number(&self) -> u64 {
-        0
-    }
-}
-
-impl Job for Nothing {
-    type Output = ();
-
-    type Unpark = UnparkHandle;
-
-    fn run(self) {}
-}
 
 /// What the future and the other thread share: how often the future was polled, and its waker.
 #[derive(Drop)]
@@ -57,7 +32,7 @@ struct Counts {
 
 impl Counts {
     /// Hands the waker out, where that was not done.
-    fn give_out<R: Host>(&mut self, rt: &R, cx: &mut Cx<Counts, u64, NoPool<Nothing>, UnparkHandle>)
+    fn give_out<R: Host>(&mut self, rt: &R, cx: &mut Cx<Counts, u64, NoPool<Gives>, UnparkHandle>)
         ensures { cx.new ≡ cx.old }
     {
         if self.has_given {
@@ -73,7 +48,7 @@ impl Counts {
     }
 }
 
-impl TaskFuture<Cx<Counts, u64, NoPool<Nothing>, UnparkHandle>> for Counts {
+impl TaskFuture<Cx<Counts, u64, NoPool<Gives>, UnparkHandle>> for Counts {
     type Output = u64;
 
     ghost is_spent = { λ f. false };
@@ -90,7 +65,7 @@ impl TaskFuture<Cx<Counts, u64, NoPool<Nothing>, UnparkHandle>> for Counts {
         &mut self,
         rt: &R,
         _alloc: Global,
-        cx: &mut Cx<Counts, u64, NoPool<Nothing>, UnparkHandle>,
+        cx: &mut Cx<Counts, u64, NoPool<Gives>, UnparkHandle>,
     ) -> Poll<u64> {
         self.give_out(rt, cx);
         let polls = self.shared.polls.fetch_add(1, Ordering::SeqCst);
@@ -101,7 +76,7 @@ impl TaskFuture<Cx<Counts, u64, NoPool<Nothing>, UnparkHandle>> for Counts {
         }
     }
 
-    fn cancel(self, _cx: &mut Cx<Counts, u64, NoPool<Nothing>, UnparkHandle>) {}
+    fn cancel(self, _cx: &mut Cx<Counts, u64, NoPool<Gives>, UnparkHandle>) {}
 }
 
 /// Whether the future was polled more often than this, within some seconds.
@@ -153,21 +128,8 @@ fn wakes<R: Host>(rt: &R, shared: &Shared) -> u64 {
     lost
 }
 
-/// A runtime that sleeps by a thread's park.
-type Sleeping = Runtime<Counts, u64, ThreadDriver<ListClock>, NoPool<Nothing>>;
-
-fn a_runtime(alloc: Global) -> Result<Sleeping, Fail>
-    ensures { IfOk result (λ runtime. runtime.cx.parts.tasks.turn ≡ None) }
-{
-    let zero = Instant::from_nanos(0).ok_or("an instant")?;
-    let driver = ThreadDriver::new(alloc, ListClock::new(vec![in alloc; zero]?))?;
-    let pool = BlockingHandle::Empty(BlockingStrategy::Panic);
-    let runtime = Runtime::new(alloc, driver, pool, LIMITS, false, zero)?;
-    Ok(runtime)
-}
-
 /// What the main task and the other thread share at first.
-fn a_share(alloc: Global) -> Result<Arc<Shared, Global>, Fail> {
+fn a_share(alloc: Global) -> Result<Arc<Shared, Global>, AllocError> {
     Ok(Arc::new(
         alloc,
         Shared {
@@ -178,29 +140,34 @@ fn a_share(alloc: Global) -> Result<Arc<Shared, Global>, Fail> {
 }
 
 /// The answer of a main task that another thread wakes, and how often it was not polled in time.
-fn woken<R: Host + Copy + Send + 'static>(
+fn woken_on<R: Host + Copy + Send + 'static>(
     rt: R,
     alloc: Global,
-    runtime: &mut Sleeping,
-) -> Result<(Result<u64, RunError>, u64), Fail>
+    runtime: &mut Sleeping<Counts, NoPool<Gives>>,
+) -> Option<(Result<u64, RunError>, u64)>
     requires { runtime.old.cx.parts.tasks.turn ≡ None }
 {
-    let shared = a_share(alloc)?;
-    let theirs = Arc::try_clone(&shared)?;
-    let other = thread::spawn(&rt, move || wakes(&rt, &theirs))
-        .ok()
-        .ok_or("a thread")?;
+    let shared = a_share(alloc).ok()?;
+    let theirs = Arc::try_clone(&shared).ok()?;
+    let other = thread::spawn(&rt, move || wakes(&rt, &theirs)).ok()?;
     let main = Counts {
         shared,
         has_given: false,
     };
     let answer = runtime.block_on(&rt, alloc, main, 1000000);
-    Ok((answer, other.join(&rt)))
+    Some((answer, other.join(&rt)))
+}
+
+fn woken<R: Host + Copy + Send + 'static>(
+    rt: R,
+    alloc: Global,
+) -> Option<(Result<u64, RunError>, u64)> {
+    let pool = BlockingHandle::Empty(BlockingStrategy::Panic);
+    let mut runtime = a_runtime(alloc, pool, 4).ok()?;
+    woken_on(rt, alloc, &mut runtime)
 }
 
 #[test]
-fn no_wake_of_a_sleeping_runtime_is_lost(rt: HostRuntime) -> Result<(), Fail> {
-    let mut runtime = a_runtime(rt.alloc())?;
-    assert_eq!(rt; woken(rt, rt.alloc(), &mut runtime)?, (Ok(WAKES), 0));
-    Ok(())
+fn no_wake_of_a_sleeping_runtime_is_lost(rt: HostRuntime) {
+    assert_eq!(rt; woken(rt, rt.alloc()), Some((Ok(WAKES), 0)));
 }
