@@ -1,69 +1,101 @@
 // What is said of words that are no command.
 use mono_usage::complaint;
-use std::alloc::{AllocError, Global};
+use std::alloc::Global;
 
-fn said(alloc: Global, text: &str) -> Result<String, AllocError> {
+// The words of a text. Where memory ends they are fewer.
+fn words_of(alloc: Global, text: &str) -> Vec<String> {
     let mut words = Vec::new(alloc);
     for word in text.split(' ') {
         if !word.is_empty() {
-            words.push(String::from_str(alloc, word)?)?;
+            if let Ok(word) = String::from_str(alloc, word) {
+                let _ = words.push(word);
+            }
         }
     }
-    complaint(alloc, &words)
+    words
+}
+
+// Whether this sentence is said of the words of the text.
+fn says(alloc: Global, text: &str, sentence: &str) -> bool {
+    let words = words_of(alloc, text);
+    match complaint(alloc, &words) {
+        Ok(said) => said.as_str() == sentence,
+        Err(_) => false,
+    }
 }
 
 #[test]
-fn the_wrong_word_is_named(rt: HostRuntime) -> Result<(), AllocError> {
+fn the_wrong_word_is_named(rt: HostRuntime) {
+    let alloc = rt.alloc();
     let missing = "a command is missing: replay, run, load, sessions, limiter, actors or check";
-    let table = [
-        ("", missing),
-        (
+    let are_said = [
+        says(alloc, "", missing),
+        says(
+            alloc,
             "reply attached 1 1 1",
             "\"reply\" is no command: replay, run, load, sessions, limiter, actors or check",
         ),
-        (
+        says(
+            alloc,
             "replay detached 1 1 1",
             "replay: \"detached\": STRATEGY is attached, local or panic",
         ),
-        (
+        says(
+            alloc,
             "replay local 1 01 1",
             "replay: \"01\": JOBS is a number below 2^64",
         ),
-        (
+        says(
+            alloc,
             "replay local 1 1",
             "replay: a word is missing: SLEEPS is a number below 2^64",
         ),
-        ("replay local 1 1 1 1", "replay: \"1\" is a word too many"),
-        (
+        says(
+            alloc,
+            "replay local 1 1 1 1",
+            "replay: \"1\" is a word too many",
+        ),
+        says(
+            alloc,
             "load 7 100001",
             "load: \"100001\": COUNT is a number, at most 100000",
         ),
-        (
+        says(
+            alloc,
             "load 18446744073709551616 1",
             "load: \"18446744073709551616\": SEED is a number below 2^64",
         ),
-        ("run 65 1", "run: \"65\": WORKERS is a number, at most 64"),
-        (
+        says(
+            alloc,
+            "run 65 1",
+            "run: \"65\": WORKERS is a number, at most 64",
+        ),
+        says(
+            alloc,
             "run 0 65537",
             "run: \"65537\": TURNS is a number, at most 65536",
         ),
-        ("sessions 1 1 x", "sessions: \"x\" is a word too many"),
-        (
+        says(
+            alloc,
+            "sessions 1 1 x",
+            "sessions: \"x\" is a word too many",
+        ),
+        says(
+            alloc,
             "limiter 1",
             "limiter: a word is missing: RETRIES is a number below 2^64",
         ),
-        (
+        says(
+            alloc,
             "actors -1 1",
             "actors: \"-1\": ACTORS is a number below 2^64",
         ),
-        (
+        says(
+            alloc,
             "check attached 1 1 1.0",
             "check: \"1.0\": SLEEPS is a number below 2^64",
         ),
-        ("check attached 1 1 1", "nothing is wrong"),
+        says(alloc, "check attached 1 1 1", "nothing is wrong"),
     ];
-    for (words, sentence) in table {
-        assert_eq!(&rt; said(rt.alloc(), words)?.as_str(), sentence);
-    }
-    Ok(())
+    assert!(&rt; are_said == [true; 15]);
 }
