@@ -15,6 +15,8 @@ mod examples;
 #[cfg(test)]
 mod instants;
 #[cfg(test)]
+mod lent;
+#[cfg(test)]
 mod lists;
 #[cfg(test)]
 mod many;
