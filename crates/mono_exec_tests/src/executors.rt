@@ -3,7 +3,6 @@ use mono_exec::{
     TurnStep, replay,
 };
 use std::alloc::{AllocError, Global};
-use std::test::Fail;
 
 const LIMITS: Limits = Limits {
     tasks: 16,
@@ -19,44 +18,30 @@ fn turn(alloc: Global, steps: &[TurnStep], end: End) -> Result<Event, AllocError
     Ok(Event::Turn(list, end))
 }
 
+/// What an executor answers to an event that has a reply.
+fn reply(alloc: Global, exec: &mut Exec, event: &Event) -> Option<Reply> {
+    match exec.apply(alloc, event) {
+        Ok(Report::Reply(told)) => Some(told),
+        _ => None,
+    }
+}
+
 /// What an executor answers to an act.
-fn act(alloc: Global, exec: &mut Exec, asked: Act) -> Result<Report, AllocError> {
-    exec.apply(alloc, &Event::Act(asked))
+fn act(alloc: Global, exec: &mut Exec, asked: Act) -> Option<Reply> {
+    reply(alloc, exec, &Event::Act(asked))
 }
 
-/// What an executor answers to a clock step to so many nanoseconds.
-fn clock(alloc: Global, exec: &mut Exec, nanos: u128) -> Result<Report, AllocError> {
-    exec.apply(alloc, &Event::Clock(nanos))
-}
-
-/// What an executor answers to a turn of these steps.
-fn run(alloc: Global, exec: &mut Exec, steps: &[TurnStep]) -> Result<Report, AllocError> {
-    let event = turn(alloc, steps, End::Pending)?;
-    exec.apply(alloc, &event)
-}
-
-/// The next expiration after an act.
-fn next_after_act(alloc: Global, exec: &mut Exec, asked: Act) -> Result<Option<u64>, AllocError> {
-    act(alloc, exec, asked)?;
-    Ok(exec.timers().next_expiration_time())
-}
-
-/// The next expiration after a clock step.
-fn next_after_clock(
-    alloc: Global,
-    exec: &mut Exec,
-    nanos: u128,
-) -> Result<Option<u64>, AllocError> {
-    clock(alloc, exec, nanos)?;
-    Ok(exec.timers().next_expiration_time())
-}
-
-/// Whether the report is this answer to an act.
-fn is_reply(report: &Report, reply: Reply) -> bool {
-    match report {
-        Report::Reply(told) => *told == reply,
+/// Whether exactly these sleeps fire at a clock step to so many nanoseconds.
+fn fires(alloc: Global, exec: &mut Exec, nanos: u128, sleeps: &[u64]) -> bool {
+    match exec.apply(alloc, &Event::Clock(nanos)) {
+        Ok(Report::Fired(told)) => told.as_slice() == sleeps,
         _ => false,
     }
+}
+
+/// The next expiration.
+fn next(exec: &Exec) -> Option<u64> {
+    exec.timers().next_expiration_time()
 }
 
 /// Whether the report is that of a turn with these answers.
@@ -78,21 +63,18 @@ fn has_fired(report: &Report, sleeps: &[u64]) -> bool {
 }
 
 #[test]
-fn lists(rt: HostRuntime) -> Result<(), Fail> {
+fn lists(rt: HostRuntime) {
     let mut list = List::new(rt.alloc());
     assert!(rt; list.is_empty());
-    list.push(7)?;
-    list.push(8)?;
-    assert_eq!(rt; list.len(), 2);
-    assert_eq!(rt; list.get(1), Some(&8));
-    assert_eq!(rt; list.get(2), None);
-    assert_eq!(rt; list.as_slice(), [7, 8].as_slice());
+    assert!(rt; list.push(7).is_ok());
+    assert!(rt; list.push(8).is_ok());
+    assert!(rt; list.len() == 2 && list.get(1) == Some(&8) && list.get(2) == None);
+    assert!(rt; list.as_slice() == [7, 8].as_slice());
     list.clear();
-    assert_eq!(rt; list.len(), 0);
+    assert!(rt; list.len() == 0);
     let mut items = Vec::new(rt.alloc());
-    items.push(5)?;
-    assert_eq!(rt; List::from(items).as_slice(), [5].as_slice());
-    Ok(())
+    assert!(rt; items.push(5).is_ok());
+    assert!(rt; List::from(items).as_slice() == [5].as_slice());
 }
 
 /// A sleep that is armed, and a clock step just before its deadline's tick and one at it.
@@ -101,19 +83,20 @@ fn events_of_both_roundings(alloc: Global) -> Result<Vec<Event>, AllocError> {
         TurnStep::Act(Act::NewSleep(1000001)),
         TurnStep::Query(Query::Sleep(0)),
     ];
-    let mut events = Vec::new(alloc);
-    events.push(Event::Act(Act::Spawn))?;
-    events.push(turn(alloc, &steps, End::Pending)?)?;
-    events.push(Event::Clock(1999999))?;
-    events.push(Event::Clock(2000000))?;
-    Ok(events)
+    let turned = turn(alloc, &steps, End::Pending)?;
+    Ok(vec![in alloc;
+        Event::Act(Act::Spawn),
+        turned,
+        Event::Clock(1999999),
+        Event::Clock(2000000),
+    ]?)
 }
 
 /// Whether these are the reports of it.
 fn are_both_roundings(reports: &[Report]) -> bool {
     match reports {
-        [spawned, turned, before, at] => {
-            is_reply(spawned, Reply::Task(0))
+        [Report::Reply(spawned), turned, before, at] => {
+            *spawned == Reply::Task(0)
                 && is_turn(turned, 0, &[Reply::Sleep(0), Reply::Pending], Ended::Idle)
                 && has_fired(before, &[])
                 && has_fired(at, &[0])
@@ -122,60 +105,60 @@ fn are_both_roundings(reports: &[Report]) -> bool {
     }
 }
 
-#[test]
-fn both_roundings(rt: HostRuntime) -> Result<(), Fail> {
-    let events = events_of_both_roundings(rt.alloc())?;
-    let reports = replay(rt.alloc(), LIMITS, Blocking::Attached, &events)?;
-    assert!(rt; are_both_roundings(reports.as_slice()));
-    Ok(())
+/// Whether a run of these events reports it.
+fn replays(alloc: Global, events: &Vec<Event>) -> bool {
+    match replay(alloc, LIMITS, Blocking::Attached, events) {
+        Ok(reports) => are_both_roundings(reports.as_slice()),
+        Err(_) => false,
+    }
 }
 
-// Both roundings on the table of sleeps: the deadline is rounded up to its tick.
-/// A task sleeps to an instant.
-fn sleeps_to(alloc: Global, exec: &mut Exec, nanos: u128) -> Result<(), AllocError> {
+#[test]
+fn both_roundings(rt: HostRuntime) {
+    let events = events_of_both_roundings(rt.alloc()).expect(&rt, "memory");
+    assert!(rt; replays(rt.alloc(), &events));
+}
+
+/// Whether a task is spawned, the clock goes to a time in nanoseconds, and the task then sleeps to a later one.
+fn arm(alloc: Global, exec: &mut Exec, elapsed: u128, nanos: u128) -> bool {
     let steps = [
         TurnStep::Act(Act::NewSleep(nanos)),
         TurnStep::Query(Query::Sleep(0)),
     ];
-    run(alloc, exec, &steps)?;
-    Ok(())
-}
-
-/// The next expirations around the only sleep's deadline.
-fn next_of_one(alloc: Global, exec: &mut Exec) -> Result<(Option<u64>, Option<u64>), AllocError> {
-    act(alloc, exec, Act::Spawn)?;
-    sleeps_to(alloc, exec, 1000001)?;
-    let before = exec.timers().next_expiration_time();
-    let after = next_after_clock(alloc, exec, 2000000)?;
-    Ok((before, after))
+    let Ok(event) = turn(alloc, &steps, End::Pending) else {
+        return false;
+    };
+    let is_spawned = act(alloc, exec, Act::Spawn) == Some(Reply::Task(0));
+    is_spawned && fires(alloc, exec, elapsed, &[]) && exec.apply(alloc, &event).is_ok()
 }
 
 #[test]
-fn next_expiration(rt: HostRuntime) -> Result<(), Fail> {
-    let mut exec = Exec::new(rt.alloc(), LIMITS, Blocking::Attached)?;
-    assert_eq!(rt; next_of_one(rt.alloc(), &mut exec)?, (Some(2), None));
-    assert_eq!(rt; exec.timers().greatest(), 2);
-    Ok(())
+fn next_expiration(rt: HostRuntime) {
+    let alloc = rt.alloc();
+    let mut exec = Exec::new(alloc, LIMITS, Blocking::Attached).expect(&rt, "memory");
+    assert!(rt; arm(alloc, &mut exec, 0, 1000001));
+    assert!(rt; next(&exec) == Some(2));
+    assert!(rt; fires(alloc, &mut exec, 2000000, &[0]));
+    assert!(rt; next(&exec) == None && exec.timers().greatest() == 2);
 }
 
-/// The clock goes to a tick, and a sleep is then armed at a later one.
-fn arm(alloc: Global, exec: &mut Exec, elapsed: u64, tick: u64) -> Result<(), AllocError> {
-    act(alloc, exec, Act::Spawn)?;
-    clock(alloc, exec, u128::from(elapsed) * 1000000)?;
-    sleeps_to(alloc, exec, u128::from(tick) * 1000000)
-}
-
-// A new executor whose clock goes to a tick, and where a sleep is then armed at a later one.
-fn armed_at(alloc: Global, elapsed: u64, tick: u64) -> Result<Exec, AllocError> {
-    let mut exec = Exec::new(alloc, LIMITS, Blocking::Attached)?;
-    arm(alloc, &mut exec, elapsed, tick)?;
-    Ok(exec)
+// The next expiration of a new executor whose clock goes to a tick, and where a sleep is then armed at a later one.
+fn next_of_armed(alloc: Global, elapsed: u64, tick: u64) -> Option<u64> {
+    let Ok(mut exec) = Exec::new(alloc, LIMITS, Blocking::Attached) else {
+        return None;
+    };
+    arm(
+        alloc,
+        &mut exec,
+        u128::from(elapsed) * 1000000,
+        u128::from(tick) * 1000000,
+    );
+    next(&exec)
 }
 
 // The next expiration is the start of the slot of an armed tick, and not the tick.
 #[test]
-fn next_expirations(rt: HostRuntime) -> Result<(), Fail> {
-    let alloc = rt.alloc();
+fn next_expirations(rt: HostRuntime) {
     let cases = [
         (0, 100, 64),
         (64, 100, 100),
@@ -184,33 +167,31 @@ fn next_expirations(rt: HostRuntime) -> Result<(), Fail> {
         (5, (1 << 36) + (1 << 31), 1 << 36),
         (5, (1 << 42) + (1 << 37), 1 << 37),
     ];
-    for case in &cases {
-        let exec = armed_at(alloc, case.0, case.1)?;
-        assert_eq!(rt; exec.timers().next_expiration_time(), Some(case.2));
+    for (elapsed, tick, start) in cases {
+        assert_eq!(rt; next_of_armed(rt.alloc(), elapsed, tick), Some(start));
     }
-    Ok(())
 }
 
-/// Whether a sleep at tick 100 that is reset to a later tick stays where it is registered, until the clock comes to the
-/// start of its slot, and whether it fires at an earlier one.
-fn stays_registered(alloc: Global, exec: &mut Exec) -> Result<bool, AllocError> {
-    let later = next_after_act(alloc, exec, Act::Reset(0, 130000000))?;
-    let moved = next_after_clock(alloc, exec, 64000000)?;
-    let earlier = next_after_act(alloc, exec, Act::Reset(0, 100000000))?;
-    let fired = has_fired(&clock(alloc, exec, 100000000)?, &[0]);
-    Ok(later == Some(64) && moved == Some(128) && earlier == Some(100) && fired)
-}
-
+// A sleep at tick 100 that is reset to a later tick stays where it is registered, until the clock comes to the start of
+// its slot, and fires at an earlier one.
 #[test]
-fn registered_ticks(rt: HostRuntime) -> Result<(), Fail> {
-    let mut exec = armed_at(rt.alloc(), 0, 100)?;
-    assert!(rt; stays_registered(rt.alloc(), &mut exec)?);
-    assert_eq!(rt; exec.timers().next_expiration_time(), None);
-    Ok(())
+fn registered_ticks(rt: HostRuntime) {
+    let alloc = rt.alloc();
+    let mut exec = Exec::new(alloc, LIMITS, Blocking::Attached).expect(&rt, "memory");
+    assert!(rt; arm(alloc, &mut exec, 0, 100000000));
+    assert!(rt; act(alloc, &mut exec, Act::Reset(0, 130000000)).is_some());
+    assert!(rt; next(&exec) == Some(64));
+    assert!(rt; fires(alloc, &mut exec, 64000000, &[]));
+    assert!(rt; next(&exec) == Some(128));
+    assert!(rt; act(alloc, &mut exec, Act::Reset(0, 100000000)).is_some());
+    assert!(rt; next(&exec) == Some(100));
+    assert!(rt; fires(alloc, &mut exec, 100000000, &[0]));
+    assert!(rt; next(&exec) == None);
 }
 
-/// Whether an executor without room for a task, with room for one sleep, gives each act its refusal in order.
-fn refuses_acts(alloc: Global, exec: &mut Exec) -> Result<bool, AllocError> {
+/// The number of the first act to which an executor without room for a task, with room for one sleep, gives another
+/// answer, or none.
+fn wrong_refusal(alloc: Global, exec: &mut Exec) -> Option<usize> {
     let cases = [
         (Act::Spawn, Reply::Refused(Refusal::AtCapacity)),
         (Act::Wake(0), Reply::Refused(Refusal::NoTask)),
@@ -224,41 +205,40 @@ fn refuses_acts(alloc: Global, exec: &mut Exec) -> Result<bool, AllocError> {
             Reply::Refused(Refusal::AtCapacity),
         ),
     ];
-    for case in &cases {
-        if !is_reply(&act(alloc, exec, case.0)?, case.1) {
-            return Ok(false);
+    let mut number = 0usize;
+    for (asked, told) in cases {
+        if act(alloc, exec, asked) != Some(told) {
+            return Some(number);
         }
+        number = number.wrapping_add(1);
     }
-    Ok(true)
+    None
 }
 
 #[test]
-fn refused_acts(rt: HostRuntime) -> Result<(), Fail> {
+fn refused_acts(rt: HostRuntime) {
     let limits = Limits {
         tasks: 0,
         jobs: 0,
         sleeps: 1,
     };
-    let mut exec = Exec::new(rt.alloc(), limits, Blocking::ExecuteLocal)?;
-    assert!(rt; refuses_acts(rt.alloc(), &mut exec)?);
-    Ok(())
+    let mut exec = Exec::new(rt.alloc(), limits, Blocking::ExecuteLocal).expect(&rt, "memory");
+    assert_eq!(rt; wrong_refusal(rt.alloc(), &mut exec), None);
 }
 
-/// Whether a clock step past the last instant and a turn without a task are refused.
-fn refuses_events(alloc: Global, exec: &mut Exec) -> Result<bool, AllocError> {
-    let late = is_reply(
-        &clock(alloc, exec, MAX_NANOS + 1)?,
-        Reply::Refused(Refusal::Invalid),
-    );
-    let idle = is_reply(&run(alloc, exec, &[])?, Reply::Refused(Refusal::Idle));
-    Ok(late && idle)
-}
-
+// A clock step past the last instant and a turn without a task are refused.
 #[test]
-fn refused_events(rt: HostRuntime) -> Result<(), Fail> {
-    let mut exec = Exec::new(rt.alloc(), LIMITS, Blocking::Attached)?;
-    assert!(rt; refuses_events(rt.alloc(), &mut exec)?);
-    Ok(())
+fn refused_events(rt: HostRuntime) {
+    let alloc = rt.alloc();
+    let mut exec = Exec::new(alloc, LIMITS, Blocking::Attached).expect(&rt, "memory");
+    let late = reply(alloc, &mut exec, &Event::Clock(MAX_NANOS + 1));
+    assert!(rt; late == Some(Reply::Refused(Refusal::Invalid)));
+    let idle = reply(
+        alloc,
+        &mut exec,
+        &Event::Turn(List::new(alloc), End::Pending),
+    );
+    assert!(rt; idle == Some(Reply::Refused(Refusal::Idle)));
 }
 
 /// One turn that makes 300 sleeps, for 1 to 300 milliseconds, and polls each.
@@ -271,12 +251,12 @@ fn many_sleeps(alloc: Global) -> Result<Event, AllocError> {
     Ok(Event::Turn(list, End::Pending))
 }
 
-/// Whether the report is that of a clock step at which the sleeps from one number up to another fired, in order.
-fn has_fired_in_a_row(report: &Report, from: u64, to: u64) -> bool {
-    let mut next = from;
-    let Report::Fired(told) = report else {
+/// Whether the sleeps from one number up to another fire in order at a clock step.
+fn fire_in_a_row(alloc: Global, exec: &mut Exec, nanos: u128, from: u64, to: u64) -> bool {
+    let Ok(Report::Fired(told)) = exec.apply(alloc, &Event::Clock(nanos)) else {
         return false;
     };
+    let mut next = from;
     for sleep in told.as_slice() {
         if *sleep != next || next >= to {
             return false;
@@ -286,41 +266,28 @@ fn has_fired_in_a_row(report: &Report, from: u64, to: u64) -> bool {
     next == to
 }
 
-/// A task makes 300 sleeps, for 1 to 300 milliseconds.
-fn sleeps_often(alloc: Global, exec: &mut Exec) -> Result<(), AllocError> {
-    act(alloc, exec, Act::Spawn)?;
-    clock(alloc, exec, 0)?;
-    let event = many_sleeps(alloc)?;
-    exec.apply(alloc, &event)?;
-    Ok(())
-}
-
-/// Whether the sleeps fire in a row at four clock steps.
-fn fire_in_a_row(alloc: Global, exec: &mut Exec) -> Result<bool, AllocError> {
-    let cases = [
-        (100_000_000, 0, 100),
-        (105_000_000, 100, 105),
-        (105_000_000, 105, 105),
-        (300_000_000, 105, 300),
-    ];
-    for (nanos, from, to) in cases {
-        if !has_fired_in_a_row(&clock(alloc, exec, nanos)?, from, to) {
-            return Ok(false);
-        }
-    }
-    Ok(true)
+/// Whether a task makes 300 sleeps, for 1 to 300 milliseconds.
+fn sleeps_often(alloc: Global, exec: &mut Exec) -> bool {
+    let Ok(event) = many_sleeps(alloc) else {
+        return false;
+    };
+    let is_spawned = act(alloc, exec, Act::Spawn) == Some(Reply::Task(0));
+    is_spawned && fires(alloc, exec, 0, &[]) && exec.apply(alloc, &event).is_ok()
 }
 
 // The lists of a clock step serve again for the next one, at which fewer fire, or more.
 #[test]
-fn clock_steps_in_a_row(rt: HostRuntime) -> Result<(), Fail> {
+fn clock_steps_in_a_row(rt: HostRuntime) {
+    let alloc = rt.alloc();
     let limits = Limits {
         tasks: 1,
         jobs: 0,
         sleeps: 300,
     };
-    let mut exec = Exec::new(rt.alloc(), limits, Blocking::Panic)?;
-    sleeps_often(rt.alloc(), &mut exec)?;
-    assert!(rt; fire_in_a_row(rt.alloc(), &mut exec)?);
-    Ok(())
+    let mut exec = Exec::new(alloc, limits, Blocking::Panic).expect(&rt, "memory");
+    assert!(rt; sleeps_often(alloc, &mut exec));
+    assert!(rt; fire_in_a_row(alloc, &mut exec, 100_000_000, 0, 100));
+    assert!(rt; fire_in_a_row(alloc, &mut exec, 105_000_000, 100, 105));
+    assert!(rt; fire_in_a_row(alloc, &mut exec, 105_000_000, 105, 105));
+    assert!(rt; fire_in_a_row(alloc, &mut exec, 300_000_000, 105, 300));
 }
