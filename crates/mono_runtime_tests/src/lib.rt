@@ -8,6 +8,8 @@ mod cases;
 #[cfg(test)]
 mod jobs;
 #[cfg(test)]
+mod naps;
+#[cfg(test)]
 mod pools;
 #[cfg(test)]
 mod runtimes;

@@ -3,8 +3,6 @@
 
 mod bounded;
 mod naps;
-#[cfg(test)]
-mod tests;
 
 pub use bounded::Bounded;
 pub use naps::{Nap, nap_within};
