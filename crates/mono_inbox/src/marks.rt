@@ -44,6 +44,7 @@ impl Marks {
     }
 
     /// How a task stands.
+    #[inline(always)]
     pub(crate) fn standing(&self, task: u64) -> Standing
         ensures { result ≡ standing_at self.now task }
     {
@@ -87,6 +88,7 @@ impl Marks {
 
     /// A task that has a place stands otherwise. It takes no memory, and gives back the memory of a page in which no task
     /// has a place any more and in which no number comes.
+    #[inline(always)]
     pub(crate) fn change(&mut self, task: u64, standing: Standing)
         requires { has_place (standing_at self.old task) ≡ true }
         ensures { self.new ≡ slice_set self.old task standing }

@@ -48,6 +48,7 @@ impl Page {
     }
 
     /// How the task at a place stands.
+    #[inline(always)]
     pub(crate) fn standing(&self, at: usize) -> Standing
         ensures { result ≡ standing_at self.now at }
     {
@@ -72,6 +73,7 @@ impl Page {
 
     /// The task at a place, which has a place in the list, stands otherwise. Where the page is closed and that was its last
     /// task with a place, its memory is given back.
+    #[inline(always)]
     pub(crate) fn change(&mut self, at: usize, standing: Standing, is_closed: bool)
         requires { has_place (standing_at self.old at) ≡ true }
         ensures { self.new ≡ left_of is_closed (slice_set self.old at standing) }
@@ -92,6 +94,7 @@ impl Page {
     }
 
     // The task at a place, which has a place in the list, stands otherwise.
+    #[inline(always)]
     fn write(&mut self, at: usize, standing: Standing)
         requires { has_place (standing_at self.old at) ≡ true }
         ensures { self.new ≡ slice_set self.old at standing }

@@ -52,6 +52,7 @@ impl Part {
     }
 
     /// How a task stands.
+    #[inline(always)]
     pub(crate) fn standing(&self, task: usize) -> Standing
         ensures { result ≡ standing_at self.now task }
     {
@@ -87,6 +88,7 @@ impl Part {
 
     /// A task that has a place stands otherwise. Where the part is closed and that was its last task with a place, its
     /// memory is given back.
+    #[inline(always)]
     pub(crate) fn change(&mut self, task: usize, standing: Standing, is_closed: bool)
         requires { has_place (standing_at self.old task) ≡ true }
         ensures { self.new ≡ left_of is_closed (slice_set self.old task standing) }

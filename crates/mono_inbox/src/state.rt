@@ -121,6 +121,7 @@ impl InboxState {
     }
 
     /// Makes the task unknown. Where it waits, its entry stays until the drain.
+    #[inline(always)]
     pub fn retire(&mut self, task: u64)
         ensures state { Forgets self.old.state self.new.state task }
         ensures kept { self.new.log ≡ with_entry self.old.log (Retire task) }

@@ -56,6 +56,7 @@ impl<T> ReadyTable<T> {
     }
 
     /// Whether a number has a value. It has none where it is gone or was never given out.
+    #[inline(always)]
     pub fn has(&self, number: u64) -> bool
         ensures { result ≡ is_some (value_at self.now.table number) }
     {
@@ -67,6 +68,7 @@ impl<T: Drop> ReadyTable<T> {
     /// A place for the next number, which holds this value until then. Where one stands ready, it stays.
     ///
     /// Refused for want of memory, or where the numbers are used up: 2^64 - 1 is never given out. All is as it was then.
+    #[inline(always)]
     pub fn reserve(&mut self, alloc: Global, filler: T) -> Result<(), AllocError>
         ensures place { OnOk result (HasPlace self.new) }
         ensures table { self.new.table ≡ self.old.table }
@@ -82,6 +84,7 @@ impl<T: Drop> ReadyTable<T> {
     }
 
     /// Gives the next number out, with this value, where its place stands ready. It takes no memory.
+    #[inline(always)]
     pub fn add(&mut self, value: T) -> u64
         requires { HasPlace self.old }
         ensures number { result ≡ next_number self.old.table }
@@ -94,6 +97,7 @@ impl<T: Drop> ReadyTable<T> {
     }
 
     /// Another value for a number that has one, which comes back. It takes no memory.
+    #[inline(always)]
     pub fn replace(&mut self, number: u64, value: T) -> T
         requires { is_some (value_at self.old.table number) ≡ true }
         ensures table { self.new.table ≡ with_value self.old.table number value }
@@ -104,6 +108,7 @@ impl<T: Drop> ReadyTable<T> {
 
     /// The value of a number that has one is gone. It takes no memory, and gives back the memory of a page in which nothing
     /// lives any more and in which no number comes.
+    #[inline(always)]
     pub fn remove(&mut self, number: u64)
         requires { is_some (value_at self.old.table number) ≡ true }
         ensures { self.new.table ≡ without self.old.table number }

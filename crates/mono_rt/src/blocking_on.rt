@@ -344,6 +344,7 @@ where
             Err(error) => Err(error),
             Ok(main) => {
                 let answer = self.run(rt, alloc, main, turns);
+                self.cx.wakers.retire_ended(rt);
                 let output = self.end_main(main);
                 match answer {
                     Err(error) => Err(error),

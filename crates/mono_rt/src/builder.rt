@@ -13,10 +13,10 @@ use crate::errors::RunError;
 use crate::journals::Journal;
 use crate::parts::Parts;
 use crate::runtimes::Runtime;
+use crate::wakers::Wakers;
 use mono_blocking::{BlockingHandle, BlockingStrategy, ThreadPool};
 use mono_driver::{Clock, Driver, StepDriver, ThreadDriver, TimeDriver};
 use mono_exec::Limits;
-use mono_inbox::Inbox;
 use mono_joinword::Outcome;
 use mono_model::Host;
 use mono_slots::Slots;
@@ -206,12 +206,12 @@ pub trait Buildable: Driver + Sized {
             limits,
             keeps_journal,
         } = this;
-        let inbox = Inbox::new(alloc, entries as usize, driver.unpark()?)?;
+        let wakers = Wakers::new(alloc, entries as usize, driver.unpark()?)?;
         let parts = Parts::new(alloc, limits, pool, Self::has_timers(), zero())?;
         let cx = Cx {
             parts,
             futures: Slots::new(alloc),
-            inbox,
+            wakers,
             waker: None,
         };
         Ok(Runtime {
@@ -267,7 +267,7 @@ impl<F: Drop, O: Outcome + Drop, D: Driver, P: ThreadPool + Drop> Runtime<F, O, 
         let Cx {
             parts,
             futures: _,
-            inbox: _,
+            wakers: _,
             waker: _,
         } = cx;
         let Parts { blocking, .. } = parts;

@@ -10,10 +10,10 @@ use crate::contexts::Cx;
 use crate::journals::Journal;
 use crate::parts::Parts;
 use crate::runtimes::Runtime;
+use crate::wakers::Wakers;
 use mono_blocking::{BlockingHandle, ThreadPool};
 use mono_driver::Driver;
 use mono_exec::Limits;
-use mono_inbox::Inbox;
 use mono_jobs::Blockings;
 use mono_joinword::Outcome;
 use mono_slots::Slots;
@@ -73,12 +73,12 @@ impl<F: Drop, O: Outcome + Drop, D: Driver, P: ThreadPool + Drop> Runtime<F, O, 
         ensures registered { IfOk result (λ runtime. (s : ℕ) → registered_of runtime.cx.parts.timers s ≡ None) }
     {
         let unpark = driver.unpark()?;
-        let inbox = Inbox::new(alloc, 1024, unpark)?;
+        let wakers = Wakers::new(alloc, 1024, unpark)?;
         let parts = Parts::new(alloc, limits, pool, has_timers, start)?;
         let cx = Cx {
             parts,
             futures: Slots::new(alloc),
-            inbox,
+            wakers,
             waker: None,
         };
         Ok(Runtime {

@@ -15,8 +15,9 @@ ghost use Rattle.mono_rt.specs.CallActs.{noted_wake, noted_join, noted_drop, not
 ghost use Rattle.mono_rt.specs.Reached.{Reaches, HasPlace, reaches_itself, reaches_on};
 
 use crate::parts::Parts;
+use crate::wakers::Wakers;
 use mono_blocking::ThreadPool;
-use mono_inbox::{Inbox, RemoteWaker, Unpark};
+use mono_inbox::{RemoteWaker, Unpark};
 use mono_jobs::Blockings;
 use mono_joinword::Outcome;
 use mono_slots::Slots;
@@ -30,7 +31,7 @@ pub struct Cx<F, O, P: ThreadPool, U: Unpark> {
     pub(crate) parts: Parts<O, Blockings<P>>,
     // by the task's number its future, and beside that its remote waker once it has had a turn; its place goes with its end
     pub(crate) futures: Slots<F, RemoteWaker<U>>,
-    pub(crate) inbox: Inbox<U>,
+    pub(crate) wakers: Wakers<U>,
     // that of the task whose turn runs, where there was memory for it
     pub(crate) waker: Option<RemoteWaker<U>>,
 }
@@ -74,6 +75,7 @@ impl<F: Drop, O: Outcome + Drop, P: ThreadPool + Drop, U: Unpark> Cx<F, O, P, U>
 
 impl<F: Drop, O: Drop, P: ThreadPool + Drop, U: Unpark> Cx<F, O, P, U> {
     /// A place for one more task's future and waker.
+    #[inline(always)]
     pub(crate) fn make_place(&mut self, alloc: Global) -> Result<(), AllocError>
         ensures place { OnOk result (HasPlace self.new) }
         ensures parts { self.new.parts ≡ self.old.parts }
@@ -85,6 +87,7 @@ impl<F: Drop, O: Drop, P: ThreadPool + Drop, U: Unpark> Cx<F, O, P, U> {
     }
 
     /// The future of a new task, for which there is a place.
+    #[inline(always)]
     pub(crate) fn put_future(&mut self, future: F)
         requires { HasPlace self.old }
         ensures parts { self.new.parts ≡ self.old.parts }

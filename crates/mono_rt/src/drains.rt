@@ -33,7 +33,7 @@ impl<F: Drop, O: Outcome + Drop, D: Driver, P: ThreadPool + Drop> Runtime<F, O, 
         ensures held { self.new.journal.entries.held ≡ self.old.journal.entries.held }
     {
         let mut taken = Vec::new(alloc);
-        match self.cx.inbox.drain(rt, alloc, &mut taken) {
+        match self.cx.wakers.drain(rt, alloc, &mut taken) {
             Err(_) => Err(RunError::Memory),
             Ok(()) => self.wake_taken(alloc, &taken),
         }

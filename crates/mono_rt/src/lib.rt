@@ -19,6 +19,7 @@ mod parts;
 mod runtimes;
 mod spawning;
 mod turns;
+mod wakers;
 
 pub use alone::run_alone;
 pub use builder::{Buildable, RuntimeBuilder, start};

@@ -10,7 +10,7 @@ ghost use Rattle.mono_rt.specs.Turns.{Begins, Pauses, Completes, Runs, Turn, IsT
 use crate::contexts::Cx;
 use mono_blocking::ThreadPool;
 use mono_exec::{End, Ended};
-use mono_inbox::{RemoteWaker, Unpark};
+use mono_inbox::Unpark;
 use mono_joinword::Outcome;
 use mono_model::Host;
 use mono_task::{Poll, TaskFuture};
@@ -19,38 +19,6 @@ use std::alloc::Global;
 use std::mem;
 
 impl<F: Drop, O: Outcome + Drop, P: ThreadPool + Drop, U: Unpark> Cx<F, O, P, U> {
-    /// The waker of a task that begins a turn: the one that it had, or a new one before its first turn. The answer tells
-    /// whether there was memory for it.
-    fn open_waker<R: Host>(
-        &mut self,
-        rt: &R,
-        alloc: Global,
-        task: u64,
-        had: Option<RemoteWaker<U>>,
-    ) -> bool
-        ensures waker { IfSome self.new.waker (λ waker. waker ≡ task) }
-        ensures made { result ≡ is_some self.new.waker }
-        ensures parts { self.new.parts ≡ self.old.parts }
-        ensures futures { self.new.futures ≡ self.old.futures }
-    {
-        if let Some(waker) = had {
-            if waker.task() == task {
-                self.waker = Some(waker);
-                return true;
-            }
-        }
-        match self.inbox.waker(rt, alloc, task) {
-            Ok(waker) => {
-                self.waker = Some(waker);
-                true
-            }
-            Err(_) => {
-                self.waker = None;
-                false
-            }
-        }
-    }
-
     /// The future of the task whose turn ends goes back to its place, with the task's waker beside it.
     #[inline(always)]
     fn put_back(&mut self, task: u64, future: Option<F>)
@@ -79,10 +47,10 @@ impl<F: Drop, O: Outcome + Drop, P: ThreadPool + Drop, U: Unpark> Cx<F, O, P, U>
             unreachable!()
         };
         let (future, had) = self.futures.take(task);
-        let made = self.open_waker(rt, alloc, task, had);
+        self.waker = self.wakers.open(rt, alloc, task, had);
         self.parts.me = task;
         self.parts.now = now;
-        self.parts.is_out_of_memory = !made;
+        self.parts.is_out_of_memory = self.waker.is_none();
         (task, future)
     }
 
@@ -98,15 +66,16 @@ impl<F: Drop, O: Outcome + Drop, P: ThreadPool + Drop, U: Unpark> Cx<F, O, P, U>
         ended
     }
 
-    /// The turn that runs ends ready: from now on no other thread can list the task, and its place is gone (`gone`).
+    /// The turn that runs ends ready: the task's place is gone (`gone`), and it is made unknown to other threads with the
+    /// next tasks that end, or before the inbox is drained.
     fn complete_turn<R: Host>(&mut self, rt: &R, task: u64, output: O) -> Ended
         requires runs { is_some self.old.parts.tasks.turn ≡ true }
         requires lent { lent_at self.old.futures task ≡ true }
         ensures completes { Completes output result self.old self.new }
         ensures gone { self.new.futures.lent ≡ slice_set self.old.futures.lent task false }
     {
-        self.inbox.retire(rt, task);
-        self.waker = None;
+        let waker = mem::replace(&mut self.waker, None);
+        self.wakers.close(rt, task, waker);
         self.futures.remove(task);
         self.parts.tasks.end_turn(Poll::Ready(output))
     }

@@ -6,6 +6,8 @@ mod builders;
 #[cfg(test)]
 mod cases;
 #[cfg(test)]
+mod crowds;
+#[cfg(test)]
 mod jobs;
 #[cfg(test)]
 mod naps;

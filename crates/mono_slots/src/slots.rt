@@ -50,6 +50,7 @@ impl<T: Drop, W: Drop> Slots<T, W> {
     /// A place for the next number. Where one stands ready, it stays.
     ///
     /// Refused for want of memory, or where the numbers are used up. All is as it was then.
+    #[inline(always)]
     pub fn reserve(&mut self, alloc: Global) -> Result<(), AllocError>
         ensures place { OnOk result (HasPlace self.new) }
         ensures same { SameSlots self.old self.new }
@@ -59,6 +60,7 @@ impl<T: Drop, W: Drop> Slots<T, W> {
     }
 
     /// Gives the next number out, with this value and nothing beside it, where its place stands ready. It takes no memory.
+    #[inline(always)]
     pub fn add(&mut self, value: T)
         requires { HasPlace self.old }
         ensures items { self.new.items ≡ self.old.items ++ Some value ∷ [] }
@@ -68,6 +70,7 @@ impl<T: Drop, W: Drop> Slots<T, W> {
     }
 
     /// Takes the value of a number, with what stands beside it. The number is lent from now on, where it had a value.
+    #[inline(always)]
     pub fn take(&mut self, number: u64) -> (Option<T>, Option<W>)
         ensures value { result.0 ≡ value_at self.old.items number }
         ensures items { self.new.items ≡ slice_set self.old.items number None }
@@ -83,6 +86,7 @@ impl<T: Drop, W: Drop> Slots<T, W> {
     }
 
     /// A value comes back to a number that is lent, with what is to stand beside it. It takes no memory.
+    #[inline(always)]
     pub fn put(&mut self, number: u64, value: T, beside: Option<W>)
         requires { lent_at self.old number ≡ true }
         ensures items { self.new.items ≡ slice_set self.old.items number (Some value) }
@@ -93,6 +97,7 @@ impl<T: Drop, W: Drop> Slots<T, W> {
 
     /// A number that is lent is gone. It takes no memory, and gives back the memory of a page in which nothing is left and in
     /// which no number comes.
+    #[inline(always)]
     pub fn remove(&mut self, number: u64)
         requires { lent_at self.old number ≡ true }
         ensures items { self.new.items ≡ self.old.items }

@@ -64,6 +64,7 @@ impl<T> Table<T> {
     }
 
     /// The value of a number. None where it is gone or was never given out.
+    #[inline(always)]
     pub fn get(&self, number: u64) -> Option<&T>
         ensures { option_copied result ≡ value_at self.now number }
     {
@@ -75,6 +76,7 @@ impl<T> Table<T> {
     }
 
     /// The value of a number that has one, for writing. The number has what was written last, once the borrow is over.
+    #[inline(always)]
     pub fn value_mut(&mut self, number: u64) -> &mut T
         requires { is_some (value_at self.old number) ≡ true }
         ensures* writes_back { sem 𝓛 (table_lends T.row self.entry number result) }
@@ -89,6 +91,7 @@ impl<T: Drop> Table<T> {
     /// Gives the next number out, with this value. The last number, 2^64 - 1, is never given out.
     ///
     /// Refused for want of memory alone, and then all is as it was (`refused`).
+    #[inline(always)]
     pub fn push(&mut self, alloc: Global, value: T) -> Result<(), AllocError>
         requires { next_number self.old < 2 ^ 64 - 1 }
         ensures after { OnOk result (self.new ≡ with_next self.old value) }
@@ -113,6 +116,7 @@ impl<T: Drop> Table<T> {
 
     /// The value of a number that has one is gone. It takes no memory, and gives back the memory of a page in which nothing
     /// lives any more and in which no number comes.
+    #[inline(always)]
     pub fn remove(&mut self, number: u64)
         requires { is_some (value_at self.old number) ≡ true }
         ensures { self.new ≡ without self.old number }
@@ -126,6 +130,7 @@ impl<T: Drop> Table<T> {
 }
 
 // The part at this place is there.
+#[inline(always)]
 fn open_part<T: Drop>(parts: &mut Vec<Part<T>>, alloc: Global, at: usize) -> Result<(), AllocError>
     requires { at ≤ length parts.old.items }
     ensures same { (i : ℕ) → child_at parts.new.items i ≡ child_at parts.old.items i }

@@ -53,6 +53,7 @@ impl<T> Page<T> {
     }
 
     /// The value at a place.
+    #[inline(always)]
     pub(crate) fn get(&self, at: usize) -> Option<&T>
         ensures { option_copied result ≡ value_at self.now at }
     {
@@ -66,6 +67,7 @@ impl<T> Page<T> {
     }
 
     /// The value at a place that has one, for writing.
+    #[inline(always)]
     pub(crate) fn value_mut(&mut self, at: usize) -> &mut T
         requires { is_some (value_at self.old at) ≡ true }
         ensures* writes_back { sem 𝓛 (page_lends T.row self.entry at result) }
@@ -76,6 +78,7 @@ impl<T> Page<T> {
 }
 
 // The value at a place that has one, for writing.
+#[inline(always)]
 fn value_in<T>(place: &mut Option<T>) -> &mut T
     requires { is_some place.old ≡ true }
     ensures* writes_back { sem 𝓛 (place_lends T.row place.entry result) }
@@ -89,6 +92,7 @@ fn value_in<T>(place: &mut Option<T>) -> &mut T
 
 impl<T: Drop> Page<T> {
     /// One more place, with this value.
+    #[inline(always)]
     pub(crate) fn push(&mut self, value: T) -> Result<(), AllocError>
         requires { length self.old < 256 }
         ensures after { OnOk result (self.new ≡ with_next self.old value) }
@@ -110,6 +114,7 @@ impl<T: Drop> Page<T> {
     }
 
     /// The value at a place is gone. Where the page is closed and that was its last value, its memory is given back.
+    #[inline(always)]
     pub(crate) fn remove(&mut self, at: usize, is_closed: bool)
         requires { is_some (value_at self.old at) ≡ true }
         ensures { self.new ≡ left_of is_closed (without self.old at) }

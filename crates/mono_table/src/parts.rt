@@ -56,6 +56,7 @@ impl<T> Part<T> {
     }
 
     /// The value of a number.
+    #[inline(always)]
     pub(crate) fn get(&self, number: usize) -> Option<&T>
         ensures { option_copied result ≡ value_at self.now number }
     {
@@ -66,6 +67,7 @@ impl<T> Part<T> {
     }
 
     /// The value of a number that has one, for writing. The number has what was written last, once the borrow is over.
+    #[inline(always)]
     pub(crate) fn value_mut(&mut self, number: usize) -> &mut T
         requires { is_some (value_at self.old number) ≡ true }
         ensures* writes_back { sem 𝓛 (part_lends T.row self.entry number result) }
@@ -77,6 +79,7 @@ impl<T> Part<T> {
 
 impl<T: Drop> Part<T> {
     /// One more number, with this value.
+    #[inline(always)]
     pub(crate) fn push(&mut self, alloc: Global, value: T) -> Result<(), AllocError>
         requires { length self.old < 65536 }
         ensures after { OnOk result (self.new ≡ with_next self.old value) }
@@ -99,6 +102,7 @@ impl<T: Drop> Part<T> {
     }
 
     /// The value of a number is gone. Where the part is closed and that was its last value, its memory is given back.
+    #[inline(always)]
     pub(crate) fn remove(&mut self, number: usize, is_closed: bool)
         requires { is_some (value_at self.old number) ≡ true }
         ensures { self.new ≡ left_of is_closed (without self.old number) }
@@ -110,6 +114,7 @@ impl<T: Drop> Part<T> {
     }
 
     // The value of a number is gone.
+    #[inline(always)]
     fn take_out(&mut self, number: usize)
         requires { is_some (value_at self.old number) ≡ true }
         ensures { self.new ≡ without self.old number }
@@ -131,6 +136,7 @@ impl<T: Drop> Part<T> {
 }
 
 // The page at this place is there.
+#[inline(always)]
 fn open_page<T: Drop>(pages: &mut Vec<Page<T>>, alloc: Global, at: usize) -> Result<(), AllocError>
     requires { at ≤ length pages.old.items }
     ensures same { (i : ℕ) → child_at pages.new.items i ≡ child_at pages.old.items i }

@@ -103,6 +103,7 @@ fn make_room(queue: &mut VecDeque<u64>, tasks: usize) -> Result<(), AllocError>
 }
 
 // Makes room in the queue for one more than so many tasks, and gives the next number out, whose task is queued.
+#[inline(always)]
 fn enter<O: Drop>(
     alloc: Global,
     queue: &mut VecDeque<u64>,
@@ -126,6 +127,7 @@ impl<O: Drop> Tasks<O> {
     ///
     /// Refused with `AtCapacity` exactly where the live tasks are at the limit or the next number is 2^64 - 1 (`full`),
     /// and else with `Memory` where there was none. A refusal leaves all as it was (`refused`).
+    #[inline(always)]
     pub fn spawn(&mut self, alloc: Global) -> Result<u64, SpawnTask>
         ensures full { (result ≡ Err AtCapacity) ↔ (is_full self.old.tasks.table self.old.tasks.limit ≡ true) }
         ensures number { IfOk result (λ number. number ≡ next_number self.old.tasks.table) }
@@ -195,6 +197,7 @@ impl<O: Drop> Tasks<O> {
     /// Pending: a task that was woken during its turn goes to the queue's back (`Again`), and any other is idle (`Idle`).
     /// Ready: where the handle is kept the output is kept for it, and then the task that waits for it is woken (`Done`);
     /// else the task is gone (`Gone`).
+    #[inline(always)]
     pub fn end_turn(&mut self, end: Poll<O>) -> Ended
         requires { is_some self.old.turn ≡ true }
         ensures answer { result ≡ end_answer self.old end }
@@ -287,6 +290,7 @@ impl<O: Drop> Tasks<O> {
     ///
     /// Refused with `NoTask` where the number was never given out, and then with `NoHandle` where the handle is dropped
     /// already.
+    #[inline(always)]
     pub fn drop_join(&mut self, task: u64) -> Result<Option<O>, TaskError>
         ensures answer { result ≡ drop_answer self.old.tasks task }
         ensures after { self.new ≡ with_tasks self.old (join_dropped self.old.tasks task) }

@@ -12,6 +12,8 @@ mod jobs;
 #[cfg(test)]
 mod joinwords;
 #[cfg(test)]
+mod known_rows;
+#[cfg(test)]
 mod marks;
 #[cfg(test)]
 mod pairs;

@@ -1,0 +1,58 @@
+// Tasks that an inbox learns of in rows, and forgets together.
+use mono_inbox::{Inbox, NoUnpark};
+use mono_model::Host;
+use std::alloc::Global;
+use std::process::Abort;
+
+/// Whether each of these tasks' wakes, in order, is listed as said. The waker of one task serves the next.
+fn is_listed_so<R: Host + Abort>(rt: &R, inbox: &Inbox<NoUnpark>, wakes: &[(u64, bool)]) -> bool {
+    let mut waker = inbox.waker_of_known(0).expect(rt, "an owner more");
+    for (task, listed) in wakes {
+        waker = waker.of_task(*task);
+        if waker.task() != *task || waker.wake(rt) != *listed {
+            return false;
+        }
+    }
+    true
+}
+
+/// What waits in the inbox, in order.
+fn taken<R: Host + Abort>(rt: &R, alloc: Global, inbox: &Inbox<NoUnpark>) -> Vec<u64> {
+    let mut tasks = Vec::new(alloc);
+    inbox.drain(rt, alloc, &mut tasks).expect(rt, "memory");
+    tasks
+}
+
+/// The row begins at 3 and ends before 10,000, past two pages of marks.
+const KNOWN: &[(u64, bool)] = &[
+    (2, false),
+    (3, true),
+    (3, false),
+    (9999, true),
+    (10000, false),
+    (4096, true),
+];
+
+/// Then 3, 5,000 and 9,999 are forgotten, one of which waits.
+const FORGOTTEN: &[(u64, bool)] = &[
+    (3, false),
+    (5000, false),
+    (5001, true),
+    (9999, false),
+    (4096, true),
+];
+
+#[test]
+fn a_row_is_known_and_some_of_it_is_forgotten(rt: HostRuntime) {
+    let alloc = rt.alloc();
+    let inbox = Inbox::new(alloc, 4, NoUnpark).expect(&rt, "memory");
+    assert_eq!(rt; inbox.know_row(&rt, alloc, 3, 10000), 10000);
+    assert_eq!(rt; inbox.know_row(&rt, alloc, 7, 7), 7);
+    assert_eq!(rt; inbox.know_row(&rt, alloc, 20000, 5), 20000);
+    assert!(rt; is_listed_so(&rt, &inbox, KNOWN));
+    assert!(rt; taken(&rt, alloc, &inbox).as_slice() == [3, 9999, 4096].as_slice());
+    assert!(rt; is_listed_so(&rt, &inbox, &[(9999, true)]));
+    inbox.retire_all(&rt, [3, 5000, 9999].as_slice());
+    assert!(rt; is_listed_so(&rt, &inbox, FORGOTTEN));
+    assert!(rt; taken(&rt, alloc, &inbox).as_slice() == [9999, 5001, 4096].as_slice());
+}
