@@ -14,7 +14,7 @@ use std::marker::Model;
 
 /// A job whose handle is kept: it runs, with its output to come and the task that waits for it, or it has ended, or what
 /// was known of it was answered already.
-#[derive(Clone, Copy, Debug, PartialEq, Eq)]
+#[derive(Clone, Copy)]
 pub enum Job {
     Running(u64, Option<u64>),
     EndedOk(u64),
@@ -103,8 +103,7 @@ impl Jobs {
         requires { is_some (value_at self.old.now.table j) ≡ true }
         ensures { OnOk result (self.new ≡ changed self.old (with_job self.old.now j (job_of job))) }
     {
-        self.places.set(j, job)?;
-        Ok(())
+        self.places.set(j, job)
     }
 
     /// A job is gone.
@@ -112,8 +111,7 @@ impl Jobs {
         requires { is_some (value_at self.old.now.table j) ≡ true }
         ensures { OnOk result (self.new ≡ changed self.old (without_job self.old.now j)) }
     {
-        self.places.remove(j)?;
-        Ok(())
+        self.places.remove(j)
     }
 
     /// Drops the handle of a job.

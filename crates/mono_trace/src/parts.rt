@@ -167,10 +167,7 @@ impl Parts {
     pub fn begin(&mut self) -> Result<Option<u64>, AllocError>
         ensures { IfOk result (λ r. MatchOption r ((self.old.now.tasks.queue ≡ []) × (self.new ≡ self.old)) (λ t. (rest : List ℕ) × (self.old.now.tasks.queue ≡ t ∷ rest) × (self.new ≡ changed self.old (after_begin t rest self.old.now)))) }
     {
-        match self.tasks.begin()? {
-            None => Ok(None),
-            Some(t) => Ok(Some(t)),
-        }
+        self.tasks.begin()
     }
 
     /// The turn of a task ends.
