@@ -1,20 +1,20 @@
-use Rattle.std.proofs.Common.{refl, sym, ◌∙◌}
+use Rattle.std.proofs.Common.{refl}
 use Rattle.mono_combine.proofs.branch.Branch.look.Goals as goal
 
 pub returns-then-test-clause-turn : goal.returns-then-test-clause-turn
-returns-then-test-clause-turn g c = rw (sym c.replace.ensures.value ∙ c.in-Live.is) (record {
+returns-then-test-clause-turn g c = rw c.in-Live.is (record {
   answer = _;
   left = _;
   middle = _;
   polled = c.poll.ensures.polled;
-  rest = rw (c.in-Ready.is, c.replace.ensures.after) (c.cancel.ensures.cancelled, refl, (_, record { shown = _; shows = refl; says = record { met = c.test.ensures } }, rw c.if-test.true refl));
+  rest = rw c.in-Ready.is (c.give_up.ensures.given_up, c.give_up.ensures.gone, (_, record { shown = _; shows = refl; says = record { met = c.test.ensures } }, rw c.if-test.true refl));
 })
 
 pub returns-else-test-clause-turn : goal.returns-else-test-clause-turn
-returns-else-test-clause-turn g c = rw (sym c.replace.ensures.value ∙ c.in-Live.is) (record {
+returns-else-test-clause-turn g c = rw c.in-Live.is (record {
   answer = _;
   left = _;
   middle = _;
   polled = c.poll.ensures.polled;
-  rest = rw (c.in-Ready.is, c.replace.ensures.after) (c.cancel.ensures.cancelled, refl, (_, record { shown = _; shows = refl; says = record { met = c.test.ensures } }, rw c.if-test.false refl));
+  rest = rw c.in-Ready.is (c.give_up.ensures.given_up, c.give_up.ensures.gone, (_, record { shown = _; shows = refl; says = record { met = c.test.ensures } }, rw c.if-test.false refl));
 })
