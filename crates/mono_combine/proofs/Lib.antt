@@ -4,3 +4,4 @@ pub mod Lists
 mod Trying
 mod Rounds
 mod Ending
+mod Scanning
