@@ -5,3 +5,4 @@ mod Trying
 mod Rounds
 mod Ending
 mod Scanning
+mod Succeeding
