@@ -140,6 +140,7 @@ impl Sleeps {
         ensures { OnOk result (self.new ≡ changed self.old (model.armed_anew self.old.now s tick waker)) }
     {
         let arm = self.arms;
+        self.arms = arm + 1;
         self.set(
             s,
             Sleep::Armed(Arming {
@@ -148,9 +149,7 @@ impl Sleeps {
                 is_moved: false,
                 waker,
             }),
-        )?;
-        self.arms = arm + 1;
-        Ok(())
+        )
     }
 
     /// A poll of a sleep by a task.
@@ -312,10 +311,9 @@ impl Sleeps {
     pub fn take_back(&mut self) -> Result<(), AllocError>
         ensures { OnOk result (self.new ≡ kept self.old.before) }
     {
-        self.places.take_back()?;
         self.greatest = self.greatest_before;
         self.arms = self.arms_before;
-        Ok(())
+        self.places.take_back()
     }
 }
 
