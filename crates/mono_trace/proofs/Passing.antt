@@ -5,6 +5,10 @@ pub on_ok : {A E : Type 0} (r : Result A E) (P Q : Type 0) → OnOk r P → (P �
 on_ok (Ok a) P Q holds so = so holds
 on_ok (Err e) P Q holds so = holds
 
+pub held : {A E : Type 0} (r : Result A E) (P : Type 0) → P → OnOk r P
+held (Ok a) P holds = holds
+held (Err e) P holds = tt
+
 pub passed_on : {A E : Type 0} (r : Result A E) (P Q : A → Type 0) → IfOk r P → ((a : A) → P a → Q a) → IfOk r Q
 passed_on (Ok a) P Q holds so = so a holds
 passed_on (Err e) P Q holds so = holds
