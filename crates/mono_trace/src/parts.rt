@@ -195,8 +195,7 @@ impl Parts {
     {
         let waker = self.sleeps.waker_at(s);
         self.sleeps.fire(s)?;
-        self.tasks.wake_if_any(waker)?;
-        Ok(())
+        self.tasks.wake_if_any(waker)
     }
 
     /// Keeps all changes, so that they are not taken back any more.
@@ -214,7 +213,6 @@ impl Parts {
     {
         self.tasks.take_back()?;
         self.jobs.take_back();
-        self.sleeps.take_back()?;
-        Ok(())
+        self.sleeps.take_back()
     }
 }
