@@ -4,3 +4,5 @@ pub mod Lists
 mod Trying
 mod Rounds
 mod Ending
+mod Scanning
+mod Succeeding

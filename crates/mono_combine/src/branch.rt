@@ -75,25 +75,19 @@ impl<T> Branch<T> {
         ensures callable { BranchCanPoll T.TaskFuture self.new }
         ensures reached { C.reaches cx.old cx.new }
     {
-        match mem::replace(self, Branch::Gone) {
-            Branch::Live(mut future) => match future.poll(rt, alloc, cx) {
+        match self {
+            Branch::Live(future) => match future.poll(rt, alloc, cx) {
                 Poll::Ready(x) => {
-                    future.cancel(cx);
+                    self.give_up(cx);
                     if test(&x) {
                         Look::Passes(x)
                     } else {
                         Look::Rests
                     }
                 }
-                Poll::Pending => {
-                    *self = Branch::Live(future);
-                    Look::Waits
-                }
+                Poll::Pending => Look::Waits,
             },
-            Branch::Out(future) => {
-                *self = Branch::Out(future);
-                Look::Rests
-            }
+            Branch::Out(_) => Look::Rests,
             Branch::Gone => Look::Rests,
         }
     }

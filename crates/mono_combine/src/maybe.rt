@@ -112,22 +112,16 @@ impl<C: Context, Fut: TaskFuture<C, Output: Drop>> TaskFuture<C> for MaybeDone<C
     }
 
     fn poll<R: Host>(&mut self, rt: &R, alloc: Global, cx: &mut C) -> Poll<()> {
-        match mem::replace(self, MaybeDone::Gone) {
-            MaybeDone::Future(mut future) => match future.poll(rt, alloc, cx) {
+        match self {
+            MaybeDone::Future(future) => match future.poll(rt, alloc, cx) {
                 Poll::Ready(output) => {
-                    future.cancel(cx);
+                    self.give_up(cx);
                     *self = MaybeDone::Done(output);
                     Poll::Ready(())
                 }
-                Poll::Pending => {
-                    *self = MaybeDone::Future(future);
-                    Poll::Pending
-                }
+                Poll::Pending => Poll::Pending,
             },
-            MaybeDone::Done(output) => {
-                *self = MaybeDone::Done(output);
-                Poll::Ready(())
-            }
+            MaybeDone::Done(_) => Poll::Ready(()),
             MaybeDone::Gone => unreachable!(),
         }
     }

@@ -59,8 +59,7 @@ fn set(
 {
     let from = armed_at(places.get(number));
     places.set(number, value)?;
-    ticks.change(from, armed_at(Some(value)))?;
-    Ok(())
+    ticks.change(from, armed_at(Some(value)))
 }
 
 /// A number that has a value is gone, and is counted no more.
@@ -72,8 +71,7 @@ fn remove(places: &mut Places<Sleep>, ticks: &mut Ticks, number: u64) -> Result<
 {
     let from = armed_at(places.get(number));
     places.remove(number)?;
-    ticks.change(from, None)?;
-    Ok(())
+    ticks.change(from, None)
 }
 
 impl SleepPlaces {

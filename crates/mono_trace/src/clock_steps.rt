@@ -16,7 +16,7 @@ use std::alloc::AllocError;
 
 /// How far a list of sleeps that fire has come: the tick of the last one, and the arm number of the last there that was
 /// not moved.
-#[derive(Clone, Copy, Debug, PartialEq, Eq)]
+#[derive(Clone, Copy)]
 pub struct Reached {
     pub tick: u128,
     pub last: Option<u128>,

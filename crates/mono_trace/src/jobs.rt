@@ -3,7 +3,7 @@ ghost use Rattle.std.specs.Prelude.{◌≡◌, OnOk, IfOk, is_some, true, None};
 ghost use Rattle.mono_model.specs.Table.{value_at, next_number, is_full};
 ghost use Rattle.mono_model.specs.Jobs.{no_jobs, running, ended_ok};
 ghost use Rattle.mono_machine.specs.Acts.{reply_of};
-ghost use Rattle.mono_machine.specs.JobCalls.{with_job, without_job, with_next_job, kept_job, drop_answer, job_dropped, finished_answer, end_answer, job_ended, poll_answer, job_polled};
+ghost use Rattle.mono_machine.specs.JobCalls.{with_job, without_job, with_next_job, kept_job, drop_answer, job_dropped, finished_answer, end_answer, ended_as, job_ended, poll_answer, job_polled};
 ghost use Rattle.mono_trace.specs.Versions.{kept, changed};
 ghost use Rattle.mono_trace.specs.Tables.{job_of, found_job};
 
@@ -14,7 +14,7 @@ use std::marker::Model;
 
 /// A job whose handle is kept: it runs, with its output to come and the task that waits for it, or it has ended, or what
 /// was known of it was answered already.
-#[derive(Clone, Copy, Debug, PartialEq, Eq)]
+#[derive(Clone, Copy)]
 pub enum Job {
     Running(u64, Option<u64>),
     EndedOk(u64),
@@ -39,6 +39,16 @@ impl Model for Jobs {
     ghost Value = { Versions model.Jobs };
 
     ghost view = { λ a. record { now = jobs_of a.places.now a.limit; before = jobs_of a.places.before a.limit } };
+}
+
+/// What a job is once it has ended so.
+fn ended_as(how: How, output: u64) -> Job
+    ensures { job_of result ≡ ended_as how output }
+{
+    match how {
+        How::Ran => Job::EndedOk(output),
+        How::Canceled => Job::EndedCanceled,
+    }
 }
 
 impl Jobs {
@@ -103,8 +113,7 @@ impl Jobs {
         requires { is_some (value_at self.old.now.table j) ≡ true }
         ensures { OnOk result (self.new ≡ changed self.old (with_job self.old.now j (job_of job))) }
     {
-        self.places.set(j, job)?;
-        Ok(())
+        self.places.set(j, job)
     }
 
     /// A job is gone.
@@ -112,8 +121,7 @@ impl Jobs {
         requires { is_some (value_at self.old.now.table j) ≡ true }
         ensures { OnOk result (self.new ≡ changed self.old (without_job self.old.now j)) }
     {
-        self.places.remove(j)?;
-        Ok(())
+        self.places.remove(j)
     }
 
     /// Drops the handle of a job.
@@ -152,10 +160,7 @@ impl Jobs {
     {
         match self.kept(j) {
             Ok(Job::Running(output, waiter)) => {
-                match how {
-                    How::Ran => self.set(j, Job::EndedOk(output))?,
-                    How::Canceled => self.set(j, Job::EndedCanceled)?,
-                }
+                self.set(j, ended_as(how, output))?;
                 Ok(Reply::Ended(waiter))
             }
             Ok(_) => Ok(Reply::Refused(Refusal::Ended)),

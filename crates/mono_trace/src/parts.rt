@@ -167,10 +167,7 @@ impl Parts {
     pub fn begin(&mut self) -> Result<Option<u64>, AllocError>
         ensures { IfOk result (λ r. MatchOption r ((self.old.now.tasks.queue ≡ []) × (self.new ≡ self.old)) (λ t. (rest : List ℕ) × (self.old.now.tasks.queue ≡ t ∷ rest) × (self.new ≡ changed self.old (after_begin t rest self.old.now)))) }
     {
-        match self.tasks.begin()? {
-            None => Ok(None),
-            Some(t) => Ok(Some(t)),
-        }
+        self.tasks.begin()
     }
 
     /// The turn of a task ends.
@@ -198,8 +195,7 @@ impl Parts {
     {
         let waker = self.sleeps.waker_at(s);
         self.sleeps.fire(s)?;
-        self.tasks.wake_if_any(waker)?;
-        Ok(())
+        self.tasks.wake_if_any(waker)
     }
 
     /// Keeps all changes, so that they are not taken back any more.
@@ -217,7 +213,6 @@ impl Parts {
     {
         self.tasks.take_back()?;
         self.jobs.take_back();
-        self.sleeps.take_back()?;
-        Ok(())
+        self.sleeps.take_back()
     }
 }

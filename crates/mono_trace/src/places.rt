@@ -7,7 +7,7 @@ use std::alloc::{AllocError, AllocFailed, Global};
 use std::marker::Model;
 
 /// One change of a table: a number was given out, or a number had this value.
-#[derive(Clone, Copy, Debug, PartialEq, Eq, Drop)]
+#[derive(Drop)]
 pub enum Change<V> {
     Added,
     Had(u64, V),

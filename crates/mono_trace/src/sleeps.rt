@@ -17,7 +17,7 @@ use std::marker::Model;
 
 /// Where a sleep is armed: the tick, the number of its arming, whether it was moved to a later tick since, and the task
 /// that polled it last.
-#[derive(Clone, Copy, Debug, PartialEq, Eq)]
+#[derive(Clone, Copy)]
 pub struct Arming {
     pub tick: u128,
     pub arm: u128,
@@ -26,7 +26,7 @@ pub struct Arming {
 }
 
 /// A sleep that was never polled, with its deadline, one that is armed, or one that has elapsed.
-#[derive(Clone, Copy, Debug, PartialEq, Eq)]
+#[derive(Clone, Copy)]
 pub enum Sleep {
     Fresh(u128),
     Armed(Arming),
@@ -122,8 +122,7 @@ impl Sleeps {
         requires { is_some (value_at self.old.now.table s) ≡ true }
         ensures { OnOk result (self.new ≡ changed self.old (model.with_sleep self.old.now s (sleep_of value))) }
     {
-        self.places.set(s, value)?;
-        Ok(())
+        self.places.set(s, value)
     }
 
     /// A sleep is gone.
@@ -131,8 +130,7 @@ impl Sleeps {
         requires { is_some (value_at self.old.now.table s) ≡ true }
         ensures { OnOk result (self.new ≡ changed self.old (model.without_sleep self.old.now s)) }
     {
-        self.places.remove(s)?;
-        Ok(())
+        self.places.remove(s)
     }
 
     /// Arms a sleep, as the last so far.
@@ -142,6 +140,7 @@ impl Sleeps {
         ensures { OnOk result (self.new ≡ changed self.old (model.armed_anew self.old.now s tick waker)) }
     {
         let arm = self.arms;
+        self.arms = arm + 1;
         self.set(
             s,
             Sleep::Armed(Arming {
@@ -150,9 +149,7 @@ impl Sleeps {
                 is_moved: false,
                 waker,
             }),
-        )?;
-        self.arms = arm + 1;
-        Ok(())
+        )
     }
 
     /// A poll of a sleep by a task.
@@ -314,10 +311,9 @@ impl Sleeps {
     pub fn take_back(&mut self) -> Result<(), AllocError>
         ensures { OnOk result (self.new ≡ kept self.old.before) }
     {
-        self.places.take_back()?;
         self.greatest = self.greatest_before;
         self.arms = self.arms_before;
-        Ok(())
+        self.places.take_back()
     }
 }
 

@@ -16,7 +16,7 @@ use std::alloc::{AllocError, Global};
 use std::marker::Model;
 
 /// What a task does now. One that runs is noted once it was woken in its turn.
-#[derive(Clone, Copy, Debug, PartialEq, Eq)]
+#[derive(Clone, Copy)]
 pub enum Phase {
     Idle,
     Queued,
@@ -26,7 +26,7 @@ pub enum Phase {
 }
 
 /// A task: whether its handle is kept, and the task that waits for its output.
-#[derive(Clone, Copy, Debug, PartialEq, Eq)]
+#[derive(Clone, Copy)]
 pub struct Task {
     pub phase: Phase,
     pub is_kept: bool,
@@ -125,8 +125,7 @@ impl Tasks {
         requires { is_some (value_at self.old.now.table t) ≡ true }
         ensures { OnOk result (self.new ≡ changed self.old (model.with_task self.old.now t (task_of task))) }
     {
-        self.places.set(t, task)?;
-        Ok(())
+        self.places.set(t, task)
     }
 
     /// A task is gone.
@@ -134,8 +133,7 @@ impl Tasks {
         requires { is_some (value_at self.old.now.table t) ≡ true }
         ensures { OnOk result (self.new ≡ changed self.old (model.without_task self.old.now t)) }
     {
-        self.places.remove(t)?;
-        Ok(())
+        self.places.remove(t)
     }
 
     /// A task is queued, as the last.
@@ -213,8 +211,7 @@ impl Tasks {
     fn take(&mut self) -> Result<Option<u64>, AllocError>
         ensures { IfOk result (λ r. MatchOption r ((self.old.now.queue ≡ []) × (self.new ≡ self.old)) (λ t. (rest : List ℕ) × (self.old.now.queue ≡ t ∷ rest) × (self.new ≡ changed self.old (with_queue self.old.now rest)))) }
     {
-        let front = self.queue.take()?;
-        Ok(front)
+        self.queue.take()
     }
 
     /// A task runs, and is not noted yet.

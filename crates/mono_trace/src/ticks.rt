@@ -99,8 +99,7 @@ impl Ticks {
             return Ok(());
         }
         self.take(to)?;
-        self.leave(from)?;
-        Ok(())
+        self.leave(from)
     }
 
     /// The first tick at which a sleep is armed is above this one, or there is none.

@@ -24,3 +24,6 @@ loop-i-preserved g c =
 
 pub returns-clause-polled : goal.returns-clause-polled
 returns-clause-polled g c = all_turns (Advances g.T.TaskFuture) _ _ _ _ c.loop-i.i (search rules) c.loop-i.invariant.polled
+
+pub returns-clause-reached : goal.returns-clause-reached
+returns-clause-reached g c = c.loop-i.invariant.reached

@@ -17,3 +17,6 @@ loop-i-preserved g c =
 
 pub returns-clause-ended : goal.returns-clause-ended
 returns-clause-ended g c = all_turns (BranchEnds g.T.TaskFuture) _ _ _ _ c.loop-i.i (search rules) c.loop-i.invariant.ended
+
+pub returns-clause-reached : goal.returns-clause-reached
+returns-clause-reached g c = c.loop-i.invariant.reached

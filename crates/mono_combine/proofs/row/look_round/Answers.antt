@@ -47,3 +47,21 @@ returns-else-some_wait-clause-selects g c =
     let size = c.len-count.ensures ∙ c.args.branches.now.ok.0 in
     let end : c.loop-turn.turn ≡ length c.args.branches.now.items = omega (arith, size, c.loop-turn-test.false, c.loop-turn.auto.turn-end) in
     none_at_end g.T.TaskFuture g.G.Fn c.args.test.now c.args.start _ c.loop-turn.turn _ c.loop-turn.some_wait end c.loop-turn.invariant.so_far _ (rw c.if-some_wait.false refl)
+
+pub returns-in-Passes-clause-again : goal.returns-in-Passes-clause-again
+returns-in-Passes-clause-again g c = All-set (MayLook g.T.TaskFuture) c.loop-turn.branches.items _ _ (c.look_at.ensures.unspent, c.look_at.ensures.callable) c.loop-turn.invariant.may
+
+pub returns-in-Passes-clause-reached : goal.returns-in-Passes-clause-reached
+returns-in-Passes-clause-reached g c = g.met.C.Context.reaches_on _ _ _ c.loop-turn.invariant.reached c.look_at.ensures.reached
+
+pub returns-then-some_wait-clause-again : goal.returns-then-some_wait-clause-again
+returns-then-some_wait-clause-again g c = c.loop-turn.invariant.may
+
+pub returns-then-some_wait-clause-reached : goal.returns-then-some_wait-clause-reached
+returns-then-some_wait-clause-reached g c = c.loop-turn.invariant.reached
+
+pub returns-else-some_wait-clause-again : goal.returns-else-some_wait-clause-again
+returns-else-some_wait-clause-again g c = c.loop-turn.invariant.may
+
+pub returns-else-some_wait-clause-reached : goal.returns-else-some_wait-clause-reached
+returns-else-some_wait-clause-reached g c = c.loop-turn.invariant.reached

@@ -19,3 +19,6 @@ loop-i-preserved g c =
 
 pub returns-clause-given_up : goal.returns-clause-given_up
 returns-clause-given_up g c = all_turns (GivesUp g.T.TaskFuture) _ _ _ _ c.loop-i.i (search rules) c.loop-i.invariant.given_up
+
+pub returns-clause-reached : goal.returns-clause-reached
+returns-clause-reached g c = c.loop-i.invariant.reached

@@ -44,3 +44,9 @@ loop-i-preserved g c =
 
 pub returns-clause-polled : goal.returns-clause-polled
 returns-clause-polled g c = all_turns (TriesOnce g.T.TaskFuture) _ _ _ _ c.loop-i.i (search rules) c.loop-i.invariant.polled
+
+pub returns-then-has_failed-clause-reached : goal.returns-then-has_failed-clause-reached
+returns-then-has_failed-clause-reached g c = g.met.C.Context.reaches_on _ _ _ c.loop-i.invariant.reached c.poll.ensures.reached
+
+pub returns-clause-reached : goal.returns-clause-reached
+returns-clause-reached g c = c.loop-i.invariant.reached

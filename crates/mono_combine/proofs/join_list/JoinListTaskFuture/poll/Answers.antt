@@ -47,3 +47,9 @@ returns-clause-polled g c =
       waits = tt;
       ends = (refl, rw (ap (λ v. v.items) c.replace-branches.ensures.after ∙ c.new.ensures.items) tt);
     }
+
+pub returns-then-poll_each-clause-reached : goal.returns-then-poll_each-clause-reached
+returns-then-poll_each-clause-reached g c = c.poll_each.ensures.reached
+
+pub returns-clause-reached : goal.returns-clause-reached
+returns-clause-reached g c = c.poll_each.ensures.reached

@@ -24,3 +24,9 @@ returns-in-Pending-clause-polled g c =
       selects = rw (c.in-Pending.is, c.draw-start.ensures.start) at c.select_from.ensures.selects;
       ends = (refl, rw c.draw-start.ensures.next at c.select_from.ensures.kept, refl);
     }
+
+pub returns-in-Ready-clause-reached : goal.returns-in-Ready-clause-reached
+returns-in-Ready-clause-reached g c = g.met.C.Context.reaches_on _ _ _ (g.met.C.Context.reaches_on _ _ _ c.select_from.ensures.reached c.give_up.ensures.reached) c.give_up-in-Ready.ensures.reached
+
+pub returns-in-Pending-clause-reached : goal.returns-in-Pending-clause-reached
+returns-in-Pending-clause-reached g c = c.select_from.ensures.reached

@@ -47,3 +47,9 @@ returns-in-Pending-clause-again g c =
 
 pub returns-in-Pending-clause-callable : goal.returns-in-Pending-clause-callable
 returns-in-Pending-clause-callable g c = (can_of g.T.TaskFuture _ c.look_round.ensures.again, c.requires.callable.1)
+
+pub returns-in-Ready-clause-reached : goal.returns-in-Ready-clause-reached
+returns-in-Ready-clause-reached g c = g.met.C.Context.reaches_on _ _ _ c.look_round.ensures.reached c.end_each.ensures.reached
+
+pub returns-in-Pending-clause-reached : goal.returns-in-Pending-clause-reached
+returns-in-Pending-clause-reached g c = c.look_round.ensures.reached

@@ -70,3 +70,12 @@ returns-clause-polled g c =
       waits = tt;
       ends = (refl, nothing_left g.T.TaskFuture _ _ waiting, rw (ap (λ v. v.items) c.replace-branches.ensures.after ∙ c.new.ensures.items) tt);
     }
+
+pub returns-then-poll_until_failed-clause-reached : goal.returns-then-poll_until_failed-clause-reached
+returns-then-poll_until_failed-clause-reached g c = g.met.C.Context.reaches_on _ _ _ c.poll_until_failed.ensures.reached c.give_up_failing.ensures.reached
+
+pub returns-then-any_waiting-clause-reached : goal.returns-then-any_waiting-clause-reached
+returns-then-any_waiting-clause-reached g c = c.poll_until_failed.ensures.reached
+
+pub returns-clause-reached : goal.returns-clause-reached
+returns-clause-reached g c = c.poll_until_failed.ensures.reached

@@ -1,5 +1,6 @@
 use Rattle.std.proofs.Common.{◌≡◌, None, sym, ◌∙◌, rules}
 use Rattle.mono_combine.proofs.Failing.{first_failed, second_failed, kept}
+use Rattle.mono_combine.proofs.Succeeding.{both_there, can_without}
 use Rattle.mono_combine.proofs.try_joins.TryJoin2TaskFuture.poll.Goals as goal
 
 pub returns-in-Some-clause-polled : goal.returns-in-Some-clause-polled
@@ -12,3 +13,30 @@ returns-in-Some-take_failure-clause-polled g c =
     let same = c.take_failure.ensures.left ∙ kept c.poll.new.self succeeded in
     second_failed g.A.TaskFuture g.B.TaskFuture _ _ _ _ _ _ _ _ _ _ c.poll.ensures.polled.0 succeeded c.poll-2.ensures.polled.0
     (sym c.in-Some-take_failure.is ∙ c.take_failure-2.ensures.error) c.take_failure-2.ensures.left c.give_up-in-Some-take_failure.ensures.gone (rw same at c.give_up-in-Some-take_failure.ensures.cancelled)
+
+pub returns-in-Some-clause-reached : goal.returns-in-Some-clause-reached
+returns-in-Some-clause-reached g c = g.met.C.Context.reaches_on _ _ _ c.poll.ensures.reached c.give_up.ensures.reached
+
+pub returns-in-Some-take_failure-clause-reached : goal.returns-in-Some-take_failure-clause-reached
+returns-in-Some-take_failure-clause-reached g c = g.met.C.Context.reaches_on _ _ _ (g.met.C.Context.reaches_on _ _ _ c.poll.ensures.reached c.poll-2.ensures.reached) c.give_up-in-Some-take_failure.ensures.reached
+
+pub returns-clause-reached : goal.returns-clause-reached
+returns-clause-reached g c = g.met.C.Context.reaches_on _ _ _ c.poll.ensures.reached c.poll-2.ensures.reached
+
+pub returns-in-Some-clause-callable : goal.returns-in-Some-clause-callable
+returns-in-Some-clause-callable g c = (can_without g.A.TaskFuture _ _ c.take_failure.ensures.left c.poll.ensures.callable, rw c.give_up.ensures.gone tt)
+
+pub returns-in-Some-take_failure-clause-callable : goal.returns-in-Some-take_failure-clause-callable
+returns-in-Some-take_failure-clause-callable g c = (rw c.give_up-in-Some-take_failure.ensures.gone tt, can_without g.B.TaskFuture _ _ c.take_failure-2.ensures.left c.poll-2.ensures.callable)
+
+pub returns-clause-polled : goal.returns-clause-polled
+returns-clause-polled g c =
+    let none : c.take_failure.result ≡ None = search rules in
+    let none_either : c.take_failure-2.result ≡ None = search rules in
+    let first_same = c.take_failure.ensures.left ∙ kept c.poll.new.self (sym c.take_failure.ensures.error ∙ none) in
+    let second_same = c.take_failure-2.ensures.left ∙ kept c.poll-2.new.self (sym c.take_failure-2.ensures.error ∙ none_either) in
+    both_there g.A.TaskFuture g.B.TaskFuture _ _ _ _ c.poll.new.self c.poll-2.new.self _ _ _ _ c.poll.ensures.polled.0 c.poll-2.ensures.polled.0
+    (sym first_same ∙ c.take_value-x.ensures.output) (sym second_same ∙ c.take_value-y.ensures.output) c.take_value-x.ensures.gone c.take_value-y.ensures.gone
+
+pub returns-clause-callable : goal.returns-clause-callable
+returns-clause-callable g c = (rw c.take_value-x.ensures.gone tt, rw c.take_value-y.ensures.gone tt)

@@ -1,7 +1,8 @@
 use Rattle.std.proofs.Common.{Some}
 use Rattle.std.proofs.lemmas.List.{map-set}
 use Rattle.mono_trace.specs.Tables.{job_place}
+use Rattle.mono_trace.proofs.Passing.{on_ok}
 use Rattle.mono_trace.proofs.jobs.Jobs.set.Goals as goal
 
 pub returns : goal.returns
-returns c = rw (← c.self.view_is, c.in_ok-set.ensures.changed, map-set job_place c.self.inside.places.now c.args.j (Some c.args.job))
+returns c = on_ok c.set.result _ _ c.set.ensures.changed (λ is. rw (← c.self.view_is, is, map-set job_place c.self.inside.places.now c.args.j (Some c.args.job)))

@@ -1,21 +1,17 @@
-use Rattle.std.proofs.Common.{◌≡◌, ℕ, [], ◌∷◌, ap, sym, ◌∙◌, Option, Some, None}
-use Rattle.std.specs.Prelude.{MatchOption}
+use Rattle.std.proofs.Common.{◌≡◌, ℕ, [], ◌∷◌, ap, sym, ◌∙◌}
 use Rattle.mono_trace.specs.Tables.{tasks_of}
+use Rattle.mono_trace.proofs.Passing.{passed_on, either_way}
 use Rattle.mono_trace.proofs.tasks.Tasks.take.Goals as goal
-
-either_way : {A : Type 0} (o : Option A) (P R : Type 0) (Q S : A → Type 0) → (P → R) → ((a : A) → Q a → S a) → MatchOption o P Q → MatchOption o R S
-either_way None P R Q S none some found = none found
-either_way (Some a) P R Q S none some found = some a found
 
 pub returns : goal.returns
 returns c =
     let old = c.self.inside in
     let new = c.take.new.self in
-    either_way c.in_ok-front.front _ _ _ _
+    passed_on c.take.result _ _ c.take.ensures (λ front found. either_way front _ _ _ _
     (λ (p : (old.queue.now ≡ []) × (new ≡ old.queue)). (ap (λ m. m.now.queue) (sym c.self.view_is) ∙ p.0, ap (λ q. record { now = tasks_of old.places.now q.now old.limit; before = tasks_of old.places.before q.before old.limit }) p.1 ∙ c.self.view_is))
     (λ (t : ℕ) (q : (old.queue.now ≡ t ∷ new.now) × (new.before ≡ old.queue.before)). (
       new.now,
       ap (λ m. m.now.queue) (sym c.self.view_is) ∙ q.0,
       rw (← c.self.view_is) (ap (λ b. record { now = tasks_of old.places.now new.now old.limit; before = tasks_of old.places.before b old.limit }) q.1),
     ))
-    c.in_ok-front.ensures
+    found)
