@@ -11,7 +11,7 @@ use Rattle.mono_model.specs.Sleeps.{Sleeps, Arming, IsDueSleep, MayPrecede}
 use Rattle.mono_model.specs.Firing.{IsFirstDue, IsNoneDue}
 use Rattle.mono_model.proofs.TableOf.{table_of-same, value_at-table_of, length-table_of}
 use Rattle.mono_wheel.specs.Start.{start, top_level}
-use Rattle.mono_wheel.specs.Model.{Wheel, Timed, timed_at, timed_after, CameOut, NothingDue}
+use Rattle.mono_wheel.specs.Model.{Wheel, Timed, AllFit, Fits, timed_at, timed_after, CameOut, NothingDue}
 use Rattle.mono_time.specs.Sleeps.{Kept, armed, elapsed}
 use Rattle.mono_model.specs.SleepActs as machine
 use Rattle.mono_time.specs.Entries.{is_armed_state, armed_with, kept_in, kept_of, tick_in, waker_in_state, owner_of, fresh_tick}
@@ -25,6 +25,23 @@ use Rattle.mono_time.proofs.Standing.{value-seen, sleep_there, standing-written}
 use Rattle.mono_time.proofs.Turned.{kept-armed}
 use Rattle.mono_time.proofs.Placing.{placed-unarmed}
 use Rattle.mono_time.proofs.Writing.{table_kept, kept-there, table-there, is_in-entry}
+
+-- the greatest tick with a further reading
+pub max-later : (greatest tick now : ℕ) → now ≡ max greatest tick → greatest ≤ now
+max-later greatest tick now is = omega (arith, is)
+
+pub max-over : (from greatest tick now : ℕ) → now ≡ max greatest tick → from ≤ greatest → from ≤ now
+max-over from greatest tick now is behind = omega (arith, is, behind)
+
+pub max-below : (greatest tick now : ℕ) → now ≡ max greatest tick → greatest < 2 ^ 63 → tick < 2 ^ 63 → now < 2 ^ 63
+max-below greatest tick now is low small = omega (arith, is, low, small)
+
+-- a key that came out was ahead
+pub out-later : (wheel left : Wheel) (now k : ℕ) → AllFit wheel → CameOut wheel left now k → wheel.elapsed ≤ left.elapsed
+out-later wheel left now k fits came = elim (subst (Fits wheel.elapsed) came.due.1 (fits k)) [
+  | inl pending ↦ omega (arith, pending.1, came.due.2)
+  | inr ahead ↦ omega (arith, ahead.0, ahead.1, came.due.2)
+]
 
 armed_ticks : (t u : ℕ) (v w : Option ℕ) → armed t v ≡ armed u w → t ≡ u
 armed_ticks t u v w e = cc

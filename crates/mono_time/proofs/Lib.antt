@@ -18,3 +18,4 @@ pub mod Waiting
 pub mod Resting
 pub mod Expiring
 pub mod Passing
+pub mod Ticking

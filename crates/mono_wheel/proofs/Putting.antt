@@ -1,5 +1,8 @@
 -- A node is put between two others by one look at each.
-use Rattle.std.proofs.Common.{◌≡◌, ◌≢◌, ◌<◌, ℕ, List, ◌∷◌, length, map, Some, None, get_or, set, ap, refl, sym, ◌∙◌, subst, get_or-set_same, get_or-set_other}
+use Rattle.std.proofs.Common.{arith, ◌≡◌, ◌≢◌, ◌<◌, ℕ, zero, suc, rules, List, [], ◌∷◌, length, map, Option, Some, None, is_some, get_or, set, ap, refl, sym, ◌∙◌, subst, get_or-set_same, get_or-set_other}
+use Rattle.std.specs.Prelude.{IsSome}
+use Rattle.std.specs.List.{count_by}
+use Rattle.std.proofs.lemmas.Grind.{common_steps}
 use Rattle.std.proofs.lemmas.List.{set-set, set_comm}
 use Rattle.std.proofs.Math.Seq.{map-set_same}
 use Rattle.mono_wheel.specs.Lists.{Lists, IsLoose, list_at, with_list, with_entry}
@@ -9,6 +12,37 @@ use Rattle.mono_wheel.specs.declared.entry.Entry.{Entry}
 use Rattle.mono_wheel.proofs.Slots.{some_below, joined, same_at}
 use Rattle.mono_wheel.proofs.Calls.{after-push_front}
 use Rattle.mono_wheel.proofs.Taking.{after-entry}
+
+-- a write of a value leaves every number that had one with one, and the count of those with one
+pub some-kept : (slots : Slots) (i k : ℕ) (x : Node) → IsSome (get_or slots k None) → IsSome (get_or (set slots i (Some x)) k None)
+some-kept [] i k x h = h
+some-kept (o ∷ os) zero zero x h = search rules
+some-kept (o ∷ os) zero (suc k) x h = h
+some-kept (o ∷ os) (suc i) zero x h = h
+some-kept (o ∷ os) (suc i) (suc k) x h = some-kept os i k x h
+
+count-kept : (slots : Slots) (i : ℕ) (x : Node) → IsSome (get_or slots i None) → count_by is_some (set slots i (Some x)) ≡ count_by is_some slots
+count-kept slots i x h = grind (arith, common_steps)
+
+is_some-by : (o : Option Node) (x : Node) → o ≡ Some x → IsSome o
+is_some-by o x e = ap is_some e
+
+pub count-joined : (slots : Slots) (before after : ℕ) (x y : Node) → get_or slots before None ≡ Some x →
+    get_or (set slots before (Some record { prev = x.prev; next = after; entry = x.entry; is_end = x.is_end })) after None ≡ Some y →
+    count_by is_some (set (set slots before (Some record { prev = x.prev; next = after; entry = x.entry; is_end = x.is_end })) after (Some record { prev = before; next = y.next; entry = y.entry; is_end = y.is_end })) ≡ count_by is_some slots
+count-joined slots before after x y hx hy =
+    count-kept (set slots before (Some record { prev = x.prev; next = after; entry = x.entry; is_end = x.is_end })) after (record { prev = before; next = y.next; entry = y.entry; is_end = y.is_end }) (is_some-by _ y hy)
+    ∙ count-kept slots before (record { prev = x.prev; next = after; entry = x.entry; is_end = x.is_end }) (is_some-by _ x hx)
+
+pub count-put : (slots : Slots) (before node : ℕ) (entry : Entry) (x y z : Node) → get_or slots before None ≡ Some x →
+    get_or (set slots before (Some record { prev = x.prev; next = node; entry = x.entry; is_end = x.is_end })) node None ≡ Some y →
+    get_or (set (set slots before (Some record { prev = x.prev; next = node; entry = x.entry; is_end = x.is_end })) node (Some record { prev = before; next = x.next; entry = entry; is_end = y.is_end })) x.next None ≡ Some z →
+    count_by is_some (set (set (set slots before (Some record { prev = x.prev; next = node; entry = x.entry; is_end = x.is_end })) node (Some record { prev = before; next = x.next; entry = entry; is_end = y.is_end })) x.next (Some record { prev = node; next = z.next; entry = z.entry; is_end = z.is_end })) ≡ count_by is_some slots
+count-put slots before node entry x y z hx hy hz =
+    let led : Node = record { prev = x.prev; next = node; entry = x.entry; is_end = x.is_end } in
+    let within : Node = record { prev = before; next = x.next; entry = entry; is_end = y.is_end } in
+    let closed : Node = record { prev = node; next = z.next; entry = z.entry; is_end = z.is_end } in
+    count-kept (set (set slots before (Some led)) node (Some within)) x.next closed (is_some-by _ z hz) ∙ count-kept (set slots before (Some led)) node within (is_some-by _ y hy) ∙ count-kept slots before led (is_some-by _ x hx)
 
 pub put : (slots : Slots) (before node : ℕ) (entry : Entry) (x y z : Node) → node ≢ before → get_or slots before None ≡ Some x →
     get_or (set slots before (Some record { prev = x.prev; next = node; entry = x.entry; is_end = x.is_end })) node None ≡ Some y →

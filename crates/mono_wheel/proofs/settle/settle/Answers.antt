@@ -1,7 +1,7 @@
-use Rattle.std.proofs.Common.{arith, sym, subst, ◌≡◌, ◌+◌, ◌<◌, length, [], ◌∷◌, ap, ◌∙◌, length-append}
+use Rattle.std.proofs.Common.{arith, refl, sym, subst, ◌≡◌, ◌+◌, ◌<◌, length, [], ◌∷◌, ap, ◌∙◌, length-append}
 use Rattle.mono_wheel.specs.Lists.{list_at}
-use Rattle.mono_wheel.proofs.Settling.{step-below, step-settling, step-settled, taken}
-use Rattle.mono_wheel.specs.Held.{Registered}
+use Rattle.mono_wheel.proofs.Settling.{step-below, step-settling, step-settled, taken, settled-start, settling-end}
+use Rattle.mono_wheel.specs.Held.{Held, Registered, Settled}
 use Rattle.mono_wheel.proofs.settle.settle.Goals as goal
 use Rattle.mono_wheel.specs.Start.{taken_list}
 
@@ -26,3 +26,33 @@ register-requires-clause-room g c =
     subst (λ es. c.in-Some.key < length es) (sym (ap (λ w. w.entries) c.in-Some.ensures.popped.2))
     (step-below c.args.elapsed c.args.links.now.entries c.loop-key.links.entries c.loop-key.links.entries c.args.links.now c.loop-key.links c.pop_taken.new.self c.pop_taken.new.self c.in-Some.key c.in-Some.ensures.popped.0
     c.loop-key.invariant.settling c.loop-key.invariant.settled c.in-Some.ensures.popped.1 c.in-Some.ensures.popped.2 c.in-Some.ensures.loose)
+
+pub register-requires-clause-loose : goal.register-requires-clause-loose
+register-requires-clause-loose g c = c.in-Some.ensures.loose
+
+pub loop-key-init : goal.loop-key-init
+loop-key-init g c = record { settling = c.requires; settled = settled-start c.args.links.now.entries c.args.links.now; counted = refl }
+
+pub loop-key-smaller : goal.loop-key-smaller
+loop-key-smaller g c =
+    let now = taken c.args.elapsed c.args.links.now.entries c.loop-key.links.entries c.register.new.links.entries c.args.links.now c.loop-key.links c.pop_taken.new.self c.register.new.links c.in-Some.key c.in-Some.ensures.popped.0
+    c.loop-key.invariant.settling c.loop-key.invariant.settled c.in-Some.ensures.popped.1 c.in-Some.ensures.popped.2 c.in-Some.ensures.loose (subst (λ es. Registered c.args.elapsed es c.register.new.links.entries c.pop_taken.new.self c.register.new.links c.in-Some.key) (ap (λ w. w.entries) c.in-Some.ensures.popped.2) c.register.ensures) in
+    let a : length (list_at c.register.new.links taken_list) ≡ length c.in-Some.ensures.popped.0 = ap length now in
+    let b : length (list_at c.loop-key.links taken_list) ≡ length c.in-Some.ensures.popped.0 + 1 = ap length c.in-Some.ensures.popped.1 ∙ length-append c.in-Some.ensures.popped.0 (c.in-Some.key ∷ []) in
+    omega (arith, a, b)
+
+pub returns-clause-held : goal.returns-clause-held
+returns-clause-held g c =
+    subst (λ w. Held c.args.elapsed w.entries w) (sym c.in_default.ensures.popped.1)
+    (settling-end c.args.elapsed c.loop-key.links.entries c.loop-key.links c.loop-key.invariant.settling c.in_default.ensures.popped.0)
+
+pub returns-clause-settled : goal.returns-clause-settled
+returns-clause-settled g c =
+    subst (λ w. Settled c.args.links.now.entries w.entries c.args.links.now w) (sym c.in_default.ensures.popped.1) c.loop-key.invariant.settled
+
+pub returns-clause-steps : goal.returns-clause-steps
+returns-clause-steps g c =
+    let none : length (list_at c.loop-key.links taken_list) ≡ 0 = ap length c.in_default.ensures.popped.0 in
+    let same = c.in_default.ensures.steps in
+    let counted = c.loop-key.invariant.counted in
+    omega (arith, none, same, counted)

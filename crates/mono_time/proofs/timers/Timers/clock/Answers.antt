@@ -15,7 +15,7 @@ use Rattle.mono_time.specs.Registered.{registered_at, moved_registered}
 use Rattle.mono_time.proofs.Counting.{fewer_armed}
 use Rattle.mono_time.proofs.Registering.{registered-moved, registered-gone, after-out}
 use Rattle.mono_time.proofs.Writing.{key_inside, table_kept, value-table}
-use Rattle.mono_time.proofs.Clocking.{came-owner, holds-fired, table-fired, table-armed, fired-value, table-least, fired-number, machine-fired, table-none, none-armed, machine-none}
+use Rattle.mono_time.proofs.Clocking.{max-later, max-below, max-over, out-later, holds-none, came-owner, holds-fired, table-fired, table-armed, fired-value, table-least, fired-number, machine-fired, table-none, none-armed, machine-none}
 use Rattle.mono_time.proofs.timers.Timers.clock.Goals as goal
 
 pub invariant_of-self-in-Some : goal.invariant_of-self-in-Some
@@ -23,8 +23,8 @@ invariant_of-self-in-Some g c =
     let t = c.args.self.now in
     let now = c.max-greatest.result in
     let is : now ≡ max t.greatest (down (nanos_of c.args.now)) = c.max-greatest.ensures ∙ ap (max t.greatest) c.clock_tick.ensures.tick in
-    let less : t.greatest ≤ now = omega (arith, is) in
-    let below : now < 2 ^ 63 = omega (arith, c.max-greatest.ensures, c.clock_tick.ensures.range, t.holds.greatest_below) in
+    let less : t.greatest ≤ now = max-later t.greatest (down (nanos_of c.args.now)) now is in
+    let below : now < 2 ^ 63 = max-below t.greatest c.clock_tick.result now c.max-greatest.ensures t.holds.greatest_below c.clock_tick.ensures.range in
     let left = c.poll.new.self in
     let k = c.in-Some.key in
     let e = c.index_mut-entry.result.now in
@@ -40,8 +40,8 @@ returns-in-None-clause-none g c =
     let t = c.args.self.now in
     let now = c.max-greatest.result in
     let is : now ≡ max t.greatest (down (nanos_of c.args.now)) = c.max-greatest.ensures ∙ ap (max t.greatest) c.clock_tick.ensures.tick in
-    let less : t.greatest ≤ now = omega (arith, is) in
-    let below : now < 2 ^ 63 = omega (arith, c.max-greatest.ensures, c.clock_tick.ensures.range, t.holds.greatest_below) in
+    let less : t.greatest ≤ now = max-later t.greatest (down (nanos_of c.args.now)) now is in
+    let below : now < 2 ^ 63 = max-below t.greatest c.clock_tick.result now c.max-greatest.ensures t.holds.greatest_below c.clock_tick.ensures.range in
     let nothing : NothingDue t.wheel c.poll.new.self now = c.in-None.ensures.polled in (
       λ s tick waker at. omega (arith, is, none-armed t.wheel c.poll.new.self t.keys t.entries.items t.greatest t.live t.limit t.holds now less below nothing s tick waker at),
       ap (λ table. record { table = table; greatest = now; limit = t.limit; is_enabled = t.is_enabled }) (table-none t.wheel c.poll.new.self t.keys t.entries.items t.greatest t.live t.limit t.holds now less below nothing)
@@ -53,8 +53,8 @@ returns-in-None-clause-stands g c = λ m st.
     let t = c.args.self.now in
     let now = c.max-greatest.result in
     let is : now ≡ max t.greatest (down (nanos_of c.args.now)) = c.max-greatest.ensures ∙ ap (max t.greatest) c.clock_tick.ensures.tick in
-    let less : t.greatest ≤ now = omega (arith, is) in
-    let below : now < 2 ^ 63 = omega (arith, c.max-greatest.ensures, c.clock_tick.ensures.range, t.holds.greatest_below) in
+    let less : t.greatest ≤ now = max-later t.greatest (down (nanos_of c.args.now)) now is in
+    let below : now < 2 ^ 63 = max-below t.greatest c.clock_tick.result now c.max-greatest.ensures t.holds.greatest_below c.clock_tick.ensures.range in
     let nothing : NothingDue t.wheel c.poll.new.self now = c.in-None.ensures.polled in
     machine-none t.wheel c.poll.new.self t.keys t.entries.items t.greatest t.live t.limit t.holds now less below nothing m (nanos_of c.args.now) st (ap (λ x. max x (down (nanos_of c.args.now))) st.same_greatest ∙ sym is)
 
@@ -63,8 +63,8 @@ returns-in-Some-clause-some g c =
     let t = c.args.self.now in
     let now = c.max-greatest.result in
     let is : now ≡ max t.greatest (down (nanos_of c.args.now)) = c.max-greatest.ensures ∙ ap (max t.greatest) c.clock_tick.ensures.tick in
-    let less : t.greatest ≤ now = omega (arith, is) in
-    let below : now < 2 ^ 63 = omega (arith, c.max-greatest.ensures, c.clock_tick.ensures.range, t.holds.greatest_below) in
+    let less : t.greatest ≤ now = max-later t.greatest (down (nanos_of c.args.now)) now is in
+    let below : now < 2 ^ 63 = max-below t.greatest c.clock_tick.result now c.max-greatest.ensures t.holds.greatest_below c.clock_tick.ensures.range in
     let left = c.poll.new.self in
     let k = c.in-Some.key in
     let e = c.index_mut-entry.result.now in
@@ -91,8 +91,8 @@ returns-in-Some-clause-stands g c = λ m st.
     let t = c.args.self.now in
     let now = c.max-greatest.result in
     let is : now ≡ max t.greatest (down (nanos_of c.args.now)) = c.max-greatest.ensures ∙ ap (max t.greatest) c.clock_tick.ensures.tick in
-    let less : t.greatest ≤ now = omega (arith, is) in
-    let below : now < 2 ^ 63 = omega (arith, c.max-greatest.ensures, c.clock_tick.ensures.range, t.holds.greatest_below) in
+    let less : t.greatest ≤ now = max-later t.greatest (down (nanos_of c.args.now)) now is in
+    let below : now < 2 ^ 63 = max-below t.greatest c.clock_tick.result now c.max-greatest.ensures t.holds.greatest_below c.clock_tick.ensures.range in
     let left = c.poll.new.self in
     let k = c.in-Some.key in
     let e = c.index_mut-entry.result.now in
@@ -114,8 +114,8 @@ returns-in-None-clause-registered g c = λ s same.
     let t = c.args.self.now in
     let now = c.max-greatest.result in
     let is : now ≡ max t.greatest (down (nanos_of c.args.now)) = c.max-greatest.ensures ∙ ap (max t.greatest) c.clock_tick.ensures.tick in
-    let less : t.greatest ≤ now = omega (arith, is) in
-    let below : now < 2 ^ 63 = omega (arith, c.max-greatest.ensures, c.clock_tick.ensures.range, t.holds.greatest_below) in
+    let less : t.greatest ≤ now = max-later t.greatest (down (nanos_of c.args.now)) now is in
+    let below : now < 2 ^ 63 = max-below t.greatest c.clock_tick.result now c.max-greatest.ensures t.holds.greatest_below c.clock_tick.ensures.range in
     let nothing : NothingDue t.wheel c.poll.new.self now = c.in-None.ensures.polled in
     registered-moved t.wheel t.keys t.entries.items t.greatest t.live t.holds now c.poll.new.self s (λ j at. nothing.ticks j)
     ∙ ap (λ n. moved_registered t.wheel.elapsed n (kept_at t.wheel t.keys t.entries.items s) (registered_at t.wheel t.keys s)) (sym nothing.elapsed)
@@ -126,8 +126,8 @@ returns-in-Some-clause-registered g c = λ s same.
     let t = c.args.self.now in
     let now = c.max-greatest.result in
     let is : now ≡ max t.greatest (down (nanos_of c.args.now)) = c.max-greatest.ensures ∙ ap (max t.greatest) c.clock_tick.ensures.tick in
-    let less : t.greatest ≤ now = omega (arith, is) in
-    let below : now < 2 ^ 63 = omega (arith, c.max-greatest.ensures, c.clock_tick.ensures.range, t.holds.greatest_below) in
+    let less : t.greatest ≤ now = max-later t.greatest (down (nanos_of c.args.now)) now is in
+    let below : now < 2 ^ 63 = max-below t.greatest c.clock_tick.result now c.max-greatest.ensures t.holds.greatest_below c.clock_tick.ensures.range in
     let left = c.poll.new.self in
     let k = c.in-Some.key in
     let e = c.index_mut-entry.result.now in
@@ -151,8 +151,8 @@ returns-in-Some-clause-gone g c =
     let t = c.args.self.now in
     let now = c.max-greatest.result in
     let is : now ≡ max t.greatest (down (nanos_of c.args.now)) = c.max-greatest.ensures ∙ ap (max t.greatest) c.clock_tick.ensures.tick in
-    let less : t.greatest ≤ now = omega (arith, is) in
-    let below : now < 2 ^ 63 = omega (arith, c.max-greatest.ensures, c.clock_tick.ensures.range, t.holds.greatest_below) in
+    let less : t.greatest ≤ now = max-later t.greatest (down (nanos_of c.args.now)) now is in
+    let below : now < 2 ^ 63 = max-below t.greatest c.clock_tick.result now c.max-greatest.ensures t.holds.greatest_below c.clock_tick.ensures.range in
     let left = c.poll.new.self in
     let k = c.in-Some.key in
     let e = c.index_mut-entry.result.now in
@@ -168,8 +168,8 @@ returns-in-Some-clause-fewer g c =
     let t = c.args.self.now in
     let now = c.max-greatest.result in
     let is : now ≡ max t.greatest (down (nanos_of c.args.now)) = c.max-greatest.ensures ∙ ap (max t.greatest) c.clock_tick.ensures.tick in
-    let less : t.greatest ≤ now = omega (arith, is) in
-    let below : now < 2 ^ 63 = omega (arith, c.max-greatest.ensures, c.clock_tick.ensures.range, t.holds.greatest_below) in
+    let less : t.greatest ≤ now = max-later t.greatest (down (nanos_of c.args.now)) now is in
+    let below : now < 2 ^ 63 = max-below t.greatest c.clock_tick.result now c.max-greatest.ensures t.holds.greatest_below c.clock_tick.ensures.range in
     let left = c.poll.new.self in
     let k = c.in-Some.key in
     let e = c.index_mut-entry.result.now in
@@ -186,8 +186,8 @@ returns-in-Some-clause-reached g c =
     let t = c.args.self.now in
     let now = c.max-greatest.result in
     let is : now ≡ max t.greatest (down (nanos_of c.args.now)) = c.max-greatest.ensures ∙ ap (max t.greatest) c.clock_tick.ensures.tick in
-    let less : t.greatest ≤ now = omega (arith, is) in
-    let below : now < 2 ^ 63 = omega (arith, c.max-greatest.ensures, c.clock_tick.ensures.range, t.holds.greatest_below) in
+    let less : t.greatest ≤ now = max-later t.greatest (down (nanos_of c.args.now)) now is in
+    let below : now < 2 ^ 63 = max-below t.greatest c.clock_tick.result now c.max-greatest.ensures t.holds.greatest_below c.clock_tick.ensures.range in
     let left = c.poll.new.self in
     let k = c.in-Some.key in
     let e = c.index_mut-entry.result.now in
@@ -199,3 +199,52 @@ returns-in-Some-clause-reached g c =
     let number : f.sleep ≡ owned.0 = fired-number t.wheel left t.keys t.entries.items t.greatest t.live t.limit t.holds now less below k came e f was c.elapse-waker.ensures.entry in
     ap (value_at (table_kept t.wheel t.keys t.entries.items)) number ∙ table-armed t.wheel left t.keys t.entries.items t.greatest t.live t.limit t.holds now less below k came e f was c.elapse-waker.ensures.entry
     ∙ ap (λ w. Some (armed left.elapsed w)) (sym c.elapse-waker.ensures.waker)
+
+pub poll-requires-clause-ahead : goal.poll-requires-clause-ahead
+poll-requires-clause-ahead g c =
+    let t = c.args.self.now in
+    max-over t.wheel.elapsed t.greatest c.clock_tick.result c.max-greatest.result c.max-greatest.ensures t.holds.elapsed
+
+pub poll-requires-clause-range : goal.poll-requires-clause-range
+poll-requires-clause-range g c =
+    let t = c.args.self.now in
+    max-below t.greatest c.clock_tick.result c.max-greatest.result c.max-greatest.ensures t.holds.greatest_below c.clock_tick.ensures.range
+
+pub index_mut-entry-requires : goal.index_mut-entry-requires
+index_mut-entry-requires g c =
+    let t = c.args.self.now in
+    let now = c.max-greatest.result in
+    let is : now ≡ max t.greatest (down (nanos_of c.args.now)) = c.max-greatest.ensures ∙ ap (max t.greatest) c.clock_tick.ensures.tick in
+    let less : t.greatest ≤ now = max-later t.greatest (down (nanos_of c.args.now)) now is in
+    let below : now < 2 ^ 63 = max-below t.greatest c.clock_tick.result now c.max-greatest.ensures t.holds.greatest_below c.clock_tick.ensures.range in
+    let left = c.poll.new.self in
+    let k = c.in-Some.key in
+    let came : CameOut t.wheel left now k = c.in-Some.ensures.polled in
+    let owned = came-owner t.wheel left t.keys t.entries.items t.greatest t.live t.limit t.holds now less below k came in
+    subst (λ n. k < n) (sym t.entries.ok.0) (key_inside t.wheel t.keys t.entries.items t.greatest t.live t.holds owned.0 k owned.1)
+
+pub invariant_of-self : goal.invariant_of-self
+invariant_of-self g c =
+    let t = c.args.self.now in
+    let now = c.max-greatest.result in
+    let is : now ≡ max t.greatest (down (nanos_of c.args.now)) = c.max-greatest.ensures ∙ ap (max t.greatest) c.clock_tick.ensures.tick in
+    let less : t.greatest ≤ now = max-later t.greatest (down (nanos_of c.args.now)) now is in
+    let below : now < 2 ^ 63 = max-below t.greatest c.clock_tick.result now c.max-greatest.ensures t.holds.greatest_below c.clock_tick.ensures.range in
+    record { holds = holds-none t.wheel c.poll.new.self t.keys t.entries.items t.greatest t.live t.limit t.holds now less below c.in-None.ensures.polled }
+
+pub returns-in-None-clause-elapsed : goal.returns-in-None-clause-elapsed
+returns-in-None-clause-elapsed g c = c.in-None.ensures.polled.elapsed
+
+pub returns-in-None-clause-later : goal.returns-in-None-clause-later
+returns-in-None-clause-later g c =
+    let t = c.args.self.now in
+    subst (λ n. t.wheel.elapsed ≤ n) (sym c.in-None.ensures.polled.elapsed) (max-over t.wheel.elapsed t.greatest c.clock_tick.result c.max-greatest.result c.max-greatest.ensures t.holds.elapsed)
+
+pub returns-in-None-clause-steps : goal.returns-in-None-clause-steps
+returns-in-None-clause-steps g c = c.in-None.ensures.steps
+
+pub returns-in-Some-clause-later : goal.returns-in-Some-clause-later
+returns-in-Some-clause-later g c = out-later c.args.self.now.wheel c.poll.new.self c.max-greatest.result c.in-Some.key c.elapsed.ensures.fits c.in-Some.ensures.polled
+
+pub returns-in-Some-clause-steps : goal.returns-in-Some-clause-steps
+returns-in-Some-clause-steps g c = c.in-Some.ensures.steps
