@@ -6,7 +6,7 @@ ghost use Rattle.mono_rt.specs.Reached.{Reaches};
 
 use crate::asks::{Asks, asked};
 use crate::futures::Ready;
-use crate::grows::{Called, Ended, done_where, refused_where};
+use crate::grows::{Called, done_where, refused_where};
 use crate::waking::Gives;
 use mono_blocking::{BlockingTask, Offered, ThreadPool};
 use mono_inbox::NoUnpark;
@@ -16,7 +16,8 @@ use mono_rt::{Cx, SpawnError, SpawnRefused};
 use mono_task::{JoinContext, Poll, TaskFuture};
 use mono_time::{SleepError, TimeContext, interval, sleep, timeout};
 use std::alloc::Global;
-use std::sync::{Arc, Mutex};
+use std::sync::Arc;
+use std::sync::atomic::{AtomicU64, Ordering};
 use std::time::Duration;
 
 /// A pool that keeps each task, and runs none.
@@ -61,13 +62,16 @@ impl ThreadPool for Keeps {
 /// The context of the tasks.
 pub type Own = Cx<Errand, u64, Keeps, NoUnpark>;
 
+/// Told of calls one of which was not as it should be.
+pub const WENT_WRONG: u64 = u64::MAX;
+
 /// What a task does in its one turn.
 #[derive(Drop)]
 pub enum Errand {
     /// It is ready with this number.
     Ready(u64),
-    /// It makes a call so often, and tells how that ended.
-    Asks(Ask, u64, Arc<Mutex<Ended>, Global>),
+    /// It makes a call so often, and tells how that ended: how many were refused, or `WENT_WRONG`.
+    Asks(Ask, u64, Arc<AtomicU64, Global>),
 }
 
 impl Errand {
@@ -78,11 +82,6 @@ impl Errand {
             Errand::Asks(_, _, _) => false,
         }
     }
-}
-
-// Tells how the calls ended.
-fn tell<R: Host>(rt: &R, told: &Mutex<Ended>, refused: Option<u64>) {
-    *told.lock(rt) = Some(refused);
 }
 
 impl TaskFuture<Own> for Errand {
@@ -102,8 +101,8 @@ impl TaskFuture<Own> for Errand {
         match self {
             Errand::Ready(number) => Poll::Ready(*number),
             Errand::Asks(ask, calls, told) => {
-                let refused = asked(rt, alloc, cx, ask, *calls);
-                tell(rt, told, refused);
+                let refused = asked(rt, alloc, cx, ask, *calls).unwrap_or(WENT_WRONG);
+                told.store(refused, Ordering::SeqCst);
                 Poll::Ready(0)
             }
         }
@@ -113,7 +112,7 @@ impl TaskFuture<Own> for Errand {
 }
 
 /// A call of a running task that takes memory.
-#[derive(Clone, Copy, Debug, PartialEq, Eq)]
+#[derive(Clone, Copy)]
 pub enum Ask {
     /// The spawn of a task.
     Child,

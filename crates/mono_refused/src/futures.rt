@@ -33,7 +33,7 @@ impl<C: Context> TaskFuture<C> for Ready {
 }
 
 /// What is made of a list.
-#[derive(Clone, Copy, Debug, PartialEq, Eq, Drop)]
+#[derive(Clone, Copy, Drop)]
 pub enum Form {
     /// A join.
     Join,
@@ -54,13 +54,22 @@ fn numbered(alloc: Global, n: u64) -> Option<Vec<Ready>>
     ensures few { IfSome result (λ list. vec_len list ≤ 64) }
 {
     let mut list = Vec::new(alloc);
+    let is_whole = has_numbered(&mut list, n);
+    if is_whole && !list.is_empty() && list.len() <= 64 {
+        Some(list)
+    } else {
+        None
+    }
+}
+
+// Whether there was memory for all of them.
+fn has_numbered(list: &mut Vec<Ready>, n: u64) -> bool {
     for task in 0..count_of(n) {
-        list.push(Ready(task)).ok()?;
+        if list.push(Ready(task)).is_err() {
+            return false;
+        }
     }
-    if list.is_empty() || list.len() > 64 {
-        return None;
-    }
-    Some(list)
+    true
 }
 
 // Whether this is what `numbered` gives.
@@ -75,10 +84,9 @@ fn are_numbered(list: &Vec<Ready>, n: u64) -> bool {
     task == count_of(n)
 }
 
-fn join(alloc: Global, n: u64) -> Called {
-    let Some(list) = numbered(alloc, n) else {
-        return Called::Refused;
-    };
+fn join(alloc: Global, list: Vec<Ready>, n: u64) -> Called
+    requires few { vec_len list ≤ 64 }
+{
     let made: Result<JoinList<Own, Ready>, _> = JoinList::new(alloc, list);
     match made {
         Ok(_) => Called::Done,
@@ -86,10 +94,9 @@ fn join(alloc: Global, n: u64) -> Called {
     }
 }
 
-fn try_join(alloc: Global, n: u64) -> Called {
-    let Some(list) = numbered(alloc, n) else {
-        return Called::Refused;
-    };
+fn try_join(alloc: Global, list: Vec<Ready>, n: u64) -> Called
+    requires few { vec_len list ≤ 64 }
+{
     let made: Result<TryJoinList<Own, Ready>, _> = TryJoinList::new(alloc, list);
     match made {
         Ok(_) => Called::Done,
@@ -98,10 +105,10 @@ fn try_join(alloc: Global, n: u64) -> Called {
 }
 
 // In the predicate's place stands a number, since nobody asks it.
-fn select(alloc: Global, n: u64) -> Called {
-    let Some(list) = numbered(alloc, n) else {
-        return Called::Refused;
-    };
+fn select(alloc: Global, list: Vec<Ready>, n: u64) -> Called
+    requires some { 0 < vec_len list }
+    requires few { vec_len list ≤ 64 }
+{
     match SelectList::new(alloc, list, n, 0, Start::Biased) {
         Ok(_) => Called::Done,
         Err((back, predicate)) => refused_where(predicate == n && are_numbered(&back, n)),
@@ -110,14 +117,17 @@ fn select(alloc: Global, n: u64) -> Called {
 
 impl Grows for Form {
     fn grow<R: Host>(&mut self, _rt: &R, alloc: Global, n: u64) -> Called {
+        let Some(list) = numbered(alloc, n) else {
+            return Called::Refused;
+        };
         match self {
-            Form::Join => join(alloc, n),
-            Form::TryJoin => try_join(alloc, n),
-            Form::Select => select(alloc, n),
+            Form::Join => join(alloc, list, n),
+            Form::TryJoin => try_join(alloc, list, n),
+            Form::Select => select(alloc, list, n),
         }
     }
 
-    fn seen<R: Host>(&self, _rt: &R) -> u64 {
+    fn seen(&self) -> u64 {
         0
     }
 }

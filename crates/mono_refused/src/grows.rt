@@ -3,7 +3,7 @@ use mono_model::Host;
 use std::alloc::Global;
 
 /// What one call did.
-#[derive(Clone, Copy, Debug, PartialEq, Eq)]
+#[derive(Clone, Copy)]
 pub enum Called {
     /// It did what it promises.
     Done,
@@ -40,7 +40,7 @@ pub trait Grows {
     fn grow<R: Host>(&mut self, rt: &R, alloc: Global, n: u64) -> Called;
 
     /// What is seen of the object, as a number.
-    fn seen<R: Host>(&self, rt: &R) -> u64;
+    fn seen(&self) -> u64;
 }
 
 /// How many of the calls were refused; none where one was not as it should be: one that changed what is seen although it
@@ -60,13 +60,13 @@ pub fn refusals<R: Host, T: Grows>(
 
 // One call: 0 where it was done at once, 1 where it was done after it had been refused and had left all as it was.
 fn once_more<R: Host, T: Grows>(rt: &R, alloc: Global, object: &mut T, n: u64) -> Option<u64> {
-    let before = object.seen(rt);
+    let before = object.seen();
     match object.grow(rt, alloc, n) {
         Called::Done => return Some(0),
         Called::Otherwise => return None,
         Called::Refused => {}
     }
-    if object.seen(rt) != before {
+    if object.seen() != before {
         return None;
     }
     match object.grow(rt, alloc, n) {

@@ -1,26 +1,22 @@
 // Sessions, limits and actors.
-use crate::grows::{Called, Grows};
+use crate::grows::{Called, Grows, done_where, refused_where};
 use mono_actor::{ActorError, Actors};
 use mono_limit::{LimitError, Limiter};
 use mono_model::Host;
 use mono_session::{SessionError, Sessions};
 use std::alloc::Global;
 
-/// A keeper of sessions, by sessions that are opened.
-#[derive(Drop)]
-pub struct Opened(pub Sessions);
-
-impl Grows for Opened {
+// A keeper of sessions, by sessions that are opened.
+impl Grows for Sessions {
     fn grow<R: Host>(&mut self, _rt: &R, alloc: Global, n: u64) -> Called {
-        match self.0.open(alloc, 1000) {
-            Ok(session) if session == n => Called::Done,
-            Err(SessionError::Memory) => Called::Refused,
-            _ => Called::Otherwise,
+        match self.open(alloc, 1000) {
+            Ok(session) => done_where(session == n),
+            Err(cause) => refused_where(cause == SessionError::Memory),
         }
     }
 
-    fn seen<R: Host>(&self, _rt: &R) -> u64 {
-        self.0.open_len() as u64
+    fn seen(&self) -> u64 {
+        self.open_len() as u64
     }
 }
 
@@ -32,26 +28,36 @@ impl Acquired {
     /// Two sessions, which may stand in so many queues each.
     pub fn new(alloc: Global, keys: u64) -> Option<Acquired> {
         let mut sessions = Sessions::new(alloc, 2, keys.wrapping_mul(2)).ok()?;
-        sessions.open(alloc, 1000).ok()?;
-        sessions.open(alloc, 1000).ok()?;
-        Some(Acquired(sessions))
+        if has_opened(alloc, &mut sessions) && has_opened(alloc, &mut sessions) {
+            Some(Acquired(sessions))
+        } else {
+            None
+        }
     }
+}
+
+// Whether a session could be opened.
+fn has_opened(alloc: Global, sessions: &mut Sessions) -> bool {
+    sessions.open(alloc, 1000).is_ok()
 }
 
 impl Grows for Acquired {
     fn grow<R: Host>(&mut self, _rt: &R, alloc: Global, n: u64) -> Called {
         let (session, key) = (n & 1, n >> 1);
-        match self.0.acquire(alloc, session, key) {
-            Ok(owns) if owns == (session == 0) && self.0.owner(key) == Some(0) => Called::Done,
-            Err(SessionError::Memory) if self.0.owner(key).is_some() == (session == 1) => {
-                Called::Refused
-            }
-            _ => Called::Otherwise,
-        }
+        let answer = self.0.acquire(alloc, session, key);
+        as_acquired(answer, session == 0, self.0.owner(key))
     }
 
-    fn seen<R: Host>(&self, _rt: &R) -> u64 {
+    fn seen(&self) -> u64 {
         self.0.open_len() as u64
+    }
+}
+
+// What an acquire did, by the first session or by the second, after which the key has this owner.
+fn as_acquired(answer: Result<bool, SessionError>, is_first: bool, owner: Option<u64>) -> Called {
+    match answer {
+        Ok(owns) => done_where(owns == is_first && matches!(owner, Some(0))),
+        Err(cause) => refused_where(cause == SessionError::Memory && owner.is_none() == is_first),
     }
 }
 
@@ -61,51 +67,44 @@ pub struct Buckets(pub Limiter);
 
 impl Grows for Buckets {
     fn grow<R: Host>(&mut self, _rt: &R, alloc: Global, n: u64) -> Called {
-        match self.0.bucket(alloc, 4, 10) {
-            Ok(bucket) if bucket == n => Called::Done,
-            Err(LimitError::Memory) => Called::Refused,
-            _ => Called::Otherwise,
-        }
+        as_limited(self.0.bucket(alloc, 4, 10), n)
     }
 
-    fn seen<R: Host>(&self, _rt: &R) -> u64 {
+    fn seen(&self) -> u64 {
         self.0.live() as u64
     }
 }
 
-/// A limiter, by retries.
-#[derive(Drop)]
-pub struct Retries(pub Limiter);
-
-impl Grows for Retries {
-    fn grow<R: Host>(&mut self, _rt: &R, alloc: Global, n: u64) -> Called {
-        match self.0.retry(alloc, 4, 16, 3) {
-            Ok(retry) if retry == n => Called::Done,
-            Err(LimitError::Memory) => Called::Refused,
-            _ => Called::Otherwise,
-        }
-    }
-
-    fn seen<R: Host>(&self, _rt: &R) -> u64 {
-        self.0.live() as u64
+// What a call on a limiter did that is to give this number.
+fn as_limited(answer: Result<u64, LimitError>, n: u64) -> Called {
+    match answer {
+        Ok(number) => done_where(number == n),
+        Err(cause) => refused_where(cause == LimitError::Memory),
     }
 }
 
-/// Actors, by spawns.
-#[derive(Drop)]
-pub struct Hired(pub Actors<u64>);
-
-impl Grows for Hired {
+// A limiter, by retries.
+impl Grows for Limiter {
     fn grow<R: Host>(&mut self, _rt: &R, alloc: Global, n: u64) -> Called {
-        match self.0.spawn(alloc) {
-            Ok(actor) if actor == n => Called::Done,
-            Err(ActorError::Memory) => Called::Refused,
-            _ => Called::Otherwise,
+        as_limited(self.retry(alloc, 4, 16, 3), n)
+    }
+
+    fn seen(&self) -> u64 {
+        self.live() as u64
+    }
+}
+
+// Actors, by spawns.
+impl Grows for Actors<u64> {
+    fn grow<R: Host>(&mut self, _rt: &R, alloc: Global, n: u64) -> Called {
+        match self.spawn(alloc) {
+            Ok(actor) => done_where(actor == n),
+            Err(cause) => refused_where(cause == ActorError::Memory),
         }
     }
 
-    fn seen<R: Host>(&self, _rt: &R) -> u64 {
-        self.0.live() as u64
+    fn seen(&self) -> u64 {
+        self.live() as u64
     }
 }
 
@@ -117,24 +116,30 @@ impl Written {
     /// Two actors, for which so many messages may wait.
     pub fn new(alloc: Global, messages: u64) -> Option<Written> {
         let mut actors = Actors::new(alloc, 2, messages).ok()?;
-        actors.spawn(alloc).ok()?;
-        actors.spawn(alloc).ok()?;
-        Some(Written(actors))
+        if has_hired(alloc, &mut actors) && has_hired(alloc, &mut actors) {
+            Some(Written(actors))
+        } else {
+            None
+        }
     }
+}
+
+// Whether an actor could be spawned.
+fn has_hired(alloc: Global, actors: &mut Actors<u64>) -> bool {
+    actors.spawn(alloc).is_ok()
 }
 
 impl Grows for Written {
     fn grow<R: Host>(&mut self, _rt: &R, _alloc: Global, n: u64) -> Called {
         match self.0.send(0, 1, n ^ 9) {
             Ok(_) => Called::Done,
-            Err(refused) if refused.cause == ActorError::Memory && refused.message == n ^ 9 => {
-                Called::Refused
+            Err(refused) => {
+                refused_where(refused.cause == ActorError::Memory && refused.message == n ^ 9)
             }
-            Err(_) => Called::Otherwise,
         }
     }
 
-    fn seen<R: Host>(&self, _rt: &R) -> u64 {
+    fn seen(&self) -> u64 {
         self.0.live() as u64
     }
 }

@@ -1,96 +1,92 @@
 // Tables, lists, tasks and sleeps.
-use crate::grows::{Called, Grows};
+use crate::grows::{Called, Grows, done_where, refused_where};
 use mono_machine::List;
 use mono_model::Host;
 use mono_table::Table;
 use mono_task::{SpawnTask, Tasks};
 use mono_time::{Instant, SleepError, Timers};
-use std::alloc::Global;
+use std::alloc::{AllocError, Global};
 
-/// A table, by pushes.
-#[derive(Drop)]
-pub struct Pushed(pub Table<u64>);
-
-impl Grows for Pushed {
-    fn grow<R: Host>(&mut self, _rt: &R, alloc: Global, n: u64) -> Called {
-        if self.0.len() != n || n == u64::MAX {
-            return Called::Otherwise;
-        }
-        match self.0.push(alloc, n ^ 5) {
-            Ok(()) if self.0.get(n) == Some(&(n ^ 5)) => Called::Done,
-            Ok(()) => Called::Otherwise,
-            Err(_) => Called::Refused,
-        }
-    }
-
-    fn seen<R: Host>(&self, _rt: &R) -> u64 {
-        self.0.len() ^ self.0.count().rotate_left(32)
+// What a push did, after which the item is or is not at its place.
+fn as_pushed(answer: Result<(), AllocError>, is_there: bool) -> Called {
+    match answer {
+        Ok(()) => done_where(is_there),
+        Err(_) => Called::Refused,
     }
 }
 
-/// A list, by pushes.
-#[derive(Drop)]
-pub struct Listed(pub List<u64>);
-
-impl Grows for Listed {
-    fn grow<R: Host>(&mut self, _rt: &R, _alloc: Global, n: u64) -> Called {
-        match self.0.push(n ^ 3) {
-            Ok(()) if self.0.get(n as usize) == Some(&(n ^ 3)) => Called::Done,
-            Ok(()) => Called::Otherwise,
-            Err(_) => Called::Refused,
+// A table, by pushes.
+impl Grows for Table<u64> {
+    fn grow<R: Host>(&mut self, _rt: &R, alloc: Global, n: u64) -> Called {
+        if self.len() != n || n == u64::MAX {
+            return Called::Otherwise;
         }
+        let answer = self.push(alloc, n ^ 5);
+        as_pushed(answer, has(self.get(n), n ^ 5))
     }
 
-    fn seen<R: Host>(&self, _rt: &R) -> u64 {
-        let mut seen = self.0.len() as u64;
-        for item in self.0.as_slice() {
+    fn seen(&self) -> u64 {
+        self.len() ^ self.count().rotate_left(32)
+    }
+}
+
+// Whether this is there, and is this.
+fn has(found: Option<&u64>, item: u64) -> bool {
+    match found {
+        Some(found) => *found == item,
+        None => false,
+    }
+}
+
+// A list, by pushes.
+impl Grows for List<u64> {
+    fn grow<R: Host>(&mut self, _rt: &R, _alloc: Global, n: u64) -> Called {
+        let answer = self.push(n ^ 3);
+        as_pushed(answer, has(self.get(n as usize), n ^ 3))
+    }
+
+    fn seen(&self) -> u64 {
+        let mut seen = self.len() as u64;
+        for item in self.as_slice() {
             seen = seen.rotate_left(1) ^ *item;
         }
         seen
     }
 }
 
-/// Tasks, by spawns.
-#[derive(Drop)]
-pub struct Spawned(pub Tasks<u64>);
-
-impl Grows for Spawned {
+// Tasks, by spawns.
+impl Grows for Tasks<u64> {
     fn grow<R: Host>(&mut self, _rt: &R, alloc: Global, n: u64) -> Called {
-        match self.0.spawn(alloc) {
-            Ok(task) if task == n => Called::Done,
-            Err(SpawnTask::Memory) => Called::Refused,
-            _ => Called::Otherwise,
+        match self.spawn(alloc) {
+            Ok(task) => done_where(task == n),
+            Err(cause) => refused_where(cause == SpawnTask::Memory),
         }
     }
 
-    fn seen<R: Host>(&self, _rt: &R) -> u64 {
-        self.0.queue_len() as u64
+    fn seen(&self) -> u64 {
+        self.queue_len() as u64
     }
 }
 
-/// The instant of so many milliseconds.
-pub fn at_millis(millis: u64) -> Option<Instant> {
+// The instant of so many milliseconds.
+fn at_millis(millis: u64) -> Option<Instant> {
     Instant::from_nanos(u128::from(millis).wrapping_mul(1000000))
 }
 
-/// Sleeps, by additions.
-#[derive(Drop)]
-pub struct Added(pub Timers);
-
-impl Grows for Added {
+// Sleeps, by additions.
+impl Grows for Timers {
     fn grow<R: Host>(&mut self, _rt: &R, alloc: Global, n: u64) -> Called {
         let Some(deadline) = at_millis(n) else {
             return Called::Otherwise;
         };
-        match self.0.add(alloc, deadline) {
-            Ok(sleep) if sleep == n => Called::Done,
-            Err(SleepError::Memory) => Called::Refused,
-            _ => Called::Otherwise,
+        match self.add(alloc, deadline) {
+            Ok(sleep) => done_where(sleep == n),
+            Err(cause) => refused_where(cause == SleepError::Memory),
         }
     }
 
-    fn seen<R: Host>(&self, _rt: &R) -> u64 {
-        self.0.live()
+    fn seen(&self) -> u64 {
+        self.live()
     }
 }
 
@@ -102,11 +98,36 @@ impl Fired {
     /// So many sleeps, armed.
     pub fn new(alloc: Global, sleeps: u64) -> Option<Fired> {
         let mut timers = Timers::new(alloc, sleeps, true).ok()?;
-        for n in 0..sleeps {
-            let sleep = timers.add(alloc, at_millis(n.wrapping_add(1))?).ok()?;
-            timers.poll(sleep, sleep).ok()?;
+        if has_armed(alloc, &mut timers, sleeps) {
+            Some(Fired(timers))
+        } else {
+            None
         }
-        Some(Fired(timers))
+    }
+}
+
+// Whether so many sleeps could be armed.
+fn has_armed(alloc: Global, timers: &mut Timers, sleeps: u64) -> bool {
+    for n in 0..sleeps {
+        if arm(alloc, timers, n.wrapping_add(1)).is_none() {
+            return false;
+        }
+    }
+    true
+}
+
+// A sleep that is armed at so many milliseconds, and that wakes the task of its own number.
+fn arm(alloc: Global, timers: &mut Timers, millis: u64) -> Option<()> {
+    let sleep = timers.add(alloc, at_millis(millis)?).ok()?;
+    timers.poll(sleep, sleep).ok()?;
+    Some(())
+}
+
+// What a step of the clock did that was to give this sleep alone.
+fn as_fired(answer: Result<(), AllocError>, fired: &[(u64, Option<u64>)], sleep: u64) -> Called {
+    match answer {
+        Ok(()) => done_where(matches!(fired, [(it, Some(task))] if *it == sleep && *task == sleep)),
+        Err(_) => refused_where(fired.is_empty()),
     }
 }
 
@@ -116,15 +137,11 @@ impl Grows for Fired {
             return Called::Otherwise;
         };
         let mut fired = Vec::new(alloc);
-        match self.0.fire_all(alloc, now, &mut fired) {
-            Ok(()) if fired.as_slice() == [(n, Some(n))].as_slice() => Called::Done,
-            Ok(()) => Called::Otherwise,
-            Err(_) if fired.is_empty() => Called::Refused,
-            Err(_) => Called::Otherwise,
-        }
+        let answer = self.0.fire_all(alloc, now, &mut fired);
+        as_fired(answer, fired.as_slice(), n)
     }
 
-    fn seen<R: Host>(&self, _rt: &R) -> u64 {
+    fn seen(&self) -> u64 {
         self.0.greatest() ^ self.0.next_expiration_time().unwrap_or(0).rotate_left(32)
     }
 }

@@ -1,7 +1,7 @@
 // Inboxes, and blocking jobs.
 ghost use Rattle.std.specs.Prelude.{◌≡◌};
 
-use crate::grows::{Called, Grows};
+use crate::grows::{Called, Grows, done_where, refused_where};
 use mono_blocking::{BlockingTask, Job, Outcome};
 use mono_inbox::{Inbox, InboxState, NoUnpark, RecordedInbox, RegisterError, Registry};
 use mono_model::Host;
@@ -9,140 +9,174 @@ use std::alloc::{AllocError, Global};
 use std::sync::Arc;
 use std::sync::ledger::{Blank, Ledger};
 
-/// The state of an inbox, by tasks that it comes to know and that then wait.
-#[derive(Drop)]
-pub struct Known(pub InboxState);
-
-impl Grows for Known {
+// The state of an inbox, by tasks that it comes to know and that then wait.
+impl Grows for InboxState {
     fn grow<R: Host>(&mut self, _rt: &R, alloc: Global, n: u64) -> Called {
-        match self.0.know(alloc, n) {
-            Ok(()) if self.0.put(n) => Called::Done,
-            Ok(()) => Called::Otherwise,
-            Err(_) if self.0.put(n) => Called::Otherwise,
-            Err(_) => Called::Refused,
+        let answer = self.know(alloc, n);
+        let is_known = self.put(n);
+        match answer {
+            Ok(()) => done_where(is_known),
+            Err(_) => refused_where(!is_known),
         }
     }
 
-    fn seen<R: Host>(&self, _rt: &R) -> u64 {
-        self.0.waiting() as u64
+    fn seen(&self) -> u64 {
+        self.waiting() as u64
+    }
+}
+
+/// An inbox whose tasks are woken, and that is drained.
+pub trait Drains {
+    /// Wakes a task; false where there was no memory for its waker.
+    fn wakes<R: Host>(&self, rt: &R, alloc: Global, task: u64) -> bool;
+
+    /// Puts the woken tasks behind a list.
+    fn drains<R: Host>(
+        &mut self,
+        rt: &R,
+        alloc: Global,
+        list: &mut Vec<u64>,
+    ) -> Result<(), AllocError>;
+}
+
+impl Drains for Inbox<NoUnpark> {
+    fn wakes<R: Host>(&self, rt: &R, alloc: Global, task: u64) -> bool {
+        match self.waker(rt, alloc, task) {
+            Ok(waker) => {
+                waker.wake(rt);
+                true
+            }
+            Err(_) => false,
+        }
+    }
+
+    fn drains<R: Host>(
+        &mut self,
+        rt: &R,
+        alloc: Global,
+        list: &mut Vec<u64>,
+    ) -> Result<(), AllocError> {
+        self.drain(rt, alloc, list)
+    }
+}
+
+impl<L: Ledger> Drains for RecordedInbox<NoUnpark, L> {
+    fn wakes<R: Host>(&self, rt: &R, alloc: Global, task: u64) -> bool {
+        match self.waker(rt, alloc, task) {
+            Ok(waker) => {
+                waker.wake(rt);
+                true
+            }
+            Err(_) => false,
+        }
+    }
+
+    fn drains<R: Host>(
+        &mut self,
+        rt: &R,
+        alloc: Global,
+        list: &mut Vec<u64>,
+    ) -> Result<(), AllocError> {
+        self.drain(rt, alloc, list)
+    }
+}
+
+/// An inbox in which no task waits, if there is memory for it.
+pub fn new_inbox(alloc: Global) -> Option<Inbox<NoUnpark>> {
+    Inbox::new(alloc, 0, NoUnpark).ok()
+}
+
+/// A recorded inbox in which no task waits, which keeps so many calls. Its wakes are counted in no share.
+pub fn new_recorded<L: Ledger>(
+    alloc: Global,
+    calls: u64,
+    blank: Blank,
+) -> Option<RecordedInbox<NoUnpark, L>>
+    requires { (blank.name ≡ L.name) × (blank.parts ≡ L.parts) × (blank.parts ≡ 0) }
+{
+    let (book, all) = blank.open::<L>();
+    match RecordedInbox::new(alloc, 0, calls as usize, 0, NoUnpark, book, all) {
+        Ok((inbox, _shares)) => Some(inbox),
+        Err(_) => None,
     }
 }
 
 // A list of this one number, with no room for another.
 fn lone(alloc: Global, number: u64) -> Option<Vec<u64>> {
     let mut numbers = Vec::with_capacity(alloc, 1).ok()?;
-    numbers.push(number).ok()?;
-    Some(numbers)
-}
-
-// What a drain did that was to put the task `n` behind a list of another.
-fn as_drained(answer: Result<(), AllocError>, list: &Vec<u64>, n: u64) -> Called {
-    match answer {
-        Ok(()) if list.as_slice() == [n ^ 1, n].as_slice() => Called::Done,
-        Err(_) if list.as_slice() == [n ^ 1].as_slice() => Called::Refused,
-        _ => Called::Otherwise,
+    match numbers.push(number) {
+        Ok(()) => Some(numbers),
+        Err(_) => None,
     }
 }
 
 /// An inbox, by drains. Each task is woken once: a drain that was refused leaves it waiting.
 #[derive(Drop)]
-pub struct Drained {
-    inbox: Inbox<NoUnpark>,
-    // The task that was woken last.
-    woken: Option<u64>,
+pub struct Drained<I: Drop> {
+    inbox: I,
+    // So many tasks were woken, the first of all.
+    woken: u64,
 }
 
-impl Drained {
-    /// An inbox in which no task waits.
-    pub fn new(alloc: Global) -> Option<Drained> {
-        let inbox = Inbox::new(alloc, 0, NoUnpark).ok()?;
-        Some(Drained { inbox, woken: None })
+impl<I: Drop> Drained<I> {
+    /// An inbox none of whose tasks was woken.
+    pub fn new(inbox: I) -> Drained<I> {
+        Drained { inbox, woken: 0 }
     }
 }
 
-impl Grows for Drained {
+impl<I: Drains + Drop> Grows for Drained<I> {
     fn grow<R: Host>(&mut self, rt: &R, alloc: Global, n: u64) -> Called {
-        if self.woken != Some(n) {
-            let Ok(waker) = self.inbox.waker(rt, alloc, n) else {
+        if self.woken == n {
+            if !self.inbox.wakes(rt, alloc, n) {
                 return Called::Refused;
-            };
-            self.woken = Some(n);
-            waker.wake(rt);
+            }
+            self.woken = n.wrapping_add(1);
         }
-        let Some(mut list) = lone(alloc, n ^ 1) else {
-            return Called::Refused;
-        };
-        let answer = self.inbox.drain(rt, alloc, &mut list);
-        as_drained(answer, &list, n)
+        drain_of(rt, alloc, &mut self.inbox, n)
     }
 
-    fn seen<R: Host>(&self, _rt: &R) -> u64 {
+    fn seen(&self) -> u64 {
         0
     }
 }
 
-/// As `Drained`, of a recorded inbox.
-#[derive(Drop)]
-pub struct Recorded<L: Ledger> {
-    inbox: RecordedInbox<NoUnpark, L>,
-    // The task that was woken last.
-    woken: Option<u64>,
+// A drain that is to put the task `n` behind a list of another.
+fn drain_of<R: Host, I: Drains>(rt: &R, alloc: Global, inbox: &mut I, n: u64) -> Called {
+    let Some(mut list) = lone(alloc, n ^ 1) else {
+        return Called::Refused;
+    };
+    let answer = inbox.drains(rt, alloc, &mut list);
+    as_drained(answer, list.as_slice(), n)
 }
 
-impl<L: Ledger> Recorded<L> {
-    /// A recorded inbox in which no task waits, which keeps so many calls. Its wakes are counted in no share.
-    pub fn new(alloc: Global, calls: u64, blank: Blank) -> Option<Recorded<L>>
-        requires { (blank.name ≡ L.name) × (blank.parts ≡ L.parts) × (blank.parts ≡ 0) }
-    {
-        let (book, all) = blank.open::<L>();
-        match RecordedInbox::new(alloc, 0, calls as usize, 0, NoUnpark, book, all) {
-            Ok((inbox, _shares)) => Some(Recorded { inbox, woken: None }),
-            Err(_) => None,
-        }
+// What a drain did that was to put the task `n` behind a list of another.
+fn as_drained(answer: Result<(), AllocError>, list: &[u64], n: u64) -> Called {
+    match answer {
+        Ok(()) => done_where(matches!(list, [one, other] if *one == n ^ 1 && *other == n)),
+        Err(_) => refused_where(matches!(list, [one] if *one == n ^ 1)),
     }
 }
 
-impl<L: Ledger> Grows for Recorded<L> {
+// An inbox that may be shared, if there is memory for it.
+fn shared_inbox(alloc: Global) -> Option<Arc<Inbox<NoUnpark>, Global>> {
+    let inbox = new_inbox(alloc)?;
+    Arc::new(alloc, inbox).ok()
+}
+
+// A registry, by inboxes. Numbers count from 16.
+impl Grows for Registry<NoUnpark> {
     fn grow<R: Host>(&mut self, rt: &R, alloc: Global, n: u64) -> Called {
-        if self.woken != Some(n) {
-            let Ok(waker) = self.inbox.waker(rt, alloc, n) else {
-                return Called::Refused;
-            };
-            self.woken = Some(n);
-            waker.wake(rt);
-        }
-        let Some(mut list) = lone(alloc, n ^ 1) else {
+        let Some(shared) = shared_inbox(alloc) else {
             return Called::Refused;
         };
-        let answer = self.inbox.drain(rt, alloc, &mut list);
-        as_drained(answer, &list, n)
-    }
-
-    fn seen<R: Host>(&self, _rt: &R) -> u64 {
-        0
-    }
-}
-
-/// A registry, by inboxes. Numbers count from 16.
-#[derive(Drop)]
-pub struct Registered(pub Registry<NoUnpark>);
-
-impl Grows for Registered {
-    fn grow<R: Host>(&mut self, rt: &R, alloc: Global, n: u64) -> Called {
-        let Ok(inbox) = Inbox::new(alloc, 0, NoUnpark) else {
-            return Called::Refused;
-        };
-        let Ok(shared) = Arc::new(alloc, inbox) else {
-            return Called::Refused;
-        };
-        match self.0.register(rt, alloc, shared) {
-            Ok(number) if number == n.wrapping_add(16) => Called::Done,
-            Err(RegisterError::Memory) => Called::Refused,
-            _ => Called::Otherwise,
+        match self.register(rt, alloc, shared) {
+            Ok(number) => done_where(number == n.wrapping_add(16)),
+            Err(cause) => refused_where(cause == RegisterError::Memory),
         }
     }
 
-    fn seen<R: Host>(&self, _rt: &R) -> u64 {
+    fn seen(&self) -> u64 {
         0
     }
 }
@@ -170,19 +204,18 @@ impl Job for Gives {
 }
 
 /// Tasks of blocking jobs, each made and let go. A job whose task was refused comes back.
-#[derive(Drop)]
+#[derive(Clone, Copy, Drop)]
 pub struct Made;
 
 impl Grows for Made {
     fn grow<R: Host>(&mut self, _rt: &R, alloc: Global, n: u64) -> Called {
         match BlockingTask::new(alloc, Gives(n)) {
             Ok(_) => Called::Done,
-            Err(job) if job.0 == n => Called::Refused,
-            Err(_) => Called::Otherwise,
+            Err(job) => refused_where(job.0 == n),
         }
     }
 
-    fn seen<R: Host>(&self, _rt: &R) -> u64 {
+    fn seen(&self) -> u64 {
         0
     }
 }

@@ -1,7 +1,7 @@
 // Lists of nodes, and the wheel.
 ghost use Rattle.std.specs.Prelude.{◌≡◌, length};
 
-use crate::grows::{Called, Grows};
+use crate::grows::{Called, Grows, done_where};
 use mono_model::Host;
 use mono_wheel::{Links, Wheel};
 use std::alloc::Global;
@@ -31,14 +31,10 @@ impl Grows for Linked {
         }
         let node = self.links.add_node();
         self.links.push_back(0, node);
-        if node as u64 == n.wrapping_add(1) {
-            Called::Done
-        } else {
-            Called::Otherwise
-        }
+        done_where(node as u64 == n.wrapping_add(1))
     }
 
-    fn seen<R: Host>(&self, _rt: &R) -> u64 {
+    fn seen(&self) -> u64 {
         let first = self.links.first(0).unwrap_or(0) as u64;
         let last = self.links.last(0).unwrap_or(0) as u64;
         first ^ last.rotate_left(32)
@@ -59,12 +55,14 @@ impl Keyed {
     /// A wheel with one key.
     pub fn new(alloc: Global) -> Option<Keyed> {
         let mut wheel = Wheel::new(alloc).ok()?;
-        let first = wheel.reserve_entry(alloc).ok()?;
-        Some(Keyed {
-            wheel,
-            first,
-            last: first,
-        })
+        match wheel.reserve_entry(alloc) {
+            Ok(first) => Some(Keyed {
+                wheel,
+                first,
+                last: first,
+            }),
+            Err(_) => None,
+        }
     }
 }
 
@@ -78,15 +76,11 @@ impl Grows for Keyed {
             return Called::Otherwise;
         }
         self.last = key;
-        if (key as u64).wrapping_sub(self.first as u64) == n.wrapping_add(1) {
-            Called::Done
-        } else {
-            Called::Otherwise
-        }
+        done_where((key as u64).wrapping_sub(self.first as u64) == n.wrapping_add(1))
     }
 
     // How many keys are in, up to the first that was never made, and when the next is due.
-    fn seen<R: Host>(&self, _rt: &R) -> u64 {
+    fn seen(&self) -> u64 {
         let mut seen = self.wheel.next_expiration_time().unwrap_or(0);
         for key in self.first..self.last.saturating_add(2) {
             seen = seen.rotate_left(1) ^ u64::from(self.wheel.is_in(key));
