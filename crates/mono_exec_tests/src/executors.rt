@@ -1,8 +1,6 @@
-use mono_exec::{
-    Act, Blocking, End, Ended, Event, Exec, Limits, List, MAX_NANOS, Query, Refusal, Reply, Report,
-    TurnStep, replay,
-};
-use std::alloc::{AllocError, Global};
+// The executor: its lists, its next expirations and where a sleep is registered.
+use mono_exec::{Act, Blocking, End, Event, Exec, Limits, List, Query, Reply, Report, TurnStep};
+use std::alloc::Global;
 
 const LIMITS: Limits = Limits {
     tasks: 16,
@@ -10,28 +8,41 @@ const LIMITS: Limits = Limits {
     sleeps: 16,
 };
 
-fn turn(alloc: Global, steps: &[TurnStep], end: End) -> Result<Event, AllocError> {
-    let mut list = List::new(alloc);
-    for step in steps {
-        list.push(*step)?;
-    }
-    Ok(Event::Turn(list, end))
+#[test]
+fn lists(rt: HostRuntime) {
+    let mut list = List::new(rt.alloc());
+    assert!(rt; list.is_empty());
+    assert!(rt; list.push(7).is_ok() && list.push(8).is_ok());
+    assert!(rt; list.len() == 2 && list.get(1) == Some(&8) && list.get(2) == None);
+    assert!(rt; list.as_slice() == [7, 8].as_slice());
+    list.clear();
+    assert!(rt; list.len() == 0);
 }
 
-/// What an executor answers to an event that has a reply.
-fn reply(alloc: Global, exec: &mut Exec, event: &Event) -> Option<Reply> {
-    match exec.apply(alloc, event) {
+#[test]
+fn lists_of_items(rt: HostRuntime) {
+    let mut items = Vec::new(rt.alloc());
+    assert!(rt; items.push(5).is_ok());
+    assert!(rt; List::from(items).as_slice() == [5].as_slice());
+}
+
+// A turn that makes a sleep and polls it. Where memory ends it has fewer steps.
+fn sleeps_until(alloc: Global, nanos: u128) -> Event {
+    let mut steps = List::new(alloc);
+    let _ = steps.push(TurnStep::Act(Act::NewSleep(nanos)));
+    let _ = steps.push(TurnStep::Query(Query::Sleep(0)));
+    Event::Turn(steps, End::Pending)
+}
+
+// What an executor answers to an act.
+fn act(alloc: Global, exec: &mut Exec, asked: Act) -> Option<Reply> {
+    match exec.apply(alloc, &Event::Act(asked)) {
         Ok(Report::Reply(told)) => Some(told),
         _ => None,
     }
 }
 
-/// What an executor answers to an act.
-fn act(alloc: Global, exec: &mut Exec, asked: Act) -> Option<Reply> {
-    reply(alloc, exec, &Event::Act(asked))
-}
-
-/// Whether exactly these sleeps fire at a clock step to so many nanoseconds.
+// Whether exactly these sleeps fire at a clock step to so many nanoseconds.
 fn fires(alloc: Global, exec: &mut Exec, nanos: u128, sleeps: &[u64]) -> bool {
     match exec.apply(alloc, &Event::Clock(nanos)) {
         Ok(Report::Fired(told)) => told.as_slice() == sleeps,
@@ -39,107 +50,32 @@ fn fires(alloc: Global, exec: &mut Exec, nanos: u128, sleeps: &[u64]) -> bool {
     }
 }
 
-/// The next expiration.
+// The next expiration.
 fn next(exec: &Exec) -> Option<u64> {
     exec.timers().next_expiration_time()
 }
 
-/// Whether the report is that of a turn with these answers.
-fn is_turn(report: &Report, task: u64, replies: &[Reply], ended: Ended) -> bool {
-    match report {
-        Report::Turn(told, answers, end) => {
-            *told == task && answers.as_slice() == replies && *end == ended
-        }
-        _ => false,
-    }
-}
-
-/// Whether the report is that of a clock step at which these sleeps fired.
-fn has_fired(report: &Report, sleeps: &[u64]) -> bool {
-    match report {
-        Report::Fired(told) => told.as_slice() == sleeps,
-        _ => false,
-    }
-}
-
-#[test]
-fn lists(rt: HostRuntime) {
-    let mut list = List::new(rt.alloc());
-    assert!(rt; list.is_empty());
-    assert!(rt; list.push(7).is_ok());
-    assert!(rt; list.push(8).is_ok());
-    assert!(rt; list.len() == 2 && list.get(1) == Some(&8) && list.get(2) == None);
-    assert!(rt; list.as_slice() == [7, 8].as_slice());
-    list.clear();
-    assert!(rt; list.len() == 0);
-    let mut items = Vec::new(rt.alloc());
-    assert!(rt; items.push(5).is_ok());
-    assert!(rt; List::from(items).as_slice() == [5].as_slice());
-}
-
-/// A sleep that is armed, and a clock step just before its deadline's tick and one at it.
-fn events_of_both_roundings(alloc: Global) -> Result<Vec<Event>, AllocError> {
-    let steps = [
-        TurnStep::Act(Act::NewSleep(1000001)),
-        TurnStep::Query(Query::Sleep(0)),
-    ];
-    let turned = turn(alloc, &steps, End::Pending)?;
-    Ok(vec![in alloc;
-        Event::Act(Act::Spawn),
-        turned,
-        Event::Clock(1999999),
-        Event::Clock(2000000),
-    ]?)
-}
-
-/// Whether these are the reports of it.
-fn are_both_roundings(reports: &[Report]) -> bool {
-    match reports {
-        [Report::Reply(spawned), turned, before, at] => {
-            *spawned == Reply::Task(0)
-                && is_turn(turned, 0, &[Reply::Sleep(0), Reply::Pending], Ended::Idle)
-                && has_fired(before, &[])
-                && has_fired(at, &[0])
-        }
-        _ => false,
-    }
-}
-
-/// Whether a run of these events reports it.
-fn replays(alloc: Global, events: &Vec<Event>) -> bool {
-    match replay(alloc, LIMITS, Blocking::Attached, events) {
-        Ok(reports) => are_both_roundings(reports.as_slice()),
-        Err(_) => false,
-    }
-}
-
-#[test]
-fn both_roundings(rt: HostRuntime) {
-    let events = events_of_both_roundings(rt.alloc()).expect(&rt, "memory");
-    assert!(rt; replays(rt.alloc(), &events));
-}
-
-/// Whether a task is spawned, the clock goes to a time in nanoseconds, and the task then sleeps to a later one.
+// Whether a task is spawned, the clock goes to a time in nanoseconds, and the task then sleeps to a later one.
 fn arm(alloc: Global, exec: &mut Exec, elapsed: u128, nanos: u128) -> bool {
-    let steps = [
-        TurnStep::Act(Act::NewSleep(nanos)),
-        TurnStep::Query(Query::Sleep(0)),
-    ];
-    let Ok(event) = turn(alloc, &steps, End::Pending) else {
-        return false;
-    };
-    let is_spawned = act(alloc, exec, Act::Spawn) == Some(Reply::Task(0));
-    is_spawned && fires(alloc, exec, elapsed, &[]) && exec.apply(alloc, &event).is_ok()
+    let spawned = act(alloc, exec, Act::Spawn);
+    let is_there = fires(alloc, exec, elapsed, &[]);
+    let is_taken = exec.apply(alloc, &sleeps_until(alloc, nanos)).is_ok();
+    spawned == Some(Reply::Task(0)) && is_there && is_taken
+}
+
+// Whether a sleep just above a millisecond is next, until it fires at the second.
+fn fires_at_next(alloc: Global, exec: &mut Exec) -> bool {
+    let is_armed = arm(alloc, exec, 0, 1000001);
+    let first = next(exec);
+    let has_fired = fires(alloc, exec, 2000000, &[0]);
+    let answers = [first, next(exec)];
+    is_armed && has_fired && answers == [Some(2), None] && exec.timers().greatest() == 2
 }
 
 #[test]
 fn next_expiration(rt: HostRuntime) {
-    let alloc = rt.alloc();
-    let mut exec = Exec::new(alloc, LIMITS, Blocking::Attached).expect(&rt, "memory");
-    assert!(rt; arm(alloc, &mut exec, 0, 1000001));
-    assert!(rt; next(&exec) == Some(2));
-    assert!(rt; fires(alloc, &mut exec, 2000000, &[0]));
-    assert!(rt; next(&exec) == None && exec.timers().greatest() == 2);
+    let mut exec = Exec::new(rt.alloc(), LIMITS, Blocking::Attached).expect(&rt, "memory");
+    assert!(rt; fires_at_next(rt.alloc(), &mut exec));
 }
 
 // The next expiration of a new executor whose clock goes to a tick, and where a sleep is then armed at a later one.
@@ -172,122 +108,24 @@ fn next_expirations(rt: HostRuntime) {
     }
 }
 
-// A sleep at tick 100 that is reset to a later tick stays where it is registered, until the clock comes to the start of
-// its slot, and fires at an earlier one.
+// Whether a sleep at tick 100 that is reset to a later tick stays where it is registered, until the clock comes to the
+// start of its slot, and fires at an earlier one.
+fn stays_registered(alloc: Global, exec: &mut Exec) -> bool {
+    let is_armed = arm(alloc, exec, 0, 100000000);
+    let later = act(alloc, exec, Act::Reset(0, 130000000)).is_some();
+    let first = next(exec);
+    let has_none = fires(alloc, exec, 64000000, &[]);
+    let second = next(exec);
+    let earlier = act(alloc, exec, Act::Reset(0, 100000000)).is_some();
+    let third = next(exec);
+    let has_fired = fires(alloc, exec, 100000000, &[0]);
+    let answers = [first, second, third, next(exec)];
+    [is_armed, later, has_none, earlier, has_fired] == [true; 5]
+        && answers == [Some(64), Some(128), Some(100), None]
+}
+
 #[test]
 fn registered_ticks(rt: HostRuntime) {
-    let alloc = rt.alloc();
-    let mut exec = Exec::new(alloc, LIMITS, Blocking::Attached).expect(&rt, "memory");
-    assert!(rt; arm(alloc, &mut exec, 0, 100000000));
-    assert!(rt; act(alloc, &mut exec, Act::Reset(0, 130000000)).is_some());
-    assert!(rt; next(&exec) == Some(64));
-    assert!(rt; fires(alloc, &mut exec, 64000000, &[]));
-    assert!(rt; next(&exec) == Some(128));
-    assert!(rt; act(alloc, &mut exec, Act::Reset(0, 100000000)).is_some());
-    assert!(rt; next(&exec) == Some(100));
-    assert!(rt; fires(alloc, &mut exec, 100000000, &[0]));
-    assert!(rt; next(&exec) == None);
-}
-
-/// The number of the first act to which an executor without room for a task, with room for one sleep, gives another
-/// answer, or none.
-fn wrong_refusal(alloc: Global, exec: &mut Exec) -> Option<usize> {
-    let cases = [
-        (Act::Spawn, Reply::Refused(Refusal::AtCapacity)),
-        (Act::Wake(0), Reply::Refused(Refusal::NoTask)),
-        (
-            Act::NewSleep(MAX_NANOS + 1),
-            Reply::Refused(Refusal::Invalid),
-        ),
-        (Act::NewSleep(MAX_NANOS), Reply::Sleep(0)),
-        (
-            Act::NewSleep(MAX_NANOS + 1),
-            Reply::Refused(Refusal::AtCapacity),
-        ),
-    ];
-    let mut number = 0usize;
-    for (asked, told) in cases {
-        if act(alloc, exec, asked) != Some(told) {
-            return Some(number);
-        }
-        number = number.wrapping_add(1);
-    }
-    None
-}
-
-#[test]
-fn refused_acts(rt: HostRuntime) {
-    let limits = Limits {
-        tasks: 0,
-        jobs: 0,
-        sleeps: 1,
-    };
-    let mut exec = Exec::new(rt.alloc(), limits, Blocking::ExecuteLocal).expect(&rt, "memory");
-    assert_eq!(rt; wrong_refusal(rt.alloc(), &mut exec), None);
-}
-
-// A clock step past the last instant and a turn without a task are refused.
-#[test]
-fn refused_events(rt: HostRuntime) {
-    let alloc = rt.alloc();
-    let mut exec = Exec::new(alloc, LIMITS, Blocking::Attached).expect(&rt, "memory");
-    let late = reply(alloc, &mut exec, &Event::Clock(MAX_NANOS + 1));
-    assert!(rt; late == Some(Reply::Refused(Refusal::Invalid)));
-    let idle = reply(
-        alloc,
-        &mut exec,
-        &Event::Turn(List::new(alloc), End::Pending),
-    );
-    assert!(rt; idle == Some(Reply::Refused(Refusal::Idle)));
-}
-
-/// One turn that makes 300 sleeps, for 1 to 300 milliseconds, and polls each.
-fn many_sleeps(alloc: Global) -> Result<Event, AllocError> {
-    let mut list = List::new(alloc);
-    for s in 0..300u64 {
-        list.push(TurnStep::Act(Act::NewSleep(u128::from(s) * 1000000 + 1000000)))?;
-        list.push(TurnStep::Query(Query::Sleep(s)))?;
-    }
-    Ok(Event::Turn(list, End::Pending))
-}
-
-/// Whether the sleeps from one number up to another fire in order at a clock step.
-fn fire_in_a_row(alloc: Global, exec: &mut Exec, nanos: u128, from: u64, to: u64) -> bool {
-    let Ok(Report::Fired(told)) = exec.apply(alloc, &Event::Clock(nanos)) else {
-        return false;
-    };
-    let mut next = from;
-    for sleep in told.as_slice() {
-        if *sleep != next || next >= to {
-            return false;
-        }
-        next += 1;
-    }
-    next == to
-}
-
-/// Whether a task makes 300 sleeps, for 1 to 300 milliseconds.
-fn sleeps_often(alloc: Global, exec: &mut Exec) -> bool {
-    let Ok(event) = many_sleeps(alloc) else {
-        return false;
-    };
-    let is_spawned = act(alloc, exec, Act::Spawn) == Some(Reply::Task(0));
-    is_spawned && fires(alloc, exec, 0, &[]) && exec.apply(alloc, &event).is_ok()
-}
-
-// The lists of a clock step serve again for the next one, at which fewer fire, or more.
-#[test]
-fn clock_steps_in_a_row(rt: HostRuntime) {
-    let alloc = rt.alloc();
-    let limits = Limits {
-        tasks: 1,
-        jobs: 0,
-        sleeps: 300,
-    };
-    let mut exec = Exec::new(alloc, limits, Blocking::Panic).expect(&rt, "memory");
-    assert!(rt; sleeps_often(alloc, &mut exec));
-    assert!(rt; fire_in_a_row(alloc, &mut exec, 100_000_000, 0, 100));
-    assert!(rt; fire_in_a_row(alloc, &mut exec, 105_000_000, 100, 105));
-    assert!(rt; fire_in_a_row(alloc, &mut exec, 105_000_000, 105, 105));
-    assert!(rt; fire_in_a_row(alloc, &mut exec, 300_000_000, 105, 300));
+    let mut exec = Exec::new(rt.alloc(), LIMITS, Blocking::Attached).expect(&rt, "memory");
+    assert!(rt; stays_registered(rt.alloc(), &mut exec));
 }

@@ -1,4 +1,4 @@
-//! Tests of the checker, the sessions, the limiter and the actors, over their public calls.
+//! Tests of the checker, the limiter, the retries and the actors, over their public calls.
 #![tactic(auto)]
 
 #[cfg(test)]
@@ -9,5 +9,3 @@ mod checkers;
 mod limiters;
 #[cfg(test)]
 mod retries;
-#[cfg(test)]
-mod sessions;

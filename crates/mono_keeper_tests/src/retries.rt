@@ -1,5 +1,5 @@
 //! A retry over a small context with timers and no tasks.
-ghost use Rattle.std.specs.Prelude.{◌≡◌, ◌<◌, ◌≤◌, false, true, refl};
+ghost use Rattle.std.specs.Prelude.{◌≡◌, false, true, refl};
 ghost use Rattle.std.proofs.Common.{◌∙◌, ap};
 ghost use Rattle.mono_model.specs.Tasks.{no_tasks};
 ghost use Rattle.mono_time.specs.Timers.{sleeps_of};
@@ -8,10 +8,7 @@ use mono_limit::{Retry, RetryError};
 use mono_model::{Error, Host, MAX_NANOS, Poll, SleepError, TaskError, Woke};
 use mono_task::{Context, TaskFuture};
 use mono_time::{Instant, TimeContext, Timers};
-use mono_wheel::Steps;
 use std::alloc::Global;
-use std::marker::Brand;
-use std::sync::ledger::{Blank, Ledger};
 
 /// A context of task 7, whose sleeps are those of its timers.
 #[derive(Drop)]
@@ -143,46 +140,39 @@ fn polled<R: Host, F: TaskFuture<Desk, Output = Result<u64, RetryError<u64>>>>(
     Some(future.poll(rt, alloc, cx))
 }
 
-// Goes to a time, by a clock step in which at most one sleep fires.
-fn go_to<L: Ledger>(cx: &mut Desk, nanos: u128, steps: &mut Steps<L>) {
+// Goes to a time, by a clock step. Where memory ends no sleep fires, and the next attempt that a test expects is not made.
+fn go_to(cx: &mut Desk, alloc: Global, nanos: u128) {
     if let Some(now) = Instant::from_nanos(nanos) {
+        let mut fired = Vec::new(alloc);
         cx.now = now;
-        let _ = cx.timers.clock(now, steps);
-        let _ = cx.timers.clock(now, steps);
+        let _ = cx.timers.fire_all(alloc, now, &mut fired);
     }
 }
 
 // The polls of a retry at 0, 99, 100 and 300 ms.
-fn polled_in_time<R: Host, L: Ledger, F: TaskFuture<Desk, Output = Result<u64, RetryError<u64>>>>(
+fn polled_in_time<R: Host, F: TaskFuture<Desk, Output = Result<u64, RetryError<u64>>>>(
     rt: &R,
     alloc: Global,
     cx: &mut Desk,
     retry: &mut F,
-    steps: &mut Steps<L>,
 ) -> [Answer; 4]
     requires { F.can_poll retry.old }
     ensures { F.can_poll retry.new }
 {
     let first = polled(rt, alloc, cx, retry);
-    go_to(cx, 99999999, steps);
+    go_to(cx, alloc, 99999999);
     let early = polled(rt, alloc, cx, retry);
-    go_to(cx, 100000000, steps);
+    go_to(cx, alloc, 100000000);
     let second = polled(rt, alloc, cx, retry);
-    go_to(cx, 300000000, steps);
+    go_to(cx, alloc, 300000000);
     [first, early, second, polled(rt, alloc, cx, retry)]
 }
 
 // The same of a retry of at most three attempts, where this one is the good one, and whether its sleep is gone then.
-fn waits<R: Host, L: Ledger>(
-    rt: &R,
-    alloc: Global,
-    cx: &mut Desk,
-    steps: &mut Steps<L>,
-    good: u64,
-) -> Option<([Answer; 4], bool)> {
+fn waits<R: Host>(rt: &R, alloc: Global, cx: &mut Desk, good: u64) -> Option<([Answer; 4], bool)> {
     let make = |number| Attempt { number, good };
     let mut retry = Retry::new(alloc, cx, make, 100, 250, 3).ok()?;
-    let answers = polled_in_time(rt, alloc, cx, &mut retry, steps);
+    let answers = polled_in_time(rt, alloc, cx, &mut retry);
     let is_gone = cx.sleep_elapsed(0) == Err(Error::Shutdown);
     retry.cancel(cx);
     Some((answers, is_gone))
@@ -197,9 +187,9 @@ fn is_far<R: Host>(rt: &R, alloc: Global, cx: &mut Desk) -> Answer {
     answer
 }
 
-// A desk at the clock's zero.
-fn make_desk(alloc: Global) -> Option<Desk> {
-    let now = Instant::from_nanos(0)?;
+// A desk at a time.
+fn desk_at(alloc: Global, nanos: u128) -> Option<Desk> {
+    let now = Instant::from_nanos(nanos)?;
     let timers = Timers::new(alloc, 4, true).ok()?;
     Some(Desk {
         now,
@@ -208,42 +198,29 @@ fn make_desk(alloc: Global) -> Option<Desk> {
     })
 }
 
-fn waits_at_desk<R: Host, L: Ledger>(
-    rt: &R,
-    alloc: Global,
-    steps: &mut Steps<L>,
-    good: u64,
-) -> Option<([Answer; 4], bool)> {
-    let mut cx = make_desk(alloc)?;
-    waits(rt, alloc, &mut cx, steps, good)
-}
+const WAIT: Answer = Some(Poll::Pending);
 
-fn far_from_desk<R: Host>(rt: &R, alloc: Global) -> Answer {
-    let mut cx = make_desk(alloc)?;
-    if let Some(now) = Instant::from_nanos(MAX_NANOS) {
-        cx.now = now;
-    }
-    is_far(rt, alloc, &mut cx)
-}
+const LAST: Answer = Some(Poll::Ready(Err(RetryError::Last(3))));
 
-fn rows<R: Host, L: Ledger>(rt: &R, alloc: Global, blank: Blank) -> bool
-    requires { (blank.name ≡ L.name) × (blank.parts ≡ L.parts) × (0 < L.parts) }
-{
-    let mut steps: Steps<L> = Steps::new(blank);
-    let gave_up = waits_at_desk(rt, alloc, &mut steps, 0);
-    let went_well = waits_at_desk(rt, alloc, &mut steps, 3);
-    let far = far_from_desk(rt, alloc);
-    let wait = Some(Poll::Pending);
-    let (last, well) = (
-        Some(Poll::Ready(Err(RetryError::Last(3)))),
-        Some(Poll::Ready(Ok(3))),
-    );
-    gave_up == Some(([wait, wait, wait, last], true))
-        && went_well == Some(([wait, wait, wait, well], true))
-        && far == Some(Poll::Ready(Err(RetryError::Far(1))))
+const WELL: Answer = Some(Poll::Ready(Ok(3)));
+
+#[test]
+fn a_retry_that_gives_up(rt: HostRuntime) {
+    let mut cx = desk_at(rt.alloc(), 0).expect(&rt, "a desk");
+    let answers = waits(&rt, rt.alloc(), &mut cx, 0);
+    assert!(&rt; answers == Some(([WAIT, WAIT, WAIT, LAST], true)));
 }
 
 #[test]
-fn retries(rt: HostRuntime) {
-    assert!(rt; rows::<HostRuntime, Brand>(&rt, rt.alloc(), Blank::new(1)));
+fn a_retry_that_goes_well(rt: HostRuntime) {
+    let mut cx = desk_at(rt.alloc(), 0).expect(&rt, "a desk");
+    let answers = waits(&rt, rt.alloc(), &mut cx, 3);
+    assert!(&rt; answers == Some(([WAIT, WAIT, WAIT, WELL], true)));
+}
+
+#[test]
+fn a_retry_that_is_far(rt: HostRuntime) {
+    let mut cx = desk_at(rt.alloc(), MAX_NANOS).expect(&rt, "a desk");
+    let answer = is_far(&rt, rt.alloc(), &mut cx);
+    assert!(&rt; answer == Some(Poll::Ready(Err(RetryError::Far(1)))));
 }

@@ -15,87 +15,69 @@ fn words_of(alloc: Global, text: &str) -> Vec<String> {
     words
 }
 
-// Whether this sentence is said of the words of the text.
-fn says(alloc: Global, text: &str, sentence: &str) -> bool {
-    let words = words_of(alloc, text);
-    match complaint(alloc, &words) {
+// Whether this sentence is said of the words.
+fn says(alloc: Global, words: &Vec<String>, sentence: &str) -> bool {
+    match complaint(alloc, words) {
         Ok(said) => said.as_str() == sentence,
         Err(_) => false,
     }
 }
 
+// Words, and what is said of them.
+const CASES: [(&str, &str); 15] = [
+    (
+        "",
+        "a command is missing: replay, run, load, sessions, limiter, actors or check",
+    ),
+    (
+        "reply attached 1 1 1",
+        "\"reply\" is no command: replay, run, load, sessions, limiter, actors or check",
+    ),
+    (
+        "replay detached 1 1 1",
+        "replay: \"detached\": STRATEGY is attached, local or panic",
+    ),
+    (
+        "replay local 1 01 1",
+        "replay: \"01\": JOBS is a number below 2^64",
+    ),
+    (
+        "replay local 1 1",
+        "replay: a word is missing: SLEEPS is a number below 2^64",
+    ),
+    ("replay local 1 1 1 1", "replay: \"1\" is a word too many"),
+    (
+        "load 7 100001",
+        "load: \"100001\": COUNT is a number, at most 100000",
+    ),
+    (
+        "load 18446744073709551616 1",
+        "load: \"18446744073709551616\": SEED is a number below 2^64",
+    ),
+    ("run 65 1", "run: \"65\": WORKERS is a number, at most 64"),
+    (
+        "run 0 65537",
+        "run: \"65537\": TURNS is a number, at most 65536",
+    ),
+    ("sessions 1 1 x", "sessions: \"x\" is a word too many"),
+    (
+        "limiter 1",
+        "limiter: a word is missing: RETRIES is a number below 2^64",
+    ),
+    (
+        "actors -1 1",
+        "actors: \"-1\": ACTORS is a number below 2^64",
+    ),
+    (
+        "check attached 1 1 1.0",
+        "check: \"1.0\": SLEEPS is a number below 2^64",
+    ),
+    ("check attached 1 1 1", "nothing is wrong"),
+];
+
 #[test]
 fn the_wrong_word_is_named(rt: HostRuntime) {
-    let alloc = rt.alloc();
-    let missing = "a command is missing: replay, run, load, sessions, limiter, actors or check";
-    let are_said = [
-        says(alloc, "", missing),
-        says(
-            alloc,
-            "reply attached 1 1 1",
-            "\"reply\" is no command: replay, run, load, sessions, limiter, actors or check",
-        ),
-        says(
-            alloc,
-            "replay detached 1 1 1",
-            "replay: \"detached\": STRATEGY is attached, local or panic",
-        ),
-        says(
-            alloc,
-            "replay local 1 01 1",
-            "replay: \"01\": JOBS is a number below 2^64",
-        ),
-        says(
-            alloc,
-            "replay local 1 1",
-            "replay: a word is missing: SLEEPS is a number below 2^64",
-        ),
-        says(
-            alloc,
-            "replay local 1 1 1 1",
-            "replay: \"1\" is a word too many",
-        ),
-        says(
-            alloc,
-            "load 7 100001",
-            "load: \"100001\": COUNT is a number, at most 100000",
-        ),
-        says(
-            alloc,
-            "load 18446744073709551616 1",
-            "load: \"18446744073709551616\": SEED is a number below 2^64",
-        ),
-        says(
-            alloc,
-            "run 65 1",
-            "run: \"65\": WORKERS is a number, at most 64",
-        ),
-        says(
-            alloc,
-            "run 0 65537",
-            "run: \"65537\": TURNS is a number, at most 65536",
-        ),
-        says(
-            alloc,
-            "sessions 1 1 x",
-            "sessions: \"x\" is a word too many",
-        ),
-        says(
-            alloc,
-            "limiter 1",
-            "limiter: a word is missing: RETRIES is a number below 2^64",
-        ),
-        says(
-            alloc,
-            "actors -1 1",
-            "actors: \"-1\": ACTORS is a number below 2^64",
-        ),
-        says(
-            alloc,
-            "check attached 1 1 1.0",
-            "check: \"1.0\": SLEEPS is a number below 2^64",
-        ),
-        says(alloc, "check attached 1 1 1", "nothing is wrong"),
-    ];
-    assert!(&rt; are_said == [true; 15]);
+    for (text, sentence) in CASES {
+        assert!(&rt; says(rt.alloc(), &words_of(rt.alloc(), text), sentence));
+    }
 }

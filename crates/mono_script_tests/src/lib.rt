@@ -1,4 +1,4 @@
-//! Tests of scripts and their runs, of events as text, and of what is said of wrong lines and words, over their public calls.
+//! Tests of the reader of scripts, of events as text, and of what is said of wrong lines and words, over their public calls.
 #![tactic(auto)]
 
 #[cfg(test)]
@@ -9,5 +9,3 @@ mod event_texts;
 mod readers;
 #[cfg(test)]
 mod reasons;
-#[cfg(test)]
-mod runs;
