@@ -1,5 +1,5 @@
 // A small context over a table of tasks, and futures that note each poll and each cancel in it.
-ghost use Rattle.std.specs.Prelude.{◌≡◌, ⊤, None, true, false, refl, IfSome};
+ghost use Rattle.std.specs.Prelude.{◌≡◌, ⊤, None, true, false, refl};
 ghost use Rattle.std.proofs.Common.{◌∙◌};
 ghost use Rattle.mono_model.specs.Tasks.{woken};
 ghost use Rattle.mono_model.specs.Joins.{wake_answer};
@@ -8,6 +8,7 @@ ghost use Rattle.mono_task.specs.Work.{without_outputs};
 use mono_model::{Host, Poll};
 use mono_task::{Context, JoinContext, TaskError, TaskFuture, Tasks, Woke};
 use std::alloc::Global;
+use std::process::Abort;
 
 /// A context over a table of tasks, with the notes of the futures as the digits of a number, the latest last, and how
 /// often a task was woken.
@@ -84,16 +85,13 @@ impl Board {
 }
 
 /// A board with room for so many tasks, and nothing on it.
-pub(crate) fn empty_board(alloc: Global, tasks: u64) -> Option<Board>
-    ensures { IfSome result (λ cx. cx.tasks.turn ≡ None) }
+pub(crate) fn empty_board<R: Abort>(rt: &R, alloc: Global, tasks: u64) -> Board
+    ensures { result.tasks.turn ≡ None }
 {
-    match Tasks::new(alloc, tasks) {
-        Ok(tasks) => Some(Board {
-            tasks,
-            notes: 0,
-            wakes: 0,
-        }),
-        Err(_) => None,
+    Board {
+        tasks: Tasks::new(alloc, tasks).expect(rt, "memory"),
+        notes: 0,
+        wakes: 0,
     }
 }
 

@@ -57,81 +57,84 @@ fn select<R: Host>(
     told(rt, alloc, cx, form, 2)
 }
 
-/// The number of the first select that tells something else, or none.
-fn wrong_select<R: Host>(rt: &R, alloc: Global, cx: &mut Board) -> Option<usize> {
-    // the seed's first number is above 2 ^ 31, so the second branch has its turn first
-    let second_first = Start::Random(FastRand::new(0x8000_0000_0000_0000));
-    let cases = [
-        ((0, 0), (4, 5), 0, Start::Biased, 0, Out2::First(4), 167),
-        ((0, 1), (3, 5), 0, Start::Biased, 1, Out2::Second(5), 16227),
-        ((0, 0), (4, 5), 1, Start::Biased, 0, Out2::Second(5), 276),
-        ((0, 0), (4, 5), 3, Start::Biased, 0, Out2::Disabled, 67),
-        ((1, 1), (4, 5), 0, Start::Biased, 1, Out2::First(4), 12167),
-        ((0, 0), (4, 5), 252, Start::Biased, 0, Out2::First(4), 167),
-        ((0, 0), (4, 5), 0, second_first, 0, Out2::Second(5), 276),
-        ((0, 0), (3, 5), 2, Start::Biased, 0, Out2::Disabled, 167),
-        ((1, 0), (1, 2), 0, Start::Biased, 0, Out2::Second(2), 1276),
-    ];
-    let mut number = 0usize;
-    for (waits, values, mask, start, poll, answer, notes) in cases {
-        let told = select(rt, alloc, cx, branches(waits, values), mask, start);
-        if told != (Some((poll, answer)), notes) {
-            return Some(number);
-        }
-        number = number.wrapping_add(1);
+/// The start of a select: biased, or at random. The seed's first number is between a half and two thirds of 2 ^ 32, so the
+/// second branch of two or of three has its turn first.
+pub(crate) fn start_of(is_random: bool) -> Start {
+    if is_random {
+        Start::Random(FastRand::new(0x8000_0000_0000_0000))
+    } else {
+        Start::Biased
     }
-    None
 }
+
+/// The waits and the values of two branches, the mask, and whether the start is at random; the poll, the answer and the
+/// notes.
+type Selected = ((u64, u64), (u64, u64), u8, bool, u64, Out2<u64, u64>, u64);
+
+const SELECTED: [Selected; 9] = [
+    ((0, 0), (4, 5), 0, false, 0, Out2::First(4), 167),
+    ((0, 1), (3, 5), 0, false, 1, Out2::Second(5), 16227),
+    ((0, 0), (4, 5), 1, false, 0, Out2::Second(5), 276),
+    ((0, 0), (4, 5), 3, false, 0, Out2::Disabled, 67),
+    ((1, 1), (4, 5), 0, false, 1, Out2::First(4), 12167),
+    ((0, 0), (4, 5), 252, false, 0, Out2::First(4), 167),
+    ((0, 0), (4, 5), 0, true, 0, Out2::Second(5), 276),
+    ((0, 0), (3, 5), 2, false, 0, Out2::Disabled, 167),
+    ((1, 0), (1, 2), 0, false, 0, Out2::Second(2), 1276),
+];
 
 #[test]
 fn selects(rt: HostRuntime) {
-    let mut cx = empty_board(rt.alloc(), 2).expect(&rt, "memory");
-    assert_eq!(rt; wrong_select(&rt, rt.alloc(), &mut cx), None);
+    let mut cx = empty_board(&rt, rt.alloc(), 2);
+    for (waits, values, mask, is_random, poll, answer, notes) in SELECTED {
+        let pair = branches(waits, values);
+        let told = select(&rt, rt.alloc(), &mut cx, pair, mask, start_of(is_random));
+        assert!(rt; told == (Some((poll, answer)), notes));
+    }
 }
 
-/// The number of the first join that tells something else in its first two polls, or none.
-fn wrong_join<R: Host>(rt: &R, alloc: Global, cx: &mut Board) -> Option<usize> {
-    let cases = [
-        ((0, 0), Some((0, (1, 2))), 1627),
-        ((1, 0), Some((1, (1, 2))), 12716),
-        ((1, 2), None, 12162),
-    ];
-    let mut number = 0usize;
-    for (waits, answer, notes) in cases {
-        let (a, b) = branches(waits, (1, 2));
-        if told(rt, alloc, cx, Join2::new(a, b), 2) != (answer, notes) {
-            return Some(number);
-        }
-        number = number.wrapping_add(1);
-    }
-    None
-}
-
-/// The number of the first try-join that tells something else in its first two polls and its cancel, or none.
-fn wrong_try_join<R: Host>(rt: &R, alloc: Global, cx: &mut Board) -> Option<usize> {
-    let cases = [
-        ((0, 9), (8, 2), Some((0, Err(8))), 167),
-        ((9, 0), (1, 8), Some((0, Err(8))), 1276),
-        ((0, 1), (1, 2), Some((1, Ok((1, 2)))), 16227),
-        ((9, 0), (1, 2), None, 12716),
-        ((0, 1), (8, 2), Some((0, Err(8))), 167),
-    ];
-    let mut number = 0usize;
-    for (waits, values, answer, notes) in cases {
-        let (a, b) = trials(waits, values);
-        if told(rt, alloc, cx, TryJoin2::new(a, b), 2).0 != answer || cx.notes != notes {
-            return Some(number);
-        }
-        number = number.wrapping_add(1);
-    }
-    None
-}
+/// The waits of two branches; the poll and the answer of their join, if it is ready in its first two polls, and the notes.
+const JOINED: [((u64, u64), Option<(u64, (u64, u64))>, u64); 3] = [
+    ((0, 0), Some((0, (1, 2))), 1627),
+    ((1, 0), Some((1, (1, 2))), 12716),
+    ((1, 2), None, 12162),
+];
 
 #[test]
 fn joins(rt: HostRuntime) {
-    let mut cx = empty_board(rt.alloc(), 2).expect(&rt, "memory");
-    assert_eq!(rt; wrong_join(&rt, rt.alloc(), &mut cx), None);
-    assert_eq!(rt; wrong_try_join(&rt, rt.alloc(), &mut cx), None);
+    let mut cx = empty_board(&rt, rt.alloc(), 2);
+    for (waits, answer, notes) in JOINED {
+        let (a, b) = branches(waits, (1, 2));
+        let told = told(&rt, rt.alloc(), &mut cx, Join2::new(a, b), 2);
+        assert!(rt; told == (answer, notes));
+    }
+}
+
+/// The waits and the values of two branches that may fail; the poll and the answer of their join, if it is ready in its
+/// first two polls, and the notes behind its cancel.
+type Tried = (
+    (u64, u64),
+    (u64, u64),
+    Option<(u64, Result<(u64, u64), u64>)>,
+    u64,
+);
+
+const TRIED: [Tried; 5] = [
+    ((0, 9), (8, 2), Some((0, Err(8))), 167),
+    ((9, 0), (1, 8), Some((0, Err(8))), 1276),
+    ((0, 1), (1, 2), Some((1, Ok((1, 2)))), 16227),
+    ((9, 0), (1, 2), None, 12716),
+    ((0, 1), (8, 2), Some((0, Err(8))), 167),
+];
+
+#[test]
+fn tried_joins(rt: HostRuntime) {
+    let mut cx = empty_board(&rt, rt.alloc(), 2);
+    for (waits, values, answer, notes) in TRIED {
+        let (a, b) = trials(waits, values);
+        let told = told(&rt, rt.alloc(), &mut cx, TryJoin2::new(a, b), 2);
+        assert!(rt; told.0 == answer && cx.notes == notes);
+    }
 }
 
 /// Whether an output is kept, changed where it stands, and taken once.
@@ -159,18 +162,17 @@ fn greets<R: Host>(rt: &R, alloc: Global, cx: &mut Board) -> bool {
 
 #[test]
 fn kept_outputs_closures_and_examples(rt: HostRuntime) {
-    let mut cx = empty_board(rt.alloc(), 2).expect(&rt, "memory");
-    assert!(rt; is_kept(&rt, rt.alloc(), &mut cx));
-    assert!(rt; greets(&rt, rt.alloc(), &mut cx));
+    let alloc = rt.alloc();
+    let mut cx = empty_board(&rt, alloc, 2);
+    assert!(rt; is_kept(&rt, alloc, &mut cx) && greets(&rt, alloc, &mut cx));
     // the proved example at a concrete context
-    assert!(rt; join_waits(&rt, rt.alloc(), &mut cx, 1, 0));
+    assert!(rt; join_waits(&rt, alloc, &mut cx, 1, 0));
 }
 
 #[test]
 fn numbers(rt: HostRuntime) {
     let mut zero = FastRand::new(0);
     let drawn = (zero.fastrand(), zero.fastrand(), zero.fastrand());
-    assert!(rt; drawn == (2, 132097, 132099));
     let mut high = FastRand::new(2147483648);
-    assert_eq!(rt; high.fastrand_n(131072), 1);
+    assert!(rt; drawn == (2, 132097, 132099) && high.fastrand_n(131072) == 1);
 }

@@ -1,5 +1,5 @@
 // A small context for tests: timers, and no tasks.
-ghost use Rattle.std.specs.Prelude.{◌≡◌, ◌<◌, true, false, refl, IfSome};
+ghost use Rattle.std.specs.Prelude.{◌≡◌, ◌<◌, true, false, refl};
 ghost use Rattle.std.proofs.Common.{◌∙◌, ap};
 ghost use Rattle.mono_model.specs.Tasks.{no_tasks};
 ghost use Rattle.mono_time.specs.Timers.{sleeps_of};
@@ -10,6 +10,7 @@ use mono_time::{Error, Instant, SleepError, TimeContext, Timers};
 use mono_wheel::Steps;
 use std::alloc::Global;
 use std::marker::Brand;
+use std::process::Abort;
 use std::sync::ledger::{Blank, Ledger};
 
 /// A context of task `me` at `now`, whose sleeps are those of its timers.
@@ -94,17 +95,14 @@ impl TimeContext for Desk {
 }
 
 /// The desk of task 7 at a time, with room for four sleeps.
-pub(crate) fn empty_desk(alloc: Global, now: Instant) -> Option<Desk>
-    ensures { IfSome result (λ cx. (sleeps_of cx.timers).greatest ≡ 0) }
+pub(crate) fn empty_desk<R: Abort>(rt: &R, alloc: Global, now: Instant) -> Desk
+    ensures { (sleeps_of result.timers).greatest ≡ 0 }
 {
-    match Timers::new(alloc, 4, true) {
-        Ok(timers) => Some(Desk {
-            me: 7,
-            now,
-            is_out_of_memory: false,
-            timers,
-        }),
-        Err(_) => None,
+    Desk {
+        me: 7,
+        now,
+        is_out_of_memory: false,
+        timers: Timers::new(alloc, 4, true).expect(rt, "memory"),
     }
 }
 

@@ -1,5 +1,6 @@
 // A future written by hand, and a join of two of it that is proved to wait.
 ghost use Rattle.std.specs.Prelude.{◌≡◌, ◌+◌, ◌<◌, ◌==◌, true, false};
+ghost use Rattle.mono_model.specs.Tasks.{woken};
 ghost use Rattle.mono_model.specs.Poll.{is_ready, OnPending};
 
 use mono_combine::Join2;
@@ -30,8 +31,8 @@ impl<C: Context> TaskFuture<C> for Countdown {
 
     ghost is_spent = { λ f. f.has_answered };
 
-    // it is ready exactly where none are left, and one fewer is left else
-    ghost polls = { λ f c r g d. (is_ready r ≡ (f.left == 0)) × OnPending r (g.left + 1 ≡ f.left) };
+    // it is ready exactly where none are left, and else one fewer is left and its own task is woken
+    ghost polls = { λ f c r g d. (is_ready r ≡ (f.left == 0)) × OnPending r (g.left + 1 ≡ f.left) × OnPending r (C.work d ≡ woken (C.work c) (C.number c)) };
 
     ghost cancels = { λ f c d. d ≡ c };
 

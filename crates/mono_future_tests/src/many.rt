@@ -1,7 +1,8 @@
 // Forms over lists: small ones, whose notes are told, and 64 futures, the most that there may be, which are ready at
 // different polls.
 use crate::boards::{Board, Step, Trial, empty_board, told};
-use mono_combine::{FastRand, JoinList, Out, SelectList, Start, TryJoinList};
+use crate::combined::start_of;
+use mono_combine::{JoinList, Out, SelectList, Start, TryJoinList};
 use mono_model::Host;
 use std::alloc::{AllocError, Global};
 
@@ -40,12 +41,12 @@ fn trials(
 }
 
 /// The branches 0 to 63. The branch i is ready with 1000 + i at its poll i mod 5, counted from 0.
-fn sixty_four(alloc: Global) -> Result<Vec<(u64, u64)>, AllocError> {
-    let mut branches = Vec::new(alloc);
-    for i in 0..64u64 {
-        branches.push((i % 5, i + 1000))?;
+fn sixty_four() -> [(u64, u64); 64] {
+    let mut branches = [(0, 0); 64];
+    for i in 0..64usize {
+        branches[i] = (i as u64 % 5, i as u64 + 1000);
     }
-    Ok(branches)
+    branches
 }
 
 /// Whether these are the numbers of the branches 0 to 63, in order.
@@ -103,46 +104,31 @@ fn is_told(answer: Option<(u64, Vec<u64>)>, poll: u64, outputs: &[u64]) -> bool 
 
 #[test]
 fn lists(rt: HostRuntime) {
-    let alloc = rt.alloc();
-    let mut cx = empty_board(alloc, 2).expect(&rt, "memory");
-    let at_once = joins_as(
-        &rt,
-        alloc,
-        &mut cx,
-        &[(0, 1), (0, 2), (0, 3)],
-        0,
-        &[1, 2, 3],
-        162738,
-    );
-    assert!(rt; at_once);
-    let later = joins_as(
-        &rt,
-        alloc,
-        &mut cx,
-        &[(0, 1), (1, 2), (0, 3)],
-        1,
-        &[1, 2, 3],
-        1623827,
-    );
-    assert!(rt; later);
-    let of_two = joins_as(&rt, alloc, &mut cx, &[(0, 1), (1, 2)], 1, &[1, 2], 16227);
-    assert!(rt; of_two);
+    let mut cx = empty_board(&rt, rt.alloc(), 2);
+    assert!(rt; lists_join(&rt, rt.alloc(), &mut cx));
+}
+
+/// Whether joins of three and of two are ready as soon as all of theirs are.
+fn lists_join<R: Host>(rt: &R, alloc: Global, cx: &mut Board) -> bool {
+    let at_once = [(0, 1), (0, 2), (0, 3)];
+    let later = [(0, 1), (1, 2), (0, 3)];
+    joins_as(rt, alloc, cx, &at_once, 0, &[1, 2, 3], 162738)
+        && joins_as(rt, alloc, cx, &later, 1, &[1, 2, 3], 1623827)
+        && joins_as(rt, alloc, cx, &[(0, 1), (1, 2)], 1, &[1, 2], 16227)
 }
 
 /// At which poll the join of all is ready with all numbers in order.
 fn joined_all<R: Host>(rt: &R, alloc: Global, cx: &mut Board) -> Option<u64> {
-    let branches = sixty_four(alloc).ok()?;
-    let (answer, _) = joined(rt, alloc, cx, &branches).ok()?;
-    match answer {
-        Some((poll, outputs)) if are_all(&outputs) => Some(poll),
+    match joined(rt, alloc, cx, &sixty_four()) {
+        Ok((Some((poll, outputs)), _)) if are_all(&outputs) => Some(poll),
         _ => None,
     }
 }
 
 #[test]
 fn sixty_four_are_joined(rt: HostRuntime) {
-    let mut cx = empty_board(rt.alloc(), 2).expect(&rt, "memory");
-    assert_eq!(rt; joined_all(&rt, rt.alloc(), &mut cx), Some(4));
+    let mut cx = empty_board(&rt, rt.alloc(), 2);
+    assert!(rt; joined_all(&rt, rt.alloc(), &mut cx) == Some(4));
 }
 
 /// What the join of these branches tells, of which those fail whose values are listed.
@@ -199,29 +185,21 @@ fn is_tried(
     at == poll && is_answer
 }
 
-/// The number of the first join of two that may fail which tells something else, or none.
-fn wrong_try<R: Host>(rt: &R, alloc: Global, cx: &mut Board) -> Option<usize> {
-    let cases = [
-        ([(0, 1), (0, 2)], 0, Ok((1, 2)), 1627),
-        ([(0, 8), (9, 2)], 0, Err(8), 167),
-        ([(1, 1), (0, 8)], 0, Err(8), 1276),
-        ([(0, 1), (1, 2)], 1, Ok((1, 2)), 16227),
-        ([(0, 8), (1, 2)], 0, Err(8), 167),
-    ];
-    let mut number = 0usize;
-    for (branches, poll, answer, notes) in cases {
-        if !tries_as(rt, alloc, cx, &branches, poll, answer, notes) {
-            return Some(number);
-        }
-        number = number.wrapping_add(1);
-    }
-    None
-}
+/// Two branches of which those with 8 fail; the poll and the answer of their join, and the notes.
+const TRIED: [([(u64, u64); 2], u64, Result<(u64, u64), u64>, u64); 5] = [
+    ([(0, 1), (0, 2)], 0, Ok((1, 2)), 1627),
+    ([(0, 8), (9, 2)], 0, Err(8), 167),
+    ([(1, 1), (0, 8)], 0, Err(8), 1276),
+    ([(0, 1), (1, 2)], 1, Ok((1, 2)), 16227),
+    ([(0, 8), (1, 2)], 0, Err(8), 167),
+];
 
 #[test]
 fn tried_lists(rt: HostRuntime) {
-    let mut cx = empty_board(rt.alloc(), 2).expect(&rt, "memory");
-    assert_eq!(rt; wrong_try(&rt, rt.alloc(), &mut cx), None);
+    let mut cx = empty_board(&rt, rt.alloc(), 2);
+    for (branches, poll, answer, notes) in TRIED {
+        assert!(rt; tries_as(&rt, rt.alloc(), &mut cx, &branches, poll, answer, notes));
+    }
 }
 
 /// The poll and the error of the join of all, of which those fail whose values are listed, or no error where it gave
@@ -232,25 +210,26 @@ fn tried_all<R: Host>(
     cx: &mut Board,
     failing: &[u64],
 ) -> Option<(u64, Option<u64>)> {
-    let branches = sixty_four(alloc).ok()?;
-    let (answer, _) = tried(rt, alloc, cx, &branches, failing).ok()?;
-    let (poll, told) = answer?;
-    match told {
-        Err(error) => Some((poll, Some(error))),
-        Ok(values) if are_all(&values) => Some((poll, None)),
-        Ok(_) => None,
+    match tried(rt, alloc, cx, &sixty_four(), failing) {
+        Ok((Some((poll, Err(error))), _)) => Some((poll, Some(error))),
+        Ok((Some((poll, Ok(values))), _)) if are_all(&values) => Some((poll, None)),
+        _ => None,
     }
+}
+
+/// Whether the join of all that may fail answers the first error of the first poll in which one fails.
+fn first_fails<R: Host>(rt: &R, alloc: Global, cx: &mut Board) -> bool {
+    // 63 is ready at poll 3, 12 and 37 at poll 2, and 4 and 9 at poll 4
+    tried_all(rt, alloc, cx, &[]) == Some((4, None))
+        && tried_all(rt, alloc, cx, &[1063]) == Some((3, Some(1063)))
+        && tried_all(rt, alloc, cx, &[1037, 1004, 1012]) == Some((2, Some(1012)))
+        && tried_all(rt, alloc, cx, &[1009, 1004]) == Some((4, Some(1004)))
 }
 
 #[test]
 fn sixty_four_are_tried(rt: HostRuntime) {
-    let alloc = rt.alloc();
-    let mut cx = empty_board(alloc, 2).expect(&rt, "memory");
-    assert!(rt; tried_all(&rt, alloc, &mut cx, &[]) == Some((4, None)));
-    // 63 is ready at poll 3, 12 and 37 at poll 2, and 4 and 9 at poll 4
-    assert!(rt; tried_all(&rt, alloc, &mut cx, &[1063]) == Some((3, Some(1063))));
-    assert!(rt; tried_all(&rt, alloc, &mut cx, &[1037, 1004, 1012]) == Some((2, Some(1012))));
-    assert!(rt; tried_all(&rt, alloc, &mut cx, &[1009, 1004]) == Some((4, Some(1004))));
+    let mut cx = empty_board(&rt, rt.alloc(), 2);
+    assert!(rt; first_fails(&rt, rt.alloc(), &mut cx));
 }
 
 /// What the select of these branches tells, of which those from a number on pass always, and the others with an even
@@ -277,80 +256,93 @@ fn selected<R: Host>(
     }
 }
 
-/// The mask of the first biased select of four branches, ready at once, that answers something else, or none.
-fn wrong_pick<R: Host>(rt: &R, alloc: Global, cx: &mut Board) -> Option<u64> {
-    // the count goes from 0 on, the branch i is enabled where it is below i + 1, and its output is the next count
-    let cases = [
-        (0, Out::Picked(0, 1)),
-        (1, Out::Picked(1, 2)),
-        (3, Out::Picked(2, 3)),
-        (7, Out::Picked(3, 4)),
-        (15, Out::Disabled),
-    ];
-    let branches = [(0, 1), (0, 2), (0, 3), (0, 4)];
-    for (mask, answer) in cases {
-        match selected(rt, alloc, cx, &branches, (0, false), mask, Start::Biased) {
-            Ok((Some((0, told)), _)) if told == answer => {}
-            _ => return Some(mask),
-        }
+/// The masks of biased selects of four branches that are ready at once, and their answers. The count goes from 0 on, the
+/// branch i is enabled where it is below i + 1, and its output is the next count.
+const PICKS: [(u64, Out<u64>); 5] = [
+    (0, Out::Picked(0, 1)),
+    (1, Out::Picked(1, 2)),
+    (3, Out::Picked(2, 3)),
+    (7, Out::Picked(3, 4)),
+    (15, Out::Disabled),
+];
+
+const FOUR: [(u64, u64); 4] = [(0, 1), (0, 2), (0, 3), (0, 4)];
+
+/// Whether the biased select of these branches, each of which passes, gives this answer at its first poll.
+fn picks_as<R: Host>(
+    rt: &R,
+    alloc: Global,
+    cx: &mut Board,
+    branches: &[(u64, u64)],
+    mask: u64,
+    answer: Out<u64>,
+) -> bool {
+    match selected(rt, alloc, cx, branches, (0, false), mask, Start::Biased) {
+        Ok((told, _)) => told == Some((0, answer)),
+        Err(_) => false,
     }
-    None
 }
 
 #[test]
 fn picks(rt: HostRuntime) {
-    let mut cx = empty_board(rt.alloc(), 2).expect(&rt, "memory");
-    assert_eq!(rt; wrong_pick(&rt, rt.alloc(), &mut cx), None);
+    let mut cx = empty_board(&rt, rt.alloc(), 2);
+    for (mask, answer) in PICKS {
+        assert!(rt; picks_as(&rt, rt.alloc(), &mut cx, &FOUR, mask, answer));
+    }
 }
 
-/// The notes of the first select that tells something else, of which the last of three passes always and the others with
-/// an even value, or none.
-fn wrong_notes<R: Host>(rt: &R, alloc: Global, cx: &mut Board) -> Option<u64> {
-    // the seed's first number is between a third and two thirds of 2 ^ 32, so the second branch has its turn first
-    let second_first = Start::Random(FastRand::new(0x8000_0000_0000_0000));
-    let cases = [
-        (
-            [(0, 3), (1, 4), (0, 5)],
-            0,
-            Start::Biased,
-            0,
-            Out::Picked(2, 5),
-            162387,
-        ),
-        (
-            [(0, 3), (1, 4), (0, 5)],
-            4,
-            Start::Biased,
-            1,
-            Out::Picked(1, 4),
-            162278,
-        ),
-        (
-            [(0, 4), (0, 3), (0, 5)],
-            0,
-            second_first,
-            0,
-            Out::Picked(2, 5),
-            27386,
-        ),
-    ];
-    for (branches, mask, start, poll, answer, notes) in cases {
-        let told = selected(rt, alloc, cx, &branches, (2, true), mask, start);
-        if told != Ok((Some((poll, answer)), notes)) {
-            return Some(notes);
-        }
-    }
-    None
-}
+/// Three branches of which the last passes always and the others with an even value, the mask, and whether the start is
+/// at random; the poll, the answer and the notes.
+const SELECTED: [([(u64, u64); 3], u64, bool, u64, Out<u64>, u64); 3] = [
+    (
+        [(0, 3), (1, 4), (0, 5)],
+        0,
+        false,
+        0,
+        Out::Picked(2, 5),
+        162387,
+    ),
+    (
+        [(0, 3), (1, 4), (0, 5)],
+        4,
+        false,
+        1,
+        Out::Picked(1, 4),
+        162278,
+    ),
+    (
+        [(0, 4), (0, 3), (0, 5)],
+        0,
+        true,
+        0,
+        Out::Picked(2, 5),
+        27386,
+    ),
+];
 
 #[test]
 fn selected_lists(rt: HostRuntime) {
-    let alloc = rt.alloc();
-    let mut cx = empty_board(alloc, 2).expect(&rt, "memory");
-    assert_eq!(rt; wrong_notes(&rt, alloc, &mut cx), None);
-    let branches = [(1, 1), (0, 2)];
-    let first = selected(&rt, alloc, &mut cx, &branches, (0, false), 0, Start::Biased);
-    assert!(rt; matches!(first, Ok((Some((0, Out::Picked(1, 2))), _))));
+    let mut cx = empty_board(&rt, rt.alloc(), 2);
+    for (branches, mask, is_random, poll, answer, notes) in SELECTED {
+        let start = start_of(is_random);
+        let told = selected(&rt, rt.alloc(), &mut cx, &branches, (2, true), mask, start);
+        assert!(rt; told == Ok((Some((poll, answer)), notes)));
+    }
+}
+
+#[test]
+fn the_second_of_two_is_picked(rt: HostRuntime) {
+    let mut cx = empty_board(&rt, rt.alloc(), 2);
+    assert!(rt;
+        picks_as(
+            &rt,
+            rt.alloc(),
+            &mut cx,
+            &[(1, 1), (0, 2)],
+            0,
+            Out::Picked(1, 2)
+        )
+    );
 }
 
 /// The poll and the answer of the select of all, in which the branches from this number on pass.
@@ -361,43 +353,33 @@ fn selected_all<R: Host>(
     least: u32,
     mask: u64,
 ) -> Option<(u64, Out<u64>)> {
-    let branches = sixty_four(alloc).ok()?;
     let passes = (least, false);
-    match selected(rt, alloc, cx, &branches, passes, mask, Start::Biased) {
+    match selected(rt, alloc, cx, &sixty_four(), passes, mask, Start::Biased) {
         Ok((answer, _)) => answer,
         Err(_) => None,
     }
 }
 
-/// The number of the first select of all that answers something else, or none.
-fn wrong_select<R: Host>(rt: &R, alloc: Global, cx: &mut Board) -> Option<usize> {
-    let last = 1 << 63;
-    let cases = [
-        // from 60 on the first is ready at poll 0, from 61 on at poll 1, and 63 is ready at poll 3
-        (0, 0, 0, Out::Picked(0, 1000)),
-        (60, 0, 0, Out::Picked(60, 1060)),
-        (61, 0, 1, Out::Picked(61, 1061)),
-        (63, 0, 3, Out::Picked(63, 1063)),
-        // those that the mask leaves out are never polled
-        (0, 1, 0, Out::Picked(5, 1005)),
-        (63, last, 4, Out::Disabled),
-        (0, !last, 3, Out::Picked(63, 1063)),
-        (0, u64::MAX, 0, Out::Disabled),
-        // none passes: all have been ready at poll 4
-        (64, 0, 4, Out::Disabled),
-    ];
-    let mut number = 0usize;
-    for (least, mask, poll, answer) in cases {
-        if selected_all(rt, alloc, cx, least, mask) != Some((poll, answer)) {
-            return Some(number);
-        }
-        number = number.wrapping_add(1);
-    }
-    None
-}
+/// The number of the first branch of all that passes, and the mask; the poll and the answer.
+const OF_ALL: [(u32, u64, u64, Out<u64>); 9] = [
+    // from 60 on the first is ready at poll 0, from 61 on at poll 1, and 63 is ready at poll 3
+    (0, 0, 0, Out::Picked(0, 1000)),
+    (60, 0, 0, Out::Picked(60, 1060)),
+    (61, 0, 1, Out::Picked(61, 1061)),
+    (63, 0, 3, Out::Picked(63, 1063)),
+    // those that the mask leaves out are never polled
+    (0, 1, 0, Out::Picked(5, 1005)),
+    (63, 0x8000_0000_0000_0000, 4, Out::Disabled),
+    (0, 0x7fff_ffff_ffff_ffff, 3, Out::Picked(63, 1063)),
+    (0, u64::MAX, 0, Out::Disabled),
+    // none passes: all have been ready at poll 4
+    (64, 0, 4, Out::Disabled),
+];
 
 #[test]
 fn one_of_sixty_four_is_selected(rt: HostRuntime) {
-    let mut cx = empty_board(rt.alloc(), 2).expect(&rt, "memory");
-    assert_eq!(rt; wrong_select(&rt, rt.alloc(), &mut cx), None);
+    let mut cx = empty_board(&rt, rt.alloc(), 2);
+    for (least, mask, poll, answer) in OF_ALL {
+        assert!(rt; selected_all(&rt, rt.alloc(), &mut cx, least, mask) == Some((poll, answer)));
+    }
 }

@@ -107,8 +107,8 @@ fn handles<R: Host>(rt: &R, alloc: Global, cx: &mut Board) -> bool {
 
 #[test]
 fn mapped_made_and_handled_items(rt: HostRuntime) {
-    let mut cx = empty_board(rt.alloc(), 2).expect(&rt, "memory");
-    assert!(rt; adds_one(&rt, rt.alloc(), &mut cx));
-    assert!(rt; doubles(&rt, rt.alloc(), &mut cx));
-    assert!(rt; handles(&rt, rt.alloc(), &mut cx));
+    let alloc = rt.alloc();
+    let mut cx = empty_board(&rt, alloc, 2);
+    assert!(rt; adds_one(&rt, alloc, &mut cx) && doubles(&rt, alloc, &mut cx));
+    assert!(rt; handles(&rt, alloc, &mut cx));
 }

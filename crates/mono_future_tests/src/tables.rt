@@ -1,24 +1,40 @@
 // The table call by call, over several pages and parts.
 use mono_table::Table;
-use std::alloc::{AllocError, Global};
+use std::alloc::Global;
+use std::process::Abort;
 
 /// As many numbers, each with itself as its value; all but every thousandth are gone again at once.
-fn fill(alloc: Global, table: &mut Table<u64>, numbers: u64) -> Result<(), AllocError> {
+fn fill<R: Abort>(rt: &R, alloc: Global, table: &mut Table<u64>, numbers: u64) {
     for number in 0..numbers {
         if table.len() == number {
-            table.push(alloc, number)?;
+            table.push(alloc, number).expect(rt, "memory");
         }
         if number % 1000 != 0 && table.get(number).is_some() {
             table.remove(number);
         }
     }
-    Ok(())
 }
 
-/// Whether the table has these values, or none, at these numbers.
-fn has(table: &Table<u64>, values: &[(u64, Option<u64>)]) -> bool {
-    for (number, value) in values {
-        if table.get(*number).copied() != *value {
+/// Whether the table has this value, or none, at a number.
+fn has(table: &Table<u64>, number: u64, value: Option<u64>) -> bool {
+    table.get(number).copied() == value
+}
+
+/// What lives on of 150,000 numbers, and what is gone.
+const LEFT: [(u64, Option<u64>); 7] = [
+    (0, Some(0)),
+    (66_000, Some(66_000)),
+    (149_000, Some(149_000)),
+    (1, None),
+    (65_536, None),
+    (149_999, None),
+    (150_000, None),
+];
+
+/// Whether the table has what is left, at each number.
+fn has_what_is_left(table: &Table<u64>) -> bool {
+    for (number, value) in LEFT {
+        if !has(table, number, value) {
             return false;
         }
     }
@@ -31,31 +47,26 @@ fn changes(table: &mut Table<u64>, number: u64) -> bool {
         return false;
     }
     *table.value_mut(number) = 66_005;
-    if table.get(number) != Some(&66_005) {
-        return false;
-    }
+    let is_changed = has(table, number, Some(66_005));
     table.set(number, 7);
-    if table.get(number) != Some(&7) {
-        return false;
-    }
+    let is_set = has(table, number, Some(7));
     table.remove(number);
-    table.get(number).is_none()
+    is_changed && is_set && has(table, number, None)
 }
 
-/// Every thousandth of 150,000 numbers lives on, through pages and parts that were given back.
+/// Whether every thousandth of 150,000 numbers lives on, and one is changed and then gone.
+fn lives_on(table: &mut Table<u64>) -> bool {
+    table.len() == 150_000
+        && table.count() == 150
+        && has_what_is_left(table)
+        && changes(table, 66_000)
+        && table.count() == 149
+}
+
+/// Numbers that live on through pages and parts that were given back.
 #[test]
 fn numbers(rt: HostRuntime) {
     let mut table = Table::new(rt.alloc());
-    assert!(rt; fill(rt.alloc(), &mut table, 150_000).is_ok());
-    assert!(rt; table.len() == 150_000 && table.count() == 150);
-    let kept = [
-        (0, Some(0)),
-        (66_000, Some(66_000)),
-        (149_000, Some(149_000)),
-    ];
-    assert!(rt; has(&table, &kept));
-    let gone = [(1, None), (65_536, None), (149_999, None), (150_000, None)];
-    assert!(rt; has(&table, &gone));
-    assert!(rt; changes(&mut table, 66_000));
-    assert_eq!(rt; table.count(), 149);
+    fill(&rt, rt.alloc(), &mut table, 150_000);
+    assert!(rt; lives_on(&mut table));
 }

@@ -1,46 +1,11 @@
 // The table of tasks call by call, and two futures over a small context.
-ghost use Rattle.std.specs.Prelude.{◌≡◌, ◌+◌, ◌==◌, None};
-ghost use Rattle.mono_model.specs.Tasks.{woken};
-ghost use Rattle.mono_model.specs.Poll.{is_ready, OnPending};
+ghost use Rattle.std.specs.Prelude.{◌≡◌, None};
 
 use crate::boards::{Board, empty_board};
+use crate::examples::countdown_of;
 use mono_model::Host;
-use mono_task::{Context, Ended, JoinHandle, Poll, SpawnTask, TaskError, TaskFuture, Tasks, Woke};
+use mono_task::{Ended, JoinHandle, Poll, SpawnTask, TaskError, TaskFuture, Tasks, Woke};
 use std::alloc::Global;
-
-/// A future that wakes its own task until it has been polled often enough.
-#[derive(Drop)]
-struct Countdown {
-    left: u64,
-    has_answered: bool,
-}
-
-impl<C: Context> TaskFuture<C> for Countdown {
-    type Output = ();
-
-    ghost is_spent = { λ f. f.has_answered };
-
-    ghost polls = { λ f c r g d. (is_ready r ≡ (f.left == 0)) × OnPending r (g.left + 1 ≡ f.left) × OnPending r (C.work d ≡ woken (C.work c) (C.number c)) };
-
-    ghost cancels = { λ f c d. d ≡ c };
-
-    fn spent(&self) -> bool {
-        self.has_answered
-    }
-
-    fn poll<R: Host>(&mut self, _rt: &R, _alloc: Global, cx: &mut C) -> Poll<()> {
-        if self.left == 0 {
-            self.has_answered = true;
-            return Poll::Ready(());
-        }
-        self.left -= 1;
-        let me = cx.me();
-        let _ = cx.wake(me);
-        Poll::Pending
-    }
-
-    fn cancel(self, _cx: &mut C) {}
-}
 
 /// Whether one task is spawned and a second refused.
 fn spawns_one(alloc: Global, tasks: &mut Tasks<u64>) -> bool
@@ -65,25 +30,27 @@ fn ends_once(tasks: &mut Tasks<u64>) -> bool
         return false;
     }
     let done = tasks.end_turn(Poll::Ready(3));
-    own == Ok(Woke::Noted) && ended == Ended::Again && done == Ended::Done && is_taken_once(tasks)
+    let are_turns = own == Ok(Woke::Noted) && (ended, done) == (Ended::Again, Ended::Done);
+    are_turns && is_taken_once(tasks)
 }
 
 /// Whether the handle of a task that has ended takes its output once, and is let go once.
 fn is_taken_once(tasks: &mut Tasks<u64>) -> bool {
-    let finished = tasks.is_finished(0) == Ok(true);
-    let output = tasks.poll_join(0, 0) == Ok(Poll::Ready(3));
-    let again = tasks.poll_join(0, 0) == Err(TaskError::Taken);
-    let dropped = tasks.drop_join(0) == Ok(None);
-    let gone = tasks.drop_join(0) == Err(TaskError::NoHandle);
-    let unknown = tasks.wake(1) == Err(TaskError::NoTask);
-    finished && output && again && dropped && gone && unknown && tasks.turns() == 2
+    let finished = tasks.is_finished(0);
+    let joined = (tasks.poll_join(0, 0), tasks.poll_join(0, 0));
+    let dropped = (tasks.drop_join(0), tasks.drop_join(0));
+    let unknown = tasks.wake(1);
+    joined == (Ok(Poll::Ready(3)), Err(TaskError::Taken))
+        && dropped == (Ok(None), Err(TaskError::NoHandle))
+        && finished == Ok(true)
+        && unknown == Err(TaskError::NoTask)
+        && tasks.turns() == 2
 }
 
 #[test]
 fn table(rt: HostRuntime) {
     let mut tasks: Tasks<u64> = Tasks::new(rt.alloc(), 1).expect(&rt, "memory");
-    assert!(rt; spawns_one(rt.alloc(), &mut tasks));
-    assert!(rt; ends_once(&mut tasks));
+    assert!(rt; spawns_one(rt.alloc(), &mut tasks) && ends_once(&mut tasks));
 }
 
 // As many turns as that, each of the next number and pending; where it is asked for, each task wakes itself meanwhile.
@@ -132,17 +99,39 @@ fn wakes_all(tasks: &mut Tasks<u64>) -> bool
     true
 }
 
-/// Three hundred tasks, which wake themselves in their turns, so that the queue goes round, and which are woken again.
+/// Whether three hundred tasks wake themselves in their turns, so that the queue goes round, and are woken again.
+fn go_round(alloc: Global, tasks: &mut Tasks<u64>) -> bool
+    requires { tasks.old.turn ≡ None }
+{
+    spawns_all(alloc, tasks)
+        && turns_in_order(tasks, 300, true)
+        && turns_in_order(tasks, 300, false)
+        && tasks.queue_len() == 0
+        && wakes_all(tasks)
+        && tasks.queue_len() == 300
+        && turns_in_order(tasks, 300, false)
+}
+
 #[test]
 fn many(rt: HostRuntime) {
     let mut tasks: Tasks<u64> = Tasks::new(rt.alloc(), 300).expect(&rt, "memory");
-    assert!(rt; spawns_all(rt.alloc(), &mut tasks));
-    assert!(rt; turns_in_order(&mut tasks, 300, true));
-    assert!(rt; turns_in_order(&mut tasks, 300, false));
-    assert_eq!(rt; tasks.queue_len(), 0);
-    assert!(rt; wakes_all(&mut tasks));
-    assert_eq!(rt; tasks.queue_len(), 300);
-    assert!(rt; turns_in_order(&mut tasks, 300, false));
+    assert!(rt; go_round(rt.alloc(), &mut tasks));
+}
+
+/// Whether the handle of a task that has ended with 5 gives that once.
+fn is_given_once<R: Host>(
+    rt: &R,
+    alloc: Global,
+    cx: &mut Board,
+    mut handle: JoinHandle<u64>,
+) -> bool {
+    let output = handle.poll(rt, alloc, cx);
+    let again = handle.poll(rt, alloc, cx);
+    let finished = handle.is_finished(cx);
+    let dropped = handle.cancel_join(cx);
+    (output, again) == (Poll::Ready(Ok(5)), Poll::Ready(Err(TaskError::Taken)))
+        && finished == Ok(true)
+        && dropped == Ok(None)
 }
 
 /// Whether a future makes calls of its own, and the handle of a task that ends gives its output once.
@@ -155,26 +144,18 @@ fn two_futures<R: Host>(rt: &R, alloc: Global, cx: &mut Board) -> bool
     if cx.tasks.begin_turn().is_err() {
         return false;
     }
-    let mut count = Countdown {
-        left: 1,
-        has_answered: false,
-    };
+    let mut count = countdown_of(1);
     let mut handle = JoinHandle::of_task(task);
-    if count.poll(rt, alloc, cx).is_ready() {
-        return false;
-    }
-    let waits = handle.poll(rt, alloc, cx) == Poll::Pending;
+    let counts = count.poll(rt, alloc, cx).is_pending();
+    let waits = handle.poll(rt, alloc, cx).is_pending();
     let counted = count.poll(rt, alloc, cx).is_ready();
-    let ended = cx.tasks.end_turn(Poll::Ready(5)) == Ended::Done;
-    let output = handle.poll(rt, alloc, cx) == Poll::Ready(Ok(5));
-    let again = handle.poll(rt, alloc, cx) == Poll::Ready(Err(TaskError::Taken));
-    let finished = handle.is_finished(cx) == Ok(true);
-    let dropped = handle.cancel_join(cx) == Ok(None);
-    waits && counted && ended && output && again && finished && dropped
+    let ended = cx.tasks.end_turn(Poll::Ready(5));
+    let is_given = is_given_once(rt, alloc, cx, handle);
+    counts && waits && counted && ended == Ended::Done && is_given
 }
 
 #[test]
 fn futures(rt: HostRuntime) {
-    let mut cx = empty_board(rt.alloc(), 2).expect(&rt, "memory");
+    let mut cx = empty_board(&rt, rt.alloc(), 2);
     assert!(rt; two_futures(&rt, rt.alloc(), &mut cx));
 }

@@ -63,66 +63,58 @@ fn burst(alloc: Global, cx: &mut Desk) -> bool {
         && ticks.missed_tick_behavior() == MissedTickBehavior::default()
 }
 
-// An interval of 50 ms from a start, with the tick of that start polled at a time: the next deadline in milliseconds.
-fn next_deadline(
+// Whether an interval of 50 ms from a start, whose first tick is polled at a time, ticks next at that deadline.
+fn goes_on(
     alloc: Global,
     cx: &mut Desk,
     behavior: MissedTickBehavior,
     start: u32,
     now: u32,
-) -> Option<u128> {
-    let mut ticks = interval_at(alloc, cx, at_millis(start), Duration::from_millis(50)).ok()?;
+    next: u32,
+) -> bool {
+    let Ok(mut ticks) = interval_at(alloc, cx, at_millis(start), Duration::from_millis(50)) else {
+        return false;
+    };
     ticks.set_missed_tick_behavior(behavior);
     go_to(cx, now);
-    if !ticks_at(cx, &mut ticks, start) {
-        return None;
-    }
+    let is_first = ticks_at(cx, &mut ticks, start);
     go_to(cx, 1000);
-    let next = ticks.poll_tick(cx);
+    let is_next = ticks_at(cx, &mut ticks, next);
     ticks.cancel(cx);
-    match next {
-        Ok(Poll::Ready(deadline)) => Some(deadline.as_nanos() / 1000000),
-        _ => None,
-    }
+    is_first && is_next
 }
 
-// The same on a new desk.
-fn next_of_new(alloc: Global, behavior: MissedTickBehavior, start: u32, now: u32) -> Option<u128> {
-    let mut cx = empty_desk(alloc, at_millis(0))?;
-    next_deadline(alloc, &mut cx, behavior, start, now)
-}
+// How an interval goes on, its start, when the tick of that is polled, and the next deadline. A tick that is 5 ms late is
+// not missed.
+const DEADLINES: [(MissedTickBehavior, u32, u32, u32); 8] = [
+    (MissedTickBehavior::Skip, 0, 75, 100),
+    (MissedTickBehavior::Delay, 0, 200, 250),
+    (MissedTickBehavior::Burst, 100, 105, 150),
+    (MissedTickBehavior::Burst, 100, 106, 150),
+    (MissedTickBehavior::Delay, 100, 105, 150),
+    (MissedTickBehavior::Delay, 100, 106, 156),
+    (MissedTickBehavior::Skip, 100, 105, 150),
+    (MissedTickBehavior::Skip, 100, 106, 150),
+];
 
-// The number of the first interval whose next deadline is another, or none.
-fn wrong_deadline(alloc: Global) -> Option<usize> {
-    // a tick that is 5 ms late is not missed
-    let cases = [
-        (MissedTickBehavior::Skip, 0, 75, 100),
-        (MissedTickBehavior::Delay, 0, 200, 250),
-        (MissedTickBehavior::Burst, 100, 105, 150),
-        (MissedTickBehavior::Burst, 100, 106, 150),
-        (MissedTickBehavior::Delay, 100, 105, 150),
-        (MissedTickBehavior::Delay, 100, 106, 156),
-        (MissedTickBehavior::Skip, 100, 105, 150),
-        (MissedTickBehavior::Skip, 100, 106, 150),
-    ];
-    let mut number = 0usize;
-    for (behavior, start, now, next) in cases {
-        if next_of_new(alloc, behavior, start, now) != Some(next) {
-            return Some(number);
-        }
-        number = number.wrapping_add(1);
+#[test]
+fn next_deadlines(rt: HostRuntime) {
+    for (behavior, start, now, next) in DEADLINES {
+        let mut cx = empty_desk(&rt, rt.alloc(), at_millis(0));
+        assert!(rt; goes_on(rt.alloc(), &mut cx, behavior, start, now, next));
     }
-    None
 }
 
 #[test]
 fn interval_ticks(rt: HostRuntime) {
-    let alloc = rt.alloc();
-    let mut cx = empty_desk(alloc, at_millis(0)).expect(&rt, "memory");
-    assert!(rt; in_time(alloc, &mut cx));
-    let mut cx = empty_desk(alloc, at_millis(0)).expect(&rt, "memory");
-    assert!(rt; burst(alloc, &mut cx));
-    assert_eq!(rt; wrong_deadline(alloc), None);
+    let mut cx = empty_desk(&rt, rt.alloc(), at_millis(0));
+    assert!(rt; in_time(rt.alloc(), &mut cx));
+}
+
+#[test]
+fn missed_ticks(rt: HostRuntime) {
+    let mut cx = empty_desk(&rt, rt.alloc(), at_millis(0));
+    assert!(rt; burst(rt.alloc(), &mut cx));
 }
 
 // A future that answers the same at each poll.
@@ -154,17 +146,33 @@ impl TaskFuture<Desk> for Answer {
     fn cancel(self, _cx: &mut Desk) {}
 }
 
-// What a future with a deadline that has come answers.
+// Whether a future with a deadline that has come answers this.
 fn limited<R: Host>(
     rt: &R,
     alloc: Global,
     cx: &mut Desk,
     value: Option<u64>,
-) -> Option<Poll<Result<u64, TimeoutError>>> {
+    told: Result<u64, TimeoutError>,
+) -> bool {
     match timeout_at(alloc, cx, at_millis(0), Answer { value }) {
-        Ok(mut limited) => Some(polled(rt, alloc, cx, &mut limited)),
-        Err(_) => None,
+        Ok(mut limited) => polled(rt, alloc, cx, &mut limited) == Poll::Ready(told),
+        Err(_) => false,
     }
+}
+
+// Whether a value that is ready is answered, and one that is not has elapsed: its delay stays.
+fn answers_in_time<R: Host>(rt: &R, alloc: Global, cx: &mut Desk) -> bool {
+    let late = Err(TimeoutError::Elapsed(Elapsed));
+    let is_ready = limited(rt, alloc, cx, Some(5), Ok(5));
+    let has_elapsed = limited(rt, alloc, cx, None, late);
+    let delays = (cx.sleep_elapsed(0), cx.sleep_elapsed(1));
+    is_ready && has_elapsed && delays == (Err(Error::Shutdown), Ok(true))
+}
+
+#[test]
+fn timeouts(rt: HostRuntime) {
+    let mut cx = empty_desk(&rt, rt.alloc(), at_millis(0));
+    assert!(rt; answers_in_time(&rt, rt.alloc(), &mut cx));
 }
 
 fn taken_back(alloc: Global, cx: &mut Desk) -> bool {
@@ -174,19 +182,11 @@ fn taken_back(alloc: Global, cx: &mut Desk) -> bool {
     };
     let kept = timeout.get_ref().value;
     let back = timeout.into_inner(cx);
-    kept == Some(6) && back.value == Some(6) && cx.sleep_elapsed(0) == Err(Error::Shutdown)
+    (kept, back.value) == (Some(6), Some(6)) && cx.sleep_elapsed(0) == Err(Error::Shutdown)
 }
 
-// A value that is ready is answered, and one that is not has elapsed: its delay stays.
 #[test]
-fn timeouts(rt: HostRuntime) {
-    let alloc = rt.alloc();
-    let mut cx = empty_desk(alloc, at_millis(0)).expect(&rt, "memory");
-    assert!(rt; limited(&rt, alloc, &mut cx, Some(5)) == Some(Poll::Ready(Ok(5))));
-    let late = Some(Poll::Ready(Err(TimeoutError::Elapsed(Elapsed))));
-    assert!(rt; limited(&rt, alloc, &mut cx, None) == late);
-    assert!(rt; cx.sleep_elapsed(0) == Err(Error::Shutdown));
-    assert!(rt; cx.sleep_elapsed(1) == Ok(true));
-    let mut cx = empty_desk(alloc, at_millis(0)).expect(&rt, "memory");
-    assert!(rt; taken_back(alloc, &mut cx));
+fn futures_are_taken_back(rt: HostRuntime) {
+    let mut cx = empty_desk(&rt, rt.alloc(), at_millis(0));
+    assert!(rt; taken_back(rt.alloc(), &mut cx));
 }

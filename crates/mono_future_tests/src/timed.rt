@@ -4,10 +4,11 @@ use mono_model::{Host, MAX_NANOS};
 use mono_task::{Poll, TaskFuture};
 use mono_time::*;
 use std::alloc::Global;
+use std::process::Abort;
 use std::time::Duration;
 
 /// A call on timers, with what it answers. Those that take a time take it from beside the call.
-#[derive(Drop)]
+#[derive(Clone, Copy)]
 enum Call {
     Add(Result<u64, SleepError>),
     Poll(u64, u64, Result<Poll<()>, Error>),
@@ -20,162 +21,163 @@ enum Call {
 }
 
 /// Whether a call answers what stands there.
-fn answers(alloc: Global, timers: &mut Timers, at: Instant, call: &Call) -> bool {
+fn answers(alloc: Global, timers: &mut Timers, at: Instant, call: Call) -> bool {
     match call {
-        Call::Add(told) => timers.add(alloc, at) == *told,
-        Call::Poll(sleep, by, told) => timers.poll(*sleep, *by) == *told,
-        Call::Reset(sleep, told) => timers.reset(*sleep, at) == *told,
-        Call::Remove(sleep, told) => timers.remove(*sleep) == *told,
-        Call::IsElapsed(sleep, told) => timers.is_elapsed(*sleep) == *told,
-        Call::Next(told) => timers.next_expiration_time() == *told,
-        Call::Clock(told) => fires(timers, at) == *told,
-        Call::Greatest(told) => timers.greatest() == *told,
+        Call::Add(told) => timers.add(alloc, at) == told,
+        Call::Poll(sleep, by, told) => timers.poll(sleep, by) == told,
+        Call::Reset(sleep, told) => timers.reset(sleep, at) == told,
+        Call::Remove(sleep, told) => timers.remove(sleep) == told,
+        Call::IsElapsed(sleep, told) => timers.is_elapsed(sleep) == told,
+        Call::Next(told) => timers.next_expiration_time() == told,
+        Call::Clock(told) => fires(timers, at) == told,
+        Call::Greatest(told) => timers.greatest() == told,
     }
 }
 
-/// The number of the first of these calls that answers something else, or none. Each stands behind its time in nanoseconds.
-fn first_wrong(alloc: Global, timers: &mut Timers, calls: &[(u128, Call)]) -> Option<usize> {
-    let mut number = 0usize;
+/// Whether all of these calls answer what stands there. Each stands behind its time in nanoseconds.
+fn all_answer(alloc: Global, timers: &mut Timers, calls: &[(u128, Call)]) -> bool {
     for (nanos, call) in calls {
         let Some(at) = Instant::from_nanos(*nanos) else {
-            return Some(number);
+            return false;
         };
-        if !answers(alloc, timers, at, call) {
-            return Some(number);
+        if !answers(alloc, timers, at, *call) {
+            return false;
         }
-        number = number.wrapping_add(1);
     }
-    None
+    true
 }
 
 /// The same on new timers.
-fn first_wrong_of(alloc: Global, limit: u64, calls: &[(u128, Call)]) -> Option<usize> {
-    match Timers::new(alloc, limit, true) {
-        Ok(mut timers) => first_wrong(alloc, &mut timers, calls),
-        Err(_) => Some(usize::MAX),
-    }
+fn all_answer_of<R: Abort>(rt: &R, alloc: Global, limit: u64, calls: &[(u128, Call)]) -> bool {
+    let mut timers = Timers::new(alloc, limit, true).expect(rt, "memory");
+    all_answer(alloc, &mut timers, calls)
 }
 
 // Each rounding of the deadline.
+const FIRST_POLLS: [[(u128, Call); 3]; 4] = [
+    [
+        (0, Call::Add(Ok(0))),
+        (0, Call::Poll(0, 0, Ok(Poll::Ready(())))),
+        (0, Call::Next(None)),
+    ],
+    [
+        (1, Call::Add(Ok(0))),
+        (0, Call::Poll(0, 0, Ok(Poll::Pending))),
+        (0, Call::Next(Some(1))),
+    ],
+    [
+        (1000000, Call::Add(Ok(0))),
+        (0, Call::Poll(0, 0, Ok(Poll::Pending))),
+        (0, Call::Next(Some(1))),
+    ],
+    [
+        (1000001, Call::Add(Ok(0))),
+        (0, Call::Poll(0, 0, Ok(Poll::Pending))),
+        (0, Call::Next(Some(2))),
+    ],
+];
+
 #[test]
 fn first_polls(rt: HostRuntime) {
-    let cases = [
-        (0, Poll::Ready(()), None),
-        (1, Poll::Pending, Some(1)),
-        (1000000, Poll::Pending, Some(1)),
-        (1000001, Poll::Pending, Some(2)),
-    ];
-    for (nanos, answer, next) in cases {
-        let calls = [
-            (nanos, Call::Add(Ok(0))),
-            (0, Call::Poll(0, 0, Ok(answer))),
-            (0, Call::Next(next)),
-        ];
-        assert_eq!(rt; first_wrong_of(rt.alloc(), 1, &calls), None);
+    for calls in FIRST_POLLS {
+        assert!(rt; all_answer_of(&rt, rt.alloc(), 1, &calls));
     }
 }
 
 // Refusals, and a sleep from its making to its removal.
+const ONE_SLEEP: [(u128, Call); 8] = [
+    (0, Call::Add(Ok(0))),
+    (0, Call::Add(Err(SleepError::Timer(Error::AtCapacity)))),
+    (0, Call::IsElapsed(0, Ok(false))),
+    (0, Call::Poll(0, 4, Ok(Poll::Ready(())))),
+    (0, Call::IsElapsed(0, Ok(true))),
+    (0, Call::Remove(0, Ok(()))),
+    (0, Call::Poll(0, 4, Err(Error::Shutdown))),
+    (0, Call::Add(Ok(1))),
+];
+
 #[test]
 fn one_sleep(rt: HostRuntime) {
-    let calls = [
-        (0, Call::Add(Ok(0))),
-        (0, Call::Add(Err(SleepError::Timer(Error::AtCapacity)))),
-        (0, Call::IsElapsed(0, Ok(false))),
-        (0, Call::Poll(0, 4, Ok(Poll::Ready(())))),
-        (0, Call::IsElapsed(0, Ok(true))),
-        (0, Call::Remove(0, Ok(()))),
-        (0, Call::Poll(0, 4, Err(Error::Shutdown))),
-        (0, Call::Add(Ok(1))),
-    ];
-    assert_eq!(rt; first_wrong_of(rt.alloc(), 1, &calls), None);
+    assert!(rt; all_answer_of(&rt, rt.alloc(), 1, &ONE_SLEEP));
+}
+
+#[test]
+fn no_timers(rt: HostRuntime) {
     let mut none = Timers::new(rt.alloc(), 1, false).expect(&rt, "memory");
     let refused = none.add(rt.alloc(), at_millis(0));
     assert!(rt; refused == Err(SleepError::Timer(Error::Shutdown)));
 }
 
-// Sleeps for two instants, which tasks 3 and 4 wait for, and calls on them. The second sleep was armed first.
-fn first_wrong_of_two(
-    alloc: Global,
-    first: u128,
-    second: u128,
-    calls: &[(u128, Call)],
-) -> Option<usize> {
-    let arms = [
-        (first, Call::Add(Ok(0))),
-        (second, Call::Add(Ok(1))),
-        (0, Call::Poll(1, 4, Ok(Poll::Pending))),
-        (0, Call::Poll(0, 3, Ok(Poll::Pending))),
-    ];
-    let Ok(mut timers) = Timers::new(alloc, 3, true) else {
-        return Some(usize::MAX);
-    };
-    match first_wrong(alloc, &mut timers, &arms) {
-        Some(_) => Some(usize::MAX),
-        None => first_wrong(alloc, &mut timers, calls),
-    }
-}
+// Of two sleeps, which tasks 3 and 4 wait for, the second was armed first. Sleeps of one tick fire as they were armed,
+// each with the task that polled it last.
+const TIES: [(u128, Call); 11] = [
+    (100000000, Call::Add(Ok(0))),
+    (100000000, Call::Add(Ok(1))),
+    (0, Call::Poll(1, 4, Ok(Poll::Pending))),
+    (0, Call::Poll(0, 3, Ok(Poll::Pending))),
+    (0, Call::Poll(1, 8, Ok(Poll::Pending))),
+    (0, Call::Next(Some(64))),
+    (64000000, Call::Clock(None)),
+    (100000000, Call::Clock(Some((1, Some(8))))),
+    (100000000, Call::Clock(Some((0, Some(3))))),
+    (100000000, Call::Clock(None)),
+    (0, Call::Next(None)),
+];
 
-// Sleeps of one tick fire as they were armed, each with the task that polled it last.
 #[test]
 fn ties(rt: HostRuntime) {
-    let calls = [
-        (0, Call::Poll(1, 8, Ok(Poll::Pending))),
-        (0, Call::Next(Some(64))),
-        (64000000, Call::Clock(None)),
-        (100000000, Call::Clock(Some((1, Some(8))))),
-        (100000000, Call::Clock(Some((0, Some(3))))),
-        (100000000, Call::Clock(None)),
-        (0, Call::Next(None)),
-    ];
-    assert_eq!(rt;
-        first_wrong_of_two(rt.alloc(), 100000000, 100000000, &calls),
-        None
-    );
+    assert!(rt; all_answer_of(&rt, rt.alloc(), 3, &TIES));
 }
 
-// Sleeps that are moved later and earlier.
+// Two such sleeps that are moved later and earlier.
+const MOVES: [(u128, Call); 9] = [
+    (50000000, Call::Add(Ok(0))),
+    (90000000, Call::Add(Ok(1))),
+    (0, Call::Poll(1, 4, Ok(Poll::Pending))),
+    (0, Call::Poll(0, 3, Ok(Poll::Pending))),
+    (80000000, Call::Reset(0, Ok(None))),
+    (60000000, Call::Reset(1, Ok(None))),
+    (50000000, Call::Clock(None)),
+    (80000000, Call::Clock(Some((1, Some(4))))),
+    (80000000, Call::Clock(Some((0, Some(3))))),
+];
+
 #[test]
 fn moves(rt: HostRuntime) {
-    let calls = [
-        (80000000, Call::Reset(0, Ok(None))),
-        (60000000, Call::Reset(1, Ok(None))),
-        (50000000, Call::Clock(None)),
-        (80000000, Call::Clock(Some((1, Some(4))))),
-        (80000000, Call::Clock(Some((0, Some(3))))),
-    ];
-    assert_eq!(rt;
-        first_wrong_of_two(rt.alloc(), 50000000, 90000000, &calls),
-        None
-    );
+    assert!(rt; all_answer_of(&rt, rt.alloc(), 3, &MOVES));
 }
 
 // The clock does not go back, and a sleep that is moved to a tick that has passed hands out its task.
+const PASSES: [(u128, Call); 8] = [
+    (90000000, Call::Add(Ok(0))),
+    (90000000, Call::Add(Ok(1))),
+    (0, Call::Poll(1, 4, Ok(Poll::Pending))),
+    (0, Call::Poll(0, 3, Ok(Poll::Pending))),
+    (80000000, Call::Clock(None)),
+    (5000000, Call::Clock(None)),
+    (80000000, Call::Reset(1, Ok(Some(4)))),
+    (0, Call::Greatest(80)),
+];
+
 #[test]
 fn passes(rt: HostRuntime) {
-    let calls = [
-        (80000000, Call::Clock(None)),
-        (5000000, Call::Clock(None)),
-        (80000000, Call::Reset(1, Ok(Some(4)))),
-        (0, Call::Greatest(80)),
-    ];
-    assert_eq!(rt;
-        first_wrong_of_two(rt.alloc(), 90000000, 90000000, &calls),
-        None
-    );
+    assert!(rt; all_answer_of(&rt, rt.alloc(), 3, &PASSES));
 }
 
 // Of two sleeps that are far apart the nearer one fires first.
+const FAR_APART: [(u128, Call); 7] = [
+    (0x400_0000_0000 * 1000000, Call::Add(Ok(0))),
+    (0x10_0000_0000 * 1000000, Call::Add(Ok(1))),
+    (0, Call::Poll(1, 4, Ok(Poll::Pending))),
+    (0, Call::Poll(0, 3, Ok(Poll::Pending))),
+    (0x10_0000_0000 * 1000000, Call::Clock(Some((1, Some(4))))),
+    (0x10_0000_0000 * 1000000, Call::Clock(None)),
+    (0, Call::IsElapsed(0, Ok(false))),
+];
+
 #[test]
 fn far_apart(rt: HostRuntime) {
-    let near = 0x10_0000_0000 * 1000000;
-    let calls = [
-        (near, Call::Clock(Some((1, Some(4))))),
-        (near, Call::Clock(None)),
-        (0, Call::IsElapsed(0, Ok(false))),
-    ];
-    let far = 0x400_0000_0000 * 1000000;
-    assert_eq!(rt; first_wrong_of_two(rt.alloc(), far, near, &calls), None);
+    assert!(rt; all_answer_of(&rt, rt.alloc(), 3, &FAR_APART));
 }
 
 /// Whether a whole clock step fires these sleeps at once, behind what the list has.
@@ -189,32 +191,37 @@ fn fire(
     timers.fire_all(alloc, at_millis(millis), fired).is_ok() && fired.as_slice() == told
 }
 
+// Two sleeps of three, of which the second is due first.
+const TWO_ARMED: [(u128, Call); 4] = [
+    (90000000, Call::Add(Ok(0))),
+    (80000000, Call::Add(Ok(1))),
+    (0, Call::Poll(1, 4, Ok(Poll::Pending))),
+    (0, Call::Poll(0, 3, Ok(Poll::Pending))),
+];
+
+/// Whether those two fire in whole clock steps, and then no other.
+fn fire_both(alloc: Global, timers: &mut Timers, fired: &mut Vec<(u64, Option<u64>)>) -> bool {
+    fire(alloc, timers, 85, fired, &[(7, None), (1, Some(4))])
+        && fire(
+            alloc,
+            timers,
+            90,
+            fired,
+            &[(7, None), (1, Some(4)), (0, Some(3))],
+        )
+        && timers.live() == 2
+        && fires(timers, at_millis(90)) == None
+}
+
 // A whole clock step at once, behind what the list has.
 #[test]
 fn at_once(rt: HostRuntime) {
     let alloc = rt.alloc();
     let mut timers = Timers::new(alloc, 3, true).expect(&rt, "memory");
-    let arms = [
-        (90000000, Call::Add(Ok(0))),
-        (80000000, Call::Add(Ok(1))),
-        (0, Call::Poll(1, 4, Ok(Poll::Pending))),
-        (0, Call::Poll(0, 3, Ok(Poll::Pending))),
-    ];
-    assert_eq!(rt; first_wrong(alloc, &mut timers, &arms), None);
     let mut fired = Vec::new(alloc);
-    assert!(rt; fired.push((7, None)).is_ok());
-    assert!(rt;
-        fire(
-            alloc,
-            &mut timers,
-            85,
-            &mut fired,
-            &[(7, None), (1, Some(4))]
-        )
-    );
-    let all = [(7, None), (1, Some(4)), (0, Some(3))];
-    assert!(rt; fire(alloc, &mut timers, 90, &mut fired, &all));
-    assert!(rt; timers.live() == 2 && fires(&mut timers, at_millis(90)) == None);
+    fired.push((7, None)).expect(&rt, "memory");
+    let are_armed = all_answer(alloc, &mut timers, &TWO_ARMED);
+    assert!(rt; are_armed && fire_both(alloc, &mut timers, &mut fired));
 }
 
 // Deadlines that are too far off.
@@ -245,13 +252,15 @@ fn sleeps<R: Host>(rt: &R, alloc: Global, cx: &mut Desk) -> bool {
 
 #[test]
 fn futures(rt: HostRuntime) {
-    let alloc = rt.alloc();
-    let mut cx = empty_desk(alloc, at_millis(0)).expect(&rt, "memory");
-    assert!(rt; sleeps(&rt, alloc, &mut cx));
-    let mut cx = empty_desk(alloc, at_millis(0)).expect(&rt, "memory");
-    assert!(rt; far_off(alloc, &mut cx));
-    let end = Instant::from_nanos(MAX_NANOS).expect(&rt, "an instant");
-    let mut cx = empty_desk(alloc, end).expect(&rt, "memory");
-    let invalid = sleep(alloc, &mut cx, Duration::MAX);
+    let mut cx = empty_desk(&rt, rt.alloc(), at_millis(0));
+    assert!(rt; sleeps(&rt, rt.alloc(), &mut cx));
+}
+
+#[test]
+fn far_deadlines(rt: HostRuntime) {
+    let mut cx = empty_desk(&rt, rt.alloc(), at_millis(0));
+    assert!(rt; far_off(rt.alloc(), &mut cx));
+    cx.now = Instant::from_nanos(MAX_NANOS).expect(&rt, "an instant");
+    let invalid = sleep(rt.alloc(), &mut cx, Duration::MAX);
     assert!(rt; invalid == Err(SleepError::Timer(Error::Invalid)));
 }

@@ -3,17 +3,18 @@ ghost use Rattle.std.specs.Prelude.{◌≡◌, ◌<◌};
 
 use mono_wheel::laws::{WheelCall, far_key, run_calls};
 use mono_wheel::{InsertError, Steps, Wheel};
-use std::alloc::{AllocError, Global};
+use std::alloc::Global;
 use std::marker::Brand;
+use std::process::Abort;
 use std::sync::ledger::{Blank, Ledger};
 
 fn polled<L: Ledger>(wheel: &mut Wheel, now: u64, blank: Blank) -> Option<usize>
     requires { (blank.name ≡ L.name) × (blank.parts ≡ L.parts) × (0 < L.parts) }
 {
-    let mut steps: Steps<L> = Steps::new(blank);
     if now < wheel.elapsed() || now >= 1 << 63 {
         return None;
     }
+    let mut steps: Steps<L> = Steps::new(blank);
     wheel.poll(now, &mut steps)
 }
 
@@ -23,13 +24,12 @@ fn comes_out(wheel: &mut Wheel, now: u64) -> Option<usize> {
 }
 
 // A new key that is due at a tick.
-fn put(alloc: Global, wheel: &mut Wheel, tick: u64) -> Option<usize> {
-    if tick >= 1 << 63 {
-        return None;
+fn put<R: Abort>(rt: &R, alloc: Global, wheel: &mut Wheel, tick: u64) -> usize {
+    let key = wheel.reserve_entry(alloc).expect(rt, "memory");
+    if tick < 1 << 63 {
+        let _ = wheel.insert(key, tick);
     }
-    let key = wheel.reserve_entry(alloc).ok()?;
-    let _ = wheel.insert(key, tick);
-    Some(key)
+    key
 }
 
 // Takes a key out and gives it back.
@@ -41,36 +41,33 @@ fn give_back(wheel: &mut Wheel, key: usize) {
 }
 
 // What is next of a new wheel that was polled to a tick and then has one key at another.
-fn next_after(alloc: Global, elapsed: u64, tick: u64) -> Option<u64> {
-    let mut wheel = Wheel::new(alloc).ok()?;
+fn next_after<R: Abort>(rt: &R, alloc: Global, elapsed: u64, tick: u64) -> Option<u64> {
+    let mut wheel = Wheel::new(alloc).expect(rt, "memory");
     comes_out(&mut wheel, elapsed);
-    put(alloc, &mut wheel, tick);
+    put(rt, alloc, &mut wheel, tick);
     wheel.next_expiration_time()
 }
 
-// The number of the first ticks, of a poll and of a key that is then put in, after which another tick is next, or none.
-fn wrong_next(alloc: Global) -> Option<usize> {
-    let cases = [
-        (0, 100, 64),
-        (64, 100, 100),
-        (0, 0x4000_0000, 0x4000_0000),
-        (0, 0x10_0000_0000, 0x10_0000_0000),
-        (5, 0x10_8000_0000, 0x10_0000_0000),
-        (5, 0x420_0000_0000, 0x20_0000_0000),
-    ];
-    let mut number = 0usize;
-    for (elapsed, tick, next) in cases {
-        if next_after(alloc, elapsed, tick) != Some(next) {
-            return Some(number);
-        }
-        number = number.wrapping_add(1);
+// The ticks of a poll and of a key that is then put in, and what is next.
+const NEXT: [(u64, u64, u64); 6] = [
+    (0, 100, 64),
+    (64, 100, 100),
+    (0, 0x4000_0000, 0x4000_0000),
+    (0, 0x10_0000_0000, 0x10_0000_0000),
+    (5, 0x10_8000_0000, 0x10_0000_0000),
+    (5, 0x420_0000_0000, 0x20_0000_0000),
+];
+
+#[test]
+fn next_ticks(rt: HostRuntime) {
+    for (elapsed, tick, next) in NEXT {
+        assert!(rt; next_after(&rt, rt.alloc(), elapsed, tick) == Some(next));
     }
-    None
 }
 
 // A new key that is not put in at the tick 0, and then is at 100.
-fn put_late(alloc: Global, wheel: &mut Wheel) -> Option<usize> {
-    let key = wheel.reserve_entry(alloc).ok()?;
+fn put_late<R: Abort>(rt: &R, alloc: Global, wheel: &mut Wheel) -> Option<usize> {
+    let key = wheel.reserve_entry(alloc).expect(rt, "memory");
     if !matches!(wheel.insert(key, 0), Err(InsertError::Elapsed)) {
         return None;
     }
@@ -86,85 +83,106 @@ fn extends(wheel: &mut Wheel, key: usize, tick: u64) -> bool {
 }
 
 // One key that is moved and comes out at its later tick.
-fn one_key(alloc: Global, wheel: &mut Wheel) -> Option<bool> {
-    let key = put_late(alloc, wheel)?;
-    let next = wheel.next_expiration_time() == Some(64);
+fn one_key(wheel: &mut Wheel, key: usize) -> bool {
+    let next = wheel.next_expiration_time();
     let earlier = extends(wheel, key, 99);
     let later = extends(wheel, key, 130);
     let none = comes_out(wheel, 64);
-    let moved = wheel.next_expiration_time() == Some(128);
+    let moved = wheel.next_expiration_time();
     let due = comes_out(wheel, 130);
-    let is_at_last = due == Some(key) && wheel.elapsed() == 130;
-    Some(next && !earlier && later && none == None && moved && is_at_last)
+    let is_moved = (next, moved) == (Some(64), Some(128)) && !earlier && later;
+    is_moved && (none, due) == (None, Some(key)) && wheel.elapsed() == 130
 }
 
-// Three keys far apart, of which the nearer one comes first; one is taken out and given back.
-fn far_keys(alloc: Global, wheel: &mut Wheel) -> Option<bool> {
-    let far = put(alloc, wheel, 0x400_0000_0000)?;
-    let near = put(alloc, wheel, 0x10_0000_0000)?;
-    let gone = put(alloc, wheel, 5)?;
-    let are_in = wheel.is_in(far) && wheel.is_in(near) && wheel.is_in(gone);
-    give_back(wheel, gone);
-    let is_gone = !wheel.is_in(gone);
+#[test]
+fn a_key_is_moved(rt: HostRuntime) {
+    let mut wheel = Wheel::new(rt.alloc()).expect(&rt, "memory");
+    let key = put_late(&rt, rt.alloc(), &mut wheel).expect(&rt, "a key at 100 alone");
+    assert!(rt; one_key(&mut wheel, key));
+}
+
+// Whether two keys come out, the nearer one first, and then none is left.
+fn come_out_in_order(wheel: &mut Wheel, near: usize, far: usize) -> bool {
     let none = comes_out(wheel, 0xf_ffff_ffff);
     let first = comes_out(wheel, 0x10_0000_0000);
     let second = comes_out(wheel, 0x400_0000_0000);
-    let is_empty = wheel.next_expiration_time() == None;
-    let in_order = none == None && first == Some(near) && second == Some(far);
-    Some(are_in && is_gone && in_order && is_empty)
+    (none, first, second) == (None, Some(near), Some(far)) && wheel.next_expiration_time() == None
+}
+
+// Three keys far apart, of which the nearer one comes first; one is taken out and given back.
+fn far_keys<R: Abort>(rt: &R, alloc: Global, wheel: &mut Wheel) -> bool {
+    let far = put(rt, alloc, wheel, 0x400_0000_0000);
+    let near = put(rt, alloc, wheel, 0x10_0000_0000);
+    let gone = put(rt, alloc, wheel, 5);
+    let are_in = wheel.is_in(far) && wheel.is_in(near) && wheel.is_in(gone);
+    give_back(wheel, gone);
+    are_in && !wheel.is_in(gone) && come_out_in_order(wheel, near, far)
+}
+
+#[test]
+fn keys_far_apart(rt: HostRuntime) {
+    let mut wheel = Wheel::new(rt.alloc()).expect(&rt, "memory");
+    assert!(rt; far_keys(&rt, rt.alloc(), &mut wheel));
 }
 
 // An insertion, a reset and a poll.
-fn three_calls(alloc: Global, key: usize) -> Result<Vec<WheelCall>, AllocError> {
-    Ok(vec![in alloc;
+fn three_calls<R: Abort>(rt: &R, alloc: Global, key: usize) -> Vec<WheelCall> {
+    let calls = [
         WheelCall::Insert(key, 6 << 36),
         WheelCall::Extend(key, 7 << 36),
         WheelCall::Poll(6 << 36),
-    ]?)
+    ];
+    Vec::from_array(alloc, calls).expect(rt, "memory")
 }
 
 // A key that came out far ahead in one step, and calls in turn up to one whose condition does not hold.
 fn in_turn<L: Ledger>(
-    alloc: Global,
     wheel: &mut Wheel,
-    key: usize,
     steps: &mut Steps<L>,
-) -> Result<bool, AllocError> {
+    calls: &Vec<WheelCall>,
+    more: &Vec<WheelCall>,
+) -> bool {
     let now = wheel.elapsed();
-    let mut calls = three_calls(alloc, key)?;
-    let all = run_calls(wheel, &calls, steps);
+    let all = run_calls(wheel, calls, steps);
     let then = wheel.elapsed();
-    calls.push(WheelCall::Remove(key))?;
-    let none = run_calls(wheel, &calls, steps);
+    let none = run_calls(wheel, more, steps);
     let is_next = wheel.next_expiration_time() == Some(7 << 36);
-    Ok(now == 5 << 36 && all && then == 6 << 36 && !none && is_next)
+    now == 5 << 36 && all && then == 6 << 36 && !none && is_next
 }
 
-fn in_turn_on_new<L: Ledger>(alloc: Global, blank: Blank) -> Result<bool, AllocError>
+fn in_turn_on_new<R: Abort, L: Ledger>(rt: &R, alloc: Global, blank: Blank) -> bool
     requires { (blank.name ≡ L.name) × (blank.parts ≡ L.parts) × (0 < L.parts) }
 {
     let mut steps: Steps<L> = Steps::new(blank);
-    let mut wheel = Wheel::new(alloc)?;
-    let key = far_key(alloc, &mut wheel, &mut steps)?;
-    in_turn(alloc, &mut wheel, key, &mut steps)
+    let mut wheel = Wheel::new(alloc).expect(rt, "memory");
+    let key = far_key(alloc, &mut wheel, &mut steps).expect(rt, "memory");
+    let calls = three_calls(rt, alloc, key);
+    let mut more = three_calls(rt, alloc, key);
+    more.push(WheelCall::Remove(key)).expect(rt, "memory");
+    in_turn(&mut wheel, &mut steps, &calls, &more)
+}
+
+#[test]
+fn calls_in_turn(rt: HostRuntime) {
+    assert!(rt; in_turn_on_new::<HostRuntime, Brand>(&rt, rt.alloc(), Blank::new(1)));
 }
 
 // A key for each tick up to 900. Each third of them is listed apart.
-fn put_thirds(
+fn put_thirds<R: Abort>(
+    rt: &R,
     alloc: Global,
     wheel: &mut Wheel,
     stays: &mut Vec<usize>,
     gone: &mut Vec<usize>,
-) -> Option<()> {
+) {
     for tick in 1..=900u64 {
-        let key = put(alloc, wheel, tick)?;
+        let key = put(rt, alloc, wheel, tick);
         if tick % 3 == 0 {
-            gone.push(key).ok()?;
+            gone.push(key).expect(rt, "memory");
         } else {
-            stays.push(key).ok()?;
+            stays.push(key).expect(rt, "memory");
         }
     }
-    Some(())
 }
 
 // Takes these keys out and gives them back.
@@ -175,14 +193,19 @@ fn give_all_back(wheel: &mut Wheel, keys: &[usize]) {
 }
 
 // 300 keys more: whether each has a number that was given back.
-fn put_again(alloc: Global, wheel: &mut Wheel, stays: &mut Vec<usize>, gone: &[usize]) -> bool {
+fn put_again<R: Abort>(
+    rt: &R,
+    alloc: Global,
+    wheel: &mut Wheel,
+    stays: &mut Vec<usize>,
+    gone: &[usize],
+) -> bool {
     for tick in 5001..=5300u64 {
-        let Some(key) = put(alloc, wheel, tick) else {
-            return false;
-        };
-        if !gone.contains(&key) || stays.push(key).is_err() {
+        let key = put(rt, alloc, wheel, tick);
+        if !gone.contains(&key) {
             return false;
         }
+        stays.push(key).expect(rt, "memory");
     }
     true
 }
@@ -204,19 +227,8 @@ fn keys_are_given_again(rt: HostRuntime) {
     let mut wheel = Wheel::new(alloc).expect(&rt, "memory");
     let mut stays = Vec::new(alloc);
     let mut gone = Vec::new(alloc);
-    assert!(rt; put_thirds(alloc, &mut wheel, &mut stays, &mut gone).is_some());
+    put_thirds(&rt, alloc, &mut wheel, &mut stays, &mut gone);
     give_all_back(&mut wheel, &gone);
-    assert!(rt; put_again(alloc, &mut wheel, &mut stays, &gone));
-    assert!(rt; stays.len() == 900 && come_out(&mut wheel, &stays));
-}
-
-#[test]
-fn wheels(rt: HostRuntime) {
-    let alloc = rt.alloc();
-    assert_eq!(rt; wrong_next(alloc), None);
-    let mut wheel = Wheel::new(alloc).expect(&rt, "memory");
-    assert!(rt; one_key(alloc, &mut wheel) == Some(true));
-    let mut wheel = Wheel::new(alloc).expect(&rt, "memory");
-    assert!(rt; far_keys(alloc, &mut wheel) == Some(true));
-    assert!(rt; matches!(in_turn_on_new::<Brand>(alloc, Blank::new(1)), Ok(true)));
+    let are_known = put_again(&rt, alloc, &mut wheel, &mut stays, &gone);
+    assert!(rt; are_known && stays.len() == 900 && come_out(&mut wheel, &stays));
 }
