@@ -162,23 +162,23 @@ fn takes_works(alloc: Global, trace: &mut Trace, woke: Woke, ended: Ended) -> Op
     taken(alloc, trace, &event, &report)
 }
 
-// What is answered of a spawn and of a turn, each told wrongly first.
-fn answers_in_turn(alloc: Global, trace: &mut Trace) -> [Option<(bool, u128)>; 5] {
-    [
+// Whether a spawn and a turn are taken where each is told wrongly first.
+fn are_taken_at_last(alloc: Global, trace: &mut Trace) -> bool {
+    let answers = [
         takes_spawn(alloc, trace, 1),
         takes_spawn(alloc, trace, 0),
         takes_works(alloc, trace, Woke::Queued, Ended::Again),
         takes_works(alloc, trace, Woke::Noted, Ended::Idle),
         takes_works(alloc, trace, Woke::Noted, Ended::Again),
-    ]
+    ];
+    let (no, yes) = (Some((false, 0)), Some((true, 0)));
+    answers == [no, yes, no, no, Some((true, 1))]
 }
 
 #[test]
 fn a_pair_that_fails_changes_nothing(rt: HostRuntime) {
     let mut trace = Trace::new(rt.alloc(), LIMITS, Blocking::Attached);
-    let answers = answers_in_turn(rt.alloc(), &mut trace);
-    let (no, yes) = (Some((false, 0)), Some((true, 0)));
-    assert!(rt; answers == [no, yes, no, no, Some((true, 1))]);
+    assert!(rt; are_taken_at_last(rt.alloc(), &mut trace));
 }
 
 const BLOCK: TurnStep = TurnStep::Act(Act::Block(3));
@@ -224,12 +224,18 @@ fn takes(alloc: Global, trace: &mut Trace, place: u64) -> bool {
     taken(alloc, trace, &event_at(alloc, place), &told) == Some((true, 0))
 }
 
+fn takes_each(alloc: Global, trace: &mut Trace) -> bool {
+    let mut are_taken = true;
+    for place in 0..9 {
+        are_taken = takes(alloc, trace, place) && are_taken;
+    }
+    are_taken
+}
+
 #[test]
 fn jobs_and_the_inbox(rt: HostRuntime) {
     let mut trace = Trace::new(rt.alloc(), LIMITS, Blocking::Attached);
-    for place in 0..9 {
-        assert!(rt; takes(rt.alloc(), &mut trace, place));
-    }
+    assert!(rt; takes_each(rt.alloc(), &mut trace));
 }
 
 // Moves, a clock step before them and one at them, and a drain.

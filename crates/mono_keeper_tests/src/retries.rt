@@ -168,23 +168,28 @@ fn polled_in_time<R: Host, F: TaskFuture<Desk, Output = Result<u64, RetryError<u
     [first, early, second, polled(rt, alloc, cx, retry)]
 }
 
-// The same of a retry of at most three attempts, where this one is the good one, and whether its sleep is gone then.
-fn waits<R: Host>(rt: &R, alloc: Global, cx: &mut Desk, good: u64) -> Option<([Answer; 4], bool)> {
+// Whether a retry of at most three attempts, where this one is the good one, answers so at the last of these polls alone,
+// and its sleep is gone then.
+fn ends_so<R: Host>(rt: &R, alloc: Global, cx: &mut Desk, good: u64, last: Answer) -> bool {
     let make = |number| Attempt { number, good };
-    let mut retry = Retry::new(alloc, cx, make, 100, 250, 3).ok()?;
+    let Ok(mut retry) = Retry::new(alloc, cx, make, 100, 250, 3) else {
+        return false;
+    };
     let answers = polled_in_time(rt, alloc, cx, &mut retry);
     let is_gone = cx.sleep_elapsed(0) == Err(Error::Shutdown);
     retry.cancel(cx);
-    Some((answers, is_gone))
+    is_gone && answers == [WAIT, WAIT, WAIT, last]
 }
 
-// The next attempt would be past the last instant.
-fn is_far<R: Host>(rt: &R, alloc: Global, cx: &mut Desk) -> Answer {
+// Whether the next attempt is told to be too far.
+fn is_far<R: Host>(rt: &R, alloc: Global, cx: &mut Desk) -> bool {
     let make = |number| Attempt { number, good: 0 };
-    let mut retry = Retry::new(alloc, cx, make, 1, 1, 2).ok()?;
+    let Ok(mut retry) = Retry::new(alloc, cx, make, 1, 1, 2) else {
+        return false;
+    };
     let answer = polled(rt, alloc, cx, &mut retry);
     retry.cancel(cx);
-    answer
+    answer == Some(Poll::Ready(Err(RetryError::Far(1))))
 }
 
 // A desk at a time.
@@ -204,23 +209,17 @@ const LAST: Answer = Some(Poll::Ready(Err(RetryError::Last(3))));
 
 const WELL: Answer = Some(Poll::Ready(Ok(3)));
 
+// One gives up, and one goes well at its third attempt.
 #[test]
-fn a_retry_that_gives_up(rt: HostRuntime) {
-    let mut cx = desk_at(rt.alloc(), 0).expect(&rt, "a desk");
-    let answers = waits(&rt, rt.alloc(), &mut cx, 0);
-    assert!(&rt; answers == Some(([WAIT, WAIT, WAIT, LAST], true)));
-}
-
-#[test]
-fn a_retry_that_goes_well(rt: HostRuntime) {
-    let mut cx = desk_at(rt.alloc(), 0).expect(&rt, "a desk");
-    let answers = waits(&rt, rt.alloc(), &mut cx, 3);
-    assert!(&rt; answers == Some(([WAIT, WAIT, WAIT, WELL], true)));
+fn retries_that_end(rt: HostRuntime) {
+    for (good, last) in [(0, LAST), (3, WELL)] {
+        let mut cx = desk_at(rt.alloc(), 0).expect(&rt, "a desk");
+        assert!(&rt; ends_so(&rt, rt.alloc(), &mut cx, good, last));
+    }
 }
 
 #[test]
 fn a_retry_that_is_far(rt: HostRuntime) {
     let mut cx = desk_at(rt.alloc(), MAX_NANOS).expect(&rt, "a desk");
-    let answer = is_far(&rt, rt.alloc(), &mut cx);
-    assert!(&rt; answer == Some(Poll::Ready(Err(RetryError::Far(1)))));
+    assert!(&rt; is_far(&rt, rt.alloc(), &mut cx));
 }
