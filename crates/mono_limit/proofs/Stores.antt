@@ -1,5 +1,5 @@
 -- The buckets that are kept, whatever changes of them.
-use Rattle.std.proofs.Common.{◌≡◌, ◌<◌, ◌≤◌, inl, inr, ℕ, ◌-◌, zero, suc, true, cond, List, [], ◌∷◌, ◌++◌, length, get_or, set, Some, None, Option, refl, ap, sym, subst, ◌∙◌, arith}
+use Rattle.std.proofs.Common.{◌≡◌, ◌<◌, ◌≤◌, inl, inr, ℕ, ◌-◌, zero, suc, true, false, cond, List, [], ◌∷◌, ◌++◌, length, get_or, set, Some, None, Option, refl, ap, sym, subst, ◌∙◌, arith}
 use Rattle.std.specs.Prelude.{Result, Ok, Err, map, option_map, ◌||◌, ◌==◌, ◌^◌}
 use Rattle.std.proofs.lemmas.Bool.{cases_eq, cases_lt, le-leb}
 use Rattle.std.proofs.lemmas.List.{map-set, map-append, get_or-map, get_or_past, get_or-set_same, get_or-set_other, get_or_push, get_or_append_left, length-set, length-map, length-append}
@@ -38,6 +38,17 @@ stored-push g stored one are is b default inside = elim (cases_lt b (length stor
   | inl before ↦ subst (IsStored g) (sym (get_or_append_left stored (one ∷ []) default b before)) (are b default before)
   | inr last ↦ subst (IsStored g) (sym (get_or_push stored one default b (omega (arith, last, inside, length-append stored (one ∷ []))))) is
 ]
+
+-- a further bucket, whose period is in range, stands behind the others
+in-range : (n : ℕ) → is_out_of_range n ≡ false → 0 < n
+in-range zero none = absurd cc
+in-range (suc n) none = omega arith
+
+pub stored-further : (g : ℕ) (old middle new : List StoredBucket) (one : StoredBucket) → middle ≡ old → new ≡ middle ++ one ∷ [] → AreStored g old →
+    is_out_of_range one.period ≡ false → one.tokens ≤ one.burst → one.origin ≤ g → one.ended ≡ 0 → AreStored g new
+stored-further g old middle new one kept pushed are period full began ended =
+    subst (AreStored g) (sym (pushed ∙ ap (λ xs. xs ++ one ∷ []) kept))
+    (stored-push g old one are record { has_period = in-range one.period period; holds = full; began = began; no_more = omega (arith, ended) })
 
 -- ---- a bucket changes
 pub stored-set : (g : ℕ) (stored : List StoredBucket) (b : ℕ) (one : StoredBucket) → AreStored g stored → IsStored g one → AreStored g (set stored b one)
