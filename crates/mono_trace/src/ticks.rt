@@ -19,8 +19,13 @@ fn raise(counts: &mut BTreeMap<u128, u64>, tick: u128) -> Result<(), AllocError>
     ensures { OnOk result ((f : ℕ → ℕ) → AreCounts f counts.old → AreCounts (one_more f tick) counts.new) }
 {
     let count = counts.entry(tick)?.or_insert(0);
-    *count = count.checked_add(1).ok_or(AllocError)?;
-    Ok(())
+    match count.checked_add(1) {
+        None => Err(AllocError),
+        Some(more) => {
+            *count = more;
+            Ok(())
+        }
+    }
 }
 
 /// One sleep less is armed at a tick.
