@@ -148,7 +148,7 @@ fn is_kept<R: Host>(rt: &R, alloc: Global, cx: &mut Board) -> bool {
     }
     let output = kept.take_output();
     let again = kept.take_output();
-    before == None && ready.is_ready() && output == Some(5) && again == None && cx.notes == 16
+    (before, output, again) == (None, Some(5), None) && ready.is_ready() && cx.notes == 16
 }
 
 /// Whether a closure greets at its poll.

@@ -7,18 +7,23 @@ fn expires(sessions: &mut Sessions, millis: u32, gone: &mut Vec<u64>, told: &[u6
     sessions.expire_all(at_millis(millis), gone).is_ok() && gone.as_slice() == told
 }
 
+// Whether two sessions, the first until 20 ms and the second until 10, are gone in order, while the first is moved.
+fn expire_in_order(sessions: &mut Sessions, gone: &mut Vec<u64>) -> bool {
+    // none is gone before the first deadline, and the second session at the deadline that the first one had
+    let none = expires(sessions, 9, gone, &[]);
+    let is_moved = sessions.touch(0, at_millis(30)).is_ok();
+    let second = expires(sessions, 20, gone, &[1]);
+    // a session that is gone can't be moved, and the other one is gone at its new deadline
+    let is_refused = sessions.touch(1, at_millis(40)).is_err();
+    none && is_moved && second && is_refused && expires(sessions, 30, gone, &[1, 0])
+}
+
 #[test]
 fn sessions_expire_in_order(rt: HostRuntime) {
-    let alloc = rt.alloc();
-    let mut sessions = Sessions::new(alloc, 8).expect(&rt, "memory");
-    let mut gone = Vec::new(alloc);
-    assert!(rt; sessions.open(alloc, at_millis(20)) == Ok(0));
-    assert!(rt; sessions.open(alloc, at_millis(10)) == Ok(1));
-    // none is gone before the first deadline, and the second session at the deadline that the first one had
-    assert!(rt; expires(&mut sessions, 9, &mut gone, &[]));
-    assert!(rt; sessions.touch(0, at_millis(30)).is_ok());
-    assert!(rt; expires(&mut sessions, 20, &mut gone, &[1]));
-    // a session that is gone can't be moved, and the other one is gone at its new deadline
-    assert!(rt; sessions.touch(1, at_millis(40)).is_err());
-    assert!(rt; expires(&mut sessions, 30, &mut gone, &[1, 0]));
+    let mut sessions = Sessions::new(rt.alloc(), 8).expect(&rt, "memory");
+    let mut gone = Vec::new(rt.alloc());
+    let first = sessions.open(rt.alloc(), at_millis(20));
+    let second = sessions.open(rt.alloc(), at_millis(10));
+    let are_open = (first, second) == (Ok(0), Ok(1));
+    assert!(rt; are_open && expire_in_order(&mut sessions, &mut gone));
 }
