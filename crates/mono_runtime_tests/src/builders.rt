@@ -1,12 +1,11 @@
 // What a builder sets, and a start on the defaults.
 ghost use Rattle.std.specs.Prelude.{◌≡◌, None};
 
-use crate::running::answer_of;
 use crate::turning::Gives;
-use crate::waits::{Work, ready};
+use crate::waits::{Work, Worked, outcome_of, ready};
 use mono_blocking::{BlockingStrategy, NoPool};
 use mono_model::Host;
-use mono_rt::{RunError, Runtime, RuntimeBuilder, StepDriver, TimeDriver, start};
+use mono_rt::{RunError, RuntimeBuilder, StepDriver, TimeDriver, start};
 use std::alloc::Global;
 use std::process::Abort;
 
@@ -25,10 +24,7 @@ fn entries_are_at_least_256(rt: HostRuntime) {
 }
 
 /// A built runtime with timers and a journal.
-fn built<R: Abort>(
-    rt: &R,
-    alloc: Global,
-) -> Runtime<Work, u64, TimeDriver<StepDriver>, NoPool<Gives>>
+fn built<R: Abort>(rt: &R, alloc: Global) -> Worked<TimeDriver<StepDriver>>
     ensures { result.cx.parts.tasks.turn ≡ None }
 {
     builder(alloc)
@@ -43,7 +39,7 @@ fn built<R: Abort>(
 fn runs<R: Host + Abort>(rt: &R, alloc: Global) -> bool {
     let one = ready(rt, alloc, 1);
     let mut runtime = built(rt, alloc);
-    let answer = answer_of(rt, alloc, &mut runtime, one, 10);
+    let answer = outcome_of(rt, alloc, &mut runtime, one, 10);
     let is_kept = !runtime.journal().is_full();
     let has_no_pool = runtime.into_pool().is_none();
     answer == Ok(1) && is_kept && has_no_pool

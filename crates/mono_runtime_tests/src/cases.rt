@@ -109,7 +109,7 @@ fn a_pool<R: Abort>(rt: &R, kind: Kind, main: &Turns) -> BlockingHandle<Keeps> {
 }
 
 /// How often the pool has refused that a runtime hands back, if it has one.
-fn refusals_of(runtime: Sleeping<Keeps>) -> Option<u64> {
+pub(crate) fn refusals_of(runtime: Sleeping<Keeps>) -> Option<u64> {
     match runtime.into_pool() {
         Some(pool) => Some(pool.refusals),
         None => None,

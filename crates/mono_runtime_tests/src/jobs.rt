@@ -1,5 +1,5 @@
 // Tasks that ask for blocking jobs, and what the journal keeps of it.
-use crate::cases::{Case, Kind, Turn, UNTOLD, holds};
+use crate::cases::{Case, Kind, Turn, UNTOLD, holds, refusals_of};
 use crate::running::{answer_of, main_task, sleeping};
 use crate::turning::{
     AT_CAPACITY, CANCELED, Call, IDLE, Keeps, NO, NO_HANDLE, NO_OUTPUT, NO_POOL, NO_TASK, PENDING,
@@ -454,18 +454,22 @@ fn ends_with_the_drop(journal: &Journal) -> bool {
     }
 }
 
-const WAKER_AND_POLL: Task = Task {
-    calls: &[Call::Block(1), Call::Waker, Call::Poll(0)],
-    ..IDLE
-};
+/// Makes a job, and asks for a waker and for the job's output.
+fn waker_and_poll() -> Task {
+    Task {
+        calls: &[Call::Block(1), Call::Waker, Call::Poll(0)],
+        ..IDLE
+    }
+}
 
 /// Whether the journal of such a task ends so, whatever its answer.
 fn drops_last<R: Host + Abort>(rt: &R, alloc: Global) -> bool {
-    let main = main_task(rt, alloc, WAKER_AND_POLL);
+    let main = main_task(rt, alloc, waker_and_poll());
     let local = BlockingHandle::<Keeps>::Empty(BlockingStrategy::ExecuteLocal);
     let mut runtime = sleeping(rt, alloc, local, 4);
     drop(answer_of(rt, alloc, &mut runtime, main, 1000));
-    ends_with_the_drop(runtime.journal())
+    let is_so = ends_with_the_drop(runtime.journal());
+    refusals_of(runtime).is_none() && is_so
 }
 
 /// Also where one of the call's allocations fails: `rt try --test --fail-alloc N` lets the Nth one fail.

@@ -4,8 +4,7 @@ ghost use Rattle.std.specs.Prelude.{◌≡◌, None};
 use crate::turning::{Gives, Shared, Task, Turns};
 use mono_blocking::{BlockingHandle, ThreadPool};
 use mono_model::Host;
-use mono_rt::{Cx, Driver, Instant, Limits, ListClock, RunError, Runtime, ThreadDriver};
-use mono_task::TaskFuture;
+use mono_rt::{Driver, Instant, Limits, ListClock, RunError, Runtime, ThreadDriver};
 use std::alloc::Global;
 use std::process::Abort;
 use std::sync::atomic::AtomicU64;
@@ -69,19 +68,14 @@ pub(crate) fn main_task<R: Abort>(rt: &R, alloc: Global, task: Task) -> Turns {
 }
 
 /// The answer of a main task with so many units. No clause speaks of it, so that callers have none to carry.
-pub(crate) fn answer_of<F, D, P, R: Host>(
+pub(crate) fn answer_of<P: ThreadPool<Job = Gives> + Drop, R: Host>(
     rt: &R,
     alloc: Global,
-    runtime: &mut Runtime<F, u64, D, P>,
-    main: F,
+    runtime: &mut Sleeping<P>,
+    main: Turns,
     units: u64,
 ) -> Result<u64, RunError>
-where
-    F: TaskFuture<Cx<F, u64, P, D::Unpark>, Output = u64> + Drop,
-    D: Driver,
-    P: ThreadPool + Drop,
-    requires callable { (f : F) → F.can_poll f }
-    requires rests { runtime.old.cx.parts.tasks.turn ≡ None }
+    requires { runtime.old.cx.parts.tasks.turn ≡ None }
 {
     runtime.block_on(rt, alloc, main, units)
 }

@@ -1,4 +1,5 @@
 // Another thread that wakes a sleeping runtime.
+use crate::cases::refusals_of;
 use crate::running::{answer_of, main_task, sleeping};
 use crate::turning::{Call, IDLE, Keeps, Shared, Task};
 use mono_blocking::{BlockingHandle, BlockingStrategy};
@@ -14,12 +15,14 @@ use std::{thread, time};
 const WAKES: u64 = 10000;
 
 /// Hands its waker out in its first turn, and is ready in the turn behind the last wake.
-const WOKEN: Task = Task {
-    calls: &[Call::Waker],
-    turns: WAKES,
-    answers: &[0],
-    ..IDLE
-};
+fn woken_task() -> Task {
+    Task {
+        calls: &[Call::Waker],
+        turns: WAKES,
+        answers: &[0],
+        ..IDLE
+    }
+}
 
 /// Whether the task has had more turns than this, within some seconds.
 fn has_had<R: Host>(rt: &R, shared: &Shared, turns: u64) -> bool {
@@ -76,7 +79,7 @@ fn wakes<R: Host + Abort>(rt: &R, shared: &Shared) -> u64 {
 
 /// Whether a main task that another thread wakes is ready with 1, how many turns it had, and how often it had none in time.
 fn woken<R: Host + Abort + Copy + Send + 'static>(rt: R, alloc: Global) -> (bool, u64, u64) {
-    let main = main_task(&rt, alloc, WOKEN);
+    let main = main_task(&rt, alloc, woken_task());
     let ours = Arc::try_clone(&main.shared).expect(&rt, "memory");
     let theirs = Arc::try_clone(&main.shared).expect(&rt, "memory");
     let pool = BlockingHandle::<Keeps>::Empty(BlockingStrategy::Panic);
@@ -84,7 +87,9 @@ fn woken<R: Host + Abort + Copy + Send + 'static>(rt: R, alloc: Global) -> (bool
     let other = thread::spawn(&rt, move || wakes(&rt, &theirs)).expect(&rt, "a thread");
     let is_ready = matches!(answer_of(&rt, alloc, &mut runtime, main, 1000000), Ok(1));
     let lost = other.join(&rt);
-    (is_ready, ours.turns.load(Ordering::SeqCst), lost)
+    let has_no_pool = refusals_of(runtime).is_none();
+    let turns = ours.turns.load(Ordering::SeqCst);
+    (is_ready && has_no_pool, turns, lost)
 }
 
 #[test]
