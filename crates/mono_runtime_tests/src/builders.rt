@@ -1,9 +1,13 @@
 // What a builder sets, and a start on the defaults.
-use crate::waits::{Gives, Work, ready};
+ghost use Rattle.std.specs.Prelude.{◌≡◌, None};
+
+use crate::turning::Gives;
+use crate::waits::{Work, Worked, outcome_of, ready};
 use mono_blocking::{BlockingStrategy, NoPool};
 use mono_model::Host;
-use mono_rt::{RunError, Runtime, RuntimeBuilder, StepDriver, TimeDriver, start};
-use std::alloc::{AllocError, Global};
+use mono_rt::{RunError, RuntimeBuilder, StepDriver, TimeDriver, start};
+use std::alloc::Global;
+use std::process::Abort;
 
 /// A builder on a driver that never waits.
 fn builder(alloc: Global) -> RuntimeBuilder<StepDriver, NoPool<Gives>> {
@@ -19,42 +23,42 @@ fn entries_are_at_least_256(rt: HostRuntime) {
     assert!(rt; builder(alloc).with_entries(100).enable_all().entries() == 256);
 }
 
-/// Whether a main task on a built runtime is ready with 1, and the journal was kept.
-fn runs<R: Host>(rt: &R, alloc: Global) -> Option<bool> {
-    let one = ready(alloc, 1)?;
-    let built = builder(alloc)
+/// A built runtime with timers and a journal.
+fn built<R: Abort>(rt: &R, alloc: Global) -> Worked<TimeDriver<StepDriver>>
+    ensures { result.cx.parts.tasks.turn ≡ None }
+{
+    builder(alloc)
         .with_blocking_strategy(BlockingStrategy::ExecuteLocal)
         .with_journal()
         .enable_timer()
-        .build(alloc);
-    let Ok(mut runtime) = built else {
-        return None;
-    };
-    let answer = runtime.block_on(rt, alloc, one, 10);
-    let is_so = answer == Ok(1) && !runtime.journal().is_full();
-    Some(is_so && runtime.into_pool().is_none())
+        .build(alloc)
+        .expect(rt, "memory")
+}
+
+/// Whether a main task on a built runtime is ready with 1, and the journal was kept.
+fn runs<R: Host + Abort>(rt: &R, alloc: Global) -> bool {
+    let one = ready(rt, alloc, 1);
+    let mut runtime = built(rt, alloc);
+    let answer = outcome_of(rt, alloc, &mut runtime, one, 10);
+    let is_kept = !runtime.journal().is_full();
+    let has_no_pool = runtime.into_pool().is_none();
+    answer == Ok(1) && is_kept && has_no_pool
 }
 
 #[test]
 fn a_built_runtime_runs(rt: HostRuntime) {
-    assert!(rt; runs(&rt, rt.alloc()) == Some(true));
+    assert!(rt; runs(&rt, rt.alloc()));
 }
 
 /// How a main task on a runtime with the defaults ends.
-fn started<R: Host>(
-    rt: &R,
-    alloc: Global,
-    main: Option<Work>,
-    turns: u64,
-) -> Option<Result<u64, RunError>> {
-    let main = main?;
+fn started<R: Host>(rt: &R, alloc: Global, main: Work, units: u64) -> Result<u64, RunError> {
     let driver = StepDriver::new(Vec::new(alloc));
-    Some(start::<_, _, _, NoPool<Gives>, _>(rt, alloc, driver, main, turns))
+    start::<_, _, _, NoPool<Gives>, _>(rt, alloc, driver, main, units)
 }
 
 #[test]
 fn a_start_ends_with_the_output_or_the_turns(rt: HostRuntime) {
     let alloc = rt.alloc();
-    assert!(rt; started(&rt, alloc, ready(alloc, 1), 10) == Some(Ok(1)));
-    assert!(rt; started(&rt, alloc, Some(Work::Waits), 3) == Some(Err(RunError::Turns)));
+    assert!(rt; started(&rt, alloc, ready(&rt, alloc, 1), 10) == Ok(1));
+    assert!(rt; started(&rt, alloc, Work::Waits, 3) == Err(RunError::Turns));
 }

@@ -1,16 +1,12 @@
 // Runs of a runtime whose main task asks for jobs, and what is to be told of them.
-ghost use Rattle.std.specs.Prelude.{◌≡◌, None, IfOk};
-
-use crate::turning::{Gives, Keeps, Task, Turns};
-use mono_blocking::{BlockingHandle, BlockingStrategy, ThreadPool};
+use crate::running::{Sleeping, answer_of, main_task, sleeping};
+use crate::turning::{Keeps, Task, Turns};
+use mono_blocking::{BlockingHandle, BlockingStrategy};
 use mono_model::Host;
-use mono_rt::{
-    Entry, Event, Instant, Journal, Limits, ListClock, Reply, Report, Runtime, ThreadDriver,
-    TurnStep,
-};
-use std::alloc::{AllocError, Global};
-use std::sync::atomic::AtomicU64;
-use std::sync::{Arc, Mutex};
+use mono_rt::{Entry, Event, Journal, Reply, Report, TurnStep};
+use std::alloc::Global;
+use std::process::Abort;
+use std::sync::Arc;
 
 /// What is done with jobs.
 #[derive(Clone, Copy)]
@@ -48,56 +44,6 @@ pub(crate) struct Case {
     pub(crate) entries: usize,
     pub(crate) is_full: bool,
     pub(crate) refusals: Option<u64>,
-}
-
-/// A runtime that sleeps by a thread's park.
-pub(crate) type Sleeping<F, P> = Runtime<F, u64, ThreadDriver<ListClock>, P>;
-
-/// A runtime with this pool, where so many jobs may be kept.
-pub(crate) fn a_runtime<F: Drop, P: ThreadPool<Job = Gives> + Drop>(
-    alloc: Global,
-    pool: BlockingHandle<P>,
-    jobs: u64,
-) -> Result<Sleeping<F, P>, AllocError>
-    ensures { IfOk result (λ runtime. runtime.cx.parts.tasks.turn ≡ None) }
-{
-    let Some(zero) = Instant::from_nanos(0) else {
-        unreachable!()
-    };
-    let limits = Limits {
-        tasks: 2,
-        jobs,
-        sleeps: 2,
-    };
-    let driver = ThreadDriver::new(alloc, ListClock::new(vec![in alloc; zero]?))?;
-    Runtime::new(alloc, driver, pool, limits, false, zero)
-}
-
-/// The future of a task, whose pool has no job yet.
-pub(crate) fn main_task(alloc: Global, task: Task) -> Result<Turns, AllocError> {
-    let flag = Arc::new(alloc, AtomicU64::new(0))?;
-    let waiting = Arc::new(alloc, Mutex::new(Vec::new(alloc)))?;
-    Ok(Turns {
-        task,
-        seen: Vec::new(alloc),
-        waiting,
-        flag,
-    })
-}
-
-/// The runtime of a main task that is ready with 1.
-pub(crate) fn ran<R: Host, P: ThreadPool<Job = Gives> + Drop>(
-    rt: &R,
-    alloc: Global,
-    pool: BlockingHandle<P>,
-    jobs: u64,
-    main: Turns,
-) -> Option<Sleeping<Turns, P>> {
-    let mut runtime = a_runtime(alloc, pool, jobs).ok()?;
-    match runtime.block_on(rt, alloc, main, 1000) {
-        Ok(1) => Some(runtime),
-        _ => None,
-    }
 }
 
 /// Whether this is the turn at this place of the journal, if it is told.
@@ -149,38 +95,35 @@ fn tells(journal: &Journal, case: &Case) -> bool {
 }
 
 /// A pool of this kind, which shares what waits with the task.
-fn a_pool(kind: Kind, main: &Turns) -> Result<BlockingHandle<Keeps>, AllocError> {
+fn a_pool<R: Abort>(rt: &R, kind: Kind, main: &Turns) -> BlockingHandle<Keeps> {
     match kind {
-        Kind::Pool(refused) => Ok(BlockingHandle::Attached(Keeps {
-            waiting: Arc::try_clone(&main.waiting)?,
+        Kind::Pool(refused) => BlockingHandle::Attached(Keeps {
+            shared: Arc::try_clone(&main.shared).expect(rt, "memory"),
             asked: 0,
             refused,
             refusals: 0,
-        })),
-        Kind::Local => Ok(BlockingHandle::Empty(BlockingStrategy::ExecuteLocal)),
-        Kind::Panic => Ok(BlockingHandle::Empty(BlockingStrategy::Panic)),
+        }),
+        Kind::Local => BlockingHandle::Empty(BlockingStrategy::ExecuteLocal),
+        Kind::Panic => BlockingHandle::Empty(BlockingStrategy::Panic),
     }
 }
 
-/// The runtime of a case, whose main task had the answers that are told.
-fn of_case<R: Host>(rt: &R, alloc: Global, case: &Case) -> Option<Sleeping<Turns, Keeps>> {
-    let main = main_task(alloc, case.task).ok()?;
-    let pool = a_pool(case.kind, &main).ok()?;
-    ran(rt, alloc, pool, case.jobs, main)
-}
-
 /// How often the pool has refused that a runtime hands back, if it has one.
-fn refusals_of(runtime: Sleeping<Turns, Keeps>) -> Option<u64> {
+pub(crate) fn refusals_of(runtime: Sleeping<Keeps>) -> Option<u64> {
     match runtime.into_pool() {
         Some(pool) => Some(pool.refusals),
         None => None,
     }
 }
 
-/// Whether a case comes out as it is told.
-pub(crate) fn holds<R: Host>(rt: &R, alloc: Global, case: &Case) -> bool {
-    match of_case(rt, alloc, case) {
-        Some(runtime) => { tells(runtime.journal(), case) && refusals_of(runtime) == case.refusals }
-        None => false,
-    }
+/// Whether a case comes out as it is told: the task had the answers that are told and is ready with 1, the journal tells
+/// what is told, and the pool has refused as often.
+pub(crate) fn holds<R: Host + Abort>(rt: &R, alloc: Global, case: &Case) -> bool {
+    let main = main_task(rt, alloc, case.task);
+    let pool = a_pool(rt, case.kind, &main);
+    let mut runtime = sleeping(rt, alloc, pool, case.jobs);
+    let is_ready = matches!(answer_of(rt, alloc, &mut runtime, main, 1000), Ok(1));
+    let is_told = tells(runtime.journal(), case);
+    let refusals = refusals_of(runtime);
+    is_ready && is_told && refusals == case.refusals
 }

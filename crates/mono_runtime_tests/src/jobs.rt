@@ -1,13 +1,15 @@
 // Tasks that ask for blocking jobs, and what the journal keeps of it.
-use crate::cases::{Case, Kind, Turn, UNTOLD, a_runtime, holds, main_task};
+use crate::cases::{Case, Kind, Turn, UNTOLD, holds, refusals_of};
+use crate::running::{answer_of, main_task, sleeping};
 use crate::turning::{
-    AT_CAPACITY, CANCELED, Call, Keeps, NO, NO_HANDLE, NO_OUTPUT, NO_POOL, NO_TASK, PENDING,
+    AT_CAPACITY, CANCELED, Call, IDLE, Keeps, NO, NO_HANDLE, NO_OUTPUT, NO_POOL, NO_TASK, PENDING,
     POOL_FAULT, TAKEN, Task, YES,
 };
 use mono_blocking::{BlockingHandle, BlockingStrategy};
 use mono_model::Host;
 use mono_rt::{Act, Entry, Event, How, Journal, Query, Refusal, Reply, TurnStep};
 use std::alloc::Global;
+use std::process::Abort;
 
 /// The poll of the first job.
 const POLL: TurnStep = TurnStep::Query(Query::Job(0));
@@ -29,15 +31,6 @@ const BLOCK_11: TurnStep = TurnStep::Act(Act::Block(11));
 const BLOCK_12: TurnStep = TurnStep::Act(Act::Block(12));
 
 const BLOCK_13: TurnStep = TurnStep::Act(Act::Block(13));
-
-/// A task that does nothing.
-const IDLE: Task = Task {
-    jobs: 0,
-    calls: &[],
-    later: &[],
-    untold: 0,
-    answers: &[],
-};
 
 /// A task of one turn, whose jobs are run on the caller, of which the journal keeps the spawn, the reading, the turn and the
 /// drop of the handle.
@@ -461,22 +454,26 @@ fn ends_with_the_drop(journal: &Journal) -> bool {
     }
 }
 
-const WAKER_AND_POLL: Task = Task {
-    calls: &[Call::Block(1), Call::Waker, Call::Poll(0)],
-    ..IDLE
-};
+/// Makes a job, and asks for a waker and for the job's output.
+fn waker_and_poll() -> Task {
+    Task {
+        calls: &[Call::Block(1), Call::Waker, Call::Poll(0)],
+        ..IDLE
+    }
+}
 
 /// Whether the journal of such a task ends so, whatever its answer.
-fn drops_last<R: Host>(rt: &R, alloc: Global) -> Option<bool> {
-    let main = main_task(alloc, WAKER_AND_POLL).ok()?;
+fn drops_last<R: Host + Abort>(rt: &R, alloc: Global) -> bool {
+    let main = main_task(rt, alloc, waker_and_poll());
     let local = BlockingHandle::<Keeps>::Empty(BlockingStrategy::ExecuteLocal);
-    let mut runtime = a_runtime(alloc, local, 4).ok()?;
-    drop(runtime.block_on(rt, alloc, main, 1000));
-    Some(ends_with_the_drop(runtime.journal()))
+    let mut runtime = sleeping(rt, alloc, local, 4);
+    drop(answer_of(rt, alloc, &mut runtime, main, 1000));
+    let is_so = ends_with_the_drop(runtime.journal());
+    refusals_of(runtime).is_none() && is_so
 }
 
 /// Also where one of the call's allocations fails: `rt try --test --fail-alloc N` lets the Nth one fail.
 #[test]
 fn the_main_handle_is_dropped_last(rt: HostRuntime) {
-    assert!(rt; drops_last(&rt, rt.alloc()) == Some(true));
+    assert!(rt; drops_last(&rt, rt.alloc()));
 }

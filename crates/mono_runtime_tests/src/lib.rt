@@ -14,6 +14,8 @@ mod naps;
 #[cfg(test)]
 mod pools;
 #[cfg(test)]
+mod running;
+#[cfg(test)]
 mod runtimes;
 #[cfg(test)]
 mod turning;

@@ -1,9 +1,10 @@
 // Naps on drivers that park often enough, and on ones that do not.
-use crate::waits::Gives;
+use crate::turning::Gives;
 use mono_blocking::NoPool;
 use mono_model::Host;
 use mono_rt::{Entry, Instant, Journal, RunError, StepDriver};
 use std::alloc::Global;
+use std::process::Abort;
 use std::time::Duration;
 use use_driver::nap_within;
 
@@ -22,7 +23,7 @@ fn parks_in(journal: &Journal) -> (u64, u64) {
 
 /// Whether a nap of so many milliseconds, within so many parks, ends with this answer, and the journal tells these parks and
 /// the milliseconds of all.
-fn is_nap<R: Host>(
+fn is_nap<R: Host + Abort>(
     rt: &R,
     alloc: Global,
     parks: u64,
@@ -30,15 +31,13 @@ fn is_nap<R: Host>(
     answer: Result<u64, RunError>,
     told: (u64, u64),
 ) -> bool {
-    let Some(start) = Instant::from_nanos(0) else {
-        return false;
-    };
+    let start = Instant::from_nanos(0).expect(rt, "an instant");
     let driver = StepDriver::new(Vec::new(alloc));
     let length = Duration::from_millis(milliseconds);
-    match nap_within::<_, NoPool<Gives>, _>(rt, alloc, driver, parks, length, start) {
-        Ok((napped, journal)) => napped == answer && parks_in(&journal) == told,
-        Err(_) => false,
-    }
+    let (napped, journal) = nap_within::<_, NoPool<Gives>, _>(
+        rt, alloc, driver, parks, length, start,
+    ).expect(rt, "memory");
+    napped == answer && parks_in(&journal) == told
 }
 
 #[test]

@@ -48,13 +48,19 @@ impl Job for Gives {
     }
 }
 
-/// The tasks that wait in a pool, which another runs or cancels.
-pub(crate) type Waiting = Mutex<Vec<BlockingTask<Gives>>>;
+/// What a task shares with a pool and with another thread: the tasks that wait in the pool, which another runs or cancels;
+/// the waker that the task handed out last; and how many turns it has had.
+#[derive(Drop)]
+pub(crate) struct Shared {
+    pub(crate) waiting: Mutex<Vec<BlockingTask<Gives>>>,
+    pub(crate) waker: Mutex<Option<RemoteWaker<UnparkHandle>>>,
+    pub(crate) turns: AtomicU64,
+}
 
 /// Keeps the tasks that it is offered, and refuses one of them, counted from 0.
 #[derive(Drop)]
 pub(crate) struct Keeps {
-    pub(crate) waiting: Arc<Waiting, Global>,
+    pub(crate) shared: Arc<Shared, Global>,
     pub(crate) asked: u64,
     pub(crate) refused: u64,
     pub(crate) refusals: u64,
@@ -80,7 +86,7 @@ impl ThreadPool for Keeps {
             self.refusals = self.refusals.saturating_add(1);
             return Offered::Refused;
         }
-        let mut waiting = self.waiting.lock(rt);
+        let mut waiting = self.shared.waiting.lock(rt);
         if waiting.reserve(1).is_err() {
             return Offered::Memory;
         }
@@ -92,9 +98,9 @@ impl ThreadPool for Keeps {
 }
 
 /// Runs all tasks that wait, or cancels them.
-fn end_all<R: Host>(rt: &R, waiting: &Waiting, runs: bool) {
+fn end_all<R: Host>(rt: &R, shared: &Shared, runs: bool) {
     for _ in 0..1000 {
-        let Some(task) = waiting.lock(rt).pop() else {
+        let Some(task) = shared.waiting.lock(rt).pop() else {
             return;
         };
         if runs {
@@ -124,7 +130,7 @@ pub(crate) enum Call {
     CancelAll,
     /// Sets the flag of jobs.
     SetFlag,
-    /// Asks for a remote waker.
+    /// Asks for a remote waker, which another thread may take.
     Waker,
 }
 
@@ -173,13 +179,6 @@ fn of_spawn(answer: &Result<JobHandle, SpawnError<Gives>>) -> u64 {
     }
 }
 
-fn of_waker(answer: &Result<RemoteWaker<UnparkHandle>, AllocError>) -> u64 {
-    match answer {
-        Ok(waker) => waker.task(),
-        Err(_) => NO_MEMORY,
-    }
-}
-
 fn of_output(output: Result<u64, JoinError>) -> u64 {
     output.unwrap_or(CANCELED)
 }
@@ -210,22 +209,34 @@ fn of_question(answer: Result<bool, Refusal>) -> u64 {
 }
 
 /// What a task does: so many jobs, numbered from 0, and these calls in its first turn, and the later ones, if there are
-/// any, in a second. All answers but so many at first are to be those that are told.
+/// any, in a second; it is ready behind these, once it has had so many turns. All answers but so many at first are to be
+/// those that are told.
 #[derive(Clone, Copy)]
 pub(crate) struct Task {
     pub(crate) jobs: u64,
     pub(crate) calls: &'static [Call],
     pub(crate) later: &'static [Call],
+    pub(crate) turns: u64,
     pub(crate) untold: usize,
     pub(crate) answers: &'static [u64],
 }
+
+/// A task that does nothing.
+pub(crate) const IDLE: Task = Task {
+    jobs: 0,
+    calls: &[],
+    later: &[],
+    turns: 0,
+    untold: 0,
+    answers: &[],
+};
 
 /// Does a task's calls, and is ready in its last turn, with 1 where the answers were those that are told, else with 0.
 #[derive(Drop)]
 pub(crate) struct Turns {
     pub(crate) task: Task,
     pub(crate) seen: Vec<u64>,
-    pub(crate) waiting: Arc<Waiting, Global>,
+    pub(crate) shared: Arc<Shared, Global>,
     pub(crate) flag: Arc<AtomicU64, Global>,
 }
 
@@ -241,12 +252,14 @@ impl Turns {
         }
     }
 
-    /// A job with this number, which ends once the flag is set.
-    fn on_flag(&self, number: u64) -> Gives {
-        Gives {
-            number,
-            flag: Arc::try_clone(&self.flag).ok(),
-        }
+    /// A job with this number, which ends at once or once the flag is set.
+    fn job(&self, number: u64, waits: bool) -> Gives {
+        let flag = if waits {
+            Arc::try_clone(&self.flag).ok()
+        } else {
+            None
+        };
+        Gives { number, flag }
     }
 
     /// Keeps an answer.
@@ -254,6 +267,37 @@ impl Turns {
         if self.seen.reserve(1).is_ok() {
             self.seen.push_reserved(answer);
         }
+    }
+
+    /// Keeps the task of a waker, and hands the waker out.
+    fn keep_waker<R: Host>(
+        &mut self,
+        rt: &R,
+        answer: Result<RemoteWaker<UnparkHandle>, AllocError>,
+    ) {
+        match answer {
+            Ok(waker) => {
+                self.keep(waker.task());
+                *self.shared.waker.lock(rt) = Some(waker);
+            }
+            Err(_) => self.keep(NO_MEMORY),
+        }
+    }
+
+    /// Makes a job with this number, which ends at once or once the flag is set, and keeps the answer.
+    fn block<R: Host, O: Outcome + Drop, P: ThreadPool<Job = Gives> + Drop>(
+        &mut self,
+        rt: &R,
+        alloc: Global,
+        cx: &mut Cx<Turns, O, P, UnparkHandle>,
+        number: u64,
+        waits: bool,
+    )
+        ensures { Reaches O.output_number cx.old cx.new }
+    {
+        let job = self.job(number, waits);
+        let answer = cx.spawn_blocking(rt, alloc, job);
+        self.keep(of_spawn(&answer));
     }
 
     /// One call, whose answer is kept.
@@ -267,21 +311,15 @@ impl Turns {
         ensures { Reaches O.output_number cx.old cx.new }
     {
         match call {
-            Call::Block(number) => {
-                let job = Gives { number, flag: None };
-                self.keep(of_spawn(&cx.spawn_blocking(rt, alloc, job)));
-            }
-            Call::BlockOnFlag(number) => {
-                let job = self.on_flag(number);
-                self.keep(of_spawn(&cx.spawn_blocking(rt, alloc, job)));
-            }
+            Call::Block(number) => self.block(rt, alloc, cx, number, false),
+            Call::BlockOnFlag(number) => self.block(rt, alloc, cx, number, true),
             Call::Poll(job) => self.keep(of_poll(cx.poll_job(job))),
             Call::Drop(job) => self.keep(of_drop(cx.drop_job(job))),
             Call::Finished(job) => self.keep(of_question(cx.job_finished(job))),
-            Call::RunAll => end_all(rt, &self.waiting, true),
-            Call::CancelAll => end_all(rt, &self.waiting, false),
+            Call::RunAll => end_all(rt, &self.shared, true),
+            Call::CancelAll => end_all(rt, &self.shared, false),
             Call::SetFlag => self.flag.store(1, Ordering::SeqCst),
-            Call::Waker => self.keep(of_waker(&cx.remote_waker())),
+            Call::Waker => self.keep_waker(rt, cx.remote_waker()),
         }
     }
 
@@ -303,10 +341,12 @@ impl Turns {
 
     /// The end of a turn.
     fn end(&mut self) -> Poll<u64> {
-        if self.task.later.len() > 0 {
-            self.task.jobs = 0;
-            self.task.calls = self.task.later;
-            self.task.later = &[];
+        let turns = self.shared.turns.fetch_add(1, Ordering::SeqCst);
+        let has_later = self.task.later.len() > 0;
+        self.task.jobs = 0;
+        self.task.calls = self.task.later;
+        self.task.later = &[];
+        if has_later || turns < self.task.turns {
             return Poll::Pending;
         }
         match self.seen.as_slice().get(self.task.untold..) {
