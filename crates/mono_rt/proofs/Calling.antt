@@ -8,6 +8,8 @@ use Rattle.mono_model.specs.Tasks.{Tasks, woken_if_any, spawned}
 use Rattle.mono_model.specs.Sleeps.{Sleeps, woken_by_arming}
 use Rattle.mono_task.specs.Schedule.{Schedule}
 use Rattle.mono_task.specs.Schedule as schedule
+use Rattle.mono_task.specs.declared.error.SpawnTask.{SpawnTask}
+use Rattle.mono_task.specs.declared.error.SpawnTask.TheVariants.{AtCapacity}
 use Rattle.mono_model.specs.SleepActs as machine
 use Rattle.mono_time.specs.Sleeps.{SleepTable, IsNoneArmedUpTo}
 use Rattle.mono_model.specs.SleepAnswers.{waker_in}
@@ -18,9 +20,10 @@ use Rattle.mono_time.specs.Stands.{StandsForSleeps}
 use Rattle.mono_model.specs.declared.error.Error.{Error}
 use Rattle.mono_time.specs.declared.timers.Timers.{Timers}
 use Rattle.mono_machine.specs.Machine.{Machine, with_tasks, with_sleeps}
-use Rattle.mono_machine.specs.Acts.{step_outcome, act_outcome, answered, refused, for_sleep}
+use Rattle.mono_machine.specs.Acts.{Outcome, step_outcome, act_outcome, answered, refused, for_sleep}
 use Rattle.mono_machine.specs.Acts.{reset as resetting}
 use Rattle.mono_machine.specs.declared.events.TurnStep.{TurnStep}
+use Rattle.mono_machine.specs.declared.events.TurnStep.TheVariants as step
 use Rattle.mono_machine.specs.declared.events.Reply.{Reply}
 use Rattle.mono_machine.specs.declared.events.Reply.TheVariants as reply
 use Rattle.mono_machine.specs.declared.events.Act.TheVariants as act
@@ -31,7 +34,15 @@ use Rattle.mono_rt.specs.Numbered.{numbered}
 use Rattle.mono_rt.specs.Stands.{Hosting, Matches}
 use Rattle.mono_rt.specs.Reached.{Leads, by_act, by_nothing}
 use Rattle.mono_rt.specs.declared.parts.Parts.{Parts}
-use Rattle.mono_rt.proofs.Numbering.{numbered-woken_if_any}
+use Rattle.mono_rt.proofs.Numbering.{numbered-woken_if_any, numbered-spawned, next_numbered, full_numbered}
+
+-- where a task was made there was room for it
+not_both : (r : Result ℕ SpawnTask) (t : ℕ) → r ≡ Ok t → r ≡ Err AtCapacity → ⊥
+not_both r t p q = cc
+
+pub had_room : (r : Result ℕ SpawnTask) (t : ℕ) (full : Bool) → r ≡ Ok t → (full ≡ true → r ≡ Err AtCapacity) → full ≡ false
+had_room r t true is full = absurd (not_both r t is (full refl))
+had_room r t false is full = refl
 
 -- a sleep is made
 pub added_at : (m : Machine) (k n : ℕ) → k ≡ n → n ≤ max_nanos → is_full m.sleeps.table m.sleeps.limit ≡ false → act_outcome (act.NewSleep k) m ≡ answered (reply.Sleep (next_number m.sleeps.table)) (with_sleeps m (machine.added m.sleeps n))
@@ -122,6 +133,35 @@ module _ {O B : Type 0} (number : O → ℕ) (hosting : B → Hosting) where
     jobs = ap (λ x. (hosting x).jobs) blocking ∙ st.jobs;
     strategy = ap (λ x. (hosting x).strategy) blocking ∙ st.strategy;
   }
+
+  -- a task is made, or there is no place for it
+  pub full_for : (c : Parts O B) (m : Machine) → Matches number hosting c m → (b : Bool) → is_full c.tasks.tasks.table c.tasks.tasks.limit ≡ b → is_full m.tasks.table m.tasks.limit ≡ b
+  full_for c m st b is = ap (λ x. is_full x.table x.limit) (sym st.tasks) ∙ full_numbered number c.tasks.tasks ∙ is
+
+  abbrev spawning : Machine → Bool → Outcome
+  spawning m b = cond b (refused refusal.AtCapacity m) (answered (reply.Task (next_number m.tasks.table)) (with_tasks m (spawned m.tasks)))
+
+  pub by_spawn : (c : Parts O B) (t : ℕ) (acts : Record) (s : Schedule O) → acts ≡ noted c.acts (step.Act act.Spawn) (reply.Task t)
+      → is_full c.tasks.tasks.table c.tasks.tasks.limit ≡ false → t ≡ next_number c.tasks.tasks.table → s ≡ schedule.with_tasks c.tasks (spawned c.tasks.tasks) → Leads number hosting c (with_all c s c.timers acts)
+  by_spawn c t acts s is room at after =
+      let d = with_all c s c.timers acts in
+      let outcome : (m : Machine) → Matches number hosting c m → act_outcome act.Spawn m ≡ spawning m false = λ m st. ap (spawning m) (full_for c m st false room) in
+      by_act number hosting c d (step.Act act.Spawn) (reply.Task t) is
+      (λ m st. ap reply.Task (at ∙ sym (next_numbered number c.tasks.tasks) ∙ ap (λ x. next_number x.table) st.tasks) ∙ sym (ap (λ o. o.reply) (outcome m st)))
+      (λ m st. subst (Matches number hosting d) (sym (ap (λ o. o.machine) (outcome m st))) (other_tasks c d m (spawned m.tasks) st (ap (λ x. numbered number x.tasks) after ∙ numbered-spawned number c.tasks.tasks ∙ ap spawned st.tasks) refl refl refl))
+      (λ m st. sleeps-stay c.timers c.timers m.sleeps _ (ap (λ o. o.machine.sleeps) (outcome m st)) (λ q. refl))
+      refl refl (ap (λ x. x.turn) after) (ap (λ x. x.turns) after) refl refl
+
+  pub by_no_place : (c : Parts O B) (acts : Record) (s : Schedule O) → acts ≡ noted c.acts (step.Act act.Spawn) (reply.Refused refusal.AtCapacity)
+      → is_full c.tasks.tasks.table c.tasks.tasks.limit ≡ true → s ≡ c.tasks → Leads number hosting c (with_all c s c.timers acts)
+  by_no_place c acts s is no_room same =
+      let d = with_all c s c.timers acts in
+      let outcome : (m : Machine) → Matches number hosting c m → act_outcome act.Spawn m ≡ spawning m true = λ m st. ap (spawning m) (full_for c m st true no_room) in
+      by_act number hosting c d (step.Act act.Spawn) (reply.Refused refusal.AtCapacity) is
+      (λ m st. sym (ap (λ o. o.reply) (outcome m st)))
+      (λ m st. subst (Matches number hosting d) (sym (ap (λ o. o.machine) (outcome m st))) (same_machine c d m same refl refl refl st))
+      (λ m st. sleeps-stay c.timers c.timers m.sleeps _ (ap (λ o. o.machine.sleeps) (outcome m st)) (λ q. refl))
+      refl refl (ap (λ x. x.turn) same) (ap (λ x. x.turns) same) refl refl
 
   pub by_refusal : (c : Parts O B) (s : Schedule O) → s ≡ c.tasks → Leads number hosting c (with_memory c s c.timers true)
   by_refusal c s is = by_nothing number hosting c (with_memory c s c.timers true) refl (λ m st. same_machine c (with_memory c s c.timers true) m is refl refl refl st) (λ q. refl) refl refl (ap (λ x. x.turn) is) (ap (λ x. x.turns) is) refl (λ h. refl)

@@ -34,15 +34,17 @@ impl Acts {
     pub fn with_room(alloc: Global) -> Result<Acts, AllocError>
         ensures { IfOk result (λ acts. acts ≡ no_acts) }
     {
-        let mut steps = Vec::new(alloc);
-        let mut replies = Vec::new(alloc);
-        steps.reserve(ROOM)?;
-        replies.reserve(ROOM)?;
-        Ok(Acts {
-            steps,
-            replies,
-            is_full: false,
-        })
+        match Vec::with_capacity(alloc, ROOM) {
+            Err(error) => Err(error),
+            Ok(steps) => match Vec::with_capacity(alloc, ROOM) {
+                Err(error) => Err(error),
+                Ok(replies) => Ok(Acts {
+                    steps,
+                    replies,
+                    is_full: false,
+                }),
+            },
+        }
     }
 
     /// No act yet, with room for 512. Where nobody reads the record it stays as it is.

@@ -20,10 +20,12 @@ use crate::calls::drop_reply_of;
 use crate::contexts::Cx;
 use crate::errors::RunError;
 use crate::journals::Entry;
+use crate::parts::Parts;
 use crate::runtimes::Runtime;
 use mono_blocking::ThreadPool;
 use mono_driver::Driver;
 use mono_exec::{Act, Event, Refusal, Reply, Report};
+use mono_jobs::Blockings;
 use mono_joinword::Outcome;
 use mono_model::Host;
 use mono_task::{SpawnTask, TaskFuture};
@@ -31,14 +33,26 @@ use mono_time::Instant;
 use std::alloc::Global;
 use std::time::Duration;
 
-impl<F: Drop, O: Outcome + Drop, D: Driver, P: ThreadPool + Drop> Runtime<F, O, D, P> {
+// Parks the driver, for so many milliseconds at most. The answer tells whether it failed.
+fn park_driver<D: Driver, R: Host>(rt: &R, driver: &mut D, wait: Option<u64>) -> bool
+    ensures { IsParked wait result (telling (D.readings driver.old) (D.time driver.old) (D.parks driver.old)) (telling (D.readings driver.new) (D.time driver.new) (D.parks driver.new)) }
+{
+    match wait {
+        Some(ticks) => driver
+            .park_timeout(rt, Duration::from_millis(ticks))
+            .is_err(),
+        None => driver.park(rt).is_err(),
+    }
+}
+
+impl<O: Outcome + Drop, P: ThreadPool + Drop> Parts<O, Blockings<P>> {
     /// How long the driver is parked, in milliseconds.
     fn wait_from(&self, now: Instant) -> Option<u64>
-        ensures wait { (m : Machine) → Matches O.output_number hosting_of self.now.cx.parts m → IsWait self.now.cx.parts.has_timers m (nanos_of now) result }
-        ensures next { IfSome result (λ v. (m : Machine) → Matches O.output_number hosting_of self.now.cx.parts m → WaitsForNext m (registered_of self.now.cx.parts.timers) (Some (nanos_of now)) v) }
+        ensures wait { (m : Machine) → Matches O.output_number hosting_of self.entry.now m → IsWait self.entry.now.has_timers m (nanos_of now) result }
+        ensures next { IfSome result (λ v. (m : Machine) → Matches O.output_number hosting_of self.entry.now m → WaitsForNext m (registered_of self.entry.now.timers) (Some (nanos_of now)) v) }
     {
-        if self.cx.parts.has_timers {
-            match self.cx.parts.timers.next_expiration_time() {
+        if self.has_timers {
+            match self.timers.next_expiration_time() {
                 None => None,
                 Some(tick) => Some(tick.saturating_sub(now.clock_tick())),
             }
@@ -46,22 +60,9 @@ impl<F: Drop, O: Outcome + Drop, D: Driver, P: ThreadPool + Drop> Runtime<F, O, 
             None
         }
     }
+}
 
-    /// Parks the driver, for so many milliseconds at most. The answer tells whether it failed.
-    fn park_driver<R: Host>(&mut self, rt: &R, wait: Option<u64>) -> bool
-        ensures cx { self.new.cx ≡ self.old.cx }
-        ensures journal { self.new.journal ≡ self.old.journal }
-        ensures told { IsParked wait result (telling (D.readings self.old.driver) (D.time self.old.driver) (D.parks self.old.driver)) (telling (D.readings self.new.driver) (D.time self.new.driver) (D.parks self.new.driver)) }
-    {
-        match wait {
-            Some(ticks) => self
-                .driver
-                .park_timeout(rt, Duration::from_millis(ticks))
-                .is_err(),
-            None => self.driver.park(rt).is_err(),
-        }
-    }
-
+impl<F: Drop, O: Outcome + Drop, D: Driver, P: ThreadPool + Drop> Runtime<F, O, D, P> {
     /// The clock is read, and the driver is parked. The answer tells whether it failed.
     fn park<R: Host>(&mut self, rt: &R) -> Result<bool, RunError>
         ensures goes { Goes O.output_number self.old.cx.parts self.new.cx.parts self.old.journal self.new.journal }
@@ -76,9 +77,9 @@ impl<F: Drop, O: Outcome + Drop, D: Driver, P: ThreadPool + Drop> Runtime<F, O, 
             Ok(()) => {
                 let now = self.driver.now();
                 self.journal.push(Entry::Now(now.as_nanos()));
-                let wait = self.wait_from(now);
+                let wait = self.cx.parts.wait_from(now);
                 self.journal.push(Entry::Park(wait));
-                let failed = self.park_driver(rt, wait);
+                let failed = park_driver(rt, &mut self.driver, wait);
                 Ok(failed)
             }
         }

@@ -17,6 +17,7 @@ use crate::wakers::Wakers;
 use mono_blocking::{BlockingHandle, BlockingStrategy, ThreadPool};
 use mono_driver::{Clock, Driver, StepDriver, ThreadDriver, TimeDriver};
 use mono_exec::Limits;
+use mono_jobs::Blockings;
 use mono_joinword::Outcome;
 use mono_model::Host;
 use mono_slots::Slots;
@@ -25,7 +26,7 @@ use mono_time::Instant;
 use std::alloc::{AllocError, Global};
 
 /// The inbox's first capacity, where none is set.
-const ENTRIES: u32 = 1024;
+pub(crate) const ENTRIES: u32 = 1024;
 
 /// The least first capacity of an inbox.
 const LEAST_ENTRIES: u32 = 256;
@@ -36,11 +37,11 @@ const LIMIT: u64 = 1048576;
 /// Sets up a runtime on a driver.
 #[derive(Drop)]
 pub struct RuntimeBuilder<D, P> {
-    driver: D,
-    pool: BlockingHandle<P>,
-    entries: u32,
-    limits: Limits,
-    keeps_journal: bool,
+    pub(crate) driver: D,
+    pub(crate) pool: BlockingHandle<P>,
+    pub(crate) entries: u32,
+    pub(crate) limits: Limits,
+    pub(crate) keeps_journal: bool,
 }
 
 impl<D: Drop, P: Drop> RuntimeBuilder<D, P> {
@@ -176,6 +177,54 @@ impl<D: Buildable, P: ThreadPool + Drop> RuntimeBuilder<D, P> {
     }
 }
 
+impl<D: Driver, P: ThreadPool + Drop> RuntimeBuilder<D, P> {
+    /// A runtime that stands for the start machine, with this mark of timers and this reading of the clock.
+    pub(crate) fn make<F: Drop, O: Outcome + Drop>(
+        self,
+        alloc: Global,
+        has_timers: bool,
+        start: Instant,
+    ) -> Result<Runtime<F, O, D, P>, AllocError>
+        ensures stands { IfOk result (λ made. Matches O.output_number hosting_of made.cx.parts (start_machine self.limits (strategy_of self.pool))) }
+        ensures timers { IfOk result (λ made. made.cx.parts.has_timers ≡ has_timers) }
+        ensures pool { IfOk result (λ made. made.cx.parts.blocking.pool ≡ self.pool) }
+        ensures driver { IfOk result (λ made. made.driver ≡ self.driver) }
+        ensures entries { IfOk result (λ made. made.journal.entries.items ≡ []) }
+        ensures full { IfOk result (λ made. made.journal.is_full ≡ not self.keeps_journal) }
+        ensures futures { IfOk result (λ made. made.cx.futures.items ≡ []) }
+        ensures rests { IfOk result (λ made. made.cx.parts.tasks.turn ≡ None) }
+        ensures me { IfOk result (λ made. (made.cx.parts.me ≡ 0) × (made.cx.parts.now ≡ start)) }
+        ensures registered { IfOk result (λ made. (s : ℕ) → registered_of made.cx.parts.timers s ≡ None) }
+    {
+        let RuntimeBuilder {
+            driver,
+            pool,
+            entries,
+            limits,
+            keeps_journal,
+        } = self;
+        match driver.unpark() {
+            Err(error) => Err(error),
+            Ok(unpark) => match Wakers::new(alloc, entries as usize, unpark) {
+                Err(error) => Err(error),
+                Ok(wakers) => match Parts::starting(alloc, limits, pool, has_timers, start) {
+                    Err(error) => Err(error),
+                    Ok(parts) => Ok(Runtime {
+                        cx: Cx {
+                            parts,
+                            futures: Slots::new(alloc),
+                            wakers,
+                            waker: None,
+                        },
+                        driver,
+                        journal: Journal::new(alloc, !keeps_journal),
+                    }),
+                },
+            },
+        }
+    }
+}
+
 /// A driver of which a runtime can be made.
 pub trait Buildable: Driver + Sized {
     /// Whether it marks a runtime with timers.
@@ -199,26 +248,7 @@ pub trait Buildable: Driver + Sized {
         ensures me { IfOk result (λ made. (made.cx.parts.me ≡ 0) × (nanos_of made.cx.parts.now ≡ 0)) }
         ensures registered { IfOk result (λ made. (s : ℕ) → registered_of made.cx.parts.timers s ≡ None) }
     {
-        let RuntimeBuilder {
-            driver,
-            pool,
-            entries,
-            limits,
-            keeps_journal,
-        } = this;
-        let wakers = Wakers::new(alloc, entries as usize, driver.unpark()?)?;
-        let parts = Parts::new(alloc, limits, pool, Self::has_timers(), zero())?;
-        let cx = Cx {
-            parts,
-            futures: Slots::new(alloc),
-            wakers,
-            waker: None,
-        };
-        Ok(Runtime {
-            cx,
-            driver,
-            journal: Journal::new(alloc, !keeps_journal),
-        })
+        this.make(alloc, Self::has_timers(), zero())
     }
 }
 
@@ -259,10 +289,19 @@ impl<F: Drop, O: Outcome + Drop, D: Driver, P: ThreadPool + Drop> Runtime<F, O, 
         ensures some { IfSome result (λ pool. self.cx.parts.blocking.pool ≡ Attached pool) }
         ensures none { IfNone result (IsApart self.cx.parts.blocking.pool) }
     {
+        let (blocking, _journal) = self.apart();
+        blocking.into_pool()
+    }
+
+    /// Gives all up but the jobs with who runs them, and the journal.
+    pub(crate) fn apart(self) -> (Blockings<P>, Journal)
+        ensures blocking { result.0 ≡ self.cx.parts.blocking }
+        ensures journal { result.1 ≡ self.journal }
+    {
         let Runtime {
             cx,
             driver: _,
-            journal: _,
+            journal,
         } = self;
         let Cx {
             parts,
@@ -271,7 +310,7 @@ impl<F: Drop, O: Outcome + Drop, D: Driver, P: ThreadPool + Drop> Runtime<F, O, 
             waker: _,
         } = cx;
         let Parts { blocking, .. } = parts;
-        blocking.into_pool()
+        (blocking, journal)
     }
 }
 

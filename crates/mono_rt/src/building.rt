@@ -6,24 +6,22 @@ ghost use Rattle.mono_time.specs.Timers.{registered_of};
 ghost use Rattle.mono_rt.specs.Stands.{hosting_of, Matches};
 
 use crate::acts::Acts;
-use crate::contexts::Cx;
+use crate::builder::{ENTRIES, RuntimeBuilder};
 use crate::journals::Journal;
 use crate::parts::Parts;
 use crate::runtimes::Runtime;
-use crate::wakers::Wakers;
 use mono_blocking::{BlockingHandle, ThreadPool};
 use mono_driver::Driver;
 use mono_exec::Limits;
 use mono_jobs::Blockings;
 use mono_joinword::Outcome;
-use mono_slots::Slots;
 use mono_task::Tasks;
 use mono_time::{Instant, Timers};
 use std::alloc::{AllocError, Global};
 
 impl<O: Outcome + Drop, P: ThreadPool + Drop> Parts<O, Blockings<P>> {
     /// No task, no sleep and no job, and who runs the jobs.
-    pub(crate) fn new(
+    pub(crate) fn starting(
         alloc: Global,
         limits: Limits,
         pool: BlockingHandle<P>,
@@ -37,18 +35,22 @@ impl<O: Outcome + Drop, P: ThreadPool + Drop> Parts<O, Blockings<P>> {
         ensures me { IfOk result (λ parts. (parts.me ≡ 0) × (parts.now ≡ now)) }
         ensures registered { IfOk result (λ parts. (s : ℕ) → registered_of parts.timers s ≡ None) }
     {
-        let tasks = Tasks::new(alloc, limits.tasks)?;
-        let timers = Timers::new(alloc, limits.sleeps, has_timers)?;
-        Ok(Parts {
-            tasks,
-            timers,
-            has_timers,
-            blocking: Blockings::new(alloc, pool, limits.jobs),
-            acts: Acts::keeping_none(alloc),
-            me: 0,
-            now,
-            is_out_of_memory: false,
-        })
+        match Tasks::new(alloc, limits.tasks) {
+            Err(error) => Err(error),
+            Ok(tasks) => match Timers::new(alloc, limits.sleeps, has_timers) {
+                Err(error) => Err(error),
+                Ok(timers) => Ok(Parts {
+                    tasks,
+                    timers,
+                    has_timers,
+                    blocking: Blockings::new(alloc, pool, limits.jobs),
+                    acts: Acts::keeping_none(alloc),
+                    me: 0,
+                    now,
+                    is_out_of_memory: false,
+                }),
+            },
+        }
     }
 }
 
@@ -72,20 +74,14 @@ impl<F: Drop, O: Outcome + Drop, D: Driver, P: ThreadPool + Drop> Runtime<F, O, 
         ensures unfull { IfOk result (λ runtime. runtime.journal.is_full ≡ false) }
         ensures registered { IfOk result (λ runtime. (s : ℕ) → registered_of runtime.cx.parts.timers s ≡ None) }
     {
-        let unpark = driver.unpark()?;
-        let wakers = Wakers::new(alloc, 1024, unpark)?;
-        let parts = Parts::new(alloc, limits, pool, has_timers, start)?;
-        let cx = Cx {
-            parts,
-            futures: Slots::new(alloc),
-            wakers,
-            waker: None,
-        };
-        Ok(Runtime {
-            cx,
+        let builder = RuntimeBuilder {
             driver,
-            journal: Journal::new(alloc, false),
-        })
+            pool,
+            entries: ENTRIES,
+            limits,
+            keeps_journal: true,
+        };
+        builder.make(alloc, has_timers, start)
     }
 
     /// What it did.
@@ -99,6 +95,7 @@ impl<F: Drop, O: Outcome + Drop, D: Driver, P: ThreadPool + Drop> Runtime<F, O, 
     pub(crate) fn into_journal(self) -> Journal
         ensures { result ≡ self.journal }
     {
-        self.journal
+        let (_jobs, journal) = self.apart();
+        journal
     }
 }

@@ -23,11 +23,36 @@ use mono_exec::{Due, End, Ended, Event, Report, take_due, wake_all};
 use mono_joinword::Outcome;
 use mono_model::Host;
 use mono_task::TaskFuture;
-use mono_time::Instant;
+use mono_time::{Instant, Timers};
 use std::alloc::Global;
 use std::marker::Brand;
 use std::mem;
 use std::sync::ledger::Blank;
+
+// Room for a clock step, and the reading of the clock.
+fn open_clock<D: Driver>(
+    alloc: Global,
+    timers: &Timers,
+    driver: &mut D,
+    journal: &mut Journal,
+) -> Option<(Instant, Due)>
+    ensures place { IfSome result (λ x. HasPlaces journal.new 1) }
+    ensures fired { IfSome result (λ x. (x.1.fired.items ≡ []) × (armed_count (sleeps_of timers.now) + vec_len x.1.fired ≤ vec_capacity x.1.fired)) }
+    ensures wakers { IfSome result (λ x. (x.1.wakers.items ≡ []) × (armed_count (sleeps_of timers.now) + vec_len x.1.wakers ≤ vec_capacity x.1.wakers)) }
+    ensures entries { journal.new.entries.items ≡ journal.old.entries.items }
+    ensures full { journal.new.is_full ≡ journal.old.is_full }
+    ensures read { IfSome result (λ x. IsRead (nanos_of x.0) (telling (D.readings driver.old) (D.time driver.old) (D.parks driver.old)) (telling (D.readings driver.new) (D.time driver.new) (D.parks driver.new))) }
+    ensures unread { IfNone result (driver.new ≡ driver.old) }
+    ensures held { journal.new.entries.held ≡ journal.old.entries.held }
+{
+    match journal.reserve(1) {
+        Err(_) => None,
+        Ok(()) => match Due::with_room(alloc, timers) {
+            Err(_) => None,
+            Ok(room) => Some((driver.now(), room)),
+        },
+    }
+}
 
 /// Futures that run on one thread, the driver on which it waits, and the journal of what it did.
 #[derive(Drop)]
@@ -55,27 +80,6 @@ impl<F: Drop, O: Outcome + Drop, D: Driver, P: ThreadPool + Drop> Runtime<F, O, 
         if !self.journal.is_full() {
             let acts = mem::replace(&mut self.cx.parts.acts, Acts::keeping_none(alloc));
             self.journal.push_turn(task, acts, end, ended);
-        }
-    }
-
-    /// Room for a clock step, and the reading of the clock.
-    fn open_clock(&mut self, alloc: Global) -> Option<(Instant, Due)>
-        ensures place { IfSome result (λ x. HasPlaces self.new.journal 1) }
-        ensures fired { IfSome result (λ x. (x.1.fired.items ≡ []) × (armed_count (sleeps_of self.new.cx.parts.timers) + vec_len x.1.fired ≤ vec_capacity x.1.fired)) }
-        ensures wakers { IfSome result (λ x. (x.1.wakers.items ≡ []) × (armed_count (sleeps_of self.new.cx.parts.timers) + vec_len x.1.wakers ≤ vec_capacity x.1.wakers)) }
-        ensures entries { self.new.journal.entries.items ≡ self.old.journal.entries.items }
-        ensures full { self.new.journal.is_full ≡ self.old.journal.is_full }
-        ensures same { self.new.cx ≡ self.old.cx }
-        ensures read { IfSome result (λ x. IsRead (nanos_of x.0) (telling (D.readings self.old.driver) (D.time self.old.driver) (D.parks self.old.driver)) (telling (D.readings self.new.driver) (D.time self.new.driver) (D.parks self.new.driver))) }
-        ensures unread { IfNone result (self.new.driver ≡ self.old.driver) }
-        ensures held { self.new.journal.entries.held ≡ self.old.journal.entries.held }
-    {
-        match self.journal.reserve(1) {
-            Err(_) => None,
-            Ok(()) => match Due::with_room(alloc, &self.cx.parts.timers) {
-                Err(_) => None,
-                Ok(room) => Some((self.driver.now(), room)),
-            },
         }
     }
 
@@ -120,7 +124,12 @@ impl<F: Drop, O: Outcome + Drop, D: Driver, P: ThreadPool + Drop> Runtime<F, O, 
         ensures full { self.new.journal.is_full ≡ self.old.journal.is_full }
         ensures held { self.new.journal.entries.held ≡ self.old.journal.entries.held }
     {
-        let Some((now, room)) = self.open_clock(alloc) else {
+        let Some((now, room)) = open_clock(
+            alloc,
+            &self.cx.parts.timers,
+            &mut self.driver,
+            &mut self.journal,
+        ) else {
             return Err(RunError::Memory);
         };
         let nanos = now.as_nanos();

@@ -15,16 +15,16 @@ use Rattle.mono_rt.proofs.runtimes.Runtime.clock_step.Goals as goal
 pub returns-clause-clocked : goal.returns-clause-clocked
 returns-clause-clocked g c =
     let number = g.O.Outcome.output_number in
-    let old = c.args.self.now in
-    let opened = c.open_clock.new.self in
+    let parts = c.args.self.now.cx.parts in
+    let opened = c.open_clock.new.journal in
     let due = c.take_due-due.result in
     let tasks = c.wake_all.ensures in
-    stay_on number IsClock old.cx.parts opened.cx.parts _ old.journal opened.journal c.push.new.self
-    (does_stay number old.cx.parts opened.cx.parts old.journal opened.journal (ap (λ x. x.parts.tasks) c.open_clock.ensures.same) (ap (λ x. x.parts.timers) c.open_clock.ensures.same) (ap (λ x. x.parts.has_timers) c.open_clock.ensures.same) (ap (λ x. x.parts.blocking) c.open_clock.ensures.same) c.open_clock.ensures.entries c.open_clock.ensures.full)
-    (does_more number _ IsClock opened.cx.parts _ opened.journal c.push.new.self (λ m new xs zs stm stn is. (c.as_nanos-nanos.result, (due.fired.items, is))) (does_clock number opened.cx.parts _ opened.journal c.push.new.self c.as_nanos-nanos.result (nanos_of c.in-Some.now) due.fired.items due.wakers.items c.as_nanos-nanos.ensures c.in-Some.now.in_range
-    (c.push.ensures.entries ∙ ap (λ f. pushed opened.journal (Ran (event.Clock c.as_nanos-nanos.result) (report.Fired f))) c.into_fired.ensures) c.push.ensures.full
-    (ap (λ x. x.parts.has_timers) c.open_clock.ensures.same ∙ c.requires) c.take_due-due.ensures.fires c.take_due-due.ensures.wakers c.take_due-due.ensures.has_gone c.take_due-due.ensures.rests c.take_due-due.ensures.registered
-    (tasks ∙ ap (λ ws. schedule.with_tasks opened.cx.parts.tasks (all_woken opened.cx.parts.tasks.tasks ws)) c.deref.ensures.value) refl refl))
+    stay_on number IsClock parts parts _ c.args.self.now.journal opened c.push.new.self
+    (does_stay number parts parts c.args.self.now.journal opened refl refl refl refl c.open_clock.ensures.entries c.open_clock.ensures.full)
+    (does_more number _ IsClock parts _ opened c.push.new.self (λ m new xs zs stm stn is. (c.as_nanos-nanos.result, (due.fired.items, is))) (does_clock number parts _ opened c.push.new.self c.as_nanos-nanos.result (nanos_of c.in-Some.now) due.fired.items due.wakers.items c.as_nanos-nanos.ensures c.in-Some.now.in_range
+    (c.push.ensures.entries ∙ ap (λ f. pushed opened (Ran (event.Clock c.as_nanos-nanos.result) (report.Fired f))) c.into_fired.ensures) c.push.ensures.full
+    c.requires c.take_due-due.ensures.fires c.take_due-due.ensures.wakers c.take_due-due.ensures.has_gone c.take_due-due.ensures.rests c.take_due-due.ensures.registered
+    (tasks ∙ ap (λ ws. schedule.with_tasks parts.tasks (all_woken parts.tasks.tasks ws)) c.deref.ensures.value) refl refl))
 
 pub returns-clause-goes : goal.returns-clause-goes
 returns-clause-goes g c = goes_of g.O.Outcome.output_number IsClock c.args.self.now.cx.parts _ c.args.self.now.journal c.push.new.self (returns-clause-clocked g c)
@@ -32,13 +32,11 @@ returns-clause-goes g c = goes_of g.O.Outcome.output_number IsClock c.args.self.
 pub returns-in_default-clause-goes : goal.returns-in_default-clause-goes
 returns-in_default-clause-goes g c =
     let old = c.args.self.now in
-    let opened = c.open_clock.new.self in
-    let same = c.open_clock.ensures.same in
-    goes_nowhere g.O.Outcome.output_number old.cx.parts opened.cx.parts old.journal opened.journal (ap (λ x. x.parts.tasks) same) (ap (λ x. x.parts.timers) same) (ap (λ x. x.parts.has_timers) same) (ap (λ x. x.parts.blocking) same) c.open_clock.ensures.entries c.open_clock.ensures.full
+    goes_nowhere g.O.Outcome.output_number old.cx.parts old.cx.parts old.journal c.open_clock.new.journal refl refl refl refl c.open_clock.ensures.entries c.open_clock.ensures.full
 
 pub returns-clause-told : goal.returns-clause-told
 returns-clause-told g c = λ course.
-    telling_on {j = c.open_clock.new.self.journal} (tells_nothing refl refl c.open_clock.ensures.entries c.open_clock.ensures.full)
+    telling_on {j = c.open_clock.new.journal} (tells_nothing refl refl c.open_clock.ensures.entries c.open_clock.ensures.full)
     (tells_one course (Ran (event.Clock c.as_nanos-nanos.result) (report.Fired c.into_fired.result)) refl (_, (course, ((read_at c.as_nanos-nanos.result (nanos_of c.in-Some.now) c.as_nanos-nanos.ensures c.in-Some.ensures.read, refl), (refl, refl)))) c.push.ensures.entries c.push.ensures.full)
 
 pub returns-in_default-clause-told : goal.returns-in_default-clause-told

@@ -1,21 +1,13 @@
-use Rattle.std.proofs.Common.{◌≡◌, ℕ, Bool, true, false, refl, ap, sym, subst, ◌∙◌, Ok, Err}
+use Rattle.std.proofs.Common.{ℕ, refl, ap, sym, subst, ◌∙◌, Err}
 use Rattle.std.specs.Prelude.{Result}
 use Rattle.mono_task.specs.declared.error.SpawnTask.{SpawnTask}
-use Rattle.mono_task.specs.declared.error.SpawnTask.TheVariants.{AtCapacity}
 use Rattle.mono_machine.specs.Acts.{act_outcome}
 use Rattle.mono_machine.specs.declared.events.Act.TheVariants as act
 use Rattle.mono_machine.specs.declared.events.Reply.TheVariants as reply
 use Rattle.mono_rt.specs.Stands.{hosting_of, Matches}
-use Rattle.mono_rt.proofs.Calling.{with_all}
+use Rattle.mono_rt.proofs.Calling.{had_room, with_all}
 use Rattle.mono_rt.proofs.Spawned.{spawn_stands, full_stands}
 use Rattle.mono_rt.proofs.runtimes.Runtime.spawn.Goals as goal
-
-not_both : (r : Result ℕ SpawnTask) (t : ℕ) → r ≡ Ok t → r ≡ Err AtCapacity → ⊥
-not_both r t p q = cc
-
-not_true : (b : Bool) → (b ≡ true → ⊥) → b ≡ false
-not_true true f = absurd (f refl)
-not_true false f = refl
 
 abbrev failed : SpawnTask → Result ℕ SpawnTask
 failed e = Err e
@@ -26,7 +18,7 @@ returns-in-Ok-clause-machine g c = λ m st.
     let placed = c.make_place.new.self.parts in
     let made = with_all number hosting_of placed c.spawn.new.self placed.timers placed.acts in
     let left = spawn_stands number placed made m c.in-Ok.t (subst (λ p. Matches number hosting_of p m) (sym c.make_place.ensures.parts) st)
-    (not_true _ (λ e. not_both c.spawn.result c.in-Ok.t c.in-Ok.is (c.spawn.ensures.full.1 e))) c.in-Ok.ensures.number c.in-Ok.ensures.after refl refl refl in
+    (had_room c.spawn.result c.in-Ok.t _ c.in-Ok.is c.spawn.ensures.full.1) c.in-Ok.ensures.number c.in-Ok.ensures.after refl refl refl in
     (left.0 ∙ ap reply.Task (sym c.of_task.ensures), subst (λ p. Matches number hosting_of p (act_outcome act.Spawn m).machine) (sym c.put_future.ensures.parts) left.1)
 
 pub returns-in-Err-AtCapacity-clause-machine : goal.returns-in-Err-AtCapacity-clause-machine

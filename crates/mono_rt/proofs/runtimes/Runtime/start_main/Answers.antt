@@ -1,10 +1,9 @@
-use Rattle.std.proofs.Common.{◌≡◌, ℕ, Bool, true, false, refl, ap, sym, ◌∙◌, Ok, Err, Some, [], ◌∷◌, ◌++◌, subst}
+use Rattle.std.proofs.Common.{ℕ, refl, ap, sym, ◌∙◌, Err, Some, [], ◌∷◌, ◌++◌, subst}
 use Rattle.std.specs.Prelude.{Result}
 use Rattle.mono_task.specs.declared.error.SpawnTask.{SpawnTask}
-use Rattle.mono_task.specs.declared.error.SpawnTask.TheVariants.{AtCapacity}
 use Rattle.mono_rt.specs.Stands.{hosting_of}
 use Rattle.mono_rt.specs.Journals.{Does}
-use Rattle.mono_rt.proofs.Calling.{with_all}
+use Rattle.mono_rt.proofs.Calling.{had_room, with_all}
 use Rattle.mono_rt.proofs.Going.{goes_of, does_spawn, does_full}
 use Rattle.mono_rt.specs.Rounds.{IsSpawn, IsRefused}
 use Rattle.mono_rt.proofs.Doing.{stay_on}
@@ -18,13 +17,6 @@ use Rattle.mono_machine.specs.declared.events.Report.TheVariants as report
 use Rattle.mono_rt.specs.declared.journals.Entry.TheVariants.{Ran}
 use Rattle.mono_rt.proofs.runtimes.Runtime.start_main.Goals as goal
 
-not_both : (r : Result ℕ SpawnTask) (t : ℕ) → r ≡ Ok t → r ≡ Err AtCapacity → ⊥
-not_both r t p q = cc
-
-not_true : (b : Bool) → (b ≡ true → ⊥) → b ≡ false
-not_true true f = absurd (f refl)
-not_true false f = refl
-
 abbrev failed : SpawnTask → Result ℕ SpawnTask
 failed e = Err e
 
@@ -37,7 +29,7 @@ returns-in-Ok-clause-spawned g c =
     subst (λ p. Does number (IsSpawn c.in-Ok.t) old.cx.parts p old.journal c.push_and_hold.new.self) (sym c.put_future.ensures.parts)
     (stay_on number (IsSpawn c.in-Ok.t) old.cx.parts opened.cx.parts made old.journal opened.journal c.push_and_hold.new.self c.open_spawn.ensures.stays
     (does_spawn number opened.cx.parts made opened.journal c.push_and_hold.new.self c.in-Ok.t c.push_and_hold.ensures.entries c.push_and_hold.ensures.full
-    (not_true _ (λ e. not_both c.spawn.result c.in-Ok.t c.in-Ok.is (c.spawn.ensures.full.1 e))) c.in-Ok.ensures.number c.in-Ok.ensures.after refl refl refl))
+    (had_room c.spawn.result c.in-Ok.t _ c.in-Ok.is c.spawn.ensures.full.1) c.in-Ok.ensures.number c.in-Ok.ensures.after refl refl refl))
 
 pub returns-in-Ok-clause-goes : goal.returns-in-Ok-clause-goes
 returns-in-Ok-clause-goes g c = goes_of g.O.Outcome.output_number (IsSpawn c.in-Ok.t) c.args.self.now.cx.parts c.put_future.new.self.parts c.args.self.now.journal c.push_and_hold.new.self (returns-in-Ok-clause-spawned g c)
@@ -61,3 +53,12 @@ returns-in-Err-AtCapacity-clause-told g c = telling_on c.open_spawn.ensures.told
 
 pub returns-in-Ok-clause-made : goal.returns-in-Ok-clause-made
 returns-in-Ok-clause-made g c = c.put_future.ensures.futures ∙ ap (λ xs. xs ++ Some c.args.future ∷ []) c.open_spawn.ensures.futures
+
+pub returns-in-None-clause-unmade : goal.returns-in-None-clause-unmade
+returns-in-None-clause-unmade g c = c.open_spawn.ensures.stays
+
+pub returns-in-None-clause-goes : goal.returns-in-None-clause-goes
+returns-in-None-clause-goes g c = c.open_spawn.ensures.goes
+
+pub returns-in-None-clause-told : goal.returns-in-None-clause-told
+returns-in-None-clause-told g c = c.open_spawn.ensures.told
