@@ -12,10 +12,16 @@ mod jobs;
 #[cfg(test)]
 mod joinwords;
 #[cfg(test)]
-mod marks;
+mod keeps;
 #[cfg(test)]
 mod pairs;
+#[cfg(test)]
+mod parkers;
 #[cfg(test)]
 mod pools;
 #[cfg(test)]
 mod recorded_inboxes;
+#[cfg(test)]
+mod states;
+#[cfg(test)]
+mod wakes;
