@@ -1,12 +1,11 @@
 // Clocks and drivers: each call on its happy path, through the trait, and a park that another thread ends.
-use crate::inboxes::start_setting;
+use crate::parkers::start_setting;
 use mono_driver::*;
 use mono_inbox::Unpark;
 use mono_model::{Host, MAX_NANOS};
 use std::alloc::Global;
 use std::process::Abort;
-use std::sync::Arc;
-use std::sync::atomic::{AtomicU64, Ordering};
+use std::sync::atomic::Ordering;
 use std::time::Duration;
 
 /// A clock with these readings.
@@ -31,8 +30,7 @@ fn a_list_clock_reads_its_list(rt: HostRuntime) {
 /// Each call of a driver once, and what it then reads. The park was unparked before.
 fn calls_all<R: Host + Abort, D: Driver>(rt: &R, driver: &mut D) -> u128 {
     driver.unpark().expect(rt, "memory").unpark(rt);
-    assert!(rt; driver.submit(rt).is_ok());
-    assert!(rt; driver.park(rt).is_ok());
+    assert!(rt; driver.submit(rt).is_ok() & driver.park(rt).is_ok());
     assert!(rt; driver.park_timeout(rt, Duration::from_millis(3)).is_ok());
     driver.now().as_nanos()
 }
@@ -55,29 +53,63 @@ fn each_call_of_each_driver(rt: HostRuntime) {
 /// More calls than a vector makes room for at first.
 const MANY: u64 = 400;
 
+/// One call on a driver.
+#[derive(Clone, Copy)]
+enum Call {
+    Submit,
+    Park,
+    /// For so many seconds.
+    ParkTimeout(u64),
+}
+
+/// Makes the call: whether it is answered so, and then reads so many nanoseconds.
+fn answers<R: Host, D: Driver>(
+    rt: &R,
+    driver: &mut D,
+    call: Call,
+    is_ok: bool,
+    nanos: u128,
+) -> bool {
+    let answer = match call {
+        Call::Submit => driver.submit(rt),
+        Call::Park => driver.park(rt),
+        Call::ParkTimeout(seconds) => driver.park_timeout(rt, Duration::from_secs(seconds)),
+    };
+    answer.is_ok() == is_ok && driver.now().as_nanos() == nanos
+}
+
+/// The calls before those that all fail, the second of which is listed as one that fails.
+const FIRST_CALLS: [(Call, bool, u128); 4] = [
+    (Call::Submit, true, 0),
+    (Call::ParkTimeout(1), false, 0),
+    (Call::Park, true, 0),
+    (Call::ParkTimeout(1), true, 1_000_000_000),
+];
+
 #[test]
 fn listed_calls_fail(rt: HostRuntime) {
-    let alloc = rt.alloc();
-    let mut failing = Vec::new(alloc);
+    let mut failing = Vec::new(rt.alloc());
     failing.push(1).expect(&rt, "memory");
     for call in 4..MANY {
         failing.push(call).expect(&rt, "memory");
     }
     let mut driver = StepDriver::new(failing);
-    let second = Duration::from_secs(1);
     assert!(rt; driver.now().as_nanos() == 0);
-    assert!(rt; driver.submit(&rt).is_ok());
-    assert!(rt; driver.park_timeout(&rt, second).is_err());
-    assert!(rt; driver.now().as_nanos() == 0);
-    assert!(rt; driver.park(&rt).is_ok());
-    assert!(rt; driver.park_timeout(&rt, second).is_ok());
-    for _ in 4..MANY {
-        assert!(rt; driver.submit(&rt).is_err());
+    for (call, is_ok, nanos) in FIRST_CALLS {
+        assert!(rt; answers(&rt, &mut driver, call, is_ok, nanos));
     }
-    assert!(rt; driver.now().as_nanos() == 1000000000);
-    let last = driver.park_timeout(&rt, Duration::from_secs(u64::MAX));
-    assert!(rt; last.is_ok());
-    assert!(rt; driver.now().as_nanos() == MAX_NANOS);
+    for _ in 4..MANY {
+        assert!(rt; answers(&rt, &mut driver, Call::Submit, false, 1_000_000_000));
+    }
+    assert!(rt;
+        answers(
+            &rt,
+            &mut driver,
+            Call::ParkTimeout(u64::MAX),
+            true,
+            MAX_NANOS
+        )
+    );
 }
 
 /// Whether a park sees the flag that another thread sets before it unparks.
@@ -87,10 +119,8 @@ fn parks_for_the_flag<R: Host + Abort + Copy + Send + 'static>(
     driver: &mut ThreadDriver<ListClock>,
     is_limited: bool,
 ) -> bool {
-    let flag = Arc::new(alloc, AtomicU64::new(0)).expect(&rt, "memory");
-    let theirs = Arc::try_clone(&flag).expect(&rt, "memory");
     let handle = driver.unpark().expect(&rt, "memory");
-    let other = start_setting(rt, theirs, handle).expect(&rt, "a thread");
+    let (flag, other) = start_setting(rt, alloc, handle, Duration::from_millis(30));
     let parked = if is_limited {
         driver.park_timeout(&rt, Duration::from_secs(3600))
     } else {

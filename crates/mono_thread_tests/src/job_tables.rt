@@ -1,148 +1,209 @@
 // Jobs by each strategy and on a pool of the tests: each call on its happy path, and each refusal once.
-ghost use Rattle.std.specs.Prelude.{◌≡◌};
-ghost use Rattle.mono_blocking.specs.Pool.{Offers};
-ghost use Rattle.mono_blocking.specs.declared.strategy.Offered.TheVariants.{Here};
-
 use crate::jobs::{Gives, waker};
-use mono_blocking::{BlockingHandle, BlockingStrategy, BlockingTask, Offered, ThreadPool};
+use crate::keeps::{Keeps, Waiting, pool_refusing, run_all};
+use mono_blocking::{BlockingHandle, BlockingStrategy, JoinError};
 use mono_jobs::*;
-use mono_machine::{How, Refusal};
+use mono_machine::{How, Refusal, Reply};
 use mono_model::{Host, Poll};
 use std::alloc::Global;
 use std::process::Abort;
-use std::sync::{Arc, Mutex};
 
-/// Tasks that wait.
-type Waiting = Arc<Mutex<Vec<BlockingTask<Gives>>>, Global>;
-
-/// Keeps the tasks that it is offered, and refuses one of them, counted from 0.
-#[derive(Drop)]
-struct Keeps {
-    waiting: Waiting,
-    asked: u64,
-    refused: u64,
-    refusals: u64,
+/// One call on the jobs.
+#[derive(Clone, Copy)]
+enum Call {
+    /// Makes a job with this output.
+    Spawn(u64),
+    /// Whether the job has ended.
+    HasEnded(u64),
+    /// Polls the job for this task.
+    Poll(u64, u64),
+    /// Drops the job's handle.
+    Drop(u64),
+    /// Runs all tasks that wait.
+    RunAll,
 }
 
-impl ThreadPool for Keeps {
-    type Job = Gives;
+/// A call, what it must answer, and the end of a job that it must see.
+type Row = (Call, Reply, Option<End>);
 
-    ghost refusals = { λ pool. pool.refusals };
+/// The end of a job that was run, and for which nobody waited.
+const RAN: Option<End> = Some(End {
+    how: How::Ran,
+    waiter: None,
+});
 
-    fn offer<R: Host>(
-        &mut self,
-        rt: &R,
-        _alloc: Global,
-        task: &mut Option<BlockingTask<Gives>>,
-    ) -> Offered
-        ensures offer { Offers task.old task.new self.old.refusals self.new.refusals result }
-        ensures here { ⊥ → (result ≡ Here) × ⊥ }
-    {
-        let call = self.asked;
-        self.asked = call.saturating_add(1);
-        if call == self.refused {
-            self.refusals = self.refusals.saturating_add(1);
-            return Offered::Refused;
-        }
-        let mut waiting = self.waiting.lock(rt);
-        if waiting.reserve(1).is_err() {
-            return Offered::Memory;
-        }
-        if let Some(task) = task.take() {
-            waiting.push_reserved(task);
-        }
-        Offered::Taken
+/// The same of one for which task 7 waited.
+const RAN_FOR_SEVEN: Option<End> = Some(End {
+    how: How::Ran,
+    waiter: Some(7),
+});
+
+/// What a spawn answers: `Canceled` where the pool refused the job. One that comes back must be the one with this output,
+/// and any other answer is `Pending`, which no test expects.
+fn spawned(answer: Result<JobHandle, SpawnError<Gives>>, output: u64) -> Reply {
+    match answer {
+        Ok(handle) => Reply::Job(handle.job()),
+        Err(SpawnError::AtCapacity(job)) if job.0 == output => Reply::Refused(Refusal::AtCapacity),
+        Err(SpawnError::NoPool(job)) if job.0 == output => Reply::Refused(Refusal::NoPool),
+        Err(SpawnError::PoolFault) => Reply::Canceled,
+        Err(_) => Reply::Pending,
     }
 }
 
-/// Jobs on a pool that refuses this task, and the tasks that wait there.
-fn jobs_on<R: Abort>(
+/// What the question whether a job has ended answers.
+fn asked(answer: Result<bool, Refusal>) -> Reply {
+    match answer {
+        Ok(true) => Reply::Yes,
+        Ok(false) => Reply::No,
+        Err(refusal) => Reply::Refused(refusal),
+    }
+}
+
+/// What a poll answers.
+fn polled(answer: Result<Poll<Result<u64, JoinError>>, Refusal>) -> Reply {
+    match answer {
+        Ok(Poll::Pending) => Reply::Pending,
+        Ok(Poll::Ready(Ok(output))) => Reply::Output(output),
+        Ok(Poll::Ready(Err(JoinError::Canceled))) => Reply::Canceled,
+        Err(refusal) => Reply::Refused(refusal),
+    }
+}
+
+/// What the drop of a handle answers.
+fn dropped(answer: Result<Option<Result<u64, JoinError>>, Refusal>) -> Reply {
+    match answer {
+        Ok(Some(Ok(output))) => Reply::Dropped(Some(output)),
+        Ok(Some(Err(JoinError::Canceled))) => Reply::Canceled,
+        Ok(None) => Reply::Dropped(None),
+        Err(refusal) => Reply::Refused(refusal),
+    }
+}
+
+/// Makes one call: what it answers, and the end that it saw.
+fn answer<R: Host + Abort>(
     rt: &R,
     alloc: Global,
-    refused: u64,
-    limit: u64,
-) -> (Blockings<Keeps>, Waiting) {
-    let waiting = Arc::new(alloc, Mutex::new(Vec::new(alloc))).expect(rt, "memory");
-    let pool = Keeps {
-        waiting: Arc::try_clone(&waiting).expect(rt, "memory"),
-        asked: 0,
-        refused,
-        refusals: 0,
-    };
-    let jobs = Blockings::new(alloc, BlockingHandle::Attached(pool), limit);
-    (jobs, waiting)
+    jobs: &mut Blockings<Keeps>,
+    waiting: &Waiting,
+    call: Call,
+) -> (Reply, Option<End>) {
+    match call {
+        Call::Spawn(output) => {
+            let answer = jobs.spawn(rt, alloc, Gives(output));
+            (spawned(answer, output), None)
+        }
+        Call::HasEnded(job) => (asked(jobs.has_ended(job)), None),
+        Call::Poll(job, task) => {
+            let seen = jobs.poll(job, waker(rt, alloc, task));
+            (polled(seen.answer), seen.end)
+        }
+        Call::Drop(job) => {
+            let seen = jobs.drop_handle(job);
+            (dropped(seen.answer), seen.end)
+        }
+        Call::RunAll => {
+            run_all(rt, waiting, MANY);
+            (Reply::Ready, None)
+        }
+    }
 }
 
-/// Runs all tasks that wait.
-fn run_all<R: Host>(rt: &R, waiting: &Waiting) {
-    for _ in 0..MANY {
-        let Some(task) = waiting.lock(rt).pop() else {
-            return;
-        };
-        drop(task.run(rt));
+/// Makes the calls in turn: each must answer so.
+fn all_answer<R: Host + Abort>(
+    rt: &R,
+    alloc: Global,
+    jobs: &mut Blockings<Keeps>,
+    waiting: &Waiting,
+    rows: &[Row],
+) {
+    for row in rows {
+        let (reply, end) = answer(rt, alloc, jobs, waiting, row.0);
+        assert!(rt; reply == row.1 && end == row.2);
     }
+}
+
+/// The calls on new jobs with this limit, by a strategy: the pool, where there is one.
+fn all_answer_by<R: Host + Abort>(
+    rt: &R,
+    alloc: Global,
+    strategy: BlockingHandle<Keeps>,
+    limit: u64,
+    waiting: &Waiting,
+    rows: &[Row],
+) -> Option<Keeps> {
+    let mut jobs = Blockings::new(alloc, strategy, limit);
+    all_answer(rt, alloc, &mut jobs, waiting, rows);
+    jobs.into_pool()
+}
+
+/// The same without a pool.
+fn all_answer_without<R: Host + Abort>(
+    rt: &R,
+    alloc: Global,
+    strategy: BlockingStrategy,
+    limit: u64,
+    rows: &[Row],
+) {
+    let (_pool, waiting) = pool_refusing(rt, alloc, 0);
+    let strategy = BlockingHandle::Empty(strategy);
+    let pool = all_answer_by(rt, alloc, strategy, limit, &waiting, rows);
+    assert!(rt; pool.is_none());
 }
 
 /// More jobs than a table makes room for at first.
 const MANY: u64 = 300;
 
-/// The number of the job, where one was made.
-fn made(answer: Result<JobHandle, SpawnError<Gives>>) -> Option<u64> {
-    match answer {
-        Ok(handle) => Some(handle.job()),
-        Err(_) => None,
-    }
-}
+const ON_THE_CALLER: [Row; 10] = [
+    (Call::Spawn(4), Reply::Job(0), None),
+    (Call::Spawn(5), Reply::Job(1), None),
+    (Call::Spawn(6), Reply::Refused(Refusal::AtCapacity), None),
+    (Call::HasEnded(0), Reply::Yes, None),
+    (Call::Poll(0, 3), Reply::Output(4), None),
+    (Call::Poll(0, 3), Reply::Refused(Refusal::Taken), None),
+    (Call::HasEnded(0), Reply::Yes, None),
+    (Call::Drop(1), Reply::Dropped(Some(5)), None),
+    (Call::Drop(1), Reply::Refused(Refusal::NoHandle), None),
+    (Call::HasEnded(2), Reply::Refused(Refusal::NoTask), None),
+];
 
 #[test]
 fn a_job_on_the_caller_has_ended(rt: HostRuntime) {
-    let alloc = rt.alloc();
-    let local = BlockingHandle::Empty(BlockingStrategy::ExecuteLocal);
-    let mut jobs: Blockings<Keeps> = Blockings::new(alloc, local, 2);
-    assert!(rt; made(jobs.spawn(&rt, alloc, Gives(4))) == Some(0));
-    assert!(rt; made(jobs.spawn(&rt, alloc, Gives(5))) == Some(1));
-    let third = jobs.spawn(&rt, alloc, Gives(6));
-    assert!(rt; matches!(third, Err(SpawnError::AtCapacity(Gives(6)))));
-    assert!(rt; matches!(jobs.has_ended(0), Ok(true)));
-    let polled = jobs.poll(0, waker(&rt, alloc, 3));
-    assert!(rt; polled.end.is_none());
-    assert!(rt; matches!(polled.answer, Ok(Poll::Ready(Ok(4)))));
-    let again = jobs.poll(0, waker(&rt, alloc, 3));
-    assert!(rt; matches!(again.answer, Err(Refusal::Taken)));
-    assert!(rt; matches!(jobs.has_ended(0), Ok(true)));
-    assert!(rt; matches!(jobs.drop_handle(1).answer, Ok(Some(Ok(5)))));
-    assert!(rt; matches!(jobs.drop_handle(1).answer, Err(Refusal::NoHandle)));
-    assert!(rt; matches!(jobs.has_ended(2), Err(Refusal::NoTask)));
-    assert!(rt; jobs.into_pool().is_none());
+    let local = BlockingStrategy::ExecuteLocal;
+    all_answer_without(&rt, rt.alloc(), local, 2, &ON_THE_CALLER);
 }
 
-/// Jobs without a pool, where each is refused that has room.
-fn jobs_of_none(alloc: Global, limit: u64) -> Blockings<Keeps> {
-    let panic = BlockingHandle::Empty(BlockingStrategy::Panic);
-    Blockings::new(alloc, panic, limit)
-}
+const WITH_ROOM: [Row; 1] = [(Call::Spawn(4), Reply::Refused(Refusal::NoPool), None)];
+
+const WITHOUT_ROOM: [Row; 1] = [(Call::Spawn(4), Reply::Refused(Refusal::AtCapacity), None)];
 
 #[test]
 fn no_pool_comes_after_at_capacity(rt: HostRuntime) {
-    let alloc = rt.alloc();
-    let with_room = jobs_of_none(alloc, 1).spawn(&rt, alloc, Gives(4));
-    assert!(rt; matches!(with_room, Err(SpawnError::NoPool(Gives(4)))));
-    let without = jobs_of_none(alloc, 0).spawn(&rt, alloc, Gives(4));
-    assert!(rt; matches!(without, Err(SpawnError::AtCapacity(Gives(4)))));
+    all_answer_without(&rt, rt.alloc(), BlockingStrategy::Panic, 1, &WITH_ROOM);
+    all_answer_without(&rt, rt.alloc(), BlockingStrategy::Panic, 0, &WITHOUT_ROOM);
 }
+
+const ONE_REFUSED: [Row; 5] = [
+    (Call::Spawn(4), Reply::Job(0), None),
+    (Call::Spawn(5), Reply::Canceled, None),
+    (Call::HasEnded(1), Reply::Refused(Refusal::NoTask), None),
+    (Call::HasEnded(0), Reply::No, None),
+    (Call::Spawn(6), Reply::Job(1), None),
+];
 
 #[test]
 fn a_refused_task_makes_no_job(rt: HostRuntime) {
-    let alloc = rt.alloc();
-    let (mut jobs, waiting) = jobs_on(&rt, alloc, 1, 3);
-    assert!(rt; made(jobs.spawn(&rt, alloc, Gives(4))) == Some(0));
-    assert!(rt; matches!(jobs.spawn(&rt, alloc, Gives(5)), Err(SpawnError::PoolFault)));
-    assert!(rt; matches!(jobs.has_ended(1), Err(Refusal::NoTask)));
-    assert!(rt; matches!(jobs.has_ended(0), Ok(false)));
-    assert!(rt; made(jobs.spawn(&rt, alloc, Gives(6))) == Some(1));
-    let pool = jobs.into_pool().expect(&rt, "a pool");
-    assert!(rt; pool.refusals == 1);
+    let (pool, waiting) = pool_refusing(&rt, rt.alloc(), 1);
+    let attached = BlockingHandle::Attached(pool);
+    let pool = all_answer_by(&rt, rt.alloc(), attached, 3, &waiting, &ONE_REFUSED);
+    assert!(rt; pool.expect(&rt, "a pool").refusals == 1);
     assert!(rt; waiting.lock(&rt).len() == 2);
+}
+
+/// Jobs on a pool that refuses none of their tasks, and the tasks that wait there.
+fn jobs_on<R: Abort>(rt: &R, alloc: Global, limit: u64) -> (Blockings<Keeps>, Waiting) {
+    let (pool, waiting) = pool_refusing(rt, alloc, u64::MAX);
+    let jobs = Blockings::new(alloc, BlockingHandle::Attached(pool), limit);
+    (jobs, waiting)
 }
 
 /// Jobs past the second page of the table.
@@ -151,122 +212,121 @@ const THROUGH: u64 = 600;
 /// How many jobs live beside the first one, once that many were made.
 const ALIVE: u64 = 10;
 
-/// One more job, and the drop of the one that was made so many before, whose output comes back; the sum of the outputs.
-fn one_comes_one_goes<R: Host>(
+/// One more job, and the drop of the one that was made so many before, whose output comes back, and is 0 of none.
+fn one_comes_one_goes<R: Host + Abort>(
     rt: &R,
     alloc: Global,
     jobs: &mut Blockings<Keeps>,
     waiting: &Waiting,
     number: u64,
-) -> Option<u64> {
-    if made(jobs.spawn(rt, alloc, Gives(number))) != Some(number) {
-        return None;
-    }
-    run_all(rt, waiting);
+) -> u64 {
+    let comes = [
+        (Call::Spawn(number), Reply::Job(number), None),
+        (Call::RunAll, Reply::Ready, None),
+    ];
+    all_answer(rt, alloc, jobs, waiting, &comes);
     if number <= ALIVE {
-        return Some(0);
+        return 0;
     }
     let gone = number.wrapping_sub(ALIVE);
-    match jobs.drop_handle(gone).answer {
-        Ok(Some(Ok(output))) if jobs.has_ended(gone).is_err() => Some(output),
-        _ => None,
+    let seen = jobs.drop_handle(gone);
+    assert!(rt; jobs.has_ended(gone).is_err());
+    match dropped(seen.answer) {
+        Reply::Dropped(Some(output)) => output,
+        _ => panic!(rt; "no output comes back"),
     }
 }
+
+const AFTER_ALL: [Row; 19] = [
+    (Call::HasEnded(1), Reply::Refused(Refusal::NoHandle), None),
+    (Call::Drop(1), Reply::Refused(Refusal::NoHandle), None),
+    (Call::HasEnded(255), Reply::Refused(Refusal::NoHandle), None),
+    (Call::Drop(255), Reply::Refused(Refusal::NoHandle), None),
+    (Call::HasEnded(256), Reply::Refused(Refusal::NoHandle), None),
+    (Call::Drop(256), Reply::Refused(Refusal::NoHandle), None),
+    (Call::HasEnded(511), Reply::Refused(Refusal::NoHandle), None),
+    (Call::Drop(511), Reply::Refused(Refusal::NoHandle), None),
+    (Call::HasEnded(512), Reply::Refused(Refusal::NoHandle), None),
+    (Call::Drop(512), Reply::Refused(Refusal::NoHandle), None),
+    (Call::HasEnded(589), Reply::Refused(Refusal::NoHandle), None),
+    (Call::Drop(589), Reply::Refused(Refusal::NoHandle), None),
+    (Call::HasEnded(600), Reply::Refused(Refusal::NoTask), None),
+    (Call::HasEnded(590), Reply::Yes, None),
+    (Call::Poll(0, 3), Reply::Output(7), RAN),
+    (Call::Spawn(8), Reply::Job(600), None),
+    (Call::Spawn(9), Reply::Refused(Refusal::AtCapacity), None),
+    (Call::Drop(0), Reply::Dropped(None), None),
+    (Call::HasEnded(0), Reply::Refused(Refusal::NoHandle), None),
+];
 
 #[test]
 fn the_first_job_outlives_pages(rt: HostRuntime) {
     let alloc = rt.alloc();
-    let (mut jobs, waiting) = jobs_on(&rt, alloc, u64::MAX, ALIVE.wrapping_add(2));
-    assert!(rt; made(jobs.spawn(&rt, alloc, Gives(7))) == Some(0));
+    let (mut jobs, waiting) = jobs_on(&rt, alloc, ALIVE.wrapping_add(2));
+    let first = [(Call::Spawn(7), Reply::Job(0), None)];
+    all_answer(&rt, alloc, &mut jobs, &waiting, &first);
     let mut sum = 0u64;
     for number in 1..THROUGH {
         let output = one_comes_one_goes(&rt, alloc, &mut jobs, &waiting, number);
-        sum = sum.wrapping_add(output.expect(&rt, "the number and an output"));
+        sum = sum.wrapping_add(output);
     }
     assert!(rt; sum == 173755);
-    for number in [1u64, 255, 256, 511, 512, 589] {
-        assert!(rt; matches!(jobs.has_ended(number), Err(Refusal::NoHandle)));
-        assert!(rt; matches!(jobs.drop_handle(number).answer, Err(Refusal::NoHandle)));
-    }
-    assert!(rt; matches!(jobs.has_ended(THROUGH), Err(Refusal::NoTask)));
-    assert!(rt; matches!(jobs.has_ended(590), Ok(true)));
-    let polled = jobs.poll(0, waker(&rt, alloc, 3));
-    assert!(rt; matches!(polled.answer, Ok(Poll::Ready(Ok(7)))));
-    assert!(rt; made(jobs.spawn(&rt, alloc, Gives(8))) == Some(THROUGH));
-    let too_many = jobs.spawn(&rt, alloc, Gives(9));
-    assert!(rt; matches!(too_many, Err(SpawnError::AtCapacity(Gives(9)))));
-    assert!(rt; matches!(jobs.drop_handle(0).answer, Ok(None)));
-    assert!(rt; matches!(jobs.has_ended(0), Err(Refusal::NoHandle)));
+    all_answer(&rt, alloc, &mut jobs, &waiting, &AFTER_ALL);
 }
 
-/// Whether a poll of a job that was not run is pending, and sees no end.
-fn is_pending<R: Host + Abort>(
+/// What a job answers before it was run and after it: its end is seen once, with who waited, and the drop after it sees none.
+fn rows_of(number: u64) -> ([Row; 2], [Row; 4]) {
+    let before = [
+        (Call::Poll(number, 7), Reply::Pending, None),
+        (Call::HasEnded(number), Reply::No, None),
+    ];
+    let after = [
+        (Call::HasEnded(number), Reply::Yes, None),
+        (Call::HasEnded(number), Reply::Yes, None),
+        (Call::Poll(number, 8), Reply::Output(number), RAN_FOR_SEVEN),
+        (Call::Drop(number), Reply::Dropped(None), None),
+    ];
+    (before, after)
+}
+
+/// Makes all jobs, polls each of them, runs them, and polls them again.
+fn ends_are_seen_once<R: Host + Abort>(
     rt: &R,
     alloc: Global,
     jobs: &mut Blockings<Keeps>,
-    number: u64,
-) -> bool {
-    let polled = jobs.poll(number, waker(rt, alloc, 7));
-    polled.end.is_none()
-        && matches!(polled.answer, Ok(Poll::Pending))
-        && matches!(jobs.has_ended(number), Ok(false))
-}
-
-/// Whether a poll of a job that was run sees its end, with who waited, and the drop after it sees none.
-fn ends_once<R: Host + Abort>(
-    rt: &R,
-    alloc: Global,
-    jobs: &mut Blockings<Keeps>,
-    number: u64,
-) -> bool {
-    if !matches!(jobs.has_ended(number), Ok(true)) || !matches!(jobs.has_ended(number), Ok(true)) {
-        return false;
+    waiting: &Waiting,
+) {
+    for number in 0..MANY {
+        let row = (Call::Spawn(number), Reply::Job(number), None);
+        all_answer(rt, alloc, jobs, waiting, &[row]);
     }
-    let polled = jobs.poll(number, waker(rt, alloc, 8));
-    polled.end == Some(ran(Some(7)))
-        && matches!(polled.answer, Ok(Poll::Ready(Ok(gave))) if gave == number)
-        && jobs.drop_handle(number).end.is_none()
-}
-
-/// The end of a job that was run.
-fn ran(waiter: Option<u64>) -> End {
-    End {
-        how: How::Ran,
-        waiter,
+    for number in 0..MANY {
+        all_answer(rt, alloc, jobs, waiting, &rows_of(number).0);
+    }
+    run_all(rt, waiting, MANY);
+    for number in 0..MANY {
+        all_answer(rt, alloc, jobs, waiting, &rows_of(number).1);
     }
 }
 
 #[test]
 fn an_end_is_seen_once(rt: HostRuntime) {
-    let alloc = rt.alloc();
-    let (mut jobs, waiting) = jobs_on(&rt, alloc, MANY, MANY);
-    for number in 0..MANY {
-        assert!(rt; made(jobs.spawn(&rt, alloc, Gives(number))) == Some(number));
-    }
-    for number in 0..MANY {
-        assert!(rt; is_pending(&rt, alloc, &mut jobs, number));
-    }
-    run_all(&rt, &waiting);
-    for number in 0..MANY {
-        assert!(rt; ends_once(&rt, alloc, &mut jobs, number));
-    }
+    let (mut jobs, waiting) = jobs_on(&rt, rt.alloc(), MANY);
+    ends_are_seen_once(&rt, rt.alloc(), &mut jobs, &waiting);
 }
+
+const SEEN_BY_EACH: [Row; 7] = [
+    (Call::Spawn(4), Reply::Job(0), None),
+    (Call::Spawn(5), Reply::Job(1), None),
+    (Call::Spawn(6), Reply::Job(2), None),
+    (Call::Drop(2), Reply::Dropped(None), None),
+    (Call::RunAll, Reply::Ready, None),
+    (Call::Poll(0, 7), Reply::Output(4), RAN),
+    (Call::Drop(1), Reply::Dropped(Some(5)), RAN),
+];
 
 #[test]
 fn a_poll_and_a_drop_see_the_end(rt: HostRuntime) {
-    let alloc = rt.alloc();
-    let (mut jobs, waiting) = jobs_on(&rt, alloc, 9, 3);
-    for number in [4u64, 5, 6] {
-        assert!(rt; made(jobs.spawn(&rt, alloc, Gives(number))).is_some());
-    }
-    let early = jobs.drop_handle(2);
-    assert!(rt; early.end.is_none());
-    assert!(rt; matches!(early.answer, Ok(None)));
-    run_all(&rt, &waiting);
-    let polled = jobs.poll(0, waker(&rt, alloc, 7));
-    assert!(rt; polled.end == Some(ran(None)));
-    assert!(rt; matches!(polled.answer, Ok(Poll::Ready(Ok(4)))));
-    let dropped = jobs.drop_handle(1);
-    assert!(rt; dropped.end == Some(ran(None)));
-    assert!(rt; matches!(dropped.answer, Ok(Some(Ok(5)))));
+    let (mut jobs, waiting) = jobs_on(&rt, rt.alloc(), 3);
+    all_answer(&rt, rt.alloc(), &mut jobs, &waiting, &SEEN_BY_EACH);
 }

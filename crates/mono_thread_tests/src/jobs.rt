@@ -46,33 +46,47 @@ fn awaited<R: Host + Abort>(rt: &R, alloc: Global) -> Awaited {
     (task, joiner, other)
 }
 
+/// Polls the joiner, which must give this.
+pub(crate) fn ends<R: Abort>(
+    rt: &R,
+    mut joiner: JobJoiner<Gives>,
+    waker: JobWaker<NoUnpark>,
+    output: Result<u64, JoinError>,
+) {
+    assert!(rt; !joiner.is_taken());
+    assert!(rt; joiner.poll(waker) == Poll::Ready(output));
+}
+
+/// The end of a job must have woken its joiner's task or not, and gives this.
+fn ends_waking<R: Host + Abort>(
+    rt: &R,
+    joiner: JobJoiner<Gives>,
+    other: RemoteWaker<NoUnpark>,
+    was_woken: bool,
+    output: Result<u64, JoinError>,
+) {
+    assert!(rt; other.wake(rt) != was_woken);
+    ends(rt, joiner, JobWaker::new(other), output);
+}
+
 #[test]
 fn a_run_ends_the_word_and_wakes(rt: HostRuntime) {
-    let (task, mut joiner, other) = awaited(&rt, rt.alloc());
+    let (task, joiner, other) = awaited(&rt, rt.alloc());
     drop(task.run(&rt));
-    assert!(rt; !other.wake(&rt));
-    let again = JobWaker::new(other);
-    assert!(rt; !joiner.is_taken());
-    assert!(rt; matches!(joiner.poll(again), Poll::Ready(Ok(4))));
+    ends_waking(&rt, joiner, other, true, Ok(4));
 }
 
 #[test]
 fn a_cancel_hands_the_job_back_and_wakes(rt: HostRuntime) {
-    let (task, mut joiner, other) = awaited(&rt, rt.alloc());
+    let (task, joiner, other) = awaited(&rt, rt.alloc());
     let (job, _spent) = task.cancel(&rt);
     assert!(rt; job.0 == 4);
-    assert!(rt; !other.wake(&rt));
-    let again = JobWaker::new(other);
-    assert!(rt; !joiner.is_taken());
-    assert!(rt; matches!(joiner.poll(again), Poll::Ready(Err(JoinError::Canceled))));
+    ends_waking(&rt, joiner, other, true, Err(JoinError::Canceled));
 }
 
 #[test]
 fn a_dropped_task_ends_canceled_and_wakes_nobody(rt: HostRuntime) {
-    let (task, mut joiner, other) = awaited(&rt, rt.alloc());
+    let (task, joiner, other) = awaited(&rt, rt.alloc());
     drop(task);
-    assert!(rt; other.wake(&rt));
-    let again = JobWaker::new(other);
-    assert!(rt; !joiner.is_taken());
-    assert!(rt; matches!(joiner.poll(again), Poll::Ready(Err(JoinError::Canceled))));
+    ends_waking(&rt, joiner, other, false, Err(JoinError::Canceled));
 }

@@ -16,34 +16,39 @@ impl Wakes for Named {
     }
 }
 
+// The number of the waker that a completion hands back, or 0 where it hands back none.
+fn woken(waker: Option<Named>) -> u64 {
+    match waker {
+        Some(Named(number)) => number,
+        None => 0,
+    }
+}
+
 #[test]
 fn the_waker_comes_back_and_then_the_output(rt: HostRuntime) {
     let (runner, mut joiner) = pair::<u64, Named>(rt.alloc(), 4).expect(&rt, "memory");
-    assert!(rt; joiner.poll(Named(7)).is_pending());
+    let is_pending = joiner.poll(Named(7)).is_pending();
     let done = runner.complete(Ok(4));
-    assert!(rt; !done.dropped);
-    assert!(rt; done.woke.expect(&rt, "a waker").number() == 7);
+    assert!(rt; is_pending & !done.dropped & (woken(done.woke) == 7));
     assert!(rt; !joiner.is_taken());
-    assert!(rt; joiner.poll(Named(7)) == Poll::Ready(Ok(4)));
-    assert!(rt; joiner.is_taken());
-    assert!(rt; joiner.cancel().is_none());
+    let is_ready = joiner.poll(Named(7)) == Poll::Ready(Ok(4));
+    assert!(rt; is_ready & joiner.is_taken() & joiner.cancel().is_none());
 }
 
 #[test]
 fn a_cancelled_word_drops_the_output(rt: HostRuntime) {
     let (runner, joiner) = pair::<u64, Named>(rt.alloc(), 4).expect(&rt, "memory");
-    assert!(rt; joiner.cancel().is_none());
+    let is_canceled = joiner.cancel().is_none();
     let done = runner.complete(Ok(4));
-    assert!(rt; done.dropped && done.woke.is_none());
+    assert!(rt; is_canceled & done.dropped & done.woke.is_none());
 }
 
 #[test]
 fn a_canceled_job_is_told(rt: HostRuntime) {
     let (runner, mut joiner) = pair::<u64, Named>(rt.alloc(), 4).expect(&rt, "memory");
-    assert!(rt; !joiner.is_finished());
+    let was_finished = joiner.is_finished();
     let done = runner.complete(Err(JoinError::Canceled));
-    assert!(rt; !done.dropped && done.woke.is_none());
-    assert!(rt; joiner.is_finished());
+    assert!(rt; !was_finished & !done.dropped & done.woke.is_none() & joiner.is_finished());
     assert!(rt; joiner.cancel() == Some(Err(JoinError::Canceled)));
 }
 
@@ -64,9 +69,8 @@ fn the_latest_waker_alone_comes_back(rt: HostRuntime) {
         }
     }
     let done = runner.complete(Ok(true));
-    assert!(rt; done.woke.expect(&rt, "a waker").number() == 8);
-    let ended = joiner.cancel_with_seat();
-    assert!(rt; ended.output == Some(Ok(true)));
+    assert!(rt; woken(done.woke) == 8);
+    assert!(rt; joiner.cancel_with_seat().output == Some(Ok(true)));
 }
 
 // An output that counts how often one is let go.
@@ -109,9 +113,8 @@ fn start_completing<R: Threads + Abort>(
     if waits {
         assert!(rt; joiner.poll(Named(7)).is_pending());
     }
-    let child = thread::spawn(rt, move || runner.complete(Ok(output)))
-        .ok()
-        .expect(rt, "a thread");
+    let child = thread::spawn(rt, move || runner.complete(Ok(output)));
+    let child = child.ok().expect(rt, "a thread");
     for _ in 0..spins {
         joiner.is_finished();
     }
@@ -130,11 +133,11 @@ fn poll_in_time<R: Threads + Abort>(
     assert!(rt; !joiner.is_taken());
     let answer = joiner.poll(Named(8));
     let done = child.join(rt);
+    let woke = woken(done.woke);
     assert!(rt; !done.dropped);
-    let woke = done.woke.map_or(0, |waker| waker.0);
     match answer {
         Poll::Ready(output) => {
-            assert!(rt; output.is_ok_and(|output| output.number() == 4));
+            assert!(rt; matches!(output, Ok(Counted { number: 4, .. })));
             assert!(rt; woke == 0 || waits && woke == 7);
         }
         Poll::Pending => {
@@ -143,8 +146,7 @@ fn poll_in_time<R: Threads + Abort>(
             assert!(rt; matches!(late, Poll::Ready(Ok(Counted { number: 4, .. }))));
         }
     }
-    assert!(rt; joiner.is_taken());
-    assert!(rt; joiner.cancel().is_none());
+    assert!(rt; joiner.is_taken() & joiner.cancel().is_none());
 }
 
 // The joiner cancels while another thread completes.
@@ -159,8 +161,7 @@ fn cancel_in_time<R: Threads + Abort>(
     let handed = joiner.cancel().is_some();
     let done = child.join(rt);
     assert!(rt; done.dropped != handed);
-    let woke = done.woke.map_or(0, |waker| waker.0);
-    assert!(rt; woke == if handed && waits { 7 } else { 0 });
+    assert!(rt; woken(done.woke) == if handed && waits { 7 } else { 0 });
 }
 
 #[test]

@@ -12,12 +12,18 @@ mod jobs;
 #[cfg(test)]
 mod joinwords;
 #[cfg(test)]
+mod keeps;
+#[cfg(test)]
 mod known_rows;
 #[cfg(test)]
-mod marks;
-#[cfg(test)]
 mod pairs;
+#[cfg(test)]
+mod parkers;
 #[cfg(test)]
 mod pools;
 #[cfg(test)]
 mod recorded_inboxes;
+#[cfg(test)]
+mod states;
+#[cfg(test)]
+mod wakes;

@@ -2,10 +2,9 @@
 ghost use Rattle.std.specs.Prelude.{◌≡◌, ◌<◌, IfNone, IfSome};
 ghost use Rattle.std.specs.Vec.{vec_len, vec_capacity};
 ghost use Rattle.mono_blocking.specs.Counts.{counted_by};
-ghost use Rattle.mono_blocking.specs.Pool.{Offers};
-ghost use Rattle.mono_blocking.specs.declared.strategy.Offered.TheVariants.{Here};
 
-use crate::jobs::{Gives, waker};
+use crate::jobs::{Gives, ends, waker};
+use crate::keeps::pool_refusing;
 use mono_blocking::*;
 use mono_inbox::NoUnpark;
 use mono_model::{Host, Poll};
@@ -17,17 +16,21 @@ use std::thread;
 use std::thread::JoinHandle;
 use std::time::Duration;
 
+/// A task that gives 4, and its joiner.
+fn gives_four<R: Abort>(rt: &R, alloc: Global) -> (BlockingTask<Gives>, JobJoiner<Gives>) {
+    let made = BlockingTask::new(alloc, Gives(4));
+    made.ok().expect(rt, "memory")
+}
+
 #[test]
 fn a_pool_without_workers_runs_on_the_caller(rt: HostRuntime) {
     let alloc = rt.alloc();
     let mut spawner = NoSpawner::new();
     let mut pool = DefaultThreadPool::new(&rt, alloc, 2, &mut spawner).expect(&rt, "memory");
+    let (task, joiner) = gives_four(&rt, alloc);
     assert!(rt; pool.workers() == 0);
-    let made = BlockingTask::new(alloc, Gives(4)).ok();
-    let (task, mut joiner) = made.expect(&rt, "memory");
     assert!(rt; pool.schedule_task(&rt, alloc, task).is_ok());
-    let waker = waker(&rt, alloc, 0);
-    assert!(rt; matches!(joiner.poll(waker), Poll::Ready(Ok(4))));
+    ends(&rt, joiner, waker(&rt, alloc, 0), Ok(4));
     pool.close(&rt);
 }
 
@@ -90,23 +93,65 @@ impl Job for Meets {
     }
 }
 
-/// A job that sets or looks for this flag.
-fn job_on<R: Abort>(rt: &R, number: u64, flag: &Arc<AtomicU64, Global>) -> Meets {
-    let flag = Arc::try_clone(flag).expect(rt, "memory");
-    Meets { number, flag }
+/// What is done between the last job and the close of the pool.
+#[derive(Clone, Copy)]
+enum Between {
+    Nothing,
+    /// The flag is set.
+    Sets,
+    /// The flag is looked for, and must come to be set.
+    Looks,
 }
 
-/// Gives the pool a job, and hands out its joiner.
-fn schedule<R: Host + Abort>(
+/// How a pool is used: so many workers get, after so long, so many jobs, which are numbered from here on.
+#[derive(Clone, Copy)]
+struct Plan {
+    workers: usize,
+    after: Duration,
+    first: u64,
+    jobs: u64,
+    between: Between,
+}
+
+/// Gives the pool the jobs of the plan, and hands out their joiners.
+fn give_all<R: Host + Abort>(
     rt: &R,
     alloc: Global,
     pool: &mut DefaultThreadPool<Meets>,
-    job: Meets,
-) -> JobJoiner<Meets> {
-    let made = BlockingTask::new(alloc, job).ok();
-    let (task, joiner) = made.expect(rt, "memory");
-    assert!(rt; pool.schedule_task(rt, alloc, task).is_ok());
-    joiner
+    flag: &Arc<AtomicU64, Global>,
+    plan: Plan,
+) -> Vec<JobJoiner<Meets>> {
+    let mut joiners = Vec::new(alloc);
+    for job in 0..plan.jobs {
+        let number = plan.first.wrapping_add(job);
+        let flag = Arc::try_clone(flag).expect(rt, "memory");
+        let made = BlockingTask::new(alloc, Meets { number, flag }).ok();
+        let (task, joiner) = made.expect(rt, "memory");
+        assert!(rt; pool.schedule_task(rt, alloc, task).is_ok());
+        joiners.push(joiner).expect(rt, "memory");
+    }
+    joiners
+}
+
+/// Makes a pool by the spawner, uses it as planned and closes it.
+fn use_pool<R: Host + Abort + Send + 'static, P: Spawner>(
+    rt: &R,
+    alloc: Global,
+    spawner: &mut P,
+    flag: &Arc<AtomicU64, Global>,
+    plan: Plan,
+) -> Vec<JobJoiner<Meets>> {
+    let mut pool = DefaultThreadPool::new(rt, alloc, plan.workers, spawner).expect(rt, "memory");
+    assert!(rt; pool.workers() == plan.workers);
+    thread::sleep(rt, plan.after);
+    let joiners = give_all(rt, alloc, &mut pool, flag, plan);
+    match plan.between {
+        Between::Nothing => {}
+        Between::Sets => flag.store(1, Ordering::SeqCst),
+        Between::Looks => assert!(rt; looks(flag)),
+    }
+    pool.close(rt);
+    joiners
 }
 
 /// Whether the job is done, has this number and saw the other.
@@ -116,27 +161,49 @@ fn has_met<R: Host + Abort>(
     mut joiner: JobJoiner<Meets>,
     number: u64,
 ) -> bool {
-    let waker = waker(rt, alloc, 0);
     assert!(rt; !joiner.is_taken());
-    match joiner.poll(waker) {
+    match joiner.poll(waker(rt, alloc, 0)) {
         Poll::Ready(Ok(met)) => met.saw && met.number == number,
         _ => false,
     }
 }
 
+/// How many jobs are done and saw the other, each with its own number, from the first one on.
+fn count_met<R: Host + Abort>(
+    rt: &R,
+    alloc: Global,
+    joiners: Vec<JobJoiner<Meets>>,
+    first: u64,
+) -> u64 {
+    let mut count = 0u64;
+    for joiner in joiners {
+        assert!(rt; has_met(rt, alloc, joiner, first.wrapping_add(count)));
+        count = count.wrapping_add(1);
+    }
+    count
+}
+
+/// How many jobs of the plan the workers have run when the pool was closed.
+fn run_by<R: Host + Abort + Send + 'static>(rt: &R, alloc: Global, plan: Plan) -> u64 {
+    let flag = Arc::new(alloc, AtomicU64::new(0)).expect(rt, "memory");
+    let mut spawner = ThreadSpawner::new(alloc);
+    let joiners = use_pool(rt, alloc, &mut spawner, &flag, plan);
+    spawner.join(rt);
+    count_met(rt, alloc, joiners, plan.first)
+}
+
+/// The first job looks for the flag, and the second one sets it.
+const TWO_AT_ONCE: Plan = Plan {
+    workers: 2,
+    after: Duration::ZERO,
+    first: 1,
+    jobs: 2,
+    between: Between::Nothing,
+};
+
 #[test]
 fn two_workers_run_two_jobs_at_once(rt: HostRuntime) {
-    let alloc = rt.alloc();
-    let flag = Arc::new(alloc, AtomicU64::new(0)).expect(&rt, "memory");
-    let mut spawner = ThreadSpawner::new(alloc);
-    let mut pool = DefaultThreadPool::new(&rt, alloc, 2, &mut spawner).expect(&rt, "memory");
-    assert!(rt; pool.workers() == 2);
-    let first = schedule(&rt, alloc, &mut pool, job_on(&rt, 1, &flag));
-    let second = schedule(&rt, alloc, &mut pool, job_on(&rt, 2, &flag));
-    pool.close(&rt);
-    spawner.join(&rt);
-    assert!(rt; has_met(&rt, alloc, first, 1));
-    assert!(rt; has_met(&rt, alloc, second, 2));
+    assert!(rt; run_by(&rt, rt.alloc(), TWO_AT_ONCE) == 2);
 }
 
 /// Sets the flag.
@@ -196,6 +263,13 @@ impl Spawner for SetsFirst {
     }
 }
 
+/// The job looks for the flag, which its thread has set.
+const ENTERED: Plan = Plan {
+    workers: 1,
+    jobs: 1,
+    ..TWO_AT_ONCE
+};
+
 #[test]
 fn a_thread_enters_before_its_worker(rt: HostRuntime) {
     let alloc = rt.alloc();
@@ -204,141 +278,79 @@ fn a_thread_enters_before_its_worker(rt: HostRuntime) {
         inner: ThreadSpawner::new(alloc),
         flag: Arc::try_clone(&flag).expect(&rt, "memory"),
     };
-    let mut pool = DefaultThreadPool::new(&rt, alloc, 1, &mut spawner).expect(&rt, "memory");
-    let joiner = schedule(&rt, alloc, &mut pool, job_on(&rt, 1, &flag));
-    pool.close(&rt);
+    let joiners = use_pool(&rt, alloc, &mut spawner, &flag, ENTERED);
     let SetsFirst { inner, flag: _flag } = spawner;
     inner.join(&rt);
-    assert!(rt; has_met(&rt, alloc, joiner, 1));
-}
-
-/// Refuses each task.
-#[derive(Drop)]
-struct RefusesAll {
-    refusals: u64,
-}
-
-impl ThreadPool for RefusesAll {
-    type Job = Gives;
-
-    ghost refusals = { λ pool. pool.refusals };
-
-    fn offer<R: Host>(
-        &mut self,
-        _rt: &R,
-        _alloc: Global,
-        task: &mut Option<BlockingTask<Gives>>,
-    ) -> Offered
-        ensures offer { Offers task.old task.new self.old.refusals self.new.refusals result }
-        ensures here { ⊥ → (result ≡ Here) × ⊥ }
-    {
-        self.refusals = self.refusals.saturating_add(1);
-        Offered::Refused
-    }
+    assert!(rt; count_met(&rt, alloc, joiners, 1) == 1);
 }
 
 #[test]
 fn a_refused_task_comes_back(rt: HostRuntime) {
     let alloc = rt.alloc();
-    let mut pool = RefusesAll { refusals: 0 };
-    let made = BlockingTask::new(alloc, Gives(4)).ok();
-    let (task, mut joiner) = made.expect(&rt, "memory");
+    let (mut pool, _waiting) = pool_refusing(&rt, alloc, 0);
+    let (task, joiner) = gives_four(&rt, alloc);
     let Err(ScheduleError::Refused(task)) = pool.schedule_task(&rt, alloc, task) else {
-        assert!(rt; false, "the pool took the task");
-        return;
+        panic!(rt; "the pool took the task")
     };
-    assert!(rt; pool.refusals == 1);
     let (job, _spent) = task.cancel(&rt);
-    assert!(rt; job.0 == 4);
-    let waker = waker(&rt, alloc, 0);
-    assert!(rt; matches!(joiner.poll(waker), Poll::Ready(Err(JoinError::Canceled))));
+    assert!(rt; pool.refusals == 1 && job.0 == 4);
+    ends(&rt, joiner, waker(&rt, alloc, 0), Err(JoinError::Canceled));
 }
 
-/// Gives the pool so many jobs, and hands out their joiners. The output of each is its place.
-fn give_all<R: Host + Abort>(
-    rt: &R,
-    alloc: Global,
-    pool: &mut DefaultThreadPool<Gives>,
-    jobs: u64,
-) -> Vec<JobJoiner<Gives>> {
-    let mut joiners = Vec::new(alloc);
-    for number in 0..jobs {
-        let made = BlockingTask::new(alloc, Gives(number)).ok();
-        let (task, joiner) = made.expect(rt, "memory");
-        assert!(rt; pool.schedule_task(rt, alloc, task).is_ok());
-        joiners.push(joiner).expect(rt, "memory");
-    }
-    joiners
-}
-
-/// How many jobs have ended with their place as their output, up to the first that has not.
-fn ended(joiners: Vec<JobJoiner<Gives>>) -> u64 {
-    let mut number = 0u64;
-    for joiner in joiners {
-        if joiner.cancel() != Some(Ok(number)) {
-            return number;
-        }
-        number = number.wrapping_add(1);
-    }
-    number
-}
-
-/// How many jobs so many workers have run when the pool was closed. It gets the jobs after so long.
-fn run_by<R: Host + Abort + Send + 'static>(
-    rt: &R,
-    alloc: Global,
-    workers: usize,
-    after: Duration,
-    jobs: u64,
-) -> u64 {
-    let mut spawner = ThreadSpawner::new(alloc);
-    let mut pool = DefaultThreadPool::new(rt, alloc, workers, &mut spawner).expect(rt, "memory");
-    assert!(rt; pool.workers() == workers);
-    thread::sleep(rt, after);
-    let joiners = give_all(rt, alloc, &mut pool, jobs);
-    pool.close(rt);
-    spawner.join(rt);
-    ended(joiners)
-}
+/// Jobs that all set the flag.
+const FIVE: Plan = Plan {
+    workers: 1,
+    after: Duration::ZERO,
+    first: 2,
+    jobs: 5,
+    between: Between::Nothing,
+};
 
 #[test]
 fn one_worker_runs_all(rt: HostRuntime) {
-    assert!(rt; run_by(&rt, rt.alloc(), 1, Duration::ZERO, 5) == 5);
+    assert!(rt; run_by(&rt, rt.alloc(), FIVE) == 5);
 }
 
 #[test]
 fn eight_workers_run_thirty_two_jobs(rt: HostRuntime) {
-    assert!(rt; run_by(&rt, rt.alloc(), 8, Duration::ZERO, 32) == 32);
+    let plan = Plan {
+        workers: 8,
+        jobs: 32,
+        ..FIVE
+    };
+    assert!(rt; run_by(&rt, rt.alloc(), plan) == 32);
 }
+
+/// How long workers are given to begin to wait, in milliseconds.
+const A_WHILE: u64 = 50;
 
 #[test]
 fn close_ends_workers_that_wait(rt: HostRuntime) {
-    assert!(rt; run_by(&rt, rt.alloc(), 3, Duration::from_millis(50), 0) == 0);
+    let plan = Plan {
+        workers: 3,
+        after: Duration::from_millis(A_WHILE),
+        jobs: 0,
+        ..FIVE
+    };
+    assert!(rt; run_by(&rt, rt.alloc(), plan) == 0);
 }
 
 #[test]
 fn a_worker_that_waits_is_told(rt: HostRuntime) {
-    let alloc = rt.alloc();
-    let flag = Arc::new(alloc, AtomicU64::new(0)).expect(&rt, "memory");
-    let mut spawner = ThreadSpawner::new(alloc);
-    let mut pool = DefaultThreadPool::new(&rt, alloc, 1, &mut spawner).expect(&rt, "memory");
-    thread::sleep(&rt, Duration::from_millis(50));
-    let joiner = schedule(&rt, alloc, &mut pool, job_on(&rt, 2, &flag));
-    assert!(rt; looks(&flag));
-    pool.close(&rt);
-    spawner.join(&rt);
-    drop(joiner);
+    let plan = Plan {
+        after: Duration::from_millis(A_WHILE),
+        jobs: 1,
+        between: Between::Looks,
+        ..FIVE
+    };
+    assert!(rt; run_by(&rt, rt.alloc(), plan) == 1);
 }
 
 #[test]
 fn one_worker_leaves_the_caller_free(rt: HostRuntime) {
-    let alloc = rt.alloc();
-    let flag = Arc::new(alloc, AtomicU64::new(0)).expect(&rt, "memory");
-    let mut spawner = ThreadSpawner::new(alloc);
-    let mut pool = DefaultThreadPool::new(&rt, alloc, 1, &mut spawner).expect(&rt, "memory");
-    let joiner = schedule(&rt, alloc, &mut pool, job_on(&rt, 1, &flag));
-    flag.store(1, Ordering::SeqCst);
-    pool.close(&rt);
-    spawner.join(&rt);
-    assert!(rt; has_met(&rt, alloc, joiner, 1));
+    let plan = Plan {
+        between: Between::Sets,
+        ..ENTERED
+    };
+    assert!(rt; run_by(&rt, rt.alloc(), plan) == 1);
 }

@@ -1,7 +1,6 @@
-// The recorded state and the recorded inbox: what is kept, and how many wakes the shares count.
+// The recorded inbox: what is kept, and how many wakes the shares count.
 ghost use Rattle.std.specs.Prelude.{◌≡◌};
 
-use crate::inboxes::drained;
 use mono_inbox::*;
 use mono_model::Host;
 use std::alloc::Global;
@@ -10,66 +9,6 @@ use std::process::Abort;
 use std::sync::ledger::{Blank, Ledger};
 use std::thread;
 use std::thread::JoinHandle;
-
-/// Makes one call: whether its reply is that of the entry.
-fn replies_as<R: Abort>(rt: &R, alloc: Global, state: &mut InboxState, entry: &CallEntry) -> bool {
-    match entry {
-        CallEntry::Know(task) => state.know(alloc, *task).is_ok(),
-        CallEntry::Put(task, listed) => state.put(*task) == *listed,
-        CallEntry::DrainOne(task) => state.drain_one() == *task,
-        CallEntry::Drain(tasks) => drained(rt, alloc, state).len() as u64 == *tasks,
-        CallEntry::Retire(task) => {
-            state.retire(*task);
-            true
-        }
-    }
-}
-
-/// How many of these calls have their replies, up to the first that has another.
-fn replies<R: Abort>(
-    rt: &R,
-    alloc: Global,
-    state: &mut InboxState,
-    entries: &[CallEntry],
-) -> usize {
-    let mut replied = 0usize;
-    for entry in entries {
-        if !replies_as(rt, alloc, state, entry) {
-            return replied;
-        }
-        replied = replied.wrapping_add(1);
-    }
-    replied
-}
-
-#[test]
-fn a_state_keeps_its_calls(rt: HostRuntime) {
-    let alloc = rt.alloc();
-    let mut state = InboxState::recorded(alloc, 4, 9).expect(&rt, "memory");
-    let kept = [
-        CallEntry::Know(3),
-        CallEntry::Know(5),
-        CallEntry::Put(5, true),
-        CallEntry::Put(3, true),
-        CallEntry::Put(3, false),
-        CallEntry::DrainOne(Some(5)),
-        CallEntry::Retire(5),
-        CallEntry::Drain(1),
-        CallEntry::DrainOne(None),
-    ];
-    assert!(rt; replies(&rt, alloc, &mut state, &kept[..2]) == 2);
-    assert!(rt; state.know(alloc, u64::MAX).is_err());
-    assert!(rt; replies(&rt, alloc, &mut state, &kept[2..8]) == 6);
-    assert!(rt; !state.is_full());
-    assert!(rt; replies(&rt, alloc, &mut state, &kept[8..]) == 1);
-    assert!(rt; state.is_full());
-    assert!(rt; state.put(3));
-    assert!(rt; state.plain_puts() == 3);
-    assert!(rt; state.ledger_puts() == 0);
-    assert!(rt; state.history().as_slice() == kept.as_slice());
-    let plain = InboxState::new(alloc, 4).expect(&rt, "memory");
-    assert!(rt; plain.is_full());
-}
 
 /// A recorded inbox that keeps so many calls, and the shares of its callers.
 type Opened<L> = (RecordedInbox<NoUnpark, L>, Vec<CallShare<L>>);
@@ -98,9 +37,7 @@ fn drains_in_order<L: Ledger, R: Host + Abort>(
     let third = inbox.waker(rt, alloc, 3).expect(rt, "memory");
     let fifth = inbox.waker(rt, alloc, 5).expect(rt, "memory");
     assert!(rt; fifth.task() == 5);
-    assert!(rt; fifth.wake(rt));
-    assert!(rt; third.wake(rt));
-    assert!(rt; !third.wake(rt));
+    assert!(rt; fifth.wake(rt) & third.wake(rt) & !third.wake(rt));
     inbox.drain(rt, alloc, &mut tasks).expect(rt, "memory");
     assert!(rt; tasks.as_slice() == [5, 3].as_slice());
     inbox.retire(rt, 3);
@@ -140,34 +77,32 @@ fn wake_often<L: Ledger, R: Host>(
 /// A thread that wakes the task often with the share, and hands it back.
 type Waking<L> = JoinHandle<(CallShare<L>, u64)>;
 
-fn start<L: Ledger + Send + Sync + 'static, R: Host + Copy + Send + 'static>(
-    rt: R,
-    waker: RecordedWaker<NoUnpark, L>,
-    share: CallShare<L>,
-) -> Option<Waking<L>> {
-    thread::spawn(&rt, move || {
-        let mut share = share;
-        let wakes = wake_often(&rt, &waker, &mut share);
-        (share, wakes)
-    })
-    .ok()
-}
-
-/// Two threads, each of which wakes a task of its own.
-fn start_two<L: Ledger + Send + Sync + 'static, R: Host + Abort + Copy + Send + 'static>(
+/// A thread that wakes the task of the last share's number with that share.
+fn start<L: Ledger + Send + Sync + 'static, R: Host + Abort + Copy + Send + 'static>(
     rt: R,
     alloc: Global,
     inbox: &RecordedInbox<NoUnpark, L>,
     shares: &mut Vec<CallShare<L>>,
-) -> (Waking<L>, Waking<L>) {
-    let second = shares.pop().expect(&rt, "a share");
-    let first = shares.pop().expect(&rt, "a share");
-    assert!(rt; first.number() == 0 && second.number() == 1);
-    let waker = inbox.waker(&rt, alloc, 0).expect(&rt, "memory");
-    let first = start(rt, waker, first).expect(&rt, "a thread");
-    let waker = inbox.waker(&rt, alloc, 1).expect(&rt, "memory");
-    let second = start(rt, waker, second).expect(&rt, "a thread");
-    (first, second)
+    number: u64,
+) -> Waking<L> {
+    let mut share = shares.pop().expect(&rt, "a share");
+    assert!(rt; share.number() == number);
+    let waker = inbox.waker(&rt, alloc, number).expect(&rt, "memory");
+    let thread = thread::spawn(&rt, move || {
+        let wakes = wake_often(&rt, &waker, &mut share);
+        (share, wakes)
+    });
+    thread.ok().expect(&rt, "a thread")
+}
+
+/// The share that a thread hands back, behind all its wakes.
+fn joined<L: Ledger + Send + Sync + 'static, R: Host + Abort>(
+    rt: &R,
+    waking: Waking<L>,
+) -> CallShare<L> {
+    let (share, wakes) = waking.join(rt);
+    assert!(rt; wakes == WAKES);
+    share
 }
 
 /// How many wakes of the task were kept.
@@ -198,15 +133,12 @@ fn two_callers<L: Ledger + Send + Sync + 'static, R: Host + Abort + Copy + Send 
     requires { (blank.name ≡ L.name) × (blank.parts ≡ L.parts) × (blank.parts ≡ 2) }
 {
     let (inbox, mut shares) = opened::<L, R>(&rt, alloc, 4, 256, 2, blank);
-    let (first, second) = start_two(rt, alloc, &inbox, &mut shares);
-    let (first, first_wakes) = first.join(&rt);
-    let (second, second_wakes) = second.join(&rt);
-    assert!(rt; first_wakes == WAKES && second_wakes == WAKES);
+    let second = start(rt, alloc, &inbox, &mut shares, 1);
+    let first = start(rt, alloc, &inbox, &mut shares, 0);
+    let (first, second) = (joined(&rt, first), joined(&rt, second));
     shares.push(first).expect(&rt, "memory");
-    let mut shares = inbox
-        .gather(&rt, shares)
-        .err()
-        .expect(&rt, "a share is missing");
+    let gathered = inbox.gather(&rt, shares);
+    let mut shares = gathered.err().expect(&rt, "a share is missing");
     shares.push(second).expect(&rt, "memory");
     let gathered = inbox.gather(&rt, shares).ok().expect(&rt, "all shares");
     assert!(rt; inbox.look(&rt, |state| keeps_all(state, gathered)));
@@ -225,9 +157,10 @@ fn counts_one<L: Ledger, R: Host + Abort>(
     share: &mut CallShare<L>,
 ) {
     assert!(rt; share.calls() == 0);
-    assert!(rt; waker.wake_with(rt, share) == PutReply::Kept(true));
+    let first = waker.wake_with(rt, share);
     assert!(rt; share.calls() == 1);
-    assert!(rt; waker.wake_with(rt, share) == PutReply::Unkept(false));
+    let second = waker.wake_with(rt, share);
+    assert!(rt; first == PutReply::Kept(true) && second == PutReply::Unkept(false));
 }
 
 fn full_state<L: Ledger, R: Host + Abort>(rt: &R, alloc: Global, blank: Blank)

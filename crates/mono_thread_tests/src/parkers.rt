@@ -1,0 +1,146 @@
+// Tokens and parkers, and parks that another thread ends.
+use mono_inbox::{Parker, Token, Unpark, UnparkHandle};
+use mono_model::Host;
+use std::alloc::Global;
+use std::process::Abort;
+use std::sync::Arc;
+use std::sync::atomic::{AtomicU64, Ordering};
+use std::thread;
+use std::thread::JoinHandle;
+use std::time::Duration;
+
+#[test]
+fn a_token_is_taken_once(rt: HostRuntime) {
+    let mut token = Token::new();
+    let early = token.take();
+    token.set();
+    token.set();
+    let first = token.take();
+    let second = token.take();
+    assert!(rt; !early & first & !second);
+}
+
+/// A handle that ends a park of this parker.
+pub(crate) fn handle_of<R: Abort>(rt: &R, parker: &Parker) -> UnparkHandle {
+    parker.handle().expect(rt, "memory")
+}
+
+#[test]
+fn a_park_takes_the_token(rt: HostRuntime) {
+    let parker = Parker::new(rt.alloc()).expect(&rt, "memory");
+    let handle = handle_of(&rt, &parker);
+    handle.unpark(&rt);
+    parker.park(&rt);
+    handle.clone().expect(&rt, "memory").unpark(&rt);
+    parker.park_timeout(&rt, Duration::from_secs(3600));
+    parker.park_timeout(&rt, Duration::from_millis(1));
+}
+
+/// A thread that sets a flag after so long and then unparks, and the flag.
+pub(crate) fn start_setting<R: Host + Abort + Copy + Send + 'static>(
+    rt: R,
+    alloc: Global,
+    handle: UnparkHandle,
+    after: Duration,
+) -> (Arc<AtomicU64, Global>, JoinHandle<()>) {
+    let flag = Arc::new(alloc, AtomicU64::new(0)).expect(&rt, "memory");
+    let theirs = Arc::try_clone(&flag).expect(&rt, "memory");
+    let thread = thread::spawn(&rt, move || {
+        thread::sleep(&rt, after);
+        theirs.store(1, Ordering::SeqCst);
+        handle.unpark(&rt);
+    });
+    (flag, thread.ok().expect(&rt, "a thread"))
+}
+
+/// Whether a park sees the flag that another thread sets before it unparks.
+fn parks_for_the_flag<R: Host + Abort + Copy + Send + 'static>(
+    rt: R,
+    alloc: Global,
+    parker: &Parker,
+    is_limited: bool,
+) -> bool {
+    let handle = handle_of(&rt, parker);
+    let (flag, other) = start_setting(rt, alloc, handle, Duration::from_millis(30));
+    if is_limited {
+        parker.park_timeout(&rt, Duration::from_secs(3600));
+    } else {
+        parker.park(&rt);
+    }
+    let was_set = flag.load(Ordering::SeqCst) == 1;
+    other.join(&rt);
+    was_set
+}
+
+#[test]
+fn a_park_ends_by_another_thread(rt: HostRuntime) {
+    let parker = Parker::new(rt.alloc()).expect(&rt, "memory");
+    let early = handle_of(&rt, &parker);
+    let (_flag, other) = start_setting(rt, rt.alloc(), early, Duration::ZERO);
+    other.join(&rt);
+    parker.park(&rt);
+    assert!(rt; parks_for_the_flag(rt, rt.alloc(), &parker, false));
+}
+
+#[test]
+fn a_park_that_returns_took_the_token(rt: HostRuntime) {
+    let parker = Parker::new(rt.alloc()).expect(&rt, "memory");
+    handle_of(&rt, &parker).unpark(&rt);
+    parker.park(&rt);
+    for is_limited in [false, true, false] {
+        assert!(rt; parks_for_the_flag(rt, rt.alloc(), &parker, is_limited));
+    }
+}
+
+/// How often a token is handed to and fro: far more often than a wake that is lost now and then would stay unseen.
+const TURNS: u64 = 100_000;
+
+/// The longest that a park may wait for a token that is on its way, in seconds.
+const LATE: u64 = 10;
+
+/// Waits for the token, counts it and hands it back, so many times.
+fn hands_back<R: Host>(rt: &R, mine: &Parker, other: &UnparkHandle, count: &AtomicU64) {
+    for turn in 0..TURNS {
+        mine.park_timeout(rt, Duration::from_secs(LATE));
+        count.store(turn.wrapping_add(1), Ordering::SeqCst);
+        other.unpark(rt);
+    }
+}
+
+/// Hands the token over and waits until it is back: whether it was counted each time before it came back.
+fn hands_over<R: Host>(rt: &R, mine: &Parker, other: &UnparkHandle, count: &AtomicU64) -> bool {
+    for turn in 0..TURNS {
+        other.unpark(rt);
+        mine.park_timeout(rt, Duration::from_secs(LATE));
+        if count.load(Ordering::SeqCst) != turn.wrapping_add(1) {
+            return false;
+        }
+    }
+    true
+}
+
+/// Whether each token that is handed to another thread was counted there before it came back.
+fn goes_to_and_fro<R: Host + Abort + Copy + Send + 'static>(
+    rt: R,
+    alloc: Global,
+    mine: &Parker,
+    theirs: Parker,
+) -> bool {
+    let handle = handle_of(&rt, mine);
+    let other = handle_of(&rt, &theirs);
+    let count = Arc::new(alloc, AtomicU64::new(0)).expect(&rt, "memory");
+    let their_count = Arc::try_clone(&count).expect(&rt, "memory");
+    let thread = thread::spawn(&rt, move || hands_back(&rt, &theirs, &handle, &their_count))
+        .ok()
+        .expect(&rt, "a thread");
+    let is_counted = hands_over(&rt, mine, &other, &count);
+    thread.join(&rt);
+    is_counted
+}
+
+#[test]
+fn a_token_goes_to_and_fro(rt: HostRuntime) {
+    let mine = Parker::new(rt.alloc()).expect(&rt, "memory");
+    let theirs = Parker::new(rt.alloc()).expect(&rt, "memory");
+    assert!(rt; goes_to_and_fro(rt, rt.alloc(), &mine, theirs));
+}

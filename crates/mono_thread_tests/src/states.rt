@@ -1,0 +1,229 @@
+// The state of an inbox: each test is a table of calls with the replies that they must have.
+use mono_inbox::{CallEntry, InboxState};
+use std::alloc::Global;
+use std::process::Abort;
+
+/// One call on a state, with what it answers.
+#[derive(Clone, Copy)]
+enum Call {
+    /// The task is made known, or is not.
+    Knows(u64, bool),
+    /// A wake of the task, and whether it is listed.
+    Puts(u64, bool),
+    /// The first waiting task is taken.
+    DrainsOne(Option<u64>),
+    /// All waiting tasks are taken: this one alone.
+    Drains(u64),
+    /// The task is made unknown.
+    Retires(u64),
+    /// So many tasks wait.
+    Waits(usize),
+    /// Whether the state keeps no more calls.
+    IsFull(bool),
+}
+
+/// Whether this task is all that waits. It is taken.
+fn drains_alone<R: Abort>(rt: &R, alloc: Global, state: &mut InboxState, task: u64) -> bool {
+    let mut tasks = Vec::new(alloc);
+    tasks.reserve(state.waiting()).expect(rt, "memory");
+    state.drain(&mut tasks);
+    tasks.as_slice() == [task].as_slice()
+}
+
+/// Makes one call: whether it answers so.
+fn answers<R: Abort>(rt: &R, alloc: Global, state: &mut InboxState, call: Call) -> bool {
+    match call {
+        Call::Knows(task, known) => state.know(alloc, task).is_ok() == known,
+        Call::Puts(task, listed) => state.put(task) == listed,
+        Call::DrainsOne(task) => state.drain_one() == task,
+        Call::Drains(task) => drains_alone(rt, alloc, state, task),
+        Call::Retires(task) => {
+            state.retire(task);
+            true
+        }
+        Call::Waits(tasks) => state.waiting() == tasks,
+        Call::IsFull(is_full) => state.is_full() == is_full,
+    }
+}
+
+/// Makes the calls in turn: each must answer so.
+fn all_answer<R: Abort>(rt: &R, alloc: Global, state: &mut InboxState, calls: &[Call]) {
+    for call in calls {
+        assert!(rt; answers(rt, alloc, state, *call));
+    }
+}
+
+/// So many tasks are made known in turn, each woken, taken and retired; every 100,000th is not retired.
+fn come_and_go(alloc: Global, state: &mut InboxState, tasks: u64) -> bool {
+    let mut all_listed = true;
+    for task in 0..tasks {
+        let known = state.know(alloc, task).is_ok();
+        let listed = state.put(task) && !state.put(task) && state.drain_one() == Some(task);
+        all_listed = all_listed && known && listed;
+        if task % 100_000 != 0 {
+            state.retire(task);
+        }
+    }
+    all_listed
+}
+
+/// The calls on a new state with this room, behind so many tasks that come and go.
+fn all_answer_behind<R: Abort>(rt: &R, alloc: Global, room: usize, tasks: u64, calls: &[Call]) {
+    let mut state = InboxState::new(alloc, room).expect(rt, "memory");
+    assert!(rt; come_and_go(alloc, &mut state, tasks));
+    all_answer(rt, alloc, &mut state, calls);
+}
+
+const LISTED_ONCE: [Call; 8] = [
+    Call::Knows(3, true),
+    Call::Puts(3, true),
+    Call::Puts(3, false),
+    Call::Puts(9, false),
+    Call::Drains(3),
+    Call::Retires(3),
+    Call::Puts(3, false),
+    Call::Waits(0),
+];
+
+#[test]
+fn a_state_lists_known_tasks_once(rt: HostRuntime) {
+    all_answer_behind(&rt, rt.alloc(), 0, 0, &LISTED_ONCE);
+}
+
+const RETIRED: [Call; 16] = [
+    Call::Knows(7, true),
+    Call::Knows(1, true),
+    Call::Puts(7, true),
+    Call::Puts(1, true),
+    Call::Retires(7),
+    Call::Knows(7, true),
+    Call::Puts(7, false),
+    Call::Retires(1),
+    Call::Waits(2),
+    Call::DrainsOne(Some(7)),
+    Call::DrainsOne(Some(1)),
+    Call::DrainsOne(None),
+    Call::Puts(7, true),
+    Call::Puts(1, false),
+    Call::Knows(u64::MAX, false),
+    Call::Drains(7),
+];
+
+#[test]
+fn a_retired_task_waits_until_the_drain(rt: HostRuntime) {
+    all_answer_behind(&rt, rt.alloc(), 2, 0, &RETIRED);
+}
+
+// The tasks below lie far past the first page and the first part of an inbox's marks.
+const KEPT_MARKS: [Call; 40] = [
+    Call::Puts(0, true),
+    Call::Puts(1, false),
+    Call::Puts(100_000, true),
+    Call::Puts(100_001, false),
+    Call::Puts(200_000, true),
+    Call::Puts(200_001, false),
+    Call::Puts(300_000, true),
+    Call::Puts(300_001, false),
+    Call::Puts(400_000, true),
+    Call::Puts(400_001, false),
+    Call::Puts(500_000, true),
+    Call::Puts(500_001, false),
+    Call::Puts(600_000, true),
+    Call::Puts(600_001, false),
+    Call::Puts(700_000, true),
+    Call::Puts(700_001, false),
+    Call::Puts(800_000, true),
+    Call::Puts(800_001, false),
+    Call::Puts(900_000, true),
+    Call::Puts(900_001, false),
+    Call::Puts(1_000_000, true),
+    Call::Puts(1_000_001, false),
+    Call::Puts(1_100_000, true),
+    Call::Puts(1_100_001, false),
+    Call::Puts(1_149_999, false),
+    Call::Puts(1_150_000, false),
+    Call::Waits(12),
+    Call::DrainsOne(Some(0)),
+    Call::DrainsOne(Some(100_000)),
+    Call::DrainsOne(Some(200_000)),
+    Call::DrainsOne(Some(300_000)),
+    Call::DrainsOne(Some(400_000)),
+    Call::DrainsOne(Some(500_000)),
+    Call::DrainsOne(Some(600_000)),
+    Call::DrainsOne(Some(700_000)),
+    Call::DrainsOne(Some(800_000)),
+    Call::DrainsOne(Some(900_000)),
+    Call::DrainsOne(Some(1_000_000)),
+    Call::DrainsOne(Some(1_100_000)),
+    Call::DrainsOne(None),
+];
+
+#[test]
+fn kept_marks_outlive_their_neighbours(rt: HostRuntime) {
+    all_answer_behind(&rt, rt.alloc(), 0, 1_150_000, &KEPT_MARKS);
+}
+
+const KNOWN_ANEW: [Call; 18] = [
+    Call::Puts(9_999, false),
+    Call::Knows(9_999, true),
+    Call::Puts(9_999, true),
+    Call::Retires(9_999),
+    Call::Knows(5_000_000, true),
+    Call::Puts(5_000_000, true),
+    Call::Puts(4_999_999, false),
+    Call::Puts(5_000_001, false),
+    Call::Knows(3, true),
+    Call::Puts(3, true),
+    Call::Puts(2, false),
+    Call::DrainsOne(Some(9_999)),
+    Call::Puts(9_999, false),
+    Call::DrainsOne(Some(5_000_000)),
+    Call::DrainsOne(Some(3)),
+    Call::Puts(5_000_000, true),
+    Call::Knows(u64::MAX, false),
+    Call::Puts(0, true),
+];
+
+#[test]
+fn a_number_that_went_is_known_anew(rt: HostRuntime) {
+    all_answer_behind(&rt, rt.alloc(), 0, 20_000, &KNOWN_ANEW);
+}
+
+const RECORDED: [Call; 13] = [
+    Call::Knows(3, true),
+    Call::Knows(5, true),
+    Call::Knows(u64::MAX, false),
+    Call::Puts(5, true),
+    Call::Puts(3, true),
+    Call::Puts(3, false),
+    Call::DrainsOne(Some(5)),
+    Call::Retires(5),
+    Call::Drains(3),
+    Call::IsFull(false),
+    Call::DrainsOne(None),
+    Call::IsFull(true),
+    Call::Puts(3, true),
+];
+
+/// What is kept of these calls.
+const KEPT: [CallEntry; 9] = [
+    CallEntry::Know(3),
+    CallEntry::Know(5),
+    CallEntry::Put(5, true),
+    CallEntry::Put(3, true),
+    CallEntry::Put(3, false),
+    CallEntry::DrainOne(Some(5)),
+    CallEntry::Retire(5),
+    CallEntry::Drain(1),
+    CallEntry::DrainOne(None),
+];
+
+#[test]
+fn a_state_keeps_its_calls(rt: HostRuntime) {
+    let alloc = rt.alloc();
+    let mut state = InboxState::recorded(alloc, 4, 9).expect(&rt, "memory");
+    all_answer(&rt, alloc, &mut state, &RECORDED);
+    assert!(rt; state.plain_puts() == 3 && state.ledger_puts() == 0);
+    assert!(rt; state.history().as_slice() == KEPT.as_slice());
+    all_answer_behind(&rt, alloc, 4, 0, &[Call::IsFull(true)]);
+}
