@@ -96,7 +96,11 @@ fn after_rest<R: Host>(rt: &R, shared: &Shared, listed: u64, turns: u64) -> Resu
     if turns < REST {
         return Err(Part::Waits(listed, turns + 1));
     }
-    Ok(listed.saturating_mul(1000).saturating_add(wake_each(rt, shared)))
+    Ok(
+        listed
+            .saturating_mul(1000)
+            .saturating_add(wake_each(rt, shared)),
+    )
 }
 
 impl Member {

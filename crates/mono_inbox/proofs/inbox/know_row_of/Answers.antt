@@ -5,4 +5,3 @@ use Rattle.mono_inbox.proofs.inbox.know_row_of.Goals as goal
 
 pub loop-next-init : goal.loop-next-init
 loop-next-init c = (omega arith, λ less. less, record { known = λ t. row_start c.args.from t (is_known c.args.state.now.state t); waiting = refl })
-
