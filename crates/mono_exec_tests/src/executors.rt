@@ -14,6 +14,7 @@ fn lists(rt: HostRuntime) {
     assert!(rt; list.is_empty());
     assert!(rt; list.push(7).is_ok() && list.push(8).is_ok());
     assert!(rt; list.len() == 2 && list.get(1) == Some(&8) && list.get(2) == None);
+    assert!(rt; list.get(0) == Some(&7));
     assert!(rt; list.as_slice() == [7, 8].as_slice());
     list.clear();
     assert!(rt; list.len() == 0);
