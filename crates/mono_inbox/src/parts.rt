@@ -140,6 +140,7 @@ impl Part {
     }
 
     // A task that has a place stands otherwise.
+    #[inline(always)]
     fn write(&mut self, task: usize, standing: Standing)
         requires { has_place (standing_at self.old task) ≡ true }
         ensures { self.new ≡ slice_set self.old task standing }
