@@ -85,6 +85,7 @@ impl CallLog {
     }
 
     /// Keeps a call that was made without a share.
+    #[inline(always)]
     pub(crate) fn keep(&mut self, entry: CallEntry)
         ensures { self.new ≡ with_entry self.old entry }
     {

@@ -1,9 +1,9 @@
 // The directory: the parts of all tasks, and so how each task stands.
-ghost use Rattle.std.specs.Prelude.{◌≡◌, ◌<◌, ◌^◌, ℕ, true, [], length, OnOk, OnErr, slice_set};
+ghost use Rattle.std.specs.Prelude.{◌≡◌, ◌<◌, ◌≤◌, ◌^◌, ◌++◌, ℕ, true, [], length, replicate, OnOk, OnErr, slice_set};
 ghost use Rattle.mono_inbox.specs.Standings.{has_place, standing_at};
 ghost use Rattle.mono_inbox.specs.Pages.{with_mark, child_at, closed_before};
 
-use crate::parts::{PART, Part, greater_of};
+use crate::parts::{PART, Part, greater_of, lesser_of};
 use crate::standings::Standing;
 use std::alloc::{AllocError, Global};
 use std::marker::Model;
@@ -41,6 +41,13 @@ impl Marks {
             parts: Vec::new(alloc),
             len: 0,
         }
+    }
+
+    /// The number behind the last that was ever made known.
+    pub(crate) fn len(&self) -> usize
+        ensures { result ≡ length self.now }
+    {
+        self.len
     }
 
     /// How a task stands.
@@ -84,6 +91,24 @@ impl Marks {
         self.parts[at].mark(alloc, task % PART, standing)?;
         self.len = len;
         Ok(())
+    }
+
+    /// Tasks from the number behind the last are known, so many at most. Answers how many: the rest of the page that is begun,
+    /// where it has an entry for each number before, and where there was memory.
+    #[inline(always)]
+    pub(crate) fn extend(&mut self, count: usize) -> usize
+        ensures most { result ≤ count }
+        ensures after { self.new ≡ self.old ++ replicate result Standing.Known }
+    {
+        let at = self.len / PART;
+        let begun = self.len % PART;
+        if at >= self.parts.len() || self.parts[at].len() != begun {
+            return 0;
+        }
+        let most = lesser_of(PART - begun, usize::MAX - self.len);
+        let more = self.parts[at].extend(lesser_of(count, most));
+        self.len += more;
+        more
     }
 
     /// A task that has a place stands otherwise. It takes no memory, and gives back the memory of a page in which no task

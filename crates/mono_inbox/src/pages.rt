@@ -1,5 +1,5 @@
 // A page: the standings of as many tasks in a row, in one piece of memory.
-ghost use Rattle.std.specs.Prelude.{◌≡◌, ◌+◌, ◌<◌, ◌≤◌, ◌++◌, ◌∷◌, true, [], OnOk, OnErr, replicate, slice_set, vec_len, vec_capacity};
+ghost use Rattle.std.specs.Prelude.{◌≡◌, ◌+◌, ◌<◌, ◌≤◌, ◌++◌, ◌∷◌, true, [], OnOk, OnErr, length, replicate, slice_set, vec_len, vec_capacity};
 ghost use Rattle.mono_inbox.specs.Standings.{has_place, standing_at, count_where};
 ghost use Rattle.mono_inbox.specs.Pages.{grown, with_mark, left_of};
 
@@ -47,6 +47,13 @@ impl Page {
         self.placed
     }
 
+    /// How many of its tasks have an entry.
+    pub(crate) fn len(&self) -> usize
+        ensures { result ≡ length self.now }
+    {
+        self.standings.len()
+    }
+
     /// How the task at a place stands.
     #[inline(always)]
     pub(crate) fn standing(&self, at: usize) -> Standing
@@ -68,6 +75,20 @@ impl Page {
     {
         put_mark(&mut self.standings, at, standing)?;
         self.placed += 1;
+        Ok(())
+    }
+
+    /// So many tasks more, behind those that have an entry, are known, where some have one.
+    #[inline(always)]
+    pub(crate) fn extend(&mut self, count: usize) -> Result<(), AllocError>
+        requires begun { 0 < length self.old }
+        requires inside { length self.old + count ≤ 4096 }
+        ensures after { OnOk result (self.new ≡ self.old ++ replicate count Standing.Known) }
+        ensures refused { OnErr result (self.new ≡ self.old) }
+    {
+        self.standings.reserve(count)?;
+        fill(&mut self.standings, count, Standing::Known);
+        self.placed += count;
         Ok(())
     }
 
@@ -146,17 +167,18 @@ fn make_entry(standings: &mut Vec<Standing>, at: usize) -> Result<(), AllocError
     let missing = at + 1 - standings.len();
     let more = if standings.len() == 0 { PAGE } else { missing };
     standings.reserve(more)?;
-    fill(standings, missing);
+    fill(standings, missing, Standing::Unknown);
     Ok(())
 }
 
-// So many entries more, of unknown tasks.
-fn fill(standings: &mut Vec<Standing>, missing: usize)
+// So many entries more, of tasks that stand so.
+fn fill(standings: &mut Vec<Standing>, missing: usize, standing: Standing)
     requires { vec_len standings.old + missing ≤ vec_capacity standings.old }
-    ensures { standings.new.items ≡ standings.old.items ++ replicate missing Standing.Unknown }
+    ensures items { standings.new.items ≡ standings.old.items ++ replicate missing standing }
+    ensures room { vec_capacity standings.new ≡ vec_capacity standings.old }
 {
     for _ in 0..missing {
-        standings.push_reserved(Standing::Unknown);
+        standings.push_reserved(standing);
     }
 }
 

@@ -1,5 +1,5 @@
 // A part of the directory: the pages of as many tasks in a row.
-ghost use Rattle.std.specs.Prelude.{◌≡◌, ◌<◌, ◌≤◌, ◌⊎◌, ℕ, true, [], length, OnOk, OnErr, slice_set, vec_capacity};
+ghost use Rattle.std.specs.Prelude.{◌≡◌, ◌+◌, ◌<◌, ◌≤◌, ◌++◌, ◌⊎◌, ℕ, true, [], length, replicate, OnOk, OnErr, slice_set, vec_capacity};
 ghost use Rattle.mono_inbox.specs.Standings.{has_place, standing_at, count_where};
 ghost use Rattle.mono_inbox.specs.Pages.{with_mark, left_of, child_at, closed_before};
 
@@ -51,6 +51,13 @@ impl Part {
         self.placed
     }
 
+    /// How many of its tasks have an entry.
+    pub(crate) fn len(&self) -> usize
+        ensures { result ≡ length self.now }
+    {
+        self.len
+    }
+
     /// How a task stands.
     #[inline(always)]
     pub(crate) fn standing(&self, task: usize) -> Standing
@@ -86,6 +93,30 @@ impl Part {
         Ok(())
     }
 
+    /// Tasks behind those that have an entry are known, so many at most. Answers how many: those of the page that is begun,
+    /// where it has an entry for each number before, and where there was memory.
+    #[inline(always)]
+    pub(crate) fn extend(&mut self, count: usize) -> usize
+        requires inside { length self.old + count ≤ 1048576 }
+        ensures most { result ≤ count }
+        ensures after { self.new ≡ self.old ++ replicate result Standing.Known }
+    {
+        let at = self.len / PAGE;
+        let begun = self.len % PAGE;
+        if begun == 0 || at >= self.pages.len() || self.pages[at].len() != begun {
+            return 0;
+        }
+        let more = lesser_of(count, PAGE - begun);
+        match self.pages[at].extend(more) {
+            Err(_) => 0,
+            Ok(()) => {
+                self.len += more;
+                self.placed += more;
+                more
+            }
+        }
+    }
+
     /// A task that has a place stands otherwise. Where the part is closed and that was its last task with a place, its
     /// memory is given back.
     #[inline(always)]
@@ -109,6 +140,7 @@ impl Part {
     }
 
     // A task that has a place stands otherwise.
+    #[inline(always)]
     fn write(&mut self, task: usize, standing: Standing)
         requires { has_place (standing_at self.old task) ≡ true }
         ensures { self.new ≡ slice_set self.old task standing }
@@ -127,6 +159,15 @@ impl Part {
         self.len = 0;
         self.placed = 0;
     }
+}
+
+/// The lesser of two numbers.
+#[inline(always)]
+pub(crate) fn lesser_of(a: usize, b: usize) -> usize
+    ensures first { result ≤ a }
+    ensures second { result ≤ b }
+{
+    if a < b { a } else { b }
 }
 
 /// The greater of two numbers.

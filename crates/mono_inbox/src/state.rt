@@ -2,7 +2,7 @@
 ghost use Rattle.std.specs.Prelude.{◌≡◌, ◌+◌, ◌<◌, ◌≤◌, true, false, IfOk, OnOk, OnErr, MatchOption, length, vec_len, vec_capacity, [], ◌∷◌, ◌++◌};
 ghost use Rattle.mono_model.specs.Inbox.{is_waiting};
 ghost use Rattle.mono_inbox.specs.declared.log.CallEntry.TheVariants.{Know, Put, DrainOne, Drain, Retire};
-ghost use Rattle.mono_inbox.specs.State.{no_state, is_known, put_answer, after_put, with_list, HasNoDoubles, AlsoKnows, Forgets};
+ghost use Rattle.mono_inbox.specs.State.{no_state, is_known, put_answer, after_put, with_list, HasNoDoubles, AlsoKnows, AlsoKnowsRow, Forgets};
 ghost use Rattle.mono_inbox.specs.History.{is_history, StandsFor, count_puts};
 ghost use Rattle.mono_inbox.specs.Log.{is_full, with_entry, with_ledger_put, new_recording};
 
@@ -63,6 +63,19 @@ impl InboxState {
         self.listing.know(alloc, task)?;
         self.log.keep(CallEntry::Know(task));
         Ok(())
+    }
+
+    /// Makes tasks from this number on known, so many at most. Answers how many: none where a later number was made known
+    /// before, where there was no memory, or where calls are kept.
+    pub(crate) fn know_behind(&mut self, task: u64, count: usize) -> usize
+        ensures most { result ≤ count }
+        ensures known { AlsoKnowsRow self.old.state self.new.state task (task + result) }
+        ensures kept { self.new.log ≡ self.old.log }
+    {
+        if !self.log.is_full() {
+            return 0;
+        }
+        self.listing.know_behind(task, count)
     }
 
     /// Lists the task's wake: true where the task now waits, last. False exactly where it waits already or is not

@@ -1,0 +1,7 @@
+use Rattle.std.proofs.Common.{length, ap, sym, ◌∙◌}
+use Rattle.mono_inbox.specs.Pages.{look_in}
+use Rattle.mono_inbox.proofs.Laying.{length-standings_of}
+use Rattle.mono_inbox.proofs.parts.Part.len.Goals as goal
+
+pub returns : goal.returns
+returns c = sym (length-standings_of (look_in 4096 c.self.inside.pages.items) c.self.inside.len) ∙ ap length c.self.view_is
