@@ -1,14 +1,18 @@
 -- The retries and their sleeps, whatever changes of one of them.
-use Rattle.std.proofs.Common.{◌≡◌, ◌<◌, ◌≤◌, inl, inr, ℕ, ◌+◌, ◌-◌, ◌*◌, cond, zero, suc, [], ◌∷◌, length, get_or, set, Some, None, Option, refl, ap, sym, subst, ◌∙◌, arith}
-use Rattle.std.specs.Prelude.{map, option_map, max, nat_le}
+use Rattle.std.proofs.Common.{◌≡◌, ◌<◌, ◌≤◌, inl, inr, ℕ, ◌+◌, ◌-◌, ◌*◌, cond, zero, suc, [], ◌∷◌, ◌++◌, length, get_or, set, Some, None, Option, refl, ap, sym, subst, ◌∙◌, arith}
+use Rattle.std.specs.Prelude.{Ok, Err, map, option_map, max, nat_le}
 use Rattle.std.proofs.Math.ListN.{get_or-map}
 use Rattle.std.proofs.lemmas.Bool.{cases_eq, cases_lt, lt-leb}
-use Rattle.std.proofs.lemmas.List.{map-set, get_or_past, get_or-set_same, get_or-set_other}
+use Rattle.std.proofs.lemmas.List.{map-append, map-set, length-map, get_or_past, get_or-set_same, get_or-set_other}
 use Rattle.std.proofs.lemmas.List.Sums.{sum_by-set}
 use Rattle.mono_model.specs.Ticks.{up}
-use Rattle.mono_model.specs.Table.{Table, value_at, count_of, with_value, without}
-use Rattle.mono_model.proofs.Counts.{count_of-with_value}
-use Rattle.mono_time.specs.Sleeps.{SleepTable, Kept, fresh, armed, elapsed, kept_waker, at_tick, with_table, changed_value, with_reset_sleep, removed_value, with_removed_sleep, at_clock_tick, with_fired_sleep}
+use Rattle.mono_model.specs.Table.{Table, value_at, next_number, count_of, with_value, with_next, without}
+use Rattle.mono_model.specs.declared.error.Error.TheVariants.{Shutdown, AtCapacity, Invalid}
+use Rattle.mono_model.specs.declared.error.SleepError.{SleepError}
+use Rattle.mono_model.specs.declared.error.SleepError.TheVariants.{Timer, Memory}
+use Rattle.mono_model.proofs.Counts.{count_of-with_value, count_of-with_next}
+use Rattle.mono_model.proofs.ValidTasks.{value_before, value_last}
+use Rattle.mono_time.specs.Sleeps.{SleepTable, Kept, fresh, armed, elapsed, kept_waker, at_tick, with_table, Added, with_added_sleep, changed_value, with_reset_sleep, removed_value, with_removed_sleep, at_clock_tick, with_fired_sleep}
 use Rattle.mono_limit.specs.Schedules.{IsSound, failed_until, at_once, waiting_value, ended_row}
 use Rattle.mono_limit.specs.Holding.{Holds, wait_of, armed_tick}
 use Rattle.mono_limit.specs.declared.schedules.Schedule.{Schedule}
@@ -16,7 +20,7 @@ use Rattle.mono_limit.specs.declared.schedules.Schedule.{Schedule}
 none-some : {X : Type 0} (x : X) → None ≡ Some x → ⊥
 none-some x e = cc
 
-given : {V : Type 0} (table : Table V) (s : ℕ) (v : V) → value_at table s ≡ Some v → s < length table
+pub given : {V : Type 0} (table : Table V) (s : ℕ) (v : V) → value_at table s ≡ Some v → s < length table
 given table s v at = elim (cases_lt s (length table)) [ inl inside ↦ inside | inr past ↦ absurd (none-some v (sym (get_or_past table s None past) ∙ at)) ]
 
 same-some : {X : Type 0} (x y : X) → Some x ≡ Some y → x ≡ y
@@ -37,6 +41,13 @@ set_all P table i w all fits s v at = elim (cases_eq s i) [
     past_end [] i w past = refl
     past_end (x ∷ xs) zero w past = absurd (omega (arith, past))
     past_end (x ∷ xs) (suc i) w past = past_end xs i w (omega (arith, past))
+
+-- a refused sleep changes nothing
+pub refused_same : (old new : SleepTable) (nanos : ℕ) (e : SleepError) → Added old nanos (Err e) new → new ≡ old
+refused_same old new nanos (Timer Shutdown) added = added.1
+refused_same old new nanos (Timer AtCapacity) added = added.2
+refused_same old new nanos (Timer Invalid) added = absurd added
+refused_same old new nanos Memory added = added.2
 
 module _ (rows : Table Schedule) (sleeps : SleepTable) (live : ℕ) (holds : Holds rows sleeps live) where
   -- the sleep of a number is armed at the tick for which the retry waits
@@ -70,6 +81,21 @@ module _ (rows : Table Schedule) (sleeps : SleepTable) (live : ℕ) (holds : Hol
       elim_row : (v : Option Schedule) → value_at rows r ≡ v → waiting_value v ≡ Some tick → (waker : Option ℕ) × (value_at sleeps.table r ≡ Some (armed tick waker))
       elim_row None at w = absurd (none-some tick w)
       elim_row (Some retry) at w = armed_is (value_at sleeps.table r) (sym (ap Some w) ∙ sym (ap (option_map wait_of) at) ∙ agrees r)
+
+  pub same_next : next_number rows ≡ next_number sleeps.table
+  same_next = sym (length-map rows (option_map wait_of)) ∙ ap (λ xs. length xs) holds.waits ∙ length-map sleeps.table (option_map armed_tick)
+
+  -- a further retry waits for nothing, as its sleep is fresh
+  pub added_holds : (retry : Schedule) → IsSound retry → retry.waits_for ≡ None → (tick : ℕ) → Holds (with_next rows retry) (with_added_sleep sleeps tick) (live + 1)
+  added_holds retry is_sound no_wait tick = record {
+    waits = map-append (option_map wait_of) rows (Some retry ∷ []) ∙ ap (λ w. map (option_map wait_of) rows ++ Some w ∷ []) no_wait ∙ ap (λ xs. xs ++ Some None ∷ []) holds.waits
+        ∙ sym (map-append (option_map armed_tick) sleeps.table (Some (fresh tick) ∷ []));
+    sound = λ r v at. elim (cases_eq r (length rows)) [
+      | inl last ↦ subst IsSound (same-some retry v (sym (value_last rows retry) ∙ sym (ap (value_at (with_next rows retry)) last) ∙ at)) is_sound
+      | inr apart ↦ holds.sound r v (sym (value_before rows retry r apart) ∙ at)
+    ];
+    live_count = omega (arith, holds.live_count, count_of-with_next rows retry);
+  }
 
   module _ (r : ℕ) (retry : Schedule) (at : value_at rows r ≡ Some retry) where
     -- a retry is gone, with its sleep

@@ -1,5 +1,5 @@
 -- What a step of a retry leaves.
-use Rattle.std.proofs.Common.{◌≡◌, ◌<◌, ◌≤◌, ℕ, ◌+◌, ◌-◌, ◌*◌, zero, suc, true, false, Bool, Some, None, Option, refl, ap, sym, subst, ◌∙◌, arith}
+use Rattle.std.proofs.Common.{◌≡◌, ◌<◌, ℕ, ◌+◌, zero, suc, true, false, Bool, Some, None, Option, refl, ap, sym, subst, arith}
 use Rattle.std.specs.Prelude.{⊤, Result, Ok, Err, nat_le}
 use Rattle.std.specs.Fn.{Mut}
 use Rattle.mono_model.specs.Ticks.{max_nanos}
@@ -9,8 +9,8 @@ use Rattle.mono_model.specs.declared.poll.Poll.TheVariants.{Ready, Pending}
 use Rattle.mono_model.specs.declared.error.Error.{Error}
 use Rattle.mono_task.specs.Members.{FutureOf}
 use Rattle.mono_time.specs.Sleeps.{SleepTable}
-use Rattle.mono_limit.specs.Stages.{is_over, place_of}
-use Rattle.mono_limit.specs.Retrying.{at_stage, without_stage, with_attempt, with_sleep, HasLeft, IsLiveStage, MayGoOn, Ends, AfterReset, GoesToRest, FailsEarly, FailsWith, AfterPoll, Tries, AfterSleep, Rests, StepOf, Leaves, rounds_left}
+use Rattle.mono_limit.specs.Stages.{place_of}
+use Rattle.mono_limit.specs.Retrying.{at_stage, without_stage, with_attempt, with_sleep, HasLeft, IsLiveStage, MayGoOn, Ends, AfterReset, FailsEarly, FailsWith, AfterPoll, AfterSleep, Makes, StepOf, Leaves}
 use Rattle.mono_limit.specs.declared.RetryError.{RetryError}
 use Rattle.mono_limit.specs.declared.RetryError.TheVariants.{Last, Far, Timer}
 use Rattle.mono_limit.specs.declared.attempts.Stage.{Stage}
@@ -83,3 +83,7 @@ module _ {G F C X E : Type 0} (call : Mut G (ℕ × Unit {0}) F) (future : Futur
   stays st at may c d o s step live =
       let good : IsGood o old s = by_stage st at (subst (λ x. HasLeft x old.left) at may.has_left) c d o s step in
       (record { has_base = rw good.0.0 may.has_base; in_range = rw good.0.1 may.in_range; has_left = good.0.2; live = live; makes_live = may.makes_live }, good.1)
+
+  -- and so where an attempt was made
+  pub due_stays : old.stage ≡ stage.Due → MayGoOn call future old → (c : C) (s : Retry G F) → Makes call (without_stage old) s → MayGoOn call future s × Leaves {A = Result X (RetryError E)} None old s
+  due_stays at may c s makes = stays stage.Due at may c c None s (refl, makes, refl) (rw makes.tries (may.makes_live.live old.make (old.tried + 1) makes.attempt makes.make makes.made))

@@ -2,7 +2,7 @@
 use Rattle.std.proofs.Common.{◌≡◌, ◌<◌, ◌≤◌, inl, inr, ℕ, ◌-◌, zero, suc, true, false, cond, List, [], ◌∷◌, ◌++◌, length, get_or, set, Some, None, Option, refl, ap, sym, subst, ◌∙◌, arith}
 use Rattle.std.specs.Prelude.{Result, Ok, Err, map, option_map, ◌||◌, ◌==◌, ◌^◌}
 use Rattle.std.proofs.lemmas.Bool.{cases_eq, cases_lt, le-leb}
-use Rattle.std.proofs.lemmas.List.{map-set, map-append, get_or-map, get_or_past, get_or-set_same, get_or-set_other, get_or_push, get_or_append_left, length-set, length-map, length-append}
+use Rattle.std.proofs.lemmas.List.{map-set, get_or-map, get_or_past, get_or-set_same, get_or-set_other, get_or_push, get_or_append_left, length-set, length-map, length-append}
 use Rattle.mono_model.specs.Table.{Table, value_at, count_of, next_number, is_full, with_next, with_value}
 use Rattle.mono_model.proofs.Counts.{counted, counted-count_of}
 use Rattle.mono_limit.specs.Buckets.{Bucket, full_bucket, periods_at, filled, with_tokens}
@@ -30,9 +30,6 @@ pub length-buckets : (g : ℕ) (stored : List StoredBucket) → length (buckets_
 length-buckets g stored = length-map stored (λ b. Some (bucket_at g b))
 
 -- ---- one more bucket
-pub buckets-push : (g : ℕ) (stored : List StoredBucket) (one : StoredBucket) → buckets_at g (stored ++ one ∷ []) ≡ with_next (buckets_at g stored) (bucket_at g one)
-buckets-push g stored one = map-append (λ b. Some (bucket_at g b)) stored (one ∷ [])
-
 pub stored-push : (g : ℕ) (stored : List StoredBucket) (one : StoredBucket) → AreStored g stored → IsStored g one → AreStored g (stored ++ one ∷ [])
 stored-push g stored one are is b default inside = elim (cases_lt b (length stored)) [
   | inl before ↦ subst (IsStored g) (sym (get_or_append_left stored (one ∷ []) default b before)) (are b default before)
@@ -91,9 +88,6 @@ later_stored g h one le is =
       record { has_period = is.has_period; holds = is.holds; began = omega (arith, is.began, le); no_more = omega (arith, more, is.no_more) },
       sym (fills_at_once g h (bucket_at g one) (valid g one is) le ∙ ap (with_tokens (bucket_at g one)) (omega (arith, more, is.no_more))),
     )
-
-pub stored-later : (g h : ℕ) (stored : List StoredBucket) → g ≤ h → AreStored g stored → AreStored h stored
-stored-later g h stored le are b default inside = (later_stored g h (get_or stored b default) le (are b default inside)).0
 
 pub buckets-later : (g h : ℕ) (stored : List StoredBucket) → g ≤ h → AreStored g stored → buckets_at h stored ≡ map (option_map (filled g h)) (buckets_at g stored)
 buckets-later g h [] le are = refl
