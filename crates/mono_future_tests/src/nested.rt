@@ -28,21 +28,25 @@ fn limited<R: Abort>(
     }
 }
 
-/// Whether the first poll of a nest waits none of whose deadlines is due, and leaves no sleep.
-fn first_poll<R: Host>(rt: &R, alloc: Global, cx: &mut Desk) -> bool
-    requires { (sleeps_of cx.old.timers).greatest ≡ 0 }
+/// Whether the first poll of a nest waits none of whose deadlines is due, and leaves no sleep. The third countdown waits
+/// so many polls.
+fn first_poll<R: Host>(rt: &R, alloc: Global, cx: &mut Desk, third: u64) -> bool
+    requires fresh { (sleeps_of cx.old.timers).greatest ≡ 0 }
+    requires counts { 0 < third }
 {
     let Some(at) = Instant::from_nanos(10000000) else {
         return false;
     };
-    let waits = begin(rt, alloc, cx, (at, at), ((1, 2), (3, 4)));
+    let waits = begin(rt, alloc, cx, (at, at), ((1, 2), (third, 4)));
     waits == Ok(true) && cx.sleep_elapsed(0) == Err(Error::Shutdown)
 }
 
 #[test]
 fn begun(rt: HostRuntime) {
-    let mut cx = empty_desk(&rt, rt.alloc(), at_millis(0));
-    assert!(rt; first_poll(&rt, rt.alloc(), &mut cx));
+    for third in 1..4u64 {
+        let mut cx = empty_desk(&rt, rt.alloc(), at_millis(0));
+        assert!(rt; first_poll(&rt, rt.alloc(), &mut cx, third));
+    }
 }
 
 /// Two polls of a nest: in the first the fourth is out of time and the others wait, and in the second the first answers.

@@ -2,15 +2,17 @@
 ghost use Rattle.std.specs.Prelude.{◌≡◌, ⊤, false};
 ghost use Rattle.std.specs.Option.{OnSome};
 
-use crate::boards::{Board, Step, empty_board};
+use crate::boards::{Board, Step, empty_board, told};
 use mono_model::{Host, Poll};
 use mono_stream::{Stream, StreamExt, iter};
 use mono_task::TaskFuture;
 use std::alloc::Global;
 
-/// A future that is ready at once.
+/// A future that waits so many polls, in each of which it notes how often a task was woken before.
 #[derive(Drop)]
-struct Nothing {}
+struct Nothing {
+    waits: u64,
+}
 
 impl TaskFuture<Board> for Nothing {
     type Output = ();
@@ -25,8 +27,13 @@ impl TaskFuture<Board> for Nothing {
         false
     }
 
-    fn poll<R: Host>(&mut self, _rt: &R, _alloc: Global, _cx: &mut Board) -> Poll<()> {
-        Poll::Ready(())
+    fn poll<R: Host>(&mut self, _rt: &R, _alloc: Global, cx: &mut Board) -> Poll<()> {
+        if self.waits == 0 {
+            return Poll::Ready(());
+        }
+        self.waits -= 1;
+        cx.notes = cx.wakes;
+        Poll::Pending
     }
 
     fn cancel(self, _cx: &mut Board) {}
@@ -93,16 +100,12 @@ fn doubles<R: Host>(rt: &R, alloc: Global, cx: &mut Board) -> bool {
     first == 2 && second == 4 && last == None && cx.notes == 116227
 }
 
-/// Whether a future that handles 300 items wakes its own task after the first poll, and is ready at the second.
+/// Whether a future that handles 300 items, the last of which waits once, is ready at the third poll, and wakes its own
+/// task once, before that wait.
 fn handles<R: Host>(rt: &R, alloc: Global, cx: &mut Board) -> bool {
     cx.wakes = 0;
-    let mut all = StreamExt::<Board>::for_each(iter(0..300u64), |_: u64| Nothing {});
-    if all.poll(rt, alloc, cx).is_ready() {
-        return false;
-    }
-    let wakes = cx.wakes;
-    let second = all.poll(rt, alloc, cx);
-    wakes == 1 && second.is_ready() && cx.wakes == 1
+    let all = StreamExt::<Board>::for_each(iter(0..300u64), |x: u64| Nothing { waits: x / 299 });
+    told(rt, alloc, cx, all, 3) == (Some((2, ())), 1) && cx.wakes == 1
 }
 
 #[test]
