@@ -30,8 +30,8 @@ fn a_list_clock_reads_its_list(rt: HostRuntime) {
 /// Each call of a driver once, and what it then reads. The park was unparked before.
 fn calls_all<R: Host + Abort, D: Driver>(rt: &R, driver: &mut D) -> u128 {
     driver.unpark().expect(rt, "memory").unpark(rt);
-    assert!(rt; driver.submit(rt).is_ok() & driver.park(rt).is_ok());
-    assert!(rt; driver.park_timeout(rt, Duration::from_millis(3)).is_ok());
+    let are_ok = driver.submit(rt).is_ok() & driver.park(rt).is_ok();
+    assert!(rt; are_ok & driver.park_timeout(rt, Duration::from_millis(3)).is_ok());
     driver.now().as_nanos()
 }
 
@@ -39,15 +39,22 @@ fn calls_all<R: Host + Abort, D: Driver>(rt: &R, driver: &mut D) -> u128 {
 fn each_call_of_each_driver(rt: HostRuntime) {
     let alloc = rt.alloc();
     let mut steps = StepDriver::new(Vec::new(alloc));
-    assert!(rt; calls_all(&rt, &mut steps) == 3000000);
+    let of_steps = calls_all(&rt, &mut steps);
     let mut timed = TimeDriver::new(steps);
-    assert!(rt; calls_all(&rt, &mut timed) == 6000000);
-    assert!(rt; timed.into_inner().now().as_nanos() == 6000000);
+    let of_timed = calls_all(&rt, &mut timed);
+    let of_inner = timed.into_inner().now().as_nanos();
     let clock = clock_of(&rt, alloc, &[7, 9]);
     let mut threads = ThreadDriver::new(alloc, clock).expect(&rt, "memory");
-    assert!(rt; calls_all(&rt, &mut threads) == 7);
+    let of_threads = calls_all(&rt, &mut threads);
     let mut timed = TimeDriver::new(threads);
-    assert!(rt; calls_all(&rt, &mut timed) == 9);
+    let told = [
+        of_steps,
+        of_timed,
+        of_inner,
+        of_threads,
+        calls_all(&rt, &mut timed),
+    ];
+    assert!(rt; told == [3000000, 6000000, 6000000, 7, 9]);
 }
 
 /// More calls than a vector makes room for at first.
@@ -94,22 +101,15 @@ fn listed_calls_fail(rt: HostRuntime) {
         failing.push(call).expect(&rt, "memory");
     }
     let mut driver = StepDriver::new(failing);
-    assert!(rt; driver.now().as_nanos() == 0);
+    let mut are_so = driver.now().as_nanos() == 0;
     for (call, is_ok, nanos) in FIRST_CALLS {
-        assert!(rt; answers(&rt, &mut driver, call, is_ok, nanos));
+        are_so = answers(&rt, &mut driver, call, is_ok, nanos) & are_so;
     }
     for _ in 4..MANY {
-        assert!(rt; answers(&rt, &mut driver, Call::Submit, false, 1_000_000_000));
+        are_so = answers(&rt, &mut driver, Call::Submit, false, 1_000_000_000) & are_so;
     }
-    assert!(rt;
-        answers(
-            &rt,
-            &mut driver,
-            Call::ParkTimeout(u64::MAX),
-            true,
-            MAX_NANOS
-        )
-    );
+    let last = Call::ParkTimeout(u64::MAX);
+    assert!(rt; are_so & answers(&rt, &mut driver, last, true, MAX_NANOS));
 }
 
 /// Whether a park sees the flag that another thread sets before it unparks.

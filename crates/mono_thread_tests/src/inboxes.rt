@@ -20,24 +20,23 @@ fn has_drained<R: Host + Abort>(
     tasks.as_slice() == expected
 }
 
-/// Wakes tasks 3 and 5, and task 3 again by a further waker, and both once more when task 3 is retired.
-fn drains_in_order<R: Host + Abort>(rt: &R, alloc: Global, inbox: &Plain, tasks: &mut Vec<u64>) {
+/// Wakes tasks 3 and 5, and task 3 again by a further waker, and both once more when task 3 is retired: whether they are
+/// drained in this order.
+fn drains_in_order<R: Host + Abort>(
+    rt: &R,
+    alloc: Global,
+    inbox: &Plain,
+    tasks: &mut Vec<u64>,
+) -> bool {
     let third = inbox.waker(rt, alloc, 3).expect(rt, "memory");
     let fifth = inbox.waker(rt, alloc, 5).expect(rt, "memory");
     let third_again = third.clone().expect(rt, "memory");
-    assert!(rt; fifth.task() == 5);
-    assert!(rt; fifth.wake(rt) & third.wake(rt) & !third_again.wake(rt));
-    assert!(rt; has_drained(rt, alloc, inbox, tasks, &[5, 3]));
+    let are_listed = fifth.wake(rt) & third.wake(rt) & !third_again.wake(rt);
+    let are_drained = has_drained(rt, alloc, inbox, tasks, &[5, 3]);
     inbox.retire(rt, 3);
-    assert!(rt; !third.wake(rt) & fifth.wake(rt));
-    assert!(rt; has_drained(rt, alloc, inbox, tasks, &[5, 3, 5]));
-}
-
-#[test]
-fn an_inbox_drains_in_order(rt: HostRuntime) {
-    let mut tasks = Vec::new(rt.alloc());
-    let inbox = Inbox::new(rt.alloc(), 16, NoUnpark).expect(&rt, "memory");
-    drains_in_order(&rt, rt.alloc(), &inbox, &mut tasks);
+    let is_retired = !third.wake(rt) & fifth.wake(rt);
+    let is_rest = has_drained(rt, alloc, inbox, tasks, &[5, 3, 5]);
+    are_listed & are_drained & is_retired & is_rest & (fifth.task() == 5)
 }
 
 /// More tasks than an inbox makes room for at once.
@@ -45,19 +44,29 @@ const MANY: u64 = 300;
 
 /// Makes a waker of each task, which then wakes it: whether a drain takes all.
 fn drains_all<R: Host + Abort>(rt: &R, alloc: Global, inbox: &Plain, tasks: &mut Vec<u64>) -> bool {
+    let mut are_listed = true;
     for task in 0..MANY {
         let waker = inbox.waker(rt, alloc, task).expect(rt, "memory");
-        assert!(rt; waker.wake(rt));
+        are_listed = waker.wake(rt) & are_listed;
     }
     inbox.drain(rt, alloc, tasks).expect(rt, "memory");
-    tasks.len() as u64 == MANY
+    are_listed & (tasks.len() as u64 == MANY)
+}
+
+/// Whether an inbox with room for so many drains all of many tasks, or some in order.
+fn drains<R: Host + Abort>(rt: &R, alloc: Global, room: usize, is_many: bool) -> bool {
+    let mut tasks = Vec::new(alloc);
+    let inbox = Inbox::new(alloc, room, NoUnpark).expect(rt, "memory");
+    if is_many {
+        drains_all(rt, alloc, &inbox, &mut tasks)
+    } else {
+        drains_in_order(rt, alloc, &inbox, &mut tasks)
+    }
 }
 
 #[test]
-fn a_drain_takes_all(rt: HostRuntime) {
-    let mut tasks = Vec::new(rt.alloc());
-    let inbox = Inbox::new(rt.alloc(), 0, NoUnpark).expect(&rt, "memory");
-    assert!(rt; drains_all(&rt, rt.alloc(), &inbox, &mut tasks));
+fn an_inbox_drains_all_in_order(rt: HostRuntime) {
+    assert!(rt; drains(&rt, rt.alloc(), 16, false) & drains(&rt, rt.alloc(), 0, true));
 }
 
 /// A registry of inboxes that unpark nobody.
@@ -100,12 +109,12 @@ fn takes_the_wake<R: Host + Abort>(
     is_listed & has_drained(rt, alloc, &inbox, &mut tasks, &[2])
 }
 
-/// Registers two inboxes, each of which takes the wakes of its waker.
-fn register_two<R: Host + Abort>(rt: &R, alloc: Global, registry: &Inboxes) {
+/// Registers two inboxes: whether each takes the wakes of its waker.
+fn are_registered<R: Host + Abort>(rt: &R, alloc: Global, registry: &Inboxes) -> bool {
     let first = registered(rt, alloc, registry, 16);
     let second = registered(rt, alloc, registry, 17);
-    assert!(rt; takes_the_wake(rt, alloc, registry, 16, &first));
-    assert!(rt; takes_the_wake(rt, alloc, registry, 17, &second));
+    takes_the_wake(rt, alloc, registry, 16, &first)
+        & takes_the_wake(rt, alloc, registry, 17, &second)
 }
 
 /// Whether the inbox of this number goes, once.
@@ -118,8 +127,7 @@ fn goes_once<R: Host + Abort>(rt: &R, registry: &Inboxes, number: u64) -> bool {
 #[test]
 fn a_registry_counts_from_sixteen(rt: HostRuntime) {
     let registry = Registry::new(rt.alloc());
-    register_two(&rt, rt.alloc(), &registry);
-    assert!(rt; goes_once(&rt, &registry, 16));
+    assert!(rt; are_registered(&rt, rt.alloc(), &registry) && goes_once(&rt, &registry, 16));
     registered(&rt, rt.alloc(), &registry, 18);
 }
 
@@ -135,6 +143,6 @@ fn tells_apart<R: Host + Abort>(rt: &R, alloc: Global, registry: &Inboxes) -> bo
 #[test]
 fn a_registry_tells_numbers_apart(rt: HostRuntime) {
     let registry = Registry::new(rt.alloc());
-    register_two(&rt, rt.alloc(), &registry);
-    assert!(rt; tells_apart(&rt, rt.alloc(), &registry));
+    let are_there = are_registered(&rt, rt.alloc(), &registry);
+    assert!(rt; are_there && tells_apart(&rt, rt.alloc(), &registry));
 }

@@ -153,6 +153,7 @@ fn all_answer_without<R: Host + Abort>(
 /// More jobs than a table makes room for at first.
 const MANY: u64 = 300;
 
+// A job on the caller has ended.
 const ON_THE_CALLER: [Row; 10] = [
     (Call::Spawn(4), Reply::Job(0), None),
     (Call::Spawn(5), Reply::Job(1), None),
@@ -166,22 +167,26 @@ const ON_THE_CALLER: [Row; 10] = [
     (Call::HasEnded(2), Reply::Refused(Refusal::NoTask), None),
 ];
 
-#[test]
-fn a_job_on_the_caller_has_ended(rt: HostRuntime) {
-    let local = BlockingStrategy::ExecuteLocal;
-    all_answer_without(&rt, rt.alloc(), local, 2, &ON_THE_CALLER);
-}
-
+// No pool comes after at capacity.
 const WITH_ROOM: [Row; 1] = [(Call::Spawn(4), Reply::Refused(Refusal::NoPool), None)];
 
 const WITHOUT_ROOM: [Row; 1] = [(Call::Spawn(4), Reply::Refused(Refusal::AtCapacity), None)];
 
+/// The strategy without a pool, the limit of its jobs, and the calls.
+const WITHOUT_A_POOL: [(BlockingStrategy, u64, &[Row]); 3] = [
+    (BlockingStrategy::ExecuteLocal, 2, &ON_THE_CALLER),
+    (BlockingStrategy::Panic, 1, &WITH_ROOM),
+    (BlockingStrategy::Panic, 0, &WITHOUT_ROOM),
+];
+
 #[test]
-fn no_pool_comes_after_at_capacity(rt: HostRuntime) {
-    all_answer_without(&rt, rt.alloc(), BlockingStrategy::Panic, 1, &WITH_ROOM);
-    all_answer_without(&rt, rt.alloc(), BlockingStrategy::Panic, 0, &WITHOUT_ROOM);
+fn jobs_without_a_pool(rt: HostRuntime) {
+    for (strategy, limit, rows) in WITHOUT_A_POOL {
+        all_answer_without(&rt, rt.alloc(), strategy, limit, rows);
+    }
 }
 
+// A refused task makes no job.
 const ONE_REFUSED: [Row; 5] = [
     (Call::Spawn(4), Reply::Job(0), None),
     (Call::Spawn(5), Reply::Canceled, None),
@@ -190,13 +195,42 @@ const ONE_REFUSED: [Row; 5] = [
     (Call::Spawn(6), Reply::Job(1), None),
 ];
 
+// A poll and a drop see the end.
+const SEEN_BY_EACH: [Row; 7] = [
+    (Call::Spawn(4), Reply::Job(0), None),
+    (Call::Spawn(5), Reply::Job(1), None),
+    (Call::Spawn(6), Reply::Job(2), None),
+    (Call::Drop(2), Reply::Dropped(None), None),
+    (Call::RunAll, Reply::Ready, None),
+    (Call::Poll(0, 7), Reply::Output(4), RAN),
+    (Call::Drop(1), Reply::Dropped(Some(5)), RAN),
+];
+
+/// Which task a pool refuses, counted from 0, if any, and the calls; how often it refused, and how many tasks then wait there.
+const ON_A_POOL: [(u64, &[Row], u64, usize); 2] = [
+    (1, &ONE_REFUSED, 1, 2),
+    (u64::MAX, &SEEN_BY_EACH, 0, 0),
+];
+
+/// The calls on new jobs on such a pool: how often it refused, and how many tasks then wait there.
+fn all_answer_on_a_pool<R: Host + Abort>(
+    rt: &R,
+    alloc: Global,
+    refused: u64,
+    rows: &[Row],
+) -> (u64, usize) {
+    let (pool, waiting) = pool_refusing(rt, alloc, refused);
+    let pool = BlockingHandle::Attached(pool);
+    let pool = all_answer_by(rt, alloc, pool, 3, &waiting, rows).expect(rt, "a pool");
+    (pool.refusals, waiting.lock(rt).len())
+}
+
 #[test]
-fn a_refused_task_makes_no_job(rt: HostRuntime) {
-    let (pool, waiting) = pool_refusing(&rt, rt.alloc(), 1);
-    let attached = BlockingHandle::Attached(pool);
-    let pool = all_answer_by(&rt, rt.alloc(), attached, 3, &waiting, &ONE_REFUSED);
-    assert!(rt; pool.expect(&rt, "a pool").refusals == 1);
-    assert!(rt; waiting.lock(&rt).len() == 2);
+fn jobs_on_a_pool(rt: HostRuntime) {
+    for (refused, rows, refusals, waiting) in ON_A_POOL {
+        let told = all_answer_on_a_pool(&rt, rt.alloc(), refused, rows);
+        assert!(rt; told.0 == refusals && told.1 == waiting);
+    }
 }
 
 /// Jobs on a pool that refuses none of their tasks, and the tasks that wait there.
@@ -212,7 +246,16 @@ const THROUGH: u64 = 600;
 /// How many jobs live beside the first one, once that many were made.
 const ALIVE: u64 = 10;
 
-/// One more job, and the drop of the one that was made so many before, whose output comes back, and is 0 of none.
+/// The output that a drop hands back, or 0.
+fn output_of(answer: Result<Option<Result<u64, JoinError>>, Refusal>) -> u64 {
+    match answer {
+        Ok(Some(Ok(output))) => output,
+        _ => 0,
+    }
+}
+
+/// One more job, which is run, and the drop of the one that was made so many before: its output, or 0 where there was none,
+/// or where it is not gone.
 fn one_comes_one_goes<R: Host + Abort>(
     rt: &R,
     alloc: Global,
@@ -220,22 +263,22 @@ fn one_comes_one_goes<R: Host + Abort>(
     waiting: &Waiting,
     number: u64,
 ) -> u64 {
-    let comes = [
-        (Call::Spawn(number), Reply::Job(number), None),
-        (Call::RunAll, Reply::Ready, None),
-    ];
-    all_answer(rt, alloc, jobs, waiting, &comes);
-    if number <= ALIVE {
+    let made = jobs.spawn(rt, alloc, Gives(number));
+    assert!(rt; spawned(made, number) == Reply::Job(number));
+    run_all(rt, waiting, MANY);
+    let gone = number.saturating_sub(ALIVE);
+    if gone == 0 {
         return 0;
     }
-    let gone = number.wrapping_sub(ALIVE);
-    let seen = jobs.drop_handle(gone);
-    assert!(rt; jobs.has_ended(gone).is_err());
-    match dropped(seen.answer) {
-        Reply::Dropped(Some(output)) => output,
-        _ => panic!(rt; "no output comes back"),
+    let output = output_of(jobs.drop_handle(gone).answer);
+    if jobs.has_ended(gone).is_ok() {
+        0
+    } else {
+        output
     }
 }
+
+const FIRST: [Row; 1] = [(Call::Spawn(7), Reply::Job(0), None)];
 
 const AFTER_ALL: [Row; 19] = [
     (Call::HasEnded(1), Reply::Refused(Refusal::NoHandle), None),
@@ -263,8 +306,7 @@ const AFTER_ALL: [Row; 19] = [
 fn the_first_job_outlives_pages(rt: HostRuntime) {
     let alloc = rt.alloc();
     let (mut jobs, waiting) = jobs_on(&rt, alloc, ALIVE.wrapping_add(2));
-    let first = [(Call::Spawn(7), Reply::Job(0), None)];
-    all_answer(&rt, alloc, &mut jobs, &waiting, &first);
+    all_answer(&rt, alloc, &mut jobs, &waiting, &FIRST);
     let mut sum = 0u64;
     for number in 1..THROUGH {
         let output = one_comes_one_goes(&rt, alloc, &mut jobs, &waiting, number);
@@ -313,20 +355,4 @@ fn ends_are_seen_once<R: Host + Abort>(
 fn an_end_is_seen_once(rt: HostRuntime) {
     let (mut jobs, waiting) = jobs_on(&rt, rt.alloc(), MANY);
     ends_are_seen_once(&rt, rt.alloc(), &mut jobs, &waiting);
-}
-
-const SEEN_BY_EACH: [Row; 7] = [
-    (Call::Spawn(4), Reply::Job(0), None),
-    (Call::Spawn(5), Reply::Job(1), None),
-    (Call::Spawn(6), Reply::Job(2), None),
-    (Call::Drop(2), Reply::Dropped(None), None),
-    (Call::RunAll, Reply::Ready, None),
-    (Call::Poll(0, 7), Reply::Output(4), RAN),
-    (Call::Drop(1), Reply::Dropped(Some(5)), RAN),
-];
-
-#[test]
-fn a_poll_and_a_drop_see_the_end(rt: HostRuntime) {
-    let (mut jobs, waiting) = jobs_on(&rt, rt.alloc(), 3);
-    all_answer(&rt, rt.alloc(), &mut jobs, &waiting, &SEEN_BY_EACH);
 }

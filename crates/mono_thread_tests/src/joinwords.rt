@@ -121,47 +121,47 @@ fn start_completing<R: Threads + Abort>(
     (joiner, child)
 }
 
-// The joiner polls with the waker 8 while another thread completes.
+// Whether this is the output of those jobs.
+fn is_theirs(output: Result<Counted, JoinError>) -> bool {
+    matches!(output, Ok(Counted { number: 4, .. }))
+}
+
+// Whether the joiner gets the output once, which polls with the waker 8 while another thread completes.
 fn poll_in_time<R: Threads + Abort>(
     rt: &R,
     alloc: Global,
     waits: bool,
     spins: u64,
     drops: &Arc<AtomicU64, Global>,
-) {
+) -> bool {
     let (mut joiner, child) = start_completing(rt, alloc, waits, spins, drops);
     assert!(rt; !joiner.is_taken());
     let answer = joiner.poll(Named(8));
     let done = child.join(rt);
     let woke = woken(done.woke);
-    assert!(rt; !done.dropped);
-    match answer {
-        Poll::Ready(output) => {
-            assert!(rt; matches!(output, Ok(Counted { number: 4, .. })));
-            assert!(rt; woke == 0 || waits && woke == 7);
-        }
-        Poll::Pending => {
-            assert!(rt; woke == 8);
-            let late = joiner.poll(Named(9));
-            assert!(rt; matches!(late, Poll::Ready(Ok(Counted { number: 4, .. }))));
-        }
-    }
-    assert!(rt; joiner.is_taken() & joiner.cancel().is_none());
+    let is_told = match answer {
+        Poll::Ready(output) => (woke == 0 || waits && woke == 7) & is_theirs(output),
+        Poll::Pending => match joiner.poll(Named(9)) {
+            Poll::Ready(output) => (woke == 8) & is_theirs(output),
+            Poll::Pending => false,
+        },
+    };
+    is_told & !done.dropped & joiner.is_taken() & joiner.cancel().is_none()
 }
 
-// The joiner cancels while another thread completes.
+// Whether the output is handed out or dropped, where the joiner cancels while another thread completes.
 fn cancel_in_time<R: Threads + Abort>(
     rt: &R,
     alloc: Global,
     waits: bool,
     spins: u64,
     drops: &Arc<AtomicU64, Global>,
-) {
+) -> bool {
     let (joiner, child) = start_completing(rt, alloc, waits, spins, drops);
     let handed = joiner.cancel().is_some();
     let done = child.join(rt);
-    assert!(rt; done.dropped != handed);
-    assert!(rt; woken(done.woke) == if handed && waits { 7 } else { 0 });
+    let waker = if handed && waits { 7 } else { 0 };
+    (done.dropped != handed) & (woken(done.woke) == waker)
 }
 
 #[test]
@@ -169,8 +169,8 @@ fn each_output_is_handed_out_or_dropped_once(rt: HostRuntime) {
     let drops = Arc::new(rt.alloc(), AtomicU64::new(0)).expect(&rt, "memory");
     for round in 0..200 {
         for waits in [false, true] {
-            poll_in_time(&rt, rt.alloc(), waits, round * 16, &drops);
-            cancel_in_time(&rt, rt.alloc(), waits, round * 16, &drops);
+            let is_polled = poll_in_time(&rt, rt.alloc(), waits, round * 16, &drops);
+            assert!(rt; is_polled & cancel_in_time(&rt, rt.alloc(), waits, round * 16, &drops));
         }
     }
     assert!(rt; drops.load(Ordering::SeqCst) == 800);

@@ -16,11 +16,11 @@ fn is_listed_so<R: Host + Abort>(rt: &R, inbox: &Inbox<NoUnpark>, wakes: &[(u64,
     true
 }
 
-/// What waits in the inbox, in order.
-fn taken<R: Host + Abort>(rt: &R, alloc: Global, inbox: &Inbox<NoUnpark>) -> Vec<u64> {
+/// Whether these tasks wait in the inbox, in order. They are taken.
+fn takes<R: Host + Abort>(rt: &R, alloc: Global, inbox: &Inbox<NoUnpark>, waiting: &[u64]) -> bool {
     let mut tasks = Vec::new(alloc);
     inbox.drain(rt, alloc, &mut tasks).expect(rt, "memory");
-    tasks
+    tasks.as_slice() == waiting
 }
 
 /// The row begins at 3 and ends before 10,000, past two pages of marks.
@@ -42,17 +42,25 @@ const FORGOTTEN: &[(u64, bool)] = &[
     (4096, true),
 ];
 
+/// Whether a row is known, of which all that was woken is taken.
+fn is_known<R: Host + Abort>(rt: &R, alloc: Global, inbox: &Inbox<NoUnpark>) -> bool {
+    let first = inbox.know_row(rt, alloc, 3, 10000);
+    let second = inbox.know_row(rt, alloc, 7, 7);
+    let third = inbox.know_row(rt, alloc, 20000, 5);
+    let are_known = (first == 10000) & (second == 7) & (third == 20000);
+    are_known & is_listed_so(rt, inbox, KNOWN) & takes(rt, alloc, inbox, &[3, 9999, 4096])
+}
+
+/// Whether some of it is forgotten, of which one waits.
+fn is_forgotten<R: Host + Abort>(rt: &R, alloc: Global, inbox: &Inbox<NoUnpark>) -> bool {
+    let waits = is_listed_so(rt, inbox, &[(9999, true)]);
+    inbox.retire_all(rt, &[3, 5000, 9999]);
+    waits & is_listed_so(rt, inbox, FORGOTTEN) & takes(rt, alloc, inbox, &[9999, 5001, 4096])
+}
+
 #[test]
 fn a_row_is_known_and_some_of_it_is_forgotten(rt: HostRuntime) {
     let alloc = rt.alloc();
     let inbox = Inbox::new(alloc, 4, NoUnpark).expect(&rt, "memory");
-    assert_eq!(rt; inbox.know_row(&rt, alloc, 3, 10000), 10000);
-    assert_eq!(rt; inbox.know_row(&rt, alloc, 7, 7), 7);
-    assert_eq!(rt; inbox.know_row(&rt, alloc, 20000, 5), 20000);
-    assert!(rt; is_listed_so(&rt, &inbox, KNOWN));
-    assert!(rt; taken(&rt, alloc, &inbox).as_slice() == [3, 9999, 4096].as_slice());
-    assert!(rt; is_listed_so(&rt, &inbox, &[(9999, true)]));
-    inbox.retire_all(&rt, [3, 5000, 9999].as_slice());
-    assert!(rt; is_listed_so(&rt, &inbox, FORGOTTEN));
-    assert!(rt; taken(&rt, alloc, &inbox).as_slice() == [9999, 5001, 4096].as_slice());
+    assert!(rt; is_known(&rt, alloc, &inbox) && is_forgotten(&rt, alloc, &inbox));
 }

@@ -37,19 +37,15 @@ fn a_pool_without_workers_runs_on_the_caller(rt: HostRuntime) {
 /// How often the first job looks for the second.
 const LOOKS: u64 = 500000000;
 
-/// The first job looks for a flag, the second one sets it.
+/// The first job looks for a flag, any other one sets it.
 #[derive(Drop)]
 struct Meets {
     number: u64,
     flag: Arc<AtomicU64, Global>,
 }
 
-/// Whether a job saw the other, beside its number.
-#[derive(Drop)]
-struct Met {
-    number: u64,
-    saw: bool,
-}
+/// What a job that never saw the flag adds to it. One that sets it adds one.
+const MISSED: u64 = 1 << 32;
 
 impl Outcome for Meets {
     ghost output_number = { λ job. job.number };
@@ -59,18 +55,10 @@ impl Outcome for Meets {
     }
 }
 
-impl Outcome for Met {
-    ghost output_number = { λ output. output.number };
-
-    fn number(&self) -> u64 {
-        self.number
-    }
-}
-
 /// Whether the flag was set within so many looks.
 fn looks(flag: &AtomicU64) -> bool {
     for _ in 0..LOOKS {
-        if flag.load(Ordering::SeqCst) == 1 {
+        if flag.load(Ordering::SeqCst) > 0 {
             return true;
         }
     }
@@ -78,23 +66,21 @@ fn looks(flag: &AtomicU64) -> bool {
 }
 
 impl Job for Meets {
-    type Output = Met;
+    type Output = u64;
 
     type Unpark = NoUnpark;
 
-    fn run(self) -> Met {
-        let Self { number, flag } = self;
-        if number == 1 {
-            let saw = looks(&flag);
-            return Met { number, saw };
+    fn run(self) -> u64 {
+        if self.number != 1 {
+            self.flag.fetch_add(1, Ordering::SeqCst);
+        } else if !looks(&self.flag) {
+            self.flag.fetch_add(MISSED, Ordering::SeqCst);
         }
-        flag.store(1, Ordering::SeqCst);
-        Met { number, saw: true }
+        self.number
     }
 }
 
 /// What is done between the last job and the close of the pool.
-#[derive(Clone, Copy)]
 enum Between {
     Nothing,
     /// The flag is set.
@@ -103,11 +89,10 @@ enum Between {
     Looks,
 }
 
-/// How a pool is used: so many workers get, after so long, so many jobs, which are numbered from here on.
-#[derive(Clone, Copy)]
+/// How a pool is used: so many workers get, after so many milliseconds, so many jobs, which are numbered from here on.
 struct Plan {
     workers: usize,
-    after: Duration,
+    after: u64,
     first: u64,
     jobs: u64,
     between: Between,
@@ -119,7 +104,7 @@ fn give_all<R: Host + Abort>(
     alloc: Global,
     pool: &mut DefaultThreadPool<Meets>,
     flag: &Arc<AtomicU64, Global>,
-    plan: Plan,
+    plan: &Plan,
 ) -> Vec<JobJoiner<Meets>> {
     let mut joiners = Vec::new(alloc);
     for job in 0..plan.jobs {
@@ -139,71 +124,112 @@ fn use_pool<R: Host + Abort + Send + 'static, P: Spawner>(
     alloc: Global,
     spawner: &mut P,
     flag: &Arc<AtomicU64, Global>,
-    plan: Plan,
+    plan: &Plan,
 ) -> Vec<JobJoiner<Meets>> {
     let mut pool = DefaultThreadPool::new(rt, alloc, plan.workers, spawner).expect(rt, "memory");
     assert!(rt; pool.workers() == plan.workers);
-    thread::sleep(rt, plan.after);
+    thread::sleep(rt, Duration::from_millis(plan.after));
     let joiners = give_all(rt, alloc, &mut pool, flag, plan);
     match plan.between {
         Between::Nothing => {}
-        Between::Sets => flag.store(1, Ordering::SeqCst),
+        Between::Sets => {
+            flag.fetch_add(1, Ordering::SeqCst);
+        }
         Between::Looks => assert!(rt; looks(flag)),
     }
     pool.close(rt);
     joiners
 }
 
-/// Whether the job is done, has this number and saw the other.
-fn has_met<R: Host + Abort>(
-    rt: &R,
-    alloc: Global,
-    mut joiner: JobJoiner<Meets>,
-    number: u64,
-) -> bool {
-    assert!(rt; !joiner.is_taken());
-    match joiner.poll(waker(rt, alloc, 0)) {
-        Poll::Ready(Ok(met)) => met.saw && met.number == number,
-        _ => false,
-    }
-}
-
-/// How many jobs are done and saw the other, each with its own number, from the first one on.
+/// How many jobs are done, each with its own number, from the first one on. None may have missed the flag.
 fn count_met<R: Host + Abort>(
     rt: &R,
     alloc: Global,
     joiners: Vec<JobJoiner<Meets>>,
+    flag: &AtomicU64,
     first: u64,
 ) -> u64 {
-    let mut count = 0u64;
+    assert!(rt; flag.load(Ordering::SeqCst) < MISSED);
+    let mut number = first;
     for joiner in joiners {
-        assert!(rt; has_met(rt, alloc, joiner, first.wrapping_add(count)));
-        count = count.wrapping_add(1);
+        ends(rt, joiner, waker(rt, alloc, 0), Ok(number));
+        number = number.wrapping_add(1);
     }
-    count
+    number.wrapping_sub(first)
 }
 
 /// How many jobs of the plan the workers have run when the pool was closed.
-fn run_by<R: Host + Abort + Send + 'static>(rt: &R, alloc: Global, plan: Plan) -> u64 {
+fn run_by<R: Host + Abort + Send + 'static>(rt: &R, alloc: Global, plan: &Plan) -> u64 {
     let flag = Arc::new(alloc, AtomicU64::new(0)).expect(rt, "memory");
     let mut spawner = ThreadSpawner::new(alloc);
     let joiners = use_pool(rt, alloc, &mut spawner, &flag, plan);
     spawner.join(rt);
-    count_met(rt, alloc, joiners, plan.first)
+    count_met(rt, alloc, joiners, &flag, plan.first)
 }
 
-/// The first job looks for the flag, and the second one sets it.
-const TWO_AT_ONCE: Plan = Plan {
-    workers: 2,
-    after: Duration::ZERO,
-    first: 1,
-    jobs: 2,
-    between: Between::Nothing,
-};
+/// Uses a pool as each plan says: the workers must have run all its jobs.
+fn run_all_by<R: Host + Abort + Send + 'static>(rt: &R, alloc: Global, plans: &[Plan]) {
+    for plan in plans {
+        assert!(rt; run_by(rt, alloc, plan) == plan.jobs);
+    }
+}
+
+/// How long workers are given to begin to wait, in milliseconds.
+const A_WHILE: u64 = 50;
+
+const PLANS: [Plan; 6] = [
+    // two workers run two jobs at once, of which the first looks for the flag and the second sets it
+    Plan {
+        workers: 2,
+        after: 0,
+        first: 1,
+        jobs: 2,
+        between: Between::Nothing,
+    },
+    // one worker runs five jobs, and eight run thirty-two
+    Plan {
+        workers: 1,
+        after: 0,
+        first: 2,
+        jobs: 5,
+        between: Between::Nothing,
+    },
+    Plan {
+        workers: 8,
+        after: 0,
+        first: 2,
+        jobs: 32,
+        between: Between::Nothing,
+    },
+    // the close ends workers that wait
+    Plan {
+        workers: 3,
+        after: A_WHILE,
+        first: 2,
+        jobs: 0,
+        between: Between::Nothing,
+    },
+    // a worker that waits is told of a job
+    Plan {
+        workers: 1,
+        after: A_WHILE,
+        first: 2,
+        jobs: 1,
+        between: Between::Looks,
+    },
+    // one worker leaves the caller free, who sets the flag for which the job looks
+    Plan {
+        workers: 1,
+        after: 0,
+        first: 1,
+        jobs: 1,
+        between: Between::Sets,
+    },
+];
 
 #[test]
-fn two_workers_run_two_jobs_at_once(rt: HostRuntime) {
-    assert!(rt; run_by(&rt, rt.alloc(), TWO_AT_ONCE) == 2);
+fn workers_run_all(rt: HostRuntime) {
+    run_all_by(&rt, rt.alloc(), &PLANS);
 }
 
 /// Sets the flag.
@@ -212,7 +238,7 @@ struct Sets(Arc<AtomicU64, Global>);
 
 impl Entry for Sets {
     fn enter(self) {
-        self.0.store(1, Ordering::SeqCst);
+        self.0.fetch_add(1, Ordering::SeqCst);
     }
 }
 
@@ -266,8 +292,10 @@ impl Spawner for SetsFirst {
 /// The job looks for the flag, which its thread has set.
 const ENTERED: Plan = Plan {
     workers: 1,
+    after: 0,
+    first: 1,
     jobs: 1,
-    ..TWO_AT_ONCE
+    between: Between::Nothing,
 };
 
 #[test]
@@ -278,10 +306,10 @@ fn a_thread_enters_before_its_worker(rt: HostRuntime) {
         inner: ThreadSpawner::new(alloc),
         flag: Arc::try_clone(&flag).expect(&rt, "memory"),
     };
-    let joiners = use_pool(&rt, alloc, &mut spawner, &flag, ENTERED);
+    let joiners = use_pool(&rt, alloc, &mut spawner, &flag, &ENTERED);
     let SetsFirst { inner, flag: _flag } = spawner;
     inner.join(&rt);
-    assert!(rt; count_met(&rt, alloc, joiners, 1) == 1);
+    assert!(rt; count_met(&rt, alloc, joiners, &flag, 1) == 1);
 }
 
 #[test]
@@ -295,62 +323,4 @@ fn a_refused_task_comes_back(rt: HostRuntime) {
     let (job, _spent) = task.cancel(&rt);
     assert!(rt; pool.refusals == 1 && job.0 == 4);
     ends(&rt, joiner, waker(&rt, alloc, 0), Err(JoinError::Canceled));
-}
-
-/// Jobs that all set the flag.
-const FIVE: Plan = Plan {
-    workers: 1,
-    after: Duration::ZERO,
-    first: 2,
-    jobs: 5,
-    between: Between::Nothing,
-};
-
-#[test]
-fn one_worker_runs_all(rt: HostRuntime) {
-    assert!(rt; run_by(&rt, rt.alloc(), FIVE) == 5);
-}
-
-#[test]
-fn eight_workers_run_thirty_two_jobs(rt: HostRuntime) {
-    let plan = Plan {
-        workers: 8,
-        jobs: 32,
-        ..FIVE
-    };
-    assert!(rt; run_by(&rt, rt.alloc(), plan) == 32);
-}
-
-/// How long workers are given to begin to wait, in milliseconds.
-const A_WHILE: u64 = 50;
-
-#[test]
-fn close_ends_workers_that_wait(rt: HostRuntime) {
-    let plan = Plan {
-        workers: 3,
-        after: Duration::from_millis(A_WHILE),
-        jobs: 0,
-        ..FIVE
-    };
-    assert!(rt; run_by(&rt, rt.alloc(), plan) == 0);
-}
-
-#[test]
-fn a_worker_that_waits_is_told(rt: HostRuntime) {
-    let plan = Plan {
-        after: Duration::from_millis(A_WHILE),
-        jobs: 1,
-        between: Between::Looks,
-        ..FIVE
-    };
-    assert!(rt; run_by(&rt, rt.alloc(), plan) == 1);
-}
-
-#[test]
-fn one_worker_leaves_the_caller_free(rt: HostRuntime) {
-    let plan = Plan {
-        between: Between::Sets,
-        ..ENTERED
-    };
-    assert!(rt; run_by(&rt, rt.alloc(), plan) == 1);
 }

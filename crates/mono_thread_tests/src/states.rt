@@ -74,6 +74,7 @@ fn all_answer_behind<R: Abort>(rt: &R, alloc: Global, room: usize, tasks: u64, c
     all_answer(rt, alloc, &mut state, calls);
 }
 
+// A state lists known tasks once.
 const LISTED_ONCE: [Call; 8] = [
     Call::Knows(3, true),
     Call::Puts(3, true),
@@ -85,11 +86,7 @@ const LISTED_ONCE: [Call; 8] = [
     Call::Waits(0),
 ];
 
-#[test]
-fn a_state_lists_known_tasks_once(rt: HostRuntime) {
-    all_answer_behind(&rt, rt.alloc(), 0, 0, &LISTED_ONCE);
-}
-
+// A retired task waits until the drain.
 const RETIRED: [Call; 16] = [
     Call::Knows(7, true),
     Call::Knows(1, true),
@@ -109,12 +106,7 @@ const RETIRED: [Call; 16] = [
     Call::Drains(7),
 ];
 
-#[test]
-fn a_retired_task_waits_until_the_drain(rt: HostRuntime) {
-    all_answer_behind(&rt, rt.alloc(), 2, 0, &RETIRED);
-}
-
-// The tasks below lie far past the first page and the first part of an inbox's marks.
+// Kept marks outlive their neighbours: the tasks lie far past the first page and the first part of an inbox's marks.
 const KEPT_MARKS: [Call; 40] = [
     Call::Puts(0, true),
     Call::Puts(1, false),
@@ -158,11 +150,7 @@ const KEPT_MARKS: [Call; 40] = [
     Call::DrainsOne(None),
 ];
 
-#[test]
-fn kept_marks_outlive_their_neighbours(rt: HostRuntime) {
-    all_answer_behind(&rt, rt.alloc(), 0, 1_150_000, &KEPT_MARKS);
-}
-
+// A number that went is known anew.
 const KNOWN_ANEW: [Call; 18] = [
     Call::Puts(9_999, false),
     Call::Knows(9_999, true),
@@ -184,9 +172,20 @@ const KNOWN_ANEW: [Call; 18] = [
     Call::Puts(0, true),
 ];
 
+/// The room of a new state, how many tasks come and go there, and the calls behind them.
+const CASES: [(usize, u64, &[Call]); 5] = [
+    (0, 0, &LISTED_ONCE),
+    (2, 0, &RETIRED),
+    (0, 1_150_000, &KEPT_MARKS),
+    (0, 20_000, &KNOWN_ANEW),
+    (4, 0, &[Call::IsFull(true)]),
+];
+
 #[test]
-fn a_number_that_went_is_known_anew(rt: HostRuntime) {
-    all_answer_behind(&rt, rt.alloc(), 0, 20_000, &KNOWN_ANEW);
+fn states_answer_so(rt: HostRuntime) {
+    for (room, tasks, calls) in CASES {
+        all_answer_behind(&rt, rt.alloc(), room, tasks, calls);
+    }
 }
 
 const RECORDED: [Call; 13] = [
@@ -225,5 +224,4 @@ fn a_state_keeps_its_calls(rt: HostRuntime) {
     all_answer(&rt, alloc, &mut state, &RECORDED);
     assert!(rt; state.plain_puts() == 3 && state.ledger_puts() == 0);
     assert!(rt; state.history().as_slice() == KEPT.as_slice());
-    all_answer_behind(&rt, alloc, 4, 0, &[Call::IsFull(true)]);
 }

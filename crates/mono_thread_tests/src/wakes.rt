@@ -141,9 +141,9 @@ fn wake_and_drain<R: Host + Abort + Copy + Send + 'static>(
     let wakers = wakers_of(&rt, alloc, inbox);
     let threads = start_all(rt, alloc, &wakers, parker, &finished);
     drain_until_all_finished(&rt, alloc, inbox, parker, &finished, &mut counts, tasks);
-    assert!(rt; all_were_drained(&rt, threads, &counts));
+    let were_drained = all_were_drained(&rt, threads, &counts);
     inbox.drain(&rt, alloc, tasks).expect(&rt, "memory");
-    assert!(rt; tasks.is_empty());
+    assert!(rt; were_drained & tasks.is_empty());
 }
 
 #[test]
@@ -208,8 +208,7 @@ fn wake_and_wait<R: Host + Abort + Copy + Send + 'static>(
     parker.park(&rt);
     inbox.drain(&rt, alloc, &mut tasks).expect(&rt, "memory");
     handle_of(&rt, drained).unpark(&rt);
-    assert!(rt; other.join(&rt) == 1);
-    assert!(rt; tasks.as_slice() == [3].as_slice());
+    assert!(rt; (other.join(&rt) == 1) & (tasks.as_slice() == [3].as_slice()));
 }
 
 #[test]
