@@ -141,10 +141,7 @@ impl Asks<Own> for Ask {
         match self {
             Ask::Child => spawn_child(alloc, cx, number),
             Ask::Block => spawn_job(rt, alloc, cx, number),
-            Ask::Sleep => begin_sleep(alloc, cx, number),
-            Ask::Interval => begin_interval(alloc, cx),
-            Ask::Timeout => begin_timeout(alloc, cx, number),
-            Ask::Attempt => begin_retry(alloc, cx, number),
+            _ => begin(alloc, cx, *self, number),
         }
     }
 
@@ -169,6 +166,18 @@ fn has_sleep<C: TimeContext>(cx: &mut C, number: u64) -> bool
     ensures { C.reaches cx.old cx.new }
 {
     cx.sleep_elapsed(number).is_ok()
+}
+
+// Whatever has a sleep.
+fn begin<C: TimeContext>(alloc: Global, cx: &mut C, ask: Ask, number: u64) -> Called
+    ensures { C.reaches cx.old cx.new }
+{
+    match ask {
+        Ask::Interval => begin_interval(alloc, cx),
+        Ask::Timeout => begin_timeout(alloc, cx, number),
+        Ask::Attempt => begin_retry(alloc, cx, number),
+        _ => begin_sleep(alloc, cx, number),
+    }
 }
 
 // A task that is ready with its number. A future that was refused comes back.

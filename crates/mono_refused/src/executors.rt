@@ -1,5 +1,5 @@
 // The executor.
-use crate::grows::{Called, Grows, done_where};
+use crate::grows::{Called, Ended, Grows, done_where, refusals};
 use mono_exec::{Act, Blocking, Event, Exec, Limits, Report};
 use mono_model::Host;
 use std::alloc::Global;
@@ -12,16 +12,23 @@ fn due_at(n: u64) -> u128 {
     MILLI * (1 + u128::from(n))
 }
 
-/// An executor with so many sleeps, which are armed at ticks 1, 2, 3 and so on.
-pub fn ticked(alloc: Global, sleeps: u64) -> Option<Exec> {
+/// Steps of the clock of an executor with so many sleeps, which are armed at ticks 1, 2, 3 and so on.
+pub fn ticked<R: Host>(rt: &R, alloc: Global, sleeps: u64) -> Ended {
     let limits = Limits {
         tasks: 0,
         jobs: 0,
         sleeps,
     };
-    let mut exec = Exec::new(alloc, limits, Blocking::Panic).ok()?;
-    if has_armed(alloc, &mut exec, sleeps) {
-        Some(exec)
+    match Exec::new(alloc, limits, Blocking::Panic) {
+        Ok(mut exec) => ticked_on(rt, alloc, &mut exec, sleeps),
+        Err(_) => None,
+    }
+}
+
+// The same of an executor without a sleep.
+fn ticked_on<R: Host>(rt: &R, alloc: Global, exec: &mut Exec, sleeps: u64) -> Ended {
+    if has_armed(alloc, exec, sleeps) {
+        Some(refusals(rt, alloc, exec, sleeps))
     } else {
         None
     }

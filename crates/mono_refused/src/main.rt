@@ -20,10 +20,10 @@ use crate::executors::ticked;
 use crate::futures::Form;
 use crate::grows::{Ended, Grows, refusals};
 use crate::runtimes::{entered, had};
-use crate::services::{Acquired, Buckets, Written};
-use crate::tables::Fired;
+use crate::services::{Buckets, acquires, sends};
+use crate::tables::fires;
 use crate::waking::{Drained, Made, new_inbox, new_recorded};
-use crate::wheels::{Keyed, Linked};
+use crate::wheels::{Linked, adds_keys};
 use mono_actor::Actors;
 use mono_inbox::{InboxState, NoUnpark, RecordedInbox, Registry};
 use mono_limit::Limiter;
@@ -33,7 +33,7 @@ use mono_session::Sessions;
 use mono_table::Table;
 use mono_task::Tasks;
 use mono_time::Timers;
-use std::alloc::Global;
+use std::alloc::{AllocError, Global};
 use std::marker::Brand;
 use std::process::ExitCode;
 use std::sync::ledger::{Blank, Ledger};
@@ -129,21 +129,41 @@ fn call_named(name: &str) -> Option<Call> {
 }
 
 // How the calls on an object ended, which is then let go.
-fn grown<R: Host, T: Grows + Drop>(rt: &R, alloc: Global, object: Option<T>, calls: u64) -> Ended {
-    let mut object = object?;
+fn grown<R: Host, T: Grows + Drop>(rt: &R, alloc: Global, mut object: T, calls: u64) -> Ended {
     Some(refusals(rt, alloc, &mut object, calls))
+}
+
+// The same where there was memory for the object.
+fn grown_if<R: Host, T: Grows + Drop>(
+    rt: &R,
+    alloc: Global,
+    object: Result<T, AllocError>,
+    calls: u64,
+) -> Ended {
+    match object {
+        Ok(object) => grown(rt, alloc, object, calls),
+        Err(_) => None,
+    }
 }
 
 fn of_tables<R: Host>(rt: &R, alloc: Global, call: Call, calls: u64) -> Ended {
     match call {
-        Call::Push => grown(rt, alloc, Some(Table::new(alloc)), calls),
-        Call::List => grown(rt, alloc, Some(List::new(alloc)), calls),
-        Call::Spawn => grown(rt, alloc, Tasks::new(alloc, calls).ok(), calls),
-        Call::Add => grown(rt, alloc, Timers::new(alloc, calls, true).ok(), calls),
-        Call::Fire => grown(rt, alloc, Fired::new(alloc, calls), calls),
-        Call::Node => grown(rt, alloc, Linked::new(alloc), calls),
-        Call::Key => grown(rt, alloc, Keyed::new(alloc), calls),
+        Call::Push => grown(rt, alloc, Table::new(alloc), calls),
+        Call::List => grown(rt, alloc, List::new(alloc), calls),
+        Call::Spawn => grown_if(rt, alloc, Tasks::new(alloc, calls), calls),
+        Call::Add => grown_if(rt, alloc, Timers::new(alloc, calls, true), calls),
+        Call::Fire => fires(rt, alloc, calls),
+        Call::Node => grown_if(rt, alloc, Linked::new(alloc), calls),
+        Call::Key => adds_keys(rt, alloc, calls),
         _ => of_waking(rt, alloc, call, calls),
+    }
+}
+
+// The drains of an inbox.
+fn drains<R: Host>(rt: &R, alloc: Global, calls: u64) -> Ended {
+    match new_inbox(alloc) {
+        Some(inbox) => grown(rt, alloc, Drained::new(inbox), calls),
+        None => None,
     }
 }
 
@@ -151,43 +171,43 @@ fn of_tables<R: Host>(rt: &R, alloc: Global, call: Call, calls: u64) -> Ended {
 fn drains_recorded<L: Ledger, R: Host>(rt: &R, alloc: Global, calls: u64, blank: Blank) -> Ended
     requires { (blank.name ≡ L.name) × (blank.parts ≡ L.parts) × (blank.parts ≡ 0) }
 {
-    let inbox: RecordedInbox<NoUnpark, L> = new_recorded(alloc, calls, blank)?;
-    grown(rt, alloc, Some(Drained::new(inbox)), calls)
+    let inbox: Option<RecordedInbox<NoUnpark, L>> = new_recorded(alloc, calls, blank);
+    match inbox {
+        Some(inbox) => grown(rt, alloc, Drained::new(inbox), calls),
+        None => None,
+    }
 }
 
 fn of_waking<R: Host>(rt: &R, alloc: Global, call: Call, calls: u64) -> Ended {
     match call {
-        Call::Know => grown(rt, alloc, InboxState::new(alloc, 0).ok(), calls),
-        Call::Drain => grown(rt, alloc, Some(Drained::new(new_inbox(alloc)?)), calls),
+        Call::Know => grown_if(rt, alloc, InboxState::new(alloc, 0), calls),
+        Call::Drain => drains(rt, alloc, calls),
         Call::Record => drains_recorded::<Brand, R>(rt, alloc, calls, Blank::new(0)),
-        Call::Register => grown(rt, alloc, Some(Registry::<NoUnpark>::new(alloc)), calls),
-        Call::Make => grown(rt, alloc, Some(Made), calls),
+        Call::Register => grown(rt, alloc, Registry::<NoUnpark>::new(alloc), calls),
+        Call::Make => grown(rt, alloc, Made, calls),
         _ => of_services(rt, alloc, call, calls),
     }
 }
 
 fn of_services<R: Host>(rt: &R, alloc: Global, call: Call, calls: u64) -> Ended {
     match call {
-        Call::Open => grown(rt, alloc, Sessions::new(alloc, calls, 0).ok(), calls),
-        Call::Acquire => grown(rt, alloc, Acquired::new(alloc, calls), calls),
-        Call::Bucket => {
-            let limiter = Limiter::new(alloc, calls, 0).ok()?;
-            grown(rt, alloc, Some(Buckets(limiter)), calls)
-        }
-        Call::Retry => grown(rt, alloc, Limiter::new(alloc, 0, calls).ok(), calls),
-        Call::Hire => grown(rt, alloc, Actors::<u64>::new(alloc, calls, 0).ok(), calls),
-        Call::Send => grown(rt, alloc, Written::new(alloc, calls), calls),
+        Call::Open => grown_if(rt, alloc, Sessions::new(alloc, calls, 0), calls),
+        Call::Acquire => acquires(rt, alloc, calls),
+        Call::Bucket => grown_if(rt, alloc, Buckets::new(alloc, calls), calls),
+        Call::Retry => grown_if(rt, alloc, Limiter::new(alloc, 0, calls), calls),
+        Call::Hire => grown_if(rt, alloc, Actors::<u64>::new(alloc, calls, 0), calls),
+        Call::Send => sends(rt, alloc, calls),
         _ => of_futures(rt, alloc, call, calls),
     }
 }
 
 fn of_futures<R: Host>(rt: &R, alloc: Global, call: Call, calls: u64) -> Ended {
     match call {
-        Call::Tick => grown(rt, alloc, ticked(alloc, calls), calls),
-        Call::Join => grown(rt, alloc, Some(Form::Join), calls),
-        Call::Try => grown(rt, alloc, Some(Form::TryJoin), calls),
-        Call::Select => grown(rt, alloc, Some(Form::Select), calls),
-        Call::Enter => grown(rt, alloc, entered(alloc), calls),
+        Call::Tick => ticked(rt, alloc, calls),
+        Call::Join => grown(rt, alloc, Form::Join, calls),
+        Call::Try => grown(rt, alloc, Form::TryJoin, calls),
+        Call::Select => grown(rt, alloc, Form::Select, calls),
+        Call::Enter => entered(rt, alloc, calls),
         _ => had(rt, alloc, asked(call), calls),
     }
 }
@@ -213,29 +233,44 @@ fn status_of(ended: Ended) -> u8 {
     }
 }
 
-fn told(rt: &HostRuntime, name: &str, ended: Ended) -> io::Result<ExitCode> {
+fn told(rt: &HostRuntime, name: &str, ended: Ended) -> io::Result<()> {
     match ended {
-        None => {}
-        Some(None) => println!(rt; "{name}: a call did not do what it promises")?,
-        Some(Some(refused)) => println!(rt; "{name}: {refused} refused")?,
+        None => Ok(()),
+        Some(None) => println!(rt; "{name}: a call did not do what it promises"),
+        Some(Some(refused)) => println!(rt; "{name}: {refused} refused"),
     }
+}
+
+// What the program says, and its status.
+fn shown(rt: &HostRuntime, name: &str, ended: Ended) -> io::Result<ExitCode> {
+    told(rt, name, ended)?;
     Ok(ExitCode::from(status_of(ended)))
+}
+
+// Says what the words are to be.
+fn helped(rt: &HostRuntime) -> io::Result<ExitCode> {
+    println!(rt; "{HELP}")?;
+    Ok(ExitCode::from(2))
 }
 
 // The call that the words name, and how often it is made.
 fn said(words: &[String]) -> Option<(&str, Call, u64)> {
-    match words {
-        [_, name, calls] => Some((name.as_str(), call_named(name)?, calls.parse::<u64>().ok()?)),
+    let [_, name, calls] = words else {
+        return None;
+    };
+    match (call_named(name.as_str()), calls.parse::<u64>()) {
+        (Some(call), Ok(calls)) => Some((name.as_str(), call, calls)),
         _ => None,
     }
 }
 
 fn main(rt: HostRuntime) -> io::Result<ExitCode> {
     let words: Vec<String> = env::args(&rt)?.collect(rt.alloc())?;
-    if let Some((name, call, calls)) = said(words.as_slice()) {
-        let ended = of_tables(&rt, rt.alloc(), call, calls);
-        return told(&rt, name, ended);
+    match said(words.as_slice()) {
+        Some((name, call, calls)) => {
+            let ended = of_tables(&rt, rt.alloc(), call, calls);
+            shown(&rt, name, ended)
+        }
+        None => helped(&rt),
     }
-    println!(rt; "{HELP}")?;
-    Ok(ExitCode::from(2))
 }

@@ -2,7 +2,7 @@
 ghost use Rattle.std.specs.Prelude.{◌≡◌, None, IfOk};
 
 use crate::contexts::{Ask, Errand, Keeps, WENT_WRONG, refused_with};
-use crate::grows::{Called, Ended, Grows, done_where};
+use crate::grows::{Called, Ended, Grows, done_where, refusals};
 use mono_model::Host;
 use mono_rt::{RunError, Runtime, RuntimeBuilder, StepDriver, TimeDriver};
 use mono_task::JoinContext;
@@ -21,9 +21,12 @@ fn running(alloc: Global) -> Result<Running, AllocError>
     builder.attach_thread_pool(Keeps::new(alloc)).build(alloc)
 }
 
-/// A runtime without a task, if there is memory for it.
-pub fn entered(alloc: Global) -> Option<Running> {
-    running(alloc).ok()
+/// A runtime without a task, by so many calls.
+pub fn entered<R: Host>(rt: &R, alloc: Global, calls: u64) -> Ended {
+    match running(alloc) {
+        Ok(mut runtime) => Some(refusals(rt, alloc, &mut runtime, calls)),
+        Err(_) => None,
+    }
 }
 
 // A runtime, by tasks that are made outside of a turn.
@@ -52,18 +55,22 @@ const UNTOLD: u64 = WENT_WRONG - 1;
 
 /// A running task that makes a call on its context so often.
 pub fn had<R: Host>(rt: &R, alloc: Global, ask: Ask, calls: u64) -> Ended {
-    let told = Arc::new(alloc, AtomicU64::new(UNTOLD)).ok()?;
-    let errand = Errand::Asks(ask, calls, Arc::try_clone(&told).ok()?);
-    had_on(rt, alloc, errand, &told)
+    match Arc::new(alloc, AtomicU64::new(UNTOLD)) {
+        Ok(told) => had_on(rt, alloc, ask, calls, &told),
+        Err(_) => None,
+    }
 }
 
 // The same, of a task that tells it here, on a runtime that is made for it.
-fn had_on<R: Host>(rt: &R, alloc: Global, errand: Errand, told: &AtomicU64) -> Ended {
+fn had_on<R: Host>(
+    rt: &R,
+    alloc: Global,
+    ask: Ask,
+    calls: u64,
+    told: &Arc<AtomicU64, Global>,
+) -> Ended {
     match running(alloc) {
-        Ok(runtime) => {
-            let mut runtime = runtime;
-            had_turn(rt, alloc, &mut runtime, errand, told)
-        }
+        Ok(mut runtime) => had_turn(rt, alloc, &mut runtime, ask, calls, told),
         Err(_) => None,
     }
 }
@@ -74,20 +81,43 @@ fn had_turn<R: Host>(
     rt: &R,
     alloc: Global,
     runtime: &mut Running,
-    errand: Errand,
-    told: &AtomicU64,
+    ask: Ask,
+    calls: u64,
+    told: &Arc<AtomicU64, Global>,
 ) -> Ended
     requires rests { runtime.old.cx.parts.tasks.turn ≡ None }
 {
-    let first = runtime.block_on(rt, alloc, errand, 1);
-    let says_so = matches!(first, Err(RunError::Memory));
+    let says_so = match Arc::try_clone(told) {
+        Ok(theirs) => says_memory(rt, alloc, runtime, Errand::Asks(ask, calls, theirs)),
+        Err(_) => false,
+    };
     let refused = told.load(Ordering::SeqCst);
     if refused == UNTOLD {
         return None;
     }
-    let second = runtime.block_on(rt, alloc, Errand::Ready(9), u64::MAX);
-    let is_usable = matches!(second, Ok(9));
+    let is_usable = is_usable(rt, alloc, runtime);
     Some(as_told(refused, says_so && is_usable))
+}
+
+// Whether the runtime says after the errand's turn that a call was refused memory.
+fn says_memory<R: Host>(rt: &R, alloc: Global, runtime: &mut Running, errand: Errand) -> bool
+    requires rests { runtime.old.cx.parts.tasks.turn ≡ None }
+    ensures rests { runtime.new.cx.parts.tasks.turn ≡ None }
+{
+    matches!(
+        runtime.block_on(rt, alloc, errand, 1),
+        Err(RunError::Memory)
+    )
+}
+
+// Whether a further task on the runtime gives what it is to give.
+fn is_usable<R: Host>(rt: &R, alloc: Global, runtime: &mut Running) -> bool
+    requires rests { runtime.old.cx.parts.tasks.turn ≡ None }
+{
+    matches!(
+        runtime.block_on(rt, alloc, Errand::Ready(9), u64::MAX),
+        Ok(9)
+    )
 }
 
 // How many calls were refused, as it was told; none where one went wrong, or where what came after was not right.

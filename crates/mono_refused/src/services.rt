@@ -1,10 +1,10 @@
 // Sessions, limits and actors.
-use crate::grows::{Called, Grows, done_where, refused_where};
+use crate::grows::{Called, Ended, Grows, done_where, refusals, refused_where};
 use mono_actor::{ActorError, Actors};
 use mono_limit::{LimitError, Limiter};
 use mono_model::Host;
 use mono_session::{SessionError, Sessions};
-use std::alloc::Global;
+use std::alloc::{AllocError, Global};
 
 // A keeper of sessions, by sessions that are opened.
 impl Grows for Sessions {
@@ -24,15 +24,23 @@ impl Grows for Sessions {
 #[derive(Drop)]
 pub struct Acquired(Sessions);
 
-impl Acquired {
-    /// Two sessions, which may stand in so many queues each.
-    pub fn new(alloc: Global, keys: u64) -> Option<Acquired> {
-        let mut sessions = Sessions::new(alloc, 2, keys.wrapping_mul(2)).ok()?;
-        if has_opened(alloc, &mut sessions) && has_opened(alloc, &mut sessions) {
-            Some(Acquired(sessions))
-        } else {
-            None
+/// Two sessions, which may stand in so many queues each, by so many calls.
+pub fn acquires<R: Host>(rt: &R, alloc: Global, keys: u64) -> Ended {
+    match Sessions::new(alloc, 2, keys.wrapping_mul(2)) {
+        Ok(sessions) => {
+            let mut both = Acquired(sessions);
+            acquires_on(rt, alloc, &mut both, keys)
         }
+        Err(_) => None,
+    }
+}
+
+// The same of a keeper without a session.
+fn acquires_on<R: Host>(rt: &R, alloc: Global, both: &mut Acquired, calls: u64) -> Ended {
+    if has_opened(alloc, &mut both.0) && has_opened(alloc, &mut both.0) {
+        Some(refusals(rt, alloc, both, calls))
+    } else {
+        None
     }
 }
 
@@ -63,7 +71,17 @@ fn as_acquired(answer: Result<bool, SessionError>, is_first: bool, owner: Option
 
 /// A limiter, by buckets.
 #[derive(Drop)]
-pub struct Buckets(pub Limiter);
+pub struct Buckets(Limiter);
+
+impl Buckets {
+    /// A limiter for so many buckets.
+    pub fn new(alloc: Global, buckets: u64) -> Result<Buckets, AllocError> {
+        match Limiter::new(alloc, buckets, 0) {
+            Ok(limiter) => Ok(Buckets(limiter)),
+            Err(refused) => Err(refused),
+        }
+    }
+}
 
 impl Grows for Buckets {
     fn grow<R: Host>(&mut self, _rt: &R, alloc: Global, n: u64) -> Called {
@@ -112,15 +130,23 @@ impl Grows for Actors<u64> {
 #[derive(Drop)]
 pub struct Written(Actors<u64>);
 
-impl Written {
-    /// Two actors, for which so many messages may wait.
-    pub fn new(alloc: Global, messages: u64) -> Option<Written> {
-        let mut actors = Actors::new(alloc, 2, messages).ok()?;
-        if has_hired(alloc, &mut actors) && has_hired(alloc, &mut actors) {
-            Some(Written(actors))
-        } else {
-            None
+/// Two actors, for which so many messages may wait, by so many calls.
+pub fn sends<R: Host>(rt: &R, alloc: Global, messages: u64) -> Ended {
+    match Actors::new(alloc, 2, messages) {
+        Ok(actors) => {
+            let mut both = Written(actors);
+            sends_on(rt, alloc, &mut both, messages)
         }
+        Err(_) => None,
+    }
+}
+
+// The same of no actor.
+fn sends_on<R: Host>(rt: &R, alloc: Global, both: &mut Written, calls: u64) -> Ended {
+    if has_hired(alloc, &mut both.0) && has_hired(alloc, &mut both.0) {
+        Some(refusals(rt, alloc, both, calls))
+    } else {
+        None
     }
 }
 

@@ -1,5 +1,5 @@
 // Tables, lists, tasks and sleeps.
-use crate::grows::{Called, Grows, done_where, refused_where};
+use crate::grows::{Called, Ended, Grows, done_where, refusals, refused_where};
 use mono_machine::List;
 use mono_model::Host;
 use mono_table::Table;
@@ -94,33 +94,45 @@ impl Grows for Timers {
 #[derive(Drop)]
 pub struct Fired(Timers);
 
-impl Fired {
-    /// So many sleeps, armed.
-    pub fn new(alloc: Global, sleeps: u64) -> Option<Fired> {
-        let mut timers = Timers::new(alloc, sleeps, true).ok()?;
-        if has_armed(alloc, &mut timers, sleeps) {
-            Some(Fired(timers))
-        } else {
-            None
+/// So many sleeps, armed, by so many calls.
+pub fn fires<R: Host>(rt: &R, alloc: Global, sleeps: u64) -> Ended {
+    match Timers::new(alloc, sleeps, true) {
+        Ok(timers) => {
+            let mut timers = Fired(timers);
+            fires_on(rt, alloc, &mut timers, sleeps)
         }
+        Err(_) => None,
+    }
+}
+
+// The same of no sleep.
+fn fires_on<R: Host>(rt: &R, alloc: Global, timers: &mut Fired, sleeps: u64) -> Ended {
+    if has_armed(alloc, &mut timers.0, sleeps) {
+        Some(refusals(rt, alloc, timers, sleeps))
+    } else {
+        None
     }
 }
 
 // Whether so many sleeps could be armed.
 fn has_armed(alloc: Global, timers: &mut Timers, sleeps: u64) -> bool {
     for n in 0..sleeps {
-        if arm(alloc, timers, n.wrapping_add(1)).is_none() {
+        if !arms(alloc, timers, n.wrapping_add(1)) {
             return false;
         }
     }
     true
 }
 
-// A sleep that is armed at so many milliseconds, and that wakes the task of its own number.
-fn arm(alloc: Global, timers: &mut Timers, millis: u64) -> Option<()> {
-    let sleep = timers.add(alloc, at_millis(millis)?).ok()?;
-    timers.poll(sleep, sleep).ok()?;
-    Some(())
+// Whether a sleep could be armed at so many milliseconds, which wakes the task of its own number.
+fn arms(alloc: Global, timers: &mut Timers, millis: u64) -> bool {
+    let Some(deadline) = at_millis(millis) else {
+        return false;
+    };
+    match timers.add(alloc, deadline) {
+        Ok(sleep) => timers.poll(sleep, sleep).is_ok(),
+        Err(_) => false,
+    }
 }
 
 // What a step of the clock did that was to give this sleep alone.

@@ -1,10 +1,10 @@
 // Lists of nodes, and the wheel.
 ghost use Rattle.std.specs.Prelude.{◌≡◌, length};
 
-use crate::grows::{Called, Grows, done_where};
+use crate::grows::{Called, Ended, Grows, done_where, refusals};
 use mono_model::Host;
 use mono_wheel::{Links, Wheel};
-use std::alloc::Global;
+use std::alloc::{AllocError, Global};
 
 /// One list of nodes, by room for one more node, which is then made and put last.
 #[derive(Drop)]
@@ -15,10 +15,10 @@ pub struct Linked {
 
 impl Linked {
     /// The list without a node.
-    pub fn new(alloc: Global) -> Option<Linked> {
+    pub fn new(alloc: Global) -> Result<Linked, AllocError> {
         match Links::new(alloc, 1) {
-            Ok(links) => Some(Linked { links }),
-            Err(_) => None,
+            Ok(links) => Ok(Linked { links }),
+            Err(refused) => Err(refused),
         }
     }
 }
@@ -45,24 +45,36 @@ impl Grows for Linked {
 #[derive(Drop)]
 pub struct Keyed {
     wheel: Wheel,
-    // The key that was made first, with the wheel.
+    // The key that was made first, before the calls.
     first: usize,
     // The key that was made last.
     last: usize,
 }
 
-impl Keyed {
-    /// A wheel with one key.
-    pub fn new(alloc: Global) -> Option<Keyed> {
-        let mut wheel = Wheel::new(alloc).ok()?;
-        match wheel.reserve_entry(alloc) {
-            Ok(first) => Some(Keyed {
+/// A wheel with one key, by so many calls.
+pub fn adds_keys<R: Host>(rt: &R, alloc: Global, calls: u64) -> Ended {
+    match Wheel::new(alloc) {
+        Ok(wheel) => {
+            let mut keyed = Keyed {
                 wheel,
-                first,
-                last: first,
-            }),
-            Err(_) => None,
+                first: 0,
+                last: 0,
+            };
+            adds_keys_on(rt, alloc, &mut keyed, calls)
         }
+        Err(_) => None,
+    }
+}
+
+// The same of a wheel without a key.
+fn adds_keys_on<R: Host>(rt: &R, alloc: Global, keyed: &mut Keyed, calls: u64) -> Ended {
+    match keyed.wheel.reserve_entry(alloc) {
+        Ok(first) => {
+            keyed.first = first;
+            keyed.last = first;
+            Some(refusals(rt, alloc, keyed, calls))
+        }
+        Err(_) => None,
     }
 }
 
