@@ -23,6 +23,8 @@ mod many;
 #[cfg(test)]
 mod nested;
 #[cfg(test)]
+mod pulses;
+#[cfg(test)]
 mod streamed;
 #[cfg(test)]
 mod tables;

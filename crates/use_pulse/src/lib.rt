@@ -22,6 +22,20 @@ pub struct Pulse {
     has_answered: bool,
 }
 
+impl Pulse {
+    /// A pulse that waits for this sleep, and then for so many periods more.
+    pub fn new(delay: Sleep, period: Duration, left: u64) -> Pulse
+        ensures { result ≡ record { delay = delay; period = period; left = left; has_answered = false } }
+    {
+        Pulse {
+            delay,
+            period,
+            left,
+            has_answered: false,
+        }
+    }
+}
+
 impl<C: TimeContext> TaskFuture<C> for Pulse {
     type Output = Result<(), Error>;
 
