@@ -83,32 +83,12 @@ const SELECTED: [Selected; 9] = [
     ((1, 0), (1, 2), 0, false, 0, Out2::Second(2), 1276),
 ];
 
-#[test]
-fn selects(rt: HostRuntime) {
-    let mut cx = empty_board(&rt, rt.alloc(), 2);
-    for (waits, values, mask, is_random, poll, answer, notes) in SELECTED {
-        let pair = branches(waits, values);
-        let told = select(&rt, rt.alloc(), &mut cx, pair, mask, start_of(is_random));
-        assert!(rt; told == (Some((poll, answer)), notes));
-    }
-}
-
 /// The waits of two branches; the poll and the answer of their join, if it is ready in its first two polls, and the notes.
 const JOINED: [((u64, u64), Option<(u64, (u64, u64))>, u64); 3] = [
     ((0, 0), Some((0, (1, 2))), 1627),
     ((1, 0), Some((1, (1, 2))), 12716),
     ((1, 2), None, 12162),
 ];
-
-#[test]
-fn joins(rt: HostRuntime) {
-    let mut cx = empty_board(&rt, rt.alloc(), 2);
-    for (waits, answer, notes) in JOINED {
-        let (a, b) = branches(waits, (1, 2));
-        let told = told(&rt, rt.alloc(), &mut cx, Join2::new(a, b), 2);
-        assert!(rt; told == (answer, notes));
-    }
-}
 
 /// The waits and the values of two branches that may fail; the poll and the answer of their join, if it is ready in its
 /// first two polls, and the notes behind its cancel.
@@ -128,8 +108,18 @@ const TRIED: [Tried; 5] = [
 ];
 
 #[test]
-fn tried_joins(rt: HostRuntime) {
+fn selects_and_joins(rt: HostRuntime) {
     let mut cx = empty_board(&rt, rt.alloc(), 2);
+    for (waits, values, mask, is_random, poll, answer, notes) in SELECTED {
+        let pair = branches(waits, values);
+        let told = select(&rt, rt.alloc(), &mut cx, pair, mask, start_of(is_random));
+        assert!(rt; told == (Some((poll, answer)), notes));
+    }
+    for (waits, answer, notes) in JOINED {
+        let (a, b) = branches(waits, (1, 2));
+        let told = told(&rt, rt.alloc(), &mut cx, Join2::new(a, b), 2);
+        assert!(rt; told == (answer, notes));
+    }
     for (waits, values, answer, notes) in TRIED {
         let (a, b) = trials(waits, values);
         let told = told(&rt, rt.alloc(), &mut cx, TryJoin2::new(a, b), 2);

@@ -102,20 +102,12 @@ fn is_told(answer: Option<(u64, Vec<u64>)>, poll: u64, outputs: &[u64]) -> bool 
     }
 }
 
-#[test]
-fn lists(rt: HostRuntime) {
-    let mut cx = empty_board(&rt, rt.alloc(), 2);
-    assert!(rt; lists_join(&rt, rt.alloc(), &mut cx));
-}
-
-/// Whether joins of three and of two are ready as soon as all of theirs are.
-fn lists_join<R: Host>(rt: &R, alloc: Global, cx: &mut Board) -> bool {
-    let at_once = [(0, 1), (0, 2), (0, 3)];
-    let later = [(0, 1), (1, 2), (0, 3)];
-    joins_as(rt, alloc, cx, &at_once, 0, &[1, 2, 3], 162738)
-        && joins_as(rt, alloc, cx, &later, 1, &[1, 2, 3], 1623827)
-        && joins_as(rt, alloc, cx, &[(0, 1), (1, 2)], 1, &[1, 2], 16227)
-}
+/// Branches; the poll, the outputs and the notes of their join, which is ready as soon as all of theirs are.
+const JOINED: [(&[(u64, u64)], u64, &[u64], u64); 3] = [
+    (&[(0, 1), (0, 2), (0, 3)], 0, &[1, 2, 3], 162738),
+    (&[(0, 1), (1, 2), (0, 3)], 1, &[1, 2, 3], 1623827),
+    (&[(0, 1), (1, 2)], 1, &[1, 2], 16227),
+];
 
 /// At which poll the join of all is ready with all numbers in order.
 fn joined_all<R: Host>(rt: &R, alloc: Global, cx: &mut Board) -> Option<u64> {
@@ -126,8 +118,11 @@ fn joined_all<R: Host>(rt: &R, alloc: Global, cx: &mut Board) -> Option<u64> {
 }
 
 #[test]
-fn sixty_four_are_joined(rt: HostRuntime) {
+fn joins(rt: HostRuntime) {
     let mut cx = empty_board(&rt, rt.alloc(), 2);
+    for (branches, poll, outputs, notes) in JOINED {
+        assert!(rt; joins_as(&rt, rt.alloc(), &mut cx, branches, poll, outputs, notes));
+    }
     assert!(rt; joined_all(&rt, rt.alloc(), &mut cx) == Some(4));
 }
 
@@ -194,14 +189,6 @@ const TRIED: [([(u64, u64); 2], u64, Result<(u64, u64), u64>, u64); 5] = [
     ([(0, 8), (1, 2)], 0, Err(8), 167),
 ];
 
-#[test]
-fn tried_lists(rt: HostRuntime) {
-    let mut cx = empty_board(&rt, rt.alloc(), 2);
-    for (branches, poll, answer, notes) in TRIED {
-        assert!(rt; tries_as(&rt, rt.alloc(), &mut cx, &branches, poll, answer, notes));
-    }
-}
-
 /// The poll and the error of the join of all, of which those fail whose values are listed, or no error where it gave
 /// all numbers in order.
 fn tried_all<R: Host>(
@@ -227,8 +214,11 @@ fn first_fails<R: Host>(rt: &R, alloc: Global, cx: &mut Board) -> bool {
 }
 
 #[test]
-fn sixty_four_are_tried(rt: HostRuntime) {
+fn tried_joins(rt: HostRuntime) {
     let mut cx = empty_board(&rt, rt.alloc(), 2);
+    for (branches, poll, answer, notes) in TRIED {
+        assert!(rt; tries_as(&rt, rt.alloc(), &mut cx, &branches, poll, answer, notes));
+    }
     assert!(rt; first_fails(&rt, rt.alloc(), &mut cx));
 }
 
@@ -256,130 +246,91 @@ fn selected<R: Host>(
     }
 }
 
-/// The masks of biased selects of four branches that are ready at once, and their answers. The count goes from 0 on, the
-/// branch i is enabled where it is below i + 1, and its output is the next count.
-const PICKS: [(u64, Out<u64>); 5] = [
-    (0, Out::Picked(0, 1)),
-    (1, Out::Picked(1, 2)),
-    (3, Out::Picked(2, 3)),
-    (7, Out::Picked(3, 4)),
-    (15, Out::Disabled),
-];
+/// What a select is asked: from which number on branches pass always, whether those with an even value pass too, the mask,
+/// and whether the start is at random; the poll and the answer that it must give, and its notes where they are told.
+type Asked = ((u32, bool), u64, bool, (u64, Out<u64>), Option<u64>);
 
-const FOUR: [(u64, u64); 4] = [(0, 1), (0, 2), (0, 3), (0, 4)];
-
-/// Whether the biased select of these branches, each of which passes, gives this answer at its first poll.
-fn picks_as<R: Host>(
+/// Whether the select of these branches gives the answer that is told.
+fn selects_as<R: Host>(
     rt: &R,
     alloc: Global,
     cx: &mut Board,
     branches: &[(u64, u64)],
-    mask: u64,
-    answer: Out<u64>,
+    asked: Asked,
 ) -> bool {
-    match selected(rt, alloc, cx, branches, (0, false), mask, Start::Biased) {
-        Ok((told, _)) => told == Some((0, answer)),
+    let (passes, mask, is_random, told, notes) = asked;
+    match selected(rt, alloc, cx, branches, passes, mask, start_of(is_random)) {
+        Ok((answer, noted)) => answer == Some(told) && notes.unwrap_or(noted) == noted,
         Err(_) => false,
     }
 }
 
-#[test]
-fn picks(rt: HostRuntime) {
-    let mut cx = empty_board(&rt, rt.alloc(), 2);
-    for (mask, answer) in PICKS {
-        assert!(rt; picks_as(&rt, rt.alloc(), &mut cx, &FOUR, mask, answer));
-    }
-}
+const FOUR: [(u64, u64); 4] = [(0, 1), (0, 2), (0, 3), (0, 4)];
 
-/// Three branches of which the last passes always and the others with an even value, the mask, and whether the start is
-/// at random; the poll, the answer and the notes.
-const SELECTED: [([(u64, u64); 3], u64, bool, u64, Out<u64>, u64); 3] = [
+const SELECTED: [(&[(u64, u64)], Asked); 9] = [
+    // of four branches that are ready at once, where the count goes from 0 on, the branch i is enabled where it is below
+    // i + 1, and its output is the next count
+    (&FOUR, ((0, false), 0, false, (0, Out::Picked(0, 1)), None)),
+    (&FOUR, ((0, false), 1, false, (0, Out::Picked(1, 2)), None)),
+    (&FOUR, ((0, false), 3, false, (0, Out::Picked(2, 3)), None)),
+    (&FOUR, ((0, false), 7, false, (0, Out::Picked(3, 4)), None)),
+    (&FOUR, ((0, false), 15, false, (0, Out::Disabled), None)),
+    // of three branches the last passes always
     (
-        [(0, 3), (1, 4), (0, 5)],
-        0,
-        false,
-        0,
-        Out::Picked(2, 5),
-        162387,
+        &[(0, 3), (1, 4), (0, 5)],
+        ((2, true), 0, false, (0, Out::Picked(2, 5)), Some(162387)),
     ),
     (
-        [(0, 3), (1, 4), (0, 5)],
-        4,
-        false,
-        1,
-        Out::Picked(1, 4),
-        162278,
+        &[(0, 3), (1, 4), (0, 5)],
+        ((2, true), 4, false, (1, Out::Picked(1, 4)), Some(162278)),
     ),
     (
-        [(0, 4), (0, 3), (0, 5)],
-        0,
-        true,
-        0,
-        Out::Picked(2, 5),
-        27386,
+        &[(0, 4), (0, 3), (0, 5)],
+        ((2, true), 0, true, (0, Out::Picked(2, 5)), Some(27386)),
+    ),
+    // the second of two is picked
+    (
+        &[(1, 1), (0, 2)],
+        ((0, false), 0, false, (0, Out::Picked(1, 2)), None),
     ),
 ];
 
-#[test]
-fn selected_lists(rt: HostRuntime) {
-    let mut cx = empty_board(&rt, rt.alloc(), 2);
-    for (branches, mask, is_random, poll, answer, notes) in SELECTED {
-        let start = start_of(is_random);
-        let told = selected(&rt, rt.alloc(), &mut cx, &branches, (2, true), mask, start);
-        assert!(rt; told == Ok((Some((poll, answer)), notes)));
-    }
-}
-
-#[test]
-fn the_second_of_two_is_picked(rt: HostRuntime) {
-    let mut cx = empty_board(&rt, rt.alloc(), 2);
-    assert!(rt;
-        picks_as(
-            &rt,
-            rt.alloc(),
-            &mut cx,
-            &[(1, 1), (0, 2)],
-            0,
-            Out::Picked(1, 2)
-        )
-    );
-}
-
-/// The poll and the answer of the select of all, in which the branches from this number on pass.
-fn selected_all<R: Host>(
-    rt: &R,
-    alloc: Global,
-    cx: &mut Board,
-    least: u32,
-    mask: u64,
-) -> Option<(u64, Out<u64>)> {
-    let passes = (least, false);
-    match selected(rt, alloc, cx, &sixty_four(), passes, mask, Start::Biased) {
-        Ok((answer, _)) => answer,
-        Err(_) => None,
-    }
-}
-
-/// The number of the first branch of all that passes, and the mask; the poll and the answer.
-const OF_ALL: [(u32, u64, u64, Out<u64>); 9] = [
+/// Of all branches.
+const OF_ALL: [Asked; 9] = [
     // from 60 on the first is ready at poll 0, from 61 on at poll 1, and 63 is ready at poll 3
-    (0, 0, 0, Out::Picked(0, 1000)),
-    (60, 0, 0, Out::Picked(60, 1060)),
-    (61, 0, 1, Out::Picked(61, 1061)),
-    (63, 0, 3, Out::Picked(63, 1063)),
+    ((0, false), 0, false, (0, Out::Picked(0, 1000)), None),
+    ((60, false), 0, false, (0, Out::Picked(60, 1060)), None),
+    ((61, false), 0, false, (1, Out::Picked(61, 1061)), None),
+    ((63, false), 0, false, (3, Out::Picked(63, 1063)), None),
     // those that the mask leaves out are never polled
-    (0, 1, 0, Out::Picked(5, 1005)),
-    (63, 0x8000_0000_0000_0000, 4, Out::Disabled),
-    (0, 0x7fff_ffff_ffff_ffff, 3, Out::Picked(63, 1063)),
-    (0, u64::MAX, 0, Out::Disabled),
+    ((0, false), 1, false, (0, Out::Picked(5, 1005)), None),
+    (
+        (63, false),
+        0x8000_0000_0000_0000,
+        false,
+        (4, Out::Disabled),
+        None,
+    ),
+    (
+        (0, false),
+        0x7fff_ffff_ffff_ffff,
+        false,
+        (3, Out::Picked(63, 1063)),
+        None,
+    ),
+    ((0, false), u64::MAX, false, (0, Out::Disabled), None),
     // none passes: all have been ready at poll 4
-    (64, 0, 4, Out::Disabled),
+    ((64, false), 0, false, (4, Out::Disabled), None),
 ];
 
 #[test]
-fn one_of_sixty_four_is_selected(rt: HostRuntime) {
+fn selects(rt: HostRuntime) {
     let mut cx = empty_board(&rt, rt.alloc(), 2);
-    for (least, mask, poll, answer) in OF_ALL {
-        assert!(rt; selected_all(&rt, rt.alloc(), &mut cx, least, mask) == Some((poll, answer)));
+    for (branches, asked) in SELECTED {
+        assert!(rt; selects_as(&rt, rt.alloc(), &mut cx, branches, asked));
+    }
+    let all = sixty_four();
+    for asked in OF_ALL {
+        assert!(rt; selects_as(&rt, rt.alloc(), &mut cx, &all, asked));
     }
 }

@@ -6,6 +6,7 @@ use mono_model::Host;
 use mono_task::{Poll, TaskFuture};
 use mono_time::*;
 use std::alloc::Global;
+use std::process::Abort;
 use std::time::Duration;
 
 // Goes to a time, by a clock step in which at most one sleep fires.
@@ -84,39 +85,6 @@ fn goes_on(
     is_first && is_next
 }
 
-// How an interval goes on, its start, when the tick of that is polled, and the next deadline. A tick that is 5 ms late is
-// not missed.
-const DEADLINES: [(MissedTickBehavior, u32, u32, u32); 8] = [
-    (MissedTickBehavior::Skip, 0, 75, 100),
-    (MissedTickBehavior::Delay, 0, 200, 250),
-    (MissedTickBehavior::Burst, 100, 105, 150),
-    (MissedTickBehavior::Burst, 100, 106, 150),
-    (MissedTickBehavior::Delay, 100, 105, 150),
-    (MissedTickBehavior::Delay, 100, 106, 156),
-    (MissedTickBehavior::Skip, 100, 105, 150),
-    (MissedTickBehavior::Skip, 100, 106, 150),
-];
-
-#[test]
-fn next_deadlines(rt: HostRuntime) {
-    for (behavior, start, now, next) in DEADLINES {
-        let mut cx = empty_desk(&rt, rt.alloc(), at_millis(0));
-        assert!(rt; goes_on(rt.alloc(), &mut cx, behavior, start, now, next));
-    }
-}
-
-#[test]
-fn interval_ticks(rt: HostRuntime) {
-    let mut cx = empty_desk(&rt, rt.alloc(), at_millis(0));
-    assert!(rt; in_time(rt.alloc(), &mut cx));
-}
-
-#[test]
-fn missed_ticks(rt: HostRuntime) {
-    let mut cx = empty_desk(&rt, rt.alloc(), at_millis(0));
-    assert!(rt; burst(rt.alloc(), &mut cx));
-}
-
 // A future that answers the same at each poll.
 #[derive(Drop)]
 struct Answer {
@@ -169,12 +137,6 @@ fn answers_in_time<R: Host>(rt: &R, alloc: Global, cx: &mut Desk) -> bool {
     is_ready && has_elapsed && delays == (Err(Error::Shutdown), Ok(true))
 }
 
-#[test]
-fn timeouts(rt: HostRuntime) {
-    let mut cx = empty_desk(&rt, rt.alloc(), at_millis(0));
-    assert!(rt; answers_in_time(&rt, rt.alloc(), &mut cx));
-}
-
 fn taken_back(alloc: Global, cx: &mut Desk) -> bool {
     let value = Answer { value: Some(6) };
     let Ok(timeout) = timeout(alloc, cx, Duration::from_secs(1), value) else {
@@ -185,8 +147,54 @@ fn taken_back(alloc: Global, cx: &mut Desk) -> bool {
     (kept, back.value) == (Some(6), Some(6)) && cx.sleep_elapsed(0) == Err(Error::Shutdown)
 }
 
+// A case on a desk of its own.
+enum Case {
+    // An interval from now on, and one from a start.
+    Ticks,
+    // Ticks that were missed follow at once.
+    Burst,
+    // How an interval goes on, its start, when the tick of that is polled, and the next deadline.
+    GoesOn(MissedTickBehavior, u32, u32, u32),
+    // A value in time, and one that is late.
+    Timeouts,
+    // A future that is taken back.
+    TakenBack,
+}
+
+// A tick that is 5 ms late is not missed.
+const CASES: [Case; 12] = [
+    Case::Ticks,
+    Case::Burst,
+    Case::GoesOn(MissedTickBehavior::Skip, 0, 75, 100),
+    Case::GoesOn(MissedTickBehavior::Delay, 0, 200, 250),
+    Case::GoesOn(MissedTickBehavior::Burst, 100, 105, 150),
+    Case::GoesOn(MissedTickBehavior::Burst, 100, 106, 150),
+    Case::GoesOn(MissedTickBehavior::Delay, 100, 105, 150),
+    Case::GoesOn(MissedTickBehavior::Delay, 100, 106, 156),
+    Case::GoesOn(MissedTickBehavior::Skip, 100, 105, 150),
+    Case::GoesOn(MissedTickBehavior::Skip, 100, 106, 150),
+    Case::Timeouts,
+    Case::TakenBack,
+];
+
+// Each of these must hold on a new desk.
+fn all_hold<R: Host + Abort>(rt: &R, alloc: Global, cases: &[Case]) {
+    for case in cases {
+        let mut cx = empty_desk(rt, alloc, at_millis(0));
+        let holds = match case {
+            Case::Ticks => in_time(alloc, &mut cx),
+            Case::Burst => burst(alloc, &mut cx),
+            Case::GoesOn(behavior, start, now, next) => {
+                goes_on(alloc, &mut cx, *behavior, *start, *now, *next)
+            }
+            Case::Timeouts => answers_in_time(rt, alloc, &mut cx),
+            Case::TakenBack => taken_back(alloc, &mut cx),
+        };
+        assert!(rt; holds);
+    }
+}
+
 #[test]
-fn futures_are_taken_back(rt: HostRuntime) {
-    let mut cx = empty_desk(&rt, rt.alloc(), at_millis(0));
-    assert!(rt; taken_back(rt.alloc(), &mut cx));
+fn intervals_and_timeouts(rt: HostRuntime) {
+    all_hold(&rt, rt.alloc(), &CASES);
 }

@@ -47,41 +47,16 @@ fn all_answer(alloc: Global, timers: &mut Timers, calls: &[(u128, Call)]) -> boo
     true
 }
 
-/// The same on new timers.
-fn all_answer_of<R: Abort>(rt: &R, alloc: Global, limit: u64, calls: &[(u128, Call)]) -> bool {
-    let mut timers = Timers::new(alloc, limit, true).expect(rt, "memory");
+/// The same on new timers, if they are there.
+fn all_answer_of<R: Abort>(
+    rt: &R,
+    alloc: Global,
+    limit: u64,
+    are_there: bool,
+    calls: &[(u128, Call)],
+) -> bool {
+    let mut timers = Timers::new(alloc, limit, are_there).expect(rt, "memory");
     all_answer(alloc, &mut timers, calls)
-}
-
-// Each rounding of the deadline.
-const FIRST_POLLS: [[(u128, Call); 3]; 4] = [
-    [
-        (0, Call::Add(Ok(0))),
-        (0, Call::Poll(0, 0, Ok(Poll::Ready(())))),
-        (0, Call::Next(None)),
-    ],
-    [
-        (1, Call::Add(Ok(0))),
-        (0, Call::Poll(0, 0, Ok(Poll::Pending))),
-        (0, Call::Next(Some(1))),
-    ],
-    [
-        (1000000, Call::Add(Ok(0))),
-        (0, Call::Poll(0, 0, Ok(Poll::Pending))),
-        (0, Call::Next(Some(1))),
-    ],
-    [
-        (1000001, Call::Add(Ok(0))),
-        (0, Call::Poll(0, 0, Ok(Poll::Pending))),
-        (0, Call::Next(Some(2))),
-    ],
-];
-
-#[test]
-fn first_polls(rt: HostRuntime) {
-    for calls in FIRST_POLLS {
-        assert!(rt; all_answer_of(&rt, rt.alloc(), 1, &calls));
-    }
 }
 
 // Refusals, and a sleep from its making to its removal.
@@ -95,18 +70,6 @@ const ONE_SLEEP: [(u128, Call); 8] = [
     (0, Call::Poll(0, 4, Err(Error::Shutdown))),
     (0, Call::Add(Ok(1))),
 ];
-
-#[test]
-fn one_sleep(rt: HostRuntime) {
-    assert!(rt; all_answer_of(&rt, rt.alloc(), 1, &ONE_SLEEP));
-}
-
-#[test]
-fn no_timers(rt: HostRuntime) {
-    let mut none = Timers::new(rt.alloc(), 1, false).expect(&rt, "memory");
-    let refused = none.add(rt.alloc(), at_millis(0));
-    assert!(rt; refused == Err(SleepError::Timer(Error::Shutdown)));
-}
 
 // Of two sleeps, which tasks 3 and 4 wait for, the second was armed first. Sleeps of one tick fire as they were armed,
 // each with the task that polled it last.
@@ -124,11 +87,6 @@ const TIES: [(u128, Call); 11] = [
     (0, Call::Next(None)),
 ];
 
-#[test]
-fn ties(rt: HostRuntime) {
-    assert!(rt; all_answer_of(&rt, rt.alloc(), 3, &TIES));
-}
-
 // Two such sleeps that are moved later and earlier.
 const MOVES: [(u128, Call); 9] = [
     (50000000, Call::Add(Ok(0))),
@@ -142,11 +100,6 @@ const MOVES: [(u128, Call); 9] = [
     (80000000, Call::Clock(Some((0, Some(3))))),
 ];
 
-#[test]
-fn moves(rt: HostRuntime) {
-    assert!(rt; all_answer_of(&rt, rt.alloc(), 3, &MOVES));
-}
-
 // The clock does not go back, and a sleep that is moved to a tick that has passed hands out its task.
 const PASSES: [(u128, Call); 8] = [
     (90000000, Call::Add(Ok(0))),
@@ -159,11 +112,6 @@ const PASSES: [(u128, Call); 8] = [
     (0, Call::Greatest(80)),
 ];
 
-#[test]
-fn passes(rt: HostRuntime) {
-    assert!(rt; all_answer_of(&rt, rt.alloc(), 3, &PASSES));
-}
-
 // Of two sleeps that are far apart the nearer one fires first.
 const FAR_APART: [(u128, Call); 7] = [
     (0x400_0000_0000 * 1000000, Call::Add(Ok(0))),
@@ -175,9 +123,62 @@ const FAR_APART: [(u128, Call); 7] = [
     (0, Call::IsElapsed(0, Ok(false))),
 ];
 
+/// How many sleeps there may be, whether the timers are there, and the calls.
+const CASES: [(u64, bool, &[(u128, Call)]); 10] = [
+    (
+        1,
+        false,
+        &[(0, Call::Add(Err(SleepError::Timer(Error::Shutdown))))],
+    ),
+    // each rounding of the deadline
+    (
+        1,
+        true,
+        &[
+            (0, Call::Add(Ok(0))),
+            (0, Call::Poll(0, 0, Ok(Poll::Ready(())))),
+            (0, Call::Next(None)),
+        ],
+    ),
+    (
+        1,
+        true,
+        &[
+            (1, Call::Add(Ok(0))),
+            (0, Call::Poll(0, 0, Ok(Poll::Pending))),
+            (0, Call::Next(Some(1))),
+        ],
+    ),
+    (
+        1,
+        true,
+        &[
+            (1000000, Call::Add(Ok(0))),
+            (0, Call::Poll(0, 0, Ok(Poll::Pending))),
+            (0, Call::Next(Some(1))),
+        ],
+    ),
+    (
+        1,
+        true,
+        &[
+            (1000001, Call::Add(Ok(0))),
+            (0, Call::Poll(0, 0, Ok(Poll::Pending))),
+            (0, Call::Next(Some(2))),
+        ],
+    ),
+    (1, true, &ONE_SLEEP),
+    (3, true, &TIES),
+    (3, true, &MOVES),
+    (3, true, &PASSES),
+    (3, true, &FAR_APART),
+];
+
 #[test]
-fn far_apart(rt: HostRuntime) {
-    assert!(rt; all_answer_of(&rt, rt.alloc(), 3, &FAR_APART));
+fn calls_in_turn(rt: HostRuntime) {
+    for (limit, are_there, calls) in CASES {
+        assert!(rt; all_answer_of(&rt, rt.alloc(), limit, are_there, calls));
+    }
 }
 
 /// Whether a whole clock step fires these sleeps at once, behind what the list has.
