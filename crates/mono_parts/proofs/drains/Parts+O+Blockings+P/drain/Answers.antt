@@ -1,0 +1,10 @@
+use Rattle.std.proofs.Common.{refl, sym}
+use Rattle.mono_parts.proofs.Going.{goes_nowhere}
+use Rattle.mono_parts.proofs.Telling.{tells_nothing}
+use Rattle.mono_parts.proofs.drains.Parts+O+Blockings+P.drain.Goals as goal
+
+pub returns-in-Err-clause-goes : goal.returns-in-Err-clause-goes
+returns-in-Err-clause-goes g c = goes_nowhere g.O.Outcome.output_number c.args.self.now c.args.self.now c.args.journal.now c.args.journal.now refl refl refl refl refl refl
+
+pub returns-in-Err-clause-told : goal.returns-in-Err-clause-told
+returns-in-Err-clause-told g c = λ told before after ends. tells_nothing (sym ends) refl refl refl
