@@ -1,6 +1,6 @@
 -- One call of the running task leads the parts on.
-use Rattle.std.proofs.Common.{◌≡◌, ◌≤◌, ℕ, true, false, Bool, cond, List, [], Some, None, Option, refl, ap, sym, subst, ◌∙◌}
-use Rattle.std.specs.Prelude.{⊤, Result, Ok, Err, nat_lt, nat_le}
+use Rattle.std.proofs.Common.{◌≡◌, ◌≤◌, ℕ, true, false, Bool, cond, Option, refl, ap, sym, subst, ◌∙◌}
+use Rattle.std.specs.Prelude.{Result, Ok, Err, nat_lt}
 use Rattle.std.proofs.lemmas.Bool.{le-ltb}
 use Rattle.mono_model.specs.Ticks.{up, max_nanos}
 use Rattle.mono_model.specs.Table.{value_at, next_number, is_full}
@@ -20,7 +20,7 @@ use Rattle.mono_time.specs.Stands.{StandsForSleeps}
 use Rattle.mono_model.specs.declared.error.Error.{Error}
 use Rattle.mono_time.specs.declared.timers.Timers.{Timers}
 use Rattle.mono_machine.specs.Machine.{Machine, with_tasks, with_sleeps}
-use Rattle.mono_machine.specs.Acts.{Outcome, step_outcome, act_outcome, answered, refused, for_sleep}
+use Rattle.mono_machine.specs.Acts.{Outcome, step_outcome, act_outcome, answered, refused}
 use Rattle.mono_machine.specs.Acts.{reset as resetting}
 use Rattle.mono_machine.specs.declared.events.TurnStep.{TurnStep}
 use Rattle.mono_machine.specs.declared.events.TurnStep.TheVariants as step
@@ -28,7 +28,7 @@ use Rattle.mono_machine.specs.declared.events.Reply.{Reply}
 use Rattle.mono_machine.specs.declared.events.Reply.TheVariants as reply
 use Rattle.mono_machine.specs.declared.events.Act.TheVariants as act
 use Rattle.mono_machine.specs.declared.events.Refusal.TheVariants as refusal
-use Rattle.mono_exec.proofs.Timing.{Alike, live, gone, unchanged}
+use Rattle.mono_exec.proofs.Timing.{Alike, live, gone}
 use Rattle.mono_parts.specs.Record.{Record, noted}
 use Rattle.mono_parts.specs.Numbered.{numbered}
 use Rattle.mono_parts.specs.Stands.{Hosting, Matches}

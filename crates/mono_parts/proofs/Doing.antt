@@ -1,6 +1,6 @@
 -- What a runtime did stands in a relation, piece by piece.
-use Rattle.std.proofs.Common.{◌≡◌, ◌≤◌, ℕ, true, false, Bool, cond, List, [], ◌∷◌, ◌++◌, refl, ap, sym, subst, ◌∙◌, append_assoc, append-nil}
-use Rattle.std.specs.Prelude.{AllPairs, ◌≢◌, ◌<◌, ◌==◌, ◌^◌, ◌+◌, ◌-◌, ◌*◌, ◌⊎◌, min, length}
+use Rattle.std.proofs.Common.{◌≡◌, ◌≤◌, ℕ, true, false, Bool, List, [], ◌∷◌, ◌++◌, refl, ap, sym, subst, ◌∙◌, append_assoc, append-nil}
+use Rattle.std.specs.Prelude.{AllPairs, ◌≢◌, ◌<◌, ◌^◌, ◌+◌, ◌-◌, ◌*◌, ◌⊎◌, min, length}
 use Rattle.std.proofs.Common.{inl, inr, suc, arith}
 use Rattle.mono_machine.specs.declared.events.TurnStep.{TurnStep}
 use Rattle.mono_machine.specs.declared.events.End.{End}
@@ -11,13 +11,13 @@ use Rattle.mono_machine.specs.declared.events.Event.TheVariants as event
 use Rattle.mono_machine.specs.declared.events.Report.TheVariants as report
 use Rattle.mono_model.specs.declared.Ended.{Ended}
 use Rattle.mono_machine.specs.Steps.{Step}
-use Rattle.mono_parts.specs.declared.journals.Entry.TheVariants.{Now, Park}
+use Rattle.mono_parts.specs.declared.journals.Entry.TheVariants.{Now}
 use Rattle.mono_model.specs.Tasks.{all_woken}
 use Rattle.mono_task.specs.Schedule as schedule
 use Rattle.mono_machine.specs.Machine.{Machine, with_tasks}
 use Rattle.mono_parts.specs.Numbered.{numbered}
 use Rattle.mono_parts.specs.Drains.{remotes, listed, drain_of}
-use Rattle.mono_parts.specs.Rounds.{Drained, OneTurn, Turns, Round, most_turns, most_turns_of, IsPark, IsClock, Parks, Pauses, Pause, Pass, PassEnds, Rounds, Breaks, Ends, PauseEnds, is_main_done, cost, IsSpawn, IsRefused, IsDrop, DropsFor, output_in, RunsMain, Blocked}
+use Rattle.mono_parts.specs.Rounds.{Drained, OneTurn, Turns, Round, most_turns, most_turns_of, IsPark, IsClock, Parks, Pauses, Pause, Pass, PassEnds, Rounds, Breaks, Ends, PauseEnds, is_main_done, cost, IsSpawn, IsRefused, DropsFor, output_in, RunsMain, Blocked}
 use Rattle.std.specs.Prelude.{⊤, Result, Ok, Err}
 use Rattle.std.specs.Option.{option_map}
 use Rattle.std.proofs.Common.{Option, Some, None}
@@ -34,7 +34,7 @@ use Rattle.mono_parts.proofs.Calling.{other_tasks}
 use Rattle.mono_parts.proofs.Draining.{remotes_numbered, listed_numbered, drained_is, drained_follow}
 use Rattle.mono_jobs.specs.Spawning.{Seen}
 use Rattle.mono_parts.specs.Stands.{hosting_of, Matches}
-use Rattle.mono_parts.specs.Journals.{Follows, Went, Goes, Did, Does, Led, Stays, IsStep, IsReading, pushed}
+use Rattle.mono_parts.specs.Journals.{Did, Does, Led, Stays, IsStep, IsReading, pushed}
 use Rattle.mono_parts.specs.declared.parts.Parts.{Parts}
 use Rattle.mono_parts.specs.declared.journals.Entry.{Entry}
 use Rattle.mono_parts.specs.declared.journals.Journal.{Journal}

@@ -1,22 +1,21 @@
 -- The wakes from outside of tasks that each stand once, and then the drain, are a run: the drain lists those that are given
 -- out and unfinished, in order, and each of these is woken.
-use Rattle.std.proofs.Common.{◌≡◌, ◌<◌, ◌≤◌, ◌≢◌, ℕ, ◌+◌, zero, suc, true, false, Bool, cond, List, [], ◌∷◌, ◌++◌, length, get_or, drop, Some, None, Option, refl, ap, sym, subst, ◌∙◌, append_assoc, append-nil, arith}
+use Rattle.std.proofs.Common.{◌≡◌, ◌<◌, ◌≤◌, ◌≢◌, ℕ, ◌+◌, suc, true, false, Bool, cond, List, [], ◌∷◌, ◌++◌, length, get_or, drop, Some, None, Option, refl, ap, sym, subst, ◌∙◌, append_assoc, append-nil, arith}
 use Rattle.std.specs.Prelude.{◌||◌, ◌==◌, Result, Ok, Err, AllPairs, nat_lt}
 use Rattle.std.specs.Option.{option_map}
 use Rattle.std.proofs.Common.{length-append}
 use Rattle.std.proofs.Math.Nat.{le_refl}
 use Rattle.std.proofs.lemmas.Bool.{eqb-true}
-use Rattle.mono_model.specs.Table.{value_at, next_number, is_issued}
+use Rattle.mono_model.specs.Table.{value_at, is_issued}
 use Rattle.mono_model.specs.Tasks.{Tasks, Task, Phase, idle, queued, running, done, taken, all_woken, woken, woken_value, woken_in, is_finished}
 use Rattle.mono_model.specs.Inbox.{is_waiting, with_waiting}
 use Rattle.mono_model.specs.declared.task_error.TaskError.{TaskError}
 use Rattle.mono_model.specs.declared.task_error.TaskError.TheVariants.{NoTask}
 use Rattle.mono_task.specs.Work.{has_finished, over_answer}
 use Rattle.mono_machine.specs.Machine.{Machine, with_tasks, with_inbox}
-use Rattle.mono_machine.specs.Steps.{Step, remote_report, after_remote, after_drain}
+use Rattle.mono_machine.specs.Steps.{remote_report, after_remote}
 use Rattle.mono_machine.specs.Steps.{has_finished as machine_finished}
 use Rattle.mono_machine.specs.declared.events.Event.TheVariants as event
-use Rattle.mono_machine.specs.declared.events.Report.{Report}
 use Rattle.mono_machine.specs.declared.events.Report.TheVariants as report
 use Rattle.mono_machine.specs.declared.events.Reply.TheVariants as reply
 use Rattle.mono_machine.specs.declared.events.Refusal.TheVariants as refusal
@@ -25,8 +24,8 @@ use Rattle.mono_parts.specs.Drains.{told_by, listed_by, remotes, listed, drain_o
 use Rattle.mono_parts.specs.Journals.{Follows}
 use Rattle.mono_parts.specs.Rounds.{Remotes, Drained}
 use Rattle.mono_parts.specs.declared.journals.Entry.{Entry}
-use Rattle.mono_parts.specs.declared.journals.Entry.TheVariants.{Ran, Now, Park}
-use Rattle.mono_machine.proofs.Running.{first_and_rest, nothing_left}
+use Rattle.mono_parts.specs.declared.journals.Entry.TheVariants.{Ran}
+use Rattle.mono_machine.proofs.Running.{first_and_rest}
 use Rattle.mono_parts.proofs.Numbering.{value_numbered, next_numbered}
 
 -- whether a task has finished is the same with numbers in the place of outputs

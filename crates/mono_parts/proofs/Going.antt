@@ -1,7 +1,7 @@
 -- What a runtime did, piece by piece.
-use Rattle.std.proofs.Common.{◌≡◌, ◌≤◌, ℕ, true, false, Bool, cond, List, [], ◌∷◌, ◌++◌, Some, None, Option, refl, ap, sym, subst, ◌∙◌, append_assoc, append-nil}
+use Rattle.std.proofs.Common.{◌≡◌, ◌≤◌, ℕ, true, false, Bool, cond, List, [], ◌∷◌, ◌++◌, None, Option, refl, ap, sym, subst, ◌∙◌, append_assoc, append-nil}
 use Rattle.mono_model.specs.Ticks.{max_nanos}
-use Rattle.mono_model.specs.Tasks.{Tasks, all_woken, spawned}
+use Rattle.mono_model.specs.Tasks.{all_woken, spawned}
 use Rattle.mono_model.specs.Sleeps.{Sleeps}
 use Rattle.mono_model.specs.declared.Ended.{Ended}
 use Rattle.mono_task.specs.Schedule as schedule
@@ -9,7 +9,6 @@ use Rattle.mono_model.specs.SleepActs as sleep
 use Rattle.mono_model.specs.Firing.{FireInTurn}
 use Rattle.mono_model.proofs.Firing.{may_fire}
 use Rattle.mono_time.specs.Sleeps.{IsNoneArmedUpTo}
-use Rattle.mono_time.specs.Stands.{StandsForSleeps}
 use Rattle.mono_time.specs.Timers.{sleeps_of, elapsed_tick}
 use Rattle.mono_machine.specs.Machine.{Machine, with_tasks, with_sleeps}
 use Rattle.mono_machine.specs.Steps.{Step, Run, at_clock, greatest_at, after_fires, all_fired, wakers_of, ClockStep}
@@ -25,7 +24,7 @@ use Rattle.mono_parts.specs.Numbered.{numbered, drop_numbered}
 use Rattle.mono_jobs.specs.Spawning.{Seen}
 use Rattle.mono_parts.specs.Stands.{hosting_of, Matches}
 use Rattle.mono_parts.specs.Turns.{IsTurnOf}
-use Rattle.mono_parts.specs.Journals.{events_in, reports_in, Follows, Registers, Went, Goes, Did, Does, Led, Stays, IsStep, IsReading, pushed}
+use Rattle.mono_parts.specs.Journals.{events_in, reports_in, Follows, Registers, Went, Goes, Does, Led, Stays, IsStep, pushed}
 use Rattle.mono_parts.specs.declared.parts.Parts.{Parts}
 use Rattle.mono_parts.specs.declared.journals.Entry.{Entry}
 use Rattle.mono_parts.specs.declared.journals.Entry.TheVariants.{Ran, Now, Park}

@@ -1,16 +1,16 @@
 -- Each operation on tasks, with numbers in the place of outputs, is the operation on the tasks with their outputs.
-use Rattle.std.proofs.Common.{◌≡◌, ◌<◌, ℕ, true, false, Bool, cond, List, [], ◌∷◌, ◌++◌, map, length, Some, None, Option, refl, ap, sym, ◌∙◌}
-use Rattle.std.specs.Prelude.{◌+◌, slice_set, Result, Ok, Err, nat_lt, ◌==◌, ◌||◌, ◌^◌, ◌-◌, nat_le, is_some, count_by}
+use Rattle.std.proofs.Common.{◌≡◌, ℕ, true, false, Bool, cond, List, [], ◌∷◌, ◌++◌, map, Some, None, Option, refl, ap, sym, ◌∙◌}
+use Rattle.std.specs.Prelude.{◌+◌, slice_set, Result, Ok, Err, nat_lt}
 use Rattle.std.specs.Option.{option_map}
 use Rattle.std.proofs.lemmas.List.{map-set, length-map}
 use Rattle.std.proofs.Math.ListN.{get_or-map}
 use Rattle.mono_model.specs.Table.{Table, value_at, next_number, is_issued, count_of, is_full}
 use Rattle.mono_model.specs.Tasks.{Tasks, Task, Phase, idle, queued, running, done, taken, is_noted, in_phase, with_task, without_task, queued_last, spawned, woken, woken_in, woken_value, woke_value, woke_in, woken_if_any, all_woken, begun, begun_value, paused_value, pause_answer, completed_value, complete_answer}
 use Rattle.mono_model.proofs.Counts.{counted, counted-count_of}
-use Rattle.mono_model.specs.Joins.{kept_value, kept_task, output_in, join_value, join_answer, joined_in, joined_value, joined, output_of, drop_value, drop_answer, dropped_in, dropped_value, join_dropped, finished_value, finished_answer, wake_answer}
+use Rattle.mono_model.specs.Joins.{kept_value, kept_task, output_in, join_value, join_answer, joined_in, joined_value, joined, output_of, drop_value, drop_answer, dropped_in, dropped_value, join_dropped, wake_answer}
 use Rattle.mono_model.specs.declared.task_error.TaskError.{TaskError}
 use Rattle.mono_model.specs.declared.task_error.TaskError.TheVariants.{NoTask, NoHandle}
-use Rattle.mono_parts.specs.Numbered.{phase_numbered, task_numbered, numbered, poll_numbered, join_numbered, drop_numbered}
+use Rattle.mono_parts.specs.Numbered.{phase_numbered, task_numbered, numbered, join_numbered, drop_numbered}
 
 module _ {O : Type 0} (number : O → ℕ) where
   abbrev with_table : Tasks O → List ℕ → Table (Task ℕ) → Tasks ℕ

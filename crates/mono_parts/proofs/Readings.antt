@@ -1,12 +1,12 @@
 -- What the driver told is what the journal's readings are.
-use Rattle.std.proofs.Common.{◌≡◌, ◌≤◌, ◌+◌, ◌*◌, ℕ, true, false, Bool, List, [], ◌∷◌, ◌++◌, Some, None, Option, refl, ap, sym, subst, ◌∙◌, arith}
+use Rattle.std.proofs.Common.{◌≡◌, ◌≤◌, ◌+◌, ◌*◌, ℕ, true, false, List, [], ◌∷◌, Some, None, Option, refl, ap, sym, subst, ◌∙◌, arith}
 use Rattle.std.specs.Prelude.{min}
 use Rattle.mono_model.specs.Ticks.{max_nanos}
 use Rattle.mono_driver.specs.Driving.{Reads, ReadsTime}
 use Rattle.mono_machine.specs.declared.events.Event.{Event}
 use Rattle.mono_machine.specs.declared.events.Event.TheVariants as event
-use Rattle.mono_parts.specs.Readings.{reading_in, readings_in, AreFirst, time_after, IsSumAt, AreSums}
-use Rattle.mono_parts.specs.Telling.{Told, Course, going, parked, failed, IsRead, IsMet, IsParked, IsDrained, Tells, parked_time}
+use Rattle.mono_parts.specs.Readings.{readings_in, AreFirst, time_after, AreSums}
+use Rattle.mono_parts.specs.Telling.{Told, Course, going, parked, failed, IsMet, Tells, parked_time}
 use Rattle.mono_parts.specs.declared.journals.Entry.{Entry}
 use Rattle.mono_parts.specs.declared.journals.Entry.TheVariants.{Ran, Now, Park}
 

@@ -9,8 +9,7 @@ use Rattle.mono_time.specs.Sleeps.{IsNoneArmedUpTo}
 use Rattle.mono_time.specs.Timers.{sleeps_of, elapsed_tick, registered_of}
 use Rattle.mono_time.specs.declared.timers.Timers.{Timers}
 use Rattle.mono_machine.specs.Machine.{Machine}
-use Rattle.mono_machine.specs.Steps.{Step, all_fired}
-use Rattle.mono_machine.specs.declared.events.Event.{Event}
+use Rattle.mono_machine.specs.Steps.{all_fired}
 use Rattle.mono_exec.specs.Registered.{registered_after, by_act}
 use Rattle.mono_exec.proofs.Registering.{same-value}
 use Rattle.mono_parts.specs.Journals.{WaitsForNext, Registers}

@@ -1,5 +1,5 @@
 -- A task is made outside of a turn, or is refused: what is left for each machine.
-use Rattle.std.proofs.Common.{◌≡◌, ℕ, true, false, cond, refl, ap, sym, subst, ◌∙◌}
+use Rattle.std.proofs.Common.{◌≡◌, ℕ, true, false, cond, ap, sym, subst, ◌∙◌}
 use Rattle.mono_model.specs.Table.{next_number, is_full}
 use Rattle.mono_model.specs.Tasks.{spawned}
 use Rattle.mono_task.specs.Schedule as schedule

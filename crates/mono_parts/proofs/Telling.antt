@@ -1,9 +1,8 @@
 -- What the driver tells, piece by piece.
-use Rattle.std.proofs.Common.{◌≡◌, ◌+◌, ◌*◌, ℕ, true, false, Bool, List, [], ◌∷◌, ◌++◌, Some, None, Option, Ok, Err, inl, inr, refl, ap, sym, subst, ◌∙◌, append_assoc, append-nil}
+use Rattle.std.proofs.Common.{◌≡◌, ◌*◌, ℕ, true, false, Bool, List, [], ◌∷◌, ◌++◌, Some, None, Option, Ok, Err, refl, ap, sym, subst, ◌∙◌, append_assoc, append-nil}
 use Rattle.std.specs.Prelude.{⊤, Result, is_err}
 use Rattle.mono_driver.specs.Driving.{moved}
 use Rattle.mono_driver.specs.declared.driver.DriverFault.{DriverFault}
-use Rattle.mono_task.specs.Work.{over_answer}
 use Rattle.mono_model.specs.Tasks.{Tasks}
 use Rattle.mono_machine.specs.declared.events.TurnStep.{TurnStep}
 use Rattle.mono_machine.specs.declared.events.End.{End}
@@ -12,7 +11,7 @@ use Rattle.mono_machine.specs.declared.events.Report.{Report}
 use Rattle.mono_parts.specs.Blocked.{OnCapacity}
 use Rattle.mono_parts.specs.Drains.{remotes}
 use Rattle.mono_parts.specs.Journals.{pushed}
-use Rattle.mono_parts.specs.Telling.{Told, telling, Course, going, parked, failed, IsRead, IsDrained, Tells, Telling, IsTold, Still, EndsBy, EndsSo, after_park, after_wait, parked_time}
+use Rattle.mono_parts.specs.Telling.{Told, telling, Course, going, IsRead, IsDrained, Tells, Telling, IsTold, Still, EndsBy, EndsSo, after_park, after_wait, parked_time}
 use Rattle.mono_parts.specs.declared.errors.RunError.{RunError}
 use Rattle.mono_parts.specs.declared.errors.RunError.TheVariants as error
 use Rattle.mono_parts.specs.declared.journals.Entry.{Entry}

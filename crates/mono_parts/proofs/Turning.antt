@@ -1,6 +1,6 @@
 -- A turn that began, went on by acts and ended is a turn of the machine.
-use Rattle.std.proofs.Common.{◌≡◌, ◌+◌, ℕ, true, false, Bool, List, [], ◌∷◌, ◌++◌, Some, None, Option, refl, ap, sym, subst, ◌∙◌, arith}
-use Rattle.std.specs.Prelude.{Ok, is_some, nat_lt, length}
+use Rattle.std.proofs.Common.{◌≡◌, ℕ, false, List, ◌∷◌, ◌++◌, Some, None, ap, sym, subst, ◌∙◌, arith}
+use Rattle.std.specs.Prelude.{nat_lt, length}
 use Rattle.mono_model.specs.Table.{value_at}
 use Rattle.mono_model.specs.Tasks.{begun, paused_value, pause_answer, completed_value, complete_answer}
 use Rattle.mono_model.specs.declared.Ended.{Ended}
@@ -9,13 +9,9 @@ use Rattle.mono_model.specs.declared.poll.Poll.TheVariants.{Ready, Pending}
 use Rattle.mono_task.specs.Schedule.{Schedule}
 use Rattle.mono_task.specs.Schedule as schedule
 use Rattle.mono_time.specs.declared.instant.Instant.{Instant}
-use Rattle.mono_machine.specs.Machine.{Machine, with_tasks}
-use Rattle.mono_machine.specs.Turns.{replies_of, after_steps, after_begin, end_answer, after_end, turn_report, turn_report_for, after_turn, after_turn_for}
-use Rattle.mono_machine.specs.declared.events.TurnStep.{TurnStep}
-use Rattle.mono_machine.specs.declared.events.End.{End}
-use Rattle.mono_machine.specs.declared.events.End.TheVariants as end
+use Rattle.mono_machine.specs.Machine.{Machine}
+use Rattle.mono_machine.specs.Turns.{replies_of, after_steps, after_begin, end_answer, after_end, turn_report_for, after_turn_for}
 use Rattle.mono_machine.specs.declared.events.Report.TheVariants as report
-use Rattle.mono_machine.specs.declared.events.Reply.{Reply}
 use Rattle.mono_exec.proofs.Matching.{front_is}
 use Rattle.mono_time.specs.Timers.{registered_of}
 use Rattle.mono_exec.specs.Registered.{registered_by_steps, registered_by_turn}

@@ -1,5 +1,5 @@
 -- What a journal says of the machine.
-use Rattle.std.specs.Prelude.{◌≡◌, ◌≤◌, ◌⊎◌, ℕ, suc, zero, Bool, false, List, [], ◌∷◌, ◌++◌, ◌+◌, ◌-◌, length, if◌then◌else◌, Option, Some, None}
+use Rattle.std.specs.Prelude.{◌≡◌, ℕ, false, List, [], ◌∷◌, ◌++◌, ◌-◌, if◌then◌else◌, Option, Some, None}
 use Rattle.mono_model.specs.Ticks.{down}
 use Rattle.mono_time.specs.Registered.{FirstSlot}
 use Rattle.mono_time.specs.Timers.{registered_of}

@@ -1,5 +1,5 @@
 -- Tasks with numbers in the place of their outputs: so a runtime's tasks are those of the plain machine.
-use Rattle.std.specs.Prelude.{ℕ, map, Option, Some, None, Result, Ok, Err}
+use Rattle.std.specs.Prelude.{ℕ, map, Option, Result, Ok, Err}
 use Rattle.std.specs.Option.{option_map}
 use Rattle.mono_model.specs.Tasks.{Tasks, Task, Phase, idle, queued, running, done, taken}
 use Rattle.mono_model.specs.declared.task_error.TaskError.{TaskError}

@@ -1,8 +1,7 @@
 -- The journal of one call that runs a main task: rounds of turns, and between two rounds a hand-in or a park.
-use Rattle.std.specs.Prelude.{⊤, ◌≡◌, ◌≢◌, ◌<◌, ◌≤◌, ◌⊎◌, ℕ, ◌+◌, ◌-◌, ◌*◌, zero, suc, min, Bool, true, false, if◌then◌else◌, nat_le, List, [], ◌∷◌, length, Option, Some, None, Result, Ok, Err, AllPairs}
+use Rattle.std.specs.Prelude.{⊤, ◌≡◌, ◌≢◌, ◌<◌, ◌≤◌, ◌⊎◌, ℕ, ◌+◌, ◌-◌, ◌*◌, zero, suc, min, Bool, true, false, List, [], ◌∷◌, length, Option, Some, None, Result, Ok, Err, AllPairs}
 use Rattle.mono_model.specs.Ticks.{down}
-use Rattle.mono_model.specs.Table.{value_at, next_number}
-use Rattle.mono_model.specs.Tasks.{Task}
+use Rattle.mono_model.specs.Table.{value_at}
 use Rattle.mono_task.specs.Work.{has_output}
 use Rattle.mono_model.specs.Sleeps.{Arming, armed}
 use Rattle.mono_machine.specs.Machine.{Machine}

@@ -1,5 +1,5 @@
 -- What a driver tells goes along the entries of a journal: each reading of the clock is the one that it told.
-use Rattle.std.specs.Prelude.{⊤, ◌≡◌, ◌⊎◌, ℕ, ◌+◌, ◌*◌, zero, suc, min, Bool, true, false, List, [], ◌∷◌, ◌++◌, Option, Some, None, Result, Ok, Err}
+use Rattle.std.specs.Prelude.{⊤, ◌≡◌, ◌⊎◌, ℕ, ◌+◌, ◌*◌, min, Bool, true, false, List, [], ◌∷◌, ◌++◌, Option, Some, None, Result, Ok, Err}
 use Rattle.mono_model.specs.Ticks.{max_nanos}
 use Rattle.mono_driver.specs.Driving.{Reads, ReadsTime, one_more}
 use Rattle.mono_machine.specs.declared.events.Event.{Event}

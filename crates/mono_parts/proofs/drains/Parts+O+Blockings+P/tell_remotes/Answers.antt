@@ -1,4 +1,4 @@
-use Rattle.std.proofs.Common.{◌-◌, length, arith, slice_index_or, sym, ◌∙◌}
+use Rattle.std.proofs.Common.{◌-◌, length, arith, sym, ◌∙◌}
 use Rattle.mono_parts.proofs.Draining.{remotes_more, listed_more}
 use Rattle.mono_parts.proofs.Going.{pushed_open}
 use Rattle.mono_parts.proofs.drains.Parts+O+Blockings+P.tell_remotes.Goals as goal

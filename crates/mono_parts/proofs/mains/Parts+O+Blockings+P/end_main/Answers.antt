@@ -8,7 +8,7 @@ use Rattle.mono_machine.specs.declared.events.Report.TheVariants as report
 use Rattle.mono_parts.specs.Stands.{hosting_of}
 use Rattle.mono_parts.specs.Journals.{Does, IsStep}
 use Rattle.mono_parts.specs.Numbered.{drop_numbered}
-use Rattle.mono_parts.specs.Rounds.{IsDrop, DropsFor}
+use Rattle.mono_parts.specs.Rounds.{IsDrop}
 use Rattle.mono_parts.proofs.Calling.{with_all}
 use Rattle.mono_parts.proofs.Going.{does_stay, does_drop}
 use Rattle.mono_parts.proofs.Doing.{stay_on, does_more, drops_for}

@@ -62,3 +62,6 @@ returns-in-Err-clause-goes g c = goes_nowhere g.O.Outcome.output_number c.args.s
 
 pub returns-in-Err-clause-told : goal.returns-in-Err-clause-told
 returns-in-Err-clause-told g c = λ told. tells_nothing refl refl c.reserve.ensures.entries c.reserve.ensures.full
+
+pub returns-in-Err-Memory-clause-unmade : goal.returns-in-Err-Memory-clause-unmade
+returns-in-Err-Memory-clause-unmade g c = does_stay g.O.Outcome.output_number c.args.self.now _ c.args.journal.now c.reserve.new.self (rw c.in-Err-Memory.is at c.spawn.ensures.refused) refl refl refl c.reserve.ensures.entries c.reserve.ensures.full

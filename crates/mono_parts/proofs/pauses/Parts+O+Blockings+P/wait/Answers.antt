@@ -1,10 +1,10 @@
-use Rattle.std.proofs.Common.{◌≡◌, true, false, ap, ◌∙◌, sym, subst, refl}
+use Rattle.std.proofs.Common.{◌≡◌, true, false, ◌∙◌, sym, subst, refl}
 use Rattle.mono_parts.specs.Journals.{Does}
 use Rattle.mono_parts.specs.Rounds.{Parks}
 use Rattle.mono_parts.proofs.Doing.{does_parks, does_clocked}
 use Rattle.mono_parts.specs.Rounds.{IsPark}
 use Rattle.mono_parts.proofs.Going.{goes_on, does_led}
-use Rattle.mono_parts.specs.Telling.{Telling, Still, after_park, after_wait}
+use Rattle.mono_parts.specs.Telling.{after_park, after_wait}
 use Rattle.mono_parts.proofs.Telling.{telling_on, telling_more, drained_wait}
 use Rattle.mono_parts.proofs.pauses.Parts+O+Blockings+P.wait.Goals as goal
 
