@@ -48,7 +48,7 @@ fn open_clock<D: Driver>(
 impl<O: Outcome + Drop, P: ThreadPool + Drop> Parts<O, Blockings<P>> {
     /// The clock is read, and the sleeps that are due fire. Where memory is refused nothing changes, since the room for all
     /// that may fire is made first.
-    pub(crate) fn clock_step<D: Driver>(
+    pub fn clock_step<D: Driver>(
         &mut self,
         alloc: Global,
         driver: &mut D,

@@ -1,4 +1,4 @@
-// What other threads woke: it is taken, told in the journal, and woken.
+// What other threads woke, once it was taken: it is told in the journal, and woken.
 ghost use Rattle.std.specs.Prelude.{◌≡◌, ◌≤◌, ◌<◌, ◌+◌, ◌++◌, ◌∷◌, ℕ, [], false, length, vec_len, vec_capacity, IfSome, OnOk};
 ghost use Rattle.mono_inbox.specs.State.{HasNoDoubles};
 ghost use Rattle.mono_task.specs.Work.{over_answer};
@@ -12,12 +12,10 @@ ghost use Rattle.mono_parts.specs.Telling.{Told, Course, Telling, Still, EndsDra
 use crate::errors::RunError;
 use crate::journals::{Entry, Journal};
 use crate::parts::Parts;
-use crate::woken::Woken;
 use mono_blocking::ThreadPool;
 use mono_exec::{Event, List, Refusal, Reply, Report, wake_all};
 use mono_jobs::Blockings;
 use mono_joinword::Outcome;
-use mono_model::Host;
 use std::alloc::Global;
 
 // Room for the entries, and for the list of those that are woken.
@@ -39,32 +37,8 @@ fn open_drain(alloc: Global, journal: &mut Journal, taken: &[u64]) -> Option<Vec
 }
 
 impl<O: Outcome + Drop, P: ThreadPool + Drop> Parts<O, Blockings<P>> {
-    /// Takes what other threads woke. Each task is told, and those that are unfinished are woken.
-    pub fn drain<R: Host, W: Woken>(
-        &mut self,
-        rt: &R,
-        alloc: Global,
-        journal: &mut Journal,
-        woken: &mut W,
-    ) -> Result<(), RunError>
-        ensures goes { Goes O.output_number self.old self.new journal.old journal.new }
-        ensures drained { OnOk result (Does O.output_number Drained self.old self.new journal.old journal.new) }
-        ensures turn { self.new.tasks.turn ≡ self.old.tasks.turn }
-        ensures longer { length self.old.tasks.tasks.queue ≤ length self.new.tasks.tasks.queue }
-        ensures has_timers { self.new.has_timers ≡ self.old.has_timers }
-        ensures told { (told : Told) (before after : Course) → EndsDrained result before after → Telling (Still after) told before journal.old journal.new told }
-        ensures full { journal.new.is_full ≡ journal.old.is_full }
-        ensures held { journal.new.entries.held ≡ journal.old.entries.held }
-    {
-        let mut taken = Vec::new(alloc);
-        match woken.take_woken(rt, alloc, &mut taken) {
-            Err(_) => Err(RunError::Memory),
-            Ok(()) => self.wake_taken(alloc, journal, &taken),
-        }
-    }
-
     /// Tells and wakes those that were taken.
-    fn wake_taken(
+    pub fn wake_taken(
         &mut self,
         alloc: Global,
         journal: &mut Journal,

@@ -14,12 +14,9 @@ pub mod laws;
 mod mains;
 mod parks;
 mod parts;
-mod pauses;
 mod starting;
 mod turns;
-mod woken;
 
 pub use errors::RunError;
 pub use journals::{Entry, Journal, new_journal};
 pub use parts::Parts;
-pub use woken::Woken;

@@ -48,7 +48,7 @@ impl<O: Outcome + Drop, P: ThreadPool + Drop> Parts<O, Blockings<P>> {
     }
 
     /// The clock is read, and the driver is parked. The answer tells whether it failed.
-    pub(crate) fn park<D: Driver, R: Host>(
+    pub fn park<D: Driver, R: Host>(
         &self,
         rt: &R,
         driver: &mut D,

@@ -8,7 +8,7 @@ use Rattle.mono_time.specs.declared.instant.Instant.{Instant}
 use Rattle.mono_machine.specs.Machine.{Machine}
 use Rattle.mono_machine.specs.declared.events.End.{End}
 use Rattle.mono_machine.specs.declared.events.End.TheVariants as end
-use Rattle.mono_rt.specs.Leading.{leads_itself, leads_on}
+use Rattle.mono_parts.specs.Leading.{leads_itself, leads_on}
 use Rattle.mono_parts.specs.Numbered.{end_of}
 use Rattle.mono_parts.specs.Record.{no_acts}
 use Rattle.mono_parts.specs.Stands.{hosting_of, Matches}

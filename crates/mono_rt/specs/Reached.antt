@@ -4,7 +4,7 @@ use Rattle.std.proofs.Common.{sym, ◌∙◌, ap, arith}
 use Rattle.std.proofs.Math.Nat.{le_refl}
 use Rattle.mono_model.specs.Table.{value_at}
 use Rattle.mono_slots.specs.Slots as slots
-use Rattle.mono_rt.specs.Leading.{Leads, leads_itself, leads_on}
+use Rattle.mono_parts.specs.Leading.{Leads, leads_itself, leads_on}
 use Rattle.mono_parts.specs.Stands.{hosting_of}
 use Rattle.mono_rt.specs.declared.contexts.Cx.{Cx}
 

@@ -3,11 +3,11 @@ ghost use Rattle.std.specs.Prelude.{◌≡◌, ◌<◌, ◌≤◌, ◌+◌, ◌+
 ghost use Rattle.mono_task.specs.Work.{GivesOutput};
 ghost use Rattle.mono_parts.specs.Numbered.{answer_numbered};
 ghost use Rattle.mono_parts.specs.Journals.{Goes, Does, Stays};
-ghost use Rattle.mono_parts.specs.Rounds.{PauseEnds, Round, PassEnds, Ends, IsSpawn, IsRefused, Blocked, cost};
+ghost use Rattle.mono_parts.specs.Rounds.{Parks, OrLed, PauseEnds, Round, PassEnds, Ends, IsSpawn, IsRefused, Blocked, cost};
 ghost use Rattle.mono_parts.specs.Blocked.{OnCapacity, OnMemory};
 ghost use Rattle.mono_rt.specs.Polling.{Polling, PollsMain, OnMain};
 ghost use Rattle.mono_rt.specs.Filling.{Fills};
-ghost use Rattle.mono_parts.specs.Telling.{telling, going, Telling, Still, EndsSo};
+ghost use Rattle.mono_parts.specs.Telling.{telling, going, Telling, Still, EndsSo, EndsWaited};
 
 use crate::contexts::Cx;
 use crate::runtimes::Runtime;
@@ -20,6 +20,39 @@ use mono_task::TaskFuture;
 use std::alloc::Global;
 
 impl<F: Drop, O: Outcome + Drop, D: Driver, P: ThreadPool + Drop> Runtime<F, O, D, P> {
+    /// The queue is empty: the driver is parked, the inbox is drained, and with timers a clock step is done. The answer tells
+    /// whether the park failed.
+    fn wait<R: Host>(&mut self, rt: &R, alloc: Global) -> Result<bool, RunError>
+        ensures parks { Does O.output_number (OrLed result (Parks self.old.cx.parts.has_timers)) self.old.cx.parts self.new.cx.parts self.old.journal self.new.journal }
+        ensures has_timers { self.new.cx.parts.has_timers ≡ self.old.cx.parts.has_timers }
+        ensures turn { self.new.cx.parts.tasks.turn ≡ self.old.cx.parts.tasks.turn }
+        ensures futures { self.new.cx.futures ≡ self.old.cx.futures }
+        ensures told { Telling (EndsWaited result) (telling (D.readings self.old.driver) (D.time self.old.driver) (D.parks self.old.driver)) going self.old.journal self.new.journal (telling (D.readings self.new.driver) (D.time self.new.driver) (D.parks self.new.driver)) }
+        ensures full { self.new.journal.is_full ≡ self.old.journal.is_full }
+        ensures held { self.new.journal.entries.held ≡ self.old.journal.entries.held }
+    {
+        match self.cx.parts.park(rt, &mut self.driver, &mut self.journal) {
+            Err(_) => Err(RunError::Memory),
+            Ok(failed) => match self.drain(rt, alloc) {
+                Err(_) => Err(RunError::Memory),
+                Ok(()) => {
+                    if self.cx.parts.has_timers {
+                        match self
+                            .cx
+                            .parts
+                            .clock_step(alloc, &mut self.driver, &mut self.journal)
+                        {
+                            Err(_) => Err(RunError::Memory),
+                            Ok(()) => Ok(failed),
+                        }
+                    } else {
+                        Ok(failed)
+                    }
+                }
+            },
+        }
+    }
+
     /// Between two rounds. The answer tells whether a unit is spent: the queue was empty and still is.
     fn pause<R: Host>(&mut self, rt: &R, alloc: Global) -> Result<bool, RunError>
         ensures pauses { Does O.output_number (PauseEnds self.old.cx.parts.has_timers result) self.old.cx.parts self.new.cx.parts self.old.journal self.new.journal }
@@ -33,21 +66,20 @@ impl<F: Drop, O: Outcome + Drop, D: Driver, P: ThreadPool + Drop> Runtime<F, O, 
         ensures held { self.new.journal.entries.held ≡ self.old.journal.entries.held }
     {
         if self.cx.parts.tasks.queue_len() > 0 {
-            return self.cx.parts.pause_busy(
-                rt,
-                alloc,
-                &mut self.driver,
-                &mut self.journal,
-                &mut self.cx.wakers,
-            );
+            let handed = self.driver.submit(rt);
+            return match self.drain(rt, alloc) {
+                Err(_) => Err(RunError::Memory),
+                Ok(()) => match handed {
+                    Ok(()) => Ok(false),
+                    Err(_) => Err(RunError::Driver),
+                },
+            };
         }
-        self.cx.parts.pause_idle(
-            rt,
-            alloc,
-            &mut self.driver,
-            &mut self.journal,
-            &mut self.cx.wakers,
-        )
+        match self.wait(rt, alloc) {
+            Err(_) => Err(RunError::Memory),
+            Ok(true) => Err(RunError::Driver),
+            Ok(false) => Ok(self.cx.parts.tasks.queue_len() == 0),
+        }
     }
 
     /// The main task is made, and room is held for the entry of its handle's drop.

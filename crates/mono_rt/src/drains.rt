@@ -1,23 +1,34 @@
 // What other threads woke is taken from the inbox.
-ghost use Rattle.std.specs.Prelude.{◌≡◌, OnOk, OnErr};
-ghost use Rattle.mono_inbox.specs.State.{AppendsOnce};
+ghost use Rattle.std.specs.Prelude.{◌≡◌, ◌≤◌, length, OnOk};
+ghost use Rattle.mono_parts.specs.Journals.{Goes, Does};
+ghost use Rattle.mono_parts.specs.Rounds.{Drained};
+ghost use Rattle.mono_parts.specs.Telling.{telling, Course, Telling, Still, EndsDrained};
 
-use crate::wakers::Wakers;
-use mono_inbox::Unpark;
+use crate::runtimes::Runtime;
+use mono_blocking::ThreadPool;
+use mono_driver::Driver;
+use mono_joinword::Outcome;
 use mono_model::Host;
-use mono_parts::Woken;
-use std::alloc::{AllocError, Global};
+use mono_parts::RunError;
+use std::alloc::Global;
 
-impl<U: Unpark> Woken for Wakers<U> {
-    fn take_woken<R: Host>(
-        &mut self,
-        rt: &R,
-        alloc: Global,
-        into: &mut Vec<u64>,
-    ) -> Result<(), AllocError>
-        ensures drained { OnOk result (AppendsOnce into.old.items into.new.items) }
-        ensures refused { OnErr result (into.new.items ≡ into.old.items) }
+impl<F: Drop, O: Outcome + Drop, D: Driver, P: ThreadPool + Drop> Runtime<F, O, D, P> {
+    /// Takes what waits in the inbox. Each task is told, and those that are unfinished are woken.
+    pub(crate) fn drain<R: Host>(&mut self, rt: &R, alloc: Global) -> Result<(), RunError>
+        ensures goes { Goes O.output_number self.old.cx.parts self.new.cx.parts self.old.journal self.new.journal }
+        ensures drained { OnOk result (Does O.output_number Drained self.old.cx.parts self.new.cx.parts self.old.journal self.new.journal) }
+        ensures turn { self.new.cx.parts.tasks.turn ≡ self.old.cx.parts.tasks.turn }
+        ensures longer { length self.old.cx.parts.tasks.tasks.queue ≤ length self.new.cx.parts.tasks.tasks.queue }
+        ensures has_timers { self.new.cx.parts.has_timers ≡ self.old.cx.parts.has_timers }
+        ensures futures { self.new.cx.futures ≡ self.old.cx.futures }
+        ensures told { (before after : Course) → EndsDrained result before after → Telling (Still after) (telling (D.readings self.old.driver) (D.time self.old.driver) (D.parks self.old.driver)) before self.old.journal self.new.journal (telling (D.readings self.new.driver) (D.time self.new.driver) (D.parks self.new.driver)) }
+        ensures full { self.new.journal.is_full ≡ self.old.journal.is_full }
+        ensures held { self.new.journal.entries.held ≡ self.old.journal.entries.held }
     {
-        self.drain(rt, alloc, into)
+        let mut taken = Vec::new(alloc);
+        match self.cx.wakers.drain(rt, alloc, &mut taken) {
+            Err(_) => Err(RunError::Memory),
+            Ok(()) => self.cx.parts.wake_taken(alloc, &mut self.journal, &taken),
+        }
     }
 }

@@ -1,0 +1,50 @@
+use Rattle.std.proofs.Common.{arith, refl, inl, inr, ap, ◌∙◌}
+use Rattle.mono_parts.proofs.Going.{does_led}
+use Rattle.mono_parts.proofs.Doing.{pause_some, pause_none, no_queue}
+use Rattle.mono_parts.specs.Telling.{going, failed, after_wait}
+use Rattle.mono_parts.proofs.Telling.{tells_nothing, telling_on, telling_more, same_telling}
+use Rattle.mono_rt.proofs.runtimes.Runtime.pause.Goals as goal
+
+pub returns-in-Ok-handed-clause-pauses : goal.returns-in-Ok-handed-clause-pauses
+returns-in-Ok-handed-clause-pauses g c =
+    pause_some g.O.Outcome.output_number c.args.self.now.cx.parts.has_timers c.args.self.now.cx.parts c.drain.new.self.cx.parts c.args.self.now.journal c.drain.new.self.journal
+    (omega (arith, c.queue_len.ensures, c.if-queue_len-gt0.true)) c.in-Ok.ensures.drained
+
+pub returns-in-Err-handed-clause-pauses : goal.returns-in-Err-handed-clause-pauses
+returns-in-Err-handed-clause-pauses g c =
+    pause_some g.O.Outcome.output_number c.args.self.now.cx.parts.has_timers c.args.self.now.cx.parts c.drain.new.self.cx.parts c.args.self.now.journal c.drain.new.self.journal
+    (omega (arith, c.queue_len.ensures, c.if-queue_len-gt0.true)) c.in-Ok.ensures.drained
+
+pub returns-in-Ok-true-clause-pauses : goal.returns-in-Ok-true-clause-pauses
+returns-in-Ok-true-clause-pauses g c =
+    pause_none g.O.Outcome.output_number c.args.self.now.cx.parts.has_timers c.args.self.now.cx.parts c.wait.new.self.cx.parts c.args.self.now.journal c.wait.new.self.journal
+    (no_queue c.args.self.now.cx.parts.tasks.tasks.queue c.queue_len.result c.queue_len.ensures (omega (arith, c.if-queue_len-gt0.false))) c.in-Ok-true.ensures.parks
+
+pub returns-in-Ok-false-clause-pauses : goal.returns-in-Ok-false-clause-pauses
+returns-in-Ok-false-clause-pauses g c =
+    pause_none g.O.Outcome.output_number c.args.self.now.cx.parts.has_timers c.args.self.now.cx.parts c.wait.new.self.cx.parts c.args.self.now.journal c.wait.new.self.journal
+    (no_queue c.args.self.now.cx.parts.tasks.tasks.queue c.queue_len.result c.queue_len.ensures (omega (arith, c.if-queue_len-gt0.false))) c.in-Ok-false.ensures.parks
+
+pub returns-in-Err-clause-pauses : goal.returns-in-Err-clause-pauses
+returns-in-Err-clause-pauses g c = does_led g.O.Outcome.output_number c.args.self.now.cx.parts c.drain.new.self.cx.parts c.args.self.now.journal c.drain.new.self.journal c.drain.ensures.goes
+
+pub returns-in-Err-wait-clause-pauses : goal.returns-in-Err-wait-clause-pauses
+returns-in-Err-wait-clause-pauses g c = c.in-Err-wait.ensures.parks
+
+pub returns-in-Ok-handed-clause-told : goal.returns-in-Ok-handed-clause-told
+returns-in-Ok-handed-clause-told g c = telling_on {q = going} (tells_nothing refl (same_telling c.submit-handed.ensures.readings c.submit-handed.ensures.time c.submit-handed.ensures.parks) refl refl) (c.in-Ok.ensures.told going going (inl refl))
+
+pub returns-in-Err-handed-clause-told : goal.returns-in-Err-handed-clause-told
+returns-in-Err-handed-clause-told g c = telling_on {q = going} (tells_nothing refl (same_telling c.submit-handed.ensures.readings c.submit-handed.ensures.time c.submit-handed.ensures.parks) refl refl) (c.in-Ok.ensures.told going failed (inr refl))
+
+pub returns-in-Err-clause-told : goal.returns-in-Err-clause-told
+returns-in-Err-clause-told g c = telling_more (λ x e. tt) (telling_on {q = going} (tells_nothing refl (same_telling c.submit-handed.ensures.readings c.submit-handed.ensures.time c.submit-handed.ensures.parks) refl refl) (c.in-Err.ensures.told going going refl))
+
+pub returns-in-Ok-true-clause-told : goal.returns-in-Ok-true-clause-told
+returns-in-Ok-true-clause-told g c = telling_more (λ x e. e ∙ ap after_wait c.in-Ok-true.field-0-test) c.in-Ok-true.ensures.told
+
+pub returns-in-Ok-false-clause-told : goal.returns-in-Ok-false-clause-told
+returns-in-Ok-false-clause-told g c = telling_more (λ x e. e ∙ ap after_wait c.in-Ok-false.field-0-test) c.in-Ok-false.ensures.told
+
+pub returns-in-Err-wait-clause-told : goal.returns-in-Err-wait-clause-told
+returns-in-Err-wait-clause-told g c = telling_more (λ x e. tt) c.wait.ensures.told
