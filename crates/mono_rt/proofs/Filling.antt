@@ -7,14 +7,15 @@ use Rattle.mono_task.specs.Members.{FutureOf}
 use Rattle.mono_time.specs.declared.instant.Instant.{Instant}
 use Rattle.mono_machine.specs.Machine.{Machine}
 use Rattle.mono_machine.specs.declared.events.End.{End}
-use Rattle.mono_rt.specs.Record.{Record, no_acts, room}
-use Rattle.mono_rt.specs.Stands.{hosting_of, Matches}
-use Rattle.mono_rt.specs.Turns.{Turn, IsTurnOf}
-use Rattle.mono_rt.specs.Journals.{Goes}
+use Rattle.mono_parts.specs.Record.{Record, no_acts, room}
+use Rattle.mono_parts.specs.Stands.{hosting_of, Matches}
+use Rattle.mono_rt.specs.Turns.{Turn}
+use Rattle.mono_parts.specs.Turns.{IsTurnOf}
+use Rattle.mono_parts.specs.Journals.{Goes}
 use Rattle.mono_rt.specs.Filling.{LongTurn, IsOneLong, FilledBy, Fills}
 use Rattle.mono_rt.specs.declared.contexts.Cx.{Cx}
-use Rattle.mono_rt.specs.declared.journals.Journal.{Journal}
-use Rattle.mono_rt.proofs.Going.{goes_on}
+use Rattle.mono_parts.specs.declared.journals.Journal.{Journal}
+use Rattle.mono_parts.proofs.Going.{goes_on}
 
 true-false : true ≡ false → ⊥
 true-false e = cc

@@ -11,21 +11,22 @@ use Rattle.mono_machine.specs.declared.events.End.{End}
 use Rattle.mono_machine.specs.declared.events.Event.TheVariants as event
 use Rattle.mono_machine.specs.declared.events.Report.TheVariants as report
 use Rattle.mono_jobs.specs.Spawning.{Seen}
-use Rattle.mono_rt.specs.Record.{no_acts}
-use Rattle.mono_rt.specs.Stands.{hosting_of, Matches}
-use Rattle.mono_rt.specs.Journals.{Did, Does, IsStep, Stays}
-use Rattle.mono_rt.specs.Rounds.{Remotes, Drained, IsPark, ClockIf, Parks, Pauses, Pause, PauseEnds, IsSpawn, DropsFor}
+use Rattle.mono_parts.specs.Record.{no_acts}
+use Rattle.mono_parts.specs.Stands.{hosting_of, Matches}
+use Rattle.mono_parts.specs.Journals.{Did, Does, IsStep, Stays}
+use Rattle.mono_parts.specs.Rounds.{Remotes, Drained, IsPark, ClockIf, Parks, Pauses, Pause, PauseEnds, IsSpawn, DropsFor}
 use Rattle.mono_rt.specs.Turns.{Turn}
-use Rattle.mono_rt.specs.Blocked.{OnCapacity}
-use Rattle.mono_rt.specs.Polling.{ReadsAt, Polled, Polling, PollsMain, OnMain}
+use Rattle.mono_parts.specs.Blocked.{OnCapacity}
+use Rattle.mono_parts.specs.Journals.{ReadsAt}
+use Rattle.mono_rt.specs.Polling.{Polled, Polling, PollsMain, OnMain}
 use Rattle.mono_rt.specs.declared.contexts.Cx.{Cx}
-use Rattle.mono_rt.specs.declared.parts.Parts.{Parts}
-use Rattle.mono_rt.specs.declared.errors.RunError.{RunError}
-use Rattle.mono_rt.specs.declared.errors.RunError.TheVariants as error
-use Rattle.mono_rt.specs.declared.journals.Entry.{Entry}
-use Rattle.mono_rt.specs.declared.journals.Journal.{Journal}
-use Rattle.mono_rt.proofs.Doing.{does_on, does_more}
-use Rattle.mono_rt.proofs.Going.{does_stay}
+use Rattle.mono_parts.specs.declared.parts.Parts.{Parts}
+use Rattle.mono_parts.specs.declared.errors.RunError.{RunError}
+use Rattle.mono_parts.specs.declared.errors.RunError.TheVariants as error
+use Rattle.mono_parts.specs.declared.journals.Entry.{Entry}
+use Rattle.mono_parts.specs.declared.journals.Journal.{Journal}
+use Rattle.mono_parts.proofs.Doing.{does_on, does_more}
+use Rattle.mono_parts.proofs.Going.{does_stay}
 
 -- a fact of a call goes on, by its answer
 pub on_main : {X : Type 0} (r : Result X RunError) (p q : Type 0) → (p → q) → OnMain r p → OnMain r q

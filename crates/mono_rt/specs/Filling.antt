@@ -5,12 +5,13 @@ use Rattle.mono_task.specs.Members.{FutureOf}
 use Rattle.mono_time.specs.declared.instant.Instant.{Instant}
 use Rattle.mono_machine.specs.Machine.{Machine}
 use Rattle.mono_machine.specs.declared.events.End.{End}
-use Rattle.mono_rt.specs.Record.{no_acts, room}
-use Rattle.mono_rt.specs.Stands.{hosting_of, Matches}
-use Rattle.mono_rt.specs.Turns.{Turn, IsTurnOf}
-use Rattle.mono_rt.specs.Journals.{Goes}
+use Rattle.mono_parts.specs.Record.{no_acts, room}
+use Rattle.mono_parts.specs.Stands.{hosting_of, Matches}
+use Rattle.mono_rt.specs.Turns.{Turn}
+use Rattle.mono_parts.specs.Turns.{IsTurnOf}
+use Rattle.mono_parts.specs.Journals.{Goes}
 use Rattle.mono_rt.specs.declared.contexts.Cx.{Cx}
-use Rattle.mono_rt.specs.declared.journals.Journal.{Journal}
+use Rattle.mono_parts.specs.declared.journals.Journal.{Journal}
 
 module _ {F O P U J A V : Type 0} (number : O → ℕ) (future : FutureOf F (Cx F O P U J A V) O) where
   -- A turn in which the task's own future, polled once, made more calls than the record of a turn has room for: it began

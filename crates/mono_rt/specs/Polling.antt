@@ -14,24 +14,20 @@ use Rattle.mono_machine.specs.declared.events.End.{End}
 use Rattle.mono_machine.specs.declared.events.Report.{Report}
 use Rattle.mono_machine.specs.declared.events.Report.TheVariants as report
 use Rattle.mono_model.specs.declared.Ended.{Ended}
-use Rattle.mono_rt.specs.Record.{no_acts}
-use Rattle.mono_rt.specs.Rounds.{IsSpawn}
-use Rattle.mono_rt.specs.Stands.{hosting_of, Matches}
+use Rattle.mono_parts.specs.Record.{no_acts}
+use Rattle.mono_parts.specs.Rounds.{IsSpawn}
+use Rattle.mono_parts.specs.Stands.{hosting_of, Matches}
 use Rattle.mono_rt.specs.Turns.{Turn}
 use Rattle.mono_rt.specs.declared.contexts.Cx.{Cx}
-use Rattle.mono_rt.specs.declared.errors.RunError.{RunError}
-use Rattle.mono_rt.specs.declared.errors.RunError.TheVariants as error
-use Rattle.mono_rt.specs.declared.journals.Entry.{Entry}
-use Rattle.mono_rt.specs.declared.journals.Entry.TheVariants.{Ran, Now, Park}
+use Rattle.mono_parts.specs.declared.errors.RunError.{RunError}
+use Rattle.mono_parts.specs.declared.errors.RunError.TheVariants as error
+use Rattle.mono_parts.specs.declared.journals.Entry.{Entry}
+use Rattle.mono_parts.specs.declared.journals.Entry.TheVariants.{Ran, Now, Park}
 
 -- the act makes no task
 abbrev pub MakesNoTask : Act → Type 0
 MakesNoTask act.Spawn = ⊥
 MakesNoTask other = ⊤
-
--- the clock was read, and showed this
-abbrev pub ReadsAt : ℕ → Machine → List Entry → Machine → List Entry → Type 0
-ReadsAt n old part new rest = (part ≡ Now n ∷ rest) × (new ≡ old)
 
 module _ {F O P U J A V : Type 0} (number : O → ℕ) (future : FutureOf F (Cx F O P U J A V) O) (has_timers : Bool) where
   -- A turn that a journal tells, at this reading of the clock: the context before it stands for the machine and has these

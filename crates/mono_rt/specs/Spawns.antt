@@ -1,12 +1,27 @@
--- What a spawn outside of a turn means for the machine, by its answer.
-use Rattle.std.specs.Prelude.{◌≡◌, ℕ, Result, Ok, Err}
+-- What a spawn keeps in the record of a turn, and what one outside of a turn means for the machine, by its answer.
+use Rattle.std.specs.Prelude.{◌≡◌, ℕ, Bool, true, Result, Ok, Err}
 use Rattle.mono_machine.specs.Machine.{Machine}
 use Rattle.mono_machine.specs.Acts.{act_outcome}
 use Rattle.mono_machine.specs.declared.events.Act.TheVariants as act
 use Rattle.mono_machine.specs.declared.events.Refusal.TheVariants as refusal
 use Rattle.mono_machine.specs.declared.events.Reply.TheVariants as reply
+use Rattle.mono_machine.specs.declared.events.TurnStep.TheVariants as step
+use Rattle.mono_parts.specs.Record.{Record, noted}
 use Rattle.mono_rt.specs.declared.contexts.SpawnRefused.{SpawnRefused}
 use Rattle.mono_rt.specs.declared.contexts.SpawnRefused.TheVariants.{Memory, AtCapacity}
+
+-- What a running task's spawn keeps in the record of its turn: the act, made or refused. Want of memory is no act, and is
+-- noted by its flag.
+module _ {F : Type 0} where
+  abbrev pub noted_spawn : Record → Result ℕ (SpawnRefused F) → Record
+  noted_spawn acts (Ok t) = noted acts (step.Act act.Spawn) (reply.Task t)
+  noted_spawn acts (Err (AtCapacity future)) = noted acts (step.Act act.Spawn) (reply.Refused refusal.AtCapacity)
+  noted_spawn acts (Err (Memory future)) = acts
+
+  abbrev pub lacks_spawn : Bool → Result ℕ (SpawnRefused F) → Bool
+  lacks_spawn before (Ok t) = before
+  lacks_spawn before (Err (AtCapacity future)) = before
+  lacks_spawn before (Err (Memory future)) = true
 
 -- The spawn is the machine's, with its reply, and this is left for the machine that it leaves. Where memory was refused it is
 -- left for the machine before.

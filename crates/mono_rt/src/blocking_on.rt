@@ -1,90 +1,25 @@
 // Rounds of turns, waits on the driver, and the main task.
-ghost use Rattle.std.specs.Prelude.{◌≡◌, ◌<◌, ◌≤◌, ◌+◌, ◌++◌, ◌∷◌, [], None, false, length, Some, Ok, IfOk, OnOk, IfErr, OnErr, IfSome, IsSome, if◌then◌else◌};
-ghost use Rattle.std.specs.Option.{option_map};
-ghost use Rattle.mono_time.specs.Instants.{nanos_of};
-ghost use Rattle.mono_machine.specs.Machine.{Machine};
-ghost use Rattle.mono_model.specs.Joins.{drop_answer};
+ghost use Rattle.std.specs.Prelude.{◌≡◌, ◌<◌, ◌≤◌, ◌+◌, ◌++◌, ◌∷◌, [], None, false, length, Some, IfOk, OnOk, IfErr, OnErr, if◌then◌else◌};
 ghost use Rattle.mono_task.specs.Work.{GivesOutput};
-ghost use Rattle.mono_rt.specs.Numbered.{answer_numbered};
-ghost use Rattle.mono_rt.specs.Reached.{HasPlace};
-ghost use Rattle.mono_rt.specs.Stands.{hosting_of, Matches};
-ghost use Rattle.mono_time.specs.Timers.{registered_of};
-ghost use Rattle.mono_rt.specs.Journals.{Goes, Does, Stays, HasPlaces, WaitsForNext};
-ghost use Rattle.mono_rt.specs.Rounds.{IsWait, IsPark, Parks, OrLed, PauseEnds, Round, PassEnds, Ends, IsSpawn, IsRefused, DropsFor, Blocked, cost};
-ghost use Rattle.mono_rt.specs.Blocked.{OnCapacity, OnMemory};
+ghost use Rattle.mono_parts.specs.Numbered.{answer_numbered};
+ghost use Rattle.mono_parts.specs.Journals.{Goes, Does, Stays};
+ghost use Rattle.mono_parts.specs.Rounds.{Parks, OrLed, PauseEnds, Round, PassEnds, Ends, IsSpawn, IsRefused, Blocked, cost};
+ghost use Rattle.mono_parts.specs.Blocked.{OnCapacity, OnMemory};
 ghost use Rattle.mono_rt.specs.Polling.{Polling, PollsMain, OnMain};
 ghost use Rattle.mono_rt.specs.Filling.{Fills};
-ghost use Rattle.mono_rt.specs.Telling.{telling, Course, going, Telling, IsParked, Still, EndsSo, EndsParked, EndsWaited};
+ghost use Rattle.mono_parts.specs.Telling.{telling, going, Telling, Still, EndsSo, EndsWaited};
 
-use crate::calls::drop_reply_of;
 use crate::contexts::Cx;
-use crate::errors::RunError;
-use crate::journals::Entry;
-use crate::parts::Parts;
 use crate::runtimes::Runtime;
 use mono_blocking::ThreadPool;
 use mono_driver::Driver;
-use mono_exec::{Act, Event, Refusal, Reply, Report};
-use mono_jobs::Blockings;
 use mono_joinword::Outcome;
 use mono_model::Host;
-use mono_task::{SpawnTask, TaskFuture};
-use mono_time::Instant;
+use mono_parts::RunError;
+use mono_task::TaskFuture;
 use std::alloc::Global;
-use std::time::Duration;
-
-// Parks the driver, for so many milliseconds at most. The answer tells whether it failed.
-fn park_driver<D: Driver, R: Host>(rt: &R, driver: &mut D, wait: Option<u64>) -> bool
-    ensures { IsParked wait result (telling (D.readings driver.old) (D.time driver.old) (D.parks driver.old)) (telling (D.readings driver.new) (D.time driver.new) (D.parks driver.new)) }
-{
-    match wait {
-        Some(ticks) => driver
-            .park_timeout(rt, Duration::from_millis(ticks))
-            .is_err(),
-        None => driver.park(rt).is_err(),
-    }
-}
-
-impl<O: Outcome + Drop, P: ThreadPool + Drop> Parts<O, Blockings<P>> {
-    /// How long the driver is parked, in milliseconds.
-    fn wait_from(&self, now: Instant) -> Option<u64>
-        ensures wait { (m : Machine) → Matches O.output_number hosting_of self.entry.now m → IsWait self.entry.now.has_timers m (nanos_of now) result }
-        ensures next { IfSome result (λ v. (m : Machine) → Matches O.output_number hosting_of self.entry.now m → WaitsForNext m (registered_of self.entry.now.timers) (Some (nanos_of now)) v) }
-    {
-        if self.has_timers {
-            match self.timers.next_expiration_time() {
-                None => None,
-                Some(tick) => Some(tick.saturating_sub(now.clock_tick())),
-            }
-        } else {
-            None
-        }
-    }
-}
 
 impl<F: Drop, O: Outcome + Drop, D: Driver, P: ThreadPool + Drop> Runtime<F, O, D, P> {
-    /// The clock is read, and the driver is parked. The answer tells whether it failed.
-    fn park<R: Host>(&mut self, rt: &R) -> Result<bool, RunError>
-        ensures goes { Goes O.output_number self.old.cx.parts self.new.cx.parts self.old.journal self.new.journal }
-        ensures parked { OnOk result (Does O.output_number (IsPark self.old.cx.parts.has_timers) self.old.cx.parts self.new.cx.parts self.old.journal self.new.journal) }
-        ensures same { self.new.cx ≡ self.old.cx }
-        ensures told { Telling (EndsParked result) (telling (D.readings self.old.driver) (D.time self.old.driver) (D.parks self.old.driver)) going self.old.journal self.new.journal (telling (D.readings self.new.driver) (D.time self.new.driver) (D.parks self.new.driver)) }
-        ensures full { self.new.journal.is_full ≡ self.old.journal.is_full }
-        ensures held { self.new.journal.entries.held ≡ self.old.journal.entries.held }
-    {
-        match self.journal.reserve(2) {
-            Err(_) => Err(RunError::Memory),
-            Ok(()) => {
-                let now = self.driver.now();
-                self.journal.push(Entry::Now(now.as_nanos()));
-                let wait = self.cx.parts.wait_from(now);
-                self.journal.push(Entry::Park(wait));
-                let failed = park_driver(rt, &mut self.driver, wait);
-                Ok(failed)
-            }
-        }
-    }
-
     /// The queue is empty: the driver is parked, the inbox is drained, and with timers a clock step is done. The answer tells
     /// whether the park failed.
     fn wait<R: Host>(&mut self, rt: &R, alloc: Global) -> Result<bool, RunError>
@@ -96,13 +31,17 @@ impl<F: Drop, O: Outcome + Drop, D: Driver, P: ThreadPool + Drop> Runtime<F, O, 
         ensures full { self.new.journal.is_full ≡ self.old.journal.is_full }
         ensures held { self.new.journal.entries.held ≡ self.old.journal.entries.held }
     {
-        match self.park(rt) {
+        match self.cx.parts.park(rt, &mut self.driver, &mut self.journal) {
             Err(_) => Err(RunError::Memory),
             Ok(failed) => match self.drain(rt, alloc) {
                 Err(_) => Err(RunError::Memory),
                 Ok(()) => {
                     if self.cx.parts.has_timers {
-                        match self.clock_step(alloc) {
+                        match self
+                            .cx
+                            .parts
+                            .clock_step(alloc, &mut self.driver, &mut self.journal)
+                        {
                             Err(_) => Err(RunError::Memory),
                             Ok(()) => Ok(failed),
                         }
@@ -142,9 +81,7 @@ impl<F: Drop, O: Outcome + Drop, D: Driver, P: ThreadPool + Drop> Runtime<F, O, 
             Ok(false) => Ok(self.cx.parts.tasks.queue_len() == 0),
         }
     }
-}
 
-impl<F: Drop, O: Outcome + Drop, D: Driver, P: ThreadPool + Drop> Runtime<F, O, D, P> {
     /// The main task is made, and room is held for the entry of its handle's drop.
     fn start_main(&mut self, alloc: Global, future: F) -> Result<u64, RunError>
         ensures goes { Goes O.output_number self.old.cx.parts self.new.cx.parts self.old.journal self.new.journal }
@@ -159,69 +96,15 @@ impl<F: Drop, O: Outcome + Drop, D: Driver, P: ThreadPool + Drop> Runtime<F, O, 
         ensures held { IfOk result (λ t. self.new.journal.entries.held ≡ self.old.journal.entries.held + 1) }
         ensures unheld { OnErr result (self.new.journal.entries.held ≡ self.old.journal.entries.held) }
     {
-        match self.open_spawn(alloc) {
-            None => Err(RunError::Memory),
-            Some(()) => match self.cx.parts.tasks.spawn(alloc) {
-                Ok(t) => {
+        match self.cx.make_place(alloc) {
+            Err(_) => Err(RunError::Memory),
+            Ok(()) => match self.cx.parts.start_main(alloc, &mut self.journal) {
+                Err(error) => Err(error),
+                Ok(main) => {
                     self.cx.put_future(future);
-                    self.journal.push_and_hold(Entry::Ran(
-                        Event::Act(Act::Spawn),
-                        Report::Reply(Reply::Task(t)),
-                    ));
-                    Ok(t)
+                    Ok(main)
                 }
-                Err(SpawnTask::AtCapacity) => {
-                    self.journal.push(Entry::Ran(
-                        Event::Act(Act::Spawn),
-                        Report::Reply(Reply::Refused(Refusal::AtCapacity)),
-                    ));
-                    Err(RunError::AtCapacity)
-                }
-                Err(SpawnTask::Memory) => Err(RunError::Memory),
             },
-        }
-    }
-
-    /// A place for the main task's future, and room for its entry and for that of its handle's drop.
-    fn open_spawn(&mut self, alloc: Global) -> Option<()>
-        ensures place { IsSome result → HasPlaces self.new.journal 2 }
-        ensures future { IsSome result → HasPlace self.new.cx }
-        ensures stays { Does O.output_number Stays self.old.cx.parts self.new.cx.parts self.old.journal self.new.journal }
-        ensures goes { Goes O.output_number self.old.cx.parts self.new.cx.parts self.old.journal self.new.journal }
-        ensures same { self.new.cx.parts ≡ self.old.cx.parts }
-        ensures futures { self.new.cx.futures.items ≡ self.old.cx.futures.items }
-        ensures told { Telling (Still going) (telling (D.readings self.old.driver) (D.time self.old.driver) (D.parks self.old.driver)) going self.old.journal self.new.journal (telling (D.readings self.new.driver) (D.time self.new.driver) (D.parks self.new.driver)) }
-        ensures full { self.new.journal.is_full ≡ self.old.journal.is_full }
-        ensures held { self.new.journal.entries.held ≡ self.old.journal.entries.held }
-    {
-        match self.journal.reserve(2) {
-            Err(_) => None,
-            Ok(()) => match self.cx.make_place(alloc) {
-                Err(_) => None,
-                Ok(()) => Some(()),
-            },
-        }
-    }
-
-    /// The handle of the main task is dropped. The answer is the output that it gave, whose number stands in the journal. The
-    /// entry has the room that was held for it, so no memory is asked for.
-    fn end_main(&mut self, main: u64) -> Option<O>
-        requires { 0 < self.old.journal.entries.held }
-        ensures output { (output : O) → drop_answer self.old.cx.parts.tasks.tasks main ≡ Ok (Some output) → result ≡ Some output }
-        ensures dropped { Does O.output_number (DropsFor main (option_map O.output_number result)) self.old.cx.parts self.new.cx.parts self.old.journal self.new.journal }
-        ensures turn { self.new.cx.parts.tasks.turn ≡ self.old.cx.parts.tasks.turn }
-        ensures futures { self.new.cx.futures ≡ self.old.cx.futures }
-        ensures told { (course : Course) → Telling (Still course) (telling (D.readings self.old.driver) (D.time self.old.driver) (D.parks self.old.driver)) course self.old.journal self.new.journal (telling (D.readings self.new.driver) (D.time self.new.driver) (D.parks self.new.driver)) }
-        ensures full { self.new.journal.is_full ≡ self.old.journal.is_full }
-        ensures held { self.new.journal.entries.held + 1 ≡ self.old.journal.entries.held }
-    {
-        self.journal.release();
-        let answer = self.cx.parts.tasks.drop_join(main);
-        let reply = drop_reply_of(&answer);
-        self.journal.push(Entry::Ran(Event::Act(Act::DropJoin(main)), Report::Reply(reply)));
-        match answer {
-            Ok(output) => output,
-            Err(_) => None,
         }
     }
 }
@@ -346,7 +229,7 @@ where
             Ok(main) => {
                 let answer = self.run(rt, alloc, main, turns);
                 self.cx.wakers.retire_ended(rt);
-                let output = self.end_main(main);
+                let output = self.cx.parts.end_main(&mut self.journal, main);
                 match answer {
                     Err(error) => Err(error),
                     Ok(()) => match output {

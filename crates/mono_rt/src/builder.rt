@@ -4,14 +4,11 @@ ghost use Rattle.mono_machine.specs.Machine.{start_machine};
 ghost use Rattle.mono_time.specs.Instants.{nanos_of};
 ghost use Rattle.mono_time.specs.Timers.{registered_of};
 ghost use Rattle.mono_jobs.specs.Spawning.{strategy_of, IsApart};
-ghost use Rattle.mono_rt.specs.Stands.{hosting_of, Matches};
+ghost use Rattle.mono_parts.specs.Stands.{hosting_of, Matches};
 ghost use Rattle.mono_blocking.specs.declared.strategy.BlockingHandle.TheVariants.{Attached, Empty};
 ghost use Rattle.mono_blocking.specs.declared.strategy.BlockingStrategy.TheVariants.{Panic};
 
 use crate::contexts::Cx;
-use crate::errors::RunError;
-use crate::journals::Journal;
-use crate::parts::Parts;
 use crate::runtimes::Runtime;
 use crate::wakers::Wakers;
 use mono_blocking::{BlockingHandle, BlockingStrategy, ThreadPool};
@@ -20,6 +17,7 @@ use mono_exec::Limits;
 use mono_jobs::Blockings;
 use mono_joinword::Outcome;
 use mono_model::Host;
+use mono_parts::{Journal, Parts, RunError, new_journal};
 use mono_slots::Slots;
 use mono_task::TaskFuture;
 use mono_time::Instant;
@@ -217,7 +215,7 @@ impl<D: Driver, P: ThreadPool + Drop> RuntimeBuilder<D, P> {
                             waker: None,
                         },
                         driver,
-                        journal: Journal::new(alloc, !keeps_journal),
+                        journal: new_journal(alloc, !keeps_journal),
                     }),
                 },
             },

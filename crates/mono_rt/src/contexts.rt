@@ -11,15 +11,16 @@ ghost use Rattle.mono_task.specs.Work.{without_outputs};
 ghost use Rattle.mono_time.specs.Instants.{nanos_of};
 ghost use Rattle.mono_time.specs.Sleeps.{Added, sleep_poll_answer, with_polled_sleep, sleep_reset_answer, with_reset_sleep, sleep_remove_answer, with_removed_sleep};
 ghost use Rattle.mono_time.specs.Timers.{sleeps_of};
-ghost use Rattle.mono_rt.specs.CallActs.{noted_wake, noted_join, noted_drop, noted_spawn, lacks_spawn, noted_sleep, lacks_sleep, noted_poll, noted_gone, noted_reset};
+ghost use Rattle.mono_parts.specs.CallActs.{noted_wake, noted_join, noted_drop, noted_sleep, lacks_sleep, noted_poll, noted_gone, noted_reset};
+ghost use Rattle.mono_rt.specs.Spawns.{noted_spawn, lacks_spawn};
 ghost use Rattle.mono_rt.specs.Reached.{Reaches, HasPlace, reaches_itself, reaches_on};
 
-use crate::parts::Parts;
 use crate::wakers::Wakers;
 use mono_blocking::ThreadPool;
 use mono_inbox::{RemoteWaker, Unpark};
 use mono_jobs::Blockings;
 use mono_joinword::Outcome;
+use mono_parts::Parts;
 use mono_slots::Slots;
 use mono_task::{Context, JoinContext, JoinHandle, Poll, SpawnTask, TaskError, Woke};
 use mono_time::{Error, Instant, SleepError, TimeContext};

@@ -1,6 +1,6 @@
 // Blocking jobs, as a running task calls for them.
 ghost use Rattle.std.specs.Prelude.{◌≡◌, IfOk};
-ghost use Rattle.mono_rt.specs.JobActs.{SpawnsJob, PollsJob, DropsJob, AsksWhetherEnded};
+ghost use Rattle.mono_parts.specs.JobActs.{SpawnsJob, PollsJob, DropsJob, AsksWhetherEnded};
 ghost use Rattle.mono_rt.specs.Reached.{Reaches};
 
 use crate::contexts::Cx;

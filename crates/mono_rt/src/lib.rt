@@ -1,21 +1,13 @@
 //! The runtime: futures that run on a context, and the drivers on which it waits.
 #![tactic(auto)]
 
-mod acts;
 mod alone;
 mod blocking_on;
 mod builder;
 mod building;
-mod calls;
 mod contexts;
 mod drains;
-mod errors;
-mod job_acts;
 mod job_calls;
-mod journals;
-mod keeping;
-pub mod laws;
-mod parts;
 mod runtimes;
 mod spawning;
 mod turns;
@@ -24,8 +16,6 @@ mod wakers;
 pub use alone::run_alone;
 pub use builder::{Buildable, RuntimeBuilder, start};
 pub use contexts::{Cx, SpawnRefused};
-pub use errors::RunError;
-pub use journals::{Entry, Journal};
 pub use mono_driver::{
     Clock, Driver, DriverFault, Instant, ListClock, StepDriver, ThreadDriver, TimeDriver,
 };
@@ -36,4 +26,5 @@ pub use mono_exec::{
 pub use mono_inbox::RemoteWaker;
 pub use mono_jobs::{JobHandle, OutputOf, PollJob, SpawnError};
 pub use mono_joinword::{JoinError, Outcome};
+pub use mono_parts::{Entry, Journal, RunError, laws};
 pub use runtimes::Runtime;

@@ -4,7 +4,7 @@ ghost use Rattle.mono_model.specs.Table.{next_number};
 ghost use Rattle.mono_model.specs.Tasks.{spawned};
 ghost use Rattle.mono_machine.specs.Machine.{Machine};
 ghost use Rattle.mono_rt.specs.Spawns.{SpawnsTask, refused_future};
-ghost use Rattle.mono_rt.specs.Stands.{hosting_of, Matches};
+ghost use Rattle.mono_parts.specs.Stands.{hosting_of, Matches};
 
 use crate::contexts::{Cx, SpawnRefused};
 use crate::runtimes::Runtime;

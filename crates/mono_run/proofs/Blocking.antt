@@ -3,23 +3,23 @@ use Rattle.std.proofs.Common.{◌≡◌, ℕ, zero, suc, true, false, Bool, List
 use Rattle.mono_machine.specs.Machine.{Machine, start_machine}
 use Rattle.mono_machine.specs.declared.events.Limits.{Limits}
 use Rattle.mono_machine.specs.declared.events.Blocking.TheVariants as strategy
-use Rattle.mono_rt.specs.Numbered.{answer_numbered}
-use Rattle.mono_rt.specs.Rounds.{Blocked, output_in}
-use Rattle.mono_rt.specs.declared.errors.RunError.{RunError}
-use Rattle.mono_rt.specs.declared.journals.Journal.{Journal}
+use Rattle.mono_parts.specs.Numbered.{answer_numbered}
+use Rattle.mono_parts.specs.Rounds.{Blocked, output_in}
+use Rattle.mono_parts.specs.declared.errors.RunError.{RunError}
+use Rattle.mono_parts.specs.declared.journals.Journal.{Journal}
 use Rattle.mono_scripts.specs.Journal.{journal_text}
-use Rattle.mono_rt.specs.Telling.{Told, Course, going, Tells, IsTold, EndsSo}
-use Rattle.mono_rt.specs.declared.journals.Entry.{Entry}
-use Rattle.mono_rt.proofs.Readings.{in_order, sums_from}
+use Rattle.mono_parts.specs.Telling.{Told, Course, going, Tells, IsTold, EndsSo}
+use Rattle.mono_parts.specs.declared.journals.Entry.{Entry}
+use Rattle.mono_parts.proofs.Readings.{in_order, sums_from}
 use Rattle.mono_model.specs.declared.poll.Poll.{Poll}
 use Rattle.mono_task.specs.Members.{FutureOf}
 use Rattle.mono_rt.specs.Polling.{PollsMain, OnMain}
-use Rattle.mono_rt.specs.Journals.{Does}
-use Rattle.mono_rt.specs.Stands.{hosting_of, Matches}
-use Rattle.mono_rt.specs.declared.parts.Parts.{Parts}
+use Rattle.mono_parts.specs.Journals.{Does}
+use Rattle.mono_parts.specs.Stands.{hosting_of, Matches}
+use Rattle.mono_parts.specs.declared.parts.Parts.{Parts}
 use Rattle.mono_jobs.specs.Spawning.{Seen}
 use Rattle.mono_rt.proofs.Polling.{on_main}
-use Rattle.mono_rt.proofs.Doing.{relation_of}
+use Rattle.mono_parts.proofs.Doing.{relation_of}
 use Rattle.mono_rt.specs.declared.contexts.Cx.{Cx}
 use Rattle.mono_scripts.specs.Driven.{Driven}
 use Rattle.mono_scripts.specs.Script.{Script, IsSound}

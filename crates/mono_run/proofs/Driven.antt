@@ -38,18 +38,19 @@ use Rattle.mono_machine.proofs.Finished.{IsOver, over_runs}
 use Rattle.mono_machine.proofs.Known.{front_is_queued, finished-completed}
 use Rattle.mono_machine.proofs.ValidSteps.{step_is_valid, start_is_valid}
 use Rattle.mono_jobs.specs.Spawning.{Seen}
-use Rattle.mono_rt.specs.Journals.{events_in, reports_in}
-use Rattle.mono_rt.specs.Numbered.{end_of}
+use Rattle.mono_parts.specs.Journals.{events_in, reports_in}
+use Rattle.mono_parts.specs.Numbered.{end_of}
 use Rattle.mono_rt.specs.Polling.{MakesNoTask, TellsTurn, Polled, PollsMain}
 use Rattle.mono_rt.specs.Reached.{Reaches}
-use Rattle.mono_rt.specs.Record.{no_acts}
-use Rattle.mono_rt.specs.Stands.{hosting_of, Matches}
-use Rattle.mono_rt.specs.Turns.{Begins, EndsParts, AfterPoll, Polls, UnlessSpent, Runs}
+use Rattle.mono_parts.specs.Record.{no_acts}
+use Rattle.mono_parts.specs.Stands.{hosting_of, Matches}
+use Rattle.mono_rt.specs.Turns.{Begins, AfterPoll, Polls, UnlessSpent, Runs}
+use Rattle.mono_parts.specs.Turns.{EndsParts}
 use Rattle.mono_rt.specs.declared.contexts.Cx.{Cx}
-use Rattle.mono_rt.specs.declared.parts.Parts.{Parts}
-use Rattle.mono_rt.specs.declared.journals.Entry.{Entry}
-use Rattle.mono_rt.specs.declared.journals.Entry.TheVariants.{Ran, Now, Park}
-use Rattle.mono_rt.proofs.Turning.{begun_matches}
+use Rattle.mono_parts.specs.declared.parts.Parts.{Parts}
+use Rattle.mono_parts.specs.declared.journals.Entry.{Entry}
+use Rattle.mono_parts.specs.declared.journals.Entry.TheVariants.{Ran, Now, Park}
+use Rattle.mono_parts.proofs.Turning.{begun_matches}
 use Rattle.mono_scripts.specs.Driven as script
 use Rattle.mono_scripts.specs.Driven.{Place, place, Turned, start_of, starts_of, turn_of, own_steps, own_replies, Driven, DrivenFrom, after_turn, Gives, turn_at}
 use Rattle.mono_scripts.specs.Script.{Kind, Script, IsSound, AreSoundKinds}

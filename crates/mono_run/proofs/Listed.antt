@@ -4,7 +4,7 @@ use Rattle.std.specs.List.{slice_get}
 use Rattle.std.specs.Fmt.{decimal}
 use Rattle.std.proofs.lemmas.List.{drop_more, drop_all, append-nil}
 use Rattle.std.proofs.lemmas.Option.{get_or_from_slice_get, slice_get_within}
-use Rattle.mono_rt.specs.declared.journals.Entry.{Entry}
+use Rattle.mono_parts.specs.declared.journals.Entry.{Entry}
 use Rattle.mono_scripts.specs.Driven as script
 use Rattle.mono_scripts.specs.Journal.{entry_line, journal_text}
 use Rattle.mono_run.specs.Told.{told, main_text}

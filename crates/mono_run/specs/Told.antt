@@ -3,13 +3,13 @@ use Rattle.std.specs.Prelude.{⊤, ◌≡◌, ℕ, zero, suc, true, List, [], �
 use Rattle.mono_machine.specs.Machine.{Machine, start_machine}
 use Rattle.mono_machine.specs.declared.events.Limits.{Limits}
 use Rattle.mono_machine.specs.declared.events.Blocking.TheVariants as strategy
-use Rattle.mono_rt.specs.Rounds.{Blocked, output_in}
-use Rattle.mono_rt.specs.Readings.{readings_in, AreFirst, AreSums}
-use Rattle.mono_rt.specs.Telling.{Told, telling}
-use Rattle.mono_rt.specs.declared.errors.RunError.{RunError}
-use Rattle.mono_rt.specs.declared.errors.RunError.TheVariants as error
-use Rattle.mono_rt.specs.declared.journals.Entry.{Entry}
-use Rattle.mono_rt.specs.declared.journals.Entry.TheVariants as entry
+use Rattle.mono_parts.specs.Rounds.{Blocked, output_in}
+use Rattle.mono_parts.specs.Readings.{readings_in, AreFirst, AreSums}
+use Rattle.mono_parts.specs.Telling.{Told, telling}
+use Rattle.mono_parts.specs.declared.errors.RunError.{RunError}
+use Rattle.mono_parts.specs.declared.errors.RunError.TheVariants as error
+use Rattle.mono_parts.specs.declared.journals.Entry.{Entry}
+use Rattle.mono_parts.specs.declared.journals.Entry.TheVariants as entry
 use Rattle.mono_scripts.specs.Driven as script
 use Rattle.mono_scripts.specs.Driven.{Driven}
 use Rattle.mono_scripts.specs.Script.{Script}

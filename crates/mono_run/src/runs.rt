@@ -3,8 +3,8 @@ ghost use Rattle.std.specs.Prelude.{◌≡◌, false, length, map, IfOk, IfSome,
 ghost use Rattle.mono_blocking.specs.Counts.{counted_by};
 ghost use Rattle.mono_scripts.specs.Journal.{journal_text};
 ghost use Rattle.mono_scripts.specs.Script.{IsSound};
-ghost use Rattle.mono_rt.specs.Rounds.{output_in};
-ghost use Rattle.mono_rt.specs.Telling.{telling};
+ghost use Rattle.mono_parts.specs.Rounds.{output_in};
+ghost use Rattle.mono_parts.specs.Telling.{telling};
 ghost use Rattle.mono_script_task.specs.Driving.{readings_of, time_of, parks_of};
 ghost use Rattle.mono_run.specs.Told.{Ran, RunsScript, RanBy, told_first, answer_of, told};
 

@@ -31,9 +31,10 @@ use Rattle.mono_jobs.specs.declared.refusals.PollJob.{PollJob}
 use Rattle.mono_jobs.specs.declared.refusals.PollJob.TheVariants as polling
 use Rattle.mono_jobs.specs.declared.refusals.SpawnError.{SpawnError}
 use Rattle.mono_jobs.specs.declared.refusals.SpawnError.TheVariants as error
-use Rattle.mono_rt.specs.CallActs.{noted_wake, noted_join, noted_drop, noted_spawn, lacks_spawn, noted_sleep, lacks_sleep, noted_poll, noted_gone}
-use Rattle.mono_rt.specs.JobActs.{SpawnsJob, PollsJob, DropsJob}
-use Rattle.mono_rt.specs.Numbered.{join_numbered, drop_numbered}
+use Rattle.mono_parts.specs.CallActs.{noted_wake, noted_join, noted_drop, noted_sleep, lacks_sleep, noted_poll, noted_gone}
+use Rattle.mono_rt.specs.Spawns.{noted_spawn, lacks_spawn}
+use Rattle.mono_parts.specs.JobActs.{SpawnsJob, PollsJob, DropsJob}
+use Rattle.mono_parts.specs.Numbered.{join_numbered, drop_numbered}
 use Rattle.mono_rt.specs.declared.contexts.Cx.{Cx}
 use Rattle.mono_rt.specs.declared.contexts.SpawnRefused.{SpawnRefused}
 use Rattle.mono_rt.specs.declared.contexts.SpawnRefused.TheVariants as back

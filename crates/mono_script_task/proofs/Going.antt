@@ -10,10 +10,11 @@ use Rattle.mono_machine.specs.declared.events.End.{End}
 use Rattle.mono_model.specs.declared.poll.Poll.{Poll}
 use Rattle.mono_time.specs.Instants.{nanos_of}
 use Rattle.mono_jobs.specs.declared.ends.End as job
-use Rattle.mono_rt.specs.JobActs.{noted_end}
-use Rattle.mono_rt.specs.Numbered.{end_of}
-use Rattle.mono_rt.specs.Record.{Record, noted}
-use Rattle.mono_rt.specs.Reached.{Reaches, unfilled}
+use Rattle.mono_parts.specs.JobActs.{noted_end}
+use Rattle.mono_parts.specs.Numbered.{end_of}
+use Rattle.mono_parts.specs.Record.{Record, noted}
+use Rattle.mono_rt.specs.Reached.{Reaches}
+use Rattle.mono_parts.specs.Leading.{unfilled}
 use Rattle.mono_rt.specs.declared.contexts.Cx.{Cx}
 use Rattle.mono_scripts.specs.Driven.{Place, Turned, with_step, stops_at, acted, awaited, is_pending, is_job_end, own_steps, own_replies, turn_of, with_handle}
 use Rattle.mono_script_task.specs.Turning.{Grew, HasKept, RunsLines, Fits, new_futures, new_task, place_of, stands_at}

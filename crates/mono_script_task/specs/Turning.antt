@@ -7,11 +7,11 @@ use Rattle.mono_machine.specs.declared.events.TurnStep.{TurnStep}
 use Rattle.mono_machine.specs.declared.events.Reply.{Reply}
 use Rattle.mono_machine.specs.Machine.{Machine}
 use Rattle.mono_jobs.specs.Spawning.{Seen}
-use Rattle.mono_rt.specs.Numbered.{end_of}
-use Rattle.mono_rt.specs.Stands.{hosting_of, Matches}
-use Rattle.mono_rt.specs.Record.{Record}
+use Rattle.mono_parts.specs.Numbered.{end_of}
+use Rattle.mono_parts.specs.Stands.{hosting_of, Matches}
+use Rattle.mono_parts.specs.Record.{Record}
 use Rattle.mono_rt.specs.declared.contexts.Cx.{Cx}
-use Rattle.mono_rt.specs.declared.parts.Parts.{Parts}
+use Rattle.mono_parts.specs.declared.parts.Parts.{Parts}
 use Rattle.mono_scripts.specs.declared.scripts.BodyLine.{BodyLine}
 use Rattle.mono_scripts.specs.Script.{Kind}
 use Rattle.mono_scripts.specs.Driven.{Place, place, Turned, turn_of, own_steps, own_replies}

@@ -1,12 +1,12 @@
 use Rattle.std.proofs.Common.{[], subst}
 use Rattle.mono_machine.specs.Machine.{Machine, start_machine}
 use Rattle.mono_jobs.specs.Spawning.{strategy_of}
-use Rattle.mono_rt.specs.Numbered.{answer_numbered}
-use Rattle.mono_rt.specs.Rounds.{Blocked}
-use Rattle.mono_rt.proofs.Going.{goes_of, run_of, registers_of}
-use Rattle.mono_rt.proofs.Doing.{relation_of}
-use Rattle.mono_rt.specs.Telling.{IsTold, telling}
-use Rattle.mono_rt.proofs.Telling.{told_in}
+use Rattle.mono_parts.specs.Numbered.{answer_numbered}
+use Rattle.mono_parts.specs.Rounds.{Blocked}
+use Rattle.mono_parts.proofs.Going.{goes_of, run_of, registers_of}
+use Rattle.mono_parts.proofs.Doing.{relation_of}
+use Rattle.mono_parts.specs.Telling.{IsTold, telling}
+use Rattle.mono_parts.proofs.Telling.{told_in}
 use Rattle.mono_rt.proofs.Filling.{one_long}
 use Rattle.mono_rt.proofs.alone.run_alone.Goals as goal
 

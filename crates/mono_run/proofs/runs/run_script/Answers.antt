@@ -1,11 +1,11 @@
 use Rattle.std.proofs.Common.{◌≡◌, ℕ, false, true, [], length, IfOk, refl, sym, ap, subst, ◌∙◌}
 use Rattle.mono_machine.specs.Machine.{Machine, start_machine}
 use Rattle.mono_machine.specs.declared.events.Blocking.TheVariants as strategy
-use Rattle.mono_rt.specs.Numbered.{answer_numbered}
-use Rattle.mono_rt.specs.Rounds.{Blocked}
-use Rattle.mono_rt.proofs.Doing.{relation_of}
-use Rattle.mono_rt.specs.Telling.{telling, IsTold}
-use Rattle.mono_rt.proofs.Telling.{told_in}
+use Rattle.mono_parts.specs.Numbered.{answer_numbered}
+use Rattle.mono_parts.specs.Rounds.{Blocked}
+use Rattle.mono_parts.proofs.Doing.{relation_of}
+use Rattle.mono_parts.specs.Telling.{telling, IsTold}
+use Rattle.mono_parts.proofs.Telling.{told_in}
 use Rattle.mono_script_task.specs.Driving.{readings_of, time_of, parks_of}
 use Rattle.mono_rt.specs.Polling.{PollsMain, OnMain}
 use Rattle.mono_rt.proofs.Polling.{on_main}

@@ -3,7 +3,7 @@ use Rattle.std.specs.Prelude.{Err}
 use Rattle.mono_time.specs.Instants.{nanos_of}
 use Rattle.mono_time.specs.Sleeps.{Added}
 use Rattle.mono_time.specs.Timers.{sleeps_of}
-use Rattle.mono_rt.specs.CallActs.{noted_sleep, lacks_sleep}
+use Rattle.mono_parts.specs.CallActs.{noted_sleep, lacks_sleep}
 use Rattle.mono_script_task.proofs.Calls.{sleep_made, sleep_refused}
 use Rattle.mono_script_task.proofs.tasks.add_sleep.Goals as goal
 

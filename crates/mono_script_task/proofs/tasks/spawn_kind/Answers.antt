@@ -1,5 +1,5 @@
 use Rattle.std.proofs.Common.{◌≡◌, ap, sym, ◌∙◌, Some, ◌++◌, ◌∷◌, []}
-use Rattle.mono_rt.specs.CallActs.{noted_spawn, lacks_spawn}
+use Rattle.mono_rt.specs.Spawns.{noted_spawn, lacks_spawn}
 use Rattle.mono_script_task.specs.Turning.{new_task, no_own}
 use Rattle.mono_script_task.proofs.Calls.{task_made, task_refused}
 use Rattle.mono_script_task.proofs.tasks.spawn_kind.Goals as goal

@@ -1,5 +1,5 @@
 use Rattle.std.proofs.Common.{ap, ◌∙◌}
-use Rattle.mono_rt.specs.CallActs.{noted_wake}
+use Rattle.mono_parts.specs.CallActs.{noted_wake}
 use Rattle.mono_script_task.proofs.Calls.{woke}
 use Rattle.mono_script_task.proofs.tasks.wake_self.Goals as goal
 

@@ -1,8 +1,8 @@
 use Rattle.std.proofs.Common.{true, refl, sym, subst}
-use Rattle.mono_rt.specs.Stands.{hosting_of}
-use Rattle.mono_rt.specs.Reached.{Leads}
+use Rattle.mono_parts.specs.Stands.{hosting_of}
+use Rattle.mono_parts.specs.Leading.{Leads}
 use Rattle.mono_rt.specs.Reached.{by_parts}
-use Rattle.mono_rt.proofs.Calling.{by_refusal, with_memory}
+use Rattle.mono_parts.proofs.Calling.{by_refusal, with_memory}
 use Rattle.mono_rt.proofs.contexts.Cx.spawn.Goals as goal
 
 pub returns-then-is_err-clause-reached : goal.returns-then-is_err-clause-reached

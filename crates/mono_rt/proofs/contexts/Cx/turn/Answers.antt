@@ -1,6 +1,7 @@
 use Rattle.std.proofs.Common.{sym, ◌∙◌, subst}
-use Rattle.mono_rt.specs.Turns.{BeginsParts}
-use Rattle.mono_rt.proofs.Turning.{turn_is, rests_after, begun_turn, same_has_timers}
+use Rattle.mono_parts.specs.Turns.{BeginsParts}
+use Rattle.mono_rt.proofs.Turning.{turn_is, rests_after, same_has_timers}
+use Rattle.mono_parts.proofs.Turning.{begun_turn}
 use Rattle.mono_rt.proofs.contexts.Cx.turn.Goals as goal
 
 pub returns-clause-turn : goal.returns-clause-turn

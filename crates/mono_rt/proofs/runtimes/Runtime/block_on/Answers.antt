@@ -1,11 +1,11 @@
-use Rattle.std.proofs.Common.{◌≡◌, Option, Some, None, ap, ◌∙◌, sym, Ok}
+use Rattle.std.proofs.Common.{◌≡◌, Option, Some, None, refl, ap, ◌∙◌, sym, Ok}
 use Rattle.std.specs.Prelude.{⊤}
 use Rattle.std.specs.Option.{option_map}
-use Rattle.mono_rt.proofs.Doing.{blocks_by, blocks_done, blocks_refused}
-use Rattle.mono_rt.specs.Telling.{going}
-use Rattle.mono_rt.proofs.Telling.{telling_on, telling_past, telling_more, capacity_ends}
+use Rattle.mono_parts.proofs.Doing.{blocks_by, blocks_done, blocks_refused}
+use Rattle.mono_parts.specs.Telling.{going}
+use Rattle.mono_parts.proofs.Telling.{telling_on, telling_past, telling_more, capacity_ends}
 use Rattle.std.proofs.Common.{Err, subst}
-use Rattle.mono_rt.specs.Journals.{Does}
+use Rattle.mono_parts.specs.Journals.{Does}
 use Rattle.mono_rt.specs.Polling.{Polling}
 use Rattle.mono_rt.proofs.Polling.{polls_on, polls_drop, polls_main, same_error, on_main, none_made}
 use Rattle.mono_rt.proofs.Filling.{fills_on, fills_not, fills_still}
@@ -31,7 +31,8 @@ returns-in-Err-answer-clause-blocked g c =
     let started = c.start_main.new.self in
     let ran = c.run-answer.new.self in
     let ended = c.end_main-output.new.self in
-    blocks_by number c.in-Err-answer.error old.cx.parts.has_timers started.cx.parts.has_timers c.in-Ok.main c.args.turns (option_map number c.end_main-output.result) old.cx.parts started.cx.parts ran.cx.parts ended.cx.parts old.journal started.journal ran.journal ended.journal
+    let last = c.end_main-output.new.journal in
+    blocks_by number c.in-Err-answer.error old.cx.parts.has_timers started.cx.parts.has_timers c.in-Ok.main c.args.turns (option_map number c.end_main-output.result) old.cx.parts started.cx.parts ran.cx.parts ended old.journal started.journal ran.journal last
     c.start_main.ensures.has_timers c.in-Ok.ensures.spawned (rw c.in-Err-answer.is at c.run-answer.ensures.ends) c.end_main-output.ensures.dropped
 
 pub returns-in-Some-clause-blocked : goal.returns-in-Some-clause-blocked
@@ -41,17 +42,18 @@ returns-in-Some-clause-blocked g c =
     let started = c.start_main.new.self in
     let ran = c.run-answer.new.self in
     let ended = c.end_main-output.new.self in
-    blocks_done number (number c.in-Some.output) old.cx.parts.has_timers started.cx.parts.has_timers c.in-Ok.main c.args.turns old.cx.parts started.cx.parts ran.cx.parts ended.cx.parts old.journal started.journal ran.journal ended.journal
+    let last = c.end_main-output.new.journal in
+    blocks_done number (number c.in-Some.output) old.cx.parts.has_timers started.cx.parts.has_timers c.in-Ok.main c.args.turns old.cx.parts started.cx.parts ran.cx.parts ended old.journal started.journal ran.journal last
     c.start_main.ensures.has_timers c.in-Ok.ensures.spawned (rw c.in-Ok-answer.is at c.run-answer.ensures.ends) (rw c.in-Some.is at c.end_main-output.ensures.dropped)
 
 pub returns-in-Err-clause-told : goal.returns-in-Err-clause-told
 returns-in-Err-clause-told g c = telling_more (λ x e. capacity_ends _ c.in-Err.error x c.in-Err.ensures.refused e) c.start_main.ensures.told
 
 pub returns-in-Err-answer-clause-told : goal.returns-in-Err-answer-clause-told
-returns-in-Err-answer-clause-told g c = telling_more (λ x e. e) (telling_past (telling_on {q = going} c.start_main.ensures.told (rw c.in-Err-answer.is at c.run-answer.ensures.told)) c.end_main-output.ensures.told)
+returns-in-Err-answer-clause-told g c = telling_more (λ x e. e) (telling_past (telling_on {q = going} c.start_main.ensures.told (rw c.in-Err-answer.is at c.run-answer.ensures.told)) (c.end_main-output.ensures.told _))
 
 pub returns-in-Some-clause-told : goal.returns-in-Some-clause-told
-returns-in-Some-clause-told g c = telling_past (telling_on {q = going} c.start_main.ensures.told (rw c.in-Ok-answer.is at c.run-answer.ensures.told)) c.end_main-output.ensures.told
+returns-in-Some-clause-told g c = telling_past (telling_on {q = going} c.start_main.ensures.told (rw c.in-Ok-answer.is at c.run-answer.ensures.told)) (c.end_main-output.ensures.told _)
 
 pub returns-in-Err-clause-full : goal.returns-in-Err-clause-full
 returns-in-Err-clause-full g c = fills_not g.O.Outcome.output_number g.F.TaskFuture c.args.self.now.cx c.args.self.now.journal c.start_main.new.self.journal c.start_main.ensures.full
@@ -62,7 +64,7 @@ returns-in-Err-answer-clause-full g c =
     let old = c.args.self.now in
     let started = c.start_main.new.self in
     let ran = c.run-answer.new.self in
-    fills_still number g.F.TaskFuture old.cx old.journal ran.journal c.end_main-output.new.self.journal
+    fills_still number g.F.TaskFuture old.cx old.journal ran.journal c.end_main-output.new.journal
     (fills_on number g.F.TaskFuture old.cx started.cx old.journal started.journal ran.journal c.start_main.ensures.goes (fills_not number g.F.TaskFuture old.cx old.journal started.journal c.start_main.ensures.full) c.run-answer.ensures.full)
     c.end_main-output.ensures.full
 
@@ -72,7 +74,7 @@ returns-in-Some-clause-full g c =
     let old = c.args.self.now in
     let started = c.start_main.new.self in
     let ran = c.run-answer.new.self in
-    fills_still number g.F.TaskFuture old.cx old.journal ran.journal c.end_main-output.new.self.journal
+    fills_still number g.F.TaskFuture old.cx old.journal ran.journal c.end_main-output.new.journal
     (fills_on number g.F.TaskFuture old.cx started.cx old.journal started.journal ran.journal c.start_main.ensures.goes (fills_not number g.F.TaskFuture old.cx old.journal started.journal c.start_main.ensures.full) c.run-answer.ensures.full)
     c.end_main-output.ensures.full
 
@@ -86,12 +88,13 @@ returns-in-Err-answer-clause-polled g c =
     let started = c.start_main.new.self in
     let ran = c.run-answer.new.self in
     let ended = c.end_main-output.new.self in
+    let last = c.end_main-output.new.journal in
     let h = old.cx.parts.has_timers in
     same_error ⊤ ⊤ c.in-Err-answer.error _ (on_main {X = ⊤} (Err c.in-Err-answer.error) _ _
-    (λ x. polls_main number g.F.TaskFuture h c.args.future c.in-Ok.main old.cx.futures.items started.cx.futures.items ended.cx.futures.items old.cx.parts started.cx.parts ended.cx.parts old.journal started.journal ended.journal c.in-Ok.ensures.made c.in-Ok.ensures.spawned
-    (polls_on number g.F.TaskFuture h started.cx.futures.items ran.cx.futures.items ended.cx.futures.items started.cx.parts ran.cx.parts ended.cx.parts started.journal ran.journal ended.journal
+    (λ x. polls_main number g.F.TaskFuture h c.args.future c.in-Ok.main old.cx.futures.items started.cx.futures.items ran.cx.futures.items old.cx.parts started.cx.parts ended old.journal started.journal last c.in-Ok.ensures.made c.in-Ok.ensures.spawned
+    (polls_on number g.F.TaskFuture h started.cx.futures.items ran.cx.futures.items ran.cx.futures.items started.cx.parts ran.cx.parts ended started.journal ran.journal last
     (subst (λ b. Does number (Polling number g.F.TaskFuture b started.cx.futures.items ran.cx.futures.items) started.cx.parts ran.cx.parts started.journal ran.journal) c.start_main.ensures.has_timers x)
-    (polls_drop number g.F.TaskFuture h ran.cx.futures.items ended.cx.futures.items c.in-Ok.main (option_map number c.end_main-output.result) ran.cx.parts ended.cx.parts ran.journal ended.journal (ap (λ v. v.items) c.end_main-output.ensures.futures) c.end_main-output.ensures.dropped)))
+    (polls_drop number g.F.TaskFuture h ran.cx.futures.items ran.cx.futures.items c.in-Ok.main (option_map number c.end_main-output.result) ran.cx.parts ended ran.journal last refl c.end_main-output.ensures.dropped)))
     (rw c.in-Err-answer.is at c.run-answer.ensures.polled))
 
 pub returns-in-Some-clause-polled : goal.returns-in-Some-clause-polled
@@ -101,8 +104,9 @@ returns-in-Some-clause-polled g c =
     let started = c.start_main.new.self in
     let ran = c.run-answer.new.self in
     let ended = c.end_main-output.new.self in
+    let last = c.end_main-output.new.journal in
     let h = old.cx.parts.has_timers in
-    polls_main number g.F.TaskFuture h c.args.future c.in-Ok.main old.cx.futures.items started.cx.futures.items ended.cx.futures.items old.cx.parts started.cx.parts ended.cx.parts old.journal started.journal ended.journal c.in-Ok.ensures.made c.in-Ok.ensures.spawned
-    (polls_on number g.F.TaskFuture h started.cx.futures.items ran.cx.futures.items ended.cx.futures.items started.cx.parts ran.cx.parts ended.cx.parts started.journal ran.journal ended.journal
+    polls_main number g.F.TaskFuture h c.args.future c.in-Ok.main old.cx.futures.items started.cx.futures.items ran.cx.futures.items old.cx.parts started.cx.parts ended old.journal started.journal last c.in-Ok.ensures.made c.in-Ok.ensures.spawned
+    (polls_on number g.F.TaskFuture h started.cx.futures.items ran.cx.futures.items ran.cx.futures.items started.cx.parts ran.cx.parts ended started.journal ran.journal last
     (subst (λ b. Does number (Polling number g.F.TaskFuture b started.cx.futures.items ran.cx.futures.items) started.cx.parts ran.cx.parts started.journal ran.journal) c.start_main.ensures.has_timers (rw c.in-Ok-answer.is at c.run-answer.ensures.polled))
-    (polls_drop number g.F.TaskFuture h ran.cx.futures.items ended.cx.futures.items c.in-Ok.main (option_map number c.end_main-output.result) ran.cx.parts ended.cx.parts ran.journal ended.journal (ap (λ v. v.items) c.end_main-output.ensures.futures) c.end_main-output.ensures.dropped))
+    (polls_drop number g.F.TaskFuture h ran.cx.futures.items ran.cx.futures.items c.in-Ok.main (option_map number c.end_main-output.result) ran.cx.parts ended ran.journal last refl c.end_main-output.ensures.dropped))

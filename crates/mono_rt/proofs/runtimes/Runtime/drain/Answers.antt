@@ -1,6 +1,6 @@
 use Rattle.std.proofs.Common.{refl, sym}
-use Rattle.mono_rt.proofs.Going.{goes_nowhere}
-use Rattle.mono_rt.proofs.Telling.{tells_nothing}
+use Rattle.mono_parts.proofs.Going.{goes_nowhere}
+use Rattle.mono_parts.proofs.Telling.{tells_nothing}
 use Rattle.mono_rt.proofs.runtimes.Runtime.drain.Goals as goal
 
 pub returns-in-Err-clause-goes : goal.returns-in-Err-clause-goes
@@ -8,3 +8,6 @@ returns-in-Err-clause-goes g c = goes_nowhere g.O.Outcome.output_number c.args.s
 
 pub returns-in-Err-clause-told : goal.returns-in-Err-clause-told
 returns-in-Err-clause-told g c = λ before after ends. tells_nothing (sym ends) refl refl refl
+
+pub returns-clause-told : goal.returns-clause-told
+returns-clause-told g c = λ before after ends. c.wake_taken.ensures.told _ before after ends

@@ -1,8 +1,8 @@
 use Rattle.std.proofs.Common.{arith, refl, inl, inr, ap, ◌∙◌}
-use Rattle.mono_rt.proofs.Going.{does_led}
-use Rattle.mono_rt.proofs.Doing.{pause_some, pause_none, no_queue}
-use Rattle.mono_rt.specs.Telling.{going, failed, after_wait}
-use Rattle.mono_rt.proofs.Telling.{tells_nothing, telling_on, telling_more, same_telling}
+use Rattle.mono_parts.proofs.Going.{does_led}
+use Rattle.mono_parts.proofs.Doing.{pause_some, pause_none, no_queue}
+use Rattle.mono_parts.specs.Telling.{going, failed, after_wait}
+use Rattle.mono_parts.proofs.Telling.{tells_nothing, telling_on, telling_more, same_telling}
 use Rattle.mono_rt.proofs.runtimes.Runtime.pause.Goals as goal
 
 pub returns-in-Ok-handed-clause-pauses : goal.returns-in-Ok-handed-clause-pauses

@@ -4,9 +4,9 @@ use Rattle.mono_task.specs.declared.error.SpawnTask.{SpawnTask}
 use Rattle.mono_machine.specs.Acts.{act_outcome}
 use Rattle.mono_machine.specs.declared.events.Act.TheVariants as act
 use Rattle.mono_machine.specs.declared.events.Reply.TheVariants as reply
-use Rattle.mono_rt.specs.Stands.{hosting_of, Matches}
-use Rattle.mono_rt.proofs.Calling.{had_room, with_all}
-use Rattle.mono_rt.proofs.Spawned.{spawn_stands, full_stands}
+use Rattle.mono_parts.specs.Stands.{hosting_of, Matches}
+use Rattle.mono_parts.proofs.Calling.{had_room, with_all}
+use Rattle.mono_parts.proofs.Spawned.{spawn_stands, full_stands}
 use Rattle.mono_rt.proofs.runtimes.Runtime.spawn.Goals as goal
 
 abbrev failed : SpawnTask → Result ℕ SpawnTask

@@ -1,55 +1,57 @@
-use Rattle.std.proofs.Common.{◌≡◌, true, false, ap, ◌∙◌, sym, subst, refl}
-use Rattle.mono_rt.specs.Journals.{Does}
-use Rattle.mono_rt.specs.Rounds.{Parks}
-use Rattle.mono_rt.proofs.Doing.{does_parks, does_clocked}
-use Rattle.mono_rt.specs.Rounds.{IsPark}
-use Rattle.mono_rt.proofs.Going.{goes_on, does_led}
-use Rattle.mono_rt.specs.Telling.{Telling, Still, after_park, after_wait}
-use Rattle.mono_rt.proofs.Telling.{telling_on, telling_more, drained_wait}
+use Rattle.std.proofs.Common.{◌≡◌, true, false, ◌∙◌, sym, subst, refl}
+use Rattle.mono_parts.specs.Journals.{Does}
+use Rattle.mono_parts.specs.Rounds.{Parks}
+use Rattle.mono_parts.proofs.Doing.{does_parks, does_clocked}
+use Rattle.mono_parts.specs.Rounds.{IsPark}
+use Rattle.mono_parts.proofs.Going.{goes_on, does_led}
+use Rattle.mono_parts.specs.Telling.{Telling, Still, after_park, after_wait}
+use Rattle.mono_parts.proofs.Telling.{telling_on, telling_more, drained_wait}
 use Rattle.mono_rt.proofs.runtimes.Runtime.wait.Goals as goal
 
 pub returns-else-self-clause-parks : goal.returns-else-self-clause-parks
 returns-else-self-clause-parks g c =
     let number = g.O.Outcome.output_number in
     let old = c.args.self.now in
-    let parked = c.park.new.self in
+    let parked = c.park.new.journal in
     let drained = c.drain.new.self in
-    let none : old.cx.parts.has_timers ≡ false = sym (c.drain.ensures.has_timers ∙ ap (λ x. x.parts.has_timers) c.park.ensures.same) ∙ c.if-self.false in
+    let none : old.cx.parts.has_timers ≡ false = sym c.drain.ensures.has_timers ∙ c.if-self.false in
     subst (λ h. Does number (Parks h) old.cx.parts drained.cx.parts old.journal drained.journal) (sym none)
-    (does_parks number old.cx.parts parked.cx.parts drained.cx.parts old.journal parked.journal drained.journal (subst (λ h. Does number (IsPark h) old.cx.parts parked.cx.parts old.journal parked.journal) none c.in-Ok.ensures.parked) c.in-Ok-drain.ensures.drained)
+    (does_parks number old.cx.parts old.cx.parts drained.cx.parts old.journal parked drained.journal (subst (λ h. Does number (IsPark h) old.cx.parts old.cx.parts old.journal parked) none c.in-Ok.ensures.parked) c.in-Ok-drain.ensures.drained)
 
 pub returns-in-Ok-clock_step-clause-parks : goal.returns-in-Ok-clock_step-clause-parks
 returns-in-Ok-clock_step-clause-parks g c =
     let number = g.O.Outcome.output_number in
     let old = c.args.self.now in
-    let parked = c.park.new.self in
+    let parked = c.park.new.journal in
     let drained = c.drain.new.self in
     let left = c.clock_step.new.self in
-    let timers : old.cx.parts.has_timers ≡ true = sym (c.drain.ensures.has_timers ∙ ap (λ x. x.parts.has_timers) c.park.ensures.same) ∙ c.if-self.true in
-    subst (λ h. Does number (Parks h) old.cx.parts left.cx.parts old.journal left.journal) (sym timers)
-    (does_clocked number old.cx.parts parked.cx.parts drained.cx.parts left.cx.parts old.journal parked.journal drained.journal left.journal
-    (subst (λ h. Does number (IsPark h) old.cx.parts parked.cx.parts old.journal parked.journal) timers c.in-Ok.ensures.parked) c.in-Ok-drain.ensures.drained c.in-Ok-clock_step.ensures.clocked)
+    let last = c.clock_step.new.journal in
+    let timers : old.cx.parts.has_timers ≡ true = sym c.drain.ensures.has_timers ∙ c.if-self.true in
+    subst (λ h. Does number (Parks h) old.cx.parts left old.journal last) (sym timers)
+    (does_clocked number old.cx.parts old.cx.parts drained.cx.parts left old.journal parked drained.journal last
+    (subst (λ h. Does number (IsPark h) old.cx.parts old.cx.parts old.journal parked) timers c.in-Ok.ensures.parked) c.in-Ok-drain.ensures.drained c.in-Ok-clock_step.ensures.clocked)
 
 pub returns-in-Err-clause-parks : goal.returns-in-Err-clause-parks
-returns-in-Err-clause-parks g c = does_led g.O.Outcome.output_number c.args.self.now.cx.parts c.park.new.self.cx.parts c.args.self.now.journal c.park.new.self.journal c.park.ensures.goes
+returns-in-Err-clause-parks g c = does_led g.O.Outcome.output_number c.args.self.now.cx.parts c.args.self.now.cx.parts c.args.self.now.journal c.park.new.journal c.park.ensures.goes
 
 pub returns-in-Err-drain-clause-parks : goal.returns-in-Err-drain-clause-parks
 returns-in-Err-drain-clause-parks g c =
     let number = g.O.Outcome.output_number in
     let old = c.args.self.now in
-    let parked = c.park.new.self in
+    let parked = c.park.new.journal in
     let drained = c.drain.new.self in
-    does_led number old.cx.parts drained.cx.parts old.journal drained.journal (goes_on number old.cx.parts parked.cx.parts drained.cx.parts old.journal parked.journal drained.journal c.park.ensures.goes c.drain.ensures.goes)
+    does_led number old.cx.parts drained.cx.parts old.journal drained.journal (goes_on number old.cx.parts old.cx.parts drained.cx.parts old.journal parked drained.journal c.park.ensures.goes c.drain.ensures.goes)
 
 pub returns-in-Err-clock_step-clause-parks : goal.returns-in-Err-clock_step-clause-parks
 returns-in-Err-clock_step-clause-parks g c =
     let number = g.O.Outcome.output_number in
     let old = c.args.self.now in
-    let parked = c.park.new.self in
+    let parked = c.park.new.journal in
     let drained = c.drain.new.self in
     let left = c.clock_step.new.self in
-    does_led number old.cx.parts left.cx.parts old.journal left.journal (goes_on number old.cx.parts drained.cx.parts left.cx.parts old.journal drained.journal left.journal
-    (goes_on number old.cx.parts parked.cx.parts drained.cx.parts old.journal parked.journal drained.journal c.park.ensures.goes c.drain.ensures.goes) c.clock_step.ensures.goes)
+    let last = c.clock_step.new.journal in
+    does_led number old.cx.parts left old.journal last (goes_on number old.cx.parts drained.cx.parts left old.journal drained.journal last
+    (goes_on number old.cx.parts old.cx.parts drained.cx.parts old.journal parked drained.journal c.park.ensures.goes c.drain.ensures.goes) c.clock_step.ensures.goes)
 
 pub returns-else-self-clause-told : goal.returns-else-self-clause-told
 returns-else-self-clause-told g c =

@@ -1,0 +1,12 @@
+pub mod Numbering
+pub mod Calling
+pub mod Turning
+pub mod Registering
+pub mod Going
+pub mod Telling
+pub mod Readings
+pub mod Draining
+pub mod Doing
+pub mod Waiting
+pub mod Spawned
+pub mod JobActs

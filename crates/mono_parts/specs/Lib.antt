@@ -1,0 +1,15 @@
+pub mod Numbered
+pub mod Record
+pub mod Roomy
+pub mod Stands
+pub mod Leading
+pub mod Turns
+pub mod Journals
+pub mod Telling
+pub mod Readings
+pub mod Blocked
+pub mod Drains
+pub mod Rounds
+pub mod Texts
+pub mod JobActs
+pub mod CallActs

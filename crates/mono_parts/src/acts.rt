@@ -1,0 +1,97 @@
+// The acts of the turn that runs, as they are kept for the journal.
+ghost use Rattle.std.specs.Prelude.{◌≡◌, true, false, IfOk, OnOk, IfSome, IfNone, vec_capacity};
+ghost use Rattle.mono_parts.specs.Record.{no_acts, no_record, noted};
+
+use mono_exec::{List, Reply, TurnStep};
+use std::alloc::{AllocError, Global};
+use std::marker::Model;
+
+/// So many acts of one turn are kept.
+const ROOM: usize = 512;
+
+/// The acts of the turn that runs, with their replies, up to 512. One more, and the record is full: nothing more is kept.
+/// Where no journal reads it, it is full from the start.
+#[derive(Drop)]
+pub struct Acts {
+    steps: Vec<TurnStep>,
+    replies: Vec<Reply>,
+    is_full: bool,
+}
+
+impl Model for Acts {
+    ghost use Rattle.std.specs.Prelude.{vec_capacity};
+    ghost use Rattle.mono_parts.specs.Record.{Record, HasRoom};
+
+    ghost Value = { Record };
+
+    ghost view = { λ a. record { steps = a.steps.items; replies = a.replies.items; is_full = a.is_full } };
+
+    ghost invariant = { λ a. HasRoom a.is_full a.steps.items a.replies.items (vec_capacity a.steps) (vec_capacity a.replies) };
+}
+
+impl Acts {
+    /// No act yet, with room for 512.
+    pub fn with_room(alloc: Global) -> Result<Acts, AllocError>
+        ensures { IfOk result (λ acts. acts ≡ no_acts) }
+    {
+        match Vec::with_capacity(alloc, ROOM) {
+            Err(error) => Err(error),
+            Ok(steps) => match Vec::with_capacity(alloc, ROOM) {
+                Err(error) => Err(error),
+                Ok(replies) => Ok(Acts {
+                    steps,
+                    replies,
+                    is_full: false,
+                }),
+            },
+        }
+    }
+
+    /// No act yet, with room for 512. Where nobody reads the record it stays as it is.
+    pub fn begin(&mut self, alloc: Global, is_unread: bool) -> Result<(), AllocError>
+        ensures { OnOk result (is_unread ≡ false → self.new ≡ no_acts) }
+    {
+        if !is_unread {
+            *self = Acts::with_room(alloc)?;
+        }
+        Ok(())
+    }
+
+    /// A record that keeps nothing.
+    pub fn keeping_none(alloc: Global) -> Acts
+        ensures { result ≡ no_record }
+    {
+        Acts {
+            steps: Vec::new(alloc),
+            replies: Vec::new(alloc),
+            is_full: true,
+        }
+    }
+
+    /// The acts and their replies, in as much memory as they need, or none where the record is full.
+    pub fn take(self) -> Option<(List<TurnStep>, List<Reply>)>
+        ensures some { IfSome result (λ lists. (self.is_full ≡ false) × (lists.0 ≡ self.steps) × (lists.1 ≡ self.replies)) }
+        ensures none { IfNone result (self.is_full ≡ true) }
+    {
+        if self.is_full {
+            return None;
+        }
+        let mut steps = self.steps;
+        let mut replies = self.replies;
+        steps.shrink_to_fit();
+        replies.shrink_to_fit();
+        Some((List::from(steps), List::from(replies)))
+    }
+
+    /// One more act. It takes no memory.
+    pub fn note(&mut self, step: TurnStep, reply: Reply)
+        ensures { self.new ≡ noted self.old step reply }
+    {
+        if self.is_full || self.steps.len() >= ROOM {
+            self.is_full = true;
+        } else {
+            self.steps.push_reserved(step);
+            self.replies.push_reserved(reply);
+        }
+    }
+}

@@ -1,0 +1,80 @@
+// What stands in the journal before a turn and after it.
+ghost use Rattle.std.specs.Prelude.{◌≡◌, ◌++◌, ◌∷◌, ◌||◌, [], false, IfSome};
+ghost use Rattle.mono_time.specs.Instants.{nanos_of};
+ghost use Rattle.mono_machine.specs.declared.events.Event.TheVariants as event;
+ghost use Rattle.mono_machine.specs.declared.events.Report.TheVariants as report;
+ghost use Rattle.mono_parts.specs.declared.journals.Entry.TheVariants.{Ran};
+ghost use Rattle.mono_parts.specs.Record.{no_acts};
+ghost use Rattle.mono_parts.specs.Journals.{Goes, Does, IsReading, ReadsAt, HasPlaces};
+ghost use Rattle.mono_parts.specs.Telling.{telling, going, Telling, Still};
+
+use crate::acts::Acts;
+use crate::journals::{Entry, Journal};
+use crate::parts::Parts;
+use mono_blocking::ThreadPool;
+use mono_driver::Driver;
+use mono_exec::{End, Ended};
+use mono_jobs::Blockings;
+use mono_joinword::Outcome;
+use mono_time::Instant;
+use std::alloc::Global;
+use std::mem;
+
+impl<O: Outcome + Drop, P: ThreadPool + Drop> Parts<O, Blockings<P>> {
+    /// The turn that ended is put into the journal, unless that is full.
+    pub fn keep_turn(
+        &mut self,
+        alloc: Global,
+        journal: &mut Journal,
+        task: u64,
+        end: End,
+        ended: Ended,
+    )
+        requires { HasPlaces journal.old 1 }
+        ensures kept { journal.new.is_full ≡ false → (journal.old.is_full ≡ false) × (self.old.acts.is_full ≡ false) × (journal.new.entries.items ≡ journal.old.entries.items ++ Ran (event.Turn self.old.acts.steps end) (report.Turn task self.old.acts.replies ended) ∷ []) }
+        ensures tasks { self.new.tasks ≡ self.old.tasks }
+        ensures timers { self.new.timers ≡ self.old.timers }
+        ensures has_timers { self.new.has_timers ≡ self.old.has_timers }
+        ensures blocking { self.new.blocking ≡ self.old.blocking }
+        ensures memory { self.new.is_out_of_memory ≡ self.old.is_out_of_memory }
+        ensures full { journal.new.is_full ≡ (journal.old.is_full || self.old.acts.is_full) }
+        ensures held { journal.new.entries.held ≡ journal.old.entries.held }
+    {
+        if !journal.is_full() {
+            let acts = mem::replace(&mut self.acts, Acts::keeping_none(alloc));
+            journal.push_turn(task, acts, end, ended);
+        }
+    }
+
+    /// Room for a turn, and the reading of the clock, which stands in the journal.
+    pub fn open_turn<D: Driver>(
+        &mut self,
+        alloc: Global,
+        driver: &mut D,
+        journal: &mut Journal,
+    ) -> Option<Instant>
+        ensures acts { IfSome result (λ now. journal.old.is_full ≡ false → self.new.acts ≡ no_acts) }
+        ensures place { IfSome result (λ x. HasPlaces journal.new 1) }
+        ensures reading { IfSome result (λ x. Does O.output_number IsReading self.old self.new journal.old journal.new) }
+        ensures at { IfSome result (λ x. Does O.output_number (ReadsAt (nanos_of x)) self.old self.new journal.old journal.new) }
+        ensures goes { Goes O.output_number self.old self.new journal.old journal.new }
+        ensures same { self.new ≡ record self.old { acts = self.new.acts } }
+        ensures tasks { self.new.tasks ≡ self.old.tasks }
+        ensures has_timers { self.new.has_timers ≡ self.old.has_timers }
+        ensures told { Telling (Still going) (telling (D.readings driver.old) (D.time driver.old) (D.parks driver.old)) going journal.old journal.new (telling (D.readings driver.new) (D.time driver.new) (D.parks driver.new)) }
+        ensures full { journal.new.is_full ≡ journal.old.is_full }
+        ensures held { journal.new.entries.held ≡ journal.old.entries.held }
+    {
+        match journal.reserve(2) {
+            Err(_) => None,
+            Ok(()) => match self.acts.begin(alloc, journal.is_full()) {
+                Err(_) => None,
+                Ok(()) => {
+                    let now = driver.now();
+                    journal.push(Entry::Now(now.as_nanos()));
+                    Some(now)
+                }
+            },
+        }
+    }
+}
