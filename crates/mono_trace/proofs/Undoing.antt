@@ -1,5 +1,5 @@
 -- A change that is taken back is as if it had not been made.
-use Rattle.std.proofs.Common.{◌≡◌, ℕ, ◌+◌, ◌-◌, ◌≤◌, zero, suc, List, [], ◌∷◌, ◌++◌, length, take, set, Some, None, Option, refl, ap, sym, ◌∙◌, arith}
+use Rattle.std.proofs.Common.{◌≡◌, ℕ, ◌+◌, ◌-◌, ◌<◌, ◌≤◌, zero, suc, List, [], ◌∷◌, ◌++◌, length, take, set, Some, None, Option, refl, ap, sym, ◌∙◌, arith}
 use Rattle.std.proofs.lemmas.List.{set-set, set-get_or, set_past, take_at, length_push}
 use Rattle.mono_model.specs.Table.{value_at, count_of}
 use Rattle.mono_model.proofs.Counts.{counted, counted-count_of}
@@ -10,14 +10,14 @@ use Rattle.mono_trace.specs.Queues.{without_move, unmoved}
 use Rattle.mono_trace.specs.declared.queues.Move.{Move}
 use Rattle.mono_trace.specs.declared.queues.Move.TheVariants.{Put, Took}
 
-none-some : {V : Type 0} (x : V) → None ≡ Some x → ⊥
+pub none-some : {V : Type 0} (x : V) → None ≡ Some x → ⊥
 none-some x e = cc
 
 pub undone_last : {V : Type 0} (changes : List (Change V)) (c : Change V) (places : List (Option V)) → undone (changes ++ c ∷ []) places ≡ undone changes (without_change c places)
 undone_last [] c places = refl
 undone_last (x ∷ changes) c places = ap (without_change x) (undone_last changes c places)
 
-all_but_last : {X : Type 0} (xs : List X) (x : X) → take (length (xs ++ x ∷ []) - 1) (xs ++ x ∷ []) ≡ xs
+pub all_but_last : {X : Type 0} (xs : List X) (x : X) → take (length (xs ++ x ∷ []) - 1) (xs ++ x ∷ []) ≡ xs
 all_but_last xs x = take_at xs (x ∷ []) (length (xs ++ x ∷ []) - 1) (omega (arith, length_push xs x))
 
 set_back : {V : Type 0} (places : List (Option V)) (n : ℕ) (v : V) (w : Option V) → value_at places n ≡ Some v → set (set places n w) n (Some v) ≡ places
@@ -43,6 +43,9 @@ gone (Some x ∷ places) (suc n) old is = omega (arith, gone places n old is)
 pub one_less : {V : Type 0} (places : List (Option V)) (n live : ℕ) (old : V) → value_at places n ≡ Some old → live ≡ count_of places → live - 1 ≡ count_of (set places n None)
 one_less places n live old is counts =
     omega (arith, counts, gone places n old is, counted-count_of places, counted-count_of (set places n None))
+
+pub one_there : {V : Type 0} (places : List (Option V)) (n live : ℕ) (old : V) → value_at places n ≡ Some old → live ≡ count_of places → 0 < live
+one_there places n live old is counts = omega (arith, counts, gone places n old is, counted-count_of places)
 
 pub unmoved_last : (moves : List Move) (m : Move) (queue : List ℕ) → unmoved (moves ++ m ∷ []) queue ≡ unmoved moves (without_move m queue)
 unmoved_last [] m queue = refl

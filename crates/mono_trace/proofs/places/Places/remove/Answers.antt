@@ -1,7 +1,14 @@
-use Rattle.std.proofs.Common.{None, ap, sym, ◌∙◌}
+use Rattle.std.proofs.Common.{arith, None, ap, sym, ◌∙◌}
 use Rattle.mono_model.specs.Table.{value_at}
-use Rattle.mono_trace.proofs.Placing.{written, removed_counts}
+use Rattle.mono_trace.proofs.Undoing.{one_there}
+use Rattle.mono_trace.proofs.Placing.{given, written, removed_counts}
 use Rattle.mono_trace.proofs.places.Places.remove.Goals as goal
+
+pub index_mut-requires : goal.index_mut-requires
+index_mut-requires g c = rw c.self.inside.items.ok.0 (given c.self.inside.items.items c.args.number c.in-Some.old (ap (λ m. value_at m.now c.args.number) c.self.view_is ∙ sym c.in-Some.ensures))
+
+pub overflow_sub-self : goal.overflow_sub-self
+overflow_sub-self g c = omega (arith, one_there c.self.inside.items.items c.args.number c.self.inside.live c.in-Some.old (ap (λ m. value_at m.now c.args.number) c.self.view_is ∙ sym c.in-Some.ensures) c.self.invariant.0)
 
 pub invariant_of-self-in-Some : goal.invariant_of-self-in-Some
 invariant_of-self-in-Some g c =
