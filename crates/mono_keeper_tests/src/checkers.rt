@@ -238,7 +238,7 @@ fn jobs_and_the_inbox(rt: HostRuntime) {
     assert!(rt; takes_each(rt.alloc(), &mut trace));
 }
 
-// Moves, a clock step before them and one at them, and a drain.
+// Moves, a clock step before them and one at them, a drain, and a job, which is made under one strategy alone.
 fn moves(alloc: Global) -> Vec<Event> {
     let mut events = Vec::new(alloc);
     let _ = events.push(Event::Act(Act::Spawn));
@@ -246,12 +246,13 @@ fn moves(alloc: Global) -> Vec<Event> {
     let _ = events.push(Event::Clock(7999999));
     let _ = events.push(Event::Clock(8000000));
     let _ = events.push(Event::Drain);
+    let _ = events.push(Event::Act(Act::Block(3)));
     events
 }
 
-// The verdict on what the executor answers to five events; none where there are more or fewer.
+// The verdict on what the executor answers to six events; none where there are more or fewer.
 fn replayed(alloc: Global, events: &Vec<Event>) -> Option<Verdict> {
-    if events.len() != 5 {
+    if events.len() != 6 {
         return None;
     }
     checked_replay(alloc, LIMITS, Blocking::Attached, events).ok()
