@@ -24,6 +24,14 @@ const HELP: &str = "usage: mono_bench WORKLOAD|all N [timed RUNS]
   WORKLOAD: insert_fire, insert_cancel, reset_later, short_ticks, far_jump, next_expiration
   N: how many keys; the best of RUNS runs is printed in nanoseconds a key where it is asked for";
 
+// How many keys, how often, and whether the times are printed.
+#[derive(Clone, Copy)]
+struct Asked {
+    count: usize,
+    runs: u64,
+    is_timed: bool,
+}
+
 fn one<R: Clock, L: Ledger>(
     rt: &R,
     alloc: Global,
@@ -71,76 +79,116 @@ fn print_sums(rt: &HostRuntime, work: Work, count: usize, outcome: Outcome) -> i
     )
 }
 
-// Runs one workload so often, and prints its sums and, where they are asked for, the best times.
-fn measure(
+// Runs a workload so often, each on a new wheel, and keeps the laps of the best run. What the last gave.
+fn best_of(
     rt: &HostRuntime,
     work: Work,
-    count: usize,
+    ticks: &[u64],
     runs: u64,
-    is_timed: bool,
-) -> io::Result<()> {
-    let alloc = rt.alloc();
-    let ticks = ticks(alloc, work, count)?;
-    let mut watch = Watch::new(alloc, is_timed);
-    let mut best: Vec<u64> = Vec::new(alloc);
-    let mut outcome = run_once(rt, work, ticks.as_slice(), &mut watch)?;
+    watch: &mut Watch,
+    best: &mut Vec<u64>,
+) -> io::Result<Outcome> {
+    let mut outcome = run_once(rt, work, ticks, watch)?;
     best.extend_from_slice(watch.laps())?;
     for _ in 1..runs {
-        outcome = run_once(rt, work, ticks.as_slice(), &mut watch)?;
+        outcome = run_once(rt, work, ticks, watch)?;
         if total(watch.laps()) < total(best.as_slice()) {
             best.clear();
             best.extend_from_slice(watch.laps())?;
         }
     }
-    print_sums(rt, work, count, outcome)?;
-    if is_timed {
-        print!(rt; " ns")?;
-        print_rate(rt, total(best.as_slice()), count)?;
-        print!(rt; " phases")?;
-        for lap in &best {
-            print_rate(rt, *lap, count)?;
-        }
+    Ok(outcome)
+}
+
+// The time of all phases, and that of each.
+fn print_times(rt: &HostRuntime, laps: &[u64], count: usize) -> io::Result<()> {
+    print!(rt; " ns")?;
+    print_rate(rt, total(laps), count)?;
+    print!(rt; " phases")?;
+    for lap in laps {
+        print_rate(rt, *lap, count)?;
+    }
+    Ok(())
+}
+
+// Runs one workload over these ticks so often, and prints its sums and, where they are asked for, the best times.
+fn measure_over(
+    rt: &HostRuntime,
+    asked: Asked,
+    work: Work,
+    ticks: &[u64],
+    watch: &mut Watch,
+    best: &mut Vec<u64>,
+) -> io::Result<()> {
+    let outcome = best_of(rt, work, ticks, asked.runs, watch, best)?;
+    print_sums(rt, work, asked.count, outcome)?;
+    if asked.is_timed {
+        print_times(rt, best.as_slice(), asked.count)?;
     }
     println!(rt; "")
 }
 
-// The workloads of a word.
-fn chosen(alloc: Global, word: &str) -> io::Result<Vec<Work>> {
-    let mut works = Vec::new(alloc);
-    for work in WORKS {
-        if word == "all" || word == work.name() {
-            works.push(work)?;
-        }
-    }
-    Ok(works)
+// The same over the ticks of the workload.
+fn measure(rt: &HostRuntime, asked: Asked, work: Work) -> io::Result<()> {
+    let alloc = rt.alloc();
+    let ticks = ticks(alloc, work, asked.count)?;
+    let mut watch = Watch::new(alloc, asked.is_timed);
+    let mut best: Vec<u64> = Vec::new(alloc);
+    measure_over(rt, asked, work, ticks.as_slice(), &mut watch, &mut best)
 }
 
-fn run_words(rt: &HostRuntime, words: &Vec<String>) -> io::Result<bool> {
-    let (name, count, runs, is_timed) = match words.as_slice() {
-        [name, count] => (name, count.parse::<usize>(), Ok(1), false),
-        [name, count, word, runs] if word.as_str() == "timed" => (
-            name,
-            count.parse::<usize>(),
-            runs.parse::<u64>(),
-            true,
-        ),
-        _ => return Ok(false),
-    };
-    let (Ok(count), Ok(runs)) = (count, runs) else {
-        return Ok(false);
-    };
-    let works = chosen(rt.alloc(), name.as_str())?;
-    for work in &works {
-        measure(rt, *work, count, runs, is_timed)?;
+// The workloads of a word, one after the other. Whether there is one.
+fn measure_all(rt: &HostRuntime, asked: Asked, word: &str) -> io::Result<bool> {
+    let mut is_any = false;
+    for work in WORKS {
+        if word == "all" || word == work.name() {
+            measure(rt, asked, work)?;
+            is_any = true;
+        }
     }
-    Ok(works.len() > 0)
+    Ok(is_any)
+}
+
+// What the words behind the program's name say.
+fn said(words: &[String]) -> Option<(&str, Asked)> {
+    let (name, count, runs, is_timed) = match words {
+        [_, name, count] => (name, count, Ok(1), false),
+        [_, name, count, word, runs] if word.as_str() == "timed" => {
+            (name, count, runs.parse::<u64>(), true)
+        }
+        _ => return None,
+    };
+    match (count.parse::<usize>(), runs) {
+        (Ok(count), Ok(runs)) => Some((
+            name.as_str(),
+            Asked {
+                count,
+                runs,
+                is_timed,
+            },
+        )),
+        _ => None,
+    }
+}
+
+// Whether the words say a workload, which is then run.
+fn run_words(rt: &HostRuntime, words: &[String]) -> io::Result<bool> {
+    match said(words) {
+        Some((word, asked)) => measure_all(rt, asked, word),
+        None => Ok(false),
+    }
+}
+
+fn helped(rt: &HostRuntime) -> io::Result<ExitCode> {
+    println!(rt; "{HELP}")?;
+    Ok(ExitCode::from(2))
 }
 
 fn main(rt: HostRuntime) -> io::Result<ExitCode> {
-    let words: Vec<String> = env::args(&rt)?.skip(1).collect(rt.alloc())?;
-    if run_words(&rt, &words)? {
-        return Ok(ExitCode::SUCCESS);
+    let words: Vec<String> = env::args(&rt)?.collect(rt.alloc())?;
+    match run_words(&rt, words.as_slice()) {
+        Ok(true) => Ok(ExitCode::SUCCESS),
+        Ok(false) => helped(&rt),
+        Err(error) => Err(error),
     }
-    println!(rt; "{HELP}")?;
-    Ok(ExitCode::from(2))
 }

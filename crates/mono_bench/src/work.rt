@@ -48,19 +48,6 @@ impl Work {
             Work::NextExpiration => "next_expiration",
         }
     }
-
-    /// The workload of a word.
-    pub fn named(word: &str) -> Option<Work> {
-        match word {
-            "insert_fire" => Some(Work::InsertFire),
-            "insert_cancel" => Some(Work::InsertCancel),
-            "reset_later" => Some(Work::KeepAlive),
-            "short_ticks" => Some(Work::ShortTicks),
-            "far_jump" => Some(Work::FarJump),
-            "next_expiration" => Some(Work::NextExpiration),
-            _ => None,
-        }
-    }
 }
 
 /// What a run gives: how many keys fired, a sum over them in their order, and a sum over the next
@@ -222,6 +209,32 @@ fn fire_all<L: Ledger>(table: &mut Table<L>, work: Work, base: usize, outcome: &
     }
 }
 
+// What is done with the keys of these ticks, which are in.
+fn run_keys<R: Clock, L: Ledger>(
+    rt: &R,
+    table: &mut Table<L>,
+    work: Work,
+    keys: &[usize],
+    ticks: &[u64],
+    watch: &mut Watch,
+    outcome: &mut Outcome,
+) -> io::Result<()> {
+    let base = keys.first().copied().unwrap_or(0);
+    if let Work::KeepAlive = work {
+        reset_all(rt, table, keys, ticks, base, watch, outcome)?;
+    } else {
+        watch.lap(rt)?;
+    }
+    if let Work::InsertCancel = work {
+        for key in keys {
+            table.cancel(*key);
+        }
+        watch.lap(rt)?;
+    }
+    fire_all(table, work, base, outcome);
+    watch.lap(rt)
+}
+
 /// Runs a workload over these ticks on a new wheel, and notes the time of each phase.
 pub fn run<R: Clock, L: Ledger>(
     rt: &R,
@@ -240,22 +253,9 @@ pub fn run<R: Clock, L: Ledger>(
     if let Work::NextExpiration = work {
         ask_next(alloc, table, ticks, &mut outcome)?;
         watch.lap(rt)?;
-        return Ok(outcome);
-    }
-    let keys = insert_all(alloc, table, ticks)?;
-    let base = keys.first().copied().unwrap_or(0);
-    if let Work::KeepAlive = work {
-        reset_all(rt, table, keys.as_slice(), ticks, base, watch, &mut outcome)?;
     } else {
-        watch.lap(rt)?;
+        let keys = insert_all(alloc, table, ticks)?;
+        run_keys(rt, table, work, keys.as_slice(), ticks, watch, &mut outcome)?;
     }
-    if let Work::InsertCancel = work {
-        for key in &keys {
-            table.cancel(*key);
-        }
-        watch.lap(rt)?;
-    }
-    fire_all(table, work, base, &mut outcome);
-    watch.lap(rt)?;
     Ok(outcome)
 }

@@ -29,17 +29,16 @@ fn burst(actors: &mut Actors<u64>, me: u64, messages: u64) -> Option<()> {
     Some(())
 }
 
-// A ring of so many actors, the first of which has the message.
-fn ring(alloc: Global, count: u64, messages: u64) -> Option<Actors<u64>> {
-    let mut actors = Actors::new(alloc, count, messages.max(1)).ok()?;
+// All actors are made, each gets its messages at once, and the first has the message that goes round.
+fn begin_all(alloc: Global, actors: &mut Actors<u64>, count: u64, messages: u64) -> Option<()> {
     for _ in 0..count {
         actors.spawn(alloc).ok()?;
     }
     for me in 0..count {
-        burst(&mut actors, me, messages)?;
+        burst(actors, me, messages)?;
     }
     actors.send(0, 0, 0).ok()?;
-    Some(actors)
+    Some(())
 }
 
 // One turn: the message goes on to the next actor. What it adds to the sum.
@@ -62,37 +61,67 @@ fn hand_on(actors: &mut Actors<u64>, count: u64) -> Option<u64> {
     Some(message ^ me)
 }
 
-fn hand_round(alloc: Global, count: u64, turns: u64, messages: u64) -> Option<u64> {
-    let mut actors = ring(alloc, count, messages)?;
+// All turns, after the actors are made. The sum.
+fn sum_of(
+    alloc: Global,
+    actors: &mut Actors<u64>,
+    count: u64,
+    turns: u64,
+    messages: u64,
+) -> Option<u64> {
+    begin_all(alloc, actors, count, messages)?;
     let mut sum = 0u64;
     for _ in 0..turns {
-        sum = sum.wrapping_add(hand_on(&mut actors, count)?);
+        sum = sum.wrapping_add(hand_on(actors, count)?);
     }
     Some(sum)
 }
 
-fn run_words(rt: &HostRuntime, words: &Vec<String>) -> io::Result<bool> {
-    let [count, turns, messages] = words.as_slice() else {
-        return Ok(false);
-    };
-    let (Ok(count), Ok(turns)) = (count.parse::<u64>(), turns.parse::<u64>()) else {
-        return Ok(false);
-    };
-    let Ok(messages) = messages.parse::<u64>() else {
-        return Ok(false);
-    };
-    match hand_round(rt.alloc(), count, turns, messages) {
-        None => println!(rt; "no ring of {count} actors")?,
-        Some(sum) => println!(rt; "{count} actors {turns} turns sum {sum}")?,
+// The same of a new ring.
+fn hand_round(alloc: Global, count: u64, turns: u64, messages: u64) -> Option<u64> {
+    match Actors::new(alloc, count, messages.max(1)) {
+        Ok(mut actors) => sum_of(alloc, &mut actors, count, turns, messages),
+        Err(_) => None,
     }
-    Ok(true)
+}
+
+// The numbers of the words behind the program's name: how many actors, turns and messages.
+fn asked(words: &[String]) -> Option<(u64, u64, u64)> {
+    let [_, count, turns, messages] = words else {
+        return None;
+    };
+    match (
+        count.parse::<u64>(),
+        turns.parse::<u64>(),
+        messages.parse::<u64>(),
+    ) {
+        (Ok(count), Ok(turns), Ok(messages)) => Some((count, turns, messages)),
+        _ => None,
+    }
+}
+
+fn told(rt: &HostRuntime, count: u64, turns: u64, sum: Option<u64>) -> io::Result<()> {
+    match sum {
+        None => println!(rt; "no ring of {count} actors"),
+        Some(sum) => println!(rt; "{count} actors {turns} turns sum {sum}"),
+    }
+}
+
+fn run_words(rt: &HostRuntime, words: &[String]) -> io::Result<ExitCode> {
+    match asked(words) {
+        Some((count, turns, messages)) => {
+            let sum = hand_round(rt.alloc(), count, turns, messages);
+            told(rt, count, turns, sum)?;
+            Ok(ExitCode::SUCCESS)
+        }
+        None => {
+            println!(rt; "{HELP}")?;
+            Ok(ExitCode::from(2))
+        }
+    }
 }
 
 fn main(rt: HostRuntime) -> io::Result<ExitCode> {
-    let words: Vec<String> = env::args(&rt)?.skip(1).collect(rt.alloc())?;
-    if run_words(&rt, &words)? {
-        return Ok(ExitCode::SUCCESS);
-    }
-    println!(rt; "{HELP}")?;
-    Ok(ExitCode::from(2))
+    let words: Vec<String> = env::args(&rt)?.collect(rt.alloc())?;
+    run_words(&rt, words.as_slice())
 }
