@@ -1,11 +1,11 @@
 -- Tasks right behind the last are made known, in the child in which the next number comes.
-use Rattle.std.proofs.Common.{◌≡◌, ◌≢◌, ◌<◌, ◌≤◌, inl, inr, ℕ, ◌+◌, ◌-◌, ◌*◌, ◌/◌, ◌%◌, zero, suc, Bool, true, false, List, [], ◌∷◌, ◌++◌, length, map, get_or, refl, ap, sym, ◌∙◌, arith}
-use Rattle.std.specs.Prelude.{slice_set, slice_index_or, replicate, nat_lt, ◌||◌}
+use Rattle.std.proofs.Common.{◌≡◌, ◌≢◌, ◌<◌, ◌≤◌, inl, inr, ℕ, ◌+◌, ◌-◌, ◌*◌, ◌/◌, ◌%◌, zero, suc, false, List, [], ◌∷◌, ◌++◌, length, map, get_or, refl, ap, sym, ◌∙◌, arith}
+use Rattle.std.specs.Prelude.{slice_set, slice_index_or, replicate, ◌||◌}
 use Rattle.std.proofs.lemmas.Bool.{cases_eq, cases_lt}
 use Rattle.std.proofs.lemmas.List.{ext_get_or, get_or_past, get_or-set_same, get_or-set_other, length-append, length-replicate, get_or_append_left, get_or-append_right, get_or-replicate}
-use Rattle.std.proofs.lemmas.Nat.{div-add-mod', mod_below}
+use Rattle.std.proofs.lemmas.Nat.{div-add-mod'}
 use Rattle.std.proofs.Math.Nat.{mul-le-mul_left}
-use Rattle.mono_model.specs.Valid.{times, once_if}
+use Rattle.mono_model.specs.Valid.{once_if}
 use Rattle.mono_inbox.specs.declared.standings.Standing.{Standing}
 use Rattle.mono_inbox.specs.declared.standings.Standing.TheVariants.{Unknown, Known}
 use Rattle.mono_inbox.specs.Standings.{knows, waits, has_place, standing_at, count_where}
@@ -48,7 +48,7 @@ count_waits-row [] n = count-waits n
 count_waits-row (x ∷ xs) n = omega (arith, count_waits-row xs n)
 
 -- a number right behind another lies in the same child, as far as that goes
-same_child : (size len n i : ℕ) → 0 < size → len % size + n ≤ size → len ≤ i → i < len + n → i / size ≡ len / size
+pub same_child : (size len n i : ℕ) → 0 < size → len % size + n ≤ size → len ≤ i → i < len + n → i / size ≡ len / size
 same_child size len n i some fits from below = elim (cases_lt (len / size) (i / size)) [
   | inl more ↦ absurd (omega (arith, below, fits, div-add-mod' i size, div-add-mod' len size, mul-le-mul_left size (above more)))
   | inr fine ↦ omega (arith, fine, div_up len i size some from)
@@ -58,10 +58,10 @@ same_child size len n i some fits from below = elim (cases_lt (len / size) (i / 
     above more = omega (arith, more)
 
 -- and its place in it
-place_is : (size q t : ℕ) → q / size ≡ t / size → t ≤ q → q % size ≡ t % size + (q - t)
+pub place_is : (size q t : ℕ) → q / size ≡ t / size → t ≤ q → q % size ≡ t % size + (q - t)
 place_is size q t same from = omega (arith, from, div-add-mod' q size, div-add-mod' t size, ap (λ x. x * size) same)
 
-place_before : (size q t : ℕ) → q / size ≡ t / size → q < t → q % size < t % size
+pub place_before : (size q t : ℕ) → q / size ≡ t / size → q < t → q % size < t % size
 place_before size q t same before = omega (arith, before, div-add-mod' q size, div-add-mod' t size, ap (λ x. x * size) same)
 
 module _ (size : ℕ) (some : 0 < size) (children : List (List Standing)) (len : ℕ) (laid : IsLaid size children len)

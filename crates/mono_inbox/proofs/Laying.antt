@@ -76,7 +76,7 @@ left-standing true c k = elim (cases_eq (count_where has_place c) 0) [
   | inr more ↦ rw (ne_eqb (count_where has_place c) 0 more) refl
 ]
 
-left_empty : (c : List Standing) → count_where has_place (left_of true c) ≡ 0 → left_of true c ≡ []
+pub left_empty : (c : List Standing) → count_where has_place (left_of true c) ≡ 0 → left_of true c ≡ []
 left_empty c none = elim (cases_eq (count_where has_place c) 0) [
   | inl empty ↦ rw (eq-eqb (count_where has_place c) 0 empty) refl
   | inr more ↦ absurd (more (sym (ap (count_where has_place) (kept more)) ∙ none))
@@ -299,7 +299,7 @@ module _ (size : ℕ) (some : 0 < size) (children : List (List Standing)) (len :
 
   -- A task that has a place stands otherwise.
   module _ (t : ℕ) (has : has_place (standing_at (laid_standings size children len) t) ≡ true) where
-    given : t < len
+    pub given : t < len
     given = omega (arith, has_entry (laid_standings size children len) t has, length-standings_of (look_in size children) len)
 
     pub placed_in_child : has_place (standing_at (child_at children (t / size)) (t % size)) ≡ true

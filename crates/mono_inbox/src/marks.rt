@@ -1,6 +1,6 @@
 // The directory: the parts of all tasks, and so how each task stands.
 ghost use Rattle.std.specs.Prelude.{◌≡◌, ◌<◌, ◌≤◌, ◌^◌, ◌++◌, ℕ, true, [], length, replicate, OnOk, OnErr, slice_set};
-ghost use Rattle.mono_inbox.specs.Standings.{has_place, standing_at};
+ghost use Rattle.mono_inbox.specs.Standings.{has_place, standing_at, AreKnown, without_row};
 ghost use Rattle.mono_inbox.specs.Pages.{with_mark, child_at, closed_before};
 
 use crate::parts::{PART, Part, greater_of, lesser_of};
@@ -122,6 +122,22 @@ impl Marks {
         let at = task / PART;
         let is_closed = at < self.len / PART;
         self.parts[at].change(task % PART, standing, is_closed);
+    }
+
+    /// The tasks in a row from this one on, in its page, that are known and do not wait, so many at most, are unknown. Answers
+    /// how many. It gives back memory as `change` does.
+    #[inline(always)]
+    pub(crate) fn forget(&mut self, task: u64, count: usize) -> usize
+        requires { has_place (standing_at self.old task) ≡ true }
+        ensures most { result ≤ count }
+        ensures known { AreKnown self.old task result }
+        ensures after { self.new ≡ without_row self.old task result }
+    {
+        let task = task as usize;
+        let at = task / PART;
+        let most = lesser_of(count, PART - task % PART);
+        let begun = self.len / PART;
+        self.parts[at].forget(task % PART, most, at < begun)
     }
 }
 

@@ -1,9 +1,9 @@
 // A page: the standings of as many tasks in a row, in one piece of memory.
 ghost use Rattle.std.specs.Prelude.{◌≡◌, ◌+◌, ◌<◌, ◌≤◌, ◌++◌, ◌∷◌, true, [], OnOk, OnErr, length, replicate, slice_set, vec_len, vec_capacity};
-ghost use Rattle.mono_inbox.specs.Standings.{has_place, standing_at, count_where};
+ghost use Rattle.mono_inbox.specs.Standings.{has_place, standing_at, count_where, AreKnown, without_row};
 ghost use Rattle.mono_inbox.specs.Pages.{grown, with_mark, left_of};
 
-use crate::standings::{Standing, places_of};
+use crate::standings::{Standing, is_idle, places_of};
 use std::alloc::{AllocError, Global};
 use std::marker::Model;
 
@@ -100,9 +100,21 @@ impl Page {
         ensures { self.new ≡ left_of is_closed (slice_set self.old at standing) }
     {
         self.write(at, standing);
-        if is_closed {
-            self.close();
-        }
+        self.leave(is_closed);
+    }
+
+    /// The tasks in a row from this place on that are known and do not wait, so many at most, are unknown. Answers how many.
+    /// Where the page is closed and none of its tasks has a place any more, its memory is given back.
+    #[inline(always)]
+    pub(crate) fn forget(&mut self, at: usize, count: usize, is_closed: bool) -> usize
+        requires { at < 4096 }
+        ensures most { result ≤ count }
+        ensures known { AreKnown self.old at result }
+        ensures after { self.new ≡ left_of is_closed (without_row self.old at result) }
+    {
+        let row = self.write_row(at, count);
+        self.leave(is_closed);
+        row
     }
 
     /// No number of it comes any more: where no task of it has a place, its memory is given back.
@@ -112,6 +124,29 @@ impl Page {
         if self.placed == 0 {
             give_back(&mut self.standings);
         }
+    }
+
+    // Where the page is closed and no task of it has a place, its memory is given back.
+    #[inline(always)]
+    fn leave(&mut self, is_closed: bool)
+        ensures { self.new ≡ left_of is_closed self.old }
+    {
+        if is_closed {
+            self.close();
+        }
+    }
+
+    // The tasks in a row from this place on that are known and do not wait, so many at most, are unknown.
+    #[inline(always)]
+    fn write_row(&mut self, at: usize, count: usize) -> usize
+        requires { at < 4096 }
+        ensures most { result ≤ count }
+        ensures known { AreKnown self.old at result }
+        ensures after { self.new ≡ without_row self.old at result }
+    {
+        let row = clear_known(&mut self.standings, at, count);
+        self.placed -= row;
+        row
     }
 
     // The task at a place, which has a place in the list, stands otherwise.
@@ -180,6 +215,24 @@ fn fill(standings: &mut Vec<Standing>, missing: usize, standing: Standing)
     for _ in 0..missing {
         standings.push_reserved(standing);
     }
+}
+
+// The tasks in a row from this place on that are known and do not wait, so many at most, are unknown.
+#[inline(always)]
+fn clear_known(standings: &mut Vec<Standing>, at: usize, count: usize) -> usize
+    requires { at < 4096 }
+    ensures most { result ≤ count }
+    ensures known { AreKnown standings.old.items at result }
+    ensures items { standings.new.items ≡ without_row standings.old.items at result }
+    ensures room { vec_capacity standings.new ≡ vec_capacity standings.old }
+{
+    let until = standings.len();
+    let mut row = 0;
+    while row < count && at + row < until && is_idle(standings[at + row]) {
+        standings[at + row] = Standing::Unknown;
+        row += 1;
+    }
+    row
 }
 
 // No entry, and no memory.

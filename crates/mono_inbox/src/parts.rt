@@ -1,6 +1,6 @@
 // A part of the directory: the pages of as many tasks in a row.
 ghost use Rattle.std.specs.Prelude.{◌≡◌, ◌+◌, ◌<◌, ◌≤◌, ◌++◌, ◌⊎◌, ℕ, true, [], length, replicate, OnOk, OnErr, slice_set, vec_capacity};
-ghost use Rattle.mono_inbox.specs.Standings.{has_place, standing_at, count_where};
+ghost use Rattle.mono_inbox.specs.Standings.{has_place, standing_at, count_where, AreKnown, without_row};
 ghost use Rattle.mono_inbox.specs.Pages.{with_mark, left_of, child_at, closed_before};
 
 use crate::pages::{PAGE, Page};
@@ -125,9 +125,21 @@ impl Part {
         ensures { self.new ≡ left_of is_closed (slice_set self.old task standing) }
     {
         self.write(task, standing);
-        if is_closed {
-            self.close();
-        }
+        self.leave(is_closed);
+    }
+
+    /// The tasks in a row from this one on, in its page, that are known and do not wait, so many at most, are unknown. Answers
+    /// how many. Where the part is closed and none of its tasks has a place any more, its memory is given back.
+    #[inline(always)]
+    pub(crate) fn forget(&mut self, task: usize, count: usize, is_closed: bool) -> usize
+        requires { has_place (standing_at self.old task) ≡ true }
+        ensures most { result ≤ count }
+        ensures known { AreKnown self.old task result }
+        ensures after { self.new ≡ left_of is_closed (without_row self.old task result) }
+    {
+        let row = self.write_row(task, count);
+        self.leave(is_closed);
+        row
     }
 
     /// No number of it comes any more: where no task of it has a place, its memory is given back.
@@ -137,6 +149,32 @@ impl Part {
         if self.count() == 0 {
             self.clear();
         }
+    }
+
+    // Where the part is closed and no task of it has a place, its memory is given back.
+    #[inline(always)]
+    fn leave(&mut self, is_closed: bool)
+        ensures { self.new ≡ left_of is_closed self.old }
+    {
+        if is_closed {
+            self.close();
+        }
+    }
+
+    // The tasks in a row from this one on, in its page, that are known and do not wait, so many at most, are unknown.
+    #[inline(always)]
+    fn write_row(&mut self, task: usize, count: usize) -> usize
+        requires { has_place (standing_at self.old task) ≡ true }
+        ensures most { result ≤ count }
+        ensures known { AreKnown self.old task result }
+        ensures after { self.new ≡ without_row self.old task result }
+    {
+        let at = task / PAGE;
+        let most = lesser_of(count, PAGE - task % PAGE);
+        let begun = self.len / PAGE;
+        let row = self.pages[at].forget(task % PAGE, most, at < begun);
+        self.placed -= row;
+        row
     }
 
     // A task that has a place stands otherwise.

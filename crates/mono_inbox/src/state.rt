@@ -2,7 +2,7 @@
 ghost use Rattle.std.specs.Prelude.{◌≡◌, ◌+◌, ◌<◌, ◌≤◌, true, false, IfOk, OnOk, OnErr, MatchOption, length, vec_len, vec_capacity, [], ◌∷◌, ◌++◌};
 ghost use Rattle.mono_model.specs.Inbox.{is_waiting};
 ghost use Rattle.mono_inbox.specs.declared.log.CallEntry.TheVariants.{Know, Put, DrainOne, Drain, Retire};
-ghost use Rattle.mono_inbox.specs.State.{no_state, is_known, put_answer, after_put, with_list, HasNoDoubles, AlsoKnows, AlsoKnowsRow, Forgets};
+ghost use Rattle.mono_inbox.specs.State.{no_state, is_known, put_answer, after_put, with_list, HasNoDoubles, AlsoKnows, AlsoKnowsRow, Forgets, ForgetsRow};
 ghost use Rattle.mono_inbox.specs.History.{is_history, StandsFor, count_puts};
 ghost use Rattle.mono_inbox.specs.Log.{is_full, with_entry, with_ledger_put, new_recording};
 
@@ -141,6 +141,20 @@ impl InboxState {
     {
         self.listing.retire(task);
         self.log.keep(CallEntry::Retire(task));
+    }
+
+    /// Makes tasks in a row from this number on unknown, so many at most. Answers how many: none where the first is not known
+    /// or waits, or where calls are kept.
+    #[inline(always)]
+    pub(crate) fn retire_row(&mut self, from: u64, count: usize) -> usize
+        ensures most { result ≤ count }
+        ensures known { ForgetsRow self.old.state self.new.state from (from + result) }
+        ensures kept { self.new.log ≡ self.old.log }
+    {
+        if self.log.is_full() {
+            return self.listing.retire_row(from, count);
+        }
+        0
     }
 
     /// The kept calls, in order: a history of one thread, which stands for the state where none was left out.

@@ -64,3 +64,72 @@ fn a_row_is_known_and_some_of_it_is_forgotten(rt: HostRuntime) {
     let inbox = Inbox::new(alloc, 4, NoUnpark).expect(&rt, "memory");
     assert!(rt; is_known(&rt, alloc, &inbox) && is_forgotten(&rt, alloc, &inbox));
 }
+
+/// The tasks from the first number to that before the end, appended in order.
+fn add_row<R: Host + Abort>(rt: &R, tasks: &mut Vec<u64>, from: u64, until: u64) {
+    for task in from..until {
+        tasks.push(task).expect(rt, "memory");
+    }
+}
+
+/// Five tasks that wait when they are forgotten, on both sides of where a page of marks ends.
+const WAITING: &[(u64, bool)] = &[
+    (10, true),
+    (11, true),
+    (4095, true),
+    (4096, true),
+    (7000, true),
+];
+
+/// Of a row from 0 to 10,000 these are forgotten: 9,000 to the end, 5 to 3,000, 7,000, and 4,000 to 6,000.
+const AFTER_ROWS: &[(u64, bool)] = &[
+    (4, true),
+    (5, false),
+    (10, false),
+    (12, false),
+    (2999, false),
+    (3000, true),
+    (3999, true),
+    (4000, false),
+    (4095, false),
+    (4096, false),
+    (4097, false),
+    (5999, false),
+    (6000, true),
+    (6999, true),
+    (7000, false),
+    (7001, true),
+    (8999, true),
+    (9000, false),
+    (9999, false),
+];
+
+/// What waited, and then what was listed since.
+const LEFT: &[u64] = &[
+    10, 11, 4095, 4096, 7000, 4, 3000, 3999, 6000, 6999, 7001, 8999,
+];
+
+#[test]
+fn rows_are_forgotten_together_and_are_known_again(rt: HostRuntime) {
+    let alloc = rt.alloc();
+    let inbox = Inbox::new(alloc, 4, NoUnpark).expect(&rt, "memory");
+    assert_eq!(rt; inbox.know_row(&rt, alloc, 0, 10000), 10000);
+    assert!(rt; is_listed_so(&rt, &inbox, WAITING));
+    let mut tasks = Vec::new(alloc);
+    add_row(&rt, &mut tasks, 9000, 10000);
+    add_row(&rt, &mut tasks, 5, 3000);
+    add_row(&rt, &mut tasks, 7000, 7001);
+    add_row(&rt, &mut tasks, 4000, 6000);
+    inbox.retire_all(&rt, tasks.as_slice());
+    assert!(rt; is_listed_so(&rt, &inbox, AFTER_ROWS));
+    assert!(rt; taken(&rt, alloc, &inbox).as_slice() == LEFT);
+    assert_eq!(rt; inbox.know_row(&rt, alloc, 0, 10000), 10000);
+    assert!(rt;
+        is_listed_so(
+            &rt,
+            &inbox,
+            &[(5, true), (4096, true), (9999, true), (10, true)]
+        )
+    );
+    assert!(rt; taken(&rt, alloc, &inbox).as_slice() == [5, 4096, 9999, 10].as_slice());
+}

@@ -1,4 +1,4 @@
-use Rattle.std.proofs.Common.{◌≡◌, ◌≤◌, ◌-◌, ℕ}
+use Rattle.std.proofs.Common.{◌≤◌, ◌-◌}
 use Rattle.mono_inbox.specs.State.{AlsoKnowsRow}
 use Rattle.mono_inbox.proofs.inbox.know_row_of.Given as goal
 

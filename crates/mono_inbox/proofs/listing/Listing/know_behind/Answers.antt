@@ -1,5 +1,5 @@
-use Rattle.std.proofs.Common.{rules, ◌≡◌, ◌≤◌, ◌+◌, length, refl, ap, sym, ◌∙◌, arith}
-use Rattle.std.specs.VecDeque.{deque_len, deque_capacity}
+use Rattle.std.proofs.Common.{rules, ◌≡◌, ◌+◌, length, refl, ap, ◌∙◌, arith}
+use Rattle.std.specs.VecDeque.{deque_len}
 use Rattle.mono_inbox.proofs.Counting.{waits_within}
 use Rattle.mono_inbox.proofs.Extending.{row-sound, row-known}
 use Rattle.mono_inbox.specs.State.{in_row}

@@ -1,4 +1,4 @@
-use Rattle.std.proofs.Common.{◌≡◌, ◌<◌, ◌≤◌, ◌+◌, ◌/◌, ◌%◌, ℕ, List, length, ap, sym, ◌∙◌, arith}
+use Rattle.std.proofs.Common.{◌≡◌, ◌<◌, ◌≤◌, ◌+◌, ◌/◌, ◌%◌, length, ap, sym, ◌∙◌, arith}
 use Rattle.mono_inbox.proofs.Laying.{child_is}
 use Rattle.mono_inbox.proofs.Extending.{with_row, extending_is, extending_laid}
 use Rattle.mono_inbox.proofs.marks.Marks.extend.Goals as goal
