@@ -20,6 +20,31 @@ struct Desk {
     sum: u64,
 }
 
+// Two steps, in the place of those that the list had.
+fn fill(steps: &mut List<TurnStep>, first: TurnStep, second: TurnStep) -> Result<(), AllocError> {
+    steps.clear();
+    steps.push(first)?;
+    steps.push(second)
+}
+
+// A turn of the steps that stand in the desk's list, of the task at the queue's front.
+fn turn_so(alloc: Global, desk: &mut Desk, end: End) -> Result<(), AllocError> {
+    let steps = mem::replace(&mut desk.steps, List::new(alloc));
+    let event = Event::Turn(steps, end);
+    let answer = desk.exec.apply_reusing(alloc, &event, &mut desk.replies);
+    if let Event::Turn(steps, _) = event {
+        desk.steps = steps;
+    }
+    match answer {
+        Ok(Report::Turn(_, replies, _)) => {
+            desk.replies = replies;
+            Ok(())
+        }
+        Ok(_) => Ok(()),
+        Err(refused) => Err(refused),
+    }
+}
+
 // A turn of two steps of the task at the queue's front.
 fn turn(
     alloc: Global,
@@ -28,19 +53,8 @@ fn turn(
     second: TurnStep,
     end: End,
 ) -> Result<(), AllocError> {
-    let mut steps = mem::replace(&mut desk.steps, List::new(alloc));
-    steps.clear();
-    steps.push(first)?;
-    steps.push(second)?;
-    let event = Event::Turn(steps, end);
-    let report = desk.exec.apply_reusing(alloc, &event, &mut desk.replies)?;
-    if let Event::Turn(steps, _) = event {
-        desk.steps = steps;
-    }
-    if let Report::Turn(_, replies, _) = report {
-        desk.replies = replies;
-    }
-    Ok(())
+    fill(&mut desk.steps, first, second)?;
+    turn_so(alloc, desk, end)
 }
 
 // A task comes, and sleeps until a tick. It has the number of its sleep.
@@ -103,6 +117,17 @@ fn all_come_and_go(
 }
 
 // How many sleeps of so many tasks fired, and the sum of their numbers.
+fn counted(
+    alloc: Global,
+    desk: &mut Desk,
+    tasks: u64,
+    alive: u64,
+) -> Result<(u64, u64), AllocError> {
+    all_come_and_go(alloc, desk, tasks, alive)?;
+    Ok((desk.fired, desk.sum))
+}
+
+// The same of a new executor.
 fn come_and_go(alloc: Global, tasks: u64, alive: u64) -> Result<(u64, u64), AllocError> {
     let most = alive.saturating_add(2);
     let limits = Limits {
@@ -110,41 +135,53 @@ fn come_and_go(alloc: Global, tasks: u64, alive: u64) -> Result<(u64, u64), Allo
         jobs: 0,
         sleeps: most,
     };
-    let mut desk = Desk {
-        steps: List::new(alloc),
-        replies: List::new(alloc),
-        fired: 0,
-        sum: 0,
-        exec: Exec::new(alloc, limits, Blocking::Panic)?,
-    };
-    let done = all_come_and_go(alloc, &mut desk, tasks, alive);
-    let counted = (desk.fired, desk.sum);
-    match done {
-        Ok(()) => Ok(counted),
+    match Exec::new(alloc, limits, Blocking::Panic) {
+        Ok(exec) => {
+            let mut desk = Desk {
+                exec,
+                steps: List::new(alloc),
+                replies: List::new(alloc),
+                fired: 0,
+                sum: 0,
+            };
+            counted(alloc, &mut desk, tasks, alive)
+        }
         Err(refused) => Err(refused),
     }
 }
 
-fn run_words(rt: &HostRuntime, words: &Vec<String>) -> io::Result<bool> {
-    let (tasks, alive) = match words.as_slice() {
-        [tasks, alive] => (tasks.parse::<u64>(), alive.parse::<u64>()),
-        _ => return Ok(false),
+// The numbers of the words behind the program's name: how many tasks, and how long each is alive.
+fn asked(words: &[String]) -> Option<(u64, u64)> {
+    let [_, tasks, alive] = words else {
+        return None;
     };
-    let (Ok(tasks), Ok(alive)) = (tasks, alive) else {
-        return Ok(false);
-    };
-    match come_and_go(rt.alloc(), tasks, alive) {
-        Err(_) => println!(rt; "no memory for {tasks} tasks")?,
-        Ok((fired, sum)) => println!(rt; "{tasks} tasks, {fired} sleeps fired, sum {sum}")?,
+    match (tasks.parse::<u64>(), alive.parse::<u64>()) {
+        (Ok(tasks), Ok(alive)) => Some((tasks, alive)),
+        _ => None,
     }
-    Ok(true)
+}
+
+fn told(rt: &HostRuntime, tasks: u64, fired: Result<(u64, u64), AllocError>) -> io::Result<()> {
+    match fired {
+        Err(_) => println!(rt; "no memory for {tasks} tasks"),
+        Ok((fired, sum)) => println!(rt; "{tasks} tasks, {fired} sleeps fired, sum {sum}"),
+    }
+}
+
+fn run_words(rt: &HostRuntime, words: &[String]) -> io::Result<ExitCode> {
+    match asked(words) {
+        Some((tasks, alive)) => {
+            told(rt, tasks, come_and_go(rt.alloc(), tasks, alive))?;
+            Ok(ExitCode::SUCCESS)
+        }
+        None => {
+            println!(rt; "{HELP}")?;
+            Ok(ExitCode::from(2))
+        }
+    }
 }
 
 fn main(rt: HostRuntime) -> io::Result<ExitCode> {
-    let words: Vec<String> = env::args(&rt)?.skip(1).collect(rt.alloc())?;
-    if run_words(&rt, &words)? {
-        return Ok(ExitCode::SUCCESS);
-    }
-    println!(rt; "{HELP}")?;
-    Ok(ExitCode::from(2))
+    let words: Vec<String> = env::args(&rt)?.collect(rt.alloc())?;
+    run_words(&rt, words.as_slice())
 }
