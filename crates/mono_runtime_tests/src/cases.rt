@@ -9,7 +9,6 @@ use std::process::Abort;
 use std::sync::Arc;
 
 /// What is done with jobs.
-#[derive(Clone, Copy)]
 pub(crate) enum Kind {
     /// They go to a pool that keeps them and refuses the one with this place, counted from 0.
     Pool(u64),
@@ -20,7 +19,6 @@ pub(crate) enum Kind {
 }
 
 /// The steps of a turn, and the replies to them. A turn without steps is not told.
-#[derive(Clone, Copy)]
 pub(crate) struct Turn {
     pub(crate) steps: &'static [TurnStep],
     pub(crate) replies: &'static [Reply],
@@ -34,7 +32,6 @@ pub(crate) const UNTOLD: Turn = Turn {
 /// A main task, where so many jobs may be kept, and what is to be told of it: the turns at the places 2 and 8 of the
 /// journal, between which it was woken from outside; how many entries the journal has, and whether it is full; and how often
 /// the pool has refused, if there is one.
-#[derive(Clone, Copy)]
 pub(crate) struct Case {
     pub(crate) kind: Kind,
     pub(crate) jobs: u64,
@@ -95,12 +92,12 @@ fn tells(journal: &Journal, case: &Case) -> bool {
 }
 
 /// A pool of this kind, which shares what waits with the task.
-fn a_pool<R: Abort>(rt: &R, kind: Kind, main: &Turns) -> BlockingHandle<Keeps> {
+fn a_pool<R: Abort>(rt: &R, kind: &Kind, main: &Turns) -> BlockingHandle<Keeps> {
     match kind {
         Kind::Pool(refused) => BlockingHandle::Attached(Keeps {
             shared: Arc::try_clone(&main.shared).expect(rt, "memory"),
             asked: 0,
-            refused,
+            refused: *refused,
             refusals: 0,
         }),
         Kind::Local => BlockingHandle::Empty(BlockingStrategy::ExecuteLocal),
@@ -120,7 +117,7 @@ pub(crate) fn refusals_of(runtime: Sleeping<Keeps>) -> Option<u64> {
 /// what is told, and the pool has refused as often.
 pub(crate) fn holds<R: Host + Abort>(rt: &R, alloc: Global, case: &Case) -> bool {
     let main = main_task(rt, alloc, case.task);
-    let pool = a_pool(rt, case.kind, &main);
+    let pool = a_pool(rt, &case.kind, &main);
     let mut runtime = sleeping(rt, alloc, pool, case.jobs);
     let is_ready = matches!(answer_of(rt, alloc, &mut runtime, main, 1000), Ok(1));
     let is_told = tells(runtime.journal(), case);

@@ -32,415 +32,440 @@ const BLOCK_12: TurnStep = TurnStep::Act(Act::Block(12));
 
 const BLOCK_13: TurnStep = TurnStep::Act(Act::Block(13));
 
-/// A task of one turn, whose jobs are run on the caller, of which the journal keeps the spawn, the reading, the turn and the
-/// drop of the handle.
-const ONE_TURN: Case = Case {
-    kind: Kind::Local,
-    jobs: 4,
-    task: IDLE,
-    first: UNTOLD,
-    second: UNTOLD,
-    entries: 4,
-    is_full: false,
-    refusals: None,
-};
-
-/// The same with a pool that refuses no job.
-const POOLED: Case = Case {
-    kind: Kind::Pool(9),
-    jobs: 2,
-    refusals: Some(0),
-    ..ONE_TURN
-};
-
-const ON_THE_CALLER: Case = Case {
-    task: Task {
-        calls: &[
-            Call::Block(3),
-            Call::Finished(0),
-            Call::Poll(0),
-            Call::Poll(0),
-            Call::Drop(0),
-        ],
-        answers: &[0, YES, 3, TAKEN, NO_OUTPUT],
-        ..IDLE
+/// Cases of a task, most of one turn, of which the journal keeps the spawn, the reading, the turn and the drop of the handle.
+const CASES: [Case; 16] = [
+    // a job on the caller has ended
+    Case {
+        kind: Kind::Local,
+        jobs: 4,
+        task: Task {
+            jobs: 0,
+            calls: &[
+                Call::Block(3),
+                Call::Finished(0),
+                Call::Poll(0),
+                Call::Poll(0),
+                Call::Drop(0),
+            ],
+            later: &[],
+            turns: 0,
+            untold: 0,
+            answers: &[0, YES, 3, TAKEN, NO_OUTPUT],
+        },
+        first: Turn {
+            steps: &[BLOCK_3, POLL, POLL, DROP],
+            replies: &[
+                Reply::Job(0),
+                Reply::Output(3),
+                Reply::Refused(Refusal::Taken),
+                Reply::Dropped(None),
+            ],
+        },
+        second: UNTOLD,
+        entries: 4,
+        is_full: false,
+        refusals: None,
     },
-    first: Turn {
-        steps: &[BLOCK_3, POLL, POLL, DROP],
-        replies: &[
-            Reply::Job(0),
-            Reply::Output(3),
-            Reply::Refused(Refusal::Taken),
-            Reply::Dropped(None),
-        ],
+    // without a pool a job is refused
+    Case {
+        kind: Kind::Panic,
+        jobs: 4,
+        task: Task {
+            jobs: 0,
+            calls: &[Call::Block(3), Call::Waker],
+            later: &[],
+            turns: 0,
+            untold: 0,
+            answers: &[NO_POOL, 0],
+        },
+        first: Turn {
+            steps: &[BLOCK_3],
+            replies: &[Reply::Refused(Refusal::NoPool)],
+        },
+        second: UNTOLD,
+        entries: 4,
+        is_full: false,
+        refusals: None,
     },
-    ..ONE_TURN
-};
-
-#[test]
-fn a_job_on_the_caller_has_ended(rt: HostRuntime) {
-    assert!(rt; holds(&rt, rt.alloc(), &ON_THE_CALLER));
-}
-
-const WITHOUT_A_POOL: Case = Case {
-    kind: Kind::Panic,
-    task: Task {
-        calls: &[Call::Block(3), Call::Waker],
-        answers: &[NO_POOL, 0],
-        ..IDLE
+    // at capacity comes before no pool
+    Case {
+        kind: Kind::Panic,
+        jobs: 0,
+        task: Task {
+            jobs: 0,
+            calls: &[Call::Block(3)],
+            later: &[],
+            turns: 0,
+            untold: 0,
+            answers: &[AT_CAPACITY],
+        },
+        first: Turn {
+            steps: &[BLOCK_3],
+            replies: &[Reply::Refused(Refusal::AtCapacity)],
+        },
+        second: UNTOLD,
+        entries: 4,
+        is_full: false,
+        refusals: None,
     },
-    first: Turn {
-        steps: &[BLOCK_3],
-        replies: &[Reply::Refused(Refusal::NoPool)],
+    // a dropped job makes room
+    Case {
+        kind: Kind::Local,
+        jobs: 1,
+        task: Task {
+            jobs: 0,
+            calls: &[
+                Call::Block(3),
+                Call::Block(4),
+                Call::Drop(0),
+                Call::Block(5),
+            ],
+            later: &[],
+            turns: 0,
+            untold: 0,
+            answers: &[0, AT_CAPACITY, 3, 1],
+        },
+        first: Turn {
+            steps: &[BLOCK_3, BLOCK_4, DROP, TurnStep::Act(Act::Block(5))],
+            replies: &[
+                Reply::Job(0),
+                Reply::Refused(Refusal::AtCapacity),
+                Reply::Dropped(Some(3)),
+                Reply::Job(1),
+            ],
+        },
+        second: UNTOLD,
+        entries: 4,
+        is_full: false,
+        refusals: None,
     },
-    ..ONE_TURN
-};
-
-#[test]
-fn without_a_pool_a_job_is_refused(rt: HostRuntime) {
-    assert!(rt; holds(&rt, rt.alloc(), &WITHOUT_A_POOL));
-}
-
-const AT_CAPACITY_FIRST: Case = Case {
-    kind: Kind::Panic,
-    jobs: 0,
-    task: Task {
-        calls: &[Call::Block(3)],
-        answers: &[AT_CAPACITY],
-        ..IDLE
+    // a job that the pool refuses is no act
+    Case {
+        kind: Kind::Pool(0),
+        jobs: 4,
+        task: Task {
+            jobs: 0,
+            calls: &[Call::Block(3), Call::Poll(0), Call::Block(4)],
+            later: &[],
+            turns: 0,
+            untold: 0,
+            answers: &[POOL_FAULT, NO_TASK, 0],
+        },
+        first: Turn {
+            steps: &[POLL, BLOCK_4],
+            replies: &[Reply::Refused(Refusal::NoTask), Reply::Job(0)],
+        },
+        second: UNTOLD,
+        entries: 4,
+        is_full: false,
+        refusals: Some(1),
     },
-    first: Turn {
-        steps: &[BLOCK_3],
-        replies: &[Reply::Refused(Refusal::AtCapacity)],
+    // one of four jobs is refused by the pool, each in turn, and the others have the numbers 0 to 2
+    Case {
+        kind: Kind::Pool(0),
+        jobs: 4,
+        task: Task {
+            jobs: 0,
+            calls: &[
+                Call::Block(10),
+                Call::Block(11),
+                Call::Block(12),
+                Call::Block(13),
+            ],
+            later: &[],
+            turns: 0,
+            untold: 0,
+            answers: &[POOL_FAULT, 0, 1, 2],
+        },
+        first: Turn {
+            steps: &[BLOCK_11, BLOCK_12, BLOCK_13],
+            replies: &[Reply::Job(0), Reply::Job(1), Reply::Job(2)],
+        },
+        second: UNTOLD,
+        entries: 4,
+        is_full: false,
+        refusals: Some(1),
     },
-    ..ONE_TURN
-};
-
-#[test]
-fn at_capacity_comes_before_no_pool(rt: HostRuntime) {
-    assert!(rt; holds(&rt, rt.alloc(), &AT_CAPACITY_FIRST));
-}
-
-const DROPPED: Case = Case {
-    jobs: 1,
-    task: Task {
-        calls: &[
-            Call::Block(3),
-            Call::Block(4),
-            Call::Drop(0),
-            Call::Block(5),
-        ],
-        answers: &[0, AT_CAPACITY, 3, 1],
-        ..IDLE
+    Case {
+        kind: Kind::Pool(1),
+        jobs: 4,
+        task: Task {
+            jobs: 0,
+            calls: &[
+                Call::Block(10),
+                Call::Block(11),
+                Call::Block(12),
+                Call::Block(13),
+            ],
+            later: &[],
+            turns: 0,
+            untold: 0,
+            answers: &[0, POOL_FAULT, 1, 2],
+        },
+        first: Turn {
+            steps: &[BLOCK_10, BLOCK_12, BLOCK_13],
+            replies: &[Reply::Job(0), Reply::Job(1), Reply::Job(2)],
+        },
+        second: UNTOLD,
+        entries: 4,
+        is_full: false,
+        refusals: Some(1),
     },
-    first: Turn {
-        steps: &[BLOCK_3, BLOCK_4, DROP, TurnStep::Act(Act::Block(5))],
-        replies: &[
-            Reply::Job(0),
-            Reply::Refused(Refusal::AtCapacity),
-            Reply::Dropped(Some(3)),
-            Reply::Job(1),
-        ],
+    Case {
+        kind: Kind::Pool(2),
+        jobs: 4,
+        task: Task {
+            jobs: 0,
+            calls: &[
+                Call::Block(10),
+                Call::Block(11),
+                Call::Block(12),
+                Call::Block(13),
+            ],
+            later: &[],
+            turns: 0,
+            untold: 0,
+            answers: &[0, 1, POOL_FAULT, 2],
+        },
+        first: Turn {
+            steps: &[BLOCK_10, BLOCK_11, BLOCK_13],
+            replies: &[Reply::Job(0), Reply::Job(1), Reply::Job(2)],
+        },
+        second: UNTOLD,
+        entries: 4,
+        is_full: false,
+        refusals: Some(1),
     },
-    ..ONE_TURN
-};
-
-#[test]
-fn a_dropped_job_makes_room(rt: HostRuntime) {
-    assert!(rt; holds(&rt, rt.alloc(), &DROPPED));
-}
-
-const REFUSED: Case = Case {
-    kind: Kind::Pool(0),
-    refusals: Some(1),
-    task: Task {
-        calls: &[Call::Block(3), Call::Poll(0), Call::Block(4)],
-        answers: &[POOL_FAULT, NO_TASK, 0],
-        ..IDLE
+    Case {
+        kind: Kind::Pool(3),
+        jobs: 4,
+        task: Task {
+            jobs: 0,
+            calls: &[
+                Call::Block(10),
+                Call::Block(11),
+                Call::Block(12),
+                Call::Block(13),
+            ],
+            later: &[],
+            turns: 0,
+            untold: 0,
+            answers: &[0, 1, 2, POOL_FAULT],
+        },
+        first: Turn {
+            steps: &[BLOCK_10, BLOCK_11, BLOCK_12],
+            replies: &[Reply::Job(0), Reply::Job(1), Reply::Job(2)],
+        },
+        second: UNTOLD,
+        entries: 4,
+        is_full: false,
+        refusals: Some(1),
     },
-    first: Turn {
-        steps: &[POLL, BLOCK_4],
-        replies: &[Reply::Refused(Refusal::NoTask), Reply::Job(0)],
+    // an end wakes its waiter from outside
+    Case {
+        kind: Kind::Pool(9),
+        jobs: 4,
+        task: Task {
+            jobs: 0,
+            calls: &[
+                Call::Block(4),
+                Call::Finished(0),
+                Call::Poll(0),
+                Call::RunAll,
+            ],
+            later: &[Call::Finished(0), Call::Poll(0), Call::Poll(0)],
+            turns: 0,
+            untold: 0,
+            answers: &[0, NO, PENDING, YES, 4, TAKEN],
+        },
+        first: Turn {
+            steps: &[BLOCK_4, POLL],
+            replies: &[Reply::Job(0), Reply::Pending],
+        },
+        second: Turn {
+            steps: &[END, POLL, POLL],
+            replies: &[
+                Reply::Ended(Some(0)),
+                Reply::Output(4),
+                Reply::Refused(Refusal::Taken),
+            ],
+        },
+        entries: 10,
+        is_full: false,
+        refusals: Some(0),
     },
-    ..ONE_TURN
-};
-
-#[test]
-fn a_job_that_the_pool_refuses_is_no_act(rt: HostRuntime) {
-    assert!(rt; holds(&rt, rt.alloc(), &REFUSED));
-}
-
-/// A task that makes four jobs.
-const FOUR: Task = Task {
-    calls: &[
-        Call::Block(10),
-        Call::Block(11),
-        Call::Block(12),
-        Call::Block(13),
-    ],
-    ..IDLE
-};
-
-const THREE_JOBS: Turn = Turn {
-    steps: &[],
-    replies: &[Reply::Job(0), Reply::Job(1), Reply::Job(2)],
-};
-
-/// One of four jobs is refused by the pool, and the others have the numbers 0 to 2.
-const ONE_REFUSED: Case = Case {
-    refusals: Some(1),
-    ..ONE_TURN
-};
-
-const FIRST_REFUSED: Case = Case {
-    kind: Kind::Pool(0),
-    task: Task {
-        answers: &[POOL_FAULT, 0, 1, 2],
-        ..FOUR
+    // a drop sees the end
+    Case {
+        kind: Kind::Pool(9),
+        jobs: 2,
+        task: Task {
+            jobs: 0,
+            calls: &[
+                Call::Block(4),
+                Call::RunAll,
+                Call::Finished(0),
+                Call::Drop(0),
+                Call::Poll(0),
+                Call::Finished(9),
+            ],
+            later: &[],
+            turns: 0,
+            untold: 0,
+            answers: &[0, YES, 4, NO_HANDLE, NO_TASK],
+        },
+        first: Turn {
+            steps: &[BLOCK_4, END, DROP, POLL],
+            replies: &[
+                Reply::Job(0),
+                Reply::Ended(None),
+                Reply::Dropped(Some(4)),
+                Reply::Refused(Refusal::NoHandle),
+            ],
+        },
+        second: UNTOLD,
+        entries: 4,
+        is_full: false,
+        refusals: Some(0),
     },
-    first: Turn {
-        steps: &[BLOCK_11, BLOCK_12, BLOCK_13],
-        ..THREE_JOBS
+    // a job that runs may be dropped
+    Case {
+        kind: Kind::Pool(9),
+        jobs: 2,
+        task: Task {
+            jobs: 0,
+            calls: &[
+                Call::Block(5),
+                Call::Drop(0),
+                Call::RunAll,
+                Call::Finished(0),
+                Call::Drop(9),
+            ],
+            later: &[],
+            turns: 0,
+            untold: 0,
+            answers: &[0, NO_OUTPUT, NO_HANDLE, NO_TASK],
+        },
+        first: Turn {
+            steps: &[
+                TurnStep::Act(Act::Block(5)),
+                DROP,
+                TurnStep::Act(Act::DropJob(9)),
+            ],
+            replies: &[
+                Reply::Job(0),
+                Reply::Dropped(None),
+                Reply::Refused(Refusal::NoTask),
+            ],
+        },
+        second: UNTOLD,
+        entries: 4,
+        is_full: false,
+        refusals: Some(0),
     },
-    ..ONE_REFUSED
-};
-
-const SECOND_REFUSED: Case = Case {
-    kind: Kind::Pool(1),
-    task: Task {
-        answers: &[0, POOL_FAULT, 1, 2],
-        ..FOUR
+    // a canceled job has no output
+    Case {
+        kind: Kind::Pool(9),
+        jobs: 2,
+        task: Task {
+            jobs: 0,
+            calls: &[
+                Call::Block(6),
+                Call::CancelAll,
+                Call::Poll(0),
+                Call::Block(7),
+                Call::CancelAll,
+                Call::Drop(1),
+            ],
+            later: &[],
+            turns: 0,
+            untold: 0,
+            answers: &[0, CANCELED, 1, CANCELED],
+        },
+        first: Turn {
+            steps: &[
+                TurnStep::Act(Act::Block(6)),
+                TurnStep::Act(Act::JobEnd(0, How::Canceled)),
+                POLL,
+                TurnStep::Act(Act::Block(7)),
+                TurnStep::Act(Act::JobEnd(1, How::Canceled)),
+                TurnStep::Act(Act::DropJob(1)),
+            ],
+            replies: &[
+                Reply::Job(0),
+                Reply::Ended(None),
+                Reply::Canceled,
+                Reply::Job(1),
+                Reply::Ended(None),
+                Reply::Dropped(None),
+            ],
+        },
+        second: UNTOLD,
+        entries: 4,
+        is_full: false,
+        refusals: Some(0),
     },
-    first: Turn {
-        steps: &[BLOCK_10, BLOCK_12, BLOCK_13],
-        ..THREE_JOBS
-    },
-    ..ONE_REFUSED
-};
-
-const THIRD_REFUSED: Case = Case {
-    kind: Kind::Pool(2),
-    task: Task {
-        answers: &[0, 1, POOL_FAULT, 2],
-        ..FOUR
-    },
-    first: Turn {
-        steps: &[BLOCK_10, BLOCK_11, BLOCK_13],
-        ..THREE_JOBS
-    },
-    ..ONE_REFUSED
-};
-
-const FOURTH_REFUSED: Case = Case {
-    kind: Kind::Pool(3),
-    task: Task {
-        answers: &[0, 1, 2, POOL_FAULT],
-        ..FOUR
-    },
-    first: Turn {
-        steps: &[BLOCK_10, BLOCK_11, BLOCK_12],
-        ..THREE_JOBS
-    },
-    ..ONE_REFUSED
-};
-
-#[test]
-fn each_job_in_turn_is_refused_by_the_pool(rt: HostRuntime) {
-    assert!(rt; holds(&rt, rt.alloc(), &FIRST_REFUSED));
-    assert!(rt; holds(&rt, rt.alloc(), &SECOND_REFUSED));
-    assert!(rt; holds(&rt, rt.alloc(), &THIRD_REFUSED));
-    assert!(rt; holds(&rt, rt.alloc(), &FOURTH_REFUSED));
-}
-
-const WOKEN: Case = Case {
-    jobs: 4,
-    task: Task {
-        calls: &[
-            Call::Block(4),
-            Call::Finished(0),
-            Call::Poll(0),
-            Call::RunAll,
-        ],
-        later: &[Call::Finished(0), Call::Poll(0), Call::Poll(0)],
-        answers: &[0, NO, PENDING, YES, 4, TAKEN],
-        ..IDLE
-    },
-    first: Turn {
-        steps: &[BLOCK_4, POLL],
-        replies: &[Reply::Job(0), Reply::Pending],
-    },
-    second: Turn {
-        steps: &[END, POLL, POLL],
-        replies: &[
-            Reply::Ended(Some(0)),
-            Reply::Output(4),
-            Reply::Refused(Refusal::Taken),
-        ],
-    },
-    entries: 10,
-    ..POOLED
-};
-
-#[test]
-fn an_end_wakes_its_waiter_from_outside(rt: HostRuntime) {
-    assert!(rt; holds(&rt, rt.alloc(), &WOKEN));
-}
-
-const SEEN_BY_A_DROP: Case = Case {
-    task: Task {
-        calls: &[
-            Call::Block(4),
-            Call::RunAll,
-            Call::Finished(0),
-            Call::Drop(0),
-            Call::Poll(0),
-            Call::Finished(9),
-        ],
-        answers: &[0, YES, 4, NO_HANDLE, NO_TASK],
-        ..IDLE
-    },
-    first: Turn {
-        steps: &[BLOCK_4, END, DROP, POLL],
-        replies: &[
-            Reply::Job(0),
-            Reply::Ended(None),
-            Reply::Dropped(Some(4)),
-            Reply::Refused(Refusal::NoHandle),
-        ],
-    },
-    ..POOLED
-};
-
-#[test]
-fn a_drop_sees_the_end(rt: HostRuntime) {
-    assert!(rt; holds(&rt, rt.alloc(), &SEEN_BY_A_DROP));
-}
-
-const DROPPED_AS_IT_RUNS: Case = Case {
-    task: Task {
-        calls: &[
-            Call::Block(5),
-            Call::Drop(0),
-            Call::RunAll,
-            Call::Finished(0),
-            Call::Drop(9),
-        ],
-        answers: &[0, NO_OUTPUT, NO_HANDLE, NO_TASK],
-        ..IDLE
-    },
-    first: Turn {
-        steps: &[
-            TurnStep::Act(Act::Block(5)),
-            DROP,
-            TurnStep::Act(Act::DropJob(9)),
-        ],
-        replies: &[
-            Reply::Job(0),
-            Reply::Dropped(None),
-            Reply::Refused(Refusal::NoTask),
-        ],
-    },
-    ..POOLED
-};
-
-#[test]
-fn a_job_that_runs_may_be_dropped(rt: HostRuntime) {
-    assert!(rt; holds(&rt, rt.alloc(), &DROPPED_AS_IT_RUNS));
-}
-
-const CANCELED_JOBS: Case = Case {
-    task: Task {
-        calls: &[
-            Call::Block(6),
-            Call::CancelAll,
-            Call::Poll(0),
-            Call::Block(7),
-            Call::CancelAll,
-            Call::Drop(1),
-        ],
-        answers: &[0, CANCELED, 1, CANCELED],
-        ..IDLE
-    },
-    first: Turn {
-        steps: &[
-            TurnStep::Act(Act::Block(6)),
-            TurnStep::Act(Act::JobEnd(0, How::Canceled)),
-            POLL,
-            TurnStep::Act(Act::Block(7)),
-            TurnStep::Act(Act::JobEnd(1, How::Canceled)),
-            TurnStep::Act(Act::DropJob(1)),
-        ],
-        replies: &[
-            Reply::Job(0),
-            Reply::Ended(None),
-            Reply::Canceled,
-            Reply::Job(1),
-            Reply::Ended(None),
-            Reply::Dropped(None),
-        ],
-    },
-    ..POOLED
-};
-
-#[test]
-fn a_canceled_job_has_no_output(rt: HostRuntime) {
-    assert!(rt; holds(&rt, rt.alloc(), &CANCELED_JOBS));
-}
-
-/// One turn in which 300 jobs are made, and the last is polled once all have run. Of 301 answers the last two are told: the
-/// number of the last job, and its output.
-const MANY: Case = Case {
-    kind: Kind::Pool(999),
-    jobs: 300,
-    task: Task {
+    // one turn in which 300 jobs are made, and the last is polled once all have run: of 301 answers the last two are told,
+    // the number of the last job, and its output
+    Case {
+        kind: Kind::Pool(999),
         jobs: 300,
-        calls: &[Call::RunAll, Call::Poll(299)],
-        untold: 299,
-        answers: &[299, 299],
-        ..IDLE
+        task: Task {
+            jobs: 300,
+            calls: &[Call::RunAll, Call::Poll(299)],
+            later: &[],
+            turns: 0,
+            untold: 299,
+            answers: &[299, 299],
+        },
+        first: UNTOLD,
+        second: UNTOLD,
+        entries: 4,
+        is_full: false,
+        refusals: Some(0),
     },
-    ..POOLED
-};
+    // a turn that asks for so many jobs, each of which is refused for want of a pool: so many acts
+    Case {
+        kind: Kind::Panic,
+        jobs: 1,
+        task: Task {
+            jobs: 512,
+            calls: &[],
+            later: &[],
+            turns: 0,
+            untold: 511,
+            answers: &[NO_POOL],
+        },
+        first: UNTOLD,
+        second: UNTOLD,
+        entries: 4,
+        is_full: false,
+        refusals: None,
+    },
+    // with one act more the journal keeps the spawn and the reading alone
+    Case {
+        kind: Kind::Panic,
+        jobs: 1,
+        task: Task {
+            jobs: 513,
+            calls: &[],
+            later: &[],
+            turns: 0,
+            untold: 512,
+            answers: &[NO_POOL],
+        },
+        first: UNTOLD,
+        second: UNTOLD,
+        entries: 2,
+        is_full: true,
+        refusals: None,
+    },
+];
 
 #[test]
-fn three_hundred_jobs(rt: HostRuntime) {
-    assert!(rt; holds(&rt, rt.alloc(), &MANY));
-}
-
-/// A turn that asks for so many jobs, each of which is refused for want of a pool: so many acts.
-const ACTS_512: Case = Case {
-    kind: Kind::Panic,
-    jobs: 1,
-    task: Task {
-        jobs: 512,
-        untold: 511,
-        answers: &[NO_POOL],
-        ..IDLE
-    },
-    ..ONE_TURN
-};
-
-#[test]
-fn a_turn_of_512_acts_is_kept(rt: HostRuntime) {
-    assert!(rt; holds(&rt, rt.alloc(), &ACTS_512));
-}
-
-/// With one act more the journal keeps the spawn and the reading alone.
-const ACTS_513: Case = Case {
-    task: Task {
-        jobs: 513,
-        untold: 512,
-        answers: &[NO_POOL],
-        ..IDLE
-    },
-    entries: 2,
-    is_full: true,
-    ..ACTS_512
-};
-
-#[test]
-fn a_turn_of_513_acts_fills_the_journal(rt: HostRuntime) {
-    assert!(rt; holds(&rt, rt.alloc(), &ACTS_513));
+fn jobs_are_told(rt: HostRuntime) {
+    for case in CASES.as_slice() {
+        assert!(rt; holds(&rt, rt.alloc(), case));
+    }
 }
 
 /// Whether a journal is empty, or the drop of the first task's handle stands last in it.
