@@ -30,13 +30,12 @@ struct Tally {
 }
 
 // So many sessions, two in the queue of each key.
-fn open_all(alloc: Global, count: u64) -> Option<Sessions> {
-    let mut sessions = Sessions::new(alloc, count, count).ok()?;
+fn open_all(alloc: Global, sessions: &mut Sessions, count: u64) -> Option<()> {
     for i in 0..count {
         let session = sessions.open(alloc, LIMIT_MS).ok()?;
         sessions.acquire(alloc, session, i / 2).ok()?;
     }
-    Some(sessions)
+    Some(())
 }
 
 // The number after one, of so many that go round.
@@ -91,15 +90,16 @@ fn owners(sessions: &Sessions, keys: u64) -> u64 {
     sum
 }
 
-// All seconds. What was done.
+// All seconds, once the sessions are open. What was done.
 fn keep_all<L: Ledger>(
     alloc: Global,
     sessions: &mut Sessions,
     count: u64,
     seconds: u64,
+    closed: &mut Vec<u64>,
     steps: &mut Steps<L>,
 ) -> Option<Tally> {
-    let mut closed = Vec::new(alloc);
+    open_all(alloc, sessions, count)?;
     let mut tally = Tally {
         beats: 0,
         closed: 0,
@@ -109,45 +109,75 @@ fn keep_all<L: Ledger>(
     for second in 0..seconds {
         first = beat_some(sessions, count, first, &mut tally);
         let now = second.wrapping_add(1);
-        clock_step(sessions, now, &mut closed, steps, &mut tally)?;
+        clock_step(sessions, now, closed, steps, &mut tally)?;
     }
     Some(tally)
+}
+
+// The same, and the sum over the owners then.
+fn keep_on<L: Ledger>(
+    alloc: Global,
+    sessions: &mut Sessions,
+    count: u64,
+    seconds: u64,
+    blank: Blank,
+) -> Option<(Tally, u64)>
+    requires { (blank.name ≡ L.name) × (blank.parts ≡ L.parts) × (0 < L.parts) }
+{
+    let mut closed = Vec::new(alloc);
+    let mut steps: Steps<L> = Steps::new(blank);
+    match keep_all(alloc, sessions, count, seconds, &mut closed, &mut steps) {
+        Some(tally) => Some((tally, owners(sessions, count / 2))),
+        None => None,
+    }
 }
 
 // So many sessions over so many seconds. What was done, and the sum over the owners then.
 fn keep<L: Ledger>(alloc: Global, count: u64, seconds: u64, blank: Blank) -> Option<(Tally, u64)>
     requires { (blank.name ≡ L.name) × (blank.parts ≡ L.parts) × (0 < L.parts) }
 {
-    let mut sessions = open_all(alloc, count)?;
-    let mut steps: Steps<L> = Steps::new(blank);
-    let done = keep_all(alloc, &mut sessions, count, seconds, &mut steps);
-    let owners = owners(&sessions, count / 2);
-    done.map(|tally| (tally, owners))
+    match Sessions::new(alloc, count, count) {
+        Ok(mut sessions) => keep_on::<L>(alloc, &mut sessions, count, seconds, blank),
+        Err(_) => None,
+    }
 }
 
-fn run_words(rt: &HostRuntime, words: &Vec<String>) -> io::Result<bool> {
-    let (count, seconds) = match words.as_slice() {
-        [count, seconds] => (count.parse::<u64>(), seconds.parse::<u64>()),
-        _ => return Ok(false),
+// The numbers of the words behind the program's name: how many sessions and seconds.
+fn asked(words: &[String]) -> Option<(u64, u64)> {
+    let [_, count, seconds] = words else {
+        return None;
     };
-    let (Ok(count), Ok(seconds)) = (count, seconds) else {
-        return Ok(false);
-    };
-    match keep::<Brand>(rt.alloc(), count, seconds, Blank::new(1)) {
-        None => println!(rt; "no {count} sessions")?,
+    match (count.parse::<u64>(), seconds.parse::<u64>()) {
+        (Ok(count), Ok(seconds)) => Some((count, seconds)),
+        _ => None,
+    }
+}
+
+fn told(rt: &HostRuntime, count: u64, seconds: u64, done: Option<(Tally, u64)>) -> io::Result<()> {
+    match done {
+        None => println!(rt; "no {count} sessions"),
         Some((tally, owners)) => println!(rt;
             "{count} sessions {seconds} seconds beats {} closed {} order {} owners {owners}",
             tally.beats, tally.closed, tally.order
-        )?,
+        ),
     }
-    Ok(true)
+}
+
+fn run_words(rt: &HostRuntime, words: &[String]) -> io::Result<ExitCode> {
+    match asked(words) {
+        Some((count, seconds)) => {
+            let done = keep::<Brand>(rt.alloc(), count, seconds, Blank::new(1));
+            told(rt, count, seconds, done)?;
+            Ok(ExitCode::SUCCESS)
+        }
+        None => {
+            println!(rt; "{HELP}")?;
+            Ok(ExitCode::from(2))
+        }
+    }
 }
 
 fn main(rt: HostRuntime) -> io::Result<ExitCode> {
-    let words: Vec<String> = env::args(&rt)?.skip(1).collect(rt.alloc())?;
-    if run_words(&rt, &words)? {
-        return Ok(ExitCode::SUCCESS);
-    }
-    println!(rt; "{HELP}")?;
-    Ok(ExitCode::from(2))
+    let words: Vec<String> = env::args(&rt)?.collect(rt.alloc())?;
+    run_words(&rt, words.as_slice())
 }
