@@ -109,27 +109,37 @@ const LEFT: &[u64] = &[
     10, 11, 4095, 4096, 7000, 4, 3000, 3999, 6000, 6999, 7001, 8999,
 ];
 
+/// What is listed once all are known again.
+const AGAIN: &[(u64, bool)] = &[(5, true), (4096, true), (9999, true), (10, true)];
+
+/// Forgets the rows, one after the other and under one lock.
+fn forget_rows<R: Host + Abort>(rt: &R, alloc: Global, inbox: &Inbox<NoUnpark>) {
+    let mut tasks = Vec::new(alloc);
+    add_row(rt, &mut tasks, 9000, 10000);
+    add_row(rt, &mut tasks, 5, 3000);
+    add_row(rt, &mut tasks, 7000, 7001);
+    add_row(rt, &mut tasks, 4000, 6000);
+    inbox.retire_all(rt, tasks.as_slice());
+}
+
+/// Whether rows of known tasks are forgotten, some of which wait.
+fn are_forgotten<R: Host + Abort>(rt: &R, alloc: Global, inbox: &Inbox<NoUnpark>) -> bool {
+    let known = inbox.know_row(rt, alloc, 0, 10000);
+    let wait = is_listed_so(rt, inbox, WAITING);
+    forget_rows(rt, alloc, inbox);
+    (known == 10000) & wait & is_listed_so(rt, inbox, AFTER_ROWS) & takes(rt, alloc, inbox, LEFT)
+}
+
+/// Whether all of them are known again.
+fn are_known_again<R: Host + Abort>(rt: &R, alloc: Global, inbox: &Inbox<NoUnpark>) -> bool {
+    let known = inbox.know_row(rt, alloc, 0, 10000);
+    let are_listed = is_listed_so(rt, inbox, AGAIN);
+    (known == 10000) & are_listed & takes(rt, alloc, inbox, &[5, 4096, 9999, 10])
+}
+
 #[test]
 fn rows_are_forgotten_together_and_are_known_again(rt: HostRuntime) {
     let alloc = rt.alloc();
     let inbox = Inbox::new(alloc, 4, NoUnpark).expect(&rt, "memory");
-    assert_eq!(rt; inbox.know_row(&rt, alloc, 0, 10000), 10000);
-    assert!(rt; is_listed_so(&rt, &inbox, WAITING));
-    let mut tasks = Vec::new(alloc);
-    add_row(&rt, &mut tasks, 9000, 10000);
-    add_row(&rt, &mut tasks, 5, 3000);
-    add_row(&rt, &mut tasks, 7000, 7001);
-    add_row(&rt, &mut tasks, 4000, 6000);
-    inbox.retire_all(&rt, tasks.as_slice());
-    assert!(rt; is_listed_so(&rt, &inbox, AFTER_ROWS));
-    assert!(rt; taken(&rt, alloc, &inbox).as_slice() == LEFT);
-    assert_eq!(rt; inbox.know_row(&rt, alloc, 0, 10000), 10000);
-    assert!(rt;
-        is_listed_so(
-            &rt,
-            &inbox,
-            &[(5, true), (4096, true), (9999, true), (10, true)]
-        )
-    );
-    assert!(rt; taken(&rt, alloc, &inbox).as_slice() == [5, 4096, 9999, 10].as_slice());
+    assert!(rt; are_forgotten(&rt, alloc, &inbox) && are_known_again(&rt, alloc, &inbox));
 }
