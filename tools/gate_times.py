@@ -29,7 +29,7 @@ KINDS = ("proof", "tests", "edits")
 LOWER = (
     "mono_model mono_table mono_ready mono_slots mono_wheel mono_bench mono_task mono_time mono_combine mono_stream mono_nest "
     "mono_joinword mono_inbox mono_blocking mono_jobs mono_machine mono_exec mono_load mono_churn mono_errands "
-    "mono_text mono_reason mono_future_tests mono_thread_tests mono_exec_tests use_deadlines use_pulse use_pair"
+    "mono_text mono_reason mono_future_tests mono_thread_tests use_deadlines use_pulse use_pair"
 ).split()
 
 

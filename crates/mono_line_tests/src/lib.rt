@@ -1,0 +1,15 @@
+//! Tests of the executor, of lines in and out, of the reader of scripts, of events as text, and of what is said of wrong lines and words, over their public calls.
+#![tactic(auto)]
+
+#[cfg(test)]
+mod complaints;
+#[cfg(test)]
+mod event_texts;
+#[cfg(test)]
+mod executors;
+#[cfg(test)]
+mod lines;
+#[cfg(test)]
+mod readers;
+#[cfg(test)]
+mod reasons;
