@@ -61,14 +61,13 @@ impl Random {
 }
 
 // Buckets of bursts from 1 to 16 and periods from 1 to 1,000.
-fn filled(alloc: Global, work: Work, random: &mut Random) -> Option<Limiter> {
-    let mut limiter = Limiter::new(alloc, work.buckets, 0).ok()?;
+fn fill(alloc: Global, limiter: &mut Limiter, work: Work, random: &mut Random) -> Option<()> {
     for _ in 0..work.buckets {
         let burst = random.below(16).wrapping_add(1);
         let period = random.below(1000).wrapping_add(1);
         limiter.bucket(alloc, burst, period).ok()?;
     }
-    Some(limiter)
+    Some(())
 }
 
 // Adds an answer to what the takes gave.
@@ -86,10 +85,10 @@ fn add(outcome: &mut Outcome, told: Option<Take>) {
 
 // The clock goes on. There are no retries, so none is due.
 fn go_on<L: Ledger>(limiter: &mut Limiter, alloc: Global, millis: u64, steps: &mut Steps<L>) {
-    let mut due = Vec::new(alloc);
     let Some(now) = Instant::from_nanos(u128::from(millis).wrapping_mul(1000000)) else {
         return;
     };
+    let mut due = Vec::new(alloc);
     if due.reserve(limiter.live()).is_ok() {
         limiter.clock(now, &mut due, steps);
     }
@@ -119,35 +118,63 @@ fn take_all<L: Ledger>(
     outcome
 }
 
-fn run(alloc: Global, work: Work) -> Option<Outcome> {
+fn run_on(alloc: Global, limiter: &mut Limiter, work: Work) -> Option<Outcome> {
     let mut random = Random::new();
-    let mut limiter = filled(alloc, work, &mut random)?;
-    Some(take_all::<Brand>(&mut limiter, alloc, work, &mut random, Blank::new(1)))
+    fill(alloc, limiter, work, &mut random)?;
+    Some(take_all::<Brand>(limiter, alloc, work, &mut random, Blank::new(1)))
 }
 
-fn work_of(words: &Vec<String>) -> Option<Work> {
-    let [buckets, takes, step] = words.as_slice() else {
+// The same of a new limiter.
+fn run(alloc: Global, work: Work) -> Option<Outcome> {
+    match Limiter::new(alloc, work.buckets, 0) {
+        Ok(mut limiter) => run_on(alloc, &mut limiter, work),
+        Err(_) => None,
+    }
+}
+
+// The numbers of the words behind the program's name.
+fn asked(words: &[String]) -> Option<Work> {
+    let [_, buckets, takes, step] = words else {
         return None;
     };
-    Some(Work {
-        buckets: buckets.parse::<u64>().ok()?,
-        takes: takes.parse::<u64>().ok()?,
-        step: step.parse::<u64>().ok()?,
-    })
+    match (
+        buckets.parse::<u64>(),
+        takes.parse::<u64>(),
+        step.parse::<u64>(),
+    ) {
+        (Ok(buckets), Ok(takes), Ok(step)) => Some(Work {
+            buckets,
+            takes,
+            step,
+        }),
+        _ => None,
+    }
 }
 
-fn main(rt: HostRuntime) -> io::Result<ExitCode> {
-    let words: Vec<String> = env::args(&rt)?.skip(1).collect(rt.alloc())?;
-    let Some(work) = work_of(&words) else {
-        println!(rt; "{HELP}")?;
-        return Ok(ExitCode::from(2));
-    };
-    match run(rt.alloc(), work) {
-        None => println!(rt; "no room for the buckets")?,
+fn told(rt: &HostRuntime, work: Work, outcome: Option<Outcome>) -> io::Result<()> {
+    match outcome {
+        None => println!(rt; "no room for the buckets"),
         Some(outcome) => println!(rt;
             "{} buckets {} takes step {} granted {} sum {}",
             work.buckets, work.takes, work.step, outcome.granted, outcome.sum
-        )?,
+        ),
     }
-    Ok(ExitCode::SUCCESS)
+}
+
+fn run_words(rt: &HostRuntime, words: &[String]) -> io::Result<ExitCode> {
+    match asked(words) {
+        Some(work) => {
+            told(rt, work, run(rt.alloc(), work))?;
+            Ok(ExitCode::SUCCESS)
+        }
+        None => {
+            println!(rt; "{HELP}")?;
+            Ok(ExitCode::from(2))
+        }
+    }
+}
+
+fn main(rt: HostRuntime) -> io::Result<ExitCode> {
+    let words: Vec<String> = env::args(&rt)?.collect(rt.alloc())?;
+    run_words(&rt, words.as_slice())
 }
