@@ -5,10 +5,10 @@ use std::alloc::Global;
 /// So many numbers, each with itself as its value. All but every thousandth are taken at once, and do not come back.
 fn fill(alloc: Global, slots: &mut Slots<u64, u64>, numbers: u64) -> bool {
     for number in 0..numbers {
-        if slots.reserve(alloc).is_err() {
+        if slots.offer(alloc, number).is_err() {
             return false;
         }
-        slots.add(number);
+        slots.accept();
         if number % 1000 != 0 && slots.take(number).0.is_some() {
             slots.remove(number);
         }
@@ -50,4 +50,47 @@ fn values_come_back_with_what_stood_beside_them(rt: HostRuntime) {
     let mut slots = Slots::new(rt.alloc());
     assert!(rt; fill(rt.alloc(), &mut slots, 70_000));
     assert!(rt; are_lent(&mut slots));
+}
+
+/// A value is offered and taken back, and no number is given out; it is offered, and another in its stead, and that one is
+/// accepted as the next number's.
+fn is_offered(alloc: Global, slots: &mut Slots<u64, u64>, next: u64) -> bool {
+    if slots.offer(alloc, 1).is_err() || slots.withdraw() != 1 || slots.take(next).0.is_some() {
+        return false;
+    }
+    if slots.offer(alloc, 2).is_err() || slots.offer(alloc, 3).is_err() {
+        return false;
+    }
+    slots.accept();
+    slots.take(next) == (Some(3), None)
+}
+
+/// So many numbers, each with a value that is offered, taken back and offered again.
+fn offer_twice(alloc: Global, slots: &mut Slots<u64, u64>, numbers: u64) -> bool {
+    for number in 0..numbers {
+        if slots.offer(alloc, number).is_err() {
+            return false;
+        }
+        let back = slots.withdraw();
+        if back != number || slots.offer(alloc, back).is_err() {
+            return false;
+        }
+        slots.accept();
+    }
+    true
+}
+
+#[test]
+fn values_that_are_offered_are_accepted_or_come_back(rt: HostRuntime) {
+    let mut slots = Slots::new(rt.alloc());
+    assert!(rt; is_offered(rt.alloc(), &mut slots, 0));
+    assert!(rt; is_offered(rt.alloc(), &mut slots, 1));
+    let mut many = Slots::new(rt.alloc());
+    assert!(rt; offer_twice(rt.alloc(), &mut many, 1000));
+    assert!(rt; raise(&mut many, 0) == Some((0, None)));
+    assert!(rt; raise(&mut many, 255) == Some((255, None)));
+    assert!(rt; raise(&mut many, 256) == Some((256, None)));
+    assert!(rt; raise(&mut many, 999) == Some((999, None)));
+    assert!(rt; raise(&mut many, 1000).is_none());
+    assert!(rt; is_offered(rt.alloc(), &mut many, 1000));
 }

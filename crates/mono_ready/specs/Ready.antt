@@ -1,11 +1,13 @@
 -- A table by number in which a place for the next number may stand ready.
-use Rattle.std.specs.Prelude.{◌≡◌, ◌≤◌, ◌<◌, ◌+◌, ℕ, true, length, is_some}
+use Rattle.std.specs.Prelude.{◌≡◌, ◌≤◌, ◌<◌, ◌+◌, ℕ, true, length, Option, is_some}
 use Rattle.mono_model.specs.Table.{Table, value_at, next_number}
 
--- what the numbers that were given out have, and how many places there are: one for each of them, and perhaps one more
+-- what the numbers that were given out have; how many places there are: one for each of them, and perhaps one more; and the
+-- value that stands in that one
 pub record Places (V : Type 0) : Type 0 where
   pub table : Table V
   pub room : ℕ
+  pub offered : Option V
 
 -- a place for the next number stands ready
 abbrev pub HasPlace : {V : Type 0} → Places V → Type 0

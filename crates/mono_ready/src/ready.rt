@@ -1,5 +1,5 @@
 // A table by number, and a place of it that stands ready for the next number.
-ghost use Rattle.std.specs.Prelude.{◌≡◌, true, [], OnOk, OnErr, is_some, Some};
+ghost use Rattle.std.specs.Prelude.{◌≡◌, ◌++◌, ◌∷◌, true, [], None, IfErr, OnOk, OnErr, is_some, Some};
 ghost use Rattle.mono_model.specs.Table.{value_at, count_of, next_number, with_next, with_value, without};
 ghost use Rattle.mono_ready.specs.Ready.{HasPlace};
 
@@ -9,7 +9,8 @@ use std::marker::Model;
 use std::mem;
 
 /// The values of numbers that are given out from 0 on and never twice, as the table of the plain machine, and perhaps a
-/// place for the next number, which `reserve` makes and `add` takes.
+/// place for the next number, in which a value stands already. `offer` makes it with the value that is to be given out, and
+/// `accept` gives that out; `reserve` makes it with any, and `add` gives out another.
 ///
 /// It costs what its table costs (`mono_table`): a page in which nothing lives and in which no number comes goes back.
 #[derive(Drop)]
@@ -21,11 +22,12 @@ pub struct ReadyTable<T> {
 
 impl<T> Model for ReadyTable<T> {
     ghost use Rattle.std.specs.Prelude.{length, take};
+    ghost use Rattle.mono_model.specs.Table.{value_at};
     ghost use Rattle.mono_ready.specs.Ready.{Places, Lies};
 
     ghost Value = { Places T };
 
-    ghost view = { λ a. record { table = take a.next a.places; room = length a.places } };
+    ghost view = { λ a. record { table = take a.next a.places; room = length a.places; offered = value_at a.places a.next } };
 
     ghost invariant = { λ a. Lies a.places a.next };
 }
@@ -33,7 +35,7 @@ impl<T> Model for ReadyTable<T> {
 impl<T> ReadyTable<T> {
     /// No number was given out, and no place is ready. It takes no memory.
     pub fn new(alloc: Global) -> ReadyTable<T>
-        ensures { result ≡ record { table = []; room = 0 } }
+        ensures { result ≡ record { table = []; room = 0; offered = None } }
     {
         ReadyTable {
             places: Table::new(alloc),
@@ -65,7 +67,52 @@ impl<T> ReadyTable<T> {
 }
 
 impl<T: Drop> ReadyTable<T> {
-    /// A place for the next number, which holds this value until then. Where one stands ready, it stays.
+    /// A place for the next number, in which this value stands from now on, also where one stood ready. `accept` gives it out.
+    ///
+    /// Refused for want of memory, or where the numbers are used up: 2^64 - 1 is never given out. All is as it was then, and
+    /// the value comes back.
+    #[inline(always)]
+    pub fn offer(&mut self, alloc: Global, value: T) -> Result<(), T>
+        ensures place { OnOk result (HasPlace self.new) }
+        ensures offered { OnOk result (self.new.offered ≡ Some value) }
+        ensures table { self.new.table ≡ self.old.table }
+        ensures back { IfErr result (λ v. v ≡ value) }
+        ensures refused { OnErr result (self.new ≡ self.old) }
+    {
+        if self.places.len() > self.next {
+            self.places.set(self.next, value);
+            return Ok(());
+        }
+        if self.next == u64::MAX {
+            return Err(value);
+        }
+        self.places.push_or_back(alloc, value)
+    }
+
+    /// Gives the next number out, with the value that stands in its place. It takes no memory.
+    #[inline(always)]
+    pub fn accept(&mut self) -> u64
+        requires { is_some self.old.offered ≡ true }
+        ensures number { result ≡ next_number self.old.table }
+        ensures table { self.new.table ≡ self.old.table ++ self.old.offered ∷ [] }
+    {
+        let number = self.next;
+        self.next = self.places.len();
+        number
+    }
+
+    /// Takes back the value that stands in the place of the next number, and leaves another there. It takes no memory.
+    #[inline(always)]
+    pub fn withdraw(&mut self, filler: T) -> T
+        requires { is_some self.old.offered ≡ true }
+        ensures value { self.old.offered ≡ Some result }
+        ensures offered { self.new.offered ≡ Some filler }
+        ensures table { self.new.table ≡ self.old.table }
+    {
+        mem::replace(self.places.value_mut(self.next), filler)
+    }
+
+    /// A place for the next number, in which this value stands until then.
     ///
     /// Refused for want of memory, or where the numbers are used up: 2^64 - 1 is never given out. All is as it was then.
     #[inline(always)]
@@ -74,13 +121,10 @@ impl<T: Drop> ReadyTable<T> {
         ensures table { self.new.table ≡ self.old.table }
         ensures refused { OnErr result (self.new ≡ self.old) }
     {
-        if self.places.len() > self.next {
-            return Ok(());
+        match self.offer(alloc, filler) {
+            Ok(()) => Ok(()),
+            Err(_filler) => Err(AllocError),
         }
-        if self.next == u64::MAX {
-            return Err(AllocError);
-        }
-        self.places.push(alloc, filler)
     }
 
     /// Gives the next number out, with this value, where its place stands ready. It takes no memory.
@@ -90,10 +134,8 @@ impl<T: Drop> ReadyTable<T> {
         ensures number { result ≡ next_number self.old.table }
         ensures table { self.new.table ≡ with_next self.old.table value }
     {
-        let number = self.next;
-        self.places.set(number, value);
-        self.next = self.places.len();
-        number
+        self.places.set(self.next, value);
+        self.accept()
     }
 
     /// Another value for a number that has one, which comes back. It takes no memory.

@@ -3,7 +3,6 @@ use Rattle.std.specs.Prelude.{◌≡◌, ℕ, Bool, true, false, List, [], ◌�
 use Rattle.std.proofs.Common.{sym, ◌∙◌, ap, arith}
 use Rattle.std.proofs.Math.Nat.{le_refl}
 use Rattle.mono_model.specs.Table.{value_at}
-use Rattle.mono_slots.specs.Slots as slots
 use Rattle.mono_parts.specs.Leading.{Leads, leads_itself, leads_on}
 use Rattle.mono_parts.specs.Stands.{hosting_of}
 use Rattle.mono_rt.specs.declared.contexts.Cx.{Cx}
@@ -11,10 +10,6 @@ use Rattle.mono_rt.specs.declared.contexts.Cx.{Cx}
 -- Each future in the table stays. Nothing else is said of the futures.
 abbrev pub KeepsFutures : {F : Type 0} → List (Option F) → List (Option F) → Type 0
 KeepsFutures {F} old new = (t : ℕ) (f : F) → value_at old t ≡ Some f → value_at new t ≡ Some f
-
--- there is a place for one more task's future and waker
-abbrev pub HasPlace : {F O P U J A V : Type 0} → Cx F O P U J A V → Type 0
-HasPlace c = slots.HasPlace c.futures
 
 -- each number that was lent still is
 abbrev pub KeepsLent : List Bool → List Bool → Type 0

@@ -96,12 +96,15 @@ impl<F: Drop, O: Outcome + Drop, D: Driver, P: ThreadPool + Drop> Runtime<F, O, 
         ensures held { IfOk result (λ t. self.new.journal.entries.held ≡ self.old.journal.entries.held + 1) }
         ensures unheld { OnErr result (self.new.journal.entries.held ≡ self.old.journal.entries.held) }
     {
-        match self.cx.make_place(alloc) {
-            Err(_) => Err(RunError::Memory),
+        match self.cx.futures.offer(alloc, future) {
+            Err(_future) => Err(RunError::Memory),
             Ok(()) => match self.cx.parts.start_main(alloc, &mut self.journal) {
-                Err(error) => Err(error),
+                Err(error) => {
+                    drop(self.cx.futures.withdraw());
+                    Err(error)
+                }
                 Ok(main) => {
-                    self.cx.put_future(future);
+                    self.cx.futures.accept();
                     Ok(main)
                 }
             },

@@ -13,7 +13,7 @@ ghost use Rattle.mono_time.specs.Sleeps.{Added, sleep_poll_answer, with_polled_s
 ghost use Rattle.mono_time.specs.Timers.{sleeps_of};
 ghost use Rattle.mono_parts.specs.CallActs.{noted_wake, noted_join, noted_drop, noted_sleep, lacks_sleep, noted_poll, noted_gone, noted_reset};
 ghost use Rattle.mono_rt.specs.Spawns.{noted_spawn, lacks_spawn};
-ghost use Rattle.mono_rt.specs.Reached.{Reaches, HasPlace, reaches_itself, reaches_on};
+ghost use Rattle.mono_rt.specs.Reached.{Reaches, reaches_itself, reaches_on};
 
 use crate::wakers::Wakers;
 use mono_blocking::ThreadPool;
@@ -59,46 +59,22 @@ impl<F: Drop, O: Outcome + Drop, P: ThreadPool + Drop, U: Unpark> Cx<F, O, P, U>
         ensures kept { self.new.parts ≡ record self.old.parts { tasks = self.new.parts.tasks; acts = noted_spawn self.old.parts.acts result; is_out_of_memory = lacks_spawn self.old.parts.is_out_of_memory result } }
         ensures reached { Reaches O.output_number self.old self.new }
     {
-        if self.make_place(alloc).is_err() {
+        if let Err(future) = self.futures.offer(alloc, future) {
             self.parts.is_out_of_memory = true;
             return Err(SpawnRefused::Memory(future));
         }
         match self.parts.spawn(alloc) {
             Ok(t) => {
-                self.put_future(future);
+                self.futures.accept();
                 Ok(JoinHandle::of_task(t))
             }
-            Err(SpawnTask::AtCapacity) => Err(SpawnRefused::AtCapacity(future)),
-            Err(SpawnTask::Memory) => Err(SpawnRefused::Memory(future)),
+            Err(SpawnTask::AtCapacity) => Err(SpawnRefused::AtCapacity(self.futures.withdraw())),
+            Err(SpawnTask::Memory) => Err(SpawnRefused::Memory(self.futures.withdraw())),
         }
     }
 }
 
 impl<F: Drop, O: Drop, P: ThreadPool + Drop, U: Unpark> Cx<F, O, P, U> {
-    /// A place for one more task's future and waker.
-    #[inline(always)]
-    pub(crate) fn make_place(&mut self, alloc: Global) -> Result<(), AllocError>
-        ensures place { OnOk result (HasPlace self.new) }
-        ensures parts { self.new.parts ≡ self.old.parts }
-        ensures futures { self.new.futures.items ≡ self.old.futures.items }
-        ensures lent { self.new.futures.lent ≡ self.old.futures.lent }
-        ensures waker { self.new.waker ≡ self.old.waker }
-    {
-        self.futures.reserve(alloc)
-    }
-
-    /// The future of a new task, for which there is a place.
-    #[inline(always)]
-    pub(crate) fn put_future(&mut self, future: F)
-        requires { HasPlace self.old }
-        ensures parts { self.new.parts ≡ self.old.parts }
-        ensures futures { self.new.futures.items ≡ self.old.futures.items ++ Some future ∷ [] }
-        ensures lent { self.new.futures.lent ≡ self.old.futures.lent ++ false ∷ [] }
-        ensures waker { self.new.waker ≡ self.old.waker }
-    {
-        self.futures.add(future);
-    }
-
     /// A remote waker of the task whose turn runs (`task`): a clone of the one that was made before its first turn. Refused
     /// for want of memory only. The runtime answers Memory where there was none for the first one.
     pub fn remote_waker(&mut self) -> Result<RemoteWaker<U>, AllocError>

@@ -32,16 +32,16 @@ impl<F: Drop, O: Outcome + Drop, D: Driver, P: ThreadPool + Drop> Runtime<F, O, 
         ensures turn { self.new.cx.parts.tasks.turn ≡ self.old.cx.parts.tasks.turn }
         ensures journal { self.new.journal ≡ self.old.journal }
     {
-        if self.cx.make_place(alloc).is_err() {
+        if let Err(future) = self.cx.futures.offer(alloc, future) {
             return Err(SpawnRefused::Memory(future));
         }
         match self.cx.parts.tasks.spawn(alloc) {
             Ok(t) => {
-                self.cx.put_future(future);
+                self.cx.futures.accept();
                 Ok(JoinHandle::of_task(t))
             }
-            Err(SpawnTask::AtCapacity) => Err(SpawnRefused::AtCapacity(future)),
-            Err(SpawnTask::Memory) => Err(SpawnRefused::Memory(future)),
+            Err(SpawnTask::AtCapacity) => Err(SpawnRefused::AtCapacity(self.cx.futures.withdraw())),
+            Err(SpawnTask::Memory) => Err(SpawnRefused::Memory(self.cx.futures.withdraw())),
         }
     }
 

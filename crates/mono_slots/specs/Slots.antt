@@ -1,21 +1,17 @@
 -- Values by number that may be lent.
-use Rattle.std.specs.Prelude.{◌≡◌, ◌<◌, ℕ, Bool, true, false, List, map, length, slice_index_or, Option, Some, None}
+use Rattle.std.specs.Prelude.{◌≡◌, ℕ, Bool, true, false, List, map, slice_index_or, Option, Some, None}
 use Rattle.mono_model.specs.Table.{Table}
 use Rattle.mono_slots.specs.declared.slots.Slot.{Slot}
 use Rattle.mono_slots.specs.declared.slots.Slot.TheVariants.{Kept, Lent}
 
--- for each number that was given out its value, or none while it is lent and once it is gone; whether it is lent; and for how
--- many numbers there is a place
+-- for each number that was given out its value, or none while it is lent and once it is gone; whether it is lent; and the
+-- value that is offered for the next number
 pub record Seen (V : Type 0) : Type 0 where
   pub items : List (Option V)
   pub lent : List Bool
-  pub room : ℕ
+  pub offered : Option V
 
 module _ {V : Type 0} where
-  -- a place for the next number stands ready
-  abbrev pub HasPlace : Seen V → Type 0
-  HasPlace seen = length seen.items < seen.room
-
   -- the number was given out, and whoever took its value has it
   abbrev pub lent_at : Seen V → ℕ → Bool
   lent_at seen number = slice_index_or seen.lent number false

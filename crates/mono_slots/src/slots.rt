@@ -1,10 +1,10 @@
 // Values by number that may be lent.
-ghost use Rattle.std.specs.Prelude.{◌≡◌, ◌++◌, ◌∷◌, [], true, false, None, Some, OnOk, OnErr, IfSome, slice_set, ℕ};
+ghost use Rattle.std.specs.Prelude.{◌≡◌, ◌++◌, ◌∷◌, [], true, false, None, Some, OnOk, OnErr, IfErr, IfSome, is_some, slice_set, ℕ};
 ghost use Rattle.mono_model.specs.Table.{value_at};
-ghost use Rattle.mono_slots.specs.Slots.{HasPlace, lent_at, SameSlots};
+ghost use Rattle.mono_slots.specs.Slots.{lent_at, SameSlots};
 
 use mono_ready::ReadyTable;
-use std::alloc::{AllocError, Global};
+use std::alloc::Global;
 use std::marker::Model;
 
 /// What stands in a place that is not gone.
@@ -12,15 +12,18 @@ use std::marker::Model;
 pub enum Slot<T, W> {
     /// A value, and what its holder put beside it.
     Kept(T, Option<W>),
-    /// Its value is with whoever took it. So a place stands, too, that was made ready for the next number.
+    /// Its value is with whoever took it. So the place of the next number stands, too, once what was offered was taken back.
     Lent,
 }
 
 /// Values by numbers that are given out from 0 on and never twice. A value is taken for a while (`take`), and then either
 /// comes back (`put`) or does not, and its place is gone (`remove`).
 ///
+/// A value stands in the place of the next number before that is given out: it is offered (`offer`), and then accepted
+/// (`accept`) or taken back (`withdraw`).
+///
 /// Its view tells for each number the value that is there, or none while it is lent and once it is gone (`items`); whether it
-/// is lent (`lent`); and for how many numbers there is a place (`room`). What stands beside a value is not told.
+/// is lent (`lent`); and the value that is offered for the next number (`offered`). What stands beside a value is not told.
 ///
 /// It costs what its table costs (`mono_table`): a page goes back once all its numbers were given out and all their places
 /// are gone.
@@ -30,43 +33,63 @@ pub struct Slots<T, W> {
 }
 
 impl<T, W> Model for Slots<T, W> {
-    ghost use Rattle.mono_slots.specs.Slots.{Seen, items_of, lent_of};
+    ghost use Rattle.mono_slots.specs.Slots.{Seen, items_of, lent_of, value_in};
 
     ghost Value = { Seen T };
 
-    ghost view = { λ a. record { items = items_of a.places.table; lent = lent_of a.places.table; room = a.places.room } };
+    ghost view = { λ a. record { items = items_of a.places.table; lent = lent_of a.places.table; offered = value_in a.places.offered } };
 }
 
 impl<T: Drop, W: Drop> Slots<T, W> {
     /// No number was given out. It takes no memory.
     pub fn new(alloc: Global) -> Slots<T, W>
-        ensures { result ≡ record { items = []; lent = []; room = 0 } }
+        ensures { result ≡ record { items = []; lent = []; offered = None } }
     {
         Slots {
             places: ReadyTable::new(alloc),
         }
     }
 
-    /// A place for the next number. Where one stands ready, it stays.
+    /// A place for the next number, in which this value stands from now on, with nothing beside it, also where one stood
+    /// ready.
     ///
-    /// Refused for want of memory, or where the numbers are used up. All is as it was then.
+    /// Refused for want of memory, or where the numbers are used up. All is as it was then, and the value comes back.
     #[inline(always)]
-    pub fn reserve(&mut self, alloc: Global) -> Result<(), AllocError>
-        ensures place { OnOk result (HasPlace self.new) }
+    pub fn offer(&mut self, alloc: Global, value: T) -> Result<(), T>
+        ensures offered { OnOk result (self.new.offered ≡ Some value) }
         ensures same { SameSlots self.old self.new }
+        ensures back { IfErr result (λ v. v ≡ value) }
         ensures refused { OnErr result (self.new ≡ self.old) }
     {
-        self.places.reserve(alloc, Slot::Lent)
+        match self.places.offer(alloc, Slot::Kept(value, None)) {
+            Ok(()) => Ok(()),
+            Err(Slot::Kept(value, _beside)) => Err(value),
+            Err(Slot::Lent) => unreachable!(),
+        }
     }
 
-    /// Gives the next number out, with this value and nothing beside it, where its place stands ready. It takes no memory.
+    /// Gives the next number out, with the value that is offered. It takes no memory.
     #[inline(always)]
-    pub fn add(&mut self, value: T)
-        requires { HasPlace self.old }
-        ensures items { self.new.items ≡ self.old.items ++ Some value ∷ [] }
+    pub fn accept(&mut self)
+        requires { is_some self.old.offered ≡ true }
+        ensures items { self.new.items ≡ self.old.items ++ self.old.offered ∷ [] }
         ensures lent { self.new.lent ≡ self.old.lent ++ false ∷ [] }
     {
-        self.places.add(Slot::Kept(value, None));
+        self.places.accept();
+    }
+
+    /// Takes back the value that is offered. Its place stays ready. It takes no memory.
+    #[inline(always)]
+    pub fn withdraw(&mut self) -> T
+        requires { is_some self.old.offered ≡ true }
+        ensures value { self.old.offered ≡ Some result }
+        ensures offered { self.new.offered ≡ None }
+        ensures same { SameSlots self.old self.new }
+    {
+        match self.places.withdraw(Slot::Lent) {
+            Slot::Kept(value, _beside) => value,
+            Slot::Lent => unreachable!(),
+        }
     }
 
     /// Takes the value of a number, with what stands beside it. The number is lent from now on, where it had a value.

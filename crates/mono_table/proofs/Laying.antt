@@ -1,6 +1,7 @@
 -- What a write to one child does to the table that the children lay out.
-use Rattle.std.proofs.Common.{◌≡◌, ◌≢◌, ◌<◌, ◌≤◌, ◌+◌, ◌-◌, ◌*◌, ◌/◌, ◌%◌, ℕ, zero, suc, Bool, true, false, List, [], ◌∷◌, length, get_or, set, Some, None, refl, ap, sym, subst, ◌∙◌, inl, inr, arith, eq-eqb, ne_eqb, add-one}
-use Rattle.std.specs.Prelude.{slice_set, is_some, ◌⊎◌, nat_lt}
+use Rattle.std.proofs.Common.{◌≡◌, ◌≢◌, ◌<◌, ◌≤◌, ◌+◌, ◌-◌, ◌*◌, ◌/◌, ◌%◌, ℕ, zero, suc, Bool, true, false, List, [], ◌∷◌, length, get_or, set, Some, None, Ok, Err, refl, ap, sym, subst, ◌∙◌, inl, inr, arith, eq-eqb, ne_eqb, add-one}
+use Rattle.std.specs.Prelude.{slice_set, is_some, ◌⊎◌, nat_lt, Result, OnOk}
+use Rattle.std.specs.Result.{is_err}
 use borrow.Author.Tests.{ltb-true}
 use Rattle.std.proofs.lemmas.Bool.{cases_lt, cases_eq}
 use Rattle.std.proofs.lemmas.List.{get_or_past, get_or-set_same, get_or-set_other, length-set, length-append, get_or_append_left, get_or_push}
@@ -14,6 +15,11 @@ use Rattle.mono_table.proofs.Counting.{some_inside, count_of-same, count_of-gone
 
 false-true : false ≡ true → ⊥
 false-true e = cc
+
+-- what holds where a call was not refused
+pub on_ok : {A E : Type 0} (result : Result A E) (Q : Type 0) → false ≡ is_err result → OnOk result Q → Q
+on_ok (Ok value) Q is holds = holds
+on_ok (Err error) Q is holds = absurd (false-true is)
 
 -- whether one number is below another, as a test
 pub below_is : (a b : ℕ) → (nat_lt a b ≡ true → a < b) × (a < b → nat_lt a b ≡ true)

@@ -1,5 +1,5 @@
 // The directory: the parts of all numbers that were given out.
-ghost use Rattle.std.specs.Prelude.{◌≡◌, ◌<◌, ◌≤◌, ◌+◌, ◌-◌, ◌^◌, ◌⊎◌, ℕ, true, [], length, OnOk, OnErr, is_some, Some, vec_capacity};
+ghost use Rattle.std.specs.Prelude.{◌≡◌, ◌<◌, ◌≤◌, ◌+◌, ◌-◌, ◌^◌, ◌⊎◌, ℕ, true, [], length, IfErr, OnOk, OnErr, is_some, Some, vec_capacity};
 ghost use Rattle.std.specs.Borrow.{sem};
 ghost use Rattle.std.specs.Option.{option_copied};
 ghost use Rattle.mono_model.specs.Table.{value_at, with_next, with_value, without, count_of, next_number};
@@ -97,12 +97,32 @@ impl<T: Drop> Table<T> {
         ensures after { OnOk result (self.new ≡ with_next self.old value) }
         ensures refused { OnErr result (self.new ≡ self.old) }
     {
+        match self.push_or_back(alloc, value) {
+            Ok(()) => Ok(()),
+            Err(_value) => Err(AllocError),
+        }
+    }
+
+    /// The same, but where it is refused the value comes back (`back`).
+    #[inline(always)]
+    pub fn push_or_back(&mut self, alloc: Global, value: T) -> Result<(), T>
+        requires { next_number self.old < 2 ^ 64 - 1 }
+        ensures after { OnOk result (self.new ≡ with_next self.old value) }
+        ensures back { IfErr result (λ v. v ≡ value) }
+        ensures refused { OnErr result (self.new ≡ self.old) }
+    {
         let at = self.len / PART;
-        open_part(&mut self.parts, alloc, at)?;
-        self.parts[at].push(alloc, value)?;
-        self.len += 1;
-        self.live += 1;
-        Ok(())
+        if open_part(&mut self.parts, alloc, at).is_err() {
+            return Err(value);
+        }
+        match self.parts[at].push_or_back(alloc, value) {
+            Ok(()) => {
+                self.len += 1;
+                self.live += 1;
+                Ok(())
+            }
+            Err(value) => Err(value),
+        }
     }
 
     /// Another value for a number that has one. It takes no memory.

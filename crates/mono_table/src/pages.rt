@@ -1,12 +1,12 @@
 // A page: the places of as many numbers in a row, in one piece of memory.
-ghost use Rattle.std.specs.Prelude.{◌≡◌, ◌<◌, ◌↔◌, ℕ, true, [], length, OnOk, OnErr, is_some, Some, vec_capacity};
+ghost use Rattle.std.specs.Prelude.{◌≡◌, ◌<◌, ◌↔◌, ℕ, true, [], length, IfErr, OnOk, OnErr, is_some, Some, vec_capacity};
 ghost use Rattle.std.specs.Borrow.{sem};
 ghost use Rattle.std.specs.Option.{option_copied};
 ghost use Rattle.mono_model.specs.Table.{value_at, with_next, with_value, without, count_of};
 ghost use Rattle.mono_table.specs.Laying.{left_of};
 ghost use Rattle.mono_table.specs.Lending.{place_lends};
 
-use std::alloc::{AllocError, Global};
+use std::alloc::Global;
 use std::marker::Model;
 
 /// How many numbers a page has.
@@ -91,15 +91,18 @@ fn value_in<T>(place: &mut Option<T>) -> &mut T
 }
 
 impl<T: Drop> Page<T> {
-    /// One more place, with this value.
+    /// One more place, with this value, which comes back where it is refused.
     #[inline(always)]
-    pub(crate) fn push(&mut self, value: T) -> Result<(), AllocError>
+    pub(crate) fn push_or_back(&mut self, value: T) -> Result<(), T>
         requires { length self.old < 256 }
         ensures after { OnOk result (self.new ≡ with_next self.old value) }
+        ensures back { IfErr result (λ v. v ≡ value) }
         ensures refused { OnErr result (self.new ≡ self.old) }
     {
         let more = if self.places.len() == 0 { PAGE } else { 1 };
-        self.places.reserve(more)?;
+        if self.places.reserve(more).is_err() {
+            return Err(value);
+        }
         self.places.push_reserved(Some(value));
         self.live += 1;
         Ok(())

@@ -1,5 +1,5 @@
 // A part of the directory: the pages of as many numbers in a row.
-ghost use Rattle.std.specs.Prelude.{◌≡◌, ◌<◌, ◌≤◌, ◌+◌, ◌⊎◌, ℕ, true, [], length, OnOk, OnErr, is_some, Some, vec_capacity};
+ghost use Rattle.std.specs.Prelude.{◌≡◌, ◌<◌, ◌≤◌, ◌+◌, ◌⊎◌, ℕ, true, [], length, IfErr, OnOk, OnErr, is_some, Some, vec_capacity};
 ghost use Rattle.std.specs.Borrow.{sem};
 ghost use Rattle.std.specs.Option.{option_copied};
 ghost use Rattle.mono_model.specs.Table.{value_at, with_next, with_value, without, count_of};
@@ -78,19 +78,26 @@ impl<T> Part<T> {
 }
 
 impl<T: Drop> Part<T> {
-    /// One more number, with this value.
+    /// One more number, with this value, which comes back where it is refused.
     #[inline(always)]
-    pub(crate) fn push(&mut self, alloc: Global, value: T) -> Result<(), AllocError>
+    pub(crate) fn push_or_back(&mut self, alloc: Global, value: T) -> Result<(), T>
         requires { length self.old < 65536 }
         ensures after { OnOk result (self.new ≡ with_next self.old value) }
+        ensures back { IfErr result (λ v. v ≡ value) }
         ensures refused { OnErr result (self.new ≡ self.old) }
     {
         let at = self.len / PAGE;
-        open_page(&mut self.pages, alloc, at)?;
-        self.pages[at].push(value)?;
-        self.len += 1;
-        self.live += 1;
-        Ok(())
+        if open_page(&mut self.pages, alloc, at).is_err() {
+            return Err(value);
+        }
+        match self.pages[at].push_or_back(value) {
+            Ok(()) => {
+                self.len += 1;
+                self.live += 1;
+                Ok(())
+            }
+            Err(value) => Err(value),
+        }
     }
 
     /// Another value of a number that has one.

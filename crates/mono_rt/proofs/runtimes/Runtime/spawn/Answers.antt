@@ -1,10 +1,8 @@
-use Rattle.std.proofs.Common.{ℕ, refl, ap, sym, subst, ◌∙◌, Err}
+use Rattle.std.proofs.Common.{ℕ, refl, ap, sym, ◌∙◌, Err}
 use Rattle.std.specs.Prelude.{Result}
 use Rattle.mono_task.specs.declared.error.SpawnTask.{SpawnTask}
-use Rattle.mono_machine.specs.Acts.{act_outcome}
-use Rattle.mono_machine.specs.declared.events.Act.TheVariants as act
 use Rattle.mono_machine.specs.declared.events.Reply.TheVariants as reply
-use Rattle.mono_parts.specs.Stands.{hosting_of, Matches}
+use Rattle.mono_parts.specs.Stands.{hosting_of}
 use Rattle.mono_parts.proofs.Calling.{had_room, with_all}
 use Rattle.mono_parts.proofs.Spawned.{spawn_stands, full_stands}
 use Rattle.mono_rt.proofs.runtimes.Runtime.spawn.Goals as goal
@@ -15,14 +13,13 @@ failed e = Err e
 pub returns-in-Ok-clause-machine : goal.returns-in-Ok-clause-machine
 returns-in-Ok-clause-machine g c = λ m st.
     let number = g.O.Outcome.output_number in
-    let placed = c.make_place.new.self.parts in
+    let placed = c.args.self.now.cx.parts in
     let made = with_all number hosting_of placed c.spawn.new.self placed.timers placed.acts in
-    let left = spawn_stands number placed made m c.in-Ok.t (subst (λ p. Matches number hosting_of p m) (sym c.make_place.ensures.parts) st)
+    let left = spawn_stands number placed made m c.in-Ok.t st
     (had_room c.spawn.result c.in-Ok.t _ c.in-Ok.is c.spawn.ensures.full.1) c.in-Ok.ensures.number c.in-Ok.ensures.after refl refl refl in
-    (left.0 ∙ ap reply.Task (sym c.of_task.ensures), subst (λ p. Matches number hosting_of p (act_outcome act.Spawn m).machine) (sym c.put_future.ensures.parts) left.1)
+    (left.0 ∙ ap reply.Task (sym c.of_task.ensures), left.1)
 
 pub returns-in-Err-AtCapacity-clause-machine : goal.returns-in-Err-AtCapacity-clause-machine
 returns-in-Err-AtCapacity-clause-machine g c = λ m st.
-    let number = g.O.Outcome.output_number in
-    full_stands number c.make_place.new.self.parts _ m (subst (λ p. Matches number hosting_of p m) (sym c.make_place.ensures.parts) st)
+    full_stands g.O.Outcome.output_number c.args.self.now.cx.parts _ m st
     (c.spawn.ensures.full.0 (c.in-Err-AtCapacity.is ∙ ap failed c.in-Err-AtCapacity.field-0-is)) (rw c.in-Err-AtCapacity.is at c.spawn.ensures.refused) refl refl refl
