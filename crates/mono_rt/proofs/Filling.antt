@@ -25,29 +25,29 @@ either : (a b : Bool) → (a || b) ≡ true → (a ≡ true) ⊎ ((a ≡ false) 
 either true b is = inl refl
 either false b is = inr (refl, is)
 
-module _ {F O P U J A V : Type 0} (number : O → ℕ) (future : FutureOf F (Cx F O P U J A V) O) where
+module _ {F O P U W J A V : Type 0} (number : O → ℕ) (leads : W → W → Type 0) (future : FutureOf F (Cx F O P U W J A V) O) where
   -- what leaves it as it was
-  pub fills_not : (c : Cx F O P U J A V) (j k : Journal) → k.is_full ≡ j.is_full → Fills number future c j k
+  pub fills_not : (c : Cx F O P U W J A V) (j k : Journal) → k.is_full ≡ j.is_full → Fills number leads future c j k
   fills_not c j k same full = inl (sym same ∙ full)
 
-  filled_later : (a b : Cx F O P U J A V) (i j : Journal) → Goes number a.parts b.parts i j → FilledBy number future b j → FilledBy number future a i
+  filled_later : (a b : Cx F O P U W J A V) (i j : Journal) → Goes number a.parts b.parts i j → FilledBy number leads future b j → FilledBy number leads future a i
   filled_later a b i j goes f = record { before = f.before; after = f.after; so_far = f.so_far; went = goes_on number a.parts b.parts f.before.parts i j f.so_far goes f.went; unfull = f.unfull; long = f.long }
 
   -- one after the other
-  pub fills_on : (a b : Cx F O P U J A V) (i j k : Journal) → Goes number a.parts b.parts i j → Fills number future a i j → Fills number future b j k → Fills number future a i k
+  pub fills_on : (a b : Cx F O P U W J A V) (i j k : Journal) → Goes number a.parts b.parts i j → Fills number leads future a i j → Fills number leads future b j k → Fills number leads future a i k
   fills_on a b i j k goes first second full = elim (second full) [
     | inl was ↦ first was
     | inr f ↦ inr (filled_later a b i j goes f)
   ]
 
   -- then something that leaves it as it is
-  pub fills_still : (a : Cx F O P U J A V) (i j k : Journal) → Fills number future a i j → k.is_full ≡ j.is_full → Fills number future a i k
+  pub fills_still : (a : Cx F O P U W J A V) (i j k : Journal) → Fills number leads future a i j → k.is_full ≡ j.is_full → Fills number leads future a i k
   fills_still a i j k first same full = first (sym same ∙ full)
 
   -- a turn
-  pub fills_turn : (c b d : Cx F O P U J A V) (i j k : Journal) (t : ℕ) (now : Instant) (acts : Record) (e : End) (ended : Ended) → Goes number c.parts b.parts i j → j.is_full ≡ i.is_full → (j.is_full ≡ false → acts ≡ no_acts)
-      → Turn number future t now acts e ended b d → (j.is_full ≡ false → (m : Machine) → Matches number hosting_of b.parts m → IsTurnOf number t e ended b.parts d.parts m)
-      → k.is_full ≡ (j.is_full || d.parts.acts.is_full) → Fills number future c i k
+  pub fills_turn : (c b d : Cx F O P U W J A V) (i j k : Journal) (t : ℕ) (now : Instant) (acts : Record) (e : End) (ended : Ended) → Goes number c.parts b.parts i j → j.is_full ≡ i.is_full → (j.is_full ≡ false → acts ≡ no_acts)
+      → Turn number leads future t now acts e ended b d → (j.is_full ≡ false → (m : Machine) → Matches number hosting_of b.parts m → IsTurnOf number t e ended b.parts d.parts m)
+      → k.is_full ≡ (j.is_full || d.parts.acts.is_full) → Fills number leads future c i k
   fills_turn c b d i j k t now acts e ended goes same empty turn is kept full = elim (either j.is_full d.parts.acts.is_full (sym kept ∙ full)) [
     | inl was ↦ inl (sym same ∙ was)
     | inr (unfull, long) ↦ inr (record {
@@ -61,7 +61,7 @@ module _ {F O P U J A V : Type 0} (number : O → ℕ) (future : FutureOf F (Cx 
         now = now;
         ending = e;
         ended = ended;
-        turn = subst (λ a. Turn number future t now a e ended b d) (empty unfull) turn;
+        turn = subst (λ a. Turn number leads future t now a e ended b d) (empty unfull) turn;
         is_full = long;
         acts = λ m st. (is unfull m st, ltb-true room (length (is unfull m st).steps) (sym (is unfull m st).full ∙ long));
       };
@@ -69,7 +69,7 @@ module _ {F O P U J A V : Type 0} (number : O → ℕ) (future : FutureOf F (Cx 
   ]
 
   -- from a journal that was not full
-  pub one_long : (c : Cx F O P U J A V) (j k l : Journal) → j.is_full ≡ false → l ≡ k → Fills number future c j k → l.is_full ≡ true → IsOneLong number future
+  pub one_long : (c : Cx F O P U W J A V) (j k l : Journal) → j.is_full ≡ false → l ≡ k → Fills number leads future c j k → l.is_full ≡ true → IsOneLong number leads future
   one_long c j k l unfull same fills full = elim (fills (ap (λ x. x.is_full) (sym same) ∙ full)) [
     | inl was ↦ absurd (true-false (sym was ∙ unfull))
     | inr f ↦ (f.before, (f.after, f.long))

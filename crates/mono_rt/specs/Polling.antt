@@ -29,16 +29,16 @@ abbrev pub MakesNoTask : Act → Type 0
 MakesNoTask act.Spawn = ⊥
 MakesNoTask other = ⊤
 
-module _ {F O P U J A V : Type 0} (number : O → ℕ) (future : FutureOf F (Cx F O P U J A V) O) (has_timers : Bool) where
+module _ {F O P U W J A V : Type 0} (number : O → ℕ) (leads : W → W → Type 0) (future : FutureOf F (Cx F O P U W J A V) O) (has_timers : Bool) where
   -- A turn that a journal tells, at this reading of the clock: the context before it stands for the machine and has these
   -- futures, that after it has those that are left. Each of its acts is told, and each of its calls found memory.
   pub record TellsTurn (m : Machine) (futures : List (Option F)) (reading : ℕ) (steps : List TurnStep) (e : End) (answer : Report) (left : List (Option F)) : Type 0 where
     pub task : ℕ
     pub now : Instant
     pub ended : Ended
-    pub before : Cx F O P U J A V
-    pub after : Cx F O P U J A V
-    pub turn : Turn number future task now no_acts e ended before after
+    pub before : Cx F O P U W J A V
+    pub after : Cx F O P U W J A V
+    pub turn : Turn number leads future task now no_acts e ended before after
     pub reads : nanos_of now ≡ reading
     pub stands : Matches number hosting_of before.parts m
     pub timers : before.parts.has_timers ≡ has_timers

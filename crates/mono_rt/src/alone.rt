@@ -1,5 +1,5 @@
 // A whole run of a runtime of its own.
-ghost use Rattle.std.specs.Prelude.{◌≡◌, ℕ, IfOk, Option, None, true, false, []};
+ghost use Rattle.std.specs.Prelude.{⊤, ◌≡◌, ℕ, IfOk, Option, None, true, false, []};
 ghost use Rattle.mono_machine.specs.Machine.{Machine, start_machine};
 ghost use Rattle.mono_machine.specs.Steps.{Run};
 ghost use Rattle.mono_jobs.specs.Spawning.{strategy_of};
@@ -44,9 +44,9 @@ where
     ensures told { IfOk result (λ r. r.1.is_full ≡ false → IsTold r.0 (telling (D.readings driver) (D.time driver) (D.parks driver)) r.1.entries.items) }
     ensures run { IfOk result (λ r. r.1.is_full ≡ false → (new : Machine) × Run (start_machine limits (strategy_of pool)) (events_in r.1.entries.items) (reports_in r.1.entries.items) new) }
     ensures parks { IfOk result (λ r. r.1.is_full ≡ false → (new : Machine) × ((left : ℕ → Option ℕ) × Registers None (start_machine limits (strategy_of pool)) (λ s. None) r.1.entries.items new left)) }
-    ensures full { IfOk result (λ r. r.1.is_full ≡ true → IsOneLong O.output_number F.TaskFuture) }
+    ensures full { IfOk result (λ r. r.1.is_full ≡ true → IsOneLong O.output_number (λ a b. ⊤) F.TaskFuture) }
 {
-    let mut runtime = Runtime::new(alloc, driver, pool, limits, true, start)?;
+    let mut runtime = Runtime::new(alloc, driver, pool, limits, true, start, ())?;
     let answer = runtime.block_on(rt, alloc, future, turns);
     Ok((answer, runtime.into_journal()))
 }

@@ -18,6 +18,7 @@ use mono_jobs::Blockings;
 use mono_joinword::Outcome;
 use mono_model::Host;
 use mono_parts::{Journal, Parts, RunError, new_journal};
+use mono_shared::SharedState;
 use mono_slots::Slots;
 use mono_task::TaskFuture;
 use mono_time::Instant;
@@ -171,18 +172,39 @@ impl<D: Buildable, P: ThreadPool + Drop> RuntimeBuilder<D, P> {
         ensures me { IfOk result (λ made. (made.cx.parts.me ≡ 0) × (nanos_of made.cx.parts.now ≡ 0)) }
         ensures registered { IfOk result (λ made. (s : ℕ) → registered_of made.cx.parts.timers s ≡ None) }
     {
-        D::build(alloc, self)
+        D::build(alloc, self, ())
+    }
+
+    /// A runtime whose tasks share this value (`shared`). Else it is as `build` says.
+    pub fn build_sharing<F: Drop, O: Outcome + Drop, W: SharedState + Drop>(
+        self,
+        alloc: Global,
+        shared: W,
+    ) -> Result<Runtime<F, O, D, P, W>, AllocError>
+        ensures stands { IfOk result (λ made. Matches O.output_number hosting_of made.cx.parts (start_machine self.limits (strategy_of self.pool))) }
+        ensures shared { IfOk result (λ made. made.cx.shared ≡ shared) }
+        ensures timers { IfOk result (λ made. made.cx.parts.has_timers ≡ D.marks_timers) }
+        ensures pool { IfOk result (λ made. made.cx.parts.blocking.pool ≡ self.pool) }
+        ensures driver { IfOk result (λ made. made.driver ≡ self.driver) }
+        ensures journal { IfOk result (λ made. (made.journal.entries.items ≡ []) × (made.journal.is_full ≡ not self.keeps_journal)) }
+        ensures rests { IfOk result (λ made. made.cx.parts.tasks.turn ≡ None) }
+        ensures me { IfOk result (λ made. (made.cx.parts.me ≡ 0) × (nanos_of made.cx.parts.now ≡ 0)) }
+        ensures registered { IfOk result (λ made. (s : ℕ) → registered_of made.cx.parts.timers s ≡ None) }
+    {
+        D::build(alloc, self, shared)
     }
 }
 
 impl<D: Driver, P: ThreadPool + Drop> RuntimeBuilder<D, P> {
     /// A runtime that stands for the start machine, with this mark of timers and this reading of the clock.
-    pub(crate) fn make<F: Drop, O: Outcome + Drop>(
+    pub(crate) fn make<F: Drop, O: Outcome + Drop, W: SharedState + Drop>(
         self,
         alloc: Global,
         has_timers: bool,
         start: Instant,
-    ) -> Result<Runtime<F, O, D, P>, AllocError>
+        shared: W,
+    ) -> Result<Runtime<F, O, D, P, W>, AllocError>
+        ensures shared { IfOk result (λ made. made.cx.shared ≡ shared) }
         ensures stands { IfOk result (λ made. Matches O.output_number hosting_of made.cx.parts (start_machine self.limits (strategy_of self.pool))) }
         ensures timers { IfOk result (λ made. made.cx.parts.has_timers ≡ has_timers) }
         ensures pool { IfOk result (λ made. made.cx.parts.blocking.pool ≡ self.pool) }
@@ -213,6 +235,7 @@ impl<D: Driver, P: ThreadPool + Drop> RuntimeBuilder<D, P> {
                             futures: Slots::new(alloc),
                             wakers,
                             waker: None,
+                            shared,
                         },
                         driver,
                         journal: new_journal(alloc, !keeps_journal),
@@ -233,10 +256,12 @@ pub trait Buildable: Driver + Sized {
         ensures { result ≡ marks_timers };
 
     /// A runtime, as `RuntimeBuilder::build` says.
-    final fn build<F: Drop, O: Outcome + Drop, P: ThreadPool + Drop>(
+    final fn build<F: Drop, O: Outcome + Drop, P: ThreadPool + Drop, W: SharedState + Drop>(
         alloc: Global,
         this: RuntimeBuilder<Self, P>,
-    ) -> Result<Runtime<F, O, Self, P>, AllocError>
+        shared: W,
+    ) -> Result<Runtime<F, O, Self, P, W>, AllocError>
+        ensures shared { IfOk result (λ made. made.cx.shared ≡ shared) }
         ensures stands { IfOk result (λ made. Matches O.output_number hosting_of made.cx.parts (start_machine this.limits (strategy_of this.pool))) }
         ensures timers { IfOk result (λ made. made.cx.parts.has_timers ≡ marks_timers) }
         ensures pool { IfOk result (λ made. made.cx.parts.blocking.pool ≡ this.pool) }
@@ -246,7 +271,7 @@ pub trait Buildable: Driver + Sized {
         ensures me { IfOk result (λ made. (made.cx.parts.me ≡ 0) × (nanos_of made.cx.parts.now ≡ 0)) }
         ensures registered { IfOk result (λ made. (s : ℕ) → registered_of made.cx.parts.timers s ≡ None) }
     {
-        this.make(alloc, Self::has_timers(), zero())
+        this.make(alloc, Self::has_timers(), zero(), shared)
     }
 }
 
@@ -281,7 +306,7 @@ fn zero() -> Instant
     }
 }
 
-impl<F: Drop, O: Outcome + Drop, D: Driver, P: ThreadPool + Drop> Runtime<F, O, D, P> {
+impl<F: Drop, O: Outcome + Drop, D: Driver, P: ThreadPool + Drop, W: SharedState + Drop> Runtime<F, O, D, P, W> {
     /// The attached pool (`some`); None exactly where none is attached (`none`).
     pub fn into_pool(self) -> Option<P>
         ensures some { IfSome result (λ pool. self.cx.parts.blocking.pool ≡ Attached pool) }
@@ -306,6 +331,7 @@ impl<F: Drop, O: Outcome + Drop, D: Driver, P: ThreadPool + Drop> Runtime<F, O, 
             futures: _,
             wakers: _,
             waker: _,
+            shared: _,
         } = cx;
         let Parts { blocking, .. } = parts;
         (blocking, journal)

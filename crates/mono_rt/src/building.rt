@@ -12,11 +12,12 @@ use mono_driver::Driver;
 use mono_exec::Limits;
 use mono_joinword::Outcome;
 use mono_parts::Journal;
+use mono_shared::SharedState;
 use mono_time::Instant;
 use std::alloc::{AllocError, Global};
 
-impl<F: Drop, O: Outcome + Drop, D: Driver, P: ThreadPool + Drop> Runtime<F, O, D, P> {
-    /// A runtime with a journal. It stands for the start machine, with the pool's strategy.
+impl<F: Drop, O: Outcome + Drop, D: Driver, P: ThreadPool + Drop, W: SharedState + Drop> Runtime<F, O, D, P, W> {
+    /// A runtime with a journal, whose tasks share this value. It stands for the start machine, with the pool's strategy.
     pub fn new(
         alloc: Global,
         driver: D,
@@ -24,7 +25,9 @@ impl<F: Drop, O: Outcome + Drop, D: Driver, P: ThreadPool + Drop> Runtime<F, O, 
         limits: Limits,
         has_timers: bool,
         start: Instant,
-    ) -> Result<Runtime<F, O, D, P>, AllocError>
+        shared: W,
+    ) -> Result<Runtime<F, O, D, P, W>, AllocError>
+        ensures shared { IfOk result (λ runtime. runtime.cx.shared ≡ shared) }
         ensures stands { IfOk result (λ runtime. Matches O.output_number hosting_of runtime.cx.parts (start_machine limits (strategy_of pool))) }
         ensures pool { IfOk result (λ runtime. runtime.cx.parts.blocking.pool ≡ pool) }
         ensures timers { IfOk result (λ runtime. runtime.cx.parts.has_timers ≡ has_timers) }
@@ -42,7 +45,7 @@ impl<F: Drop, O: Outcome + Drop, D: Driver, P: ThreadPool + Drop> Runtime<F, O, 
             limits,
             keeps_journal: true,
         };
-        builder.make(alloc, has_timers, start)
+        builder.make(alloc, has_timers, start, shared)
     }
 
     /// What it did.
@@ -50,6 +53,13 @@ impl<F: Drop, O: Outcome + Drop, D: Driver, P: ThreadPool + Drop> Runtime<F, O, 
         ensures { result.now ≡ self.now.journal }
     {
         &self.journal
+    }
+
+    /// What the tasks share, between two calls of `block_on`.
+    pub fn shared(&self) -> &W
+        ensures { result.now ≡ self.now.cx.shared }
+    {
+        &self.cx.shared
     }
 
     /// Gives the runtime up, and keeps what it did.

@@ -13,7 +13,8 @@ ghost use Rattle.mono_time.specs.Sleeps.{Added, sleep_poll_answer, with_polled_s
 ghost use Rattle.mono_time.specs.Timers.{sleeps_of};
 ghost use Rattle.mono_parts.specs.CallActs.{noted_wake, noted_join, noted_drop, noted_sleep, lacks_sleep, noted_poll, noted_gone, noted_reset};
 ghost use Rattle.mono_rt.specs.Spawns.{noted_spawn, lacks_spawn};
-ghost use Rattle.mono_rt.specs.Reached.{Reaches, reaches_itself, reaches_on};
+ghost use Rattle.mono_rt.specs.Reached.{Reaches, reaches_itself, reaches_on, by_shared};
+
 
 use crate::wakers::Wakers;
 use mono_blocking::ThreadPool;
@@ -21,6 +22,7 @@ use mono_inbox::{RemoteWaker, Unpark};
 use mono_jobs::Blockings;
 use mono_joinword::Outcome;
 use mono_parts::Parts;
+use mono_shared::{SharedContext, SharedState};
 use mono_slots::Slots;
 use mono_task::{Context, JoinContext, JoinHandle, Poll, SpawnTask, TaskError, Woke};
 use mono_time::{Error, Instant, SleepError, TimeContext};
@@ -28,13 +30,15 @@ use std::alloc::{AllocError, Global};
 
 /// The executor as a running task sees it: its tasks, sleeps and futures.
 #[derive(Drop)]
-pub struct Cx<F, O, P: ThreadPool, U: Unpark> {
+pub struct Cx<F, O, P: ThreadPool, U: Unpark, W = ()> {
     pub(crate) parts: Parts<O, Blockings<P>>,
     // by the task's number its future, and beside that its remote waker once it has had a turn; its place goes with its end
     pub(crate) futures: Slots<F, RemoteWaker<U>>,
     pub(crate) wakers: Wakers<U>,
     // that of the task whose turn runs, where there was memory for it
     pub(crate) waker: Option<RemoteWaker<U>>,
+    // what the tasks share
+    pub(crate) shared: W,
 }
 
 /// A future that was not spawned. It comes back.
@@ -46,7 +50,7 @@ pub enum SpawnRefused<F> {
     AtCapacity(F),
 }
 
-impl<F: Drop, O: Outcome + Drop, P: ThreadPool + Drop, U: Unpark> Cx<F, O, P, U> {
+impl<F: Drop, O: Outcome + Drop, P: ThreadPool + Drop, U: Unpark, W: SharedState + Drop> Cx<F, O, P, U, W> {
     /// Makes a task of this future, which is queued last. The future is put into the table under the task's number.
     ///
     /// It is an act of the turn, made or refused; want of memory is none (`kept`).
@@ -57,7 +61,7 @@ impl<F: Drop, O: Outcome + Drop, P: ThreadPool + Drop, U: Unpark> Cx<F, O, P, U>
         ensures refused { OnErr result (self.new.parts.tasks ≡ self.old.parts.tasks) }
         ensures none { OnErr result (self.new.futures.items ≡ self.old.futures.items) }
         ensures kept { self.new.parts ≡ record self.old.parts { tasks = self.new.parts.tasks; acts = noted_spawn self.old.parts.acts result; is_out_of_memory = lacks_spawn self.old.parts.is_out_of_memory result } }
-        ensures reached { Reaches O.output_number self.old self.new }
+        ensures reached { Reaches O.output_number W.leads self.old self.new }
     {
         if let Err(future) = self.futures.offer(alloc, future) {
             self.parts.is_out_of_memory = true;
@@ -74,7 +78,7 @@ impl<F: Drop, O: Outcome + Drop, P: ThreadPool + Drop, U: Unpark> Cx<F, O, P, U>
     }
 }
 
-impl<F: Drop, O: Drop, P: ThreadPool + Drop, U: Unpark> Cx<F, O, P, U> {
+impl<F: Drop, O: Drop, P: ThreadPool + Drop, U: Unpark, W: SharedState + Drop> Cx<F, O, P, U, W> {
     /// A remote waker of the task whose turn runs (`task`): a clone of the one that was made before its first turn. Refused
     /// for want of memory only. The runtime answers Memory where there was none for the first one.
     pub fn remote_waker(&mut self) -> Result<RemoteWaker<U>, AllocError>
@@ -88,7 +92,7 @@ impl<F: Drop, O: Drop, P: ThreadPool + Drop, U: Unpark> Cx<F, O, P, U> {
     }
 }
 
-impl<F: Drop, O: Outcome + Drop, P: ThreadPool + Drop, U: Unpark> Context for Cx<F, O, P, U> {
+impl<F: Drop, O: Outcome + Drop, P: ThreadPool + Drop, U: Unpark, W: SharedState + Drop> Context for Cx<F, O, P, U, W> {
     ghost number = { λ c. c.parts.me };
 
     ghost nanos = { λ c. nanos_of c.parts.now };
@@ -97,9 +101,9 @@ impl<F: Drop, O: Outcome + Drop, P: ThreadPool + Drop, U: Unpark> Context for Cx
 
     ghost work = { λ c. without_outputs c.parts.tasks.tasks };
 
-    ghost reaches = { Reaches O.output_number };
+    ghost reaches = { Reaches O.output_number W.leads };
 
-    ghost wakes = { λ c t r d. (d.parts.tasks.tasks ≡ woken c.parts.tasks.tasks t) × (d.parts.timers ≡ c.parts.timers) };
+    ghost wakes = { λ c t r d. (d.parts.tasks.tasks ≡ woken c.parts.tasks.tasks t) × (d.parts.timers ≡ c.parts.timers) × (d.shared ≡ c.shared) };
 
     fn me(&self) -> u64 {
         self.parts.me
@@ -112,16 +116,16 @@ impl<F: Drop, O: Outcome + Drop, P: ThreadPool + Drop, U: Unpark> Context for Cx
     fn wake(&mut self, task: u64) -> Result<Woke, TaskError>
         ensures answer { result ≡ wake_answer (without_outputs self.old.parts.tasks.tasks) task }
         ensures work { without_outputs self.new.parts.tasks.tasks ≡ woken (without_outputs self.old.parts.tasks.tasks) task }
-        ensures woke { (self.new.parts.tasks.tasks ≡ woken self.old.parts.tasks.tasks task) × (self.new.parts.timers ≡ self.old.parts.timers) }
+        ensures woke { (self.new.parts.tasks.tasks ≡ woken self.old.parts.tasks.tasks task) × (self.new.parts.timers ≡ self.old.parts.timers) × (self.new.shared ≡ self.old.shared) }
         ensures kept { self.new ≡ record self.old { parts = record self.old.parts { tasks = self.new.parts.tasks; acts = noted_wake self.old.parts.acts task result } } }
-        ensures reached { Reaches O.output_number self.old self.new }
+        ensures reached { Reaches O.output_number W.leads self.old self.new }
     {
         self.parts.wake(task)
     }
 
-    ghost reaches_itself = { reaches_itself O.output_number };
+    ghost reaches_itself = { reaches_itself O.output_number W.leads W.leads_itself };
 
-    ghost reaches_on = { reaches_on O.output_number };
+    ghost reaches_on = { reaches_on O.output_number W.leads W.leads_on };
 
     ghost same_number = { λ a b r. r.parts.same_me };
 
@@ -130,15 +134,15 @@ impl<F: Drop, O: Outcome + Drop, P: ThreadPool + Drop, U: Unpark> Context for Cx
     ghost stays_out_of_memory = { λ a b r. r.parts.memory };
 }
 
-impl<F: Drop, O: Outcome + Drop, P: ThreadPool + Drop, U: Unpark> JoinContext<O>
-    for Cx<F, O, P, U> {
+impl<F: Drop, O: Outcome + Drop, P: ThreadPool + Drop, U: Unpark, W: SharedState + Drop> JoinContext<O>
+    for Cx<F, O, P, U, W> {
     ghost tasks = { λ c. c.parts.tasks.tasks };
 
     fn poll_join(&mut self, task: u64) -> Result<Poll<O>, TaskError>
         ensures answer { result ≡ join_answer self.old.parts.tasks.tasks task }
         ensures tasks { self.new.parts.tasks.tasks ≡ joined self.old.parts.tasks.tasks task self.old.parts.me }
         ensures kept { self.new ≡ record self.old { parts = record self.old.parts { tasks = self.new.parts.tasks; acts = noted_join O.output_number self.old.parts.acts task result } } }
-        ensures reached { Reaches O.output_number self.old self.new }
+        ensures reached { Reaches O.output_number W.leads self.old self.new }
     {
         self.parts.poll_join(task)
     }
@@ -147,7 +151,7 @@ impl<F: Drop, O: Outcome + Drop, P: ThreadPool + Drop, U: Unpark> JoinContext<O>
         ensures answer { result ≡ drop_answer self.old.parts.tasks.tasks task }
         ensures tasks { self.new.parts.tasks.tasks ≡ join_dropped self.old.parts.tasks.tasks task }
         ensures kept { self.new ≡ record self.old { parts = record self.old.parts { tasks = self.new.parts.tasks; acts = noted_drop O.output_number self.old.parts.acts task result } } }
-        ensures reached { Reaches O.output_number self.old self.new }
+        ensures reached { Reaches O.output_number W.leads self.old self.new }
     {
         self.parts.drop_join(task)
     }
@@ -161,7 +165,7 @@ impl<F: Drop, O: Outcome + Drop, P: ThreadPool + Drop, U: Unpark> JoinContext<O>
     ghost wakes_tasks = { λ c d t r w. w.0 };
 }
 
-impl<F: Drop, O: Outcome + Drop, P: ThreadPool + Drop, U: Unpark> TimeContext for Cx<F, O, P, U> {
+impl<F: Drop, O: Outcome + Drop, P: ThreadPool + Drop, U: Unpark, W: SharedState + Drop> TimeContext for Cx<F, O, P, U, W> {
     ghost sleeps = { λ c. sleeps_of c.parts.timers };
 
     fn add_sleep(&mut self, alloc: Global, deadline: Instant) -> Result<u64, SleepError>
@@ -169,7 +173,7 @@ impl<F: Drop, O: Outcome + Drop, P: ThreadPool + Drop, U: Unpark> TimeContext fo
         ensures memory { result ≡ Err Memory → self.new.parts.is_out_of_memory ≡ true }
         ensures work { without_outputs self.new.parts.tasks.tasks ≡ without_outputs self.old.parts.tasks.tasks }
         ensures kept { self.new ≡ record self.old { parts = record self.old.parts { timers = self.new.parts.timers; acts = noted_sleep self.old.parts.acts (nanos_of deadline) result; is_out_of_memory = lacks_sleep self.old.parts.is_out_of_memory result } } }
-        ensures reached { Reaches O.output_number self.old self.new }
+        ensures reached { Reaches O.output_number W.leads self.old self.new }
     {
         self.parts.add_sleep(alloc, deadline)
     }
@@ -179,7 +183,7 @@ impl<F: Drop, O: Outcome + Drop, P: ThreadPool + Drop, U: Unpark> TimeContext fo
         ensures sleeps { sleeps_of self.new.parts.timers ≡ with_polled_sleep (sleeps_of self.old.parts.timers) sleep self.old.parts.me }
         ensures work { without_outputs self.new.parts.tasks.tasks ≡ without_outputs self.old.parts.tasks.tasks }
         ensures kept { self.new ≡ record self.old { parts = record self.old.parts { timers = self.new.parts.timers; acts = noted_poll self.old.parts.acts sleep result } } }
-        ensures reached { Reaches O.output_number self.old self.new }
+        ensures reached { Reaches O.output_number W.leads self.old self.new }
     {
         self.parts.poll_sleep(sleep)
     }
@@ -189,7 +193,7 @@ impl<F: Drop, O: Outcome + Drop, P: ThreadPool + Drop, U: Unpark> TimeContext fo
         ensures sleeps { sleeps_of self.new.parts.timers ≡ with_reset_sleep (sleeps_of self.old.parts.timers) sleep (nanos_of deadline) }
         ensures work { without_outputs self.new.parts.tasks.tasks ≡ woken_if_any (without_outputs self.old.parts.tasks.tasks) (waker_in (sleep_reset_answer (sleeps_of self.old.parts.timers) sleep (nanos_of deadline))) }
         ensures kept { self.new ≡ record self.old { parts = record self.old.parts { tasks = self.new.parts.tasks; timers = self.new.parts.timers; acts = noted_reset self.old.parts.acts (sleeps_of self.old.parts.timers).greatest sleep (nanos_of deadline) result } } }
-        ensures reached { Reaches O.output_number self.old self.new }
+        ensures reached { Reaches O.output_number W.leads self.old self.new }
     {
         self.parts.reset_sleep(sleep, deadline)
     }
@@ -199,7 +203,7 @@ impl<F: Drop, O: Outcome + Drop, P: ThreadPool + Drop, U: Unpark> TimeContext fo
         ensures sleeps { sleeps_of self.new.parts.timers ≡ with_removed_sleep (sleeps_of self.old.parts.timers) sleep }
         ensures work { without_outputs self.new.parts.tasks.tasks ≡ without_outputs self.old.parts.tasks.tasks }
         ensures kept { self.new ≡ record self.old { parts = record self.old.parts { timers = self.new.parts.timers; acts = noted_gone self.old.parts.acts sleep result } } }
-        ensures reached { Reaches O.output_number self.old self.new }
+        ensures reached { Reaches O.output_number W.leads self.old self.new }
     {
         self.parts.drop_sleep(sleep)
     }
@@ -209,4 +213,29 @@ impl<F: Drop, O: Outcome + Drop, P: ThreadPool + Drop, U: Unpark> TimeContext fo
     }
 
     ghost wakes_no_sleep = { λ c d t r w. ap sleeps_of w.1 };
+}
+
+impl<F: Drop, O: Outcome + Drop, P: ThreadPool + Drop, U: Unpark, W: SharedState + Drop> SharedContext<W>
+    for Cx<F, O, P, U, W> {
+    ghost shared = { λ c. c.shared };
+
+    ghost with_shared = { λ c w. record c { shared = w } };
+
+    fn shared(&self) -> &W {
+        &self.shared
+    }
+
+    fn shared_mut(&mut self) -> &mut W {
+        &mut self.shared
+    }
+
+    ghost shared_with = { λ c w. refl };
+
+    ghost reaches_with = { by_shared O.output_number W.leads };
+
+    ghost led = { λ a b r. r.shared };
+
+    ghost wakes_nothing_shared = { λ c d t r w. w.2 };
+
+    ghost same_work_with = { λ c w. refl };
 }

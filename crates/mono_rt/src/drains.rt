@@ -10,9 +10,10 @@ use mono_driver::Driver;
 use mono_joinword::Outcome;
 use mono_model::Host;
 use mono_parts::RunError;
+use mono_shared::SharedState;
 use std::alloc::Global;
 
-impl<F: Drop, O: Outcome + Drop, D: Driver, P: ThreadPool + Drop> Runtime<F, O, D, P> {
+impl<F: Drop, O: Outcome + Drop, D: Driver, P: ThreadPool + Drop, W: SharedState + Drop> Runtime<F, O, D, P, W> {
     /// Takes what waits in the inbox. Each task is told, and those that are unfinished are woken.
     pub(crate) fn drain<R: Host>(&mut self, rt: &R, alloc: Global) -> Result<(), RunError>
         ensures goes { Goes O.output_number self.old.cx.parts self.new.cx.parts self.old.journal self.new.journal }
@@ -21,6 +22,7 @@ impl<F: Drop, O: Outcome + Drop, D: Driver, P: ThreadPool + Drop> Runtime<F, O, 
         ensures longer { length self.old.cx.parts.tasks.tasks.queue ≤ length self.new.cx.parts.tasks.tasks.queue }
         ensures has_timers { self.new.cx.parts.has_timers ≡ self.old.cx.parts.has_timers }
         ensures futures { self.new.cx.futures ≡ self.old.cx.futures }
+        ensures shared { self.new.cx.shared ≡ self.old.cx.shared }
         ensures told { (before after : Course) → EndsDrained result before after → Telling (Still after) (telling (D.readings self.old.driver) (D.time self.old.driver) (D.parks self.old.driver)) before self.old.journal self.new.journal (telling (D.readings self.new.driver) (D.time self.new.driver) (D.parks self.new.driver)) }
         ensures full { self.new.journal.is_full ≡ self.old.journal.is_full }
         ensures held { self.new.journal.entries.held ≡ self.old.journal.entries.held }

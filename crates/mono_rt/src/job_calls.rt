@@ -10,9 +10,10 @@ use mono_inbox::{RemoteWaker, Unpark};
 use mono_jobs::{JobHandle, OutputOf, PollJob, SpawnError};
 use mono_joinword::{JoinError, Outcome};
 use mono_model::{Host, Poll};
+use mono_shared::SharedState;
 use std::alloc::{AllocError, Global};
 
-impl<F: Drop, O: Outcome + Drop, P: ThreadPool + Drop, U: Unpark> Cx<F, O, P, U> {
+impl<F: Drop, O: Outcome + Drop, P: ThreadPool + Drop, U: Unpark, W: SharedState + Drop> Cx<F, O, P, U, W> {
     /// Hands a job to the pool, or runs it in this call where no pool is attached and the strategy is to run jobs on the
     /// caller; its output then waits in the table of jobs. The handle has the next job number.
     ///
@@ -27,7 +28,7 @@ impl<F: Drop, O: Outcome + Drop, P: ThreadPool + Drop, U: Unpark> Cx<F, O, P, U>
     ) -> Result<JobHandle, SpawnError<P::Job>>
         ensures spawned { SpawnsJob P.Job.output_number P.refusals job result self.old.parts self.new.parts }
         ensures same { self.new ≡ record self.old { parts = self.new.parts } }
-        ensures reached { Reaches O.output_number self.old self.new }
+        ensures reached { Reaches O.output_number W.leads self.old self.new }
     {
         self.parts.spawn_blocking(rt, alloc, job)
     }
@@ -37,7 +38,7 @@ impl<F: Drop, O: Outcome + Drop, P: ThreadPool + Drop, U: Unpark> Cx<F, O, P, U>
     pub fn drop_job(&mut self, job: u64) -> Result<Option<Result<OutputOf<P>, JoinError>>, Refusal>
         ensures dropped { DropsJob P.Job.Output.output_number job result self.old.parts self.new.parts }
         ensures same { self.new ≡ record self.old { parts = self.new.parts } }
-        ensures reached { Reaches O.output_number self.old self.new }
+        ensures reached { Reaches O.output_number W.leads self.old self.new }
     {
         self.parts.drop_job(job)
     }
@@ -47,7 +48,7 @@ impl<F: Drop, O: Outcome + Drop, P: ThreadPool + Drop, U: Unpark> Cx<F, O, P, U>
     pub fn job_finished(&mut self, job: u64) -> Result<bool, Refusal>
         ensures asked { AsksWhetherEnded job result self.old.parts self.new.parts }
         ensures same { self.new ≡ record self.old { parts = self.new.parts } }
-        ensures reached { Reaches O.output_number self.old self.new }
+        ensures reached { Reaches O.output_number W.leads self.old self.new }
     {
         self.parts.has_job_ended(job)
     }
@@ -63,7 +64,7 @@ impl<F: Drop, O: Outcome + Drop, P: ThreadPool + Drop, U: Unpark> Cx<F, O, P, U>
     }
 }
 
-impl<F: Drop, O: Outcome + Drop, P: ThreadPool + Drop, U: Unpark> Cx<F, O, P, U>
+impl<F: Drop, O: Outcome + Drop, P: ThreadPool + Drop, U: Unpark, W: SharedState + Drop> Cx<F, O, P, U, W>
 where
     P::Job: Job<Unpark = U>,
 {
@@ -76,7 +77,7 @@ where
     pub fn poll_job(&mut self, job: u64) -> Result<Poll<Result<OutputOf<P>, JoinError>>, PollJob>
         ensures polled { PollsJob P.Job.Output.output_number job result self.old.parts self.new.parts }
         ensures same { self.new ≡ record self.old { parts = self.new.parts } }
-        ensures reached { Reaches O.output_number self.old self.new }
+        ensures reached { Reaches O.output_number W.leads self.old self.new }
     {
         match self.own_waker() {
             Err(_) => {

@@ -27,4 +27,5 @@ pub use mono_inbox::RemoteWaker;
 pub use mono_jobs::{JobHandle, OutputOf, PollJob, SpawnError};
 pub use mono_joinword::{JoinError, Outcome};
 pub use mono_parts::{Entry, Journal, RunError, laws};
+pub use mono_shared::{SharedContext, SharedState};
 pub use runtimes::Runtime;

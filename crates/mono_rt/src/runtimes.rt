@@ -12,23 +12,25 @@ use mono_driver::Driver;
 use mono_joinword::Outcome;
 use mono_model::Host;
 use mono_parts::{Journal, RunError};
+use mono_shared::SharedState;
 use mono_task::TaskFuture;
 use std::alloc::Global;
 
 /// Futures that run on one thread, the driver on which it waits, and the journal of what it did.
 #[derive(Drop)]
-pub struct Runtime<F, O, D: Driver, P: ThreadPool> {
-    pub(crate) cx: Cx<F, O, P, D::Unpark>,
+pub struct Runtime<F, O, D: Driver, P: ThreadPool, W = ()> {
+    pub(crate) cx: Cx<F, O, P, D::Unpark, W>,
     pub(crate) driver: D,
     pub(crate) journal: Journal,
 }
 
-impl<F, O, D, P> Runtime<F, O, D, P>
+impl<F, O, D, P, W> Runtime<F, O, D, P, W>
 where
-    F: TaskFuture<Cx<F, O, P, D::Unpark>, Output = O> + Drop,
+    F: TaskFuture<Cx<F, O, P, D::Unpark, W>, Output = O> + Drop,
     O: Outcome + Drop,
     D: Driver,
     P: ThreadPool + Drop,
+    W: SharedState + Drop,
 {
     /// The clock is read, and the task at the queue's front has its turn.
     pub(crate) fn turn<R: Host>(&mut self, rt: &R, alloc: Global) -> Result<(), RunError>
@@ -37,11 +39,12 @@ where
         requires queued { 0 < length self.old.cx.parts.tasks.tasks.queue }
         ensures goes { Goes O.output_number self.old.cx.parts self.new.cx.parts self.old.journal self.new.journal }
         ensures turned { OnOk result (Does O.output_number OneTurn self.old.cx.parts self.new.cx.parts self.old.journal self.new.journal) }
-        ensures polled { OnOk result (Does O.output_number (Polling O.output_number F.TaskFuture self.old.cx.parts.has_timers self.old.cx.futures.items self.new.cx.futures.items) self.old.cx.parts self.new.cx.parts self.old.journal self.new.journal) }
+        ensures polled { OnOk result (Does O.output_number (Polling O.output_number W.leads F.TaskFuture self.old.cx.parts.has_timers self.old.cx.futures.items self.new.cx.futures.items) self.old.cx.parts self.new.cx.parts self.old.journal self.new.journal) }
+        ensures shared { W.leads self.old.cx.shared self.new.cx.shared }
         ensures has_timers { self.new.cx.parts.has_timers ≡ self.old.cx.parts.has_timers }
         ensures rests { self.new.cx.parts.tasks.turn ≡ None }
         ensures told { Telling (Still going) (telling (D.readings self.old.driver) (D.time self.old.driver) (D.parks self.old.driver)) going self.old.journal self.new.journal (telling (D.readings self.new.driver) (D.time self.new.driver) (D.parks self.new.driver)) }
-        ensures full { Fills O.output_number F.TaskFuture self.old.cx self.old.journal self.new.journal }
+        ensures full { Fills O.output_number W.leads F.TaskFuture self.old.cx self.old.journal self.new.journal }
         ensures held { self.new.journal.entries.held ≡ self.old.journal.entries.held }
     {
         let Some(now) = self

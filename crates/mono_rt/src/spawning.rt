@@ -11,10 +11,11 @@ use crate::runtimes::Runtime;
 use mono_blocking::ThreadPool;
 use mono_driver::Driver;
 use mono_joinword::Outcome;
+use mono_shared::SharedState;
 use mono_task::{JoinHandle, SpawnTask};
 use std::alloc::Global;
 
-impl<F: Drop, O: Outcome + Drop, D: Driver, P: ThreadPool + Drop> Runtime<F, O, D, P> {
+impl<F: Drop, O: Outcome + Drop, D: Driver, P: ThreadPool + Drop, W: SharedState + Drop> Runtime<F, O, D, P, W> {
     /// Makes a task of this future, which is queued last and has its turns in calls of `block_on`. The future is put into the
     /// table under the task's number (`number`, `futures`).
     ///
@@ -30,6 +31,7 @@ impl<F: Drop, O: Outcome + Drop, D: Driver, P: ThreadPool + Drop> Runtime<F, O, 
         ensures refused { OnErr result ((self.new.cx.parts ≡ self.old.cx.parts) × (self.new.cx.futures.items ≡ self.old.cx.futures.items)) }
         ensures has_timers { self.new.cx.parts.has_timers ≡ self.old.cx.parts.has_timers }
         ensures turn { self.new.cx.parts.tasks.turn ≡ self.old.cx.parts.tasks.turn }
+        ensures shared { self.new.cx.shared ≡ self.old.cx.shared }
         ensures journal { self.new.journal ≡ self.old.journal }
     {
         if let Err(future) = self.cx.futures.offer(alloc, future) {
@@ -46,7 +48,7 @@ impl<F: Drop, O: Outcome + Drop, D: Driver, P: ThreadPool + Drop> Runtime<F, O, 
     }
 
     /// Its tasks, sleeps and futures, as they stand between two calls.
-    pub fn context(&self) -> &Cx<F, O, P, D::Unpark>
+    pub fn context(&self) -> &Cx<F, O, P, D::Unpark, W>
         ensures { result.now ≡ self.now.cx }
     {
         &self.cx

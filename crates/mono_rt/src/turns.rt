@@ -14,18 +14,20 @@ use mono_exec::{End, Ended};
 use mono_inbox::Unpark;
 use mono_joinword::Outcome;
 use mono_model::Host;
+use mono_shared::SharedState;
 use mono_task::{Poll, TaskFuture};
 use mono_time::Instant;
 use std::alloc::Global;
 use std::mem;
 
-impl<F: Drop, O: Outcome + Drop, P: ThreadPool + Drop, U: Unpark> Cx<F, O, P, U> {
+impl<F: Drop, O: Outcome + Drop, P: ThreadPool + Drop, U: Unpark, W: SharedState + Drop> Cx<F, O, P, U, W> {
     /// The future of the task whose turn ends goes back to its place, with the task's waker beside it.
     #[inline(always)]
     fn put_back(&mut self, task: u64, future: Option<F>)
         requires { IfSome future (λ f. lent_at self.old.futures task ≡ true) }
         ensures parts { self.new.parts ≡ self.old.parts }
         ensures futures { self.new.futures.items ≡ slice_set self.old.futures.items task future }
+        ensures shared { self.new.shared ≡ self.old.shared }
     {
         let waker = mem::replace(&mut self.waker, None);
         match future {
@@ -82,12 +84,13 @@ impl<F: Drop, O: Outcome + Drop, P: ThreadPool + Drop, U: Unpark> Cx<F, O, P, U>
     }
 }
 
-impl<F, O, P, U> Cx<F, O, P, U>
+impl<F, O, P, U, W> Cx<F, O, P, U, W>
 where
-    F: TaskFuture<Cx<F, O, P, U>, Output = O> + Drop,
+    F: TaskFuture<Cx<F, O, P, U, W>, Output = O> + Drop,
     O: Outcome + Drop,
     P: ThreadPool + Drop,
     U: Unpark,
+    W: SharedState + Drop,
 {
     /// The turn of the task that has begun, with the future that it had in the table.
     fn run_turn<R: Host>(
@@ -100,7 +103,7 @@ where
         requires callable { (f : F) → F.can_poll f }
         requires runs { self.old.parts.tasks.turn ≡ Some task }
         requires lent { IfSome taken (λ f. lent_at self.old.futures task ≡ true) }
-        ensures { Runs O.output_number F.TaskFuture taken task result.0 result.1 self.old self.new }
+        ensures { Runs O.output_number W.leads F.TaskFuture taken task result.0 result.1 self.old self.new }
     {
         let Some(mut future) = taken else {
             return (End::Pending, self.pause_turn(task, None));
@@ -123,8 +126,9 @@ where
         requires callable { (f : F) → F.can_poll f }
         requires rests { self.old.parts.tasks.turn ≡ None }
         requires queued { 0 < length self.old.parts.tasks.tasks.queue }
-        ensures turn { Turn O.output_number F.TaskFuture result.0 now self.old.parts.acts result.1 result.2 self.old self.new }
+        ensures turn { Turn O.output_number W.leads F.TaskFuture result.0 now self.old.parts.acts result.1 result.2 self.old self.new }
         ensures is { self.old.parts.acts ≡ no_acts → (m : Machine) → Matches O.output_number hosting_of self.old.parts m → IsTurnOf O.output_number result.0 result.1 result.2 self.old.parts self.new.parts m }
+        ensures shared { W.leads self.old.shared self.new.shared }
         ensures has_timers { self.new.parts.has_timers ≡ self.old.parts.has_timers }
         ensures rests { self.new.parts.tasks.turn ≡ None }
     {

@@ -1,4 +1,5 @@
 use Rattle.std.proofs.Common.{[], subst}
+use Rattle.std.specs.Prelude.{⊤}
 use Rattle.mono_machine.specs.Machine.{Machine, start_machine}
 use Rattle.mono_jobs.specs.Spawning.{strategy_of}
 use Rattle.mono_parts.specs.Numbered.{answer_numbered}
@@ -25,5 +26,5 @@ returns g c =
           (told_in c.into_journal.result c.in_ok-runtime.ensures.journal c.into_journal.ensures c.block_on-answer.ensures.told unfull);
       parks = λ unfull. registers_of number made.cx.parts left.cx.parts made.journal left.journal c.into_journal.result m c.in_ok-runtime.ensures.stands c.in_ok-runtime.ensures.journal c.into_journal.ensures c.in_ok-runtime.ensures.registered (goes_of number told made.cx.parts left.cx.parts made.journal left.journal c.block_on-answer.ensures.blocked) unfull;
       run = λ unfull. run_of number made.cx.parts left.cx.parts made.journal left.journal c.into_journal.result m c.in_ok-runtime.ensures.stands c.in_ok-runtime.ensures.journal c.into_journal.ensures (goes_of number told made.cx.parts left.cx.parts made.journal left.journal c.block_on-answer.ensures.blocked) unfull;
-      full = one_long number g.F.TaskFuture made.cx made.journal left.journal c.into_journal.result c.in_ok-runtime.ensures.unfull c.into_journal.ensures c.block_on-answer.ensures.full;
+      full = one_long number (λ a b. ⊤) g.F.TaskFuture made.cx made.journal left.journal c.into_journal.result c.in_ok-runtime.ensures.unfull c.into_journal.ensures c.block_on-answer.ensures.full;
     }

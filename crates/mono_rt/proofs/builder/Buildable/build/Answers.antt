@@ -35,3 +35,6 @@ returns-clause-me g c = at_start (λ made. made.cx.parts.me) (λ made. made.cx.p
 
 pub returns-clause-registered : goal.returns-clause-registered
 returns-clause-registered g c = c.make.ensures.registered
+
+pub returns-clause-shared : goal.returns-clause-shared
+returns-clause-shared g c = c.make.ensures.shared

@@ -1,6 +1,6 @@
 use Rattle.std.proofs.Common.{sym, ◌∙◌, subst}
 use Rattle.mono_parts.specs.Turns.{BeginsParts}
-use Rattle.mono_rt.proofs.Turning.{turn_is, rests_after, same_has_timers}
+use Rattle.mono_rt.proofs.Turning.{turn_is, rests_after, same_has_timers, turn_led}
 use Rattle.mono_parts.proofs.Turning.{begun_turn}
 use Rattle.mono_rt.proofs.contexts.Cx.turn.Goals as goal
 
@@ -13,15 +13,22 @@ returns-clause-is g c = λ empty m st.
     let old = c.args.self.now in
     let begun = c.begin_turn-task.new.self in
     let t = c.begin_turn-task.result.0 in
-    turn_is number g.F.TaskFuture c.begin_turn-task.result.1 old begun c.run_turn-end.new.self t c.args.now _ _ m
+    turn_is number g.W.SharedState.leads g.F.TaskFuture c.begin_turn-task.result.1 old begun c.run_turn-end.new.self t c.args.now _ _ m
     (subst (λ a. BeginsParts t c.args.now a old.parts begun.parts) empty c.begin_turn-task.ensures.begins.parts) c.run_turn-end.ensures st
 
 pub returns-clause-rests : goal.returns-clause-rests
 returns-clause-rests g c =
-    rests_after g.O.Outcome.output_number g.F.TaskFuture c.begin_turn-task.result.1 c.begin_turn-task.new.self c.run_turn-end.new.self c.begin_turn-task.result.0 _ _
+    rests_after g.O.Outcome.output_number g.W.SharedState.leads g.F.TaskFuture c.begin_turn-task.result.1 c.begin_turn-task.new.self c.run_turn-end.new.self c.begin_turn-task.result.0 _ _
     (begun_turn g.O.Outcome.output_number c.args.self.now.parts c.begin_turn-task.new.self.parts c.begin_turn-task.result.0 c.args.now c.args.self.now.parts.acts c.begin_turn-task.ensures.begins.parts) c.run_turn-end.ensures
 
 pub returns-clause-has_timers : goal.returns-clause-has_timers
 returns-clause-has_timers g c =
-    same_has_timers g.O.Outcome.output_number g.F.TaskFuture c.begin_turn-task.result.1 c.begin_turn-task.new.self c.run_turn-end.new.self c.begin_turn-task.result.0 _ _ c.run_turn-end.ensures
+    same_has_timers g.O.Outcome.output_number g.W.SharedState.leads g.F.TaskFuture c.begin_turn-task.result.1 c.begin_turn-task.new.self c.run_turn-end.new.self c.begin_turn-task.result.0 _ _ c.run_turn-end.ensures
     ∙ c.begin_turn-task.ensures.begins.parts.has_timers
+
+pub returns-clause-shared : goal.returns-clause-shared
+returns-clause-shared g c =
+    let begun = c.begin_turn-task.new.self in
+    let left = c.run_turn-end.new.self in
+    subst (λ w. g.W.SharedState.leads w left.shared) c.begin_turn-task.ensures.begins.shared
+    (turn_led g.O.Outcome.output_number g.W.SharedState.leads g.F.TaskFuture g.met.W.SharedState.leads_itself g.met.W.SharedState.leads_on c.begin_turn-task.result.1 begun left c.begin_turn-task.result.0 _ _ c.run_turn-end.ensures)

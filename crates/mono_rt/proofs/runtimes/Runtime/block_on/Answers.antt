@@ -56,7 +56,7 @@ pub returns-in-Some-clause-told : goal.returns-in-Some-clause-told
 returns-in-Some-clause-told g c = telling_past (telling_on {q = going} c.start_main.ensures.told (rw c.in-Ok-answer.is at c.run-answer.ensures.told)) (c.end_main-output.ensures.told _)
 
 pub returns-in-Err-clause-full : goal.returns-in-Err-clause-full
-returns-in-Err-clause-full g c = fills_not g.O.Outcome.output_number g.F.TaskFuture c.args.self.now.cx c.args.self.now.journal c.start_main.new.self.journal c.start_main.ensures.full
+returns-in-Err-clause-full g c = fills_not g.O.Outcome.output_number g.W.SharedState.leads g.F.TaskFuture c.args.self.now.cx c.args.self.now.journal c.start_main.new.self.journal c.start_main.ensures.full
 
 pub returns-in-Err-answer-clause-full : goal.returns-in-Err-answer-clause-full
 returns-in-Err-answer-clause-full g c =
@@ -64,8 +64,8 @@ returns-in-Err-answer-clause-full g c =
     let old = c.args.self.now in
     let started = c.start_main.new.self in
     let ran = c.run-answer.new.self in
-    fills_still number g.F.TaskFuture old.cx old.journal ran.journal c.end_main-output.new.journal
-    (fills_on number g.F.TaskFuture old.cx started.cx old.journal started.journal ran.journal c.start_main.ensures.goes (fills_not number g.F.TaskFuture old.cx old.journal started.journal c.start_main.ensures.full) c.run-answer.ensures.full)
+    fills_still number g.W.SharedState.leads g.F.TaskFuture old.cx old.journal ran.journal c.end_main-output.new.journal
+    (fills_on number g.W.SharedState.leads g.F.TaskFuture old.cx started.cx old.journal started.journal ran.journal c.start_main.ensures.goes (fills_not number g.W.SharedState.leads g.F.TaskFuture old.cx old.journal started.journal c.start_main.ensures.full) c.run-answer.ensures.full)
     c.end_main-output.ensures.full
 
 pub returns-in-Some-clause-full : goal.returns-in-Some-clause-full
@@ -74,8 +74,8 @@ returns-in-Some-clause-full g c =
     let old = c.args.self.now in
     let started = c.start_main.new.self in
     let ran = c.run-answer.new.self in
-    fills_still number g.F.TaskFuture old.cx old.journal ran.journal c.end_main-output.new.journal
-    (fills_on number g.F.TaskFuture old.cx started.cx old.journal started.journal ran.journal c.start_main.ensures.goes (fills_not number g.F.TaskFuture old.cx old.journal started.journal c.start_main.ensures.full) c.run-answer.ensures.full)
+    fills_still number g.W.SharedState.leads g.F.TaskFuture old.cx old.journal ran.journal c.end_main-output.new.journal
+    (fills_on number g.W.SharedState.leads g.F.TaskFuture old.cx started.cx old.journal started.journal ran.journal c.start_main.ensures.goes (fills_not number g.W.SharedState.leads g.F.TaskFuture old.cx old.journal started.journal c.start_main.ensures.full) c.run-answer.ensures.full)
     c.end_main-output.ensures.full
 
 pub returns-in-Err-clause-polled : goal.returns-in-Err-clause-polled
@@ -91,10 +91,10 @@ returns-in-Err-answer-clause-polled g c =
     let last = c.end_main-output.new.journal in
     let h = old.cx.parts.has_timers in
     same_error ⊤ ⊤ c.in-Err-answer.error _ (on_main {X = ⊤} (Err c.in-Err-answer.error) _ _
-    (λ x. polls_main number g.F.TaskFuture h c.args.future c.in-Ok.main old.cx.futures.items started.cx.futures.items ran.cx.futures.items old.cx.parts started.cx.parts ended old.journal started.journal last c.in-Ok.ensures.made c.in-Ok.ensures.spawned
-    (polls_on number g.F.TaskFuture h started.cx.futures.items ran.cx.futures.items ran.cx.futures.items started.cx.parts ran.cx.parts ended started.journal ran.journal last
-    (subst (λ b. Does number (Polling number g.F.TaskFuture b started.cx.futures.items ran.cx.futures.items) started.cx.parts ran.cx.parts started.journal ran.journal) c.start_main.ensures.has_timers x)
-    (polls_drop number g.F.TaskFuture h ran.cx.futures.items ran.cx.futures.items c.in-Ok.main (option_map number c.end_main-output.result) ran.cx.parts ended ran.journal last refl c.end_main-output.ensures.dropped)))
+    (λ x. polls_main number g.W.SharedState.leads g.F.TaskFuture h c.args.future c.in-Ok.main old.cx.futures.items started.cx.futures.items ran.cx.futures.items old.cx.parts started.cx.parts ended old.journal started.journal last c.in-Ok.ensures.made c.in-Ok.ensures.spawned
+    (polls_on number g.W.SharedState.leads g.F.TaskFuture h started.cx.futures.items ran.cx.futures.items ran.cx.futures.items started.cx.parts ran.cx.parts ended started.journal ran.journal last
+    (subst (λ b. Does number (Polling number g.W.SharedState.leads g.F.TaskFuture b started.cx.futures.items ran.cx.futures.items) started.cx.parts ran.cx.parts started.journal ran.journal) c.start_main.ensures.has_timers x)
+    (polls_drop number g.W.SharedState.leads g.F.TaskFuture h ran.cx.futures.items ran.cx.futures.items c.in-Ok.main (option_map number c.end_main-output.result) ran.cx.parts ended ran.journal last refl c.end_main-output.ensures.dropped)))
     (rw c.in-Err-answer.is at c.run-answer.ensures.polled))
 
 pub returns-in-Some-clause-polled : goal.returns-in-Some-clause-polled
@@ -106,7 +106,7 @@ returns-in-Some-clause-polled g c =
     let ended = c.end_main-output.new.self in
     let last = c.end_main-output.new.journal in
     let h = old.cx.parts.has_timers in
-    polls_main number g.F.TaskFuture h c.args.future c.in-Ok.main old.cx.futures.items started.cx.futures.items ran.cx.futures.items old.cx.parts started.cx.parts ended old.journal started.journal last c.in-Ok.ensures.made c.in-Ok.ensures.spawned
-    (polls_on number g.F.TaskFuture h started.cx.futures.items ran.cx.futures.items ran.cx.futures.items started.cx.parts ran.cx.parts ended started.journal ran.journal last
-    (subst (λ b. Does number (Polling number g.F.TaskFuture b started.cx.futures.items ran.cx.futures.items) started.cx.parts ran.cx.parts started.journal ran.journal) c.start_main.ensures.has_timers (rw c.in-Ok-answer.is at c.run-answer.ensures.polled))
-    (polls_drop number g.F.TaskFuture h ran.cx.futures.items ran.cx.futures.items c.in-Ok.main (option_map number c.end_main-output.result) ran.cx.parts ended ran.journal last refl c.end_main-output.ensures.dropped))
+    polls_main number g.W.SharedState.leads g.F.TaskFuture h c.args.future c.in-Ok.main old.cx.futures.items started.cx.futures.items ran.cx.futures.items old.cx.parts started.cx.parts ended old.journal started.journal last c.in-Ok.ensures.made c.in-Ok.ensures.spawned
+    (polls_on number g.W.SharedState.leads g.F.TaskFuture h started.cx.futures.items ran.cx.futures.items ran.cx.futures.items started.cx.parts ran.cx.parts ended started.journal ran.journal last
+    (subst (λ b. Does number (Polling number g.W.SharedState.leads g.F.TaskFuture b started.cx.futures.items ran.cx.futures.items) started.cx.parts ran.cx.parts started.journal ran.journal) c.start_main.ensures.has_timers (rw c.in-Ok-answer.is at c.run-answer.ensures.polled))
+    (polls_drop number g.W.SharedState.leads g.F.TaskFuture h ran.cx.futures.items ran.cx.futures.items c.in-Ok.main (option_map number c.end_main-output.result) ran.cx.parts ended ran.journal last refl c.end_main-output.ensures.dropped))

@@ -26,3 +26,6 @@ returns-clause-unfull g c = c.make.ensures.full
 
 pub returns-clause-registered : goal.returns-clause-registered
 returns-clause-registered g c = c.make.ensures.registered
+
+pub returns-clause-shared : goal.returns-clause-shared
+returns-clause-shared g c = c.make.ensures.shared

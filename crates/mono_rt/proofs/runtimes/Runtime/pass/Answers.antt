@@ -70,7 +70,7 @@ pub returns-in-Err-clause-polled : goal.returns-in-Err-clause-polled
 returns-in-Err-clause-polled g c =
     let old = c.args.self.now in
     let paused = c.pause.new.self in
-    same_error ⊤ ⊤ c.in-Err.error _ (polls_pause g.O.Outcome.output_number g.F.TaskFuture old.cx.parts.has_timers _ _ old.cx.parts.has_timers (Err c.in-Err.error) old.cx.parts paused.cx.parts old.journal paused.journal (ap (λ v. v.items) c.pause.ensures.futures) (rw c.in-Err.is at c.pause.ensures.pauses))
+    same_error ⊤ ⊤ c.in-Err.error _ (polls_pause g.O.Outcome.output_number g.W.SharedState.leads g.F.TaskFuture old.cx.parts.has_timers _ _ old.cx.parts.has_timers (Err c.in-Err.error) old.cx.parts paused.cx.parts old.journal paused.journal (ap (λ v. v.items) c.pause.ensures.futures) (rw c.in-Err.is at c.pause.ensures.pauses))
 
 pub returns-in-Ok-clause-polled : goal.returns-in-Ok-clause-polled
 returns-in-Ok-clause-polled g c =
@@ -78,9 +78,9 @@ returns-in-Ok-clause-polled g c =
     let old = c.args.self.now in
     let paused = c.pause.new.self in
     let left = c.round.new.self in
-    polls_on number g.F.TaskFuture old.cx.parts.has_timers _ _ _ old.cx.parts paused.cx.parts left.cx.parts old.journal paused.journal left.journal
-    (polls_pause number g.F.TaskFuture old.cx.parts.has_timers old.cx.futures.items paused.cx.futures.items old.cx.parts.has_timers (Ok true) old.cx.parts paused.cx.parts old.journal paused.journal (ap (λ v. v.items) c.pause.ensures.futures) (rw c.in-Ok-true.is at c.pause.ensures.pauses))
-    (subst (λ x. Does number (Polling number g.F.TaskFuture x paused.cx.futures.items left.cx.futures.items) paused.cx.parts left.cx.parts paused.journal left.journal) c.pause.ensures.has_timers c.in-Ok.ensures.polled)
+    polls_on number g.W.SharedState.leads g.F.TaskFuture old.cx.parts.has_timers _ _ _ old.cx.parts paused.cx.parts left.cx.parts old.journal paused.journal left.journal
+    (polls_pause number g.W.SharedState.leads g.F.TaskFuture old.cx.parts.has_timers old.cx.futures.items paused.cx.futures.items old.cx.parts.has_timers (Ok true) old.cx.parts paused.cx.parts old.journal paused.journal (ap (λ v. v.items) c.pause.ensures.futures) (rw c.in-Ok-true.is at c.pause.ensures.pauses))
+    (subst (λ x. Does number (Polling number g.W.SharedState.leads g.F.TaskFuture x paused.cx.futures.items left.cx.futures.items) paused.cx.parts left.cx.parts paused.journal left.journal) c.pause.ensures.has_timers c.in-Ok.ensures.polled)
 
 pub returns-in-Ok-round-clause-polled : goal.returns-in-Ok-round-clause-polled
 returns-in-Ok-round-clause-polled g c =
@@ -88,45 +88,45 @@ returns-in-Ok-round-clause-polled g c =
     let old = c.args.self.now in
     let paused = c.pause.new.self in
     let left = c.round-in-Ok-false.new.self in
-    polls_on number g.F.TaskFuture old.cx.parts.has_timers _ _ _ old.cx.parts paused.cx.parts left.cx.parts old.journal paused.journal left.journal
-    (polls_pause number g.F.TaskFuture old.cx.parts.has_timers old.cx.futures.items paused.cx.futures.items old.cx.parts.has_timers (Ok false) old.cx.parts paused.cx.parts old.journal paused.journal (ap (λ v. v.items) c.pause.ensures.futures) (rw c.in-Ok-false.is at c.pause.ensures.pauses))
-    (subst (λ x. Does number (Polling number g.F.TaskFuture x paused.cx.futures.items left.cx.futures.items) paused.cx.parts left.cx.parts paused.journal left.journal) c.pause.ensures.has_timers c.in-Ok-round.ensures.polled)
+    polls_on number g.W.SharedState.leads g.F.TaskFuture old.cx.parts.has_timers _ _ _ old.cx.parts paused.cx.parts left.cx.parts old.journal paused.journal left.journal
+    (polls_pause number g.W.SharedState.leads g.F.TaskFuture old.cx.parts.has_timers old.cx.futures.items paused.cx.futures.items old.cx.parts.has_timers (Ok false) old.cx.parts paused.cx.parts old.journal paused.journal (ap (λ v. v.items) c.pause.ensures.futures) (rw c.in-Ok-false.is at c.pause.ensures.pauses))
+    (subst (λ x. Does number (Polling number g.W.SharedState.leads g.F.TaskFuture x paused.cx.futures.items left.cx.futures.items) paused.cx.parts left.cx.parts paused.journal left.journal) c.pause.ensures.has_timers c.in-Ok-round.ensures.polled)
 
 pub returns-in-Err-clause-full : goal.returns-in-Err-clause-full
-returns-in-Err-clause-full g c = fills_not g.O.Outcome.output_number g.F.TaskFuture c.args.self.now.cx c.args.self.now.journal c.pause.new.self.journal c.pause.ensures.full
+returns-in-Err-clause-full g c = fills_not g.O.Outcome.output_number g.W.SharedState.leads g.F.TaskFuture c.args.self.now.cx c.args.self.now.journal c.pause.new.self.journal c.pause.ensures.full
 
 pub returns-in-Ok-clause-full : goal.returns-in-Ok-clause-full
 returns-in-Ok-clause-full g c =
     let number = g.O.Outcome.output_number in
     let old = c.args.self.now in
     let paused = c.pause.new.self in
-    fills_on number g.F.TaskFuture old.cx paused.cx old.journal paused.journal c.round.new.self.journal
+    fills_on number g.W.SharedState.leads g.F.TaskFuture old.cx paused.cx old.journal paused.journal c.round.new.self.journal
     (goes_of number (PauseEnds old.cx.parts.has_timers c.pause.result) old.cx.parts paused.cx.parts old.journal paused.journal c.pause.ensures.pauses)
-    (fills_not number g.F.TaskFuture old.cx old.journal paused.journal c.pause.ensures.full) c.round.ensures.full
+    (fills_not number g.W.SharedState.leads g.F.TaskFuture old.cx old.journal paused.journal c.pause.ensures.full) c.round.ensures.full
 
 pub returns-in-Ok-round-clause-full : goal.returns-in-Ok-round-clause-full
 returns-in-Ok-round-clause-full g c =
     let number = g.O.Outcome.output_number in
     let old = c.args.self.now in
     let paused = c.pause.new.self in
-    fills_on number g.F.TaskFuture old.cx paused.cx old.journal paused.journal c.round-in-Ok-false.new.self.journal
+    fills_on number g.W.SharedState.leads g.F.TaskFuture old.cx paused.cx old.journal paused.journal c.round-in-Ok-false.new.self.journal
     (goes_of number (PauseEnds old.cx.parts.has_timers c.pause.result) old.cx.parts paused.cx.parts old.journal paused.journal c.pause.ensures.pauses)
-    (fills_not number g.F.TaskFuture old.cx old.journal paused.journal c.pause.ensures.full) c.round-in-Ok-false.ensures.full
+    (fills_not number g.W.SharedState.leads g.F.TaskFuture old.cx old.journal paused.journal c.pause.ensures.full) c.round-in-Ok-false.ensures.full
 
 pub returns-in-Err-round-clause-full : goal.returns-in-Err-round-clause-full
 returns-in-Err-round-clause-full g c =
     let number = g.O.Outcome.output_number in
     let old = c.args.self.now in
     let paused = c.pause.new.self in
-    fills_on number g.F.TaskFuture old.cx paused.cx old.journal paused.journal c.round.new.self.journal
+    fills_on number g.W.SharedState.leads g.F.TaskFuture old.cx paused.cx old.journal paused.journal c.round.new.self.journal
     (goes_of number (PauseEnds old.cx.parts.has_timers c.pause.result) old.cx.parts paused.cx.parts old.journal paused.journal c.pause.ensures.pauses)
-    (fills_not number g.F.TaskFuture old.cx old.journal paused.journal c.pause.ensures.full) c.round.ensures.full
+    (fills_not number g.W.SharedState.leads g.F.TaskFuture old.cx old.journal paused.journal c.pause.ensures.full) c.round.ensures.full
 
 pub returns-in-Err-round-2-clause-full : goal.returns-in-Err-round-2-clause-full
 returns-in-Err-round-2-clause-full g c =
     let number = g.O.Outcome.output_number in
     let old = c.args.self.now in
     let paused = c.pause.new.self in
-    fills_on number g.F.TaskFuture old.cx paused.cx old.journal paused.journal c.round-in-Ok-false.new.self.journal
+    fills_on number g.W.SharedState.leads g.F.TaskFuture old.cx paused.cx old.journal paused.journal c.round-in-Ok-false.new.self.journal
     (goes_of number (PauseEnds old.cx.parts.has_timers c.pause.result) old.cx.parts paused.cx.parts old.journal paused.journal c.pause.ensures.pauses)
-    (fills_not number g.F.TaskFuture old.cx old.journal paused.journal c.pause.ensures.full) c.round-in-Ok-false.ensures.full
+    (fills_not number g.W.SharedState.leads g.F.TaskFuture old.cx old.journal paused.journal c.pause.ensures.full) c.round-in-Ok-false.ensures.full

@@ -27,6 +27,7 @@ loop-units-init g c = (
   c.in-Ok.ensures.polled,
   c.round.ensures.full,
   c.round.ensures.held,
+  c.round.ensures.shared,
 )
 
 pub loop-units-preserved : goal.loop-units-preserved
@@ -36,11 +37,12 @@ loop-units-preserved g c = (
   c.pass.ensures.rests,
   c.pass.ensures.has_timers ∙ c.loop-units.invariant.2,
   telling_on {q = going} c.loop-units.invariant.3 (rw c.in-Ok-pass.is at c.pass.ensures.told),
-  polls_on g.O.Outcome.output_number g.F.TaskFuture c.args.self.now.cx.parts.has_timers _ _ _ c.args.self.now.cx.parts c.loop-units.self.cx.parts c.pass.new.self.cx.parts c.args.self.now.journal c.loop-units.self.journal c.pass.new.self.journal c.loop-units.invariant.4
-      (subst (λ x. Does g.O.Outcome.output_number (Polling g.O.Outcome.output_number g.F.TaskFuture x c.loop-units.self.cx.futures.items c.pass.new.self.cx.futures.items) c.loop-units.self.cx.parts c.pass.new.self.cx.parts c.loop-units.self.journal c.pass.new.self.journal) c.loop-units.invariant.2 (rw c.in-Ok-pass.is at c.pass.ensures.polled)),
-  fills_on g.O.Outcome.output_number g.F.TaskFuture c.args.self.now.cx c.loop-units.self.cx c.args.self.now.journal c.loop-units.self.journal c.pass.new.self.journal
+  polls_on g.O.Outcome.output_number g.W.SharedState.leads g.F.TaskFuture c.args.self.now.cx.parts.has_timers _ _ _ c.args.self.now.cx.parts c.loop-units.self.cx.parts c.pass.new.self.cx.parts c.args.self.now.journal c.loop-units.self.journal c.pass.new.self.journal c.loop-units.invariant.4
+      (subst (λ x. Does g.O.Outcome.output_number (Polling g.O.Outcome.output_number g.W.SharedState.leads g.F.TaskFuture x c.loop-units.self.cx.futures.items c.pass.new.self.cx.futures.items) c.loop-units.self.cx.parts c.pass.new.self.cx.parts c.loop-units.self.journal c.pass.new.self.journal) c.loop-units.invariant.2 (rw c.in-Ok-pass.is at c.pass.ensures.polled)),
+  fills_on g.O.Outcome.output_number g.W.SharedState.leads g.F.TaskFuture c.args.self.now.cx c.loop-units.self.cx c.args.self.now.journal c.loop-units.self.journal c.pass.new.self.journal
       (goes_of g.O.Outcome.output_number (Rounds c.args.self.now.cx.parts.has_timers c.args.main c.args.turns c.loop-units.units) c.args.self.now.cx.parts c.loop-units.self.cx.parts c.args.self.now.journal c.loop-units.self.journal c.loop-units.invariant.0) c.loop-units.invariant.5 c.pass.ensures.full,
   c.pass.ensures.held ∙ c.loop-units.invariant.6,
+  g.met.W.SharedState.leads_on _ _ _ c.loop-units.invariant.7 c.pass.ensures.shared,
 )
 
 pub returns-in-Err-pass-clause-ends : goal.returns-in-Err-pass-clause-ends
@@ -84,8 +86,8 @@ returns-in-Err-pass-clause-polled g c =
     let now = c.loop-units.self in
     let left = c.pass.new.self in
     same_error ⊤ ⊤ c.in-Err-pass.error _ (on_main {X = ⊤} (Err c.in-Err-pass.error) _ _
-    (λ x. polls_on number g.F.TaskFuture old.cx.parts.has_timers old.cx.futures.items now.cx.futures.items left.cx.futures.items old.cx.parts now.cx.parts left.cx.parts old.journal now.journal left.journal c.loop-units.invariant.4
-    (subst (λ h. Does number (Polling number g.F.TaskFuture h now.cx.futures.items left.cx.futures.items) now.cx.parts left.cx.parts now.journal left.journal) c.loop-units.invariant.2 x))
+    (λ x. polls_on number g.W.SharedState.leads g.F.TaskFuture old.cx.parts.has_timers old.cx.futures.items now.cx.futures.items left.cx.futures.items old.cx.parts now.cx.parts left.cx.parts old.journal now.journal left.journal c.loop-units.invariant.4
+    (subst (λ h. Does number (Polling number g.W.SharedState.leads g.F.TaskFuture h now.cx.futures.items left.cx.futures.items) now.cx.parts left.cx.parts now.journal left.journal) c.loop-units.invariant.2 x))
     (rw c.in-Err-pass.is at c.pass.ensures.polled))
 
 pub returns-then-has_output-clause-polled : goal.returns-then-has_output-clause-polled
@@ -96,7 +98,7 @@ returns-else-has_output-clause-polled g c = c.loop-units.invariant.4
 
 pub returns-in-Err-pass-clause-full : goal.returns-in-Err-pass-clause-full
 returns-in-Err-pass-clause-full g c =
-    fills_on g.O.Outcome.output_number g.F.TaskFuture c.args.self.now.cx c.loop-units.self.cx c.args.self.now.journal c.loop-units.self.journal c.pass.new.self.journal
+    fills_on g.O.Outcome.output_number g.W.SharedState.leads g.F.TaskFuture c.args.self.now.cx c.loop-units.self.cx c.args.self.now.journal c.loop-units.self.journal c.pass.new.self.journal
     (goes_of g.O.Outcome.output_number (Rounds c.args.self.now.cx.parts.has_timers c.args.main c.args.turns c.loop-units.units) c.args.self.now.cx.parts c.loop-units.self.cx.parts c.args.self.now.journal c.loop-units.self.journal c.loop-units.invariant.0) c.loop-units.invariant.5 c.pass.ensures.full
 
 pub returns-then-has_output-clause-full : goal.returns-then-has_output-clause-full
@@ -110,3 +112,15 @@ returns-in-Err-clause-full g c = c.round.ensures.full
 
 pub returns-then-has_output-clause-given : goal.returns-then-has_output-clause-given
 returns-then-has_output-clause-given g c = c.if-has_output.ensures.given refl
+
+pub returns-in-Err-pass-clause-shared : goal.returns-in-Err-pass-clause-shared
+returns-in-Err-pass-clause-shared g c = g.met.W.SharedState.leads_on _ _ _ c.loop-units.invariant.7 c.pass.ensures.shared
+
+pub returns-then-has_output-clause-shared : goal.returns-then-has_output-clause-shared
+returns-then-has_output-clause-shared g c = c.loop-units.invariant.7
+
+pub returns-else-has_output-clause-shared : goal.returns-else-has_output-clause-shared
+returns-else-has_output-clause-shared g c = c.loop-units.invariant.7
+
+pub returns-in-Err-clause-shared : goal.returns-in-Err-clause-shared
+returns-in-Err-clause-shared g c = c.round.ensures.shared

@@ -12,9 +12,10 @@ invariant-loop-units g l = Does g.O.Outcome.output_number (Rounds l.fn.self.cx.p
     × (l.self.cx.parts.tasks.turn ≡ None) × (l.self.cx.parts.has_timers ≡ l.fn.self.cx.parts.has_timers)
     × Telling (Still going) (telling (g.D.Clock.readings l.fn.self.driver) (g.D.Clock.time l.fn.self.driver) (g.D.Clock.parks l.fn.self.driver)) going l.fn.self.journal l.self.journal
     (telling (g.D.Clock.readings l.self.driver) (g.D.Clock.time l.self.driver) (g.D.Clock.parks l.self.driver))
-    × Does g.O.Outcome.output_number (Polling g.O.Outcome.output_number g.F.TaskFuture l.fn.self.cx.parts.has_timers l.fn.self.cx.futures.items l.self.cx.futures.items) l.fn.self.cx.parts l.self.cx.parts l.fn.self.journal l.self.journal
-    × Fills g.O.Outcome.output_number g.F.TaskFuture l.fn.self.cx l.fn.self.journal l.self.journal
+    × Does g.O.Outcome.output_number (Polling g.O.Outcome.output_number g.W.SharedState.leads g.F.TaskFuture l.fn.self.cx.parts.has_timers l.fn.self.cx.futures.items l.self.cx.futures.items) l.fn.self.cx.parts l.self.cx.parts l.fn.self.journal l.self.journal
+    × Fills g.O.Outcome.output_number g.W.SharedState.leads g.F.TaskFuture l.fn.self.cx l.fn.self.journal l.self.journal
     × (l.self.journal.entries.held ≡ l.fn.self.journal.entries.held)
+    × g.W.SharedState.leads l.fn.self.cx.shared l.self.cx.shared
 
 -- each pass spends a unit
 abbrev pub decreases-loop-units : goal.decreases-loop-units

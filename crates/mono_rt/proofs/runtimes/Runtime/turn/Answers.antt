@@ -54,8 +54,8 @@ returns-clause-polled g c =
     let left = c.keep_turn.new.self in
     let first = c.open_turn.new.journal in
     let last = c.keep_turn.new.journal in
-    polls_turn number g.F.TaskFuture old.cx.parts.has_timers old.cx (record old.cx { parts = opened }) done (record done { parts = left }) old.journal first last c.turn-task.result.0 c.in-Some.now c.turn-task.result.1 c.turn-task.result.2 (ap (λ x. x.has_timers) c.open_turn.ensures.same) refl c.in-Some.ensures.at
-    (λ unfull. subst (λ acts. Turn number g.F.TaskFuture c.turn-task.result.0 c.in-Some.now acts c.turn-task.result.1 c.turn-task.result.2 (record old.cx { parts = opened }) done)
+    polls_turn number g.W.SharedState.leads g.F.TaskFuture old.cx.parts.has_timers old.cx (record old.cx { parts = opened }) done (record done { parts = left }) old.journal first last c.turn-task.result.0 c.in-Some.now c.turn-task.result.1 c.turn-task.result.2 (ap (λ x. x.has_timers) c.open_turn.ensures.same) refl c.in-Some.ensures.at
+    (λ unfull. subst (λ acts. Turn number g.W.SharedState.leads g.F.TaskFuture c.turn-task.result.0 c.in-Some.now acts c.turn-task.result.1 c.turn-task.result.2 (record old.cx { parts = opened }) done)
     (c.in-Some.ensures.acts (sym c.open_turn.ensures.full ∙ (c.keep_turn.ensures.kept unfull).0)) c.turn-task.ensures.turn)
     (does_turn number opened done.parts left first last _ _ _ (λ unfull. c.turn-task.ensures.is (c.in-Some.ensures.acts (sym c.open_turn.ensures.full ∙ (c.keep_turn.ensures.kept unfull).0))) c.keep_turn.ensures.kept
     (λ m st. same_machine number hosting_of done.parts left m c.keep_turn.ensures.tasks c.keep_turn.ensures.timers c.keep_turn.ensures.has_timers c.keep_turn.ensures.blocking st) c.keep_turn.ensures.timers)
@@ -64,13 +64,13 @@ returns-clause-polled g c =
 pub returns-then-self-clause-full : goal.returns-then-self-clause-full
 returns-then-self-clause-full g c =
     let old = c.args.self.now in
-    fills_turn g.O.Outcome.output_number g.F.TaskFuture old.cx (record old.cx { parts = c.open_turn.new.self }) c.turn-task.new.self old.journal c.open_turn.new.journal c.keep_turn.new.journal _ _ _ _ _
+    fills_turn g.O.Outcome.output_number g.W.SharedState.leads g.F.TaskFuture old.cx (record old.cx { parts = c.open_turn.new.self }) c.turn-task.new.self old.journal c.open_turn.new.journal c.keep_turn.new.journal _ _ _ _ _
     c.open_turn.ensures.goes c.open_turn.ensures.full (λ unfull. c.in-Some.ensures.acts (sym c.open_turn.ensures.full ∙ unfull)) c.turn-task.ensures.turn
     (λ unfull. c.turn-task.ensures.is (c.in-Some.ensures.acts (sym c.open_turn.ensures.full ∙ unfull))) c.keep_turn.ensures.full
 
 pub returns-clause-full : goal.returns-clause-full
 returns-clause-full g c =
     let old = c.args.self.now in
-    fills_turn g.O.Outcome.output_number g.F.TaskFuture old.cx (record old.cx { parts = c.open_turn.new.self }) c.turn-task.new.self old.journal c.open_turn.new.journal c.keep_turn.new.journal _ _ _ _ _
+    fills_turn g.O.Outcome.output_number g.W.SharedState.leads g.F.TaskFuture old.cx (record old.cx { parts = c.open_turn.new.self }) c.turn-task.new.self old.journal c.open_turn.new.journal c.keep_turn.new.journal _ _ _ _ _
     c.open_turn.ensures.goes c.open_turn.ensures.full (λ unfull. c.in-Some.ensures.acts (sym c.open_turn.ensures.full ∙ unfull)) c.turn-task.ensures.turn
     (λ unfull. c.turn-task.ensures.is (c.in-Some.ensures.acts (sym c.open_turn.ensures.full ∙ unfull))) c.keep_turn.ensures.full

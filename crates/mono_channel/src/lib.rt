@@ -1,0 +1,8 @@
+//! A bounded channel for the tasks of one runtime, as a value that they share.
+#![tactic(auto)]
+
+mod channels;
+mod ends;
+
+pub use channels::{Channel, Refused};
+pub use ends::{Receive, Send};
