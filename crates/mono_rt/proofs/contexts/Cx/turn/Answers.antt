@@ -31,4 +31,4 @@ returns-clause-shared g c =
     let begun = c.begin_turn-task.new.self in
     let left = c.run_turn-end.new.self in
     subst (λ w. g.W.SharedState.leads w left.shared) c.begin_turn-task.ensures.begins.shared
-    (turn_led g.O.Outcome.output_number g.W.SharedState.leads g.F.TaskFuture g.met.W.SharedState.leads_itself g.met.W.SharedState.leads_on c.begin_turn-task.result.1 begun left c.begin_turn-task.result.0 _ _ c.run_turn-end.ensures)
+    (turn_led g.O.Outcome.output_number g.W.SharedState.leads g.F.TaskFuture g.W.SharedState.leads_itself g.W.SharedState.leads_on c.begin_turn-task.result.1 begun left c.begin_turn-task.result.0 _ _ c.run_turn-end.ensures)

@@ -27,14 +27,14 @@ loop-done-preserved g c = (
       (subst (λ x. Does g.O.Outcome.output_number (Polling g.O.Outcome.output_number g.W.SharedState.leads g.F.TaskFuture x c.loop-done.self.cx.futures.items c.turn.new.self.cx.futures.items) c.loop-done.self.cx.parts c.turn.new.self.cx.parts c.loop-done.self.journal c.turn.new.self.journal) c.loop-done.invariant.4 c.in_ok-turn.ensures.polled),
   fills_on g.O.Outcome.output_number g.W.SharedState.leads g.F.TaskFuture c.args.self.now.cx c.loop-done.self.cx c.args.self.now.journal c.loop-done.self.journal c.turn.new.self.journal c.loop-done.invariant.0 c.loop-done.invariant.7 c.turn.ensures.full,
   c.turn.ensures.held ∙ c.loop-done.invariant.8,
-  g.met.W.SharedState.leads_on _ _ _ c.loop-done.invariant.9 c.turn.ensures.shared,
+  g.W.SharedState.leads_on _ _ _ c.loop-done.invariant.9 c.turn.ensures.shared,
 )
 
 pub loop-done-init : goal.loop-done-init
 loop-done-init g c =
     let parts = c.args.self.now.cx.parts in
     let journal = c.args.self.now.journal in
-    (goes_nowhere g.O.Outcome.output_number parts parts journal journal refl refl refl refl refl refl, c.requires.rests, λ e. refl, no_turns g.O.Outcome.output_number parts journal, refl, tells_nothing refl refl refl refl, polls_nothing g.O.Outcome.output_number g.W.SharedState.leads g.F.TaskFuture parts.has_timers c.args.self.now.cx.futures.items parts journal, fills_not g.O.Outcome.output_number g.W.SharedState.leads g.F.TaskFuture c.args.self.now.cx journal journal refl, refl, g.met.W.SharedState.leads_itself _)
+    (goes_nowhere g.O.Outcome.output_number parts parts journal journal refl refl refl refl refl refl, c.requires.rests, λ e. refl, no_turns g.O.Outcome.output_number parts journal, refl, tells_nothing refl refl refl refl, polls_nothing g.O.Outcome.output_number g.W.SharedState.leads g.F.TaskFuture parts.has_timers c.args.self.now.cx.futures.items parts journal, fills_not g.O.Outcome.output_number g.W.SharedState.leads g.F.TaskFuture c.args.self.now.cx journal journal refl, refl, g.W.SharedState.leads_itself _)
 
 pub returns-then-queue_len-eq0-clause-round : goal.returns-then-queue_len-eq0-clause-round
 returns-then-queue_len-eq0-clause-round g c =
@@ -68,7 +68,7 @@ pub returns-clause-full : goal.returns-clause-full
 returns-clause-full g c = c.loop-done.invariant.7
 
 pub returns-in_err-turn-clause-shared : goal.returns-in_err-turn-clause-shared
-returns-in_err-turn-clause-shared g c = g.met.W.SharedState.leads_on _ _ _ c.loop-done.invariant.9 c.turn.ensures.shared
+returns-in_err-turn-clause-shared g c = g.W.SharedState.leads_on _ _ _ c.loop-done.invariant.9 c.turn.ensures.shared
 
 pub returns-then-queue_len-eq0-clause-shared : goal.returns-then-queue_len-eq0-clause-shared
 returns-then-queue_len-eq0-clause-shared g c = c.loop-done.invariant.9

@@ -42,7 +42,7 @@ loop-units-preserved g c = (
   fills_on g.O.Outcome.output_number g.W.SharedState.leads g.F.TaskFuture c.args.self.now.cx c.loop-units.self.cx c.args.self.now.journal c.loop-units.self.journal c.pass.new.self.journal
       (goes_of g.O.Outcome.output_number (Rounds c.args.self.now.cx.parts.has_timers c.args.main c.args.turns c.loop-units.units) c.args.self.now.cx.parts c.loop-units.self.cx.parts c.args.self.now.journal c.loop-units.self.journal c.loop-units.invariant.0) c.loop-units.invariant.5 c.pass.ensures.full,
   c.pass.ensures.held ∙ c.loop-units.invariant.6,
-  g.met.W.SharedState.leads_on _ _ _ c.loop-units.invariant.7 c.pass.ensures.shared,
+  g.W.SharedState.leads_on _ _ _ c.loop-units.invariant.7 c.pass.ensures.shared,
 )
 
 pub returns-in-Err-pass-clause-ends : goal.returns-in-Err-pass-clause-ends
@@ -114,7 +114,7 @@ pub returns-then-has_output-clause-given : goal.returns-then-has_output-clause-g
 returns-then-has_output-clause-given g c = c.if-has_output.ensures.given refl
 
 pub returns-in-Err-pass-clause-shared : goal.returns-in-Err-pass-clause-shared
-returns-in-Err-pass-clause-shared g c = g.met.W.SharedState.leads_on _ _ _ c.loop-units.invariant.7 c.pass.ensures.shared
+returns-in-Err-pass-clause-shared g c = g.W.SharedState.leads_on _ _ _ c.loop-units.invariant.7 c.pass.ensures.shared
 
 pub returns-then-has_output-clause-shared : goal.returns-then-has_output-clause-shared
 returns-then-has_output-clause-shared g c = c.loop-units.invariant.7

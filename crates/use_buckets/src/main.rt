@@ -1,0 +1,85 @@
+//! Two tasks of one runtime that take from a bucket which they share.
+#![tactic(auto)]
+
+ghost use Rattle.std.specs.Prelude.{◌≡◌, None};
+ghost use Rattle.mono_limit.specs.Limits.{limits_of};
+ghost use Rattle.use_buckets.specs.Readings.{KeepsRate};
+
+mod buckets;
+mod takers;
+
+use mono_blocking::{Job, NoPool};
+use mono_driver::{StepDriver, TimeDriver};
+use mono_inbox::NoUnpark;
+use mono_joinword::Outcome;
+use mono_limit::laws::rate_is_kept;
+use mono_model::Host;
+use mono_rt::{Runtime, RuntimeBuilder};
+use buckets::Buckets;
+use takers::Taker;
+use std::alloc::Global;
+use std::io;
+
+/// A job that is never made.
+#[derive(Drop)]
+pub struct Idle;
+
+impl Outcome for Idle {
+    ghost output_number = { λ job. 0 };
+
+    fn number(&self) -> u64 {
+        0
+    }
+}
+
+impl Job for Idle {
+    type Output = u64;
+
+    type Unpark = NoUnpark;
+
+    fn run(self) -> u64 {
+        0
+    }
+}
+
+type Running = Runtime<Taker, u64, TimeDriver<StepDriver>, NoPool<Idle>, Buckets>;
+
+// Runs a taker beside those that were spawned. Whatever they do, and in whatever order, no more tokens of a bucket are granted
+// than it had before, and one for each period that has ended.
+fn run_taker<R: Host>(rt: &R, alloc: Global, runtime: &mut Running, taker: Taker) -> Option<u64>
+    requires { runtime.old.cx.parts.tasks.turn ≡ None }
+    ensures rate { KeepsRate (limits_of runtime.old.cx.shared.limiter) (limits_of runtime.new.cx.shared.limiter) }
+    ensures rests { runtime.new.cx.parts.tasks.turn ≡ None }
+{
+    rate_is_kept();
+    runtime.block_on(rt, alloc, taker, 100000).ok()
+}
+
+// Two tasks that take so often from one bucket: at which millisecond the second one is done.
+fn done_at<R: Host>(rt: &R, alloc: Global, burst: u64, period_ms: u64, each: u64) -> Option<u64> {
+    let driver = TimeDriver::new(StepDriver::new(Vec::new(alloc)));
+    let builder: RuntimeBuilder<TimeDriver<StepDriver>, NoPool<Idle>> = RuntimeBuilder::new(driver);
+    let Ok(buckets) = Buckets::new(alloc, burst, period_ms) else {
+        return None;
+    };
+    let made: Running = match builder.build_sharing(alloc, buckets) {
+        Ok(made) => made,
+        Err(_) => return None,
+    };
+    let mut runtime = made;
+    if runtime.spawn(alloc, Taker::new(2, each)).is_err() {
+        return None;
+    }
+    run_taker(rt, alloc, &mut runtime, Taker::new(3, each))
+}
+
+fn main(rt: HostRuntime) -> io::Result<()> {
+    let alloc = rt.alloc();
+    for (burst, period) in [(10, 100), (3, 100), (100, 100), (2, 100)] {
+        match done_at(&rt, alloc, burst, period, 4) {
+            Some(at) => println!(rt; "burst {burst}, period {period} ms: done at {at} ms")?,
+            None => println!(rt; "burst {burst}, period {period} ms: gave up")?,
+        }
+    }
+    Ok(())
+}
