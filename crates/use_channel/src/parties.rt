@@ -1,5 +1,5 @@
 // Who sends, and who receives.
-ghost use Rattle.std.specs.Prelude.{⊤, true, false};
+ghost use Rattle.std.specs.Prelude.{⊤};
 ghost use Rattle.use_channel.specs.Parties.{is_over};
 
 use mono_channel::{Channel, Receive, Send};
@@ -7,6 +7,7 @@ use mono_model::{Host, Poll};
 use mono_shared::SharedContext;
 use mono_task::TaskFuture;
 use std::alloc::Global;
+use std::mem;
 
 /// A task that sends numbers, or one that receives them.
 #[derive(Drop)]
@@ -43,12 +44,13 @@ impl<C: SharedContext<Channel<u64>>> TaskFuture<C> for Party {
     fn spent(&self) -> bool {
         match self {
             Party::Over => true,
-            _ => false,
+            Party::Sends(send, _, _) => TaskFuture::<C>::spent(send),
+            Party::Receives(receive, _, _, _) => TaskFuture::<C>::spent(receive),
         }
     }
 
     fn poll<R: Host>(&mut self, rt: &R, alloc: Global, cx: &mut C) -> Poll<u64> {
-        match std::mem::replace(self, Party::Over) {
+        match mem::replace(self, Party::Over) {
             Party::Over => Poll::Ready(0),
             Party::Sends(send, number, left) => {
                 let mut send = send;
