@@ -3,6 +3,7 @@
 
 mod channels;
 mod ends;
+pub mod laws;
 
 pub use channels::{Channel, Refused};
 pub use ends::{Receive, Send};

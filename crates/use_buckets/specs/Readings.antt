@@ -22,11 +22,11 @@ pub record Called (u v : Limits) : Type 0 where
 pub called_itself : (u : Limits) → Called u u
 called_itself u = record { calls = []; answers = []; run = refl }
 
-run_on : (xs ys : List Call) (as bs : List Answer) (u v w : Limits) → Run u xs as v → Run v ys bs w → Run u (xs ++ ys) (as ++ bs) w
+run_on : (xs ys : List Call) (zs bs : List Answer) (u v w : Limits) → Run u xs zs v → Run v ys bs w → Run u (xs ++ ys) (zs ++ bs) w
 run_on [] ys [] bs u v w same more = subst (λ m. Run m ys bs w) same more
-run_on [] ys (a ∷ as) bs u v w none more = absurd none
+run_on [] ys (a ∷ zs) bs u v w none more = absurd none
 run_on (x ∷ xs) ys [] bs u v w none more = absurd none
-run_on (x ∷ xs) ys (a ∷ as) bs u v w (mid, step, rest) more = (mid, step, run_on xs ys as bs mid v w rest more)
+run_on (x ∷ xs) ys (a ∷ zs) bs u v w (mid, step, rest) more = (mid, step, run_on xs ys zs bs mid v w rest more)
 
 pub called_on : (u v w : Limits) → Called u v → Called v w → Called u w
 called_on u v w p q = record { calls = p.calls ++ q.calls; answers = p.answers ++ q.answers; run = run_on p.calls q.calls p.answers q.answers u v w p.run q.run }

@@ -1,5 +1,6 @@
 // Buckets of tokens as what the tasks share, and a take from one.
-ghost use Rattle.std.specs.Prelude.{◌≡◌, ◌<◌, ⊤};
+ghost use Rattle.std.specs.Prelude.{◌≡◌, ◌<◌, ⊤, false};
+ghost use Rattle.mono_model.specs.Poll.{OnPending};
 ghost use Rattle.mono_limit.specs.Limits.{limits_of};
 ghost use Rattle.use_buckets.specs.Readings.{Called, called_itself, called_on};
 ghost use Rattle.use_buckets.specs.Takings.{is_over};
@@ -57,12 +58,12 @@ impl Buckets {
         ensures { Called (limits_of self.old.limiter) (limits_of self.new.limiter) }
     {
         go_on::<Brand>(&mut self.limiter, alloc, now, Blank::new(1));
-        told(self.limiter.take(bucket, n))
+        answer_to(self.limiter.take(bucket, n))
     }
 }
 
 // What the answer tells a task.
-fn told(answer: Result<Take, LimitError>) -> Told {
+fn answer_to(answer: Result<Take, LimitError>) -> Told {
     match answer {
         Ok(Take::Granted) => Told::Granted,
         Ok(Take::Short(tick)) => match Instant::from_nanos(tick.saturating_mul(1000000)) {
@@ -96,13 +97,27 @@ pub enum Taking {
     Over,
 }
 
+// The limiter is asked at the turn's clock.
+fn asked<C: SharedContext<Buckets>>(alloc: Global, cx: &mut C, bucket: u64, n: u64) -> Told
+    ensures { C.reaches cx.old cx.new }
+{
+    let now = Instant::now(cx);
+    cx.shared_mut().take(alloc, now, bucket, n)
+}
+
 impl Taking {
-    // The limiter is asked at the turn's clock.
-    fn ask<C: TimeContext + SharedContext<Buckets>>(&mut self, alloc: Global, cx: &mut C, bucket: u64, n: u64) -> Poll<bool>
+    // Takes, or sleeps until the told instant.
+    fn ask<C: TimeContext + SharedContext<Buckets>>(
+        &mut self,
+        alloc: Global,
+        cx: &mut C,
+        bucket: u64,
+        n: u64,
+    ) -> Poll<bool>
+        ensures again { OnPending result (is_over self.new ≡ false) }
         ensures reached { C.reaches cx.old cx.new }
     {
-        let now = Instant::now(cx);
-        match cx.shared_mut().take(alloc, now, bucket, n) {
+        match asked(alloc, cx, bucket, n) {
             Told::Granted => Poll::Ready(true),
             Told::Never => Poll::Ready(false),
             Told::At(at) => match sleep_until(alloc, cx, at) {
