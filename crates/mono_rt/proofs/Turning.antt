@@ -14,12 +14,12 @@ use Rattle.mono_parts.specs.Record.{no_acts}
 use Rattle.mono_parts.specs.Stands.{hosting_of, Matches}
 use Rattle.mono_parts.specs.Turns.{BeginsParts, IsTurnOf}
 use Rattle.mono_parts.proofs.Turning.{ended_turn, is_turn}
-use Rattle.mono_rt.specs.Reached.{Reaches}
+use Rattle.mono_rt.specs.Reached.{ReachesSharing}
 use Rattle.mono_rt.specs.Turns.{Pauses, AfterPoll, UnlessSpent, Runs}
 use Rattle.mono_rt.specs.declared.contexts.Cx.{Cx}
 
 module _ {F O P U W J A V : Type 0} (number : O → ℕ) (leads : W → W → Type 0) (future : FutureOf F (Cx F O P U W J A V) O) where
-  by_rest : (c b x d : Cx F O P U W J A V) (t : ℕ) (now : Instant) (answer : Poll O) (g : F) (ended : Ended) (m : Machine) → BeginsParts t now no_acts c.parts b.parts → Reaches number leads b x → AfterPoll number leads future answer t g ended x d → Matches number hosting_of c.parts m
+  by_rest : (c b x d : Cx F O P U W J A V) (t : ℕ) (now : Instant) (answer : Poll O) (g : F) (ended : Ended) (m : Machine) → BeginsParts t now no_acts c.parts b.parts → ReachesSharing number leads b x → AfterPoll number leads future answer t g ended x d → Matches number hosting_of c.parts m
       → IsTurnOf number t (end_of number answer) ended c.parts d.parts m
   by_rest c b x d t now Pending g ended m begins reached rest st = is_turn number c.parts b.parts x.parts d.parts t now Pending ended m begins reached.parts rest.parts st
   by_rest c b x d t now (Ready output) g ended m begins reached (e, cancels, on, completes) st =
@@ -37,7 +37,7 @@ module _ {F O P U W J A V : Type 0} (number : O → ℕ) (leads : W → W → Ty
   turn_is (Some f) c b d t now e ended m begins runs st = by_spent (future.is_spent f) c b d t now f e ended m begins runs st
 
   -- no turn runs afterwards
-  rest_after : (answer : Poll O) (b x d : Cx F O P U W J A V) (t : ℕ) (g : F) (ended : Ended) → b.parts.tasks.turn ≡ Some t → Reaches number leads b x → AfterPoll number leads future answer t g ended x d → d.parts.tasks.turn ≡ None
+  rest_after : (answer : Poll O) (b x d : Cx F O P U W J A V) (t : ℕ) (g : F) (ended : Ended) → b.parts.tasks.turn ≡ Some t → ReachesSharing number leads b x → AfterPoll number leads future answer t g ended x d → d.parts.tasks.turn ≡ None
   rest_after Pending b x d t g ended turn reached rest = ended_turn number Pending ended x.parts d.parts t rest.parts (reached.parts.same_turn ∙ turn)
   rest_after (Ready output) b x d t g ended turn reached (e, cancels, on, completes) = ended_turn number (Ready output) ended e.parts d.parts t completes.parts (on.parts.same_turn ∙ reached.parts.same_turn ∙ turn)
 
@@ -50,7 +50,7 @@ module _ {F O P U W J A V : Type 0} (number : O → ℕ) (leads : W → W → Ty
   rests_after (Some f) b d t e ended turn runs = spent_after (future.is_spent f) b d t f e ended turn runs
 
   -- whether there are timers stays
-  timers_after : (answer : Poll O) (b x d : Cx F O P U W J A V) (t : ℕ) (g : F) (ended : Ended) → Reaches number leads b x → AfterPoll number leads future answer t g ended x d → d.parts.has_timers ≡ b.parts.has_timers
+  timers_after : (answer : Poll O) (b x d : Cx F O P U W J A V) (t : ℕ) (g : F) (ended : Ended) → ReachesSharing number leads b x → AfterPoll number leads future answer t g ended x d → d.parts.has_timers ≡ b.parts.has_timers
   timers_after Pending b x d t g ended reached rest = rest.parts.has_timers ∙ reached.parts.same_timers
   timers_after (Ready output) b x d t g ended reached (e, cancels, on, completes) = completes.parts.has_timers ∙ on.parts.same_timers ∙ reached.parts.same_timers
 
@@ -66,7 +66,7 @@ module _ {F O P U W J A V : Type 0} (number : O → ℕ) (leads : W → W → Ty
   by_same : ((w : W) → leads w w) → (u v : W) → v ≡ u → leads u v
   by_same itself u v same = subst (λ w. leads u w) (sym same) (itself u)
 
-  rest_led : ((w : W) → leads w w) → ((u v w : W) → leads u v → leads v w → leads u w) → (answer : Poll O) (b x d : Cx F O P U W J A V) (t : ℕ) (g : F) (ended : Ended) → Reaches number leads b x → AfterPoll number leads future answer t g ended x d → leads b.shared d.shared
+  rest_led : ((w : W) → leads w w) → ((u v w : W) → leads u v → leads v w → leads u w) → (answer : Poll O) (b x d : Cx F O P U W J A V) (t : ℕ) (g : F) (ended : Ended) → ReachesSharing number leads b x → AfterPoll number leads future answer t g ended x d → leads b.shared d.shared
   rest_led itself on Pending b x d t g ended reached rest = on b.shared x.shared d.shared reached.shared (by_same itself x.shared d.shared rest.shared)
   rest_led itself on (Ready output) b x d t g ended reached (e, cancels, further, completes) =
       on b.shared e.shared d.shared (on b.shared x.shared e.shared reached.shared further.shared) (by_same itself e.shared d.shared completes.shared)

@@ -1,5 +1,5 @@
 -- A context that was reached from another by calls of the running task.
-use Rattle.std.specs.Prelude.{◌≡◌, ℕ, Bool, true, false, List, [], ◌∷◌, ◌++◌, length, Option, Some, ◌≤◌, slice_index_or, zero, suc, refl}
+use Rattle.std.specs.Prelude.{⊤, ◌≡◌, ℕ, Bool, true, false, List, [], ◌∷◌, ◌++◌, length, Option, Some, ◌≤◌, slice_index_or, zero, suc, refl}
 use Rattle.std.proofs.Common.{sym, ◌∙◌, ap, arith}
 use Rattle.std.proofs.Math.Nat.{le_refl}
 use Rattle.mono_model.specs.Table.{value_at}
@@ -26,7 +26,7 @@ lent_with_next (x ∷ old) (suc t) is = lent_with_next old t is
 
 module _ {F O P U W J A V : Type 0} (number : O → ℕ) (leads : W → W → Type 0) where
   -- calls of the running task lead from the one context to the other
-  pub record Reaches (c d : Cx F O P U W J A V) : Type 0 where
+  pub record ReachesSharing (c d : Cx F O P U W J A V) : Type 0 where
     pub parts : Leads number hosting_of c.parts d.parts
     pub keeps : KeepsFutures c.futures.items d.futures.items
     pub grows : length c.futures.items ≤ length d.futures.items
@@ -36,11 +36,11 @@ module _ {F O P U W J A V : Type 0} (number : O → ℕ) (leads : W → W → Ty
     -- what the tasks share was led
     pub shared : leads c.shared d.shared
 
-  pub reaches_itself : ((w : W) → leads w w) → (c : Cx F O P U W J A V) → Reaches c c
-  reaches_itself itself c = record { parts = leads_itself number hosting_of c.parts; keeps = λ t f h. h; grows = le_refl _; lent = λ t h. h; same_waker = refl; shared = itself c.shared }
+  pub sharing_itself : ((w : W) → leads w w) → (c : Cx F O P U W J A V) → ReachesSharing c c
+  sharing_itself itself c = record { parts = leads_itself number hosting_of c.parts; keeps = λ t f h. h; grows = le_refl _; lent = λ t h. h; same_waker = refl; shared = itself c.shared }
 
-  pub reaches_on : ((u v w : W) → leads u v → leads v w → leads u w) → (a b c : Cx F O P U W J A V) → Reaches a b → Reaches b c → Reaches a c
-  reaches_on on a b c p q = record {
+  pub sharing_on : ((u v w : W) → leads u v → leads v w → leads u w) → (a b c : Cx F O P U W J A V) → ReachesSharing a b → ReachesSharing b c → ReachesSharing a c
+  sharing_on on a b c p q = record {
     parts = leads_on number hosting_of a.parts b.parts c.parts p.parts q.parts;
     keeps = λ t f h. q.keeps t f (p.keeps t f h);
     grows = omega (arith, p.grows, q.grows);
@@ -50,7 +50,7 @@ module _ {F O P U W J A V : Type 0} (number : O → ℕ) (leads : W → W → Ty
   }
 
   -- a call on the parts alone
-  pub by_parts : (c d : Cx F O P U W J A V) → Leads number hosting_of c.parts d.parts → d.futures.items ≡ c.futures.items → d.futures.lent ≡ c.futures.lent → d.waker ≡ c.waker → leads c.shared d.shared → Reaches c d
+  pub by_parts : (c d : Cx F O P U W J A V) → Leads number hosting_of c.parts d.parts → d.futures.items ≡ c.futures.items → d.futures.lent ≡ c.futures.lent → d.waker ≡ c.waker → leads c.shared d.shared → ReachesSharing c d
   by_parts c d parts same lent waker shared = record {
     parts = parts;
     keeps = λ t f h. ap (λ v. value_at v t) same ∙ h;
@@ -61,7 +61,7 @@ module _ {F O P U W J A V : Type 0} (number : O → ℕ) (leads : W → W → Ty
   }
 
   -- what the tasks share was changed, and nothing else
-  pub by_shared : (c : Cx F O P U W J A V) (w : W) → leads c.shared w → Reaches c (record c { shared = w })
+  pub by_shared : (c : Cx F O P U W J A V) (w : W) → leads c.shared w → ReachesSharing c (record c { shared = w })
   by_shared c w shared = record {
     parts = leads_itself number hosting_of c.parts;
     keeps = λ t f h. h;
@@ -70,3 +70,14 @@ module _ {F O P U W J A V : Type 0} (number : O → ℕ) (leads : W → W → Ty
     same_waker = refl;
     shared = shared;
   }
+
+-- the same where nothing is shared
+module _ {F O P U J A V : Type 0} (number : O → ℕ) where
+  abbrev pub Reaches : Cx F O P U ⊤ J A V → Cx F O P U ⊤ J A V → Type 0
+  Reaches = ReachesSharing number (λ a b. ⊤)
+
+  pub reaches_itself : (c : Cx F O P U ⊤ J A V) → Reaches c c
+  reaches_itself c = sharing_itself number (λ a b. ⊤) (λ a. tt) c
+
+  pub reaches_on : (a b c : Cx F O P U ⊤ J A V) → Reaches a b → Reaches b c → Reaches a c
+  reaches_on a b c p q = sharing_on number (λ x y. ⊤) (λ x y z r s. tt) a b c p q

@@ -13,7 +13,7 @@ ghost use Rattle.mono_time.specs.Sleeps.{Added, sleep_poll_answer, with_polled_s
 ghost use Rattle.mono_time.specs.Timers.{sleeps_of};
 ghost use Rattle.mono_parts.specs.CallActs.{noted_wake, noted_join, noted_drop, noted_sleep, lacks_sleep, noted_poll, noted_gone, noted_reset};
 ghost use Rattle.mono_rt.specs.Spawns.{noted_spawn, lacks_spawn};
-ghost use Rattle.mono_rt.specs.Reached.{Reaches, reaches_itself, reaches_on, by_shared};
+ghost use Rattle.mono_rt.specs.Reached.{ReachesSharing, sharing_itself, sharing_on, by_shared};
 
 
 use crate::wakers::Wakers;
@@ -61,7 +61,7 @@ impl<F: Drop, O: Outcome + Drop, P: ThreadPool + Drop, U: Unpark, W: SharedState
         ensures refused { OnErr result (self.new.parts.tasks ≡ self.old.parts.tasks) }
         ensures none { OnErr result (self.new.futures.items ≡ self.old.futures.items) }
         ensures kept { self.new.parts ≡ record self.old.parts { tasks = self.new.parts.tasks; acts = noted_spawn self.old.parts.acts result; is_out_of_memory = lacks_spawn self.old.parts.is_out_of_memory result } }
-        ensures reached { Reaches O.output_number W.leads self.old self.new }
+        ensures reached { ReachesSharing O.output_number W.leads self.old self.new }
     {
         if let Err(future) = self.futures.offer(alloc, future) {
             self.parts.is_out_of_memory = true;
@@ -101,7 +101,7 @@ impl<F: Drop, O: Outcome + Drop, P: ThreadPool + Drop, U: Unpark, W: SharedState
 
     ghost work = { λ c. without_outputs c.parts.tasks.tasks };
 
-    ghost reaches = { Reaches O.output_number W.leads };
+    ghost reaches = { ReachesSharing O.output_number W.leads };
 
     ghost wakes = { λ c t r d. (d.parts.tasks.tasks ≡ woken c.parts.tasks.tasks t) × (d.parts.timers ≡ c.parts.timers) × (d.shared ≡ c.shared) };
 
@@ -118,14 +118,14 @@ impl<F: Drop, O: Outcome + Drop, P: ThreadPool + Drop, U: Unpark, W: SharedState
         ensures work { without_outputs self.new.parts.tasks.tasks ≡ woken (without_outputs self.old.parts.tasks.tasks) task }
         ensures woke { (self.new.parts.tasks.tasks ≡ woken self.old.parts.tasks.tasks task) × (self.new.parts.timers ≡ self.old.parts.timers) × (self.new.shared ≡ self.old.shared) }
         ensures kept { self.new ≡ record self.old { parts = record self.old.parts { tasks = self.new.parts.tasks; acts = noted_wake self.old.parts.acts task result } } }
-        ensures reached { Reaches O.output_number W.leads self.old self.new }
+        ensures reached { ReachesSharing O.output_number W.leads self.old self.new }
     {
         self.parts.wake(task)
     }
 
-    ghost reaches_itself = { reaches_itself O.output_number W.leads W.leads_itself };
+    ghost reaches_itself = { sharing_itself O.output_number W.leads W.leads_itself };
 
-    ghost reaches_on = { reaches_on O.output_number W.leads W.leads_on };
+    ghost reaches_on = { sharing_on O.output_number W.leads W.leads_on };
 
     ghost same_number = { λ a b r. r.parts.same_me };
 
@@ -142,7 +142,7 @@ impl<F: Drop, O: Outcome + Drop, P: ThreadPool + Drop, U: Unpark, W: SharedState
         ensures answer { result ≡ join_answer self.old.parts.tasks.tasks task }
         ensures tasks { self.new.parts.tasks.tasks ≡ joined self.old.parts.tasks.tasks task self.old.parts.me }
         ensures kept { self.new ≡ record self.old { parts = record self.old.parts { tasks = self.new.parts.tasks; acts = noted_join O.output_number self.old.parts.acts task result } } }
-        ensures reached { Reaches O.output_number W.leads self.old self.new }
+        ensures reached { ReachesSharing O.output_number W.leads self.old self.new }
     {
         self.parts.poll_join(task)
     }
@@ -151,7 +151,7 @@ impl<F: Drop, O: Outcome + Drop, P: ThreadPool + Drop, U: Unpark, W: SharedState
         ensures answer { result ≡ drop_answer self.old.parts.tasks.tasks task }
         ensures tasks { self.new.parts.tasks.tasks ≡ join_dropped self.old.parts.tasks.tasks task }
         ensures kept { self.new ≡ record self.old { parts = record self.old.parts { tasks = self.new.parts.tasks; acts = noted_drop O.output_number self.old.parts.acts task result } } }
-        ensures reached { Reaches O.output_number W.leads self.old self.new }
+        ensures reached { ReachesSharing O.output_number W.leads self.old self.new }
     {
         self.parts.drop_join(task)
     }
@@ -173,7 +173,7 @@ impl<F: Drop, O: Outcome + Drop, P: ThreadPool + Drop, U: Unpark, W: SharedState
         ensures memory { result ≡ Err Memory → self.new.parts.is_out_of_memory ≡ true }
         ensures work { without_outputs self.new.parts.tasks.tasks ≡ without_outputs self.old.parts.tasks.tasks }
         ensures kept { self.new ≡ record self.old { parts = record self.old.parts { timers = self.new.parts.timers; acts = noted_sleep self.old.parts.acts (nanos_of deadline) result; is_out_of_memory = lacks_sleep self.old.parts.is_out_of_memory result } } }
-        ensures reached { Reaches O.output_number W.leads self.old self.new }
+        ensures reached { ReachesSharing O.output_number W.leads self.old self.new }
     {
         self.parts.add_sleep(alloc, deadline)
     }
@@ -183,7 +183,7 @@ impl<F: Drop, O: Outcome + Drop, P: ThreadPool + Drop, U: Unpark, W: SharedState
         ensures sleeps { sleeps_of self.new.parts.timers ≡ with_polled_sleep (sleeps_of self.old.parts.timers) sleep self.old.parts.me }
         ensures work { without_outputs self.new.parts.tasks.tasks ≡ without_outputs self.old.parts.tasks.tasks }
         ensures kept { self.new ≡ record self.old { parts = record self.old.parts { timers = self.new.parts.timers; acts = noted_poll self.old.parts.acts sleep result } } }
-        ensures reached { Reaches O.output_number W.leads self.old self.new }
+        ensures reached { ReachesSharing O.output_number W.leads self.old self.new }
     {
         self.parts.poll_sleep(sleep)
     }
@@ -193,7 +193,7 @@ impl<F: Drop, O: Outcome + Drop, P: ThreadPool + Drop, U: Unpark, W: SharedState
         ensures sleeps { sleeps_of self.new.parts.timers ≡ with_reset_sleep (sleeps_of self.old.parts.timers) sleep (nanos_of deadline) }
         ensures work { without_outputs self.new.parts.tasks.tasks ≡ woken_if_any (without_outputs self.old.parts.tasks.tasks) (waker_in (sleep_reset_answer (sleeps_of self.old.parts.timers) sleep (nanos_of deadline))) }
         ensures kept { self.new ≡ record self.old { parts = record self.old.parts { tasks = self.new.parts.tasks; timers = self.new.parts.timers; acts = noted_reset self.old.parts.acts (sleeps_of self.old.parts.timers).greatest sleep (nanos_of deadline) result } } }
-        ensures reached { Reaches O.output_number W.leads self.old self.new }
+        ensures reached { ReachesSharing O.output_number W.leads self.old self.new }
     {
         self.parts.reset_sleep(sleep, deadline)
     }
@@ -203,7 +203,7 @@ impl<F: Drop, O: Outcome + Drop, P: ThreadPool + Drop, U: Unpark, W: SharedState
         ensures sleeps { sleeps_of self.new.parts.timers ≡ with_removed_sleep (sleeps_of self.old.parts.timers) sleep }
         ensures work { without_outputs self.new.parts.tasks.tasks ≡ without_outputs self.old.parts.tasks.tasks }
         ensures kept { self.new ≡ record self.old { parts = record self.old.parts { timers = self.new.parts.timers; acts = noted_gone self.old.parts.acts sleep result } } }
-        ensures reached { Reaches O.output_number W.leads self.old self.new }
+        ensures reached { ReachesSharing O.output_number W.leads self.old self.new }
     {
         self.parts.drop_sleep(sleep)
     }

@@ -1,7 +1,7 @@
 // Blocking jobs, as a running task calls for them.
 ghost use Rattle.std.specs.Prelude.{◌≡◌, IfOk};
 ghost use Rattle.mono_parts.specs.JobActs.{SpawnsJob, PollsJob, DropsJob, AsksWhetherEnded};
-ghost use Rattle.mono_rt.specs.Reached.{Reaches};
+ghost use Rattle.mono_rt.specs.Reached.{ReachesSharing};
 
 use crate::contexts::Cx;
 use mono_blocking::{Job, JobWaker, ThreadPool};
@@ -28,7 +28,7 @@ impl<F: Drop, O: Outcome + Drop, P: ThreadPool + Drop, U: Unpark, W: SharedState
     ) -> Result<JobHandle, SpawnError<P::Job>>
         ensures spawned { SpawnsJob P.Job.output_number P.refusals job result self.old.parts self.new.parts }
         ensures same { self.new ≡ record self.old { parts = self.new.parts } }
-        ensures reached { Reaches O.output_number W.leads self.old self.new }
+        ensures reached { ReachesSharing O.output_number W.leads self.old self.new }
     {
         self.parts.spawn_blocking(rt, alloc, job)
     }
@@ -38,7 +38,7 @@ impl<F: Drop, O: Outcome + Drop, P: ThreadPool + Drop, U: Unpark, W: SharedState
     pub fn drop_job(&mut self, job: u64) -> Result<Option<Result<OutputOf<P>, JoinError>>, Refusal>
         ensures dropped { DropsJob P.Job.Output.output_number job result self.old.parts self.new.parts }
         ensures same { self.new ≡ record self.old { parts = self.new.parts } }
-        ensures reached { Reaches O.output_number W.leads self.old self.new }
+        ensures reached { ReachesSharing O.output_number W.leads self.old self.new }
     {
         self.parts.drop_job(job)
     }
@@ -48,7 +48,7 @@ impl<F: Drop, O: Outcome + Drop, P: ThreadPool + Drop, U: Unpark, W: SharedState
     pub fn job_finished(&mut self, job: u64) -> Result<bool, Refusal>
         ensures asked { AsksWhetherEnded job result self.old.parts self.new.parts }
         ensures same { self.new ≡ record self.old { parts = self.new.parts } }
-        ensures reached { Reaches O.output_number W.leads self.old self.new }
+        ensures reached { ReachesSharing O.output_number W.leads self.old self.new }
     {
         self.parts.has_job_ended(job)
     }
@@ -77,7 +77,7 @@ where
     pub fn poll_job(&mut self, job: u64) -> Result<Poll<Result<OutputOf<P>, JoinError>>, PollJob>
         ensures polled { PollsJob P.Job.Output.output_number job result self.old.parts self.new.parts }
         ensures same { self.new ≡ record self.old { parts = self.new.parts } }
-        ensures reached { Reaches O.output_number W.leads self.old self.new }
+        ensures reached { ReachesSharing O.output_number W.leads self.old self.new }
     {
         match self.own_waker() {
             Err(_) => {
