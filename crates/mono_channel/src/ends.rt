@@ -1,5 +1,6 @@
 // What a task does with the channel: it receives and sends.
 ghost use Rattle.std.specs.Prelude.{◌≡◌, ⊤, false};
+ghost use Rattle.mono_model.specs.Tasks.{woken_if_any};
 ghost use Rattle.mono_channel.specs.Channels.{Waits};
 ghost use Rattle.mono_channel.specs.Ends.{ReceivePolls, SendPolls, has_none};
 
@@ -51,7 +52,7 @@ impl<T: Drop> Send<T> {
 // The task that waited is woken, where there is one.
 fn wake_if_any<W: mono_shared::SharedState, C: SharedContext<W>>(cx: &mut C, task: Option<u64>)
     ensures shared { C.shared cx.new ≡ C.shared cx.old }
-    ensures number { C.number cx.new ≡ C.number cx.old }
+    ensures work { C.work cx.new ≡ woken_if_any (C.work cx.old) task }
     ensures reached { C.reaches cx.old cx.new }
 {
     if let Some(task) = task {
@@ -66,7 +67,7 @@ impl<T: Drop, C: SharedContext<Channel<T>>> TaskFuture<C> for Receive<T> {
 
     ghost is_spent = { λ f. f.has_answered };
 
-    ghost polls = { λ f c r g d. ReceivePolls C.shared C.number c r d };
+    ghost polls = { λ f c r g d. ReceivePolls C.shared C.number C.work c r d };
 
     ghost cancels = { λ f c d. Waits (C.shared c) (C.shared d) };
 
@@ -106,7 +107,7 @@ impl<T: Drop, C: SharedContext<Channel<T>>> TaskFuture<C> for Send<T> {
 
     ghost is_spent = { λ f. has_none f.message };
 
-    ghost polls = { λ f c r g d. SendPolls C.shared C.number f.message c r g.message d };
+    ghost polls = { λ f c r g d. SendPolls C.shared C.number C.work f.message c r g.message d };
 
     ghost cancels = { λ f c d. Waits (C.shared c) (C.shared d) };
 
