@@ -1,6 +1,6 @@
 // Futures that run on a context.
 ghost use Rattle.std.specs.Prelude.{◌≡◌, Bool, false, ⊤};
-ghost use Rattle.mono_model.specs.Poll.{OnPending};
+ghost use Rattle.mono_model.specs.Poll.{OnPending, IfReady};
 ghost use Rattle.mono_model.specs.declared.poll.Poll.{Poll};
 
 use crate::context::Context;
@@ -9,8 +9,9 @@ use std::alloc::Global;
 
 /// A computation that runs in turns on a context and answers a value in the end.
 ///
-/// A future tells what one poll may answer and leave (`polls`) and what giving it up may leave (`cancels`). Whatever it
-/// is, poll and cancel promise that the context is reached from the one before (`reached`).
+/// A future tells what one poll may answer and leave (`polls`), what giving it up may leave (`cancels`) and what it may
+/// answer in the end (`gives`). Whatever it is, poll and cancel promise that the context is reached from the one before
+/// (`reached`).
 pub trait TaskFuture<C: Context>: Drop {
     /// The value that the future answers in the end.
     type Output;
@@ -23,6 +24,9 @@ pub trait TaskFuture<C: Context>: Drop {
 
     // what one poll may answer, and the future and the context that it may leave
     ghost polls: { Self → C → Poll Self.Output → Self → C → Type 0 };
+
+    // what the future may answer in the end; anything where a future does not say
+    ghost gives: { Self → Self.Output → Type 0 } = { λ _ _. ⊤ };
 
     // the context that giving the future up may leave
     ghost cancels: { Self → C → C → Type 0 };
@@ -39,6 +43,8 @@ pub trait TaskFuture<C: Context>: Drop {
         requires callable { can_poll self.old }
         ensures polled { polls self.old cx.old result self.new cx.new }
         ensures again { OnPending result (is_spent self.new ≡ false) }
+        ensures given { IfReady result (gives self.old) }
+        ensures same { OnPending result ((x : _) → gives self.new x → gives self.old x) }
         ensures callable { can_poll self.new }
         ensures reached { C.reaches cx.old cx.new };
 

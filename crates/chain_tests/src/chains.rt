@@ -1,0 +1,141 @@
+// Chains by forms as main tasks, on a driver that never waits.
+ghost use Rattle.std.specs.Prelude.{◌≡◌};
+
+use mono_blocking::{BlockingHandle, BlockingStrategy, Job, NoPool, Outcome};
+use mono_forms::{FutureExt, Loop, ready, repeat, yield_now};
+use mono_inbox::NoUnpark;
+use mono_model::Host;
+use mono_rt::{Cx, Entry, Event, Instant, Journal, Limits, RunError, StepDriver, run_alone};
+use mono_task::TaskFuture;
+use mono_time::SleepError;
+use std::alloc::Global;
+use std::process::Abort;
+use std::time::Duration;
+use use_chain::sleep_for;
+
+/// A job that no test hands out.
+#[derive(Drop)]
+struct NoJob {
+    number: u64,
+}
+
+impl Outcome for NoJob {
+    ghost output_number = { λ job. job.number };
+
+    fn number(&self) -> u64 {
+        self.number
+    }
+}
+
+impl Job for NoJob {
+    type Output = u64;
+
+    type Unpark = NoUnpark;
+
+    fn run(self) -> u64 {
+        self.number
+    }
+}
+
+/// How many turns, parks and milliseconds of parks a journal tells.
+fn told_in(journal: &Journal) -> (u64, u64, u64) {
+    let mut turns = 0u64;
+    let mut parks = 0u64;
+    let mut milliseconds = 0u64;
+    for place in 0..journal.len() {
+        match journal.get(place) {
+            Some(Entry::Ran(Event::Turn(_, _), _)) => turns = turns.saturating_add(1),
+            Some(Entry::Park(wait)) => {
+                parks = parks.saturating_add(1);
+                milliseconds = milliseconds.saturating_add(wait.unwrap_or(0));
+            }
+            _ => {}
+        }
+    }
+    (turns, parks, milliseconds)
+}
+
+/// The answer of a main task on a runtime of its own, and what its journal tells.
+fn run<F, R: Host + Abort>(rt: &R, alloc: Global, future: F) -> (Result<u64, RunError>, (u64, u64, u64))
+where
+    F: TaskFuture<Cx<F, u64, NoPool<NoJob>, NoUnpark>, Output = u64> + Drop,
+    requires { (f : F) → F.can_poll f }
+{
+    let limits = Limits {
+        tasks: 1,
+        jobs: 0,
+        sleeps: 2,
+    };
+    let start = Instant::from_nanos(0).expect(rt, "an instant");
+    let driver = StepDriver::new(Vec::new(alloc));
+    let pool = BlockingHandle::Empty(BlockingStrategy::Panic);
+    let (answer, journal) = run_alone(rt, alloc, driver, pool, limits, start, future, 1000).expect(
+        rt, "memory",
+    );
+    (answer, told_in(&journal))
+}
+
+fn or_zero(answer: Result<u64, SleepError>) -> u64 {
+    answer.unwrap_or(0)
+}
+
+#[test]
+fn sleeps_counts_and_sleeps(rt: HostRuntime) {
+    let milli = Duration::from_millis(1);
+    let task = sleep_for(milli)
+        .and_then(move |_: ()| sleep_for(milli).map_ok(|_: ()| 42u64))
+        .map(or_zero);
+    assert_eq!(rt; run(&rt, rt.alloc(), task), (Ok(42), (3, 2, 2)));
+}
+
+#[test]
+fn either_is_one_of_two_tasks(rt: HostRuntime) {
+    let alloc = rt.alloc();
+    for picks in [true, false] {
+        let task = if picks {
+            ready(7u64).left_future()
+        } else {
+            yield_now().map(|_: ()| 8u64).right_future()
+        };
+        let told = if picks { (Ok(7), (1, 0, 0)) } else { (Ok(8), (2, 0, 0)) };
+        assert_eq!(rt; run(&rt, alloc, task), told);
+    }
+}
+
+#[test]
+fn a_loop_sleeps_so_many_times(rt: HostRuntime) {
+    let task = repeat(0u64, |n: u64| {
+        sleep_for(Duration::from_millis(10)).map(move |answer: Result<(), SleepError>| {
+            if answer.is_err() || n >= 4 {
+                Loop::Break(n)
+            } else {
+                Loop::Continue(n + 1)
+            }
+        })
+    });
+    assert_eq!(rt; run(&rt, rt.alloc(), task), (Ok(4), (6, 5, 50)));
+}
+
+#[test]
+fn a_loop_that_never_waits_gives_way(rt: HostRuntime) {
+    let task = repeat(0u64, |n: u64| {
+        ready(if n >= 300 { Loop::Break(n) } else { Loop::Continue(n + 1) })
+    });
+    assert_eq!(rt; run(&rt, rt.alloc(), task), (Ok(300), (3, 0, 0)));
+}
+
+#[test]
+fn one_turn_takes_both_where_the_first_is_there(rt: HostRuntime) {
+    let task = ready(1u64).then(|x: u64| ready(x + 1)).then(|x: u64| ready(x + 1));
+    assert_eq!(rt; run(&rt, rt.alloc(), task), (Ok(3), (1, 0, 0)));
+}
+
+#[test]
+fn an_error_ends_a_chain(rt: HostRuntime) {
+    let milli = Duration::from_millis(1);
+    let failed: Result<(), SleepError> = Err(SleepError::Memory);
+    let task = ready(failed)
+        .and_then(move |_: ()| sleep_for(milli))
+        .map(|answer: Result<(), SleepError>| if answer.is_err() { 5u64 } else { 6 });
+    assert_eq!(rt; run(&rt, rt.alloc(), task), (Ok(5), (1, 0, 0)));
+}

@@ -1,0 +1,9 @@
+pub mod Parts
+pub mod Answers
+pub mod Mapped
+pub mod Flattened
+pub mod Tried
+pub mod Eithers
+pub mod Yields
+pub mod Loops
+pub mod Repeats

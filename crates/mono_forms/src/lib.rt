@@ -1,0 +1,27 @@
+//! Futures in sequence: an answer that is there, an answer that is changed, one future after another, either of two, a
+//! loop, and a turn for the others.
+//!
+//! What a form answers and leaves is said by its parts' own relations (`polls`, `cancels`), and what it may answer in the
+//! end (`gives`) follows from what its parts may answer and from its closures' contracts. A part that has answered is
+//! given up at once.
+#![tactic(auto)]
+
+mod answers;
+mod eithers;
+mod ext;
+mod flattened;
+mod makers;
+mod mapped;
+mod repeats;
+mod tried;
+mod yields;
+
+pub use answers::{Pending, Ready};
+pub use eithers::Either;
+pub use ext::FutureExt;
+pub use flattened::{Flatten, Then};
+pub use makers::{pending, ready, repeat, yield_now};
+pub use mapped::{Map, MapErr, MapOk};
+pub use repeats::{Loop, Repeat};
+pub use tried::{AndThen, TryFlatten};
+pub use yields::YieldNow;

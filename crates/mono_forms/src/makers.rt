@@ -1,0 +1,41 @@
+// The functions that make the forms.
+// Two names in one module may not differ in case alone, so they stand apart from their types.
+ghost use Rattle.std.specs.Prelude.{◌≡◌, Some};
+
+use crate::answers::{Pending, Ready};
+use crate::repeats::Repeat;
+use crate::yields::YieldNow;
+use std::marker::PhantomData;
+
+/// A future whose answer is there.
+pub fn ready<T>(value: T) -> Ready<T>
+    ensures { result.value ≡ Some value }
+{
+    Ready { value: Some(value) }
+}
+
+/// A future that never answers.
+pub fn pending<T>() -> Pending<T> {
+    Pending {
+        output: PhantomData,
+    }
+}
+
+/// Lets the other tasks have their turns.
+pub fn yield_now() -> YieldNow
+    ensures { result ≡ YieldNow.Fresh }
+{
+    YieldNow::Fresh
+}
+
+/// Futures by a closure, one after another, from a state on.
+pub fn repeat<S, A, F: FnMut(S) -> A>(initial: S, mut func: F) -> Repeat<A, F>
+    requires { F.pre func initial }
+    ensures { (first : _) × (result.future ≡ Some first) × F.step func initial first result.func }
+{
+    let first = func(initial);
+    Repeat {
+        future: Some(first),
+        func,
+    }
+}

@@ -1,0 +1,54 @@
+// A turn for the others.
+ghost use Rattle.std.specs.Prelude.{◌≡◌};
+ghost use Rattle.mono_forms.specs.Yields.{yield_spent, YieldPolls};
+
+use mono_model::{Host, Poll};
+use mono_task::{Context, TaskFuture};
+use std::alloc::Global;
+
+/// Lets the tasks that are queued have their turns: its first poll wakes its own task and is pending, and the next is ready.
+#[derive(Drop)]
+pub enum YieldNow {
+    /// It has not been polled.
+    Fresh,
+    /// It has woken its task.
+    Woken,
+    /// It has answered.
+    Over,
+}
+
+impl<C: Context> TaskFuture<C> for YieldNow {
+    type Output = ();
+
+    ghost is_spent = { yield_spent };
+
+    ghost polls = { YieldPolls C.number C.work C.wakes C.reaches };
+
+    ghost cancels = { λ f c d. d ≡ c };
+
+    fn spent(&self) -> bool {
+        match self {
+            YieldNow::Fresh => false,
+            YieldNow::Woken => false,
+            YieldNow::Over => true,
+        }
+    }
+
+    fn poll<R: Host>(&mut self, _rt: &R, _alloc: Global, cx: &mut C) -> Poll<()> {
+        match self {
+            YieldNow::Fresh => {
+                let me = cx.me();
+                let _ = cx.wake(me);
+                *self = YieldNow::Woken;
+                Poll::Pending
+            }
+            YieldNow::Woken => {
+                *self = YieldNow::Over;
+                Poll::Ready(())
+            }
+            YieldNow::Over => unreachable!(),
+        }
+    }
+
+    fn cancel(self, _cx: &mut C) {}
+}
