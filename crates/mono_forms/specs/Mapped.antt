@@ -41,16 +41,13 @@ module _ {A C X U F : Type 0} (future : FutureOf A C X) (call : Once F (X × Uni
   abbrev pub MapCanPoll : Option (A × F) → Type 0
   MapCanPoll = LeadCanPoll future (λ f x. call.pre f (x, tt))
 
-  abbrev pub Maps : F → X → U → Type 0
-  Maps f x y = call.post f (x, tt) y
-
   abbrev pub MapPolls : Option (A × F) → C → Poll U → Option (A × F) → C → Type 0
-  MapPolls = LeadPolls future Maps
+  MapPolls = LeadPolls future (λ f x y. call.post f (x, tt) y)
 
   abbrev pub MapGives : Option (A × F) → U → Type 0
-  MapGives = LeadGives future Maps
+  MapGives = LeadGives future (λ f x y. call.post f (x, tt) y)
 
-module _ {A C T E U F : Type 0} (future : FutureOf A C (Result T E)) (call : Once F (T × Unit {0}) U) where
+module _ {T E U F : Type 0} (call : Once F (T × Unit {0}) U) where
   abbrev pub AsksOk : F → Result T E → Type 0
   AsksOk f (Ok x) = call.pre f (x, tt)
   AsksOk f (Err e) = ⊤
@@ -62,16 +59,17 @@ module _ {A C T E U F : Type 0} (future : FutureOf A C (Result T E)) (call : Onc
   MapsOk f (Err e) (Ok y) = ⊥
   MapsOk f (Err e) (Err e') = e' ≡ e
 
+module _ {A C T E U F : Type 0} (future : FutureOf A C (Result T E)) (call : Once F (T × Unit {0}) U) where
   abbrev pub MapOkCanPoll : Option (A × F) → Type 0
-  MapOkCanPoll = LeadCanPoll future AsksOk
+  MapOkCanPoll = LeadCanPoll future (AsksOk call)
 
   abbrev pub MapOkPolls : Option (A × F) → C → Poll (Result U E) → Option (A × F) → C → Type 0
-  MapOkPolls = LeadPolls future MapsOk
+  MapOkPolls = LeadPolls future (MapsOk call)
 
   abbrev pub MapOkGives : Option (A × F) → Result U E → Type 0
-  MapOkGives = LeadGives future MapsOk
+  MapOkGives = LeadGives future (MapsOk call)
 
-module _ {A C T E U F : Type 0} (future : FutureOf A C (Result T E)) (call : Once F (E × Unit {0}) U) where
+module _ {T E U F : Type 0} (call : Once F (E × Unit {0}) U) where
   abbrev pub AsksErr : F → Result T E → Type 0
   AsksErr f (Ok x) = ⊤
   AsksErr f (Err e) = call.pre f (e, tt)
@@ -83,11 +81,12 @@ module _ {A C T E U F : Type 0} (future : FutureOf A C (Result T E)) (call : Onc
   MapsErr f (Err e) (Ok y) = ⊥
   MapsErr f (Err e) (Err u) = call.post f (e, tt) u
 
+module _ {A C T E U F : Type 0} (future : FutureOf A C (Result T E)) (call : Once F (E × Unit {0}) U) where
   abbrev pub MapErrCanPoll : Option (A × F) → Type 0
-  MapErrCanPoll = LeadCanPoll future AsksErr
+  MapErrCanPoll = LeadCanPoll future (AsksErr call)
 
   abbrev pub MapErrPolls : Option (A × F) → C → Poll (Result T U) → Option (A × F) → C → Type 0
-  MapErrPolls = LeadPolls future MapsErr
+  MapErrPolls = LeadPolls future (MapsErr call)
 
   abbrev pub MapErrGives : Option (A × F) → Result T U → Type 0
-  MapErrGives = LeadGives future MapsErr
+  MapErrGives = LeadGives future (MapsErr call)

@@ -78,13 +78,12 @@ module _ {A B C U E : Type 0} (first : FutureOf A C (Result B E)) (second : Futu
   TryPolls (Second g) c r n d = PollsNext second g c r n d
   TryPolls Over c r n d = ⊥
 
-module _ {A B U E : Type 0} (first : A → Result B E → Type 0) (second : B → Result U E → Type 0) where
-  -- an error is the answer, and a future leads to what it may give
-  abbrev pub LeadsOn : Result B E → Result U E → Type 0
-  LeadsOn (Ok b) y = second b y
-  LeadsOn (Err e) y = y ≡ Err e
+-- an error is the answer, and a future leads to what it may give
+abbrev pub LeadsOn : {B U E : Type 0} → (B → Result U E → Type 0) → Result B E → Result U E → Type 0
+LeadsOn second (Ok b) y = second b y
+LeadsOn second (Err e) y = y ≡ Err e
 
-  abbrev pub TryGives : TryFlatten A B → Result U E → Type 0
-  TryGives (First f) y = (x : Result B E) × first f x × LeadsOn x y
-  TryGives (Second g) y = second g y
-  TryGives Over y = ⊥
+abbrev pub TryGives : {A B U E : Type 0} → (A → Result B E → Type 0) → (B → Result U E → Type 0) → TryFlatten A B → Result U E → Type 0
+TryGives {A} {B} {U} {E} first second (First f) y = (x : Result B E) × first f x × LeadsOn second x y
+TryGives first second (Second g) y = second g y
+TryGives first second Over y = ⊥
