@@ -98,5 +98,7 @@ module _ {A C F S T : Type 0} (future : FutureOf A C (Loop T S)) (call : Mut F (
   Takes zero s c p n d = (p ≡ Pending) × (n ≡ s) × WakesItself number work wakes reaches c d
   Takes (suc k) s c p n d = (o : Option (Poll T)) × (t : Repeat A F) × (m : C) × Turns future call s c o t m × Onward o (Takes k t m p n d) t m p n d
 
-  abbrev pub RepeatPolls : Repeat A F → C → Poll T → Repeat A F → C → Type 0
-  RepeatPolls = Takes budget
+  pub record RepeatPolls (s : Repeat A F) (c : C) (p : Poll T) (n : Repeat A F) (d : C) : Type 0 where
+    pub most : ℕ
+    pub is_budget : most ≡ budget
+    pub takes : Takes most s c p n d
