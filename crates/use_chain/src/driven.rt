@@ -1,5 +1,5 @@
 // A chain by forms, and its polls.
-ghost use Rattle.std.specs.Prelude.{◌≡◌, ◌⊎◌, false};
+ghost use Rattle.std.specs.Prelude.{◌≡◌, ◌⊎◌, ◌<◌, ◌+◌, false};
 ghost use Rattle.mono_model.specs.Poll.{IfReady};
 
 use crate::naps::sleep_for;
