@@ -64,3 +64,39 @@ pub fn counts_once<C: TimeContext, R: Host>(
         });
     poll_up_to(rt, alloc, cx, task, polls)
 }
+
+/// As [`poll_up_to`], for a future whose type may be polled in any state, as a runtime asks it of its futures.
+pub fn poll_any<C: Context, A: TaskFuture<C>, R: Host>(
+    rt: &R,
+    alloc: Global,
+    cx: &mut C,
+    future: A,
+    polls: u64,
+) -> Poll<A::Output>
+    requires unspent { A.is_spent future ≡ false }
+    requires callable { (f : A) → A.can_poll f }
+    ensures given { IfReady result (A.gives future) }
+    ensures reached { C.reaches cx.old cx.new }
+{
+    poll_up_to(rt, alloc, cx, future, polls)
+}
+
+/// A task that sleeps, counts and sleeps again, as a runtime's tasks are: its closures ask for nothing.
+pub fn counts_twice<C: TimeContext, R: Host>(
+    rt: &R,
+    alloc: Global,
+    cx: &mut C,
+    first: Duration,
+    second: Duration,
+    polls: u64,
+) -> Poll<u64>
+    ensures { IfReady result (λ n. (n ≡ 2) ⊎ (n ≡ 0)) }
+{
+    let task = sleep_for(first)
+        .and_then(move |_: ()| sleep_for(second).map_ok(|_: ()| 2u64))
+        .map(|answer: Result<u64, SleepError>| match answer {
+            Ok(counted) => counted,
+            Err(_) => 0,
+        });
+    poll_any(rt, alloc, cx, task, polls)
+}
