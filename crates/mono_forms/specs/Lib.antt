@@ -7,3 +7,5 @@ pub mod Eithers
 pub mod Yields
 pub mod Loops
 pub mod Repeats
+pub mod Rescued
+pub mod Races

@@ -5,7 +5,9 @@ use crate::answers::{Pending, Ready};
 use crate::eithers::Either;
 use crate::flattened::{Flatten, Then};
 use crate::mapped::{Map, MapErr, MapOk};
+use crate::races::Race;
 use crate::repeats::Repeat;
+use crate::rescued::{OrElse, TryFlattenErr};
 use crate::tried::{AndThen, TryFlatten};
 use crate::yields::YieldNow;
 use mono_task::JoinHandle;
@@ -60,6 +62,15 @@ pub trait FutureExt: Sized {
         })
     }
 
+    /// And then, where it fails, the future that a closure makes of its error.
+    final fn or_else<E, B, F: FnOnce(E) -> B>(self, f: F) -> OrElse<Self, B, F>
+        ensures { result ≡ TryFlattenErr.First (record { inner = Some (self, f) }) }
+    {
+        TryFlattenErr::First(MapErr {
+            inner: Some((self, f)),
+        })
+    }
+
     /// As the first of two.
     final fn left_future<B>(self) -> Either<Self, B>
         ensures { result ≡ Either.Left self }
@@ -86,3 +97,5 @@ impl<A, B> FutureExt for Flatten<A, B> {}
 impl<A, B> FutureExt for TryFlatten<A, B> {}
 impl<A, B> FutureExt for Either<A, B> {}
 impl<A, F> FutureExt for Repeat<A, F> {}
+impl<A, B> FutureExt for TryFlattenErr<A, B> {}
+impl<A, B> FutureExt for Race<A, B> {}

@@ -3,6 +3,7 @@
 ghost use Rattle.std.specs.Prelude.{◌≡◌, Some};
 
 use crate::answers::{Pending, Ready};
+use crate::races::Race;
 use crate::repeats::Repeat;
 use crate::yields::YieldNow;
 use std::marker::PhantomData;
@@ -38,4 +39,11 @@ pub fn repeat<S, A, F: FnMut(S) -> A>(initial: S, mut func: F) -> Repeat<A, F>
         future: Some(first),
         func,
     }
+}
+
+/// The first of two that answers; the other is given up. `a` is polled first.
+pub fn race<A, B>(a: A, b: B) -> Race<A, B>
+    ensures { result.both ≡ Some (a, b) }
+{
+    Race { both: Some((a, b)) }
 }
