@@ -26,6 +26,12 @@ module _ {C Fut O : Type 0} where
   without_output (Done x) = Gone
   without_output Gone = Gone
 
+-- what it may still give, or has given
+abbrev pub MaybeGives : {C Fut O : Type 0} → (Fut → O → Type 0) → MaybeDone C Fut O → O → Type 0
+MaybeGives gives (Future f) x = gives f x
+MaybeGives gives (Done y) x = x ≡ y
+MaybeGives gives Gone x = ⊥
+
 module _ {C Fut O : Type 0} (future : FutureOf Fut C O) where
   abbrev pub maybe_spent : MaybeDone C Fut O → Bool
   maybe_spent (Future f) = future.is_spent f

@@ -1,6 +1,6 @@
 // Two branches that are polled until both outputs are there.
 ghost use Rattle.std.specs.Prelude.{◌≡◌, ◌||◌, false};
-ghost use Rattle.mono_combine.specs.Branches.{maybe_spent, MaybeCanPoll};
+ghost use Rattle.mono_combine.specs.Branches.{maybe_spent, MaybeCanPoll, MaybeGives};
 ghost use Rattle.mono_combine.specs.Joined.{JoinPolls, JoinCancels};
 
 use crate::maybe::{MaybeDone, maybe_done};
@@ -45,6 +45,8 @@ where
     ghost can_poll = { λ f. MaybeCanPoll A.TaskFuture f.a × MaybeCanPoll B.TaskFuture f.b };
 
     ghost polls = { JoinPolls A.TaskFuture B.TaskFuture };
+
+    ghost gives = { λ f p. MaybeGives A.gives f.a p.0 × MaybeGives B.gives f.b p.1 };
 
     ghost cancels = { JoinCancels A.TaskFuture B.TaskFuture };
 

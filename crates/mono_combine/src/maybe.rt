@@ -1,9 +1,10 @@
 // A future, or the output that it gave.
-ghost use Rattle.std.specs.Prelude.{◌≡◌, false};
+ghost use Rattle.std.specs.Prelude.{◌≡◌, ⊤, false};
+ghost use Rattle.mono_model.specs.Poll.{OnPending, IfReady};
 ghost use Rattle.std.specs.Option.{option_copied_mut};
 ghost use Rattle.std.specs.Borrow.{sem};
 ghost use Rattle.mono_combine.specs.Lending.{LendsOutput};
-ghost use Rattle.mono_combine.specs.Branches.{maybe_spent, MaybeCanPoll, MaybePolls, MaybeCancels, is_waiting, output_of, without_output};
+ghost use Rattle.mono_combine.specs.Branches.{maybe_spent, MaybeCanPoll, MaybePolls, MaybeGives, MaybeCancels, is_waiting, output_of, without_output};
 
 use mono_model::{Host, Poll};
 use mono_task::{Context, TaskFuture};
@@ -111,7 +112,17 @@ impl<C: Context, Fut: TaskFuture<C, Output: Drop>> TaskFuture<C> for MaybeDone<C
         }
     }
 
-    fn poll<R: Host>(&mut self, rt: &R, alloc: Global, cx: &mut C) -> Poll<()> {
+    fn poll<R: Host>(&mut self, rt: &R, alloc: Global, cx: &mut C) -> Poll<()>
+        requires unspent { maybe_spent Fut.TaskFuture self.old ≡ false }
+        requires callable { MaybeCanPoll Fut.TaskFuture self.old }
+        ensures polled { MaybePolls Fut.TaskFuture self.old cx.old result self.new cx.new }
+        ensures again { OnPending result (maybe_spent Fut.TaskFuture self.new ≡ false) }
+        ensures given { IfReady result (λ _. ⊤) }
+        ensures same { OnPending result (⊤ → ⊤ → ⊤) }
+        ensures callable { MaybeCanPoll Fut.TaskFuture self.new }
+        ensures reached { C.reaches cx.old cx.new }
+        ensures narrows { (x : _) → MaybeGives Fut.gives self.new x → MaybeGives Fut.gives self.old x }
+    {
         match self {
             MaybeDone::Future(future) => match future.poll(rt, alloc, cx) {
                 Poll::Ready(output) => {

@@ -47,3 +47,8 @@ module _ {T C O : Type 0} (future : FutureOf T C O) (sleeps : C → SleepTable) 
   -- the value is given up, and then the delay
   abbrev pub TimeoutCancels : Timeout T → C → C → Type 0
   TimeoutCancels f c d = (middle : C) × future.cancels f.value c middle × SleepCancels sleeps work reaches f.delay middle d
+
+-- a value that the future may give; that the time has elapsed may always be
+abbrev pub TimeoutGives : {T X E : Type 0} → (T → X → Type 0) → T → Result X E → Type 0
+TimeoutGives gives f (Ok x) = gives f x
+TimeoutGives gives f (Err e) = ⊤

@@ -3,7 +3,7 @@ ghost use Rattle.std.specs.Prelude.{◌≡◌};
 ghost use Rattle.mono_time.specs.Futures.{SleepCancels};
 ghost use Rattle.std.specs.Borrow.{sem};
 ghost use Rattle.mono_time.specs.Lending.{LendsValue};
-ghost use Rattle.mono_time.specs.Timeouts.{TimeoutPolls, TimeoutCancels};
+ghost use Rattle.mono_time.specs.Timeouts.{TimeoutPolls, TimeoutGives, TimeoutCancels};
 
 use crate::SleepError;
 use crate::context::TimeContext;
@@ -67,6 +67,8 @@ impl<C: TimeContext, T: TaskFuture<C>> TaskFuture<C> for Timeout<T> {
     ghost can_poll = { λ f. T.can_poll f.value };
 
     ghost polls = { TimeoutPolls T.TaskFuture C.number C.sleeps C.work C.reaches };
+
+    ghost gives = { λ f. TimeoutGives T.gives f.value };
 
     ghost cancels = { TimeoutCancels T.TaskFuture C.sleeps C.work C.reaches };
 
