@@ -48,14 +48,16 @@ pub fn sleep_twice<D: Driver, P: ThreadPool + Drop, R: Host>(
 {
     let task = sleep_for(first)
         .and_then(move |_: ()| sleep_for(second).map_ok(|_: ()| 2u64))
-        .map(|answer: Result<u64, SleepError>| -> Slept
-            requires { IfOk answer (λ times. times ≡ 2) }
-        {
-            match answer {
-                Ok(times) => Slept { times },
-                Err(_) => Slept { times: 0 },
-            }
-        });
+        .map(
+            |answer: Result<u64, SleepError>| -> Slept
+                requires { IfOk answer (λ times. times ≡ 2) }
+            {
+                match answer {
+                    Ok(times) => Slept { times },
+                    Err(_) => Slept { times: 0 },
+                }
+            },
+        );
     let limits = Limits {
         tasks: 1,
         jobs: 0,

@@ -56,7 +56,11 @@ fn told_in(journal: &Journal) -> (u64, u64, u64) {
 }
 
 /// The answer of a main task on a runtime of its own, and what its journal tells.
-fn run<F, R: Host + Abort>(rt: &R, alloc: Global, future: F) -> (Result<u64, RunError>, (u64, u64, u64))
+fn run<F, R: Host + Abort>(
+    rt: &R,
+    alloc: Global,
+    future: F,
+) -> (Result<u64, RunError>, (u64, u64, u64))
 where
     F: TaskFuture<Cx<F, u64, NoPool<NoJob>, NoUnpark>, Output = u64> + Drop,
     requires { (f : F) → F.can_poll f }
@@ -97,7 +101,11 @@ fn either_is_one_of_two_tasks(rt: HostRuntime) {
         } else {
             yield_now().map(|_: ()| 8u64).right_future()
         };
-        let told = if picks { (Ok(7), (1, 0, 0)) } else { (Ok(8), (2, 0, 0)) };
+        let told = if picks {
+            (Ok(7), (1, 0, 0))
+        } else {
+            (Ok(8), (2, 0, 0))
+        };
         assert_eq!(rt; run(&rt, alloc, task), told);
     }
 }
@@ -119,14 +127,20 @@ fn a_loop_sleeps_so_many_times(rt: HostRuntime) {
 #[test]
 fn a_loop_that_never_waits_gives_way(rt: HostRuntime) {
     let task = repeat(0u64, |n: u64| {
-        ready(if n >= 300 { Loop::Break(n) } else { Loop::Continue(n + 1) })
+        ready(if n >= 300 {
+            Loop::Break(n)
+        } else {
+            Loop::Continue(n + 1)
+        })
     });
     assert_eq!(rt; run(&rt, rt.alloc(), task), (Ok(300), (3, 0, 0)));
 }
 
 #[test]
 fn one_turn_takes_both_where_the_first_is_there(rt: HostRuntime) {
-    let task = ready(1u64).then(|x: u64| ready(x + 1)).then(|x: u64| ready(x + 1));
+    let task = ready(1u64)
+        .then(|x: u64| ready(x + 1))
+        .then(|x: u64| ready(x + 1));
     assert_eq!(rt; run(&rt, rt.alloc(), task), (Ok(3), (1, 0, 0)));
 }
 
@@ -134,8 +148,9 @@ fn one_turn_takes_both_where_the_first_is_there(rt: HostRuntime) {
 fn an_error_ends_a_chain(rt: HostRuntime) {
     let milli = Duration::from_millis(1);
     let failed: Result<(), SleepError> = Err(SleepError::Memory);
-    let task = ready(failed)
-        .and_then(move |_: ()| sleep_for(milli))
-        .map(|answer: Result<(), SleepError>| if answer.is_err() { 5u64 } else { 6 });
+    let task = ready(failed).and_then(move |_: ()| sleep_for(milli)).map(|answer: Result<
+        (),
+        SleepError,
+    >| if answer.is_err() { 5u64 } else { 6 });
     assert_eq!(rt; run(&rt, rt.alloc(), task), (Ok(5), (1, 0, 0)));
 }

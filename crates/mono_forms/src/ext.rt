@@ -87,15 +87,27 @@ pub trait FutureExt: Sized {
 }
 
 impl<T> FutureExt for Ready<T> {}
+
 impl<T> FutureExt for Pending<T> {}
+
 impl FutureExt for YieldNow {}
+
 impl<O> FutureExt for JoinHandle<O> {}
+
 impl<A, F> FutureExt for Map<A, F> {}
+
 impl<A, F> FutureExt for MapOk<A, F> {}
+
 impl<A, F> FutureExt for MapErr<A, F> {}
+
 impl<A, B> FutureExt for Flatten<A, B> {}
+
 impl<A, B> FutureExt for TryFlatten<A, B> {}
+
 impl<A, B> FutureExt for Either<A, B> {}
+
 impl<A, F> FutureExt for Repeat<A, F> {}
+
 impl<A, B> FutureExt for TryFlattenErr<A, B> {}
+
 impl<A, B> FutureExt for Race<A, B> {}

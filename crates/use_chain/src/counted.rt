@@ -36,13 +36,15 @@ pub fn sleeps_twice<C: TimeContext, R: Host>(
 ) -> Poll<Slept> {
     let task = sleep_for(first)
         .and_then(move |_: ()| sleep_for(second).map_ok(|_: ()| 2u64))
-        .map(|answer: Result<u64, SleepError>| -> Slept
-            requires { IfOk answer (λ times. times ≡ 2) }
-        {
-            match answer {
-                Ok(times) => Slept { times },
-                Err(_) => Slept { times: 0 },
-            }
-        });
+        .map(
+            |answer: Result<u64, SleepError>| -> Slept
+                requires { IfOk answer (λ times. times ≡ 2) }
+            {
+                match answer {
+                    Ok(times) => Slept { times },
+                    Err(_) => Slept { times: 0 },
+                }
+            },
+        );
     poll_any(rt, alloc, cx, task, polls)
 }

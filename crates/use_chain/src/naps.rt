@@ -79,12 +79,7 @@ impl<C: TimeContext> TaskFuture<C> for SleepFor {
         }
     }
 
-    fn poll<R: Host>(
-        &mut self,
-        rt: &R,
-        alloc: Global,
-        cx: &mut C,
-    ) -> Poll<Result<(), SleepError>> {
+    fn poll<R: Host>(&mut self, rt: &R, alloc: Global, cx: &mut C) -> Poll<Result<(), SleepError>> {
         match mem::replace(self, SleepFor::Over) {
             SleepFor::Fresh(duration) => match sleep(alloc, cx, duration) {
                 Ok(sleep) => self.go_on(rt, alloc, cx, sleep),
