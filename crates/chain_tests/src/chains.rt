@@ -2,7 +2,7 @@
 ghost use Rattle.std.specs.Prelude.{◌≡◌};
 
 use mono_blocking::{BlockingHandle, BlockingStrategy, Job, NoPool, Outcome};
-use mono_forms::{FutureExt, Loop, ready, repeat, yield_now};
+use mono_forms::{FutureExt, Loop, pending, race, ready, repeat, yield_now};
 use mono_inbox::NoUnpark;
 use mono_model::Host;
 use mono_rt::{Cx, Entry, Event, Instant, Journal, Limits, RunError, StepDriver, run_alone};
@@ -153,4 +153,30 @@ fn an_error_ends_a_chain(rt: HostRuntime) {
         SleepError,
     >| if answer.is_err() { 5u64 } else { 6 });
     assert_eq!(rt; run(&rt, rt.alloc(), task), (Ok(5), (1, 0, 0)));
+}
+
+#[test]
+fn an_error_leads_to_another_future(rt: HostRuntime) {
+    let failed: Result<u64, u64> = Err(3);
+    let task = ready(failed)
+        .or_else(|e: u64| yield_now().map(move |_: ()| -> Result<u64, u64> { Ok(e + 1) }))
+        .map(|answer: Result<u64, u64>| answer.unwrap_or(0));
+    assert_eq!(rt; run(&rt, rt.alloc(), task), (Ok(4), (2, 0, 0)));
+}
+
+#[test]
+fn the_first_of_two_ends_a_race(rt: HostRuntime) {
+    let alloc = rt.alloc();
+    let short = || {
+        sleep_for(Duration::from_millis(1)).map(|answer: Result<(), SleepError>| u64::from(
+            answer.is_ok(),
+        ))
+    };
+    let task = race(short(), pending::<u64>());
+    assert_eq!(rt; run(&rt, alloc, task), (Ok(1), (2, 1, 1)));
+    let task = race(
+        sleep_for(Duration::from_secs(9)).map(|_: Result<(), SleepError>| 2u64),
+        short(),
+    );
+    assert_eq!(rt; run(&rt, alloc, task), (Ok(1), (2, 1, 1)));
 }

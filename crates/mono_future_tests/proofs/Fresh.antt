@@ -19,7 +19,7 @@ none_in_map p h none (x ∷ xs) = ap (λ b. b || list_any p (map h xs)) (none x)
 
 -- what these futures tell
 abbrev pub never : {T C O : Type 0} → FutureOf T C O
-never = record { is_spent = λ f. false; can_poll = λ f. ⊤; polls = λ f c r g d. ⊤; cancels = λ f c d. ⊤ }
+never = record { is_spent = λ f. false; can_poll = λ f. ⊤; polls = λ f c r g d. ⊤; gives = λ f x. ⊤; cancels = λ f c d. ⊤ }
 
 pub all_can : (C O : Type 0) {T : Type 0} (fs : List T) → AllCanPoll {C = C} {T = T} {O = O} never (map Future fs)
 all_can C O [] = tt

@@ -9,7 +9,7 @@ use Rattle.mono_model.specs.declared.poll.Poll.{Poll}
 use Rattle.mono_model.specs.declared.poll.Poll.TheVariants.{Ready, Pending}
 use Rattle.mono_task.specs.Members.{FutureOf}
 use Rattle.mono_time.specs.Sleeps.{SleepTable, sleep_poll_answer, with_polled_sleep, with_removed_sleep}
-use Rattle.mono_time.specs.Timeouts.{TimeoutPolls, TimeoutCancels, AfterValue, late_answer}
+use Rattle.mono_time.specs.Timeouts.{TimeoutPolls, TimeoutGives, TimeoutCancels, AfterValue, late_answer}
 use Rattle.mono_model.specs.declared.error.Error.{Error}
 use Rattle.mono_time.specs.declared.error.TimeoutError.{TimeoutError}
 use Rattle.mono_time.specs.declared.error.TimeoutError.TheVariants.{Elapsed}
@@ -46,6 +46,7 @@ module _ {C : Type 0} (number : C → ℕ) (sleeps : C → SleepTable) (work : C
     is_spent = λ f. f.has_answered;
     can_poll = λ f. ⊤;
     polls = CountdownPolls number work wakes reaches;
+    gives = λ f x. ⊤;
     cancels = λ f c d. d ≡ c;
   }
 
@@ -54,6 +55,7 @@ module _ {C : Type 0} (number : C → ℕ) (sleeps : C → SleepTable) (work : C
     is_spent = λ f. f.value.has_answered;
     can_poll = λ f. ⊤;
     polls = TimeoutPolls countdown number sleeps work reaches;
+    gives = λ f. TimeoutGives countdown.gives f.value;
     cancels = TimeoutCancels countdown sleeps work reaches;
   }
 
