@@ -41,24 +41,24 @@ use Rattle.mono_machine.specs.declared.events.Blocking.TheVariants as blocking
 use Rattle.mono_machine.proofs.ValidSteps.{begin_valid, steps_valid, step_is_valid}
 
 -- queued, noted while it runs, finished or absent
-abbrev settled_phase : Phase ℕ → Bool
+abbrev pub settled_phase : Phase ℕ → Bool
 settled_phase idle = false
 settled_phase queued = true
 settled_phase (running noted) = noted
 settled_phase (done output) = true
 settled_phase taken = true
 
-abbrev settled : Option (Task ℕ) → Bool
+abbrev pub settled : Option (Task ℕ) → Bool
 settled None = true
 settled (Some task) = settled_phase task.phase
 
-abbrev Settles : ℕ → Tasks ℕ → Type 0
+abbrev pub Settles : ℕ → Tasks ℕ → Type 0
 Settles q tasks = settled (value_at tasks.table q) ≡ true
 
 true-false : true ≡ false → ⊥
 true-false e = cc
 
-false-true : false ≡ true → ⊥
+pub false-true : false ≡ true → ⊥
 false-true e = cc
 
 set_settles : (table : Table (Task ℕ)) (t : ℕ) (new : Option (Task ℕ)) → settled new ≡ true → settled (value_at (set table t new) t) ≡ true
@@ -205,7 +205,7 @@ module _ (me : ℕ) (tasks : Tasks ℕ) (output q : ℕ) where
   completed_keeps = completed_at (value_at tasks.table me) refl
 
 -- settled, or in the inbox
-abbrev IsKept : ℕ → Machine → Type 0
+abbrev pub IsKept : ℕ → Machine → Type 0
 IsKept t m = (settled (value_at m.tasks.table t) || is_waiting m.inbox t) ≡ true
 
 or_mono : (a b c : Bool) → (a ≡ true → b ≡ true) → (a || c) ≡ true → (b || c) ≡ true
@@ -216,7 +216,7 @@ or_mono false false c more is = is
 kept_tasks : (t : ℕ) (m : Machine) (tasks : Tasks ℕ) → (Settles t m.tasks → Settles t tasks) → IsKept t m → IsKept t (with_tasks m tasks)
 kept_tasks t m tasks keeps is = or_mono (settled (value_at m.tasks.table t)) (settled (value_at tasks.table t)) (is_waiting m.inbox t) keeps is
 
-settled_kept : (t : ℕ) (m : Machine) → Settles t m.tasks → IsKept t m
+pub settled_kept : (t : ℕ) (m : Machine) → Settles t m.tasks → IsKept t m
 settled_kept t m is = ap (λ x. x || is_waiting m.inbox t) is
 
 by_test : (t : ℕ) (b : Bool) (x y : Outcome) → IsKept t x.machine → IsKept t y.machine → IsKept t (cond b x y).machine
@@ -259,11 +259,11 @@ module _ (t : ℕ) (m : Machine) (kept : IsKept t m) where
   one_step_kept me (step.Act a) = act_kept a
   one_step_kept me (step.Query q) = query_kept me q
 
-steps_kept : (t me : ℕ) (steps : List TurnStep) (m : Machine) → IsKept t m → IsKept t (after_steps me steps m)
+pub steps_kept : (t me : ℕ) (steps : List TurnStep) (m : Machine) → IsKept t m → IsKept t (after_steps me steps m)
 steps_kept t me [] m kept = kept
 steps_kept t me (s ∷ steps) m kept = steps_kept t me steps (step_outcome me s m).machine (one_step_kept t m kept me s)
 
-end_kept : (t me : ℕ) (e : End) (m : Machine) → IsValidDuring (Some me) m → IsKept t m → IsKept t (after_end e me m)
+pub end_kept : (t me : ℕ) (e : End) (m : Machine) → IsValidDuring (Some me) m → IsKept t m → IsKept t (after_end e me m)
 end_kept t me end.Pending m valid kept = kept_tasks t m (paused_value (value_at m.tasks.table me) m.tasks me) (paused_keeps me m.tasks valid.tasks t) kept
 end_kept t me (end.Ready output) m valid kept = kept_tasks t m (completed_value (value_at m.tasks.table me) m.tasks me output) (completed_keeps me m.tasks output t) kept
 
@@ -283,7 +283,7 @@ waker_settles : (tasks : Tasks ℕ) (w : Option ℕ) (t : ℕ) → is_waker w t 
 waker_settles tasks None t is = absurd (false-true is)
 waker_settles tasks (Some u) t is = subst (λ x. Settles x (woken tasks u)) (eqb_same u t is) (woken_settles tasks u)
 
-act_wakes : (t : ℕ) (m : Machine) (a : Act) (r : Reply) → wakes_by_act t m a r ≡ true → IsKept t (act_outcome a m).machine
+pub act_wakes : (t : ℕ) (m : Machine) (a : Act) (r : Reply) → wakes_by_act t m a r ≡ true → IsKept t (act_outcome a m).machine
 act_wakes t m (act.Wake u) r is = settled_kept t (with_tasks m (woken m.tasks u)) (subst (λ x. Settles x (woken m.tasks u)) (eqb_same u t (and_left (u == t) (says_woken r) is)) (woken_settles m.tasks u))
 act_wakes t m (act.Reset s n) r is = by_limit (nat_lt max_nanos n) is
   where
@@ -342,7 +342,7 @@ waker_first t table s (q ∷ fired) is =
     ])
     (waker_first t table s fired) is
 
-fires_wake : (t : ℕ) (fired : List ℕ) (m : Machine) → wakes_by_fires t m.sleeps.table fired ≡ true → IsKept t (after_fires m fired)
+pub fires_wake : (t : ℕ) (fired : List ℕ) (m : Machine) → wakes_by_fires t m.sleeps.table fired ≡ true → IsKept t (after_fires m fired)
 fires_wake t [] m is = absurd (false-true is)
 fires_wake t (s ∷ fired) m is = by_first (fires_wake t fired (after_fire m s)) (is_waker (sleep.waker_in (value_at m.sleeps.table s)) t) refl is
   where
@@ -424,7 +424,7 @@ module _ (me output t : ℕ) (m : Machine) (valid : IsValidDuring (Some me) m) w
       completed_wakes task task.is_kept refl
       (waiter_kept (next_number m.tasks.table) task task.waiter refl wakes (subst (λ v. IfSome v (IsValidTask (next_number m.tasks.table))) at (valid.tasks.each me))) wakes
 
-  ready_wakes : is_waker (waiter_at (value_at m.tasks.table me)) t ≡ true → IsKept t (after_end (end.Ready output) me m)
+  pub ready_wakes : is_waker (waiter_at (value_at m.tasks.table me)) t ≡ true → IsKept t (after_end (end.Ready output) me m)
   ready_wakes wakes = settled_kept t (after_end (end.Ready output) me m) (value_wakes (value_at m.tasks.table me) refl wakes)
 
 end_wakes : (t me : ℕ) (e : End) (m : Machine) → IsValidDuring (Some me) m → is_waker (woken_by_end e me m) t ≡ true → IsKept t (after_end e me m)
@@ -474,11 +474,11 @@ event_wakes t old (event.Remote u) answer new valid is told = subst (IsKept t) (
 event_wakes t old event.Drain answer new valid is told = subst (IsKept t) (sym is.1) (drain_kept t old (or_right (settled (value_at old.tasks.table t)) _ (sym (ap (drain_tells t) is.0) ∙ told)))
 
 -- a run
-or_false_left : (a b : Bool) → (a || b) ≡ false → a ≡ false
+pub or_false_left : (a b : Bool) → (a || b) ≡ false → a ≡ false
 or_false_left true b e = e
 or_false_left false b e = refl
 
-or_false_right : (a b : Bool) → (a || b) ≡ false → b ≡ false
+pub or_false_right : (a b : Bool) → (a || b) ≡ false → b ≡ false
 or_false_right true b e = absurd (true-false e)
 or_false_right false b e = e
 

@@ -10,6 +10,8 @@ pub mod ValidActs
 pub mod ValidSteps
 pub mod Finished
 pub mod Awaiting
+pub mod WatchTables
+pub mod Watching
 pub mod Spending
 pub mod Handouts
 pub mod Fairness

@@ -12,3 +12,4 @@ pub mod Fairness
 pub mod Causes
 pub mod Remotes
 pub mod Endings
+pub mod Watches

@@ -1,5 +1,5 @@
 // Laws of the machine.
-ghost use Rattle.std.specs.Prelude.{◌≡◌, ◌≢◌, ◌<◌, ◌≤◌, ℕ, true, false, List, [], Option, Some, length, slice_get};
+ghost use Rattle.std.specs.Prelude.{◌≡◌, ◌≢◌, ◌<◌, ◌≤◌, ◌⊎◌, ℕ, true, false, List, [], Option, Some, length, slice_get};
 ghost use Rattle.std.specs.List.{AllPairs};
 ghost use Rattle.mono_model.specs.Ticks.{down};
 ghost use Rattle.mono_model.specs.Table.{value_at, next_number};
@@ -14,6 +14,7 @@ ghost use Rattle.mono_machine.specs.Fairness.{turns_of};
 ghost use Rattle.mono_machine.specs.History.{has_turn_of, is_turn_of, is_awaiting, tells_wake};
 ghost use Rattle.mono_machine.specs.Remotes.{wakes_and_drain, told_and_drained, after_wakes};
 ghost use Rattle.mono_machine.specs.Endings.{EndsAlone};
+ghost use Rattle.mono_machine.specs.Watches.{Source, IsWatched, fires, is_taken, is_taken_in, is_untouched};
 ghost use Rattle.mono_machine.specs.declared.events.How.{How};
 ghost use Rattle.mono_machine.specs.declared.events.Act.TheVariants as act;
 ghost use Rattle.mono_machine.specs.declared.events.Limits.{Limits};
@@ -103,4 +104,34 @@ pub fn wakes_and_a_drain_are_a_run()
 pub fn an_end_changes_its_job_alone()
     ensures { (old : Machine) (j output : ℕ) (waiter : Option ℕ) (how : How) (answer : Report) (new : Machine) → value_at old.jobs.table j ≡ Some (running output waiter) →
         Step old (event.Act (act.JobEnd j how)) answer new → EndsAlone old j output waiter how answer new }
+{}
+
+/// One step: a task that waits for a source goes on waiting for it, unless the source fires or the wait is taken.
+///
+/// A source fires where a clock step lists its sleep, where a reset of its sleep answers `Elapsed`, and where its task ends
+/// with its handle kept. A wait is taken by a drop of the source, by the end of its job, and by a poll of the source in
+/// another task's turn.
+pub fn a_watch_stands()
+    ensures { (old : Machine) (e : Event) (answer : Report) (new : Machine) (t : ℕ) (x : Source) → IsValid old → Step old e answer new → IsWatched old t x →
+        fires t x e answer ≡ false → is_taken t x e answer ≡ false → IsWatched new t x }
+{}
+
+/// A task that waits for a source waits for it after any run that leaves the source untouched, also through its own turns.
+pub fn watches_are_kept()
+    ensures { (events : List Event) (answers : List Report) (old new : Machine) (t : ℕ) (x : Source) → IsValid old → Run old events answers new → IsWatched old t x →
+        is_untouched t x events answers ≡ true → IsWatched new t x }
+{}
+
+/// A task that waits for a source that fires is queued or waits in the inbox after any run in which it had no turn since
+/// and did not finish.
+pub fn what_fires_wakes()
+    ensures { (fired : Event) (told : Report) (events : List Event) (answers : List Report) (old mid new : Machine) (t : ℕ) (x : Source) → IsValid old → IsWatched old t x → Step old fired told mid → fires t x fired told ≡ true →
+        Run mid events answers new → has_turn_of t answers ≡ false → has_finished (value_at new.tasks.table t) ≡ false → is_awaiting t new ≡ true }
+{}
+
+/// A task that waits for a source waits for it or is awaiting after any run in which it had no turn and did not finish and
+/// in which nobody took its wait.
+pub fn watched_or_awaiting()
+    ensures { (events : List Event) (answers : List Report) (old new : Machine) (t : ℕ) (x : Source) → IsValid old → Run old events answers new → IsWatched old t x → is_taken_in t x events answers ≡ false →
+        has_turn_of t answers ≡ false → has_finished (value_at new.tasks.table t) ≡ false → IsWatched new t x ⊎ (is_awaiting t new ≡ true) }
 {}

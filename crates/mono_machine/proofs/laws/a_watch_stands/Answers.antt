@@ -1,0 +1,5 @@
+use Rattle.mono_machine.proofs.Watching.{event_watch}
+use Rattle.mono_machine.proofs.laws.a_watch_stands.Goals as goal
+
+pub returns : goal.returns
+returns c = event_watch

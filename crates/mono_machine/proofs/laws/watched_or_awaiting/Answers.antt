@@ -1,0 +1,5 @@
+use Rattle.mono_machine.proofs.Watching.{watched_or_awaiting}
+use Rattle.mono_machine.proofs.laws.watched_or_awaiting.Goals as goal
+
+pub returns : goal.returns
+returns c = watched_or_awaiting

@@ -1,0 +1,5 @@
+use Rattle.mono_machine.proofs.Watching.{run_watch}
+use Rattle.mono_machine.proofs.laws.watches_are_kept.Goals as goal
+
+pub returns : goal.returns
+returns c = run_watch

@@ -1,0 +1,5 @@
+use Rattle.mono_machine.proofs.Watching.{fired_wakes}
+use Rattle.mono_machine.proofs.laws.what_fires_wakes.Goals as goal
+
+pub returns : goal.returns
+returns c = fired_wakes
