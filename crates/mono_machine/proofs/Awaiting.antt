@@ -482,7 +482,7 @@ pub or_false_right : (a b : Bool) → (a || b) ≡ false → b ≡ false
 or_false_right true b e = absurd (true-false e)
 or_false_right false b e = e
 
-waits : (t : ℕ) (m : Machine) → IsValid m → IsKept t m → has_finished (value_at m.tasks.table t) ≡ false → is_awaiting t m ≡ true
+pub waits : (t : ℕ) (m : Machine) → IsValid m → IsKept t m → has_finished (value_at m.tasks.table t) ≡ false → is_awaiting t m ≡ true
 waits t m valid kept unfinished = by_value (value_at m.tasks.table t) refl kept unfinished
   where
     none-same : None ≡ Some t → ⊥

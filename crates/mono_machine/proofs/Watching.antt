@@ -1,23 +1,25 @@
 -- Who waits for a source waits for it until it fires or the wait is ended, event by event and along a run.
-use Rattle.std.proofs.Common.{◌≡◌, ◌≢◌, ◌<◌, ◌⊎◌, inl, inr, ℕ, true, false, Bool, cond, List, [], ◌∷◌, Some, None, Option, refl, ap, sym, subst, ◌∙◌, arith, eq-eqb}
+use Rattle.std.proofs.Common.{◌≡◌, ◌≢◌, ◌<◌, ◌⊎◌, inl, inr, ℕ, true, false, Bool, cond, List, [], ◌∷◌, ◌++◌, Some, None, Option, refl, ap, sym, subst, ◌∙◌, arith, eq-eqb}
 use Rattle.std.specs.Prelude.{IfSome, not, ◌==◌, ◌&&◌, ◌||◌, nat_lt, nat_le}
 use Rattle.mono_model.specs.Ticks.{max_nanos, up}
 use Rattle.std.proofs.lemmas.Bool.{cases_eq}
 use Rattle.std.proofs.lemmas.Bool.Decides.{eqb_tells}
 use Rattle.mono_model.specs.Table.{value_at, next_number, is_full, is_issued}
-use Rattle.mono_model.specs.Tasks.{Task, is_noted, pause_answer, complete_answer, woken_if_any, all_woken}
+use Rattle.mono_model.specs.Tasks.{Task, Phase, idle, queued, running, done, taken, is_finished, is_noted, pause_answer, complete_answer, woken_if_any, all_woken}
 use Rattle.mono_model.specs.Inbox.{is_waiting, with_waiting}
 use Rattle.mono_model.specs.Sleeps.{Sleep, waker_of}
 use Rattle.mono_model.specs.SleepActs as sleep
 use Rattle.mono_model.specs.SleepAnswers.{waker_in}
-use Rattle.mono_model.specs.Valid.{IsValidTask, is_unfinished}
+use Rattle.mono_model.specs.Valid.{IsValidTask, is_unfinished, is_running}
+use Rattle.mono_model.specs.Valid as phases
+use Rattle.mono_model.specs.declared.Ended.{Ended}
 use Rattle.mono_model.specs.declared.Ended.TheVariants as ended
 use Rattle.mono_machine.specs.Machine.{Machine, with_tasks, with_sleeps, with_inbox, IsValid, IsValidDuring}
 use Rattle.mono_machine.specs.Acts.{Outcome, for_sleep, reset, answered, refused, act_outcome, query_outcome, step_outcome, block}
 use Rattle.mono_machine.specs.Turns.{replies_of, after_steps, after_end, end_answer, after_begin, turn_report_for, after_turn_for}
 use Rattle.mono_machine.specs.Steps.{Step, ClockStep, Run, has_finished, after_fires, after_fire, at_clock, remote_report, after_remote, after_drain}
-use Rattle.mono_machine.specs.History.{waiter_at, has_turn_of, is_turn_of, is_awaiting, is_waker, wakes_by_fires}
-use Rattle.mono_machine.specs.Watches.{Source, of_sleep, of_task, of_job, is_sleep, is_task, is_job, watcher, IsWatched, drops, polls, takes, says_elapsed, fires_by, fires_step, fires_in, takes_in, is_done, is_fired, fires, is_taken, is_taken_in, is_untouched}
+use Rattle.mono_machine.specs.History.{waiter_at, has_turn_of, is_turn_of, is_awaiting, is_waker, wakes_by_fires, begun_machine}
+use Rattle.mono_machine.specs.Watches.{Source, of_sleep, of_task, of_job, is_sleep, is_task, is_job, watcher, IsWatched, drops, polls, takes, says_elapsed, fires_by, fires_step, fires_in, takes_in, is_done, is_fired, fires, is_taken, is_taken_in, is_untouched, Hears, drops_step, drops_in}
 use Rattle.mono_machine.specs.declared.events.Act.{Act}
 use Rattle.mono_machine.specs.declared.events.Act.TheVariants as act
 use Rattle.mono_machine.specs.declared.events.Query.{Query}
@@ -28,15 +30,17 @@ use Rattle.mono_machine.specs.declared.events.End.{End}
 use Rattle.mono_machine.specs.declared.events.End.TheVariants as end
 use Rattle.mono_machine.specs.declared.events.Event.{Event}
 use Rattle.mono_machine.specs.declared.events.Event.TheVariants as event
+use Rattle.mono_machine.specs.declared.events.Reply.{Reply}
 use Rattle.mono_machine.specs.declared.events.Reply.TheVariants as reply
 use Rattle.mono_machine.specs.declared.events.Refusal.TheVariants as refusal
 use Rattle.mono_machine.specs.declared.events.Report.{Report}
 use Rattle.mono_machine.specs.declared.events.Report.TheVariants as report
 use Rattle.mono_machine.specs.declared.events.Blocking.{Blocking}
 use Rattle.mono_machine.specs.declared.events.Blocking.TheVariants as blocking
+use Rattle.mono_machine.proofs.Known.{alike_paused}
 use Rattle.mono_machine.proofs.ValidActs.{step_valid}
 use Rattle.mono_machine.proofs.ValidSteps.{begin_valid, steps_valid, step_is_valid, same_jobs}
-use Rattle.mono_machine.proofs.Awaiting.{IsKept, Settles, settled_kept, act_wakes, steps_kept, end_kept, fires_wake, ready_wakes, kept_runs, false-true, or_false_left, or_false_right}
+use Rattle.mono_machine.proofs.Awaiting.{IsKept, Settles, settled, settled_phase, waits, settled_kept, act_wakes, steps_kept, end_kept, fires_wake, ready_wakes, kept_runs, false-true, or_false_left, or_false_right}
 use Rattle.mono_machine.proofs.WatchTables.{none-some, true-false, woken_waits, waker_waits, all_woken_waits, spawned_waits, begun_waits, paused_waits, completed_waits, dropped_waits, joined_waits, again_waits, TaskWaits, added_waits, fired_waits, removed_waits, reset_waits, polled_waits, made_waits, job_dropped_waits, job_ended_waits, job_polled_waits}
 
 apart_of : (r s : ℕ) → (r == s) ≡ false → s ≢ r
@@ -292,9 +296,9 @@ steps_fire t me x (s ∷ steps) m valid is told = by_first (fires_step x s (step
     by_first : (a b : Bool) → fires_step x s (step_outcome me s m).reply ≡ a → takes t me x s ≡ b → (a || (not b && fires_in t me x steps (replies_of me steps (step_outcome me s m).machine))) ≡ true
         → (IsWatched (step_outcome me s m).machine t x → fires_in t me x steps (replies_of me steps (step_outcome me s m).machine) ≡ true → IsKept t (after_steps me steps (step_outcome me s m).machine))
         → IsKept t (after_steps me steps (step_outcome me s m).machine)
-    by_first true b fired taken all later = steps_kept t me steps (step_outcome me s m).machine (step_fires t m me x is s fired)
-    by_first false true fired taken all later = absurd (false-true all)
-    by_first false false fired taken all later = later (step_watch t m me valid x is s taken fired) all
+    by_first true b fired took all later = steps_kept t me steps (step_outcome me s m).machine (step_fires t m me x is s fired)
+    by_first false true fired took all later = absurd (false-true all)
+    by_first false false fired took all later = later (step_watch t m me valid x is s took fired) all
 
 -- a turn
 turn_watch : (t : ℕ) (x : Source) (steps : List TurnStep) (e : End) (m : Machine) → IsValid m → IsWatched m t x → (queue : List ℕ) → m.tasks.queue ≡ queue
@@ -323,9 +327,9 @@ turn_fires t x steps e m valid is (front ∷ rest) at told =
 
     by_first : (a b : Bool) → fires_in t front x steps (replies_of front steps (after_begin front rest m)) ≡ a → takes_in t front x steps (replies_of front steps (after_begin front rest m)) ≡ b
         → (a || (not b && (is_task front x && is_done (end_answer e front (after_steps front steps (after_begin front rest m)))))) ≡ true → IsKept t (after_end e front (after_steps front steps (after_begin front rest m)))
-    by_first true b fired taken all = end_kept t front e (after_steps front steps (after_begin front rest m)) ends (steps_fire t front x steps (after_begin front rest m) begins (begin_watch t m x front rest is) fired)
-    by_first false true fired taken all = absurd (false-true all)
-    by_first false false fired taken all = end_fires t (after_steps front steps (after_begin front rest m)) x front e ends (steps_watch t front x steps (after_begin front rest m) begins (begin_watch t m x front rest is) fired taken) all
+    by_first true b fired took all = end_kept t front e (after_steps front steps (after_begin front rest m)) ends (steps_fire t front x steps (after_begin front rest m) begins (begin_watch t m x front rest is) fired)
+    by_first false true fired took all = absurd (false-true all)
+    by_first false false fired took all = end_fires t (after_steps front steps (after_begin front rest m)) x front e ends (steps_watch t front x steps (after_begin front rest m) begins (begin_watch t m x front rest is) fired took) all
 
 -- a clock step
 fires_watch : (t : ℕ) (x : Source) (fired : List ℕ) (m : Machine) → is_fired x fired ≡ false → IsWatched m t x → IsWatched (after_fires m fired) t x
@@ -424,3 +428,84 @@ watched_or_awaiting (e ∷ events) (answer ∷ answers) old new t x valid (mid, 
         → IsWatched new t x ⊎ (is_awaiting t new ≡ true)
     by_fires true told later = inr (fired_wakes e answer events answers old mid new t x valid is by told run (or_false_right (is_turn_of t answer) _ apart) unfinished)
     by_fires false told later = later (event_watch old e answer mid t x valid by is told (or_false_left (is_taken t x e answer) _ k)) (or_false_right (is_taken t x e answer) _ k) (or_false_right (is_turn_of t answer) _ apart) unfinished
+
+-- what the running task registers in its turn
+not_dropped : (t : ℕ) (x : Source) (s : TurnStep) → drops_step x s ≡ false → takes t t x s ≡ false
+not_dropped t x (step.Act a) is = is
+not_dropped t x (step.Query q) is = ap (λ b. not b && polls x q) (eq-eqb t t refl)
+
+both_false : (a b c : Bool) → a ≡ false → c ≡ false → (a || (not b && c)) ≡ false
+both_false true b c first last = absurd (true-false first)
+both_false false true c first last = refl
+both_false false false c first last = last
+
+no_takes : (t : ℕ) (x : Source) (steps : List TurnStep) (m : Machine) → drops_in x steps ≡ false → takes_in t t x steps (replies_of t steps m) ≡ false
+no_takes t x [] m none = refl
+no_takes t x (s ∷ steps) m none =
+    both_false (takes t t x s) (fires_step x s (step_outcome t s m).reply) _ (not_dropped t x s (or_false_left (drops_step x s) _ none)) (no_takes t x steps (step_outcome t s m).machine (or_false_right (drops_step x s) _ none))
+
+steps_on : (me : ℕ) (before after : List TurnStep) (m : Machine) → after_steps me (before ++ after) m ≡ after_steps me after (after_steps me before m)
+steps_on me [] after m = refl
+steps_on me (s ∷ before) after m = steps_on me before after (step_outcome me s m).machine
+
+noted_settles : (v : Option (Task ℕ)) → phases.of_task is_noted v ≡ true → settled v ≡ true
+noted_settles None is = refl
+noted_settles (Some task) is = by_phase task.phase is
+  where
+    by_phase : (phase : Phase ℕ) → is_noted phase ≡ true → settled_phase phase ≡ true
+    by_phase idle told = absurd (false-true told)
+    by_phase queued told = refl
+    by_phase (running noted) told = told
+    by_phase (done output) told = refl
+    by_phase taken told = refl
+
+module _ (t : ℕ) (x : Source) where
+  -- the task that paused is not finished
+  paused_stays : (m : Machine) → IsValidDuring (Some t) m → has_finished (value_at (after_end end.Pending t m).tasks.table t) ≡ false
+  paused_stays m valid = alike_paused t m.tasks valid.tasks t ∙ by_value (value_at m.tasks.table t) (valid.tasks.has_turn t refl)
+    where
+      by_phase : (phase : Phase ℕ) → is_running phase ≡ true → is_finished phase ≡ false
+      by_phase idle told = refl
+      by_phase queued told = refl
+      by_phase (running noted) told = refl
+      by_phase (done output) told = absurd (false-true told)
+      by_phase taken told = absurd (false-true told)
+
+      by_value : (v : Option (Task ℕ)) → phases.of_task is_running v ≡ true → has_finished v ≡ false
+      by_value None told = absurd (false-true told)
+      by_value (Some task) told = by_phase task.phase told
+
+  module _ (after : List TurnStep) (m : Machine) (valid : IsValidDuring (Some t) m) (ends : IsValid (after_end end.Pending t (after_steps t after m))) where
+    kept_ends : IsKept t (after_steps t after m) → is_awaiting t (after_end end.Pending t (after_steps t after m)) ≡ true
+    kept_ends kept = waits t (after_end end.Pending t (after_steps t after m)) ends (end_kept t t end.Pending (after_steps t after m) (steps_valid t after m valid) kept) (paused_stays (after_steps t after m) (steps_valid t after m valid))
+
+    heard_ends : Hears m t x → drops_in x after ≡ false → IsWatched (after_end end.Pending t (after_steps t after m)) t x ⊎ (is_awaiting t (after_end end.Pending t (after_steps t after m)) ≡ true)
+    heard_ends (inr noted) none = inr (kept_ends (steps_kept t t after m (settled_kept t m (noted_settles (value_at m.tasks.table t) noted))))
+    heard_ends (inl is) none = by_fires (fires_in t t x after (replies_of t after m)) refl
+      where
+        by_fires : (b : Bool) → fires_in t t x after (replies_of t after m) ≡ b → IsWatched (after_end end.Pending t (after_steps t after m)) t x ⊎ (is_awaiting t (after_end end.Pending t (after_steps t after m)) ≡ true)
+        by_fires true told = inr (kept_ends (steps_fire t t x after m valid is told))
+        by_fires false told = inl (pending_watch t (after_steps t after m) x t (steps_watch t t x after m valid is told (no_takes t x after m none)))
+
+turn_of_report : (t : ℕ) (steps : List TurnStep) (replies : List Reply) (told : Ended) (m : Machine) (queue : List ℕ) → report.Turn t replies told ≡ turn_report_for queue steps end.Pending m → (rest : List ℕ) × (queue ≡ t ∷ rest)
+turn_of_report t steps replies told m [] is = absurd (no_reply is)
+  where
+    no_reply : report.Turn t replies told ≡ report.Reply (reply.Refused refusal.Idle) → ⊥
+    no_reply e = cc
+turn_of_report t steps replies told m (front ∷ rest) is = (rest, ap (λ u. u ∷ rest) (same is))
+  where
+    same : report.Turn t replies told ≡ report.Turn front (replies_of front steps (after_begin front rest m)) (end_answer end.Pending front (after_steps front steps (after_begin front rest m))) → front ≡ t
+    same e = cc
+
+pub turn_registers : (before after : List TurnStep) (replies : List Reply) (told : Ended) (old new : Machine) (t : ℕ) (x : Source) → IsValid old → Step old (event.Turn (before ++ after) end.Pending) (report.Turn t replies told) new
+    → Hears (after_steps t before (begun_machine old.tasks.queue old)) t x → drops_in x after ≡ false → IsWatched new t x ⊎ (is_awaiting t new ≡ true)
+turn_registers before after replies told old new t x valid by heard none = by_queue old.tasks.queue refl (turn_of_report t (before ++ after) replies told old old.tasks.queue by.0) heard (by.1)
+  where
+    by_queue : (queue : List ℕ) → old.tasks.queue ≡ queue → (rest : List ℕ) × (queue ≡ t ∷ rest) → Hears (after_steps t before (begun_machine queue old)) t x → new ≡ after_turn_for queue (before ++ after) end.Pending old → IsWatched new t x ⊎ (is_awaiting t new ≡ true)
+    by_queue queue at (rest, is) heard leaves =
+        subst (λ y. IsWatched y t x ⊎ (is_awaiting t y ≡ true)) (sym left)
+        (heard_ends t x after (after_steps t before (after_begin t rest old)) (steps_valid t before (after_begin t rest old) (begin_valid old t rest (at ∙ is) valid)) (subst IsValid left (step_is_valid old (event.Turn (before ++ after) end.Pending) (report.Turn t replies told) new valid by))
+          (subst (λ q. Hears (after_steps t before (begun_machine q old)) t x) is heard) none)
+      where
+        left : new ≡ after_end end.Pending t (after_steps t after (after_steps t before (after_begin t rest old)))
+        left = leaves ∙ ap (λ q. after_turn_for q (before ++ after) end.Pending old) is ∙ ap (after_end end.Pending t) (steps_on t before after (after_begin t rest old))

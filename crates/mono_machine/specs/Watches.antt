@@ -1,7 +1,9 @@
 -- What a task may wait for in the machine, who waits, and what ends such a wait.
-use Rattle.std.specs.Prelude.{◌≡◌, ℕ, Bool, true, false, not, ◌==◌, ◌&&◌, ◌||◌, List, [], ◌∷◌, Option, Some, None}
+use Rattle.std.specs.Prelude.{◌≡◌, ◌⊎◌, ℕ, Bool, true, false, not, ◌==◌, ◌&&◌, ◌||◌, List, [], ◌∷◌, Option, Some, None}
 use Rattle.mono_model.specs.Table.{value_at}
 use Rattle.mono_model.specs.Inbox.{is_waiting}
+use Rattle.mono_model.specs.Tasks.{is_noted}
+use Rattle.mono_model.specs.Valid as phase
 use Rattle.mono_model.specs.Jobs as job
 use Rattle.mono_model.specs.SleepActs as sleep
 use Rattle.mono_model.specs.declared.Ended.{Ended}
@@ -171,3 +173,16 @@ abbrev pub is_untouched : ℕ → Source → List Event → List Report → Bool
 is_untouched t x [] answers = true
 is_untouched t x (e ∷ events) [] = true
 is_untouched t x (e ∷ events) (answer ∷ answers) = not (fires t x e answer) && (not (is_taken t x e answer) && is_untouched t x events answers)
+
+-- t waits for x, or was woken in the turn that it has
+abbrev pub Hears : Machine → ℕ → Source → Type 0
+Hears m t x = IsWatched m t x ⊎ (phase.of_task is_noted (value_at m.tasks.table t) ≡ true)
+
+abbrev pub drops_step : Source → TurnStep → Bool
+drops_step x (step.Act a) = drops x a
+drops_step x (step.Query q) = false
+
+-- a step drops x, or is the end of its job
+abbrev pub drops_in : Source → List TurnStep → Bool
+drops_in x [] = false
+drops_in x (s ∷ steps) = drops_step x s || drops_in x steps

@@ -1,5 +1,5 @@
 // Laws of the machine.
-ghost use Rattle.std.specs.Prelude.{◌≡◌, ◌≢◌, ◌<◌, ◌≤◌, ◌⊎◌, ℕ, true, false, List, [], Option, Some, length, slice_get};
+ghost use Rattle.std.specs.Prelude.{◌≡◌, ◌≢◌, ◌<◌, ◌≤◌, ◌⊎◌, ℕ, true, false, List, [], ◌++◌, Option, Some, length, slice_get};
 ghost use Rattle.std.specs.List.{AllPairs};
 ghost use Rattle.mono_model.specs.Ticks.{down};
 ghost use Rattle.mono_model.specs.Table.{value_at, next_number};
@@ -11,10 +11,15 @@ ghost use Rattle.mono_machine.specs.Handouts.{is_on_task, is_on_job, handed_in};
 ghost use Rattle.mono_model.specs.Valid.{of_task, is_queued};
 ghost use Rattle.mono_machine.specs.Causes.{is_cause, RunWithoutCause};
 ghost use Rattle.mono_machine.specs.Fairness.{turns_of};
-ghost use Rattle.mono_machine.specs.History.{has_turn_of, is_turn_of, is_awaiting, tells_wake};
+ghost use Rattle.mono_machine.specs.History.{has_turn_of, is_turn_of, is_awaiting, tells_wake, begun_machine};
+ghost use Rattle.mono_machine.specs.Turns.{after_steps};
+ghost use Rattle.mono_model.specs.declared.Ended.{Ended};
+ghost use Rattle.mono_machine.specs.declared.events.TurnStep.{TurnStep};
+ghost use Rattle.mono_machine.specs.declared.events.Reply.{Reply};
+ghost use Rattle.mono_machine.specs.declared.events.End.TheVariants as end;
 ghost use Rattle.mono_machine.specs.Remotes.{wakes_and_drain, told_and_drained, after_wakes};
 ghost use Rattle.mono_machine.specs.Endings.{EndsAlone};
-ghost use Rattle.mono_machine.specs.Watches.{Source, IsWatched, fires, is_taken, is_taken_in, is_untouched};
+ghost use Rattle.mono_machine.specs.Watches.{Source, IsWatched, Hears, drops_in, fires, is_taken, is_taken_in, is_untouched};
 ghost use Rattle.mono_machine.specs.declared.events.How.{How};
 ghost use Rattle.mono_machine.specs.declared.events.Act.TheVariants as act;
 ghost use Rattle.mono_machine.specs.declared.events.Limits.{Limits};
@@ -134,4 +139,11 @@ pub fn what_fires_wakes()
 pub fn watched_or_awaiting()
     ensures { (events : List Event) (answers : List Report) (old new : Machine) (t : ℕ) (x : Source) → IsValid old → Run old events answers new → IsWatched old t x → is_taken_in t x events answers ≡ false →
         has_turn_of t answers ≡ false → has_finished (value_at new.tasks.table t) ≡ false → IsWatched new t x ⊎ (is_awaiting t new ≡ true) }
+{}
+
+/// A task that waits for a source at some step of its turn, or was woken in it, waits for that source or is awaiting after
+/// a turn that ends pending, unless a later step drops the source.
+pub fn what_a_turn_registers_stands()
+    ensures { (before after : List TurnStep) (replies : List Reply) (told : Ended) (old new : Machine) (t : ℕ) (x : Source) → IsValid old → Step old (event.Turn (before ++ after) end.Pending) (report.Turn t replies told) new →
+        Hears (after_steps t before (begun_machine old.tasks.queue old)) t x → drops_in x after ≡ false → IsWatched new t x ⊎ (is_awaiting t new ≡ true) }
 {}
