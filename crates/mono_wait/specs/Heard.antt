@@ -1,0 +1,43 @@
+-- That the running task is registered at a source, or was woken in its turn.
+use Rattle.std.specs.Prelude.{◌≡◌, ◌⊎◌, ℕ, ⊤, Bool, true, false, Option, Some, None}
+use Rattle.mono_model.specs.Table.{value_at}
+use Rattle.mono_model.specs.Tasks.{Tasks, Task, Phase, idle, queued, running, done, taken}
+use Rattle.mono_time.specs.Sleeps.{Kept, kept_waker}
+use Rattle.mono_machine.specs.Watches.{Source}
+
+abbrev pub waiter_in : {O : Type 0} → Option (Task O) → Option ℕ
+waiter_in None = None
+waiter_in (Some task) = task.waiter
+
+abbrev pub waker_in : Option Kept → Option ℕ
+waker_in None = None
+waker_in (Some kept) = kept_waker kept
+
+-- queued or noted, or it has finished; of the running task: noted
+abbrev pub is_stirred : {O : Type 0} → Phase O → Bool
+is_stirred idle = false
+is_stirred queued = true
+is_stirred (running noted) = noted
+is_stirred (done output) = true
+is_stirred taken = true
+
+abbrev pub is_stirred_in : {O : Type 0} → Option (Task O) → Bool
+is_stirred_in None = true
+is_stirred_in (Some task) = is_stirred task.phase
+
+module _ {C : Type 0} (number : C → ℕ) (work : C → Tasks ⊤) (reaches : C → C → Type 0) (watcher : C → Source → Option ℕ) where
+  -- the running task waits for the source, or was woken in its turn
+  abbrev pub Hears : C → Source → Type 0
+  Hears c x = (watcher c x ≡ Some (number c)) ⊎ (is_stirred_in (value_at (work c).table (number c)) ≡ true)
+
+  -- It was so at some moment of the turn, and since then only calls of the turn came.
+  pub record Heard (d : C) (x : Source) : Type 0 where
+    pub moment : C
+    pub hears : Hears moment x
+    pub since : reaches moment d
+
+  -- it holds of some source, and of each that is needed
+  pub record Covers (d : C) (needs : Source → Type 0) : Type 0 where
+    pub some : Source
+    pub armed : Heard d some
+    pub each : (x : Source) → needs x → Heard d x

@@ -1,0 +1,9 @@
+//! What a future waits for once a poll was pending, and that its task is registered there.
+#![tactic(auto)]
+
+mod countdown;
+mod leaves;
+mod waits;
+
+pub use countdown::Countdown;
+pub use waits::{WaitContext, Waits};

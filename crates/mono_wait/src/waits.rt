@@ -1,0 +1,37 @@
+// What a future waits for.
+ghost use Rattle.std.specs.Prelude.{◌≡◌, ℕ, Option};
+ghost use Rattle.mono_model.specs.Table.{value_at};
+ghost use Rattle.mono_model.specs.declared.poll.Poll.{Poll};
+ghost use Rattle.mono_machine.specs.Watches.{Source, of_sleep, of_task};
+ghost use Rattle.mono_wait.specs.Heard.{Covers, waiter_in, waker_in};
+
+use mono_task::TaskFuture;
+use mono_time::TimeContext;
+
+/// A context that tells which task waits for a source: for a sleep its waker, for a task its waiter.
+pub trait WaitContext: TimeContext {
+    // the one task that waits for a source
+    ghost watcher: { Self → Source → Option ℕ };
+
+    ghost watches_sleeps: { (c : Self) (s : ℕ) → watcher c (of_sleep s) ≡ waker_in (value_at (Self.sleeps c).table s) };
+
+    ghost watches_tasks: { (c : Self) (u : ℕ) → watcher c (of_task u) ≡ waiter_in (value_at (Self.work c).table u) };
+}
+
+/// A future that tells what it waits for.
+///
+/// Once a poll was pending, the running task is registered at each source that the future needs, and at one at least,
+/// or was woken in its turn. It was so at some moment of the turn, and since then only calls of the turn came
+/// (`covers`). So a later branch of a form changes nothing of it, and owes nothing for it: what a call can still undo is
+/// a drop of the source, which is an act of the turn.
+pub trait Waits<C: WaitContext>: TaskFuture<C> {
+    // the sources that the future waits for once a poll was pending
+    ghost needs: { Self → Source → Type 0 };
+
+    // a poll leads to a context that is reached, and so does giving the future up
+    ghost polls_reach: { (f : Self) (c : C) (r : Poll Self.Output) (g : Self) (d : C) → Self.polls f c r g d → C.reaches c d };
+
+    ghost cancels_reach: { (f : Self) (c d : C) → Self.cancels f c d → C.reaches c d };
+
+    ghost covers: { (f : Self) (c : C) (g : Self) (d : C) → Self.polls f c Poll.Pending g d → Covers C.number C.work C.reaches C.watcher d (needs g) };
+}
