@@ -41,3 +41,7 @@ module _ {C : Type 0} (number : C → ℕ) (work : C → Tasks ⊤) (reaches : C
     pub some : Source
     pub armed : Heard d some
     pub each : (x : Source) → needs x → Heard d x
+
+  -- what was heard stays heard, whatever calls of the turn come
+  pub heard_on : ((a b c : C) → reaches a b → reaches b c → reaches a c) → (c d : C) (x : Source) → Heard c x → reaches c d → Heard d x
+  heard_on on c d x heard more = record { moment = heard.moment; hears = heard.hears; since = on heard.moment c d heard.since more }

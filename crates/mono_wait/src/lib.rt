@@ -6,4 +6,5 @@ mod leaves;
 mod waits;
 
 pub use countdown::Countdown;
+pub use leaves::Reaching;
 pub use waits::{WaitContext, Waits};

@@ -1,0 +1,31 @@
+-- What the handle of a task waits for.
+use Rattle.std.specs.Prelude.{◌≡◌, ℕ, ⊤, true, false, Bool, map, if◌then◌else◌, Option, Some, None, Result, Ok, Err}
+use Rattle.std.proofs.Common.{inl, sym, ap, ◌∙◌, subst, refl}
+use Rattle.mono_model.specs.Tasks.{Tasks}
+use Rattle.mono_model.specs.Table.{value_at}
+use Rattle.mono_model.specs.Joins.{join_answer, joined}
+use Rattle.mono_model.specs.declared.poll.Poll.{Poll}
+use Rattle.mono_model.specs.declared.poll.Poll.TheVariants.{Pending}
+use Rattle.mono_model.specs.declared.task_error.TaskError.{TaskError}
+use Rattle.mono_task.specs.Work.{without_outputs}
+use Rattle.mono_machine.specs.Watches.{Source, of_task}
+use Rattle.mono_wait.specs.Heard.{Covers, Heard, waiter_in}
+use Rattle.mono_wait.specs.Joining.{pending_joins, same_waiter}
+
+module _ {C O : Type 0} (number : C → ℕ) (tasks : C → Tasks O) (work : C → Tasks ⊤) (reaches : C → C → Type 0) (watcher : C → Source → Option ℕ)
+    (itself : (c : C) → reaches c c) (same_number : (a b : C) → reaches a b → number b ≡ number a) (same_work : (c : C) → work c ≡ without_outputs (tasks c))
+    (watches : (c : C) (u : ℕ) → watcher c (of_task u) ≡ waiter_in (value_at (work c).table u)) where
+  handle_heard : (h : ℕ) (c d : C) → Ok Pending ≡ join_answer (tasks c) h → tasks d ≡ joined (tasks c) h (number c) → reaches c d → Heard number work reaches watcher d (of_task h)
+  handle_heard h c d told after reached = record {
+    moment = d;
+    hears = inl (watches d h ∙ ap (λ w. waiter_in (value_at w.table h)) (same_work d) ∙ same_waiter (tasks d) h ∙ ap (λ t. waiter_in (value_at t.table h)) after ∙ pending_joins (tasks c) h (number c) told ∙ ap Some (sym (same_number c d reached)));
+    since = itself d;
+  }
+
+  -- once pending, the running task is the one that waits for the output
+  pub handles_cover : (h : ℕ) (c d : C) → Ok Pending ≡ join_answer (tasks c) h → tasks d ≡ joined (tasks c) h (number c) → reaches c d → Covers number work reaches watcher d (λ x. x ≡ of_task h)
+  handles_cover h c d told after reached = record {
+    some = of_task h;
+    armed = handle_heard h c d told after reached;
+    each = λ x is. subst (Heard number work reaches watcher d) (sym is) (handle_heard h c d told after reached);
+  }
