@@ -18,10 +18,10 @@ module _ {C : Type 0} (number : C → ℕ) (work : C → Tasks ⊤) (reaches : C
 
   module _ (watcher : C → Source → Option ℕ) (itself : (c : C) → reaches c c) (same_number : (a b : C) → reaches a b → number b ≡ number a) where
     -- once pending it has woken its own task
-    pub counts : (f : Countdown) (c : C) (g : Countdown) (d : C) → CountdownPolls f c Pending g d → Covers number work reaches watcher d (λ x. ⊥)
+    pub counts : (f : Countdown) (c : C) (g : Countdown) (d : C) → CountdownPolls f c Pending g d → Covers number work reaches watcher c d (λ x. ⊥)
     counts f c g d p = record {
       some = of_task 0;
-      armed = record { moment = d; hears = inr (subst (λ n. is_stirred_in (value_at (work d).table n) ≡ true) (sym (same_number c d p.reached)) (subst (λ w. is_stirred_in (value_at w.table (number c)) ≡ true) (sym p.wakes) (stirs (work c) (number c)))); since = itself d };
+      armed = record { moment = d; before = p.reached; hears = inr (subst (λ n. is_stirred_in (value_at (work d).table n) ≡ true) (sym (same_number c d p.reached)) (subst (λ w. is_stirred_in (value_at w.table (number c)) ≡ true) (sym p.wakes) (stirs (work c) (number c)))); since = itself d };
       each = λ x none. absurd none;
     }
 

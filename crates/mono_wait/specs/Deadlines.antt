@@ -54,18 +54,18 @@ module _ {T C O : Type 0} (future : FutureOf T C O) (number : C → ℕ) (sleeps
 
   module _ (watcher : C → Source → Option ℕ) (itself : (c : C) → reaches c c) (same_number : (a b : C) → reaches a b → number b ≡ number a)
       (watches : (c : C) (s : ℕ) → watcher c (of_sleep s) ≡ waker_in (value_at (sleeps c).table s)) (needs : T → Source → Type 0)
-      (covers : (f : T) (c : C) (g : T) (d : C) → future.polls f c Pending g d → Covers number work reaches watcher d (needs g)) where
-    cover_both : (f : Timeout T) (c : C) (g : Timeout T) (d : C) → BothWait f c g d → Covers number work reaches watcher d (TimeoutNeeds needs g)
+      (covers : (f : T) (c : C) (g : T) (d : C) → future.polls f c Pending g d → Covers number work reaches watcher c d (needs g)) (reach : (f : T) (c : C) (r : Poll O) (g : T) (d : C) → future.polls f c r g d → reaches c d) where
+    cover_both : (f : Timeout T) (c : C) (g : Timeout T) (d : C) → BothWait f c g d → Covers number work reaches watcher c d (TimeoutNeeds needs g)
     cover_both f c g d p =
-        let late : Covers number work reaches watcher d (SleepNeeds g.delay) = sleeps_cover number sleeps work reaches watcher itself same_number watches f.delay p.middle g.delay d p.delay
+        let late : Covers number work reaches watcher p.middle d (SleepNeeds g.delay) = sleeps_cover number sleeps work reaches watcher itself same_number watches f.delay p.middle g.delay d p.delay
         in record {
           some = late.some;
-          armed = late.armed;
+          armed = heard_on number work reaches watcher on c p.middle d d late.some (reach f.value c Pending g.value p.middle p.value) late.armed (itself d);
           each = λ x is. elim is [
-            | inl value ↦ heard_on number work reaches watcher on p.middle d x ((covers f.value c g.value p.middle p.value).each x value) p.delay.reached
-            | inr delay ↦ late.each x delay
+            | inl value ↦ heard_on number work reaches watcher on c c p.middle d x (itself c) ((covers f.value c g.value p.middle p.value).each x value) p.delay.reached
+            | inr delay ↦ heard_on number work reaches watcher on c p.middle d d x (reach f.value c Pending g.value p.middle p.value) (late.each x delay) (itself d)
           ];
         }
 
-    pub timeouts_cover : (f : Timeout T) (c : C) (g : Timeout T) (d : C) → TimeoutPolls future number sleeps work reaches f c Pending g d → Covers number work reaches watcher d (TimeoutNeeds needs g)
+    pub timeouts_cover : (f : Timeout T) (c : C) (g : Timeout T) (d : C) → TimeoutPolls future number sleeps work reaches f c Pending g d → Covers number work reaches watcher c d (TimeoutNeeds needs g)
     timeouts_cover f c g d p = cover_both f c g d (wait_both f c g d p.answer p.middle p.value p.rest)

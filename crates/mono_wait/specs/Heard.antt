@@ -30,18 +30,19 @@ module _ {C : Type 0} (number : C → ℕ) (work : C → Tasks ⊤) (reaches : C
   abbrev pub Hears : C → Source → Type 0
   Hears c x = (watcher c x ≡ Some (number c)) ⊎ (is_stirred_in (value_at (work c).table (number c)) ≡ true)
 
-  -- It was so at some moment of the turn, and since then only calls of the turn came.
-  pub record Heard (d : C) (x : Source) : Type 0 where
+  -- It was so at some moment from c to d, between which only calls of the turn came.
+  pub record Heard (c d : C) (x : Source) : Type 0 where
     pub moment : C
+    pub before : reaches c moment
     pub hears : Hears moment x
     pub since : reaches moment d
 
   -- it holds of some source, and of each that is needed
-  pub record Covers (d : C) (needs : Source → Type 0) : Type 0 where
+  pub record Covers (c d : C) (needs : Source → Type 0) : Type 0 where
     pub some : Source
-    pub armed : Heard d some
-    pub each : (x : Source) → needs x → Heard d x
+    pub armed : Heard c d some
+    pub each : (x : Source) → needs x → Heard c d x
 
-  -- what was heard stays heard, whatever calls of the turn come
-  pub heard_on : ((a b c : C) → reaches a b → reaches b c → reaches a c) → (c d : C) (x : Source) → Heard c x → reaches c d → Heard d x
-  heard_on on c d x heard more = record { moment = heard.moment; hears = heard.hears; since = on heard.moment c d heard.since more }
+  -- what was heard stays heard, whatever calls of the turn came before and come after
+  pub heard_on : ((a b c : C) → reaches a b → reaches b c → reaches a c) → (a c d e : C) (x : Source) → reaches a c → Heard c d x → reaches d e → Heard a e x
+  heard_on on a c d e x first heard more = record { moment = heard.moment; before = on a c heard.moment first heard.before; hears = heard.hears; since = on heard.moment d e heard.since more }

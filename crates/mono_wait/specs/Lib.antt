@@ -6,3 +6,4 @@ pub mod Countdowns
 pub mod Leaves
 pub mod Deadlines
 pub mod Handles
+pub mod Joins

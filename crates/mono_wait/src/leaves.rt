@@ -30,7 +30,7 @@ impl<C: WaitContext, T: Waits<C>> Waits<C> for Timeout<T> {
 
     ghost cancels_reach = { timeout_left T.TaskFuture C.number C.sleeps C.work C.reaches C.reaches_on T.cancels_reach };
 
-    ghost covers = { timeouts_cover T.TaskFuture C.number C.sleeps C.work C.reaches C.reaches_on C.watcher C.reaches_itself C.same_number C.watches_sleeps T.needs T.covers };
+    ghost covers = { timeouts_cover T.TaskFuture C.number C.sleeps C.work C.reaches C.reaches_on C.watcher C.reaches_itself C.same_number C.watches_sleeps T.needs T.covers T.polls_reach };
 }
 
 /// A future whose relations say that the context is reached, which every poll and every cancel promises.

@@ -2,6 +2,7 @@
 #![tactic(auto)]
 
 mod countdown;
+mod joins;
 mod leaves;
 mod waits;
 

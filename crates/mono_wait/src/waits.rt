@@ -20,10 +20,10 @@ pub trait WaitContext: TimeContext {
 
 /// A future that tells what it waits for.
 ///
-/// Once a poll was pending, the running task is registered at each source that the future needs, and at one at least,
-/// or was woken in its turn. It was so at some moment of the turn, and since then only calls of the turn came
-/// (`covers`). So a later branch of a form changes nothing of it, and owes nothing for it: what a call can still undo is
-/// a drop of the source, which is an act of the turn.
+/// Where a poll is pending, the running task was registered at each source that the future needs, and at one at least, or
+/// was woken in its turn. It was so at some moment of the poll, and since then only calls of the turn came (`covers`). So a
+/// later branch of a form changes nothing of it, and owes nothing for it. What a later call of the turn can still undo is a
+/// drop of the source, which is an act of the turn.
 pub trait Waits<C: WaitContext>: TaskFuture<C> {
     // the sources that the future waits for once a poll was pending
     ghost needs: { Self → Source → Type 0 };
@@ -33,5 +33,5 @@ pub trait Waits<C: WaitContext>: TaskFuture<C> {
 
     ghost cancels_reach: { (f : Self) (c d : C) → Self.cancels f c d → C.reaches c d };
 
-    ghost covers: { (f : Self) (c : C) (g : Self) (d : C) → Self.polls f c Poll.Pending g d → Covers C.number C.work C.reaches C.watcher d (needs g) };
+    ghost covers: { (f : Self) (c : C) (g : Self) (d : C) → Self.polls f c Poll.Pending g d → Covers C.number C.work C.reaches C.watcher c d (needs g) };
 }
