@@ -19,7 +19,7 @@ use Rattle.mono_machine.specs.Acts.{Outcome, for_sleep, reset, answered, refused
 use Rattle.mono_machine.specs.Turns.{replies_of, after_steps, after_end, end_answer, after_begin, turn_report_for, after_turn_for}
 use Rattle.mono_machine.specs.Steps.{Step, ClockStep, Run, has_finished, after_fires, after_fire, at_clock, remote_report, after_remote, after_drain}
 use Rattle.mono_machine.specs.History.{waiter_at, has_turn_of, is_turn_of, is_awaiting, is_waker, wakes_by_fires, begun_machine}
-use Rattle.mono_machine.specs.Watches.{Source, of_sleep, of_task, of_job, is_sleep, is_task, is_job, watcher, IsWatched, drops, polls, takes, says_elapsed, fires_by, fires_step, fires_in, takes_in, is_done, is_fired, fires, is_taken, is_taken_in, is_untouched, Hears, drops_step, drops_in}
+use Rattle.mono_machine.specs.Watches.{Source, of_sleep, of_task, of_job, is_sleep, is_task, is_job, watcher, IsWatched, drops, polls, takes, says_elapsed, fires_by, fires_step, fires_in, takes_in, is_done, is_fired, fires, is_taken, is_taken_in, is_untouched, Hears, is_stirred, is_stirred_in, drops_step, drops_in}
 use Rattle.mono_machine.specs.declared.events.Act.{Act}
 use Rattle.mono_machine.specs.declared.events.Act.TheVariants as act
 use Rattle.mono_machine.specs.declared.events.Query.{Query}
@@ -448,12 +448,12 @@ steps_on : (me : ℕ) (before after : List TurnStep) (m : Machine) → after_ste
 steps_on me [] after m = refl
 steps_on me (s ∷ before) after m = steps_on me before after (step_outcome me s m).machine
 
-noted_settles : (v : Option (Task ℕ)) → phases.of_task is_noted v ≡ true → settled v ≡ true
-noted_settles None is = refl
-noted_settles (Some task) is = by_phase task.phase is
+stirred_settles : (v : Option (Task ℕ)) → is_stirred_in v ≡ true → settled v ≡ true
+stirred_settles None is = refl
+stirred_settles (Some task) is = by_phase task.phase is
   where
-    by_phase : (phase : Phase ℕ) → is_noted phase ≡ true → settled_phase phase ≡ true
-    by_phase idle told = absurd (false-true told)
+    by_phase : (phase : Phase ℕ) → is_stirred phase ≡ true → settled_phase phase ≡ true
+    by_phase idle told = told
     by_phase queued told = refl
     by_phase (running noted) told = told
     by_phase (done output) told = refl
@@ -480,7 +480,7 @@ module _ (t : ℕ) (x : Source) where
     kept_ends kept = waits t (after_end end.Pending t (after_steps t after m)) ends (end_kept t t end.Pending (after_steps t after m) (steps_valid t after m valid) kept) (paused_stays (after_steps t after m) (steps_valid t after m valid))
 
     heard_ends : Hears m t x → drops_in x after ≡ false → IsWatched (after_end end.Pending t (after_steps t after m)) t x ⊎ (is_awaiting t (after_end end.Pending t (after_steps t after m)) ≡ true)
-    heard_ends (inr noted) none = inr (kept_ends (steps_kept t t after m (settled_kept t m (noted_settles (value_at m.tasks.table t) noted))))
+    heard_ends (inr noted) none = inr (kept_ends (steps_kept t t after m (settled_kept t m (stirred_settles (value_at m.tasks.table t) noted))))
     heard_ends (inl is) none = by_fires (fires_in t t x after (replies_of t after m)) refl
       where
         by_fires : (b : Bool) → fires_in t t x after (replies_of t after m) ≡ b → IsWatched (after_end end.Pending t (after_steps t after m)) t x ⊎ (is_awaiting t (after_end end.Pending t (after_steps t after m)) ≡ true)

@@ -2,8 +2,7 @@
 use Rattle.std.specs.Prelude.{◌≡◌, ◌⊎◌, ℕ, Bool, true, false, not, ◌==◌, ◌&&◌, ◌||◌, List, [], ◌∷◌, Option, Some, None}
 use Rattle.mono_model.specs.Table.{value_at}
 use Rattle.mono_model.specs.Inbox.{is_waiting}
-use Rattle.mono_model.specs.Tasks.{is_noted}
-use Rattle.mono_model.specs.Valid as phase
+use Rattle.mono_model.specs.Tasks.{Task, Phase, idle, queued, running, done, taken}
 use Rattle.mono_model.specs.Jobs as job
 use Rattle.mono_model.specs.SleepActs as sleep
 use Rattle.mono_model.specs.declared.Ended.{Ended}
@@ -174,9 +173,21 @@ is_untouched t x [] answers = true
 is_untouched t x (e ∷ events) [] = true
 is_untouched t x (e ∷ events) (answer ∷ answers) = not (fires t x e answer) && (not (is_taken t x e answer) && is_untouched t x events answers)
 
+-- queued, noted, finished or gone: of the running task, noted
+abbrev pub is_stirred : {O : Type 0} → Phase O → Bool
+is_stirred idle = false
+is_stirred queued = true
+is_stirred (running noted) = noted
+is_stirred (done output) = true
+is_stirred taken = true
+
+abbrev pub is_stirred_in : {O : Type 0} → Option (Task O) → Bool
+is_stirred_in None = true
+is_stirred_in (Some task) = is_stirred task.phase
+
 -- t waits for x, or was woken in the turn that it has
 abbrev pub Hears : Machine → ℕ → Source → Type 0
-Hears m t x = IsWatched m t x ⊎ (phase.of_task is_noted (value_at m.tasks.table t) ≡ true)
+Hears m t x = IsWatched m t x ⊎ (is_stirred_in (value_at m.tasks.table t) ≡ true)
 
 abbrev pub drops_step : Source → TurnStep → Bool
 drops_step x (step.Act a) = drops x a

@@ -4,8 +4,8 @@ use Rattle.mono_model.specs.Tasks.{Tasks, woken}
 use Rattle.mono_model.specs.Poll.{OnPending}
 use Rattle.mono_model.specs.declared.poll.Poll.{Poll}
 use Rattle.mono_model.specs.declared.poll.Poll.TheVariants.{Pending}
-use Rattle.mono_machine.specs.Watches.{Source, of_task}
-use Rattle.mono_wait.specs.Heard.{Covers, Heard, is_stirred_in}
+use Rattle.mono_machine.specs.Watches.{Source, of_task, is_stirred_in}
+use Rattle.mono_wait.specs.Heard.{Covers, Heard}
 use Rattle.mono_wait.specs.declared.countdown.Countdown.{Countdown}
 use Rattle.std.proofs.Common.{inr, sym, ap, ◌∙◌, subst}
 use Rattle.mono_wait.specs.Stirring.{stirs}

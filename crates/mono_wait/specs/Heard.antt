@@ -1,9 +1,9 @@
 -- That the running task is registered at a source, or was woken in its turn.
 use Rattle.std.specs.Prelude.{◌≡◌, ◌⊎◌, ℕ, ⊤, Bool, true, false, Option, Some, None}
 use Rattle.mono_model.specs.Table.{value_at}
-use Rattle.mono_model.specs.Tasks.{Tasks, Task, Phase, idle, queued, running, done, taken}
+use Rattle.mono_model.specs.Tasks.{Tasks, Task}
 use Rattle.mono_time.specs.Sleeps.{Kept, kept_waker}
-use Rattle.mono_machine.specs.Watches.{Source}
+use Rattle.mono_machine.specs.Watches.{Source, is_stirred_in}
 
 abbrev pub waiter_in : {O : Type 0} → Option (Task O) → Option ℕ
 waiter_in None = None
@@ -12,18 +12,6 @@ waiter_in (Some task) = task.waiter
 abbrev pub waker_in : Option Kept → Option ℕ
 waker_in None = None
 waker_in (Some kept) = kept_waker kept
-
--- queued or noted, or it has finished; of the running task: noted
-abbrev pub is_stirred : {O : Type 0} → Phase O → Bool
-is_stirred idle = false
-is_stirred queued = true
-is_stirred (running noted) = noted
-is_stirred (done output) = true
-is_stirred taken = true
-
-abbrev pub is_stirred_in : {O : Type 0} → Option (Task O) → Bool
-is_stirred_in None = true
-is_stirred_in (Some task) = is_stirred task.phase
 
 module _ {C : Type 0} (number : C → ℕ) (work : C → Tasks ⊤) (reaches : C → C → Type 0) (watcher : C → Source → Option ℕ) where
   -- the running task waits for the source, or was woken in its turn

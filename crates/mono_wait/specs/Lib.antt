@@ -7,3 +7,4 @@ pub mod Leaves
 pub mod Deadlines
 pub mod Handles
 pub mod Joins
+pub mod Registers

@@ -4,7 +4,7 @@ use Rattle.std.proofs.lemmas.Bool.{cases_lt}
 use Rattle.std.proofs.lemmas.List.{get_or-set_same, get_or_past, length-set}
 use Rattle.mono_model.specs.Table.{Table, value_at}
 use Rattle.mono_model.specs.Tasks.{Tasks, Task, Phase, idle, queued, running, done, taken, in_phase, woken, woken_in, woken_value}
-use Rattle.mono_wait.specs.Heard.{is_stirred, is_stirred_in}
+use Rattle.mono_machine.specs.Watches.{is_stirred, is_stirred_in}
 
 set_stirs : {O : Type 0} (table : Table (Task O)) (t : ℕ) (new : Option (Task O)) → is_stirred_in new ≡ true → is_stirred_in (value_at (set table t new) t) ≡ true
 set_stirs table t new is = elim (cases_lt t (length table)) [

@@ -3,9 +3,12 @@
 
 mod countdown;
 mod joins;
+pub mod laws;
 mod leaves;
+mod machines;
 mod waits;
 
 pub use countdown::Countdown;
 pub use leaves::Reaching;
+pub use machines::MachineContext;
 pub use waits::{WaitContext, Waits};

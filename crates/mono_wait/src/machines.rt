@@ -1,0 +1,22 @@
+// A context that stands for the machine.
+ghost use Rattle.std.specs.Prelude.{◌≡◌, List};
+ghost use Rattle.mono_model.specs.Table.{value_at};
+ghost use Rattle.mono_machine.specs.Machine.{Machine};
+ghost use Rattle.mono_machine.specs.Turns.{after_steps};
+ghost use Rattle.mono_machine.specs.Watches.{Source, is_stirred_in};
+ghost use Rattle.mono_machine.specs.Watches as watches;
+ghost use Rattle.mono_machine.specs.declared.events.TurnStep.{TurnStep};
+
+use crate::waits::WaitContext;
+
+/// A context whose calls are steps of the machine, and that tells who waits as the machine does.
+pub trait MachineContext: WaitContext {
+    // the machines for which the context stands
+    ghost stands: { Self → Machine → Type 0 };
+
+    ghost leads: { (a b : Self) → Self.reaches a b → (steps : List TurnStep) × ((m : Machine) → stands a m → stands b (after_steps (Self.number a) steps m)) };
+
+    ghost same_watcher: { (c : Self) (m : Machine) (x : Source) → stands c m → Self.watcher c x ≡ watches.watcher m x };
+
+    ghost same_stirred: { (c : Self) (m : Machine) → stands c m → is_stirred_in (value_at (Self.work c).table (Self.number c)) ≡ is_stirred_in (value_at m.tasks.table (Self.number c)) };
+}
