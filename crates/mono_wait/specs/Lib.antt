@@ -8,3 +8,4 @@ pub mod Deadlines
 pub mod Handles
 pub mod Joins
 pub mod Registers
+pub mod Selects

@@ -6,6 +6,7 @@ mod joins;
 pub mod laws;
 mod leaves;
 mod machines;
+mod selects;
 mod waits;
 
 pub use countdown::Countdown;

@@ -28,6 +28,9 @@ pub trait Waits<C: WaitContext>: TaskFuture<C> {
     // the sources that the future waits for once a poll was pending
     ghost needs: { Self → Source → Type 0 };
 
+    /// Does nothing. An impl with closures among its bounds has to write it out, since it needs one method of its own.
+    fn tells_its_needs(&self) {}
+
     // a poll leads to a context that is reached, and so does giving the future up
     ghost polls_reach: { (f : Self) (c : C) (r : Poll Self.Output) (g : Self) (d : C) → Self.polls f c r g d → C.reaches c d };
 
