@@ -10,7 +10,7 @@ use Rattle.mono_model.specs.Inbox.{is_waiting, with_waiting}
 use Rattle.mono_model.specs.Sleeps.{Sleep, waker_of}
 use Rattle.mono_model.specs.SleepActs as sleep
 use Rattle.mono_model.specs.SleepAnswers.{waker_in}
-use Rattle.mono_model.specs.Valid.{IsValidTask, is_unfinished, is_running}
+use Rattle.mono_model.specs.Valid.{IsValidTask, is_unfinished, is_running, is_queued, once_if, times}
 use Rattle.mono_model.specs.Valid as phases
 use Rattle.mono_model.specs.declared.Ended.{Ended}
 use Rattle.mono_model.specs.declared.Ended.TheVariants as ended
@@ -40,7 +40,7 @@ use Rattle.mono_machine.specs.declared.events.Blocking.TheVariants as blocking
 use Rattle.mono_machine.proofs.Known.{alike_paused}
 use Rattle.mono_machine.proofs.ValidActs.{step_valid}
 use Rattle.mono_machine.proofs.ValidSteps.{begin_valid, steps_valid, step_is_valid, same_jobs}
-use Rattle.mono_machine.proofs.Awaiting.{IsKept, Settles, settled, settled_phase, waits, settled_kept, act_wakes, steps_kept, end_kept, fires_wake, ready_wakes, kept_runs, false-true, or_false_left, or_false_right}
+use Rattle.mono_machine.proofs.Awaiting.{IsKept, Settles, settled, settled_phase, waits, settled_kept, act_wakes, steps_kept, end_kept, fires_wake, ready_wakes, kept_runs, none_lost, false-true, or_false_left, or_false_right}
 use Rattle.mono_machine.proofs.WatchTables.{none-some, true-false, woken_waits, waker_waits, all_woken_waits, spawned_waits, begun_waits, paused_waits, completed_waits, dropped_waits, joined_waits, again_waits, TaskWaits, added_waits, fired_waits, removed_waits, reset_waits, polled_waits, made_waits, job_dropped_waits, job_ended_waits, job_polled_waits}
 
 apart_of : (r s : ℕ) → (r == s) ≡ false → s ≢ r
@@ -509,3 +509,35 @@ turn_registers before after replies told old new t x valid by heard none = by_qu
       where
         left : new ≡ after_end end.Pending t (after_steps t after (after_steps t before (after_begin t rest old)))
         left = leaves ∙ ap (λ q. after_turn_for q (before ++ after) end.Pending old) is ∙ ap (after_end end.Pending t) (steps_on t before after (after_begin t rest old))
+
+-- at rest nobody is queued and nobody waits in the inbox
+not_queued : (b : Bool) → once_if false ≡ once_if b → b ≡ false
+not_queued true is = absurd (impossible is)
+  where
+    impossible : once_if false ≡ once_if true → ⊥
+    impossible e = omega (arith, e)
+not_queued false is = refl
+
+not_awaiting : (m : Machine) (t : ℕ) → IsValid m → m.tasks.queue ≡ [] → m.inbox ≡ [] → is_awaiting t m ≡ false
+not_awaiting m t valid queue inbox =
+    ap (λ i. phases.of_task is_queued (value_at m.tasks.table t) || is_waiting i t) inbox
+    ∙ ap (λ b. b || false) (not_queued (phases.of_task is_queued (value_at m.tasks.table t)) (ap (λ q. times q t) (sym queue) ∙ valid.tasks.queue t))
+
+run_valid : (events : List Event) (answers : List Report) (old new : Machine) → IsValid old → Run old events answers new → IsValid new
+run_valid [] [] old new valid run = subst IsValid (sym run) valid
+run_valid [] (answer ∷ answers) old new valid run = absurd run
+run_valid (e ∷ events) [] old new valid run = absurd run
+run_valid (e ∷ events) (answer ∷ answers) old new valid (mid, by, run) = run_valid events answers mid new (step_is_valid old e answer mid valid by) run
+
+pub registered_lasts : (before after : List TurnStep) (replies : List Reply) (told : Ended) (events : List Event) (answers : List Report) (old mid new : Machine) (t : ℕ) (x : Source) → IsValid old
+    → Step old (event.Turn (before ++ after) end.Pending) (report.Turn t replies told) mid → Hears (after_steps t before (begun_machine old.tasks.queue old)) t x → drops_in x after ≡ false
+    → Run mid events answers new → is_taken_in t x events answers ≡ false → has_turn_of t answers ≡ false → has_finished (value_at new.tasks.table t) ≡ false → IsWatched new t x ⊎ (is_awaiting t new ≡ true)
+registered_lasts before after replies told events answers old mid new t x valid by heard none run untaken apart unfinished =
+    elim (turn_registers before after replies told old mid t x valid by heard none) [
+      | inl is ↦ watched_or_awaiting events answers mid new t x (step_is_valid old (event.Turn (before ++ after) end.Pending) (report.Turn t replies told) mid valid by) run is untaken apart unfinished
+      | inr is ↦ inr (none_lost events answers mid new t (step_is_valid old (event.Turn (before ++ after) end.Pending) (report.Turn t replies told) mid valid by) run is apart unfinished)
+    ]
+
+pub rests_watched : (m : Machine) (t : ℕ) (x : Source) → IsValid m → m.tasks.queue ≡ [] → m.inbox ≡ [] → IsWatched m t x ⊎ (is_awaiting t m ≡ true) → IsWatched m t x
+rests_watched m t x valid queue inbox (inl is) = is
+rests_watched m t x valid queue inbox (inr is) = absurd (true-false (sym is ∙ not_awaiting m t valid queue inbox))

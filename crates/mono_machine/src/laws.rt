@@ -147,3 +147,12 @@ pub fn what_a_turn_registers_stands()
     ensures { (before after : List TurnStep) (replies : List Reply) (told : Ended) (old new : Machine) (t : ℕ) (x : Source) → IsValid old → Step old (event.Turn (before ++ after) end.Pending) (report.Turn t replies told) new →
         Hears (after_steps t before (begun_machine old.tasks.queue old)) t x → drops_in x after ≡ false → IsWatched new t x ⊎ (is_awaiting t new ≡ true) }
 {}
+
+/// The same along a run that follows, in which the task had no turn and did not finish and in which nobody took its wait:
+/// at rest, where no task is queued and the inbox is empty, the task waits for the source.
+pub fn what_a_turn_registers_lasts()
+    ensures lasts { (before after : List TurnStep) (replies : List Reply) (told : Ended) (events : List Event) (answers : List Report) (old mid new : Machine) (t : ℕ) (x : Source) → IsValid old →
+        Step old (event.Turn (before ++ after) end.Pending) (report.Turn t replies told) mid → Hears (after_steps t before (begun_machine old.tasks.queue old)) t x → drops_in x after ≡ false →
+        Run mid events answers new → is_taken_in t x events answers ≡ false → has_turn_of t answers ≡ false → has_finished (value_at new.tasks.table t) ≡ false → IsWatched new t x ⊎ (is_awaiting t new ≡ true) }
+    ensures at_rest { (m : Machine) (t : ℕ) (x : Source) → IsValid m → m.tasks.queue ≡ [] → m.inbox ≡ [] → IsWatched m t x ⊎ (is_awaiting t m ≡ true) → IsWatched m t x }
+{}

@@ -18,11 +18,7 @@ use Rattle.mono_machine.specs.declared.events.Report.TheVariants as report
 use Rattle.mono_wait.specs.Heard.{Heard}
 use Rattle.mono_wait.specs.Heard as heard
 use Rattle.mono_wait.specs.Registers.{Registers}
-
--- what the machine says of a turn that registers
-abbrev pub TurnRegisters : Type 0
-TurnRegisters = (before after : List TurnStep) (replies : List Reply) (told : Ended) (old new : Machine) (t : ℕ) (x : Source) → IsValid old → Step old (event.Turn (before ++ after) end.Pending) (report.Turn t replies told) new
-    → Hears (after_steps t before (begun_machine old.tasks.queue old)) t x → drops_in x after ≡ false → IsWatched new t x ⊎ (is_awaiting t new ≡ true)
+use Rattle.mono_wait.specs.Turned.{TurnRegisters}
 
 steps_on : (me : ℕ) (before after : List TurnStep) (m : Machine) → after_steps me (before ++ after) m ≡ after_steps me after (after_steps me before m)
 steps_on me [] after m = refl
@@ -33,7 +29,7 @@ module _ {C : Type 0} (number : C → ℕ) (work : C → Tasks ⊤) (reaches : C
     (leads : (a b : C) → reaches a b → (steps : List TurnStep) × ((m : Machine) → stands a m → stands b (after_steps (number a) steps m)))
     (same_watcher : (c : C) (m : Machine) (x : Source) → stands c m → tells c x ≡ watcher m x)
     (same_stirred : (c : C) (m : Machine) → stands c m → is_stirred_in (value_at (work c).table (number c)) ≡ is_stirred_in (value_at m.tasks.table (number c))) where
-  hears_in : (t : ℕ) (c : C) (m : Machine) (x : Source) → number c ≡ t → stands c m → heard.Hears number work reaches tells c x → Hears m t x
+  pub hears_in : (t : ℕ) (c : C) (m : Machine) (x : Source) → number c ≡ t → stands c m → heard.Hears number work reaches tells c x → Hears m t x
   hears_in t c m x same st (inl is) = inl (sym (same_watcher c m x st) ∙ is ∙ ap Some same)
   hears_in t c m x same st (inr is) = inr (subst (λ n. is_stirred_in (value_at m.tasks.table n) ≡ true) same (sym (same_stirred c m st) ∙ is))
 

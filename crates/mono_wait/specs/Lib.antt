@@ -9,3 +9,5 @@ pub mod Handles
 pub mod Joins
 pub mod Registers
 pub mod Selects
+pub mod Runtime
+pub mod Turned

@@ -1,16 +1,42 @@
-//! What a pending poll leaves of its task in the machine, as a function with an empty body.
+//! What a pending poll and a pending turn leave of their task in the machine, as functions that do nothing.
+ghost use Rattle.std.specs.Prelude.{◌≡◌, ℕ, Bool, false, List, Option};
 ghost use Rattle.mono_model.specs.declared.poll.Poll.{Poll};
+ghost use Rattle.mono_machine.specs.Machine.{Machine};
 ghost use Rattle.mono_machine.specs.Watches.{Source};
+ghost use Rattle.mono_machine.specs.declared.events.TurnStep.{TurnStep};
+ghost use Rattle.mono_machine.specs.declared.events.End.TheVariants as end;
+ghost use Rattle.mono_machine.specs.declared.events.Report.{Report};
+ghost use Rattle.mono_rt.specs.Polling.{TellsTurn};
 ghost use Rattle.mono_wait.specs.Registers.{Registers};
+ghost use Rattle.mono_wait.specs.Turned.{LeavesWaiting};
 
 use crate::machines::MachineContext;
 use crate::waits::Waits;
+use mono_blocking::ThreadPool;
+use mono_inbox::Unpark;
+use mono_joinword::Outcome;
 use mono_machine::laws::what_a_turn_registers_stands;
+use mono_rt::Cx;
 
 /// A poll that was pending registers its task at each source that the future needs: once the turn has ended pending, the
 /// task waits for that source or is awaiting, unless a later step of the turn drops the source.
 pub fn a_pending_poll_registers<C: MachineContext, F: Waits<C>>()
     ensures { (f : F) (c : C) (g : F) (d : C) (x : Source) → F.polls f c Poll.Pending g d → F.needs g x → Registers C.stands C.number c d x }
+{
+    what_a_turn_registers_stands();
+}
+
+/// A turn that a journal tells and that ended pending leaves its task waiting at each source that its future needs, or
+/// awaiting, unless one of its later acts drops the source.
+pub fn a_pending_turn_leaves_its_task_waiting<F, O, P, U>()
+where
+    F: Waits<Cx<F, O, P, U>, Output = O> + Drop,
+    O: Outcome + Drop,
+    P: ThreadPool + Drop,
+    U: Unpark,
+    ensures { (has_timers : Bool) (m : Machine) (futures left : List (Option F)) (reading : ℕ) (steps : List TurnStep) (answer : Report)
+        → TellsTurn O.output_number F.TaskFuture has_timers m futures reading steps end.Pending answer left
+        → LeavesWaiting (λ f. F.is_spent f ≡ false) F.needs m futures left steps answer }
 {
     what_a_turn_registers_stands();
 }

@@ -6,6 +6,7 @@ mod joins;
 pub mod laws;
 mod leaves;
 mod machines;
+mod runtime;
 mod selects;
 mod waits;
 

@@ -1,0 +1,63 @@
+-- Who waits, by the parts of a runtime and by the machine for which they stand.
+use Rattle.std.specs.Prelude.{◌≡◌, ℕ, ⊤, true, zero, suc, map, List, [], ◌∷◌, Option, Some, None}
+use Rattle.std.specs.Option.{option_map}
+use Rattle.std.proofs.Common.{refl, sym, ap, ◌∙◌}
+use Rattle.mono_model.specs.Table.{Table, value_at}
+use Rattle.mono_model.specs.Tasks.{Tasks, Task, Phase, idle, queued, running, done, taken}
+use Rattle.mono_model.specs.Sleeps as model
+use Rattle.mono_model.specs.SleepActs as sleep
+use Rattle.mono_task.specs.Work.{without_outputs, task_without, phase_without}
+use Rattle.mono_time.specs.Stands.{seen}
+use Rattle.mono_time.specs.Timers.{sleeps_of}
+use Rattle.mono_machine.specs.Machine.{Machine}
+use Rattle.mono_machine.specs.History.{waiter_at}
+use Rattle.mono_parts.specs.Numbered.{numbered, task_numbered, phase_numbered}
+use Rattle.mono_parts.specs.Stands.{Hosting, Matches}
+use Rattle.mono_parts.specs.declared.parts.Parts.{Parts}
+use Rattle.mono_machine.specs.Watches.{Source, of_sleep, of_task, of_job, watcher, job_waiter, is_stirred, is_stirred_in}
+use Rattle.mono_wait.specs.Heard.{waiter_in, waker_in}
+
+module _ {O B : Type 0} (hosting : B → Hosting) where
+  abbrev pub parts_watcher : Parts O B → Source → Option ℕ
+  parts_watcher parts (of_sleep s) = waker_in (value_at (sleeps_of parts.timers).table s)
+  parts_watcher parts (of_task u) = waiter_in (value_at (without_outputs parts.tasks.tasks).table u)
+  parts_watcher parts (of_job j) = job_waiter (value_at (hosting parts.blocking).jobs.table j)
+
+-- the wakers do not depend on the arm numbers
+seen_waker : (table : Table model.Sleep) (s : ℕ) → waker_in (value_at (map (option_map seen) table) s) ≡ sleep.waker_in (value_at table s)
+seen_waker [] s = refl
+seen_waker (None ∷ table) zero = refl
+seen_waker (Some (model.fresh n) ∷ table) zero = refl
+seen_waker (Some (model.armed a) ∷ table) zero = refl
+seen_waker (Some model.elapsed ∷ table) zero = refl
+seen_waker (v ∷ table) (suc s) = seen_waker table s
+
+-- the waiters and the wakes of tasks do not depend on the outputs
+module _ {O : Type 0} (number : O → ℕ) where
+  both_waiters : (table : Table (Task O)) (u : ℕ) → waiter_in (value_at (map (option_map task_without) table) u) ≡ waiter_at (value_at (map (option_map (task_numbered number)) table) u)
+  both_waiters [] u = refl
+  both_waiters (None ∷ table) zero = refl
+  both_waiters (Some task ∷ table) zero = refl
+  both_waiters (v ∷ table) (suc u) = both_waiters table u
+
+  stirred_phase : (phase : Phase O) → is_stirred (phase_without phase) ≡ is_stirred (phase_numbered number phase)
+  stirred_phase idle = refl
+  stirred_phase queued = refl
+  stirred_phase (running noted) = refl
+  stirred_phase (done output) = refl
+  stirred_phase taken = refl
+
+  both_stirred : (table : Table (Task O)) (u : ℕ) → is_stirred_in (value_at (map (option_map task_without) table) u) ≡ is_stirred_in (value_at (map (option_map (task_numbered number)) table) u)
+  both_stirred [] u = refl
+  both_stirred (None ∷ table) zero = refl
+  both_stirred (Some task ∷ table) zero = stirred_phase task.phase
+  both_stirred (v ∷ table) (suc u) = both_stirred table u
+
+module _ {O B : Type 0} (number : O → ℕ) (hosting : B → Hosting) (parts : Parts O B) (m : Machine) where
+  pub parts_same_watcher : (x : Source) → Matches number hosting parts m → parts_watcher hosting parts x ≡ watcher m x
+  parts_same_watcher (of_sleep s) st = ap (λ t. waker_in (value_at t s)) (sym st.sleeps.table) ∙ seen_waker m.sleeps.table s
+  parts_same_watcher (of_task u) st = both_waiters number parts.tasks.tasks.table u ∙ ap (λ t. waiter_at (value_at t.table u)) st.tasks
+  parts_same_watcher (of_job j) st = ap (λ jobs. job_waiter (value_at jobs.table j)) st.jobs
+
+  pub parts_same_stirred : (u : ℕ) → Matches number hosting parts m → is_stirred_in (value_at (without_outputs parts.tasks.tasks).table u) ≡ is_stirred_in (value_at m.tasks.table u)
+  parts_same_stirred u st = both_stirred number parts.tasks.tasks.table u ∙ ap (λ t. is_stirred_in (value_at t.table u)) st.tasks

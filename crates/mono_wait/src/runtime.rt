@@ -1,0 +1,30 @@
+// The runtime's context tells who waits as the machine does.
+ghost use Rattle.std.specs.Prelude.{refl};
+ghost use Rattle.mono_parts.specs.Stands.{hosting_of, Matches};
+ghost use Rattle.mono_wait.specs.Runtime.{parts_watcher, parts_same_watcher, parts_same_stirred};
+
+use crate::machines::MachineContext;
+use crate::waits::WaitContext;
+use mono_blocking::ThreadPool;
+use mono_inbox::Unpark;
+use mono_joinword::Outcome;
+use mono_rt::Cx;
+
+impl<F: Drop, O: Outcome + Drop, P: ThreadPool + Drop, U: Unpark> WaitContext for Cx<F, O, P, U> {
+    ghost watcher = { λ c. parts_watcher hosting_of c.parts };
+
+    ghost watches_sleeps = { λ c s. refl };
+
+    ghost watches_tasks = { λ c u. refl };
+}
+
+impl<F: Drop, O: Outcome + Drop, P: ThreadPool + Drop, U: Unpark> MachineContext
+    for Cx<F, O, P, U> {
+    ghost stands = { λ c m. Matches O.output_number hosting_of c.parts m };
+
+    ghost leads = { λ a b r. (r.parts.steps, r.parts.leads) };
+
+    ghost same_watcher = { λ c m x st. parts_same_watcher O.output_number hosting_of c.parts m x st };
+
+    ghost same_stirred = { λ c m st. parts_same_stirred O.output_number hosting_of c.parts m c.parts.me st };
+}
