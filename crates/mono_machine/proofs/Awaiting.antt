@@ -459,7 +459,7 @@ clock_wakes t m n report.Listed new told is = absurd is
 clock_wakes t m n report.Unlisted new told is = absurd is
 clock_wakes t m n (report.Drained tasks) new told is = absurd is
 
-event_kept : (t : ℕ) (old : Machine) (e : Event) (answer : Report) (new : Machine) → IsValid old → IsKept t old → Step old e answer new → is_turn_of t answer ≡ false → IsKept t new
+pub event_kept : (t : ℕ) (old : Machine) (e : Event) (answer : Report) (new : Machine) → IsValid old → IsKept t old → Step old e answer new → is_turn_of t answer ≡ false → IsKept t new
 event_kept t old (event.Act a) answer new valid kept is apart = subst (IsKept t) (sym is.1) (act_kept t old kept a)
 event_kept t old (event.Turn steps e) answer new valid kept is apart = subst (IsKept t) (sym is.1) (turn_kept t steps e old valid kept old.tasks.queue refl (sym (ap (is_turn_of t) is.0) ∙ apart))
 event_kept t old (event.Clock n) answer new valid kept is apart = clock_kept t old n answer new kept is
@@ -506,7 +506,7 @@ kept_runs t (e ∷ events) [] old new valid kept run apart unfinished = absurd r
 kept_runs t (e ∷ events) (answer ∷ answers) old new valid kept (mid, is, run) apart unfinished =
     kept_runs t events answers mid new (step_is_valid old e answer mid valid is) (event_kept t old e answer mid valid kept is (or_false_left (is_turn_of t answer) _ apart)) run (or_false_right (is_turn_of t answer) _ apart) unfinished
 
-awaiting_kept : (t : ℕ) (m : Machine) → is_awaiting t m ≡ true → IsKept t m
+pub awaiting_kept : (t : ℕ) (m : Machine) → is_awaiting t m ≡ true → IsKept t m
 awaiting_kept t m is = or_mono (of_task is_queued (value_at m.tasks.table t)) (settled (value_at m.tasks.table t)) (is_waiting m.inbox t) (by_value (value_at m.tasks.table t)) is
   where
     by_phase : (phase : Phase ℕ) → is_queued phase ≡ true → settled_phase phase ≡ true

@@ -19,7 +19,7 @@ use Rattle.mono_machine.specs.Acts.{Outcome, for_sleep, reset, answered, refused
 use Rattle.mono_machine.specs.Turns.{replies_of, after_steps, after_end, end_answer, after_begin, turn_report_for, after_turn_for}
 use Rattle.mono_machine.specs.Steps.{Step, ClockStep, Run, has_finished, after_fires, after_fire, at_clock, remote_report, after_remote, after_drain}
 use Rattle.mono_machine.specs.History.{waiter_at, has_turn_of, is_turn_of, is_awaiting, is_waker, wakes_by_fires, begun_machine}
-use Rattle.mono_machine.specs.Watches.{Source, of_sleep, of_task, of_job, is_sleep, is_task, is_job, watcher, IsWatched, drops, polls, takes, says_elapsed, fires_by, fires_step, fires_in, takes_in, is_done, is_fired, fires, is_taken, is_taken_in, is_untouched, Hears, is_stirred, is_stirred_in, drops_step, drops_in}
+use Rattle.mono_machine.specs.Watches.{Source, of_sleep, of_task, of_job, is_sleep, is_task, is_job, watcher, IsWatched, drops, polls, takes, says_elapsed, fires_by, fires_step, fires_in, takes_in, is_done, is_fired, fires, is_taken, is_taken_in, is_untouched, Hears, IsHeld, is_stirred, is_stirred_in, drops_step, drops_in}
 use Rattle.mono_machine.specs.declared.events.Act.{Act}
 use Rattle.mono_machine.specs.declared.events.Act.TheVariants as act
 use Rattle.mono_machine.specs.declared.events.Query.{Query}
@@ -40,7 +40,7 @@ use Rattle.mono_machine.specs.declared.events.Blocking.TheVariants as blocking
 use Rattle.mono_machine.proofs.Known.{alike_paused}
 use Rattle.mono_machine.proofs.ValidActs.{step_valid}
 use Rattle.mono_machine.proofs.ValidSteps.{begin_valid, steps_valid, step_is_valid, same_jobs}
-use Rattle.mono_machine.proofs.Awaiting.{IsKept, Settles, settled, settled_phase, waits, settled_kept, act_wakes, steps_kept, end_kept, fires_wake, ready_wakes, kept_runs, none_lost, false-true, or_false_left, or_false_right}
+use Rattle.mono_machine.proofs.Awaiting.{IsKept, Settles, settled, settled_phase, waits, settled_kept, act_wakes, steps_kept, end_kept, fires_wake, ready_wakes, kept_runs, none_lost, event_kept, awaiting_kept, false-true, or_false_left, or_false_right}
 use Rattle.mono_machine.proofs.WatchTables.{none-some, true-false, woken_waits, waker_waits, all_woken_waits, spawned_waits, begun_waits, paused_waits, completed_waits, dropped_waits, joined_waits, again_waits, TaskWaits, added_waits, fired_waits, removed_waits, reset_waits, polled_waits, made_waits, job_dropped_waits, job_ended_waits, job_polled_waits}
 
 apart_of : (r s : ℕ) → (r == s) ≡ false → s ≢ r
@@ -541,3 +541,37 @@ registered_lasts before after replies told events answers old mid new t x valid 
 pub rests_watched : (m : Machine) (t : ℕ) (x : Source) → IsValid m → m.tasks.queue ≡ [] → m.inbox ≡ [] → IsWatched m t x ⊎ (is_awaiting t m ≡ true) → IsWatched m t x
 rests_watched m t x valid queue inbox (inl is) = is
 rests_watched m t x valid queue inbox (inr is) = absurd (true-false (sym is ∙ not_awaiting m t valid queue inbox))
+
+-- held: by a source, by the queue or the inbox, or for good
+same_settled : (v : Option (Task ℕ)) → is_stirred_in v ≡ settled v
+same_settled None = refl
+same_settled (Some task) = by_phase task.phase
+  where
+    by_phase : (phase : Phase ℕ) → is_stirred phase ≡ settled_phase phase
+    by_phase idle = refl
+    by_phase queued = refl
+    by_phase (running noted) = refl
+    by_phase (done output) = refl
+    by_phase taken = refl
+
+called_kept : (t : ℕ) (m : Machine) → (is_stirred_in (value_at m.tasks.table t) || is_waiting m.inbox t) ≡ true → IsKept t m
+called_kept t m is = ap (λ b. b || is_waiting m.inbox t) (sym (same_settled (value_at m.tasks.table t))) ∙ is
+
+kept_called : (t : ℕ) (m : Machine) → IsKept t m → (is_stirred_in (value_at m.tasks.table t) || is_waiting m.inbox t) ≡ true
+kept_called t m is = ap (λ b. b || is_waiting m.inbox t) (same_settled (value_at m.tasks.table t)) ∙ is
+
+pub held_stays : (old : Machine) (e : Event) (answer : Report) (new : Machine) (t : ℕ) (x : Source) → IsValid old → Step old e answer new → IsHeld old t x → is_turn_of t answer ≡ false → is_taken t x e answer ≡ false → IsHeld new t x
+held_stays old e answer new t x valid by (inl is) apart untaken = by_fires (fires t x e answer) refl
+  where
+    by_fires : (b : Bool) → fires t x e answer ≡ b → IsHeld new t x
+    by_fires true told = inr (kept_called t new (event_fires old e answer new t x valid by is told))
+    by_fires false told = inl (event_watch old e answer new t x valid by is told untaken)
+held_stays old e answer new t x valid by (inr is) apart untaken = inr (kept_called t new (event_kept t old e answer new valid (called_kept t old is) by apart))
+
+pub awaiting_held : (m : Machine) (t : ℕ) (x : Source) → IsWatched m t x ⊎ (is_awaiting t m ≡ true) → IsHeld m t x
+awaiting_held m t x (inl is) = inl is
+awaiting_held m t x (inr is) = inr (kept_called t m (awaiting_kept t m is))
+
+pub held_waits : (m : Machine) (t : ℕ) (x : Source) → IsValid m → IsHeld m t x → has_finished (value_at m.tasks.table t) ≡ false → IsWatched m t x ⊎ (is_awaiting t m ≡ true)
+held_waits m t x valid (inl is) unfinished = inl is
+held_waits m t x valid (inr is) unfinished = inr (waits t m valid (called_kept t m is) unfinished)

@@ -197,3 +197,7 @@ drops_step x (step.Query q) = false
 abbrev pub drops_in : Source → List TurnStep → Bool
 drops_in x [] = false
 drops_in x (s ∷ steps) = drops_step x s || drops_in x steps
+
+-- t waits for x, or is queued, noted or in the inbox, or has finished
+abbrev pub IsHeld : Machine → ℕ → Source → Type 0
+IsHeld m t x = IsWatched m t x ⊎ ((is_stirred_in (value_at m.tasks.table t) || is_waiting m.inbox t) ≡ true)

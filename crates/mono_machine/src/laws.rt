@@ -19,7 +19,7 @@ ghost use Rattle.mono_machine.specs.declared.events.Reply.{Reply};
 ghost use Rattle.mono_machine.specs.declared.events.End.TheVariants as end;
 ghost use Rattle.mono_machine.specs.Remotes.{wakes_and_drain, told_and_drained, after_wakes};
 ghost use Rattle.mono_machine.specs.Endings.{EndsAlone};
-ghost use Rattle.mono_machine.specs.Watches.{Source, IsWatched, Hears, drops_in, fires, is_taken, is_taken_in, is_untouched};
+ghost use Rattle.mono_machine.specs.Watches.{Source, IsWatched, Hears, IsHeld, drops_in, fires, is_taken, is_taken_in, is_untouched};
 ghost use Rattle.mono_machine.specs.declared.events.How.{How};
 ghost use Rattle.mono_machine.specs.declared.events.Act.TheVariants as act;
 ghost use Rattle.mono_machine.specs.declared.events.Limits.{Limits};
@@ -155,4 +155,12 @@ pub fn what_a_turn_registers_lasts()
         Step old (event.Turn (before ++ after) end.Pending) (report.Turn t replies told) mid → Hears (after_steps t before (begun_machine old.tasks.queue old)) t x → drops_in x after ≡ false →
         Run mid events answers new → is_taken_in t x events answers ≡ false → has_turn_of t answers ≡ false → has_finished (value_at new.tasks.table t) ≡ false → IsWatched new t x ⊎ (is_awaiting t new ≡ true) }
     ensures at_rest { (m : Machine) (t : ℕ) (x : Source) → IsValid m → m.tasks.queue ≡ [] → m.inbox ≡ [] → IsWatched m t x ⊎ (is_awaiting t m ≡ true) → IsWatched m t x }
+{}
+
+/// One step: a task that waits for a source, or is queued, noted or in the inbox, or has finished, still does or is, unless
+/// it is the task of the step's turn or its wait is taken (`stays`). Between two events an unfinished one waits for the
+/// source or is awaiting (`waits`).
+pub fn what_is_held_stays()
+    ensures stays { (old : Machine) (e : Event) (answer : Report) (new : Machine) (t : ℕ) (x : Source) → IsValid old → Step old e answer new → IsHeld old t x → is_turn_of t answer ≡ false → is_taken t x e answer ≡ false → IsHeld new t x }
+    ensures waits { (m : Machine) (t : ℕ) (x : Source) → IsValid m → IsHeld m t x → has_finished (value_at m.tasks.table t) ≡ false → IsWatched m t x ⊎ (is_awaiting t m ≡ true) }
 {}

@@ -1,2 +1,3 @@
 pub mod Registering
 pub mod Turning
+pub mod Parking

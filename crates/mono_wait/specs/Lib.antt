@@ -11,3 +11,4 @@ pub mod Registers
 pub mod Selects
 pub mod Runtime
 pub mod Turned
+pub mod Waiting

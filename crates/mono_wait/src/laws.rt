@@ -1,14 +1,16 @@
 //! What a pending poll and a pending turn leave of their task in the machine, as functions that do nothing.
 ghost use Rattle.std.specs.Prelude.{◌≡◌, ℕ, Bool, false, List, Option};
 ghost use Rattle.mono_model.specs.declared.poll.Poll.{Poll};
-ghost use Rattle.mono_machine.specs.Machine.{Machine};
+ghost use Rattle.mono_machine.specs.Machine.{Machine, IsValid};
 ghost use Rattle.mono_machine.specs.Watches.{Source};
 ghost use Rattle.mono_machine.specs.declared.events.TurnStep.{TurnStep};
 ghost use Rattle.mono_machine.specs.declared.events.End.TheVariants as end;
 ghost use Rattle.mono_machine.specs.declared.events.Report.{Report};
-ghost use Rattle.mono_rt.specs.Polling.{TellsTurn};
+ghost use Rattle.mono_parts.specs.declared.journals.Entry.{Entry};
+ghost use Rattle.mono_rt.specs.Polling.{TellsTurn, Polled};
 ghost use Rattle.mono_wait.specs.Registers.{Registers};
 ghost use Rattle.mono_wait.specs.Turned.{LeavesWaiting};
+ghost use Rattle.mono_wait.specs.Waiting.{Waiting};
 
 use crate::machines::MachineContext;
 use crate::waits::Waits;
@@ -37,6 +39,22 @@ where
     ensures { (has_timers : Bool) (m : Machine) (futures left : List (Option F)) (reading : ℕ) (steps : List TurnStep) (answer : Report)
         → TellsTurn O.output_number F.TaskFuture has_timers m futures reading steps end.Pending answer left
         → LeavesWaiting (λ f. F.is_spent f ≡ false) F.needs m futures left steps answer }
+{
+    what_a_turn_registers_stands();
+}
+
+/// Along a journal whose turns are told (the clause `polled` of `block_on`), for each task t and each source x: at each park
+/// t waits for x or is awaiting, if it has not finished, its future needed x after its last turn, no act of that turn
+/// dropped x, and nobody took its wait since. Nothing is owed for what the journal begins with.
+pub fn each_park_finds_its_tasks_waiting<F, O, P, U>()
+where
+    F: Waits<Cx<F, O, P, U>, Output = O> + Drop,
+    O: Outcome + Drop,
+    P: ThreadPool + Drop,
+    U: Unpark,
+    ensures { (has_timers : Bool) (part : List Entry) (m : Machine) (futures : List (Option F)) (reading t : ℕ) (x : Source) → IsValid m
+        → Polled O.output_number F.TaskFuture has_timers m futures reading part
+        → Waiting O.output_number F.TaskFuture F.needs has_timers t x ⊥ m futures reading part }
 {
     what_a_turn_registers_stands();
 }
