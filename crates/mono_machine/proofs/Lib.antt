@@ -12,6 +12,7 @@ pub mod Finished
 pub mod Awaiting
 pub mod WatchTables
 pub mod Watching
+pub mod Taken
 pub mod Spending
 pub mod Handouts
 pub mod Fairness

@@ -1,5 +1,5 @@
 // Laws of the machine.
-ghost use Rattle.std.specs.Prelude.{◌≡◌, ◌≢◌, ◌<◌, ◌≤◌, ◌⊎◌, ℕ, true, false, List, [], ◌++◌, Option, Some, length, slice_get};
+ghost use Rattle.std.specs.Prelude.{◌≡◌, ◌≢◌, ◌<◌, ◌≤◌, ◌⊎◌, ℕ, true, false, List, [], ◌++◌, Option, Some, None, length, slice_get};
 ghost use Rattle.std.specs.List.{AllPairs};
 ghost use Rattle.mono_model.specs.Ticks.{down};
 ghost use Rattle.mono_model.specs.Table.{value_at, next_number};
@@ -19,8 +19,9 @@ ghost use Rattle.mono_machine.specs.declared.events.Reply.{Reply};
 ghost use Rattle.mono_machine.specs.declared.events.End.TheVariants as end;
 ghost use Rattle.mono_machine.specs.Remotes.{wakes_and_drain, told_and_drained, after_wakes};
 ghost use Rattle.mono_machine.specs.Endings.{EndsAlone};
-ghost use Rattle.mono_machine.specs.Watches.{Source, IsWatched, Hears, IsHeld, drops_in, fires, is_taken, is_taken_in, is_untouched};
+ghost use Rattle.mono_machine.specs.Watches.{Source, IsWatched, Hears, IsHeld, watcher, drops, drops_in, fires, is_taken, is_taken_in, is_untouched};
 ghost use Rattle.mono_machine.specs.declared.events.How.{How};
+ghost use Rattle.mono_machine.specs.declared.events.Act.{Act};
 ghost use Rattle.mono_machine.specs.declared.events.Act.TheVariants as act;
 ghost use Rattle.mono_machine.specs.declared.events.Limits.{Limits};
 ghost use Rattle.mono_machine.specs.declared.events.Blocking.{Blocking};
@@ -163,4 +164,9 @@ pub fn what_a_turn_registers_lasts()
 pub fn what_is_held_stays()
     ensures stays { (old : Machine) (e : Event) (answer : Report) (new : Machine) (t : ℕ) (x : Source) → IsValid old → Step old e answer new → IsHeld old t x → is_turn_of t answer ≡ false → is_taken t x e answer ≡ false → IsHeld new t x }
     ensures waits { (m : Machine) (t : ℕ) (x : Source) → IsValid m → IsHeld m t x → has_finished (value_at m.tasks.table t) ≡ false → IsWatched m t x ⊎ (is_awaiting t m ≡ true) }
+{}
+
+/// An act that drops a source, or ends its job, takes each wait: nobody waits for the source afterwards.
+pub fn what_is_dropped_is_not_watched()
+    ensures { (old : Machine) (a : Act) (answer : Report) (new : Machine) (x : Source) → IsValid old → Step old (event.Act a) answer new → drops x a ≡ true → watcher new x ≡ None }
 {}
