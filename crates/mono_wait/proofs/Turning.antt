@@ -27,7 +27,7 @@ use Rattle.mono_parts.specs.Numbered.{end_of}
 use Rattle.mono_parts.specs.Record.{no_acts}
 use Rattle.mono_parts.specs.Stands.{hosting_of, Matches}
 use Rattle.mono_parts.proofs.Turning.{begun_matches}
-use Rattle.mono_rt.specs.Reached.{Reaches}
+use Rattle.mono_rt.specs.Reached.{ReachesSharing}
 use Rattle.mono_rt.specs.Turns.{Turn, Runs, UnlessSpent, Polls, AfterPoll}
 use Rattle.mono_rt.specs.Polling.{TellsTurn}
 use Rattle.mono_rt.specs.declared.contexts.Cx.{Cx}
@@ -56,39 +56,39 @@ inside_of table t v at = elim (cases_lt t (length table)) [
   | inr past ↦ absurd (no_some v (sym (get_or_past table t None past) ∙ at))
 ]
 
-module _ {F O P U J A V : Type 0} (number : O → ℕ) (future : FutureOf F (Cx F O P U J A V) O) (needs : F → Source → Type 0)
-    (covers : (f : F) (c : Cx F O P U J A V) (g : F) (d : Cx F O P U J A V) → future.polls f c Pending g d
-        → Covers (λ c. c.parts.me) (λ c. without_outputs c.parts.tasks.tasks) (Reaches number) (λ c. parts_watcher hosting_of c.parts) c d (needs g)) where
-  abbrev HeardIn : Cx F O P U J A V → Cx F O P U J A V → Source → Type 0
-  HeardIn = Heard (λ c. c.parts.me) (λ c. without_outputs c.parts.tasks.tasks) (Reaches number) (λ c. parts_watcher hosting_of c.parts)
+module _ {F O P U W J A V : Type 0} (number : O → ℕ) (leads : W → W → Type 0) (future : FutureOf F (Cx F O P U W J A V) O) (needs : F → Source → Type 0)
+    (covers : (f : F) (c : Cx F O P U W J A V) (g : F) (d : Cx F O P U W J A V) → future.polls f c Pending g d
+        → Covers (λ c. c.parts.me) (λ c. without_outputs c.parts.tasks.tasks) (ReachesSharing number leads) (λ c. parts_watcher hosting_of c.parts) c d (needs g)) where
+  abbrev HeardIn : Cx F O P U W J A V → Cx F O P U W J A V → Source → Type 0
+  HeardIn = Heard (λ c. c.parts.me) (λ c. without_outputs c.parts.tasks.tasks) (ReachesSharing number leads) (λ c. parts_watcher hosting_of c.parts)
 
   never_ready : (output : O) → end.Pending ≡ end.Ready (number output) → ⊥
   never_ready output e = cc
 
-  record IsPaused (t : ℕ) (f : F) (ended : Ended) (begun after : Cx F O P U J A V) : Type 0 where
+  record IsPaused (t : ℕ) (f : F) (ended : Ended) (begun after : Cx F O P U W J A V) : Type 0 where
     left : F
-    middle : Cx F O P U J A V
+    middle : Cx F O P U W J A V
     polled : future.polls f begun Pending left middle
-    reached : Reaches number begun middle
-    rest : AfterPoll number future Pending t left ended middle after
+    reached : ReachesSharing number leads begun middle
+    rest : AfterPoll number leads future Pending t left ended middle after
 
-  by_answer : (t : ℕ) (f : F) (ended : Ended) (begun after : Cx F O P U J A V) (answer : Poll O) (left : F) (middle : Cx F O P U J A V) → future.polls f begun answer left middle → Reaches number begun middle
-      → AfterPoll number future answer t left ended middle after → end.Pending ≡ end_of number answer → IsPaused t f ended begun after
+  by_answer : (t : ℕ) (f : F) (ended : Ended) (begun after : Cx F O P U W J A V) (answer : Poll O) (left : F) (middle : Cx F O P U W J A V) → future.polls f begun answer left middle → ReachesSharing number leads begun middle
+      → AfterPoll number leads future answer t left ended middle after → end.Pending ≡ end_of number answer → IsPaused t f ended begun after
   by_answer t f ended begun after (Ready output) left middle polled reached rest is = absurd (never_ready output is)
   by_answer t f ended begun after Pending left middle polled reached rest is = record { left = left; middle = middle; polled = polled; reached = reached; rest = rest }
 
-  by_spent : (s : Bool) → s ≡ false → (t : ℕ) (f : F) (ended : Ended) (begun after : Cx F O P U J A V) → UnlessSpent number future s t f end.Pending ended begun after → IsPaused t f ended begun after
+  by_spent : (s : Bool) → s ≡ false → (t : ℕ) (f : F) (ended : Ended) (begun after : Cx F O P U W J A V) → UnlessSpent number leads future s t f end.Pending ended begun after → IsPaused t f ended begun after
   by_spent true unspent t f ended begun after runs = absurd (impossible unspent)
     where
       impossible : true ≡ false → ⊥
       impossible e = cc
   by_spent false unspent t f ended begun after p = by_answer t f ended begun after p.answer p.left p.middle p.polled p.reached p.rest p.is_end
 
-  by_future : (v : Option F) (f : F) → v ≡ Some f → future.is_spent f ≡ false → (t : ℕ) (ended : Ended) (begun after : Cx F O P U J A V) → Runs number future v t end.Pending ended begun after → IsPaused t f ended begun after
-  by_future v f is unspent t ended begun after runs = by_spent (future.is_spent f) unspent t f ended begun after (subst (λ w. Runs number future w t end.Pending ended begun after) is runs)
+  by_future : (v : Option F) (f : F) → v ≡ Some f → future.is_spent f ≡ false → (t : ℕ) (ended : Ended) (begun after : Cx F O P U W J A V) → Runs number leads future v t end.Pending ended begun after → IsPaused t f ended begun after
+  by_future v f is unspent t ended begun after runs = by_spent (future.is_spent f) unspent t f ended begun after (subst (λ w. Runs number leads future w t end.Pending ended begun after) is runs)
 
   module _ (law : TurnRegisters) (has_timers : Bool) (m : Machine) (futures : List (Option F)) (reading : ℕ) (steps : List TurnStep) (answer : Report) (lefts : List (Option F))
-      (t : TellsTurn number future has_timers m futures reading steps end.Pending answer lefts) where
+      (t : TellsTurn number leads future has_timers m futures reading steps end.Pending answer lefts) where
     module _ (f : F) (p : IsPaused t.task f t.ended t.turn.begun t.after) where
       unfull : p.middle.parts.acts.is_full ≡ false
       unfull = ap (λ a. a.is_full) (sym p.rest.parts.acts) ∙ t.unfull
@@ -110,7 +110,7 @@ module _ {F O P U J A V : Type 0} (number : O → ℕ) (future : FutureOf F (Cx 
 
         hears : (rest : List ℕ) → m.tasks.queue ≡ t.task ∷ rest → Hears (after_steps t.task b (begun_machine m.tasks.queue m)) t.task x
         hears rest queue =
-            hears_in (λ c. c.parts.me) (λ c. without_outputs c.parts.tasks.tasks) (Reaches number) (λ c. parts_watcher hosting_of c.parts) (λ c n. Matches number hosting_of c.parts n)
+            hears_in (λ c. c.parts.me) (λ c. without_outputs c.parts.tasks.tasks) (ReachesSharing number leads) (λ c. parts_watcher hosting_of c.parts) (λ c n. Matches number hosting_of c.parts n)
             (λ c d r. r.parts.same_me) (λ c d r. (r.parts.steps, r.parts.leads)) (λ c n y st. parts_same_watcher number hosting_of c.parts n y st) (λ c n st. parts_same_stirred number hosting_of c.parts n c.parts.me st)
             t.task it.moment (after_steps t.task b (begun_machine m.tasks.queue m)) x (it.before.parts.same_me ∙ me)
             (subst (λ q. Matches number hosting_of it.moment.parts (after_steps t.task b (begun_machine q m))) (sym queue)

@@ -17,7 +17,7 @@ use Rattle.mono_parts.specs.declared.journals.Entry.TheVariants.{Ran, Now, Park}
 use Rattle.mono_rt.specs.Polling.{TellsTurn, MakesNoTask}
 use Rattle.mono_rt.specs.declared.contexts.Cx.{Cx}
 
-module _ {F O P U J A V : Type 0} (number : O → ℕ) (future : FutureOf F (Cx F O P U J A V) O) (needs : F → Source → Type 0) (has_timers : Bool) (t : ℕ) (x : Source) where
+module _ {F O P U W J A V : Type 0} (number : O → ℕ) (leads : W → W → Type 0) (future : FutureOf F (Cx F O P U W J A V) O) (needs : F → Source → Type 0) (has_timers : Bool) (t : ℕ) (x : Source) where
   -- the turn ended pending, the future that went back needs x, and no act of the turn dropped x
   pub record NeedsAfter (futures left : List (Option F)) (steps : List TurnStep) (e : End) : Type 0 where
     pub is_pending : e ≡ end.Pending
@@ -45,7 +45,7 @@ module _ {F O P U J A V : Type 0} (number : O → ℕ) (future : FutureOf F (Cx 
   Waiting owed m futures reading (Park wait ∷ part) =
       (owed → has_finished (value_at m.tasks.table t) ≡ false → IsWatched m t x ⊎ (is_awaiting t m ≡ true)) × Waiting owed m futures reading part
   Waiting owed m futures reading (Ran (event.Turn steps e) answer ∷ part) =
-      (mid : Machine) × ((left : List (Option F)) × (Step m (event.Turn steps e) answer mid × TellsTurn number future has_timers m futures reading steps e answer left × Waiting (AfterTurn (is_turn_of t answer) owed futures left steps e answer) mid left reading part))
+      (mid : Machine) × ((left : List (Option F)) × (Step m (event.Turn steps e) answer mid × TellsTurn number leads future has_timers m futures reading steps e answer left × Waiting (AfterTurn (is_turn_of t answer) owed futures left steps e answer) mid left reading part))
   Waiting owed m futures reading (Ran (event.Act a) answer ∷ part) = (mid : Machine) × (MakesNoTask a × Step m (event.Act a) answer mid × Waiting (Untaken owed (event.Act a) answer) mid futures reading part)
   Waiting owed m futures reading (Ran (event.Clock n) answer ∷ part) = (mid : Machine) × (Step m (event.Clock n) answer mid × Waiting (Untaken owed (event.Clock n) answer) mid futures reading part)
   Waiting owed m futures reading (Ran (event.Remote u) answer ∷ part) = (mid : Machine) × (Step m (event.Remote u) answer mid × Waiting (Untaken owed (event.Remote u) answer) mid futures reading part)

@@ -19,6 +19,7 @@ use mono_inbox::Unpark;
 use mono_joinword::Outcome;
 use mono_machine::laws::what_a_turn_registers_stands;
 use mono_rt::Cx;
+use mono_shared::SharedState;
 
 /// A poll that was pending registers its task at each source that the future needs: once the turn has ended pending, the
 /// task waits for that source or is awaiting, unless a later step of the turn drops the source.
@@ -30,14 +31,15 @@ pub fn a_pending_poll_registers<C: MachineContext, F: Waits<C>>()
 
 /// A turn that a journal tells and that ended pending leaves its task waiting at each source that its future needs, or
 /// awaiting, unless one of its later acts drops the source.
-pub fn a_pending_turn_leaves_its_task_waiting<F, O, P, U>()
+pub fn a_pending_turn_leaves_its_task_waiting<F, O, P, U, W>()
 where
-    F: Waits<Cx<F, O, P, U>, Output = O> + Drop,
+    F: Waits<Cx<F, O, P, U, W>, Output = O> + Drop,
     O: Outcome + Drop,
     P: ThreadPool + Drop,
     U: Unpark,
+    W: SharedState + Drop,
     ensures { (has_timers : Bool) (m : Machine) (futures left : List (Option F)) (reading : ℕ) (steps : List TurnStep) (answer : Report)
-        → TellsTurn O.output_number F.TaskFuture has_timers m futures reading steps end.Pending answer left
+        → TellsTurn O.output_number W.leads F.TaskFuture has_timers m futures reading steps end.Pending answer left
         → LeavesWaiting (λ f. F.is_spent f ≡ false) F.needs m futures left steps answer }
 {
     what_a_turn_registers_stands();
@@ -46,15 +48,16 @@ where
 /// Along a journal whose turns are told (the clause `polled` of `block_on`), for each task t and each source x: at each park
 /// t waits for x or is awaiting, if it has not finished, its future needed x after its last turn, no act of that turn
 /// dropped x, and nobody took its wait since. Nothing is owed for what the journal begins with.
-pub fn each_park_finds_its_tasks_waiting<F, O, P, U>()
+pub fn each_park_finds_its_tasks_waiting<F, O, P, U, W>()
 where
-    F: Waits<Cx<F, O, P, U>, Output = O> + Drop,
+    F: Waits<Cx<F, O, P, U, W>, Output = O> + Drop,
     O: Outcome + Drop,
     P: ThreadPool + Drop,
     U: Unpark,
+    W: SharedState + Drop,
     ensures { (has_timers : Bool) (part : List Entry) (m : Machine) (futures : List (Option F)) (reading t : ℕ) (x : Source) → IsValid m
-        → Polled O.output_number F.TaskFuture has_timers m futures reading part
-        → Waiting O.output_number F.TaskFuture F.needs has_timers t x ⊥ m futures reading part }
+        → Polled O.output_number W.leads F.TaskFuture has_timers m futures reading part
+        → Waiting O.output_number W.leads F.TaskFuture F.needs has_timers t x ⊥ m futures reading part }
 {
     what_a_turn_registers_stands();
 }

@@ -9,8 +9,10 @@ use mono_blocking::ThreadPool;
 use mono_inbox::Unpark;
 use mono_joinword::Outcome;
 use mono_rt::Cx;
+use mono_shared::SharedState;
 
-impl<F: Drop, O: Outcome + Drop, P: ThreadPool + Drop, U: Unpark> WaitContext for Cx<F, O, P, U> {
+impl<F: Drop, O: Outcome + Drop, P: ThreadPool + Drop, U: Unpark, W: SharedState + Drop> WaitContext
+    for Cx<F, O, P, U, W> {
     ghost watcher = { λ c. parts_watcher hosting_of c.parts };
 
     ghost watches_sleeps = { λ c s. refl };
@@ -18,8 +20,8 @@ impl<F: Drop, O: Outcome + Drop, P: ThreadPool + Drop, U: Unpark> WaitContext fo
     ghost watches_tasks = { λ c u. refl };
 }
 
-impl<F: Drop, O: Outcome + Drop, P: ThreadPool + Drop, U: Unpark> MachineContext
-    for Cx<F, O, P, U> {
+impl<F: Drop, O: Outcome + Drop, P: ThreadPool + Drop, U: Unpark, W: SharedState + Drop> MachineContext
+    for Cx<F, O, P, U, W> {
     ghost stands = { λ c m. Matches O.output_number hosting_of c.parts m };
 
     ghost leads = { λ a b r. (r.parts.steps, r.parts.leads) };
