@@ -194,7 +194,7 @@ pub record Gave (kinds : List Kind) (t reading : ℕ) (steps : List TurnStep) (r
   pub is_over : after ≡ None → (o : ℕ) × (e ≡ end.Ready o)
 
 module _ {P U J A V : Type 0} where
-  gave : (kinds : List Kind) (t reading : ℕ) (steps : List TurnStep) (replies : List Reply) (e : End) (fs gs : Futures) (f : ScriptTask) (c d : Cx ScriptTask ℕ P U J A V) (answer : Poll ℕ) (left : ScriptTask) (after : Option ScriptTask)
+  gave : (kinds : List Kind) (t reading : ℕ) (steps : List TurnStep) (replies : List Reply) (e : End) (fs gs : Futures) (f : ScriptTask) (c d : Cx ScriptTask ℕ P U ⊤ J A V) (answer : Poll ℕ) (left : ScriptTask) (after : Option ScriptTask)
       → RunsLines f c answer left d → c.parts.acts ≡ no_acts → c.parts.me ≡ t → nanos_of c.parts.now ≡ reading → d.parts.acts.steps ≡ steps → d.parts.acts.replies ≡ replies → e ≡ end_of (λ n. n) answer
       → ((turned : Turned) → d.futures.items ≡ c.futures.items ++ new_futures f turned.made → gs ≡ slice_set fs t after ++ new_futures f turned.made)
       → stands_at answer left ≡ place_in after → IfOurs kinds after → (after ≡ None → (o : ℕ) × (e ≡ end.Ready o))
@@ -275,9 +275,9 @@ or_first : (a b : Bool) → (a || b) ≡ false → a ≡ false
 or_first true b is = absurd (true-false is)
 or_first false b is = refl
 
-module _ {P U J A V : Type 0} (future : FutureOf ScriptTask (Cx ScriptTask ℕ P U J A V) ℕ) (unspent : (f : ScriptTask) → future.is_spent f ≡ false)
-    (polls : (f : ScriptTask) (c : Cx ScriptTask ℕ P U J A V) (answer : Poll ℕ) (left : ScriptTask) (d : Cx ScriptTask ℕ P U J A V) → future.polls f c answer left d → PollsTask f c answer left d)
-    (cancels : (f : ScriptTask) (c d : Cx ScriptTask ℕ P U J A V) → future.cancels f c d → d ≡ c) where
+module _ {P U J A V : Type 0} (future : FutureOf ScriptTask (Cx ScriptTask ℕ P U ⊤ J A V) ℕ) (unspent : (f : ScriptTask) → future.is_spent f ≡ false)
+    (polls : (f : ScriptTask) (c : Cx ScriptTask ℕ P U ⊤ J A V) (answer : Poll ℕ) (left : ScriptTask) (d : Cx ScriptTask ℕ P U ⊤ J A V) → future.polls f c answer left d → PollsTask f c answer left d)
+    (cancels : (f : ScriptTask) (c d : Cx ScriptTask ℕ P U ⊤ J A V) → future.cancels f c d → d ≡ c) where
   -- the futures after a poll, by whether it was ready
   left_pending : (fs gs ks : Futures) (t : ℕ) (g : Option ScriptTask) (cs ds : Futures) → t < length fs → cs ≡ slice_set fs t None → ds ≡ cs ++ ks → gs ≡ slice_set ds t g → gs ≡ slice_set fs t g ++ ks
   left_pending fs gs ks t g cs ds below first made last =
@@ -285,11 +285,11 @@ module _ {P U J A V : Type 0} (future : FutureOf ScriptTask (Cx ScriptTask ℕ P
       ∙ set-append_left (slice_set fs t None) ks t g (subst (λ n. t < n) (sym (length-set fs t None)) below)
       ∙ ap (λ xs. xs ++ ks) (set_twice fs t None g)
 
-  by_rest : (kinds : List Kind) (t reading : ℕ) (steps : List TurnStep) (replies : List Reply) (e : End) (ended : Ended) (fs gs : Futures) (f : ScriptTask) (c x d : Cx ScriptTask ℕ P U J A V) (answer : Poll ℕ) (left : ScriptTask)
+  by_rest : (kinds : List Kind) (t reading : ℕ) (steps : List TurnStep) (replies : List Reply) (e : End) (ended : Ended) (fs gs : Futures) (f : ScriptTask) (c x d : Cx ScriptTask ℕ P U ⊤ J A V) (answer : Poll ℕ) (left : ScriptTask)
       → IsOurs kinds f → t < length fs → c.futures.items ≡ slice_set fs t None → d.futures.items ≡ gs
       → c.parts.acts ≡ no_acts → c.parts.me ≡ t → nanos_of c.parts.now ≡ reading → c.parts.has_timers ≡ true → (m : Machine) × Matches (λ n. n) hosting_of c.parts m
       → d.parts.acts.is_full ≡ false → d.parts.is_out_of_memory ≡ false → d.parts.acts.steps ≡ steps → d.parts.acts.replies ≡ replies → e ≡ end_of (λ n. n) answer
-      → future.polls f c answer left x → Reaches (λ n. n) c x → AfterPoll (λ n. n) future answer t left ended x d
+      → future.polls f c answer left x → Reaches (λ n. n) c x → AfterPoll (λ n. n) (λ a b. ⊤) future answer t left ended x d
       → Gave kinds t reading steps replies e fs gs f
   by_rest kinds t reading steps replies e ended fs gs f c x d Pending left ours below taken is none me now timers stands unfull memory steps_are replies_are is_end polled reached rest =
       let lines : RunsLines f c Pending left x = polls f c Pending left x polled ours.fits stands (record {
@@ -312,11 +312,11 @@ module _ {P U J A V : Type 0} (future : FutureOf ScriptTask (Cx ScriptTask ℕ P
       (λ turned made. sym is ∙ done.futures ∙ ap (λ z. z.futures.items) same ∙ made ∙ ap (λ xs. xs ++ new_futures f turned.made) taken)
       refl tt (λ e. (output, is_end))
 
-  by_future : (kinds : List Kind) (t reading : ℕ) (steps : List TurnStep) (replies : List Reply) (e : End) (ended : Ended) (fs gs : Futures) (f : ScriptTask) (s : Bool) (c d : Cx ScriptTask ℕ P U J A V)
+  by_future : (kinds : List Kind) (t reading : ℕ) (steps : List TurnStep) (replies : List Reply) (e : End) (ended : Ended) (fs gs : Futures) (f : ScriptTask) (s : Bool) (c d : Cx ScriptTask ℕ P U ⊤ J A V)
       → s ≡ false → IsOurs kinds f → t < length fs → c.futures.items ≡ slice_set fs t None → d.futures.items ≡ gs
       → c.parts.acts ≡ no_acts → c.parts.me ≡ t → nanos_of c.parts.now ≡ reading → c.parts.has_timers ≡ true → (m : Machine) × Matches (λ n. n) hosting_of c.parts m
       → d.parts.acts.is_full ≡ false → d.parts.is_out_of_memory ≡ false → d.parts.acts.steps ≡ steps → d.parts.acts.replies ≡ replies
-      → UnlessSpent (λ n. n) future s t f e ended c d → Gave kinds t reading steps replies e fs gs f
+      → UnlessSpent (λ n. n) (λ a b. ⊤) future s t f e ended c d → Gave kinds t reading steps replies e fs gs f
   by_future kinds t reading steps replies e ended fs gs f true c d spent ours below taken is none me now timers stands unfull memory steps_are replies_are runs = absurd (true-false spent)
   by_future kinds t reading steps replies e ended fs gs f false c d spent ours below taken is none me now timers stands unfull memory steps_are replies_are runs =
       by_rest kinds t reading steps replies e ended fs gs f c runs.middle d runs.answer runs.left ours below taken is none me now timers stands unfull memory steps_are replies_are runs.is_end runs.polled runs.reached runs.rest
@@ -351,7 +351,7 @@ module _ {P U J A V : Type 0} (future : FutureOf ScriptTask (Cx ScriptTask ℕ P
   has_future (Some f) never = (f, refl)
 
   turns_on : (kinds : List Kind) (m mid : Machine) (fs gs : Futures) (reading : ℕ) (steps : List TurnStep) (e : End) (answer : Report) (answers : List Report) → IsValid m → AreOurs kinds fs → length fs ≡ next_number m.tasks.table → HaveEnded fs (answer ∷ answers)
-      → Step m (event.Turn steps e) answer mid → TellsTurn (λ n. n) future true m fs reading steps e answer gs → TurnsOn kinds m mid fs gs reading steps e answer
+      → Step m (event.Turn steps e) answer mid → TellsTurn (λ n. n) (λ a b. ⊤) future true m fs reading steps e answer gs → TurnsOn kinds m mid fs gs reading steps e answer
   turns_on kinds m mid fs gs reading steps e answer answers valid ours tied ended is tells =
       let t : ℕ = tells.task in
       let replies : List Reply = tells.after.parts.acts.replies in
@@ -377,13 +377,13 @@ module _ {P U J A V : Type 0} (future : FutureOf ScriptTask (Cx ScriptTask ℕ P
         gave = by_future kinds t reading steps replies e tells.ended fs gs f (future.is_spent f) tells.turn.begun tells.after (unspent f) one below (begins.futures ∙ ap (λ xs. slice_set xs t None) tells.had) tells.has
             begins.parts.acts_are begins.parts.me (ap nanos_of begins.parts.now_is ∙ tells.reads) (begins.parts.has_timers ∙ tells.timers)
             (after_begin t first.behind m, begun_matches (λ n. n) tells.before.parts tells.turn.begun.parts t tells.now no_acts m first.behind begins.parts first.queue_is tells.stands)
-            tells.unfull tells.memory tells.acts refl (subst (λ v. Runs (λ n. n) future v t e tells.ended tells.turn.begun tells.after) (ap (λ xs. value_at xs t) tells.had ∙ found.1) tells.turn.runs);
+            tells.unfull tells.memory tells.acts refl (subst (λ v. Runs (λ n. n) (λ a b. ⊤) future v t e tells.ended tells.turn.begun tells.after) (ap (λ xs. value_at xs t) tells.had ∙ found.1) tells.turn.runs);
         count = ap (λ x. next_number x.tasks.table) left ∙ counts;
         over = λ o done. subst (λ x. IsOver t x.tasks) (sym left) (finished_at t o steps e m first.behind given done);
       }
 
   -- a run of the machine
-  pub polled_run : (part : List Entry) (m : Machine) (fs : Futures) (reading : ℕ) → Polled (λ n. n) future true m fs reading part → (new : Machine) × Run m (events_in part) (reports_in part) new
+  pub polled_run : (part : List Entry) (m : Machine) (fs : Futures) (reading : ℕ) → Polled (λ n. n) (λ a b. ⊤) future true m fs reading part → (new : Machine) × Run m (events_in part) (reports_in part) new
   polled_run [] m fs reading p = (m, refl)
   polled_run (Now n ∷ part) m fs reading p = polled_run part m fs n p
   polled_run (Park wait ∷ part) m fs reading p = polled_run part m fs reading p
@@ -445,7 +445,7 @@ module _ {P U J A V : Type 0} (future : FutureOf ScriptTask (Cx ScriptTask ℕ P
 
   -- all the entries, one after the other
   pub driven_from : (kinds : List Kind) (part : List Entry) (m : Machine) (fs : Futures) (reading : ℕ) → KindsBelow (length kinds) kinds → IsValid m → AreOurs kinds fs → length fs ≡ next_number m.tasks.table → HaveEnded fs (reports_in part)
-      → Polled (λ n. n) future true m fs reading part → DrivenFrom kinds (places fs) reading (map told part)
+      → Polled (λ n. n) (λ a b. ⊤) future true m fs reading part → DrivenFrom kinds (places fs) reading (map told part)
   driven_from kinds [] m fs reading sound valid ours tied ended p = tt
   driven_from kinds (Now n ∷ part) m fs reading sound valid ours tied ended p = driven_from kinds part m fs n sound valid ours tied ended p
   driven_from kinds (Park wait ∷ part) m fs reading sound valid ours tied ended p = driven_from kinds part m fs reading sound valid ours tied ended p
@@ -482,7 +482,7 @@ module _ {P U J A V : Type 0} (future : FutureOf ScriptTask (Cx ScriptTask ℕ P
 
   -- a whole call from the machine's start
   pub driven_main : (s : Script) (strategy : Blocking) (main : ScriptTask) (left : Futures) (part : List Entry) (new : Machine) → main ≡ new_task main 0 → main.kinds.now ≡ s.kinds → IsSound (length s.kinds) s
-      → PollsMain (λ n. n) future true main [] left (start_machine s.limits strategy) part new [] → Driven s (map told part)
+      → PollsMain (λ n. n) (λ a b. ⊤) future true main [] left (start_machine s.limits strategy) part new [] → Driven s (map told part)
   driven_main s strategy main left part new first same sound (t, (mid, (more, (spawn, polls_more)))) =
       let kinds : List Kind = s.kinds in
       let m : Machine = start_machine s.limits strategy in

@@ -151,6 +151,7 @@ pub fn run_script<R: Host + Send + 'static, C: Clock + Drop, P: Spawner>(
         script.limits,
         true,
         zero(),
+        (),
     );
     let mut runtime = made?;
     let main = ScriptTask::new(&script.kinds, 0);

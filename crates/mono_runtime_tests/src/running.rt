@@ -25,7 +25,7 @@ pub(crate) fn a_runtime<F: Drop, D: Driver, P: ThreadPool + Drop, R: Abort>(
     ensures { result.cx.parts.tasks.turn ≡ None }
 {
     let start = Instant::from_nanos(0).expect(rt, "an instant");
-    Runtime::new(alloc, driver, pool, limits, has_timers, start).expect(rt, "memory")
+    Runtime::new(alloc, driver, pool, limits, has_timers, start, ()).expect(rt, "memory")
 }
 
 /// A driver that parks its thread, and whose clock always reads 0.

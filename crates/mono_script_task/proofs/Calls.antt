@@ -70,7 +70,7 @@ not_both : (b : Bool) → b ≡ true → b ≡ false → ⊥
 not_both true e f = cc f
 not_both false e f = cc e
 
-module _ {P U J A V : Type 0} (task : ScriptTask) (c d : Cx ScriptTask ℕ P U J A V) (had : HasKept d.parts) where
+module _ {P U J A V : Type 0} (task : ScriptTask) (c d : Cx ScriptTask ℕ P U ⊤ J A V) (had : HasKept d.parts) where
   -- ---- sleeps
 
   pub sleep_pending : (f : Rest) (here : Place) (s : ℕ) (answer : Result (Poll ⊤) Error) → d.parts.acts ≡ noted_poll c.parts.acts s answer → d.futures.items ≡ c.futures.items → waits answer ≡ true → Goes task (sleep_steps s here f) (stops_at here) c d

@@ -1,6 +1,6 @@
 -- Parts of a poll, one after the other.
 use Rattle.std.proofs.Common.{◌≡◌, ℕ, Bool, true, false, List, [], ◌∷◌, ◌++◌, length, Option, Some, None, refl, ap, sym, ◌∙◌, append_assoc, append-nil, length-append, subst, arith}
-use Rattle.std.specs.Prelude.{if◌then◌else◌}
+use Rattle.std.specs.Prelude.{⊤, if◌then◌else◌}
 use Rattle.mono_machine.specs.declared.events.Act.TheVariants as act
 use Rattle.mono_machine.specs.declared.events.TurnStep.{TurnStep}
 use Rattle.mono_machine.specs.declared.events.TurnStep.TheVariants as step
@@ -117,14 +117,14 @@ new_futures-append task [] b = refl
 new_futures-append task (k ∷ a) b = ap (λ fs. Some (new_task task k) ∷ fs) (new_futures-append task a b)
 
 module _ {P U J A V : Type 0} where
-  pub kept_before : (c d : Cx ScriptTask ℕ P U J A V) → Reaches (λ n. n) c d → HasKept d.parts → HasKept c.parts
+  pub kept_before : (c d : Cx ScriptTask ℕ P U ⊤ J A V) → Reaches (λ n. n) c d → HasKept d.parts → HasKept c.parts
   kept_before c d reached had = record {
     unfull = (reached.parts.kept had.unfull).0;
     memory = stays_false c.parts.is_out_of_memory d.parts.is_out_of_memory reached.parts.memory had.memory;
     timers = sym reached.parts.same_timers ∙ had.timers;
   }
 
-  pub goes_on : (task : ScriptTask) (f g h : Rest) (c d e : Cx ScriptTask ℕ P U J A V) → Goes task f g c d → Goes task g h d e → Goes task f h c e
+  pub goes_on : (task : ScriptTask) (f g h : Rest) (c d e : Cx ScriptTask ℕ P U ⊤ J A V) → Goes task f g c d → Goes task g h d e → Goes task f h c e
   goes_on task f g h c d e a b = record {
     replies = a.replies ++ b.replies;
     steps = a.steps ++ b.steps;
@@ -135,7 +135,7 @@ module _ {P U J A V : Type 0} where
   }
 
   -- a call that is no act
-  pub goes_by_none : (task : ScriptTask) (f : Rest) (c d : Cx ScriptTask ℕ P U J A V) → d.parts.acts ≡ c.parts.acts → d.futures.items ≡ c.futures.items → Goes task f f c d
+  pub goes_by_none : (task : ScriptTask) (f : Rest) (c d : Cx ScriptTask ℕ P U ⊤ J A V) → d.parts.acts ≡ c.parts.acts → d.futures.items ≡ c.futures.items → Goes task f f c d
   goes_by_none task f c d is same = record {
     replies = [];
     steps = [];
@@ -146,7 +146,7 @@ module _ {P U J A V : Type 0} where
   }
 
   -- one act, which may make tasks
-  pub goes_making : (task : ScriptTask) (f g : Rest) (made : List ℕ) (c d : Cx ScriptTask ℕ P U J A V) (x : TurnStep) (r : Reply) → Grew c.parts.acts d.parts.acts (x ∷ []) (r ∷ []) → d.futures.items ≡ c.futures.items ++ new_futures task made
+  pub goes_making : (task : ScriptTask) (f g : Rest) (made : List ℕ) (c d : Cx ScriptTask ℕ P U ⊤ J A V) (x : TurnStep) (r : Reply) → Grew c.parts.acts d.parts.acts (x ∷ []) (r ∷ []) → d.futures.items ≡ c.futures.items ++ new_futures task made
       → ((rest : List Reply) → f (r ∷ rest) ≡ with_step x made (g rest)) → Goes task f g c d
   goes_making task f g made c d x r grew same is = record {
     replies = r ∷ [];
@@ -157,24 +157,24 @@ module _ {P U J A V : Type 0} where
     futures = same;
   }
 
-  pub goes_by_one : (task : ScriptTask) (f g : Rest) (c d : Cx ScriptTask ℕ P U J A V) (x : TurnStep) (r : Reply) → Grew c.parts.acts d.parts.acts (x ∷ []) (r ∷ []) → d.futures.items ≡ c.futures.items
+  pub goes_by_one : (task : ScriptTask) (f g : Rest) (c d : Cx ScriptTask ℕ P U ⊤ J A V) (x : TurnStep) (r : Reply) → Grew c.parts.acts d.parts.acts (x ∷ []) (r ∷ []) → d.futures.items ≡ c.futures.items
       → ((rest : List Reply) → f (r ∷ rest) ≡ with_step x [] (g rest)) → Goes task f g c d
   goes_by_one task f g c d x r grew same is = goes_making task f g [] c d x r grew (same ∙ sym (append-nil c.futures.items)) is
 
   -- a poll that has to wait, and one that has not
-  pub goes_pending : (task : ScriptTask) (f : Rest) (here : Place) (c d : Cx ScriptTask ℕ P U J A V) (x last : TurnStep) (r : Reply) → Grew c.parts.acts d.parts.acts (x ∷ []) (r ∷ []) → d.futures.items ≡ c.futures.items
+  pub goes_pending : (task : ScriptTask) (f : Rest) (here : Place) (c d : Cx ScriptTask ℕ P U ⊤ J A V) (x last : TurnStep) (r : Reply) → Grew c.parts.acts d.parts.acts (x ∷ []) (r ∷ []) → d.futures.items ≡ c.futures.items
       → is_pending r ≡ true → Goes task (awaited x last here f) (stops_at here) c d
   goes_pending task f here c d x last r grew same is = goes_by_one task (awaited x last here f) (stops_at here) c d x r grew same (λ rest. ap (λ b. with_step x [] (if b then stops_at here rest else acted last f rest)) is)
 
-  pub goes_ready : (task : ScriptTask) (f : Rest) (here : Place) (c d : Cx ScriptTask ℕ P U J A V) (x last : TurnStep) (r : Reply) → Grew c.parts.acts d.parts.acts (x ∷ []) (r ∷ []) → d.futures.items ≡ c.futures.items
+  pub goes_ready : (task : ScriptTask) (f : Rest) (here : Place) (c d : Cx ScriptTask ℕ P U ⊤ J A V) (x last : TurnStep) (r : Reply) → Grew c.parts.acts d.parts.acts (x ∷ []) (r ∷ []) → d.futures.items ≡ c.futures.items
       → is_pending r ≡ false → Goes task (awaited x last here f) (acted last f) c d
   goes_ready task f here c d x last r grew same is = goes_by_one task (awaited x last here f) (acted last f) c d x r grew same (λ rest. ap (λ b. with_step x [] (if b then stops_at here rest else acted last f rest)) is)
 
-  pub goes_acted : (task : ScriptTask) (f : Rest) (c d : Cx ScriptTask ℕ P U J A V) (x : TurnStep) (r : Reply) → Grew c.parts.acts d.parts.acts (x ∷ []) (r ∷ []) → d.futures.items ≡ c.futures.items → Goes task (acted x f) f c d
+  pub goes_acted : (task : ScriptTask) (f : Rest) (c d : Cx ScriptTask ℕ P U ⊤ J A V) (x : TurnStep) (r : Reply) → Grew c.parts.acts d.parts.acts (x ∷ []) (r ∷ []) → d.futures.items ≡ c.futures.items → Goes task (acted x f) f c d
   goes_acted task f c d x r grew same = goes_by_one task (acted x f) f c d x r grew same (λ rest. refl)
 
   -- the turn has come to its end
-  pub ends_with : (task left : ScriptTask) (g : Rest) (answer : Poll ℕ) (c d : Cx ScriptTask ℕ P U J A V) → g [] ≡ Some (record { steps = []; e = end_of (λ n. n) answer; after = stands_at answer left; made = [] })
+  pub ends_with : (task left : ScriptTask) (g : Rest) (answer : Poll ℕ) (c d : Cx ScriptTask ℕ P U ⊤ J A V) → g [] ≡ Some (record { steps = []; e = end_of (λ n. n) answer; after = stands_at answer left; made = [] })
       → left.kinds ≡ task.kinds → left.kind ≡ task.kind → Fits left → Goes task (turn_of (place_of task) c.parts.me (nanos_of c.parts.now)) g c d → RunsLines task c answer left d
   ends_with task left g answer c d is kinds kind fits a = record {
     replies = a.replies;
@@ -190,11 +190,11 @@ module _ {P U J A V : Type 0} where
   }
 
   -- with a handle, and without one
-  pub handled : (task : ScriptTask) (o : Option ℕ) (x : ℕ) (k : ℕ → Rest) (f g : Rest) (c d : Cx ScriptTask ℕ P U J A V) → o ≡ Some x → Goes task (k x) g c d → Goes task (with_handle o k f) g c d
+  pub handled : (task : ScriptTask) (o : Option ℕ) (x : ℕ) (k : ℕ → Rest) (f g : Rest) (c d : Cx ScriptTask ℕ P U ⊤ J A V) → o ≡ Some x → Goes task (k x) g c d → Goes task (with_handle o k f) g c d
   handled task o x k f g c d is goes = subst (λ v. Goes task (with_handle v k f) g c d) (sym is) goes
 
-  pub unhandled : (task : ScriptTask) (o : Option ℕ) (k : ℕ → Rest) (f : Rest) (c d : Cx ScriptTask ℕ P U J A V) → o ≡ None → d.parts.acts ≡ c.parts.acts → d.futures.items ≡ c.futures.items → Goes task (with_handle o k f) f c d
+  pub unhandled : (task : ScriptTask) (o : Option ℕ) (k : ℕ → Rest) (f : Rest) (c d : Cx ScriptTask ℕ P U ⊤ J A V) → o ≡ None → d.parts.acts ≡ c.parts.acts → d.futures.items ≡ c.futures.items → Goes task (with_handle o k f) f c d
   unhandled task o k f c d is acts same = subst (λ v. Goes task (with_handle v k f) f c d) (sym is) (goes_by_none task f c d acts same)
 
-  pub goes_to : (task : ScriptTask) (f g h : Rest) (c d : Cx ScriptTask ℕ P U J A V) → g ≡ h → Goes task f g c d → Goes task f h c d
+  pub goes_to : (task : ScriptTask) (f g h : Rest) (c d : Cx ScriptTask ℕ P U ⊤ J A V) → g ≡ h → Goes task f g c d → Goes task f h c d
   goes_to task f g h c d is goes = subst (λ x. Goes task f x c d) is goes

@@ -1,5 +1,6 @@
 -- One poll, line by line.
 use Rattle.std.proofs.Common.{◌≡◌, ◌<◌, ℕ, ◌+◌, Bool, true, false, [], ◌∷◌, Option, Some, None, refl, ap, sym, ◌∙◌, subst, arith}
+use Rattle.std.specs.Prelude.{⊤}
 use Rattle.mono_model.specs.declared.poll.Poll.TheVariants.{Ready, Pending}
 use Rattle.mono_machine.specs.Turns.{after_steps}
 use Rattle.mono_time.specs.Instants.{nanos_of}
@@ -37,7 +38,7 @@ line_after next.Stays task = task.at
 
 module _ {P U J A V : Type 0} where
   -- one line of a task, as one step of it
-  pub step_line : (maker task : ScriptTask) (me t : ℕ) (line : BodyLine) (own : Own) (r : Next) (d e : Cx ScriptTask ℕ P U J A V) → left_of (kind_of task) task.at ≡ line ∷ left_of (kind_of task) (task.at + 1)
+  pub step_line : (maker task : ScriptTask) (me t : ℕ) (line : BodyLine) (own : Own) (r : Next) (d e : Cx ScriptTask ℕ P U ⊤ J A V) → left_of (kind_of task) task.at ≡ line ∷ left_of (kind_of task) (task.at + 1)
       → Goes maker (turn_from (line ∷ left_of (kind_of task) (task.at + 1)) me t (output_of (kind_of task)) task.own.tasks task.own.jobs) (behind_line r line (left_of (kind_of task) (task.at + 1)) me t (output_of (kind_of task)) own) d e
       → Goes maker (at_task me t task) (behind_step r me t (at_line task (line_after r task) own)) d e
   step_line maker task me t line own r d e is goes =
@@ -49,11 +50,11 @@ module _ {P U J A V : Type 0} where
       same_rest next.Stays = ap (λ l. stops_at (place l (output_of (kind_of task)) own.tasks own.jobs own.sleeping)) (sym is)
 
 module _ {P U J A V : Type 0} where
-  pub stands_on : (c d : Cx ScriptTask ℕ P U J A V) → Reaches (λ n. n) c d → Stands c.parts → Stands d.parts
+  pub stands_on : (c d : Cx ScriptTask ℕ P U ⊤ J A V) → Reaches (λ n. n) c d → Stands c.parts → Stands d.parts
   stands_on c d reached st = (after_steps c.parts.me reached.parts.steps st.0, reached.parts.leads st.0 st.1)
 
   -- Between two lines, after those before.
-  pub record InLines (task : ScriptTask) (c : Cx ScriptTask ℕ P U J A V) (now : ScriptTask) (d : Cx ScriptTask ℕ P U J A V) : Type 0 where
+  pub record InLines (task : ScriptTask) (c : Cx ScriptTask ℕ P U ⊤ J A V) (now : ScriptTask) (d : Cx ScriptTask ℕ P U ⊤ J A V) : Type 0 where
     pub reached : Reaches (λ n. n) c d
     pub kinds : now.kinds ≡ task.kinds
     pub kind : now.kind ≡ task.kind
@@ -61,15 +62,15 @@ module _ {P U J A V : Type 0} where
     pub fits : Fits task → Fits now
     pub goes : Fits task → Stands c.parts → HasKept d.parts → Goes task (turn_of (place_of task) c.parts.me (nanos_of c.parts.now)) (at_task c.parts.me (nanos_of c.parts.now) now) c d
 
-  module _ (task : ScriptTask) (c : Cx ScriptTask ℕ P U J A V) where
-    abbrev Begun : Bool → Cx ScriptTask ℕ P U J A V → Type 0
+  module _ (task : ScriptTask) (c : Cx ScriptTask ℕ P U ⊤ J A V) where
+    abbrev Begun : Bool → Cx ScriptTask ℕ P U ⊤ J A V → Type 0
     Begun over d = (maker : ScriptTask) (here : Place) (f : Rest) → HasKept d.parts → Goes maker (with_handle task.own.sleeping (λ s q. sleep_steps s here f q) f) (if_over over f here) c d
 
     -- the lines of the task, from where it stood
     abbrev lines_from : Own → Rest
     lines_from own = turn_from (left_of (kind_of task) task.at) c.parts.me (nanos_of c.parts.now) (output_of (kind_of task)) own.tasks own.jobs
 
-    pub begins_lines : (own : Own) (d : Cx ScriptTask ℕ P U J A V) (over : Bool) → over ≡ true → own ≡ slept task.own own.sleeping → (over ≡ true → own.sleeping ≡ None) → Reaches (λ n. n) c d → Begun over d → InLines task c (with_own task own) d
+    pub begins_lines : (own : Own) (d : Cx ScriptTask ℕ P U ⊤ J A V) (over : Bool) → over ≡ true → own ≡ slept task.own own.sleeping → (over ≡ true → own.sleeping ≡ None) → Reaches (λ n. n) c d → Begun over d → InLines task c (with_own task own) d
     begins_lines own d over ended is rests reached goes = record {
       reached = reached;
       kinds = refl;
@@ -82,14 +83,14 @@ module _ {P U J A V : Type 0} where
     }
 
     -- the sleep that the task waits for has not elapsed
-    pub waits_again : (own : Own) (d : Cx ScriptTask ℕ P U J A V) (over : Bool) → over ≡ false → own ≡ slept task.own own.sleeping → (over ≡ false → own.sleeping ≡ task.own.sleeping) → Begun over d → Fits task → HasKept d.parts → RunsLines task c Pending (with_own task own) d
+    pub waits_again : (own : Own) (d : Cx ScriptTask ℕ P U ⊤ J A V) (over : Bool) → over ≡ false → own ≡ slept task.own own.sleeping → (over ≡ false → own.sleeping ≡ task.own.sleeping) → Begun over d → Fits task → HasKept d.parts → RunsLines task c Pending (with_own task own) d
     waits_again own d over early is still goes f had =
         let same : own ≡ task.own = is ∙ ap (slept task.own) (still early) in
         subst (λ x. RunsLines task c Pending (with_own task x) d) (sym same)
         (ends_with task task (stops_at (place_of task)) Pending c d refl refl refl f
         (subst (λ b. Goes task (turn_of (place_of task) c.parts.me (nanos_of c.parts.now)) (if_over b (lines_from task.own) (place_of task)) c d) early (goes task (place_of task) (lines_from task.own) had)))
 
-    module _ (now : ScriptTask) (d : Cx ScriptTask ℕ P U J A V) (line : BodyLine) (after : ScriptTask) (e : Cx ScriptTask ℕ P U J A V) (r : Next) (so_far : InLines task c now d) (inside : now.at < body_len now)
+    module _ (now : ScriptTask) (d : Cx ScriptTask ℕ P U ⊤ J A V) (line : BodyLine) (after : ScriptTask) (e : Cx ScriptTask ℕ P U ⊤ J A V) (r : Next) (so_far : InLines task c now d) (inside : now.at < body_len now)
         (is_line : left_of (kind_of now) now.at ≡ line ∷ left_of (kind_of now) (now.at + 1)) (kinds : after.kinds ≡ now.kinds) (kind : after.kind ≡ now.kind) (fits : Fits now → Fits after) (reached : Reaches (λ n. n) d e)
         (goes : (maker : ScriptTask) (me t : ℕ) → maker.kinds ≡ now.kinds → me ≡ d.parts.me → t ≡ nanos_of d.parts.now → now.at < 127 → Fits now → now.own.sleeping ≡ None → left_of (kind_of now) now.at ≡ line ∷ left_of (kind_of now) (now.at + 1)
         → Stands d.parts → HasKept e.parts → Goes maker (at_task me t now) (behind_step r me t after) d e) where
@@ -124,7 +125,7 @@ module _ {P U J A V : Type 0} where
       stays_there is = stops next.Stays is refl
 
     -- no line is left
-    pub last_line : (now : ScriptTask) (d : Cx ScriptTask ℕ P U J A V) (output : ℕ) → InLines task c now d → left_of (kind_of now) now.at ≡ [] → output ≡ output_of (kind_of now) → Fits task → Stands c.parts → HasKept d.parts → RunsLines task c (Ready output) now d
+    pub last_line : (now : ScriptTask) (d : Cx ScriptTask ℕ P U ⊤ J A V) (output : ℕ) → InLines task c now d → left_of (kind_of now) now.at ≡ [] → output ≡ output_of (kind_of now) → Fits task → Stands c.parts → HasKept d.parts → RunsLines task c (Ready output) now d
     last_line now d output so_far none is f st had =
         ends_with task now (at_task c.parts.me (nanos_of c.parts.now) now) (Ready output) c d
         (rw (none, is) refl)

@@ -1,5 +1,5 @@
 -- Part of a poll: what is left to do goes from one function of the replies to another.
-use Rattle.std.specs.Prelude.{◌≡◌, ◌<◌, ℕ, Bool, true, false, List, ◌∷◌, ◌++◌, length, Option, Some, None, Result, Ok, Err}
+use Rattle.std.specs.Prelude.{⊤, ◌≡◌, ◌<◌, ℕ, Bool, true, false, List, ◌∷◌, ◌++◌, length, Option, Some, None, Result, Ok, Err}
 use Rattle.mono_model.specs.declared.poll.Poll.{Poll}
 use Rattle.mono_model.specs.declared.poll.Poll.TheVariants.{Ready, Pending}
 use Rattle.mono_machine.specs.declared.events.Act.TheVariants as act
@@ -26,7 +26,7 @@ behind steps made (Some t) = Some (record { steps = steps ++ t.steps; e = t.e; a
 
 module _ {P U J A V : Type 0} where
   -- Between the two contexts the turn went on from f to g.
-  pub record Goes (task : ScriptTask) (f g : Rest) (c d : Cx ScriptTask ℕ P U J A V) : Type 0 where
+  pub record Goes (task : ScriptTask) (f g : Rest) (c d : Cx ScriptTask ℕ P U ⊤ J A V) : Type 0 where
     pub replies : List Reply
     pub steps : List TurnStep
     pub made : List ℕ

@@ -1,5 +1,5 @@
 -- One poll of a script's task: the acts that its lines give, from where its last turn stopped.
-use Rattle.std.specs.Prelude.{◌≡◌, ◌≤◌, ℕ, true, false, List, [], ◌++◌, length, map, drop, slice_get, Option, Some, None}
+use Rattle.std.specs.Prelude.{⊤, ◌≡◌, ◌≤◌, ℕ, true, false, List, [], ◌++◌, length, map, drop, slice_get, Option, Some, None}
 use Rattle.mono_model.specs.declared.poll.Poll.{Poll}
 use Rattle.mono_model.specs.declared.poll.Poll.TheVariants.{Ready, Pending}
 use Rattle.mono_time.specs.Instants.{nanos_of}
@@ -79,7 +79,7 @@ stands_at Pending left = Some (place_of left)
 
 module _ {P U J A V : Type 0} where
   -- The acts of the turn from here are those that the task's lines give, given the replies and the clock's reading before the turn.
-  pub record RunsLines (task : ScriptTask) (c : Cx ScriptTask ℕ P U J A V) (answer : Poll ℕ) (left : ScriptTask) (d : Cx ScriptTask ℕ P U J A V) : Type 0 where
+  pub record RunsLines (task : ScriptTask) (c : Cx ScriptTask ℕ P U ⊤ J A V) (answer : Poll ℕ) (left : ScriptTask) (d : Cx ScriptTask ℕ P U ⊤ J A V) : Type 0 where
     pub replies : List Reply
     pub turned : Turned
     pub gives : turn_of (place_of task) c.parts.me (nanos_of c.parts.now) replies ≡ Some turned
@@ -94,5 +94,5 @@ module _ {P U J A V : Type 0} where
     pub fits : Fits left
 
   -- One poll of a task of a script, in a turn of a runtime, where its acts were all kept.
-  abbrev pub PollsTask : ScriptTask → Cx ScriptTask ℕ P U J A V → Poll ℕ → ScriptTask → Cx ScriptTask ℕ P U J A V → Type 0
+  abbrev pub PollsTask : ScriptTask → Cx ScriptTask ℕ P U ⊤ J A V → Poll ℕ → ScriptTask → Cx ScriptTask ℕ P U ⊤ J A V → Type 0
   PollsTask task c answer left d = Fits task → Stands c.parts → HasKept d.parts → RunsLines task c answer left d
