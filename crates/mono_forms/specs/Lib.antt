@@ -9,3 +9,4 @@ pub mod Loops
 pub mod Repeats
 pub mod Rescued
 pub mod Races
+pub mod LoopRules
