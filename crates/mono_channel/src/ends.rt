@@ -75,7 +75,12 @@ impl<T: Drop, C: SharedContext<Channel<T>>> TaskFuture<C> for Receive<T> {
         self.has_answered
     }
 
-    fn poll<R: Host>(&mut self, _rt: &R, _alloc: Global, cx: &mut C) -> Poll<Result<T, AllocError>> {
+    fn poll<R: Host>(
+        &mut self,
+        _rt: &R,
+        _alloc: Global,
+        cx: &mut C,
+    ) -> Poll<Result<T, AllocError>> {
         let me = cx.me();
         match cx.shared_mut().take() {
             Some((message, sender)) => {

@@ -20,7 +20,13 @@ use mono_shared::SharedState;
 use mono_task::TaskFuture;
 use std::alloc::Global;
 
-impl<F: Drop, O: Outcome + Drop, D: Driver, P: ThreadPool + Drop, W: SharedState + Drop> Runtime<F, O, D, P, W> {
+impl<F: Drop, O: Outcome + Drop, D: Driver, P: ThreadPool + Drop, W: SharedState + Drop> Runtime<
+    F,
+    O,
+    D,
+    P,
+    W,
+> {
     /// The queue is empty: the driver is parked, the inbox is drained, and with timers a clock step is done. The answer tells
     /// whether the park failed.
     fn wait<R: Host>(&mut self, rt: &R, alloc: Global) -> Result<bool, RunError>

@@ -306,7 +306,13 @@ fn zero() -> Instant
     }
 }
 
-impl<F: Drop, O: Outcome + Drop, D: Driver, P: ThreadPool + Drop, W: SharedState + Drop> Runtime<F, O, D, P, W> {
+impl<F: Drop, O: Outcome + Drop, D: Driver, P: ThreadPool + Drop, W: SharedState + Drop> Runtime<
+    F,
+    O,
+    D,
+    P,
+    W,
+> {
     /// The attached pool (`some`); None exactly where none is attached (`none`).
     pub fn into_pool(self) -> Option<P>
         ensures some { IfSome result (λ pool. self.cx.parts.blocking.pool ≡ Attached pool) }

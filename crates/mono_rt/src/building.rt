@@ -16,7 +16,13 @@ use mono_shared::SharedState;
 use mono_time::Instant;
 use std::alloc::{AllocError, Global};
 
-impl<F: Drop, O: Outcome + Drop, D: Driver, P: ThreadPool + Drop, W: SharedState + Drop> Runtime<F, O, D, P, W> {
+impl<F: Drop, O: Outcome + Drop, D: Driver, P: ThreadPool + Drop, W: SharedState + Drop> Runtime<
+    F,
+    O,
+    D,
+    P,
+    W,
+> {
     /// A runtime with a journal, whose tasks share this value. It stands for the start machine, with the pool's strategy.
     pub fn new(
         alloc: Global,

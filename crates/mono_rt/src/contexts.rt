@@ -15,7 +15,6 @@ ghost use Rattle.mono_parts.specs.CallActs.{noted_wake, noted_join, noted_drop, 
 ghost use Rattle.mono_rt.specs.Spawns.{noted_spawn, lacks_spawn};
 ghost use Rattle.mono_rt.specs.Reached.{ReachesSharing, sharing_itself, sharing_on, by_shared};
 
-
 use crate::wakers::Wakers;
 use mono_blocking::ThreadPool;
 use mono_inbox::{RemoteWaker, Unpark};
@@ -50,7 +49,13 @@ pub enum SpawnRefused<F> {
     AtCapacity(F),
 }
 
-impl<F: Drop, O: Outcome + Drop, P: ThreadPool + Drop, U: Unpark, W: SharedState + Drop> Cx<F, O, P, U, W> {
+impl<F: Drop, O: Outcome + Drop, P: ThreadPool + Drop, U: Unpark, W: SharedState + Drop> Cx<
+    F,
+    O,
+    P,
+    U,
+    W,
+> {
     /// Makes a task of this future, which is queued last. The future is put into the table under the task's number.
     ///
     /// It is an act of the turn, made or refused; want of memory is none (`kept`).
@@ -92,7 +97,8 @@ impl<F: Drop, O: Drop, P: ThreadPool + Drop, U: Unpark, W: SharedState + Drop> C
     }
 }
 
-impl<F: Drop, O: Outcome + Drop, P: ThreadPool + Drop, U: Unpark, W: SharedState + Drop> Context for Cx<F, O, P, U, W> {
+impl<F: Drop, O: Outcome + Drop, P: ThreadPool + Drop, U: Unpark, W: SharedState + Drop> Context
+    for Cx<F, O, P, U, W> {
     ghost number = { λ c. c.parts.me };
 
     ghost nanos = { λ c. nanos_of c.parts.now };
@@ -134,8 +140,13 @@ impl<F: Drop, O: Outcome + Drop, P: ThreadPool + Drop, U: Unpark, W: SharedState
     ghost stays_out_of_memory = { λ a b r. r.parts.memory };
 }
 
-impl<F: Drop, O: Outcome + Drop, P: ThreadPool + Drop, U: Unpark, W: SharedState + Drop> JoinContext<O>
-    for Cx<F, O, P, U, W> {
+impl<
+    F: Drop,
+    O: Outcome + Drop,
+    P: ThreadPool + Drop,
+    U: Unpark,
+    W: SharedState + Drop,
+> JoinContext<O> for Cx<F, O, P, U, W> {
     ghost tasks = { λ c. c.parts.tasks.tasks };
 
     fn poll_join(&mut self, task: u64) -> Result<Poll<O>, TaskError>
@@ -165,7 +176,8 @@ impl<F: Drop, O: Outcome + Drop, P: ThreadPool + Drop, U: Unpark, W: SharedState
     ghost wakes_tasks = { λ c d t r w. w.0 };
 }
 
-impl<F: Drop, O: Outcome + Drop, P: ThreadPool + Drop, U: Unpark, W: SharedState + Drop> TimeContext for Cx<F, O, P, U, W> {
+impl<F: Drop, O: Outcome + Drop, P: ThreadPool + Drop, U: Unpark, W: SharedState + Drop> TimeContext
+    for Cx<F, O, P, U, W> {
     ghost sleeps = { λ c. sleeps_of c.parts.timers };
 
     fn add_sleep(&mut self, alloc: Global, deadline: Instant) -> Result<u64, SleepError>
@@ -215,8 +227,13 @@ impl<F: Drop, O: Outcome + Drop, P: ThreadPool + Drop, U: Unpark, W: SharedState
     ghost wakes_no_sleep = { λ c d t r w. ap sleeps_of w.1 };
 }
 
-impl<F: Drop, O: Outcome + Drop, P: ThreadPool + Drop, U: Unpark, W: SharedState + Drop> SharedContext<W>
-    for Cx<F, O, P, U, W> {
+impl<
+    F: Drop,
+    O: Outcome + Drop,
+    P: ThreadPool + Drop,
+    U: Unpark,
+    W: SharedState + Drop,
+> SharedContext<W> for Cx<F, O, P, U, W> {
     ghost shared = { λ c. c.shared };
 
     ghost with_shared = { λ c w. record c { shared = w } };

@@ -13,7 +13,13 @@ use mono_parts::RunError;
 use mono_shared::SharedState;
 use std::alloc::Global;
 
-impl<F: Drop, O: Outcome + Drop, D: Driver, P: ThreadPool + Drop, W: SharedState + Drop> Runtime<F, O, D, P, W> {
+impl<F: Drop, O: Outcome + Drop, D: Driver, P: ThreadPool + Drop, W: SharedState + Drop> Runtime<
+    F,
+    O,
+    D,
+    P,
+    W,
+> {
     /// Takes what waits in the inbox. Each task is told, and those that are unfinished are woken.
     pub(crate) fn drain<R: Host>(&mut self, rt: &R, alloc: Global) -> Result<(), RunError>
         ensures goes { Goes O.output_number self.old.cx.parts self.new.cx.parts self.old.journal self.new.journal }

@@ -13,7 +13,13 @@ use mono_model::{Host, Poll};
 use mono_shared::SharedState;
 use std::alloc::{AllocError, Global};
 
-impl<F: Drop, O: Outcome + Drop, P: ThreadPool + Drop, U: Unpark, W: SharedState + Drop> Cx<F, O, P, U, W> {
+impl<F: Drop, O: Outcome + Drop, P: ThreadPool + Drop, U: Unpark, W: SharedState + Drop> Cx<
+    F,
+    O,
+    P,
+    U,
+    W,
+> {
     /// Hands a job to the pool, or runs it in this call where no pool is attached and the strategy is to run jobs on the
     /// caller; its output then waits in the table of jobs. The handle has the next job number.
     ///
@@ -64,7 +70,13 @@ impl<F: Drop, O: Outcome + Drop, P: ThreadPool + Drop, U: Unpark, W: SharedState
     }
 }
 
-impl<F: Drop, O: Outcome + Drop, P: ThreadPool + Drop, U: Unpark, W: SharedState + Drop> Cx<F, O, P, U, W>
+impl<F: Drop, O: Outcome + Drop, P: ThreadPool + Drop, U: Unpark, W: SharedState + Drop> Cx<
+    F,
+    O,
+    P,
+    U,
+    W,
+>
 where
     P::Job: Job<Unpark = U>,
 {

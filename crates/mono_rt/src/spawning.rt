@@ -15,7 +15,13 @@ use mono_shared::SharedState;
 use mono_task::{JoinHandle, SpawnTask};
 use std::alloc::Global;
 
-impl<F: Drop, O: Outcome + Drop, D: Driver, P: ThreadPool + Drop, W: SharedState + Drop> Runtime<F, O, D, P, W> {
+impl<F: Drop, O: Outcome + Drop, D: Driver, P: ThreadPool + Drop, W: SharedState + Drop> Runtime<
+    F,
+    O,
+    D,
+    P,
+    W,
+> {
     /// Makes a task of this future, which is queued last and has its turns in calls of `block_on`. The future is put into the
     /// table under the task's number (`number`, `futures`).
     ///

@@ -20,7 +20,13 @@ use mono_time::Instant;
 use std::alloc::Global;
 use std::mem;
 
-impl<F: Drop, O: Outcome + Drop, P: ThreadPool + Drop, U: Unpark, W: SharedState + Drop> Cx<F, O, P, U, W> {
+impl<F: Drop, O: Outcome + Drop, P: ThreadPool + Drop, U: Unpark, W: SharedState + Drop> Cx<
+    F,
+    O,
+    P,
+    U,
+    W,
+> {
     /// The future of the task whose turn ends goes back to its place, with the task's waker beside it.
     #[inline(always)]
     fn put_back(&mut self, task: u64, future: Option<F>)

@@ -16,7 +16,6 @@ use std::marker::Brand;
 use std::mem;
 use std::sync::ledger::{Blank, Ledger};
 
-
 /// A limiter that tasks share.
 #[derive(Drop)]
 pub struct Buckets {

@@ -8,6 +8,7 @@ ghost use Rattle.use_buckets.specs.Readings.{KeepsRate};
 mod buckets;
 mod takers;
 
+use buckets::Buckets;
 use mono_blocking::{Job, NoPool};
 use mono_driver::{StepDriver, TimeDriver};
 use mono_inbox::NoUnpark;
@@ -15,10 +16,9 @@ use mono_joinword::Outcome;
 use mono_limit::laws::rate_is_kept;
 use mono_model::Host;
 use mono_rt::{Runtime, RuntimeBuilder};
-use buckets::Buckets;
-use takers::Taker;
 use std::alloc::Global;
 use std::io;
+use takers::Taker;
 
 /// A job that is never made.
 #[derive(Drop)]
