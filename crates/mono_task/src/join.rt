@@ -110,10 +110,10 @@ impl<O: Drop, C: JoinContext<O>> TaskFuture<C> for JoinHandle<O> {
     ghost is_spent = { λ h. false };
 
     // the answer and the tasks are those of a poll of the handle by the running task, and the handle stays
-    ghost polls = { λ h c r g d. (g ≡ h) × (call_of r ≡ join_answer (C.tasks c) h) × (C.tasks d ≡ joined (C.tasks c) h (C.number c)) };
+    ghost polls = { λ h c r g d. (g ≡ h) × (call_of r ≡ join_answer (C.tasks c) h) × (C.tasks d ≡ joined (C.tasks c) h (C.number c)) × C.reaches c d };
 
     // the handle is dropped
-    ghost cancels = { λ h c d. C.tasks d ≡ join_dropped (C.tasks c) h };
+    ghost cancels = { λ h c d. (C.tasks d ≡ join_dropped (C.tasks c) h) × C.reaches c d };
 
     fn spent(&self) -> bool {
         false

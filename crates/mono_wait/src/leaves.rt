@@ -73,3 +73,14 @@ impl<O: Drop, C: WaitContext + JoinContext<O>> Waits<C> for Reaching<JoinHandle<
 
     ghost covers = { λ f c g d p. rw p.0.0 (handles_cover C.number C.tasks C.work C.reaches C.watcher C.reaches_itself C.same_number C.same_work C.watches_tasks f.future c d p.0.1 p.0.2 p.1) };
 }
+
+// It needs the end of its task.
+impl<O: Drop, C: WaitContext + JoinContext<O>> Waits<C> for JoinHandle<O> {
+    ghost needs = { λ h x. x ≡ of_task h };
+
+    ghost polls_reach = { λ h c r g d p. p.3 };
+
+    ghost cancels_reach = { λ h c d p. p.1 };
+
+    ghost covers = { λ h c g d p. rw p.0 (handles_cover C.number C.tasks C.work C.reaches C.watcher C.reaches_itself C.same_number C.same_work C.watches_tasks h c d p.1 p.2 p.3) };
+}
