@@ -1,7 +1,8 @@
 //! Tasks that come and go, each with a sleep: what is gone is to cost nothing.
 #![tactic(auto)]
 
-use mono_exec::{Act, Blocking, End, Event, Exec, Limits, List, Query, Reply, Report, TurnStep};
+use mono_exec::{Act, Blocking, End, Event, Exec, List, Query, Reply, Report, TurnStep};
+use mono_machine::Limits;
 use std::alloc::{AllocError, Global};
 use std::process::ExitCode;
 use std::{env, io, mem};

@@ -18,7 +18,7 @@ use Rattle.mono_machine.specs.Machine.{Machine, with_tasks, with_sleeps}
 use Rattle.mono_machine.specs.Acts.{answered, act_outcome, block, for_sleep, refused, step_outcome}
 use Rattle.mono_machine.specs.Acts.{reset as resetting}
 use Rattle.mono_model.specs.Tasks.{spawned}
-use Rattle.mono_machine.specs.Steps.{greatest_at, after_fire, after_fires}
+use Rattle.mono_machine.specs.Steps.{greatest_at}
 use Rattle.mono_machine.proofs.Running.{first_and_rest}
 use Rattle.mono_machine.specs.declared.events.Act.TheVariants as act
 use Rattle.mono_machine.specs.declared.events.Blocking.{Blocking}
@@ -27,8 +27,8 @@ use Rattle.mono_machine.specs.declared.events.Refusal.TheVariants as refusal
 use Rattle.mono_machine.specs.declared.events.Reply.TheVariants as reply
 use Rattle.mono_machine.specs.declared.events.Event.TheVariants as event
 use Rattle.mono_machine.specs.declared.events.TurnStep.{TurnStep}
-use Rattle.mono_exec.specs.Registered.{armed_by_act, by_act, by_clock, registered_by_act, registered_by_steps, registered_after, FollowsAct, IsNext}
-use Rattle.mono_exec.proofs.Timing.{value-seen}
+use Rattle.mono_time.specs.Registrations.{armed_by_act, by_act, by_clock, registered_by_act, registered_by_steps, registered_after, FollowsAct, IsNext}
+use Rattle.mono_time.proofs.SleepTableLemmas.{value-seen}
 
 -- where each sleep is registered exactly while it is armed
 abbrev pub AreRegistered : Timers → Type 0
@@ -263,10 +263,6 @@ pub clock-on : (old new : Timers) (m : Machine) (n now : ℕ) → now ≡ n → 
 clock-on old new m n now is below stands rest reached s stepped =
     subst (λ k. registered_of new s ≡ registered_after (event.Clock k) m s (registered_of old s)) is
     (registered-clock old new m now stands rest reached s stepped ∙ sym (ap (λ b. cond b (registered_of old s) (by_clock m.sleeps.greatest (greatest_at m now) (value_at m.sleeps.table s) (registered_of old s))) (le-ltb max_nanos now below)))
-
-pub fires-greatest : (m : Machine) (fired : List ℕ) → (after_fires m fired).sleeps.greatest ≡ m.sleeps.greatest
-fires-greatest m [] = refl
-fires-greatest m (s ∷ fired) = fires-greatest (after_fire m s) fired
 
 -- one more step of a turn
 pub steps-more : (me : ℕ) (steps : List TurnStep) (i : ℕ) (d : TurnStep) (mid : Machine) (s : ℕ) (before after all : Option ℕ) → i < length steps

@@ -1,8 +1,7 @@
 use Rattle.std.proofs.Common.{ap, sym, ◌+◌, ◌∙◌, drop}
 use Rattle.mono_model.specs.Tasks.{all_woken}
-use Rattle.mono_machine.proofs.Running.{nothing_left}
-use Rattle.mono_exec.proofs.Matching.{woken_more, schedule_is}
-use Rattle.mono_exec.proofs.remote.wake_all.Goals as goal
+use Rattle.mono_task.proofs.ScheduleLemmas.{nothing_left, woken_more, schedule_is}
+use Rattle.mono_task.proofs.wakers.wake_all.Goals as goal
 
 pub loop-t-preserved : goal.loop-t-preserved
 loop-t-preserved g c =

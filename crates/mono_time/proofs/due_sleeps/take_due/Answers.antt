@@ -6,10 +6,11 @@ use Rattle.mono_time.specs.Instants.{nanos_of}
 use Rattle.mono_time.specs.Sleeps.{IsNoneArmedUpTo}
 use Rattle.mono_time.specs.Stands.{StandsForSleeps}
 use Rattle.mono_machine.specs.Steps.{all_fired, with_first, wakers_of}
-use Rattle.mono_exec.specs.Matches.{Keeps}
-use Rattle.mono_exec.proofs.Firing.{fired-push, wakers-push, same_clock, keeps_none, keeps_some}
+use Rattle.mono_time.specs.Stands.{Keeps}
+use Rattle.mono_machine.proofs.FireLemmas.{fired-push, wakers-push}
+use Rattle.mono_time.proofs.DueSleepLemmas.{same_clock, keeps_none, keeps_some}
 use Rattle.mono_time.proofs.Passing.{Passed, none-passed, passed-some, passed-none, all-passed}
-use Rattle.mono_exec.proofs.clock_steps.take_due.Goals as goal
+use Rattle.mono_time.proofs.due_sleeps.take_due.Goals as goal
 
 pub loop-s-init : goal.loop-s-init
 loop-s-init g c = (

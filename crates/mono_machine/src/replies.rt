@@ -1,14 +1,14 @@
-// The answers of calls as replies.
-ghost use Rattle.std.specs.Prelude.{◌≡◌};
+// The replies by which the machine gives the answers of calls.
+ghost use Rattle.std.specs.Prelude.{◌≡◌, ◌≤◌};
+ghost use Rattle.mono_model.specs.Ticks.{up, max_nanos};
 ghost use Rattle.mono_machine.specs.Acts.{reply_of};
-ghost use Rattle.mono_machine.specs.SleepCalls.{poll_reply, gone_reply, elapsed_reply};
+ghost use Rattle.mono_machine.specs.SleepCalls.{poll_reply, gone_reply, elapsed_reply, reset_reply};
 ghost use Rattle.mono_machine.specs.JoinCalls.{refusal_of, wake_reply, drop_reply, finished_reply, join_reply};
 
 use crate::{Refusal, Reply, Woke};
-use mono_task::{Poll, TaskError};
-use mono_time::Error;
+use mono_model::{Error, Poll, TaskError};
 
-/// The refusal of a call on a task.
+/// Returns the refusal of a call on a task.
 pub fn refusal_of(error: TaskError) -> Refusal
     ensures { result ≡ refusal_of error }
 {
@@ -20,7 +20,7 @@ pub fn refusal_of(error: TaskError) -> Refusal
     }
 }
 
-/// The reply to a call that may be refused.
+/// Returns the reply to a call that may be refused.
 pub fn reply_of(answer: Result<Reply, Refusal>) -> Reply
     ensures { result ≡ reply_of answer }
 {
@@ -30,7 +30,7 @@ pub fn reply_of(answer: Result<Reply, Refusal>) -> Reply
     }
 }
 
-/// The reply to a wake.
+/// Returns the reply to a wake.
 pub fn wake_reply(answer: Result<Woke, TaskError>) -> Reply
     ensures { result ≡ wake_reply answer }
 {
@@ -40,7 +40,7 @@ pub fn wake_reply(answer: Result<Woke, TaskError>) -> Reply
     }
 }
 
-/// The reply to the drop of a task's handle.
+/// Returns the reply to the drop of a task's handle.
 pub fn drop_reply(answer: Result<Option<u64>, TaskError>) -> Reply
     ensures { result ≡ drop_reply answer }
 {
@@ -50,7 +50,7 @@ pub fn drop_reply(answer: Result<Option<u64>, TaskError>) -> Reply
     }
 }
 
-/// The reply to the question whether a task has finished.
+/// Returns the reply to the question whether a task has finished.
 pub fn finished_reply(answer: Result<bool, TaskError>) -> Reply
     ensures { result ≡ finished_reply answer }
 {
@@ -61,7 +61,7 @@ pub fn finished_reply(answer: Result<bool, TaskError>) -> Reply
     }
 }
 
-/// The reply to a poll of a task's handle.
+/// Returns the reply to a poll of a task's handle.
 pub fn join_reply(answer: Result<Poll<u64>, TaskError>) -> Reply
     ensures { result ≡ join_reply answer }
 {
@@ -72,7 +72,7 @@ pub fn join_reply(answer: Result<Poll<u64>, TaskError>) -> Reply
     }
 }
 
-/// The reply to a poll of a sleep.
+/// Returns the reply to a poll of a sleep.
 pub fn poll_reply(answer: Result<Poll<()>, Error>) -> Reply
     ensures { result ≡ poll_reply answer }
 {
@@ -83,7 +83,7 @@ pub fn poll_reply(answer: Result<Poll<()>, Error>) -> Reply
     }
 }
 
-/// The reply to the drop of a sleep.
+/// Returns the reply to the drop of a sleep.
 pub fn gone_reply(answer: Result<(), Error>) -> Reply
     ensures { result ≡ gone_reply answer }
 {
@@ -93,7 +93,7 @@ pub fn gone_reply(answer: Result<(), Error>) -> Reply
     }
 }
 
-/// The reply to the question whether a sleep has elapsed.
+/// Returns the reply to the question whether a sleep has elapsed.
 pub fn elapsed_reply(answer: Result<bool, Error>) -> Reply
     ensures { result ≡ elapsed_reply answer }
 {
@@ -101,5 +101,17 @@ pub fn elapsed_reply(answer: Result<bool, Error>) -> Reply
         Ok(true) => Reply::Yes,
         Ok(false) => Reply::No,
         Err(_) => Reply::Refused(Refusal::NoTimer),
+    }
+}
+
+/// Returns the reply to the reset of a sleep to a deadline.
+pub fn reset_reply(n: u128, greatest: u64) -> Reply
+    requires { n ≤ max_nanos }
+    ensures { result ≡ reset_reply greatest (up n) }
+{
+    if ((n + 999999) / 1000000) as u64 <= greatest {
+        Reply::Elapsed
+    } else {
+        Reply::Armed
     }
 }

@@ -1,6 +1,6 @@
 use Rattle.std.proofs.Common.{◌≡◌, drop}
 use Rattle.mono_model.specs.Tasks.{all_woken}
-use Rattle.mono_exec.proofs.remote.wake_all.Given as goal
+use Rattle.mono_task.proofs.wakers.wake_all.Given as goal
 
 -- once those that are left are woken, all are
 abbrev pub invariant-loop-t : goal.invariant-loop-t

@@ -7,9 +7,9 @@ use Rattle.mono_time.specs.Instants.{nanos_of}
 use Rattle.mono_time.specs.Sleeps.{armed_count}
 use Rattle.mono_time.specs.Timers.{sleeps_of}
 use Rattle.mono_machine.specs.Steps.{all_fired, wakers_of}
-use Rattle.mono_exec.specs.Matches.{Keeps}
+use Rattle.mono_time.specs.Stands.{Keeps}
 use Rattle.mono_time.proofs.Passing.{Passed}
-use Rattle.mono_exec.proofs.clock_steps.take_due.Given as goal
+use Rattle.mono_time.proofs.due_sleeps.take_due.Given as goal
 
 -- there is room for so many more
 abbrev pub HasRoom : ℕ → ℕ → ℕ → Type 0
