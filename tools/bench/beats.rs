@@ -1,4 +1,4 @@
-//! What `mono_beats` does, by a plain keeper of sessions over BTreeMap and HashMap: the peer of its figures.
+//! What `mono_bench beats` does, by a plain keeper of sessions over BTreeMap and HashMap: the peer of its figures.
 //! rustc -O -C opt-level=3 tools/bench/beats.rs -o beats ; ./beats 1000000 60
 use std::collections::{BTreeSet, HashMap, VecDeque};
 

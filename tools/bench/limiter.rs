@@ -1,4 +1,4 @@
-//! The workload of `mono_buckets` over plain Rust: the same words, the same random numbers, the same line.
+//! The workload of `mono_bench buckets` over plain Rust: the same words, the same random numbers, the same line.
 //!
 //! rustc --edition 2021 -C opt-level=3 tools/bench/limiter.rs -o FOLDER/limiter
 //!

@@ -1,8 +1,8 @@
-//! The plain ring beside `mono_ring`: a `VecDeque` for each mailbox and one for the queue, without timeouts.
+//! The plain ring beside `mono_bench ring`: a `VecDeque` for each mailbox and one for the queue, without timeouts.
 //!
 //! rustc -O -C opt-level=3 tools/bench/ring.rs -o ring && ./ring ACTORS TURNS BURST
 //!
-//! It prints the line that `mono_ring ACTORS TURNS BURST` prints.
+//! It prints the line that `mono_bench ring ACTORS TURNS BURST` prints.
 use std::collections::VecDeque;
 
 #[derive(Clone, Copy, PartialEq)]

@@ -1,4 +1,4 @@
-// Two workloads of mono_turns in plain Rust, over a queue of task numbers, a table of tasks and an ordered map of sleeps:
+// Two workloads of mono_bench turns in plain Rust, over a queue of task numbers, a table of tasks and an ordered map of sleeps:
 //   turns pair|sleeps N [RUNS]
 // Build: rustc -C opt-level=3 turns.rs
 use std::collections::{BTreeMap, VecDeque};
@@ -84,7 +84,7 @@ impl Desk {
     }
 }
 
-// The generator of mono_turns, at the seed 7.
+// The generator of mono_bench turns, at the seed 7.
 fn next(state: &mut (u32, u32)) -> u32 {
     let last = state.1;
     let mut old = state.0 ^ (state.0 << 17);

@@ -3,8 +3,9 @@ ghost use Rattle.std.specs.Prelude.{◌≡◌, ◌==◌, ◌||◌, true, IfOk};
 
 use mono_blocking::{BlockingHandle, BlockingStrategy, ThreadPool};
 use mono_forms::FutureExt;
+use mono_machine::Limits;
 use mono_model::Host;
-use mono_rt::{Driver, Instant, Limits, Outcome, RunError, run_alone};
+use mono_rt::{Driver, Instant, Outcome, RunError, run_alone};
 use mono_time::SleepError;
 use std::alloc::{AllocError, Global};
 use std::time::Duration;

@@ -1,194 +1,92 @@
-//! Runs workloads over the wheel and prints a sum that tells whether they fired the same keys in the
-//! same order.
+//! Workloads over the crates, each by a word, which print what was done.
 #![tactic(auto)]
 
-ghost use Rattle.std.specs.Prelude.{◌≡◌, ◌<◌};
+mod beats;
+mod buckets;
+mod churn;
+mod errands;
+mod ring;
+mod sweep;
+mod turns;
+mod wheel;
 
-mod random;
-mod table;
-mod watch;
-mod work;
-
-use random::ticks;
-use std::alloc::Global;
-use std::marker::Brand;
+use mono_model::Host;
 use std::process::ExitCode;
-use std::rt::Clock;
-use std::sync::ledger::{Blank, Ledger};
 use std::{env, io};
-use table::Table;
-use watch::Watch;
-use work::{Outcome, WORKS, Work, run};
 
-const HELP: &str = "usage: mono_bench WORKLOAD|all N [timed RUNS]
-  WORKLOAD: insert_fire, insert_cancel, reset_later, short_ticks, far_jump, next_expiration
-  N: how many keys; the best of RUNS runs is printed in nanoseconds a key where it is asked for";
+const HELP: &str = "usage: mono_bench WORKLOAD ..
+       mono_bench all: a small run of each";
 
-// How many keys, how often, and whether the times are printed.
-#[derive(Clone, Copy)]
-struct Asked {
-    count: usize,
-    runs: u64,
-    is_timed: bool,
+// The words of each workload.
+const HELPS: [&str; 8] = [
+    wheel::HELP,
+    churn::HELP,
+    errands::HELP,
+    buckets::HELP,
+    beats::HELP,
+    ring::HELP,
+    sweep::HELP,
+    turns::HELP,
+];
+
+// A small run of each workload.
+fn run_all<R: Host + Send + 'static>(rt: &HostRuntime, host: &R) -> io::Result<bool> {
+    wheel::run_small(rt)?;
+    churn::run_small(rt)?;
+    errands::run_small(rt, host)?;
+    buckets::run_small(rt)?;
+    beats::run_small(rt)?;
+    ring::run_small(rt)?;
+    sweep::run_small(rt)?;
+    turns::run_small(rt, host)?;
+    Ok(true)
 }
 
-fn one<R: Clock, L: Ledger>(
-    rt: &R,
-    alloc: Global,
-    blank: Blank,
-    work: Work,
-    ticks: &[u64],
-    watch: &mut Watch,
-) -> io::Result<Outcome>
-    requires { (blank.name ≡ L.name) × (blank.parts ≡ L.parts) × (0 < L.parts) }
-{
-    let mut table: Table<L> = Table::new(alloc, blank)?;
-    run(rt, alloc, &mut table, work, ticks, watch)
-}
-
-// One run on a new wheel.
-fn run_once(rt: &HostRuntime, work: Work, ticks: &[u64], watch: &mut Watch) -> io::Result<Outcome> {
-    one::<HostRuntime, Brand>(rt, rt.alloc(), Blank::new(1), work, ticks, watch)
-}
-
-fn total(laps: &[u64]) -> u64 {
-    let mut sum = 0u64;
-    for lap in laps {
-        sum = sum.saturating_add(*lap);
-    }
-    sum
-}
-
-// Nanoseconds a key, with one digit after the point.
-fn print_rate(rt: &HostRuntime, nanos: u64, count: usize) -> io::Result<()> {
-    if count > 0 {
-        let tenths = nanos.saturating_mul(10) / count as u64;
-        print!(rt; " {}.{}", tenths / 10, tenths % 10)?;
-    }
-    Ok(())
-}
-
-fn print_sums(rt: &HostRuntime, work: Work, count: usize, outcome: Outcome) -> io::Result<()> {
-    print!(rt;
-        "{} {} fired {} order {} nexts {}",
-        work.name(),
-        count,
-        outcome.fired,
-        outcome.order,
-        outcome.nexts
-    )
-}
-
-// Runs a workload so often, each on a new wheel, and keeps the laps of the best run. What the last gave.
-fn best_of(
+// Runs a workload with the words behind its own. False if there is none, or if the words say nothing to it.
+fn run_workload<R: Host + Send + 'static>(
     rt: &HostRuntime,
-    work: Work,
-    ticks: &[u64],
-    runs: u64,
-    watch: &mut Watch,
-    best: &mut Vec<u64>,
-) -> io::Result<Outcome> {
-    let mut outcome = run_once(rt, work, ticks, watch)?;
-    best.extend_from_slice(watch.laps())?;
-    for _ in 1..runs {
-        outcome = run_once(rt, work, ticks, watch)?;
-        if total(watch.laps()) < total(best.as_slice()) {
-            best.clear();
-            best.extend_from_slice(watch.laps())?;
-        }
-    }
-    Ok(outcome)
-}
-
-// The time of all phases, and that of each.
-fn print_times(rt: &HostRuntime, laps: &[u64], count: usize) -> io::Result<()> {
-    print!(rt; " ns")?;
-    print_rate(rt, total(laps), count)?;
-    print!(rt; " phases")?;
-    for lap in laps {
-        print_rate(rt, *lap, count)?;
-    }
-    Ok(())
-}
-
-// Runs one workload over these ticks so often, and prints its sums and, where they are asked for, the best times.
-fn measure_over(
-    rt: &HostRuntime,
-    asked: Asked,
-    work: Work,
-    ticks: &[u64],
-    watch: &mut Watch,
-    best: &mut Vec<u64>,
-) -> io::Result<()> {
-    let outcome = best_of(rt, work, ticks, asked.runs, watch, best)?;
-    print_sums(rt, work, asked.count, outcome)?;
-    if asked.is_timed {
-        print_times(rt, best.as_slice(), asked.count)?;
-    }
-    println!(rt; "")
-}
-
-// The same over the ticks of the workload.
-fn measure(rt: &HostRuntime, asked: Asked, work: Work) -> io::Result<()> {
-    let alloc = rt.alloc();
-    let ticks = ticks(alloc, work, asked.count)?;
-    let mut watch = Watch::new(alloc, asked.is_timed);
-    let mut best: Vec<u64> = Vec::new(alloc);
-    measure_over(rt, asked, work, ticks.as_slice(), &mut watch, &mut best)
-}
-
-// The workloads of a word, one after the other. Whether there is one.
-fn measure_all(rt: &HostRuntime, asked: Asked, word: &str) -> io::Result<bool> {
-    let mut is_any = false;
-    for work in WORKS {
-        if word == "all" || word == work.name() {
-            measure(rt, asked, work)?;
-            is_any = true;
-        }
-    }
-    Ok(is_any)
-}
-
-// What the words behind the program's name say.
-fn said(words: &[String]) -> Option<(&str, Asked)> {
-    let (name, count, runs, is_timed) = match words {
-        [_, name, count] => (name, count, Ok(1), false),
-        [_, name, count, word, runs] if word.as_str() == "timed" => {
-            (name, count, runs.parse::<u64>(), true)
-        }
-        _ => return None,
-    };
-    match (count.parse::<usize>(), runs) {
-        (Ok(count), Ok(runs)) => Some((
-            name.as_str(),
-            Asked {
-                count,
-                runs,
-                is_timed,
-            },
-        )),
-        _ => None,
+    host: &R,
+    name: &str,
+    words: &[String],
+) -> io::Result<bool> {
+    match name {
+        "wheel" => wheel::run_words(rt, words),
+        "churn" => churn::run_words(rt, words),
+        "errands" => errands::run_words(rt, host, words),
+        "buckets" => buckets::run_words(rt, words),
+        "beats" => beats::run_words(rt, words),
+        "ring" => ring::run_words(rt, words),
+        "sweep" => sweep::run_words(rt, words),
+        "turns" => turns::run_words(rt, host, words),
+        "all" if words.is_empty() => run_all(rt, host),
+        _ => Ok(false),
     }
 }
 
-// Whether the words say a workload, which is then run.
-fn run_words(rt: &HostRuntime, words: &[String]) -> io::Result<bool> {
-    match said(words) {
-        Some((word, asked)) => measure_all(rt, asked, word),
-        None => Ok(false),
-    }
-}
-
-fn helped(rt: &HostRuntime) -> io::Result<ExitCode> {
+fn print_help(rt: &HostRuntime) -> io::Result<()> {
     println!(rt; "{HELP}")?;
+    for help in HELPS {
+        println!(rt; "{help}")?;
+    }
+    Ok(())
+}
+
+// Runs what the words behind the program's name say, or prints which words there are.
+fn run_words<R: Host + Send + 'static>(
+    rt: &HostRuntime,
+    host: &R,
+    words: &[String],
+) -> io::Result<ExitCode> {
+    if let Some((name, rest)) = words.split_first() {
+        if run_workload(rt, host, name.as_str(), rest)? {
+            return Ok(ExitCode::SUCCESS);
+        }
+    }
+    print_help(rt)?;
     Ok(ExitCode::from(2))
 }
 
 fn main(rt: HostRuntime) -> io::Result<ExitCode> {
-    let words: Vec<String> = env::args(&rt)?.collect(rt.alloc())?;
-    match run_words(&rt, words.as_slice()) {
-        Ok(true) => Ok(ExitCode::SUCCESS),
-        Ok(false) => helped(&rt),
-        Err(error) => Err(error),
-    }
+    let words: Vec<String> = env::args(&rt)?.skip(1).collect(rt.alloc())?;
+    run_words(&rt, &rt, words.as_slice())
 }

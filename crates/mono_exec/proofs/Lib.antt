@@ -1,4 +1,3 @@
 pub mod Timing
 pub mod Firing
 pub mod Matching
-pub mod Registering

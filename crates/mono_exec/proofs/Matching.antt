@@ -150,25 +150,7 @@ remote_put parts m t inbox st is =
     (subst (Matches (with_state parts (record { state = after_put parts.inbox.state t; log = inbox.log }))) (sym (remote-put m t))
     (subst (λ b. Matches (with_state parts (record { state = after_put parts.inbox.state t; log = inbox.log })) (put b m t)) (unlisted parts m t st) (listed_by (is_unlisted parts.inbox.state t) parts m t inbox.log st)))
 
--- one more of several tasks is woken
-pub woken_more : {O : Type 0} (ts : List ℕ) (i d : ℕ) (tasks all : Tasks O) → i < length ts → all_woken tasks (drop i ts) ≡ all → all_woken (woken tasks (get_or ts i d)) (drop (i + 1) ts) ≡ all
-woken_more ts i d tasks all inside left = ap (all_woken tasks) (sym (first_and_rest ts i d inside)) ∙ left
-
-pub schedule_is : {O : Type 0} (s before : Schedule O) (tasks : Tasks O) → s.turns ≡ before.turns → s.turn ≡ before.turn → s.tasks ≡ tasks → s ≡ schedule.with_tasks before tasks
-schedule_is s before tasks turns turn is =
-    ap (λ x. record { tasks = x; turns = s.turns; turn = s.turn }) is ∙ ap (λ x. record { tasks = tasks; turns = x; turn = s.turn }) turns ∙ ap (λ x. record { tasks = tasks; turns = before.turns; turn = x }) turn
-
 -- a turn begins
-abbrev some_ok : ℕ → Result ℕ TaskError
-some_ok t = Ok t
-
-ok-same : (t me : ℕ) → some_ok t ≡ some_ok me → t ≡ me
-ok-same t me e = cc
-
-pub front_is : (queue : List ℕ) (me : ℕ) → schedule.front_of queue ≡ Ok me → (rest : List ℕ) × (queue ≡ me ∷ rest)
-front_is [] me e = cc
-front_is (t ∷ rest) me e = (rest, ap (λ x. x ∷ rest) (ok-same t me e))
-
 pub begun_matches : (parts : Parts) (m : Machine) (s : Schedule ℕ) (me : ℕ) (rest : List ℕ) → Matches parts m → IsValid m → m.tasks.queue ≡ me ∷ rest → s ≡ schedule.after_begin parts.tasks → Matches (with_schedule parts s) (after_begin me rest m)
 begun_matches parts m s me rest st valid queue is =
     let begins : s.tasks ≡ begun parts.tasks.tasks me rest = ap (λ x. x.tasks) is ∙ ap (λ q. (schedule.begun_by q parts.tasks).tasks) (ap (λ x. x.queue) st.tasks ∙ queue) in

@@ -1,5 +1,4 @@
 pub mod JobTable
 pub mod Matches
-pub mod Registered
 pub mod Stands
 pub mod Worked

@@ -1,20 +1,15 @@
 -- What the parts of an executor have of a machine.
-use Rattle.std.specs.Prelude.{◌≡◌, ℕ, not, true}
+use Rattle.std.specs.Prelude.{◌≡◌, ℕ, not}
 use Rattle.mono_model.specs.Table.{value_at}
 use Rattle.mono_model.specs.Sleeps.{Sleeps}
 use Rattle.mono_inbox.specs.State.{is_known}
 use Rattle.mono_task.specs.Schedule.{Schedule}
-use Rattle.mono_time.specs.Stands.{StandsForSleeps}
+use Rattle.mono_time.specs.Stands.{Keeps}
 use Rattle.mono_time.specs.Timers.{sleeps_of, elapsed_tick}
 use Rattle.mono_time.specs.declared.timers.Timers.{Timers}
 use Rattle.mono_machine.specs.Machine.{Machine}
 use Rattle.mono_machine.specs.Steps.{has_finished}
 use Rattle.mono_exec.specs.declared.parts.Parts.{Parts}
-
--- There are timers, and their table stands for the machine's sleeps.
-pub record Keeps (timers : Timers) (sleeps : Sleeps) : Type 0 where
-  pub stands : StandsForSleeps timers sleeps
-  pub is_enabled : (sleeps_of timers).is_enabled ≡ true
 
 -- No clock step is under way: the wheel has gone up to the greatest tick.
 pub record Rests (timers : Timers) (sleeps : Sleeps) : Type 0 where

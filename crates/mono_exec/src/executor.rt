@@ -3,10 +3,10 @@ ghost use Rattle.std.specs.Prelude.{◌≡◌, ℕ, IfOk, OnOk, Option, None};
 ghost use Rattle.mono_machine.specs.Machine.{Machine, start_machine};
 ghost use Rattle.mono_machine.specs.Steps.{Step};
 
-use crate::clock_steps::Due;
 use crate::parts::Parts;
-use crate::{Blocking, Event, Limits, List, Reply, Report};
-use mono_time::Timers;
+use crate::{Blocking, Event, List, Reply, Report};
+use mono_machine::Limits;
+use mono_time::{Due, Timers};
 use std::alloc::{AllocError, Global};
 use std::mem;
 
@@ -29,7 +29,7 @@ impl Exec {
     ghost use Rattle.mono_time.specs.Timers.{sleeps_of, elapsed_tick, registered_of};
     ghost use Rattle.mono_time.specs.Registered.{NextExpiration};
     ghost use Rattle.mono_exec.specs.Stands.{Stands, registered_in};
-    ghost use Rattle.mono_exec.specs.Registered.{registered_after, IsNext};
+    ghost use Rattle.mono_time.specs.Registrations.{registered_after, IsNext};
 
     /// An executor with no task, no job, no sleep, an empty inbox and a clock at 0: it stands for the start machine with
     /// these limits and this strategy. Nothing is registered (`registered`).

@@ -5,15 +5,15 @@ ghost use Rattle.mono_machine.specs.Acts.{act_outcome, query_outcome, step_outco
 ghost use Rattle.mono_time.specs.Sleeps.{IsNoneArmedUpTo};
 ghost use Rattle.mono_time.specs.Timers.{sleeps_of, registered_of};
 ghost use Rattle.mono_exec.specs.Matches.{Matches};
-ghost use Rattle.mono_exec.specs.Registered.{FollowsAct};
+ghost use Rattle.mono_time.specs.Registrations.{FollowsAct};
 
 use crate::jobs::Jobs;
-use crate::replies::{
-    drop_reply, elapsed_reply, finished_reply, gone_reply, join_reply, poll_reply, reply_of,
-    wake_reply,
-};
-use crate::{Act, Blocking, Limits, Query, Refusal, Reply, TurnStep};
+use crate::{Act, Blocking, Query, Refusal, Reply, TurnStep};
 use mono_inbox::InboxState;
+use mono_machine::{
+    Limits, drop_reply, elapsed_reply, finished_reply, gone_reply, join_reply, poll_reply,
+    reply_of, wake_reply,
+};
 use mono_task::{SpawnTask, Tasks};
 use mono_time::Timers;
 use std::alloc::{AllocError, AllocFailed, Global};

@@ -1,7 +1,5 @@
 // Wakes from other threads, which wait in the inbox until it is drained.
 ghost use Rattle.std.specs.Prelude.{◌≡◌, IfOk, OnErr, OnOk};
-ghost use Rattle.mono_model.specs.Tasks.{all_woken};
-ghost use Rattle.mono_task.specs.Schedule as schedule;
 ghost use Rattle.mono_machine.specs.Machine.{Machine};
 ghost use Rattle.mono_machine.specs.Steps.{remote_report, after_remote, after_drain};
 ghost use Rattle.mono_exec.specs.Matches.{Matches};
@@ -9,17 +7,8 @@ ghost use Rattle.mono_machine.specs.declared.events.Report.TheVariants as report
 
 use crate::parts::Parts;
 use crate::{List, Refusal, Reply, Report};
-use mono_task::{TaskError, Tasks};
+use mono_task::{TaskError, wake_all};
 use std::alloc::{AllocError, Global};
-
-/// Wakes each task, in order.
-pub fn wake_all<O: Drop>(tasks: &mut Tasks<O>, woken: &[u64])
-    ensures { tasks.new ≡ schedule.with_tasks tasks.old (all_woken tasks.old.tasks woken.now) }
-{
-    for t in woken {
-        let _ = tasks.wake(*t);
-    }
-}
 
 impl Parts {
     /// Another thread wakes a task. It takes no memory.

@@ -4,7 +4,8 @@ ghost use Rattle.mono_machine.specs.Machine.{Machine, start_machine};
 ghost use Rattle.mono_machine.specs.Steps.{Run};
 ghost use Rattle.mono_exec.specs.Stands.{Stands};
 
-use crate::{Blocking, Event, Exec, Limits, Report};
+use crate::{Blocking, Event, Exec, Report};
+use mono_machine::Limits;
 use std::alloc::{AllocError, Global};
 
 /// Takes all events in order, from a new executor, and answers one report for each.

@@ -1,7 +1,7 @@
 //! Worked changes of where a sleep is registered in the wheel.
 ghost use Rattle.std.specs.Prelude.{◌≡◌, None, Some};
 ghost use Rattle.mono_model.specs.Sleeps.{fresh, armed, elapsed};
-ghost use Rattle.mono_exec.specs.Registered.{by_act, by_clock};
+ghost use Rattle.mono_time.specs.Registrations.{by_act, by_clock};
 ghost use Rattle.mono_exec.specs.Worked.{arming};
 
 /// A sleep that is armed at tick 100, and is registered there, has its slot start at 64.

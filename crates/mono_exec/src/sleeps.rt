@@ -1,43 +1,19 @@
 // Sleeps that are made and that are reset.
-ghost use Rattle.std.specs.Prelude.{◌≡◌, ◌≤◌, ℕ, IfOk, OnOk};
-ghost use Rattle.mono_model.specs.Ticks.{up, max_nanos};
-ghost use Rattle.mono_model.specs.Tasks.{woken_if_any};
-ghost use Rattle.mono_task.specs.Schedule as schedule;
+ghost use Rattle.std.specs.Prelude.{◌≡◌, ℕ, IfOk, OnOk};
 ghost use Rattle.mono_machine.specs.Machine.{Machine};
 ghost use Rattle.mono_machine.specs.Acts.{act_outcome};
-ghost use Rattle.mono_machine.specs.SleepCalls.{reset_reply};
 ghost use Rattle.mono_time.specs.Sleeps.{IsNoneArmedUpTo};
 ghost use Rattle.mono_time.specs.Timers.{sleeps_of, registered_of};
 ghost use Rattle.mono_exec.specs.Matches.{Matches};
-ghost use Rattle.mono_exec.specs.Registered.{FollowsAct};
+ghost use Rattle.mono_time.specs.Registrations.{FollowsAct};
 ghost use Rattle.mono_machine.specs.declared.events.Act.{Act};
 
 use crate::parts::Parts;
 use crate::{Refusal, Reply};
-use mono_task::Tasks;
+use mono_machine::reset_reply;
+use mono_task::wake_if_any;
 use mono_time::{Instant, SleepError};
 use std::alloc::{AllocError, Global};
-
-/// Wakes a waker, if there is one.
-pub fn wake_if_any<O: Drop>(tasks: &mut Tasks<O>, waker: Option<u64>)
-    ensures { tasks.new ≡ schedule.with_tasks tasks.old (woken_if_any tasks.old.tasks waker) }
-{
-    if let Some(t) = waker {
-        let _ = tasks.wake(t);
-    }
-}
-
-/// The reply to the reset of a sleep to a deadline.
-pub fn reset_reply(n: u128, greatest: u64) -> Reply
-    requires { n ≤ max_nanos }
-    ensures { result ≡ reset_reply greatest (up n) }
-{
-    if ((n + 999999) / 1000000) as u64 <= greatest {
-        Reply::Elapsed
-    } else {
-        Reply::Armed
-    }
-}
 
 impl Parts {
     /// A sleep is made.

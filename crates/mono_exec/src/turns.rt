@@ -4,7 +4,7 @@ ghost use Rattle.mono_machine.specs.Machine.{Machine, IsValid, IsValidDuring};
 ghost use Rattle.mono_machine.specs.Turns.{replies_of, after_steps, end_answer, after_end, turn_report, after_turn};
 ghost use Rattle.mono_time.specs.Timers.{registered_of};
 ghost use Rattle.mono_exec.specs.Matches.{Matches};
-ghost use Rattle.mono_exec.specs.Registered.{registered_by_steps, registered_by_turn};
+ghost use Rattle.mono_time.specs.Registrations.{registered_by_steps, registered_by_turn};
 
 use crate::parts::Parts;
 use crate::{End, Ended, List, Refusal, Reply, Report, TurnStep};

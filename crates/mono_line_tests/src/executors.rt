@@ -1,5 +1,6 @@
 // The executor: its lists, its next expirations and where a sleep is registered.
-use mono_exec::{Act, Blocking, End, Event, Exec, Limits, List, Query, Reply, Report, TurnStep};
+use mono_exec::{Act, Blocking, End, Event, Exec, List, Query, Reply, Report, TurnStep};
+use mono_machine::Limits;
 use std::alloc::Global;
 
 const LIMITS: Limits = Limits {

@@ -7,7 +7,8 @@ ghost use Rattle.mono_load.specs.Load.{Goes, GoesOn, IsSummary, load_limits, sle
 
 use crate::tallies::{Tally, added};
 use mono_combine::FastRand;
-use mono_exec::{Act, Blocking, End, Event, Exec, Limits, List, Query, TurnStep};
+use mono_exec::{Act, Blocking, End, Event, Exec, List, Query, TurnStep};
+use mono_machine::Limits;
 use std::alloc::{AllocError, Global};
 
 /// What the reports of a load come to.

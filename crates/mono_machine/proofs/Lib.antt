@@ -19,3 +19,4 @@ pub mod Fairness
 pub mod Causes
 pub mod Draining
 pub mod EndingAlone
+pub mod FireLemmas

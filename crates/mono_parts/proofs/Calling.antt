@@ -14,8 +14,8 @@ use Rattle.mono_model.specs.SleepActs as machine
 use Rattle.mono_time.specs.Sleeps.{SleepTable, IsNoneArmedUpTo}
 use Rattle.mono_model.specs.SleepAnswers.{waker_in}
 use Rattle.mono_time.specs.Timers.{sleeps_of, elapsed_tick, registered_of}
-use Rattle.mono_exec.specs.Registered.{FollowsAct}
-use Rattle.mono_exec.proofs.Registering.{sleeps-stay}
+use Rattle.mono_time.specs.Registrations.{FollowsAct}
+use Rattle.mono_time.proofs.RegistrationLemmas.{sleeps-stay}
 use Rattle.mono_time.specs.Stands.{StandsForSleeps}
 use Rattle.mono_model.specs.declared.error.Error.{Error}
 use Rattle.mono_time.specs.declared.timers.Timers.{Timers}
@@ -28,7 +28,7 @@ use Rattle.mono_machine.specs.declared.events.Reply.{Reply}
 use Rattle.mono_machine.specs.declared.events.Reply.TheVariants as reply
 use Rattle.mono_machine.specs.declared.events.Act.TheVariants as act
 use Rattle.mono_machine.specs.declared.events.Refusal.TheVariants as refusal
-use Rattle.mono_exec.proofs.Timing.{Alike, live, gone}
+use Rattle.mono_time.proofs.SleepTableLemmas.{Alike, live, gone}
 use Rattle.mono_parts.specs.Record.{Record, noted}
 use Rattle.mono_parts.specs.Numbered.{numbered}
 use Rattle.mono_parts.specs.Stands.{Hosting, Matches}

@@ -13,13 +13,13 @@ use Rattle.mono_time.specs.Timers.{sleeps_of, elapsed_tick}
 use Rattle.mono_machine.specs.Machine.{Machine, with_tasks, with_sleeps}
 use Rattle.mono_machine.specs.Steps.{Step, Run, at_clock, greatest_at, after_fires, all_fired, wakers_of, ClockStep}
 use Rattle.mono_machine.specs.Turns.{turn_report, after_turn}
-use Rattle.mono_exec.specs.Matches.{Keeps}
+use Rattle.mono_time.specs.Stands.{Keeps}
 use Rattle.mono_machine.specs.declared.events.Event.{Event}
 use Rattle.mono_machine.specs.declared.events.Event.TheVariants as event
 use Rattle.mono_machine.specs.declared.events.Report.{Report}
 use Rattle.mono_machine.specs.declared.events.Report.TheVariants as report
 use Rattle.mono_machine.specs.declared.events.End.{End}
-use Rattle.mono_exec.proofs.Firing.{fires-apart}
+use Rattle.mono_machine.proofs.FireLemmas.{fires-apart}
 use Rattle.mono_parts.specs.Numbered.{numbered, drop_numbered}
 use Rattle.mono_jobs.specs.Spawning.{Seen}
 use Rattle.mono_parts.specs.Stands.{hosting_of, Matches}
@@ -40,8 +40,8 @@ use Rattle.mono_machine.specs.declared.events.Refusal.TheVariants as refusal
 use Rattle.mono_parts.proofs.Numbering.{numbered-all_woken, numbered-spawned, next_numbered, full_numbered, numbered-dropped, drop_answer-numbered}
 use Rattle.mono_time.specs.Timers.{registered_of}
 use Rattle.mono_time.specs.Registered.{stepped_registered}
-use Rattle.mono_exec.specs.Registered.{registered_after}
-use Rattle.mono_exec.proofs.Registering.{clock-on, spawn-sleeps}
+use Rattle.mono_time.specs.Registrations.{registered_after}
+use Rattle.mono_time.proofs.RegistrationLemmas.{clock-on, spawn-sleeps}
 use Rattle.mono_parts.proofs.Registering.{registers_on, same_ticks, stays_registered, fired_greatest}
 use Rattle.mono_parts.proofs.Calling.{same_machine, other_tasks}
 

@@ -22,7 +22,7 @@ use Rattle.mono_jobs.specs.declared.ends.End.{End}
 use Rattle.mono_jobs.specs.declared.handles.JobHandle.{JobHandle}
 use Rattle.mono_jobs.specs.declared.refusals.SpawnError.{SpawnError}
 use Rattle.mono_jobs.specs.declared.refusals.SpawnError.TheVariants as error
-use Rattle.mono_exec.proofs.Registering.{sleeps-stay}
+use Rattle.mono_time.proofs.RegistrationLemmas.{sleeps-stay}
 use Rattle.mono_parts.specs.Record.{Record, noted}
 use Rattle.mono_parts.specs.Stands.{hosting_of, Matches}
 use Rattle.mono_parts.specs.Leading.{Leads, leads_on, by_act, by_nothing}

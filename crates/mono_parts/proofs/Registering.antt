@@ -10,8 +10,8 @@ use Rattle.mono_time.specs.Timers.{sleeps_of, elapsed_tick, registered_of}
 use Rattle.mono_time.specs.declared.timers.Timers.{Timers}
 use Rattle.mono_machine.specs.Machine.{Machine}
 use Rattle.mono_machine.specs.Steps.{all_fired}
-use Rattle.mono_exec.specs.Registered.{registered_after, by_act}
-use Rattle.mono_exec.proofs.Registering.{same-value}
+use Rattle.mono_time.specs.Registrations.{registered_after, by_act}
+use Rattle.mono_time.proofs.RegistrationLemmas.{same-value}
 use Rattle.mono_parts.specs.Journals.{WaitsForNext, Registers}
 use Rattle.mono_parts.specs.Rounds.{Remotes, Drained}
 use Rattle.mono_parts.specs.declared.journals.Entry.{Entry}

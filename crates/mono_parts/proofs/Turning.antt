@@ -12,9 +12,9 @@ use Rattle.mono_time.specs.declared.instant.Instant.{Instant}
 use Rattle.mono_machine.specs.Machine.{Machine}
 use Rattle.mono_machine.specs.Turns.{replies_of, after_steps, after_begin, end_answer, after_end, turn_report_for, after_turn_for}
 use Rattle.mono_machine.specs.declared.events.Report.TheVariants as report
-use Rattle.mono_exec.proofs.Matching.{front_is}
+use Rattle.mono_task.proofs.ScheduleLemmas.{front_is}
 use Rattle.mono_time.specs.Timers.{registered_of}
-use Rattle.mono_exec.specs.Registered.{registered_by_steps, registered_by_turn}
+use Rattle.mono_time.specs.Registrations.{registered_by_steps, registered_by_turn}
 use Rattle.mono_parts.specs.Numbered.{numbered, end_of}
 use Rattle.mono_parts.specs.Record.{Record, no_acts, room}
 use Rattle.mono_jobs.specs.Spawning.{Seen}

@@ -3,7 +3,7 @@ use Rattle.std.specs.Prelude.{◌≡◌, ℕ, false, List, [], ◌∷◌, ◌++�
 use Rattle.mono_model.specs.Ticks.{down}
 use Rattle.mono_time.specs.Registered.{FirstSlot}
 use Rattle.mono_time.specs.Timers.{registered_of}
-use Rattle.mono_exec.specs.Registered.{registered_after}
+use Rattle.mono_time.specs.Registrations.{registered_after}
 use Rattle.mono_machine.specs.Machine.{Machine}
 use Rattle.mono_machine.specs.Steps.{Step}
 use Rattle.mono_machine.specs.declared.events.Event.{Event}

@@ -10,7 +10,7 @@ use Rattle.mono_machine.specs.Machine.{Machine}
 use Rattle.mono_machine.specs.Turns.{replies_of, after_steps}
 use Rattle.mono_machine.specs.declared.events.TurnStep.{TurnStep}
 use Rattle.mono_time.specs.Timers.{registered_of}
-use Rattle.mono_exec.specs.Registered.{registered_by_steps, registered_by_act, FollowsAct}
+use Rattle.mono_time.specs.Registrations.{registered_by_steps, registered_by_act, FollowsAct}
 use Rattle.mono_parts.specs.Stands.{Hosting, Matches}
 use Rattle.mono_parts.specs.declared.parts.Parts.{Parts}
 

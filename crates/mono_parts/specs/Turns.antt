@@ -10,7 +10,7 @@ use Rattle.mono_machine.specs.declared.events.TurnStep.{TurnStep}
 use Rattle.mono_machine.specs.declared.events.End.{End}
 use Rattle.mono_machine.specs.declared.events.Report.TheVariants as report
 use Rattle.mono_time.specs.Timers.{registered_of}
-use Rattle.mono_exec.specs.Registered.{registered_by_turn}
+use Rattle.mono_time.specs.Registrations.{registered_by_turn}
 use Rattle.mono_jobs.specs.Spawning.{Seen}
 use Rattle.mono_parts.specs.Record.{Record, room}
 use Rattle.mono_parts.specs.Stands.{hosting_of, Matches}

@@ -2,7 +2,7 @@
 ghost use Rattle.std.specs.Prelude.{◌≡◌, true, false, IfOk, OnOk, IfSome, IfNone, vec_capacity};
 ghost use Rattle.mono_parts.specs.Record.{no_acts, no_record, noted};
 
-use mono_exec::{List, Reply, TurnStep};
+use mono_machine::{List, Reply, TurnStep};
 use std::alloc::{AllocError, Global};
 use std::marker::Model;
 

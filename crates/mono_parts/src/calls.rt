@@ -16,12 +16,12 @@ ghost use Rattle.mono_parts.specs.Leading.{Leads};
 ghost use Rattle.mono_parts.specs.Stands.{Hosting};
 
 use crate::parts::Parts;
-use mono_exec::{
-    Act, Query, Refusal, Reply, TurnStep, gone_reply, poll_reply, refusal_of, reset_reply,
-    wake_if_any, wake_reply,
-};
 use mono_joinword::Outcome;
-use mono_task::{Poll, SpawnTask, TaskError, Woke};
+use mono_machine::{
+    Act, Query, Refusal, Reply, TurnStep, gone_reply, poll_reply, refusal_of, reset_reply,
+    wake_reply,
+};
+use mono_task::{Poll, SpawnTask, TaskError, Woke, wake_if_any};
 use mono_time::{Error, Instant, SleepError};
 use std::alloc::Global;
 

@@ -13,9 +13,10 @@ use crate::errors::RunError;
 use crate::journals::{Entry, Journal};
 use crate::parts::Parts;
 use mono_blocking::ThreadPool;
-use mono_exec::{Event, List, Refusal, Reply, Report, wake_all};
 use mono_jobs::Blockings;
 use mono_joinword::Outcome;
+use mono_machine::{Event, List, Refusal, Reply, Report};
+use mono_task::wake_all;
 use std::alloc::Global;
 
 // Room for the entries, and for the list of those that are woken.

@@ -10,9 +10,9 @@ ghost use Rattle.mono_jobs.specs.Asking.{polled_reply, dropped_reply};
 use crate::acts::Acts;
 use crate::parts::Parts;
 use mono_blocking::{Job, JobWaker, ThreadPool};
-use mono_exec::{Act, Query, Refusal, Reply, TurnStep};
 use mono_jobs::{Blockings, End, JobHandle, OutputOf, SpawnError};
 use mono_joinword::{JoinError, Outcome};
+use mono_machine::{Act, Query, Refusal, Reply, TurnStep};
 use mono_model::{Host, Poll};
 use std::alloc::Global;
 

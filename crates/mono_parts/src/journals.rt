@@ -7,7 +7,7 @@ ghost use Rattle.mono_parts.specs.Journals.{pushed, HasPlaces};
 
 use crate::acts::Acts;
 use crate::keeping::RoomList;
-use mono_exec::{End, Ended, Event, Report};
+use mono_machine::{End, Ended, Event, Report};
 use std::alloc::{AllocError, Global};
 
 /// One thing that a runtime did.

@@ -12,9 +12,9 @@ use crate::errors::RunError;
 use crate::journals::{Entry, Journal};
 use crate::parts::Parts;
 use mono_blocking::ThreadPool;
-use mono_exec::{Act, Event, Refusal, Reply, Report};
 use mono_jobs::Blockings;
 use mono_joinword::Outcome;
+use mono_machine::{Act, Event, Refusal, Reply, Report};
 use mono_task::SpawnTask;
 use std::alloc::Global;
 

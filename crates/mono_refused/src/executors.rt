@@ -1,6 +1,7 @@
 // The executor.
 use crate::grows::{Called, Ended, Grows, done_where, refusals};
-use mono_exec::{Act, Blocking, Event, Exec, Limits, Report};
+use mono_exec::{Act, Blocking, Event, Exec, Report};
+use mono_machine::Limits;
 use mono_model::Host;
 use std::alloc::Global;
 

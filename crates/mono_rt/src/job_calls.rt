@@ -5,10 +5,10 @@ ghost use Rattle.mono_rt.specs.Reached.{ReachesSharing};
 
 use crate::contexts::Cx;
 use mono_blocking::{Job, JobWaker, ThreadPool};
-use mono_exec::Refusal;
 use mono_inbox::{RemoteWaker, Unpark};
 use mono_jobs::{JobHandle, OutputOf, PollJob, SpawnError};
 use mono_joinword::{JoinError, Outcome};
+use mono_machine::Refusal;
 use mono_model::{Host, Poll};
 use mono_shared::SharedState;
 use std::alloc::{AllocError, Global};

@@ -19,13 +19,14 @@ pub use contexts::{Cx, SpawnRefused};
 pub use mono_driver::{
     Clock, Driver, DriverFault, Instant, ListClock, StepDriver, ThreadDriver, TimeDriver,
 };
-pub use mono_exec::{
-    Act, Blocking, End, Ended, Event, Exec, How, Limits, List, MAX_NANOS, Query, Refusal, Reply,
-    Report, Timers, TurnStep, Woke, replay,
-};
 pub use mono_inbox::RemoteWaker;
 pub use mono_jobs::{JobHandle, OutputOf, PollJob, SpawnError};
 pub use mono_joinword::{JoinError, Outcome};
+pub use mono_machine::{
+    Act, Blocking, End, Ended, Event, How, List, MAX_NANOS, Query, Refusal, Reply, Report,
+    TurnStep, Woke,
+};
 pub use mono_parts::{Entry, Journal, RunError, laws};
 pub use mono_shared::{SharedContext, SharedState};
+pub use mono_time::Timers;
 pub use runtimes::Runtime;

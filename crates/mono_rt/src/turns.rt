@@ -10,9 +10,9 @@ ghost use Rattle.mono_parts.specs.Turns.{IsTurnOf};
 
 use crate::contexts::Cx;
 use mono_blocking::ThreadPool;
-use mono_exec::{End, Ended};
 use mono_inbox::Unpark;
 use mono_joinword::Outcome;
+use mono_machine::{End, Ended};
 use mono_model::Host;
 use mono_shared::SharedState;
 use mono_task::{Poll, TaskFuture};

@@ -3,8 +3,9 @@ ghost use Rattle.std.specs.Prelude.{◌≡◌, None};
 
 use crate::turning::{Gives, Shared, Task, Turns};
 use mono_blocking::{BlockingHandle, ThreadPool};
+use mono_machine::Limits;
 use mono_model::Host;
-use mono_rt::{Driver, Instant, Limits, ListClock, RunError, Runtime, ThreadDriver};
+use mono_rt::{Driver, Instant, ListClock, RunError, Runtime, ThreadDriver};
 use std::alloc::Global;
 use std::process::Abort;
 use std::sync::atomic::AtomicU64;

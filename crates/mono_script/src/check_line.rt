@@ -4,7 +4,8 @@ ghost use Rattle.mono_script.specs.Ending.{IsOutput, IsLine};
 ghost use Rattle.mono_script.specs.Checked.{checking, yes_line, no_line};
 
 use crate::ends::{Output, Status, bad_line};
-use mono_exec::{Blocking, Limits};
+use mono_exec::Blocking;
+use mono_machine::Limits;
 use mono_trace_lines::{Answer, check_lines};
 use std::alloc::{AllocError, Global};
 

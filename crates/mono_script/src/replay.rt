@@ -7,7 +7,8 @@ ghost use Rattle.mono_script.specs.Ending.{IsOutput, IsLine};
 ghost use Rattle.mono_script.specs.Meanings.{replaying};
 
 use crate::ends::{Output, Status, bad_line};
-use mono_exec::{Blocking, Event, Exec, Limits, List, Reply, Report, TurnStep};
+use mono_exec::{Blocking, Event, Exec, List, Reply, Report, TurnStep};
+use mono_machine::Limits;
 use mono_text::{Reader, report_line};
 use std::alloc::{AllocError, Global};
 

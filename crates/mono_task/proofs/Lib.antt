@@ -10,3 +10,4 @@ pub mod Finishes
 pub mod Handles
 pub mod Spawns
 pub mod Tabled
+pub mod ScheduleLemmas

@@ -7,6 +7,7 @@ mod error;
 mod future;
 mod join;
 mod table;
+mod wakers;
 
 pub use context::Context;
 pub use error::SpawnTask;
@@ -14,3 +15,4 @@ pub use future::TaskFuture;
 pub use join::{JoinContext, JoinHandle};
 pub use mono_model::{Ended, MAX_NANOS, Poll, TaskError, Woke};
 pub use table::Tasks;
+pub use wakers::{wake_all, wake_if_any};

@@ -19,3 +19,6 @@ pub mod Resting
 pub mod Expiring
 pub mod Passing
 pub mod Ticking
+pub mod SleepTableLemmas
+pub mod RegistrationLemmas
+pub mod DueSleepLemmas

@@ -4,6 +4,7 @@ pub mod Futures
 pub mod Entries
 pub mod Keeping
 pub mod Registered
+pub mod Registrations
 pub mod Turning
 pub mod Timers
 pub mod Stands

@@ -1,5 +1,5 @@
 -- For which sleeps of the plain machine a table of timers stands.
-use Rattle.std.specs.Prelude.{◌≡◌, ◌≢◌, ◌<◌, ℕ, false, List, Some, map, length}
+use Rattle.std.specs.Prelude.{◌≡◌, ◌≢◌, ◌<◌, ℕ, true, false, List, Some, map, length}
 use Rattle.std.specs.Option.{option_map}
 use Rattle.mono_model.specs.Ticks.{up}
 use Rattle.mono_model.specs.Table.{Table, value_at, table_of}
@@ -8,6 +8,7 @@ use Rattle.mono_model.specs.Sleeps.{Sleeps, Arming}
 use Rattle.mono_wheel.specs.Model.{Wheel, timed_at, Precedes}
 use Rattle.mono_time.specs.Sleeps.{Kept, fresh, armed, elapsed}
 use Rattle.mono_time.specs.Keeping.{kept_at}
+use Rattle.mono_time.specs.Timers.{sleeps_of}
 use Rattle.mono_time.specs.declared.entry.Entry.{Entry}
 use Rattle.mono_time.specs.declared.timers.Timers.{Timers}
 
@@ -33,3 +34,8 @@ pub record Standing (wheel : Wheel) (keys : Table ℕ) (entries : List Entry) (g
 
 abbrev pub StandsForSleeps : Timers → Sleeps → Type 0
 StandsForSleeps timers sleeps = Standing timers.wheel timers.keys timers.entries.items timers.greatest timers.limit sleeps
+
+-- There are timers, and their table stands for the machine's sleeps.
+pub record Keeps (timers : Timers) (sleeps : Sleeps) : Type 0 where
+  pub stands : StandsForSleeps timers sleeps
+  pub is_enabled : (sleeps_of timers).is_enabled ≡ true

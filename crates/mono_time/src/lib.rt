@@ -4,6 +4,7 @@
 mod arming;
 mod constructors;
 mod context;
+mod due_sleeps;
 mod entry;
 mod error;
 mod firing;
@@ -18,6 +19,7 @@ mod turning;
 
 pub use constructors::{interval, interval_at, sleep, sleep_until, timeout, timeout_at};
 pub use context::TimeContext;
+pub use due_sleeps::{Due, take_due};
 pub use error::{Elapsed, TimeoutError};
 pub use instant::Instant;
 pub use intervals::Interval;

@@ -7,8 +7,9 @@ ghost use Rattle.mono_parts.specs.Journals.{events_in, reports_in};
 
 use crate::bounded::Bounded;
 use mono_blocking::{BlockingHandle, BlockingStrategy, ThreadPool};
+use mono_machine::Limits;
 use mono_model::Host;
-use mono_rt::{Driver, Instant, Journal, Limits, RunError, run_alone};
+use mono_rt::{Driver, Instant, Journal, RunError, run_alone};
 use mono_task::{Poll, TaskFuture};
 use mono_time::{Sleep, TimeContext, sleep};
 use std::alloc::{AllocError, Global};

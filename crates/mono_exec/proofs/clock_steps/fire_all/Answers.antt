@@ -3,7 +3,7 @@ use Rattle.mono_model.specs.Tasks.{all_woken}
 use Rattle.mono_time.specs.Instants.{nanos_of}
 use Rattle.mono_machine.specs.Steps.{at_clock}
 use Rattle.mono_exec.specs.Matches.{MatchesInStep}
-use Rattle.mono_exec.proofs.Firing.{fires-apart}
+use Rattle.mono_machine.proofs.FireLemmas.{fires-apart}
 use Rattle.mono_exec.proofs.clock_steps.fire_all.Goals as goal
 
 pub returns-clause-fires : goal.returns-clause-fires

@@ -4,8 +4,8 @@ use Rattle.mono_machine.specs.Turns.{turn_report, after_turn}
 use Rattle.mono_machine.specs.declared.events.Report.TheVariants.{Reply}
 use Rattle.mono_exec.proofs.Matching.{act_done, turn_done, clock_done, remote_done, drain_done}
 use Rattle.mono_time.specs.Timers.{registered_of}
-use Rattle.mono_exec.specs.Registered.{registered_by_turn}
-use Rattle.mono_exec.proofs.Timing.{none_armed}
+use Rattle.mono_time.specs.Registrations.{registered_by_turn}
+use Rattle.mono_time.proofs.SleepTableLemmas.{none_armed}
 use Rattle.mono_exec.proofs.executor.Exec.apply_reusing.Goals as goal
 
 pub returns-in_ok-reply-in-Act-clause-step : goal.returns-in_ok-reply-in-Act-clause-step

@@ -1,6 +1,6 @@
 use Rattle.std.proofs.Common.{sym}
-use Rattle.mono_exec.proofs.Timing.{none_armed}
-use Rattle.mono_exec.proofs.Registering.{next-is}
+use Rattle.mono_time.proofs.SleepTableLemmas.{none_armed}
+use Rattle.mono_time.proofs.RegistrationLemmas.{next-is}
 use Rattle.mono_exec.proofs.executor.Exec.timers.Goals as goal
 
 pub returns-clause-sleeps : goal.returns-clause-sleeps

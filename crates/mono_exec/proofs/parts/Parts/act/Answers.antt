@@ -8,8 +8,9 @@ use Rattle.mono_time.specs.Timers.{sleeps_of, registered_of}
 use Rattle.mono_machine.specs.SleepCalls.{gone_reply, elapsed_reply}
 use Rattle.mono_machine.proofs.Known.{alike_woken, alike_dropped}
 use Rattle.mono_exec.proofs.Matching.{changed}
-use Rattle.mono_exec.proofs.Timing.{other_timers, rests, alike_removed}
-use Rattle.mono_exec.proofs.Registering.{sleeps-stay, registered-added, registered-removed, block-sleeps}
+use Rattle.mono_exec.proofs.Timing.{other_timers, rests}
+use Rattle.mono_time.proofs.SleepTableLemmas.{alike_removed}
+use Rattle.mono_time.proofs.RegistrationLemmas.{sleeps-stay, registered-added, registered-removed, block-sleeps}
 use Rattle.mono_exec.proofs.parts.Parts.act.Goals as goal
 
 pub returns-in-Wake-clause-matches : goal.returns-in-Wake-clause-matches

@@ -1,6 +1,7 @@
 use Rattle.std.proofs.Common.{sym, ◌∙◌}
 use Rattle.mono_machine.specs.Steps.{at_clock}
-use Rattle.mono_exec.proofs.Registering.{fires-greatest, clock-on}
+use Rattle.mono_machine.proofs.FireLemmas.{fires-greatest}
+use Rattle.mono_time.proofs.RegistrationLemmas.{clock-on}
 use Rattle.mono_exec.proofs.Firing.{clock_took}
 use Rattle.mono_exec.proofs.parts.Parts.clock.Goals as goal
 

@@ -6,8 +6,9 @@ use Rattle.mono_time.specs.Timers.{sleeps_of}
 use Rattle.mono_machine.specs.SleepCalls.{poll_reply}
 use Rattle.mono_machine.proofs.Known.{alike_joined}
 use Rattle.mono_exec.proofs.Matching.{changed}
-use Rattle.mono_exec.proofs.Timing.{other_timers, rests, alike_polled}
-use Rattle.mono_exec.proofs.Registering.{registered-polled}
+use Rattle.mono_exec.proofs.Timing.{other_timers, rests}
+use Rattle.mono_time.proofs.SleepTableLemmas.{alike_polled}
+use Rattle.mono_time.proofs.RegistrationLemmas.{registered-polled}
 use Rattle.mono_exec.proofs.parts.Parts.query.Goals as goal
 
 pub returns-in-Sleep-clause-reply : goal.returns-in-Sleep-clause-reply

@@ -3,8 +3,9 @@ use Rattle.mono_model.specs.SleepActs as sleep
 use Rattle.mono_time.specs.Instants.{nanos_of}
 use Rattle.mono_time.specs.Sleeps.{with_reset_sleep}
 use Rattle.mono_time.specs.Timers.{sleeps_of}
-use Rattle.mono_exec.proofs.Timing.{rests, alike_reset, reset_took}
-use Rattle.mono_exec.proofs.Registering.{registered-reset-act}
+use Rattle.mono_exec.proofs.Timing.{rests, reset_took}
+use Rattle.mono_time.proofs.SleepTableLemmas.{alike_reset}
+use Rattle.mono_time.proofs.RegistrationLemmas.{registered-reset-act}
 use Rattle.mono_exec.proofs.parts.Parts.reset.Goals as goal
 
 pub returns-in-Ok-reset-clause-matches : goal.returns-in-Ok-reset-clause-matches

@@ -4,9 +4,9 @@ use Rattle.mono_exec.specs.Matches.{Matches}
 use Rattle.mono_machine.proofs.Running.{replies_more, after_more, nothing_left}
 use Rattle.mono_time.specs.Timers.{registered_of}
 use Rattle.mono_machine.proofs.ValidActs.{step_valid}
-use Rattle.mono_exec.specs.Registered.{registered_by_steps}
-use Rattle.mono_exec.proofs.Timing.{none_armed}
-use Rattle.mono_exec.proofs.Registering.{steps-more}
+use Rattle.mono_time.specs.Registrations.{registered_by_steps}
+use Rattle.mono_time.proofs.SleepTableLemmas.{none_armed}
+use Rattle.mono_time.proofs.RegistrationLemmas.{steps-more}
 use Rattle.mono_exec.proofs.parts.Parts.steps.Goals as goal
 
 pub loop-step-preserved : goal.loop-step-preserved

@@ -1,6 +1,6 @@
 use Rattle.std.proofs.Common.{◌≡◌, ◌++◌, ℕ, Some, drop}
 use Rattle.mono_time.specs.Timers.{registered_of}
-use Rattle.mono_exec.specs.Registered.{registered_by_steps}
+use Rattle.mono_time.specs.Registrations.{registered_by_steps}
 use Rattle.mono_machine.specs.Machine.{Machine, IsValidDuring}
 use Rattle.mono_machine.specs.Turns.{replies_of, after_steps}
 use Rattle.mono_exec.specs.Matches.{Matches}

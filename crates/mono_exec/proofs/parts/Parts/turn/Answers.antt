@@ -2,9 +2,10 @@ use Rattle.std.proofs.Common.{◌≡◌, ◌∷◌, ap, sym, ◌∙◌, subst}
 use Rattle.mono_machine.specs.Turns.{turn_report_for, after_turn_for, after_begin}
 use Rattle.mono_exec.specs.Matches.{Matches}
 use Rattle.mono_machine.proofs.ValidSteps.{begin_valid}
-use Rattle.mono_exec.proofs.Matching.{front_is, begun_matches}
+use Rattle.mono_task.proofs.ScheduleLemmas.{front_is}
+use Rattle.mono_exec.proofs.Matching.{begun_matches}
 use Rattle.mono_time.specs.Timers.{registered_of}
-use Rattle.mono_exec.specs.Registered.{registered_by_turn}
+use Rattle.mono_time.specs.Registrations.{registered_by_turn}
 use Rattle.mono_exec.proofs.parts.Parts.turn.Goals as goal
 
 pub returns-in_ok-report-in-Ok-clause-report : goal.returns-in_ok-report-in-Ok-clause-report

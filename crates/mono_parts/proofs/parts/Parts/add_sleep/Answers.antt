@@ -14,8 +14,8 @@ use Rattle.mono_model.specs.SleepActs as sleep
 use Rattle.mono_time.specs.Sleeps.{with_added_sleep}
 use Rattle.mono_time.proofs.Resting.{rests-added}
 use Rattle.mono_machine.specs.declared.events.Reply.TheVariants as reply
-use Rattle.mono_exec.proofs.Timing.{alike_added}
-use Rattle.mono_exec.proofs.Registering.{added-follows, sleeps-stay}
+use Rattle.mono_time.proofs.SleepTableLemmas.{alike_added}
+use Rattle.mono_time.proofs.RegistrationLemmas.{added-follows, sleeps-stay}
 use Rattle.mono_parts.proofs.Calling.{by_no_sleep, by_sleeps, added_at, refused_at}
 use Rattle.mono_parts.proofs.parts.Parts.add_sleep.Goals as goal
 

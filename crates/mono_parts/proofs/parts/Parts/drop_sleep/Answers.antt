@@ -3,9 +3,9 @@ use Rattle.mono_model.specs.SleepActs as sleep
 use Rattle.mono_time.specs.Sleeps.{with_removed_sleep}
 use Rattle.mono_time.specs.Timers.{sleeps_of}
 use Rattle.mono_machine.specs.SleepCalls.{gone_reply}
-use Rattle.mono_exec.proofs.Timing.{alike_removed}
+use Rattle.mono_time.proofs.SleepTableLemmas.{alike_removed}
 use Rattle.mono_time.proofs.Resting.{rests-removed}
-use Rattle.mono_exec.proofs.Registering.{registered-removed}
+use Rattle.mono_time.proofs.RegistrationLemmas.{registered-removed}
 use Rattle.mono_parts.proofs.Calling.{by_sleeps}
 use Rattle.mono_parts.proofs.parts.Parts.drop_sleep.Goals as goal
 

@@ -3,9 +3,9 @@ use Rattle.mono_model.specs.SleepActs as sleep
 use Rattle.mono_time.specs.Sleeps.{with_polled_sleep}
 use Rattle.mono_time.specs.Timers.{sleeps_of}
 use Rattle.mono_machine.specs.SleepCalls.{poll_reply}
-use Rattle.mono_exec.proofs.Timing.{alike_polled}
+use Rattle.mono_time.proofs.SleepTableLemmas.{alike_polled}
 use Rattle.mono_time.proofs.Resting.{rests-polled}
-use Rattle.mono_exec.proofs.Registering.{registered-polled}
+use Rattle.mono_time.proofs.RegistrationLemmas.{registered-polled}
 use Rattle.mono_parts.proofs.Calling.{by_sleeps}
 use Rattle.mono_parts.proofs.parts.Parts.poll_sleep.Goals as goal
 

@@ -17,10 +17,10 @@ use Rattle.mono_time.specs.Sleeps.{with_reset_sleep}
 use Rattle.mono_time.specs.Stands.{StandsForSleeps}
 use Rattle.mono_machine.specs.Acts.{refused}
 use Rattle.mono_machine.specs.declared.events.Refusal.TheVariants as refusal
-use Rattle.mono_exec.proofs.Timing.{alike_reset, gone, unchanged}
+use Rattle.mono_time.proofs.SleepTableLemmas.{alike_reset, gone, unchanged}
 use Rattle.mono_parts.specs.Stands.{Matches}
-use Rattle.mono_exec.specs.Registered.{FollowsAct}
-use Rattle.mono_exec.proofs.Registering.{registered-reset, registered-reset-act}
+use Rattle.mono_time.specs.Registrations.{FollowsAct}
+use Rattle.mono_time.proofs.RegistrationLemmas.{registered-reset, registered-reset-act}
 use Rattle.mono_machine.specs.declared.events.TurnStep.TheVariants as step
 use Rattle.mono_parts.specs.Record.{Record, noted}
 use Rattle.mono_parts.specs.Leading.{by_act}

@@ -1,0 +1,5 @@
+use Rattle.mono_rt.specs.Reached.{reaches_itself}
+use Rattle.mono_bench.proofs.turns.work.WorkTaskFutureOwn.cancel.Goals as goal
+
+pub returns-clause-reached : goal.returns-clause-reached
+returns-clause-reached c = reaches_itself _ _

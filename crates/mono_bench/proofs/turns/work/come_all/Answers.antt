@@ -1,0 +1,5 @@
+use Rattle.mono_rt.specs.Reached.{reaches_on}
+use Rattle.mono_bench.proofs.turns.work.come_all.Goals as goal
+
+pub returns : goal.returns
+returns c = reaches_on (λ n. n) c.args.cx.now c.put_lines.new.cx c.wake.new.self c.put_lines.ensures c.wake.ensures.reached

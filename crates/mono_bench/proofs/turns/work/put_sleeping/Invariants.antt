@@ -1,0 +1,5 @@
+use Rattle.mono_rt.specs.Reached.{Reaches}
+use Rattle.mono_bench.proofs.turns.work.put_sleeping.Given as goal
+
+abbrev pub invariant-loop : goal.invariant-loop
+invariant-loop l = Reaches (λ n. n) l.fn.cx l.cx

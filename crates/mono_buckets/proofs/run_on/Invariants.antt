@@ -1,4 +1,0 @@
-use Rattle.mono_buckets.proofs.run_on.Given as goal
-
-abbrev pub ghosts-take_all : goal.ghosts-take_all
-ghosts-take_all a = record { name = a.blank.name; parts = a.blank.parts }

@@ -1,5 +1,0 @@
-use Rattle.mono_rt.specs.Reached.{reaches_itself}
-use Rattle.mono_turns.proofs.work.WorkTaskFutureOwn.poll.Goals as goal
-
-pub returns-in-Ends-clause-reached : goal.returns-in-Ends-clause-reached
-returns-in-Ends-clause-reached g c = reaches_itself _ _

@@ -1,5 +1,0 @@
-use Rattle.mono_rt.specs.Reached.{reaches_on}
-use Rattle.mono_turns.proofs.work.come_all.Goals as goal
-
-pub returns : goal.returns
-returns c = reaches_on (λ n. n) c.args.cx.now c.put_lines.new.cx c.wake.new.self c.put_lines.ensures c.wake.ensures.reached

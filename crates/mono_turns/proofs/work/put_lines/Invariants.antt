@@ -1,5 +1,0 @@
-use Rattle.mono_rt.specs.Reached.{Reaches}
-use Rattle.mono_turns.proofs.work.put_lines.Given as goal
-
-abbrev pub invariant-loop-line : goal.invariant-loop-line
-invariant-loop-line l = Reaches (λ n. n) l.fn.cx l.cx

@@ -1,5 +1,0 @@
-use Rattle.mono_rt.specs.Reached.{reaches_on}
-use Rattle.mono_turns.proofs.work.spawn_all.Goals as goal
-
-pub returns : goal.returns
-returns c = reaches_on (λ n. n) c.args.cx.now c.put_ready-made.new.cx c.wake.new.self c.put_ready-made.ensures c.wake.ensures.reached
