@@ -1,5 +1,5 @@
 // The sessions, over timers and queues.
-ghost use Rattle.std.specs.Prelude.{◌≡◌, ◌≤◌, ◌+◌, ◌++◌, ◌∷◌, [], ℕ, List, true, false, Some, if◌then◌else◌, IfOk, vec_len, vec_capacity};
+ghost use Rattle.std.specs.Prelude.{◌≡◌, ◌≤◌, ◌+◌, ◌++◌, ◌∷◌, [], ℕ, List, true, false, Some, if◌then◌else◌, IfOk, OnErr, vec_len, vec_capacity};
 ghost use Rattle.mono_model.specs.Due.{ListsDue};
 ghost use Rattle.mono_model.specs.Table.{value_at, count_of};
 ghost use Rattle.mono_time.specs.Instants.{nanos_of};
@@ -97,10 +97,11 @@ impl Sessions {
     /// The last beat of a session is now, the greatest tick of the clock so far.
     ///
     /// Refused as invalid exactly where it is open and would be closed at a tick above 2^63 - 1, and exactly where it is not
-    /// open.
+    /// open. A refused beat changes nothing, so the wheel may take no step more for it (`refused`).
     pub fn beat(&mut self, session: u64) -> Result<(), SessionError>
         ensures step { (k : Keeper) → StandsFor self.old k → (result ≡ beat_answer k session) × StandsFor self.new (beaten k session) }
         ensures raise { (k : Keeper) (kept : Session) → StandsFor self.old k → value_at k.sessions session ≡ Some kept → steps_left self.new ≤ steps_left self.old + most_takes kept.limit }
+        ensures refused { OnErr result (self.new ≡ self.old) }
     {
         let Some(limit) = self.limits.get(session).copied() else {
             return Err(SessionError::NoSession);
