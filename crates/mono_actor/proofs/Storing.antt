@@ -1,6 +1,6 @@
 -- What the calls of the store leave.
 use Rattle.std.proofs.Common.{◌≡◌, ◌<◌, ◌+◌, ◌^◌, zero, suc, inl, inr, ℕ, true, false, Bool, cond, List, [], ◌∷◌, ◌++◌, length, set, get_or, Some, None, Option, refl, ap, sym, subst, ◌∙◌, arith}
-use Rattle.std.specs.Prelude.{is_some, IfSome, ◌==◌}
+use Rattle.std.specs.Prelude.{is_some, IfSome, ◌==◌, Result, Ok, Err, OnOk, OnErr}
 use Rattle.std.specs.Option.{option_map}
 use Rattle.std.proofs.lemmas.Bool.{cases_eq}
 use Rattle.std.proofs.lemmas.List.{get_or-set_same, set-set, set-get_or, get_or_default, get_or_past}
@@ -9,7 +9,8 @@ use Rattle.mono_model.specs.Table.{value_at}
 use Rattle.mono_wheel.specs.Lists.{IsIn}
 use Rattle.mono_wheel.specs.Rings.{Distinct}
 use Rattle.mono_actor.specs.Actors.{Actor, idle, queued, in_mode, mode_with, wait_from, rest_of}
-use Rattle.mono_actor.specs.Places.{Place, mode_of, actor_of, Changes, delivered, timed_actor, rested, rest_in, rest_of_turn, unread, first_of}
+use Rattle.mono_actor.specs.declared.places.Receipt.{Receipt}
+use Rattle.mono_actor.specs.Places.{Place, receipt_in, receipt_of, mode_of, actor_of, Changes, delivered, timed_actor, rested, rest_in, rest_of_turn, unread, first_of}
 use Rattle.mono_actor.specs.Entries.{entry_with, entry_in, notified, notified_mode, timed_entry, timed_mode, rested_entry, rested_mode}
 use Rattle.mono_actor.specs.Mailboxes.{keys_from, EndsAt, count_in, slot_at, next_in, letters_at, keys_of, keys_in, place_of, places_in, EndsIn, Sound, IsPut, IsTaken}
 use Rattle.mono_actor.specs.declared.mailboxes.Letter.{Letter}
@@ -129,6 +130,11 @@ module _ {M : Type 0} where
       counted = omega (arith, sound.counted, empty, sum_by-append count_in entries (Some q ∷ []), sum_by-cons count_in (Some q) []);
     }
 
+    -- or there was no memory for it
+    pub pushed-either : {A E : Type 0} (r : Result A E) (new : List (Option Entry)) → OnOk r (new ≡ entries ++ Some q ∷ []) → OnErr r (new ≡ entries) → Sound slots count new
+    pushed-either (Ok x) new is refused = subst (Sound slots count) (sym is) pushed-sound
+    pushed-either (Err e) new after is = subst (Sound slots count) (sym is) sound
+
 module _ {M : Type 0} (slots : List (Option (Link M))) (count : ℕ) (entries : List (Option Entry)) (sound : Sound slots count entries) (a : ℕ) (there : is_some (value_at (places_in slots entries) a) ≡ true) where
   found : (e : Entry) × (value_at entries a ≡ Some e)
   found = some-in (value_at entries a) (mapped-some slots (value_at entries a) (sym (ap is_some (at-places slots entries a)) ∙ there))
@@ -145,6 +151,16 @@ module _ {M : Type 0} (slots : List (Option (Link M))) (count : ℕ) (entries : 
 
   reads : (x : Option Entry) → x ≡ get_or entries a x → x ≡ Some mine
   reads x is = is ∙ sym (get_or_default entries a None x inside) ∙ at
+
+  -- what is read of the table
+  pub is-there : is_some (value_at entries a) ≡ true
+  is-there = ap is_some at
+
+  pub read-here : value_at entries a ≡ get_or entries a (value_at entries a)
+  read-here = get_or_default entries a None (value_at entries a) inside
+
+  pub read-value : (e : Entry) → value_at entries a ≡ Some e → Some e ≡ get_or entries a (Some e)
+  read-value e is = sym is ∙ get_or_default entries a None (Some e) inside
 
   pub read-some : (x : Option Entry) → x ≡ get_or entries a x → is_some x ≡ true
   read-some x is = ap is_some (reads x is)
@@ -211,6 +227,10 @@ module _ {M : Type 0} (slots : List (Option (Link M))) (count : ℕ) (entries : 
       → IfSome (value_at (places_in slots entries) a) (λ p. result ≡ rest_of_turn now p)
   rests now x result is holds = tells (λ p. result ≡ rest_of_turn now p)
       (of-read (λ e. result ≡ rest_in now e.alarm e.timeout (e.mailbox.count == 0)) x is holds ∙ ap (λ n. rest_in now mine.alarm mine.timeout (n == 0)) (sym its-count))
+
+  -- what a message asks for
+  pub receives : (e : Entry) (r : Receipt) → value_at entries a ≡ Some e → r ≡ receipt_in e.alarm e.mode → IfSome (value_at (places_in slots entries) a) (λ p. r ≡ receipt_of p)
+  receives e r is holds = tells (λ p. r ≡ receipt_of p) (of-read (λ x. r ≡ receipt_in x.alarm x.mode) (Some e) (read-value e is) holds)
 
   -- what is read of a mailbox
   module _ (x : Option Entry) (m : Mailbox) (is : x ≡ get_or entries a x) (reading : IfSome x (λ e. m ≡ e.mailbox)) where

@@ -66,6 +66,9 @@ module _ {M : Type 0} where
   pub owner : (places : List (Option (Place M))) (alarms : Alarms) (key tick : ℕ) → Ties places alarms → tick_at alarms key ≡ Some tick → Owned places alarms key
   owner places alarms key tick ties at = found places alarms key (value_at places (number_at alarms key)) refl (ties.owned key tick at)
 
+  pub holder : (places : List (Option (Place M))) (alarms : Alarms) (key : ℕ) → Ties places alarms → is_known alarms key ≡ true → Owned places alarms key
+  holder places alarms key ties known = found places alarms key (value_at places (number_at alarms key)) refl (ties.held key known)
+
   owns : (places : List (Option (Place M))) (alarms : Alarms) (key : ℕ) → Owned places alarms key → alarm_in (value_at places (number_at alarms key)) ≡ Some key
   owns places alarms key own = ap alarm_in own.at ∙ ap Some own.alarm
 
@@ -74,7 +77,33 @@ module _ {M : Type 0} where
   ties-same places old new ties ticks known numbers = record {
     tied = λ b r at. (let its = ties.tied b r at in record { known = known r.alarm ∙ its.known; number = numbers r.alarm ∙ its.number; tick = ticks r.alarm ∙ its.tick });
     owned = λ key tick at. (let own = owner places old key tick ties (sym (ticks key) ∙ at) in owns places new key (record { place = own.place; at = ap (value_at places) (numbers key) ∙ own.at; alarm = own.alarm }));
+    held = λ key is. (let own = holder places old key ties (sym (known key) ∙ is) in owns places new key (record { place = own.place; at = ap (value_at places) (numbers key) ∙ own.at; alarm = own.alarm }));
   }
+
+  -- a key that was given out is given back, and all stays
+  pub ties-undone : (places : List (Option (Place M))) (old mid new : Alarms) (number key : ℕ) → Ties places old → Added old mid number key → Freed mid new key → Ties places new
+  ties-undone places old mid new number key ties added freed = record {
+    tied = λ b r at. (
+        let its = ties.tied b r at in
+        let differs = free_apart r.alarm its.known in record {
+          known = freed.known r.alarm differs ∙ added.known r.alarm differs ∙ its.known;
+          number = freed.numbers r.alarm ∙ added.numbers r.alarm differs ∙ its.number;
+          tick = freed.ticks r.alarm ∙ added.ticks r.alarm ∙ its.tick;
+        });
+    owned = λ k tick at. (
+        let own = owner places old k tick ties (sym (freed.ticks k ∙ added.ticks k) ∙ at) in
+        stays k own (sym (ap (is_known old) own.alarm) ∙ (ties.tied (number_at old k) own.place own.at).known));
+    held = λ k is. (
+        let differs : k ≢ key = λ e. true-false (sym is ∙ ap (is_known new) e ∙ freed.now_free) in
+        let known : is_known old k ≡ true = sym (freed.known k differs ∙ added.known k differs) ∙ is in
+        stays k (holder places old k ties known) known);
+  }
+    where
+      free_apart : (k : ℕ) → is_known old k ≡ true → k ≢ key
+      free_apart k known e = true-false (sym known ∙ ap (is_known old) e ∙ added.was_free)
+
+      stays : (k : ℕ) → Owned places old k → is_known old k ≡ true → alarm_in (value_at places (number_at new k)) ≡ Some k
+      stays k own known = owns places new k (record { place = own.place; at = ap (value_at places) (freed.numbers k ∙ added.numbers k (free_apart k known)) ∙ own.at; alarm = own.alarm })
 
   pub ties-changed : (places : List (Option (Place M))) (old new : Alarms) (a : ℕ) (p q : Place M) → Ties places old → value_at places a ≡ Some p → q.alarm ≡ p.alarm
       → Retimed old new p.alarm (waiting_in (mode_of q.mode)) → Ties (set places a (Some q)) new
@@ -93,18 +122,27 @@ module _ {M : Type 0} where
           record { known = re.known r.alarm ∙ its.known; number = re.numbers r.alarm ∙ its.number; tick = re.others r.alarm differs ∙ its.tick })
     ];
     owned = λ key tick at. elim (cases_eq key p.alarm) [
-      | inl here ↦ owns (set places a (Some q)) new key (record {
-        place = q;
-        at = ap (value_at (set places a (Some q))) (re.numbers key ∙ ap (number_at old) here ∙ mine.number) ∙ get_or-set_same places a (Some q) None (given places a p was);
-        alarm = same_alarm ∙ sym here;
-      })
-      | inr apart ↦ (
-          let own = owner places old key tick ties (sym (re.others key apart) ∙ at) in
-          let other : number_at old key ≢ a = λ e. apart (sym own.alarm ∙ ap (λ (x : Place M). x.alarm) (same-some own.place p (sym own.at ∙ ap (value_at places) e ∙ was))) in
-          owns (set places a (Some q)) new key (record { place = own.place; at = ap (value_at (set places a (Some q))) (re.numbers key) ∙ get_or-set_other places a (number_at old key) (Some q) None other ∙ own.at; alarm = own.alarm }))
+      | inl here ↦ stays_here key here
+      | inr apart ↦ stays_other key apart (owner places old key tick ties (sym (re.others key apart) ∙ at))
+    ];
+    held = λ key known. elim (cases_eq key p.alarm) [
+      | inl here ↦ stays_here key here
+      | inr apart ↦ stays_other key apart (holder places old key ties (sym (re.known key) ∙ known))
     ];
   }
     where
+      stays_here : (key : ℕ) → key ≡ p.alarm → alarm_in (value_at (set places a (Some q)) (number_at new key)) ≡ Some key
+      stays_here key here = owns (set places a (Some q)) new key (record {
+        place = q;
+        at = ap (value_at (set places a (Some q))) (re.numbers key ∙ ap (number_at old) here ∙ (ties.tied a p was).number) ∙ get_or-set_same places a (Some q) None (given places a p was);
+        alarm = same_alarm ∙ sym here;
+      })
+
+      stays_other : (key : ℕ) → key ≢ p.alarm → Owned places old key → alarm_in (value_at (set places a (Some q)) (number_at new key)) ≡ Some key
+      stays_other key apart own =
+          let other : number_at old key ≢ a = λ e. apart (sym own.alarm ∙ ap (λ (x : Place M). x.alarm) (same-some own.place p (sym own.at ∙ ap (value_at places) e ∙ was))) in
+          owns (set places a (Some q)) new key (record { place = own.place; at = ap (value_at (set places a (Some q))) (re.numbers key) ∙ get_or-set_other places a (number_at old key) (Some q) None other ∙ own.at; alarm = own.alarm })
+
       mine : Tied old a p
       mine = ties.tied a p was
 
@@ -123,6 +161,11 @@ module _ {M : Type 0} where
         let other : number_at old key ≢ a = λ e. (
         let same : key ≡ p.alarm = sym own.alarm ∙ ap (λ (x : Place M). x.alarm) (same-some own.place p (sym own.at ∙ ap (value_at places) e ∙ was)) in
         none-some tick (sym (ap (tick_at old) same ∙ mine.tick ∙ waits_not) ∙ sym (freed.ticks key) ∙ at)) in
+        owns (set places a None) new key (record { place = own.place; at = ap (value_at (set places a None)) (freed.numbers key) ∙ get_or-set_other places a (number_at old key) None None other ∙ own.at; alarm = own.alarm }));
+    held = λ key is. (
+        let differs : key ≢ p.alarm = λ e. true-false (sym is ∙ ap (is_known new) e ∙ freed.now_free) in
+        let own = holder places old key ties (sym (freed.known key differs) ∙ is) in
+        let other : number_at old key ≢ a = λ e. differs (sym own.alarm ∙ ap (λ (x : Place M). x.alarm) (same-some own.place p (sym own.at ∙ ap (value_at places) e ∙ was))) in
         owns (set places a None) new key (record { place = own.place; at = ap (value_at (set places a None)) (freed.numbers key) ∙ get_or-set_other places a (number_at old key) None None other ∙ own.at; alarm = own.alarm }));
   }
     where
@@ -143,14 +186,25 @@ module _ {M : Type 0} where
     ];
     owned = λ key tick at. (
         let own = owner places old key tick ties (sym (added.ticks key) ∙ at) in
-        let known : is_known old key ≡ true = sym (ap (is_known old) own.alarm) ∙ (ties.tied (number_at old key) own.place own.at).known in
-        let inside = given places (number_at old key) own.place own.at in
-        owns (places ++ Some q ∷ []) new key (record {
-          place = own.place;
-          at = ap (value_at (places ++ Some q ∷ [])) (added.numbers key (free_apart key known)) ∙ value_other places (Some q) (number_at old key) (λ e. omega (arith, e, inside)) ∙ own.at;
-          alarm = own.alarm;
-        }));
+        stays key own (sym (ap (is_known old) own.alarm) ∙ (ties.tied (number_at old key) own.place own.at).known));
+    held = λ key is. elim (cases_eq key q.alarm) [
+      | inl here ↦ owns (places ++ Some q ∷ []) new key (record {
+        place = q;
+        at = ap (value_at (places ++ Some q ∷ [])) (ap (number_at new) here ∙ added.its_number) ∙ value_last places (Some q);
+        alarm = sym here;
+      })
+      | inr apart ↦ (let known : is_known old key ≡ true = sym (added.known key apart) ∙ is in stays key (holder places old key ties known) known)
+    ];
   }
     where
       free_apart : (key : ℕ) → is_known old key ≡ true → key ≢ q.alarm
       free_apart key known e = true-false (sym known ∙ ap (is_known old) e ∙ added.was_free)
+
+      stays : (key : ℕ) → Owned places old key → is_known old key ≡ true → alarm_in (value_at (places ++ Some q ∷ []) (number_at new key)) ≡ Some key
+      stays key own known =
+          let inside = given places (number_at old key) own.place own.at in
+          owns (places ++ Some q ∷ []) new key (record {
+            place = own.place;
+            at = ap (value_at (places ++ Some q ∷ [])) (added.numbers key (free_apart key known)) ∙ value_other places (Some q) (number_at old key) (λ e. omega (arith, e, inside)) ∙ own.at;
+            alarm = own.alarm;
+          })

@@ -44,6 +44,7 @@ pub record Added (old new : Alarms) (number key : ℕ) : Type 0 where
 
 -- a key is given back
 pub record Freed (old new : Alarms) (key : ℕ) : Type 0 where
+  pub now_free : is_known new key ≡ false
   pub ticks : (other : ℕ) → tick_at new other ≡ tick_at old other
   pub known : (other : ℕ) → other ≢ key → is_known new other ≡ is_known old other
   pub numbers : (other : ℕ) → number_at new other ≡ number_at old other

@@ -20,10 +20,11 @@ module _ {M : Type 0} where
   alarm_in None = None
   alarm_in (Some place) = Some place.alarm
 
-  -- Each live actor has a key, and each key that waits is that of a live actor.
+  -- Each live actor has a key, and each key that is given out or waits is that of a live actor.
   pub record Ties (places : List (Option (Place M))) (alarms : Alarms) : Type 0 where
     pub tied : (a : ℕ) (place : Place M) → value_at places a ≡ Some place → Tied alarms a place
     pub owned : (key tick : ℕ) → tick_at alarms key ≡ Some tick → alarm_in (value_at places (number_at alarms key)) ≡ Some key
+    pub held : (key : ℕ) → is_known alarms key ≡ true → alarm_in (value_at places (number_at alarms key)) ≡ Some key
 
   -- The queue has each queued actor once, and no other. The actor that has the turn is running.
   pub record Lines (places : List (Option (Place M))) (queue : List ℕ) (turn : Option ℕ) : Type 0 where

@@ -5,4 +5,4 @@ use Rattle.mono_actor.specs.Mailboxes.{places_in}
 use Rattle.mono_actor.specs.declared.store.Store.{Store}
 
 abbrev pub places_of : {M : Type 0} → Store M → List (Option (Place M))
-places_of store = places_in store.links.slots store.entries.items
+places_of store = places_in store.links.slots store.entries

@@ -1,5 +1,5 @@
 // The receive timeouts that run, on a wheel.
-ghost use Rattle.std.specs.Prelude.{◌≡◌, ◌<◌, ◌≤◌, ◌^◌, ℕ, ◌+◌, true, None, IfOk, IfSome, OnOk, OnErr, MatchOption, length};
+ghost use Rattle.std.specs.Prelude.{◌≡◌, ◌<◌, ◌≤◌, ◌^◌, ℕ, ◌+◌, true, false, None, IfOk, IfSome, OnOk, OnErr, MatchOption, length};
 ghost use Rattle.mono_wheel.specs.Credit.{credit};
 ghost use Rattle.mono_actor.specs.Keys.{number_in, Within};
 
@@ -34,6 +34,7 @@ impl Alarms {
     pub(crate) fn new(alloc: Global) -> Result<Alarms, AllocError>
         ensures elapsed { IfOk result (λ alarms. alarms.wheel.elapsed ≡ 0) }
         ensures none { IfOk result (λ alarms. (key : ℕ) → tick_at alarms key ≡ None) }
+        ensures free { IfOk result (λ alarms. (key : ℕ) → is_known alarms key ≡ false) }
     {
         let wheel = Wheel::new(alloc)?;
         Ok(Alarms {

@@ -1,6 +1,7 @@
 //! Actors with mailboxes, whose turns come one after another, and their receive timeouts.
 #![tactic(auto)]
 
+mod advances;
 mod alarms;
 mod answers;
 pub mod laws;

@@ -1,6 +1,5 @@
 // What is kept of an actor beside its letters, at its number.
-ghost use Rattle.std.specs.Prelude.{◌≡◌, ◌<◌, ◌^◌, ◌==◌, true, None, IfSome, MatchOption, is_some};
-ghost use Rattle.std.specs.Option.{option_map};
+ghost use Rattle.std.specs.Prelude.{◌≡◌, ◌<◌, ◌^◌, ◌==◌, None, MatchOption};
 ghost use Rattle.mono_model.specs.Ticks.{down};
 ghost use Rattle.mono_time.specs.Instants.{nanos_of};
 ghost use Rattle.mono_actor.specs.Actors.{wait_from};
@@ -83,80 +82,52 @@ pub fn new_entry(alarm: usize) -> Entry
     }
 }
 
-/// The mailbox of an actor.
-pub fn mailbox_at(entry: &Option<Entry>) -> Mailbox
-    requires { is_some entry.now ≡ true }
-    ensures { IfSome entry.now (λ e. result ≡ e.mailbox) }
-{
-    match entry {
-        None => unreachable!(),
-        Some(entry) => entry.mailbox,
-    }
-}
-
 /// The actor has this mailbox.
-pub fn set_mailbox(entry: &mut Option<Entry>, mailbox: Mailbox)
-    requires { is_some entry.old ≡ true }
-    ensures { entry.new ≡ option_map (entry_with mailbox) entry.old }
+#[inline(always)]
+pub fn set_mailbox(entry: &mut Entry, mailbox: Mailbox)
+    ensures { entry.new ≡ entry_with mailbox entry.old }
 {
-    match entry {
-        None => unreachable!(),
-        Some(entry) => entry.mailbox = mailbox,
-    }
+    entry.mailbox = mailbox;
 }
 
 /// The actor has this mailbox, with a message more: an idle one is queued.
-pub fn notify(entry: &mut Option<Entry>, mailbox: Mailbox) -> Receipt
-    requires { is_some entry.old ≡ true }
-    ensures becomes { entry.new ≡ option_map (notified mailbox) entry.old }
-    ensures receipt { IfSome entry.old (λ e. result ≡ receipt_in e.alarm e.mode) }
+#[inline(always)]
+pub fn notify(entry: &mut Entry, mailbox: Mailbox) -> Receipt
+    ensures becomes { entry.new ≡ notified mailbox entry.old }
+    ensures receipt { result ≡ receipt_in entry.old.alarm entry.old.mode }
 {
-    match entry {
-        None => unreachable!(),
-        Some(entry) => {
-            entry.mailbox = mailbox;
-            match entry.mode {
-                Mode::Idle(waits_for) => {
-                    entry.mode = Mode::Queued;
-                    Receipt::Queues(entry.alarm, waits_for)
-                }
-                Mode::Queued | Mode::Running => Receipt::Waits,
-            }
+    entry.mailbox = mailbox;
+    match entry.mode {
+        Mode::Idle(waits_for) => {
+            entry.mode = Mode::Queued;
+            Receipt::Queues(entry.alarm, waits_for)
         }
+        Mode::Queued | Mode::Running => Receipt::Waits,
     }
 }
 
 /// The actor has another timeout. An idle one waits anew from now.
-pub fn set_timeout(entry: &mut Option<Entry>, now: u64, timeout: u64) -> Timing
-    requires { is_some entry.old ≡ true }
-    ensures becomes { entry.new ≡ option_map (timed_entry now timeout) entry.old }
-    ensures timing { IfSome entry.old (λ e. result ≡ timing_in now timeout e.alarm e.mode) }
+pub fn set_timeout(entry: &mut Entry, now: u64, timeout: u64) -> Timing
+    ensures becomes { entry.new ≡ timed_entry now timeout entry.old }
+    ensures timing { result ≡ timing_in now timeout entry.old.alarm entry.old.mode }
 {
-    match entry {
-        None => unreachable!(),
-        Some(entry) => {
-            entry.timeout = timeout;
-            match entry.mode {
-                Mode::Idle(waits_for) => {
-                    let tick = wait_from(now, timeout);
-                    entry.mode = Mode::Idle(tick);
-                    Timing::Rearms(entry.alarm, waits_for, tick)
-                }
-                Mode::Queued | Mode::Running => Timing::Keeps,
-            }
+    entry.timeout = timeout;
+    match entry.mode {
+        Mode::Idle(waits_for) => {
+            let tick = wait_from(now, timeout);
+            entry.mode = Mode::Idle(tick);
+            Timing::Rearms(entry.alarm, waits_for, tick)
         }
+        Mode::Queued | Mode::Running => Timing::Keeps,
     }
 }
 
 /// The actor's turn begins.
-pub fn start(entry: &mut Option<Entry>)
-    requires { is_some entry.old ≡ true }
-    ensures { entry.new ≡ option_map (entry_in place.Running) entry.old }
+#[inline(always)]
+pub fn start(entry: &mut Entry)
+    ensures { entry.new ≡ entry_in place.Running entry.old }
 {
-    match entry {
-        None => unreachable!(),
-        Some(entry) => entry.mode = Mode::Running,
-    }
+    entry.mode = Mode::Running;
 }
 
 /// What the actor gets that has its turn: its first message, if any.
@@ -180,23 +151,18 @@ pub fn taken<M>(got: &Got<M>) -> u64
 }
 
 /// The actor's turn ends, and it goes on.
-pub fn end_turn(entry: &mut Option<Entry>, now: u64) -> Rest
-    requires { is_some entry.old ≡ true }
-    ensures becomes { entry.new ≡ option_map (rested_entry now) entry.old }
-    ensures rest { IfSome entry.old (λ e. result ≡ rest_in now e.alarm e.timeout (e.mailbox.count == 0)) }
+#[inline(always)]
+pub fn end_turn(entry: &mut Entry, now: u64) -> Rest
+    ensures becomes { entry.new ≡ rested_entry now entry.old }
+    ensures rest { result ≡ rest_in now entry.old.alarm entry.old.timeout (entry.old.mailbox.count == 0) }
 {
-    match entry {
-        None => unreachable!(),
-        Some(entry) => {
-            if entry.mailbox.count == 0 {
-                let tick = wait_from(now, entry.timeout);
-                entry.mode = Mode::Idle(tick);
-                Rest::Waits(entry.alarm, tick)
-            } else {
-                entry.mode = Mode::Queued;
-                Rest::Again
-            }
-        }
+    if entry.mailbox.count == 0 {
+        let tick = wait_from(now, entry.timeout);
+        entry.mode = Mode::Idle(tick);
+        Rest::Waits(entry.alarm, tick)
+    } else {
+        entry.mode = Mode::Queued;
+        Rest::Again
     }
 }
 
@@ -205,21 +171,6 @@ pub fn end_turn(entry: &mut Option<Entry>, now: u64) -> Rest
 pub struct Gone {
     pub alarm: usize,
     pub letters: u64,
-}
-
-/// What is left of an actor.
-pub fn left_of(entry: &Option<Entry>) -> Gone
-    requires { is_some entry.now ≡ true }
-    ensures alarm { IfSome entry.now (λ e. result.alarm ≡ e.alarm) }
-    ensures letters { IfSome entry.now (λ e. result.letters ≡ e.mailbox.count) }
-{
-    match entry {
-        None => unreachable!(),
-        Some(entry) => Gone {
-            alarm: entry.alarm,
-            letters: entry.mailbox.count as u64,
-        },
-    }
 }
 
 /// The tick of a clock's reading: milliseconds, rounded down.
@@ -231,12 +182,9 @@ pub fn clock_tick(now: Instant) -> u64
 }
 
 /// The actor's timeout has come, and it is queued.
-pub fn ring(entry: &mut Option<Entry>)
-    requires { is_some entry.old ≡ true }
-    ensures { entry.new ≡ option_map (entry_in place.Queued) entry.old }
+#[inline(always)]
+pub fn ring(entry: &mut Entry)
+    ensures { entry.new ≡ entry_in place.Queued entry.old }
 {
-    match entry {
-        None => unreachable!(),
-        Some(entry) => entry.mode = Mode::Queued,
-    }
+    entry.mode = Mode::Queued;
 }

@@ -1,5 +1,5 @@
 // What is kept of all actors: the entry of each, and the letters of all mailboxes in one store.
-ghost use Rattle.std.specs.Prelude.{◌≡◌, ◌<◌, ◌+◌, ◌^◌, true, [], ◌∷◌, ◌++◌, None, Some, OnOk, OnErr, IfOk, IfErr, IfSome, is_some, length, slice_set, vec_len, vec_capacity};
+ghost use Rattle.std.specs.Prelude.{◌≡◌, ◌<◌, ◌+◌, ◌-◌, ◌^◌, true, [], ◌∷◌, ◌++◌, None, Some, OnOk, OnErr, IfOk, IfErr, IfSome, is_some, length, slice_set};
 ghost use Rattle.slab.specs.Slab.{slab_len};
 ghost use Rattle.mono_model.specs.Table.{value_at};
 ghost use Rattle.mono_actor.specs.Actors.{idle, queued, got_in, in_mode};
@@ -9,23 +9,24 @@ ghost use Rattle.mono_actor.specs.Once.{found};
 ghost use Rattle.mono_actor.specs.declared.places.Mode.TheVariants as place;
 
 use crate::answers::Got;
-use crate::mailboxes::{Letter, Link, put, take};
+use crate::mailboxes::{Letter, Link, Mailbox, put, take};
 use crate::places::{
-    Entry, Gone, Receipt, Rest, Timing, end_turn, got_of, left_of, mailbox_at, new_entry, notify,
-    ring, set_mailbox, set_timeout, start,
+    Entry, Gone, Receipt, Rest, Timing, end_turn, got_of, new_entry, notify, ring, set_mailbox,
+    set_timeout, start,
 };
+use mono_table::Table;
 use slab::Slab;
 use std::alloc::{AllocError, Global};
 
 /// Actors at their numbers, none where one is gone, and the letters in their mailboxes.
 ///
 /// A letter takes memory of the one store for all mailboxes, which can be used again once it is taken out. An actor without
-/// letters takes that of its entry alone.
+/// letters takes that of its entry alone, in a table whose memory follows the actors that are live.
 #[derive(Drop)]
 pub(crate) struct Store<M> {
-    entries: Vec<Option<Entry>>,
+    entries: Table<Entry>,
     links: Slab<Link<M>>,
-    pub ghost sound: { Sound links.slots (slab_len links) entries.items } by { Prim.hlevel found },
+    pub ghost sound: { Sound links.slots (slab_len links) entries } by { Prim.hlevel found },
 }
 
 impl<M> Store<M> {
@@ -36,44 +37,61 @@ impl<M> Store<M> {
         ensures { places_of result ≡ [] }
     {
         Store {
-            entries: Vec::new(alloc),
+            entries: Table::new(alloc),
             links: Slab::new(alloc),
         }
     }
 
     /// How many numbers were given.
-    pub(crate) fn len(&self) -> usize
-        ensures number { result ≡ length (places_of self.now) }
-        ensures range { result < 2 ^ 63 }
+    pub(crate) fn len(&self) -> u64
+        ensures { result ≡ length (places_of self.now) }
     {
         self.entries.len()
     }
 
     /// Whether a number has an actor.
+    #[inline(always)]
     pub(crate) fn is_there(&self, actor: u64) -> bool
         ensures { result ≡ is_some (value_at (places_of self.now) actor) }
     {
-        let at = actor as usize;
-        if at >= self.entries.len() {
-            return false;
+        self.entries.get(actor).is_some()
+    }
+
+    /// A new actor at the next number, with this key. Refused only if the allocation failed; nothing changed then.
+    pub(crate) fn push(&mut self, alloc: Global, alarm: usize) -> Result<(), AllocError>
+        requires { length (places_of self.old) < 2 ^ 64 - 1 }
+        ensures after { OnOk result (places_of self.new ≡ places_of self.old ++ Some (record { mode = place.Idle None; mailbox = []; timeout = 0; alarm = alarm }) ∷ []) }
+        ensures refused { OnErr result (places_of self.new ≡ places_of self.old) }
+    {
+        self.entries.push(alloc, new_entry(alarm))
+    }
+
+    // The mailbox of an actor.
+    #[inline(always)]
+    fn mailbox(&self, actor: u64) -> Mailbox
+        requires { is_some (value_at self.now.entries actor) ≡ true }
+        ensures { IfSome (value_at self.now.entries actor) (λ e. result ≡ e.mailbox) }
+    {
+        match self.entries.get(actor) {
+            None => unreachable!(),
+            Some(entry) => entry.mailbox,
         }
-        self.entries[at].is_some()
     }
 
-    /// Makes room for one more actor. Refused only for want of memory; all stays in either case.
-    pub(crate) fn reserve(&mut self) -> Result<(), AllocError>
-        ensures room { OnOk result (vec_len self.new.entries < vec_capacity self.new.entries) }
-        ensures kept { places_of self.new ≡ places_of self.old }
+    // What is left of an actor once it is gone.
+    #[inline(always)]
+    fn left(&self, actor: u64) -> Gone
+        requires { is_some (value_at self.now.entries actor) ≡ true }
+        ensures alarm { IfSome (value_at self.now.entries actor) (λ e. result.alarm ≡ e.alarm) }
+        ensures letters { IfSome (value_at self.now.entries actor) (λ e. result.letters ≡ e.mailbox.count) }
     {
-        self.entries.reserve(1)
-    }
-
-    /// A new actor at the next number, with this key. It takes no memory: there is room.
-    pub(crate) fn push_reserved(&mut self, alarm: usize)
-        requires { vec_len self.old.entries < vec_capacity self.old.entries }
-        ensures { places_of self.new ≡ places_of self.old ++ Some (record { mode = place.Idle None; mailbox = []; timeout = 0; alarm = alarm }) ∷ [] }
-    {
-        self.entries.push_reserved(Some(new_entry(alarm)));
+        match self.entries.get(actor) {
+            None => unreachable!(),
+            Some(entry) => Gone {
+                alarm: entry.alarm,
+                letters: entry.mailbox.count as u64,
+            },
+        }
     }
 
     // Takes the first letter out, if any.
@@ -82,10 +100,9 @@ impl<M> Store<M> {
         ensures taken { Changes unread actor (places_of self.old) (places_of self.new) }
         ensures first { IfSome (value_at (places_of self.old) actor) (λ p. result ≡ first_of p.mailbox) }
     {
-        let at = actor as usize;
-        let mailbox = mailbox_at(&self.entries[at]);
+        let mailbox = self.mailbox(actor);
         let taken = take(&mut self.links, mailbox)?;
-        set_mailbox(&mut self.entries[at], taken.rest);
+        set_mailbox(self.entries.value_mut(actor), taken.rest);
         Some(taken.letter)
     }
 
@@ -97,10 +114,9 @@ impl<M> Store<M> {
         ensures receipt { IfOk result (λ receipt. IfSome (value_at (places_of self.old) actor) (λ p. receipt ≡ receipt_of p)) }
         ensures refused { IfErr result (λ back. (back ≡ letter) × (places_of self.new ≡ places_of self.old)) }
     {
-        let at = actor as usize;
-        let mailbox = mailbox_at(&self.entries[at]);
+        let mailbox = self.mailbox(actor);
         let longer = put(&mut self.links, mailbox, letter)?;
-        Ok(notify(&mut self.entries[at], longer))
+        Ok(notify(self.entries.value_mut(actor), longer))
     }
 
     /// The actor has another timeout. An idle one waits anew from now.
@@ -109,7 +125,7 @@ impl<M> Store<M> {
         ensures becomes { Changes (timed_actor now timeout) actor (places_of self.old) (places_of self.new) }
         ensures timing { IfSome (value_at (places_of self.old) actor) (λ p. result ≡ timing_of now timeout p) }
     {
-        set_timeout(&mut self.entries[actor as usize], now, timeout)
+        set_timeout(self.entries.value_mut(actor), now, timeout)
     }
 
     /// The actor's turn begins, with its first message or a timeout.
@@ -119,7 +135,7 @@ impl<M> Store<M> {
         ensures got { IfSome (value_at (places_of self.old) actor) (λ p. result ≡ got_in p.mailbox) }
     {
         let letter = self.take(actor);
-        start(&mut self.entries[actor as usize]);
+        start(self.entries.value_mut(actor));
         got_of(letter)
     }
 
@@ -129,7 +145,7 @@ impl<M> Store<M> {
         ensures becomes { Changes (rested now) actor (places_of self.old) (places_of self.new) }
         ensures rest { IfSome (value_at (places_of self.old) actor) (λ p. result ≡ rest_of_turn now p) }
     {
-        end_turn(&mut self.entries[actor as usize], now)
+        end_turn(self.entries.value_mut(actor), now)
     }
 
     /// The actor's timeout has come, and it is queued.
@@ -137,7 +153,7 @@ impl<M> Store<M> {
         requires { is_some (value_at (places_of self.old) actor) ≡ true }
         ensures { Changes (λ a. in_mode a queued) actor (places_of self.old) (places_of self.new) }
     {
-        ring(&mut self.entries[actor as usize]);
+        ring(self.entries.value_mut(actor));
     }
 }
 
@@ -151,9 +167,9 @@ impl<M: Drop> Store<M> {
         ensures alarm { IfSome (value_at (places_of self.old) actor) (λ p. result.alarm ≡ p.alarm) }
         ensures letters { IfSome (value_at (places_of self.old) actor) (λ p. result.letters ≡ length p.mailbox) }
     {
-        let left = left_of(&self.entries[actor as usize]);
+        let left = self.left(actor);
         while let Some(_) = self.take(actor) {}
-        self.entries[actor as usize] = None;
+        self.entries.remove(actor);
         left
     }
 }

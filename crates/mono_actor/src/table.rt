@@ -1,5 +1,5 @@
 // Actors by their numbers, and the queue of those that run next.
-ghost use Rattle.std.specs.Prelude.{◌≡◌, ◌<◌, ◌≤◌, ℕ, ◌+◌, true, None, Some, IfOk, OnOk, IfErr, OnErr, IfSome, is_some, vec_len, vec_capacity};
+ghost use Rattle.std.specs.Prelude.{◌≡◌, ◌<◌, ◌≤◌, ◌^◌, ℕ, ◌+◌, ◌-◌, true, None, Some, IfOk, OnOk, IfErr, OnErr, IfSome, is_some, length, vec_len, vec_capacity};
 ghost use Rattle.std.specs.VecDeque.{deque_capacity};
 ghost use Rattle.mono_model.specs.Table.{value_at, count_of};
 ghost use Rattle.mono_actor.specs.Keeping.{Holds};
@@ -20,7 +20,8 @@ use std::sync::ledger::Ledger;
 ///
 /// An actor is idle, queued or running. What an actor does in its turn is any code between [`Actors::begin`] and
 /// [`Actors::end`]. Numbers count from 0 and are never given twice. Timeouts are in milliseconds of the clock of
-/// [`Actors::clock`]. Only `new`, `spawn` and `send` take memory; an actor without messages takes that of its entry. A
+/// [`Actors::clock`]. Only `new`, `spawn` and `send` take memory; an actor without messages takes that of its entry, and
+/// the memory of all entries follows the actors that are live, not those that were ever made. A
 /// message takes memory of one store for all mailboxes, which can be used again once it is read.
 #[derive(Drop)]
 pub struct Actors<M> {
@@ -85,7 +86,10 @@ impl<M> Actors<M> {
         if self.live >= self.most_actors {
             return Err(ActorError::AtCapacity);
         }
-        let number = self.places.len() as u64;
+        let number = self.places.len();
+        if number == u64::MAX {
+            return Err(ActorError::AtCapacity);
+        }
         match self.enter(alloc) {
             Ok(()) => Ok(number),
             Err(_) => Err(ActorError::Memory),
@@ -94,20 +98,23 @@ impl<M> Actors<M> {
 
     // A place for a new actor.
     fn enter(&mut self, alloc: Global) -> Result<(), AllocError>
-        requires { self.old.live < self.old.most_actors }
+        requires room { self.old.live < self.old.most_actors }
+        requires number { length (places_of self.old.places) < 2 ^ 64 - 1 }
         ensures entered { OnOk result (actors_of self.new ≡ spawned (actors_of self.old)) }
         ensures refused { OnErr result (actors_of self.new ≡ actors_of self.old) }
     {
         self.queue
             .reserve(self.live as usize + 1 - self.queue.len())?;
-        self.places.reserve()?;
-        match self.alarms.add(alloc, self.places.len() as u64) {
-            Ok(alarm) => {
-                self.places.push_reserved(alarm);
+        let alarm = self.alarms.add(alloc, self.places.len())?;
+        match self.places.push(alloc, alarm) {
+            Ok(()) => {
                 self.live += 1;
                 Ok(())
             }
-            Err(error) => Err(error),
+            Err(error) => {
+                self.alarms.free(alarm);
+                Err(error)
+            }
         }
     }
 

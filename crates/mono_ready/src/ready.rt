@@ -1,5 +1,6 @@
 // A table by number, and a place of it that stands ready for the next number.
 ghost use Rattle.std.specs.Prelude.{◌≡◌, ◌++◌, ◌∷◌, true, [], None, IfErr, OnOk, OnErr, is_some, Some};
+ghost use Rattle.std.specs.Option.{option_copied};
 ghost use Rattle.mono_model.specs.Table.{value_at, count_of, next_number, with_next, with_value, without};
 ghost use Rattle.mono_ready.specs.Ready.{HasPlace};
 
@@ -63,6 +64,17 @@ impl<T> ReadyTable<T> {
         ensures { result ≡ is_some (value_at self.now.table number) }
     {
         number < self.next && self.places.get(number).is_some()
+    }
+
+    /// Returns the value of a number. None if it was removed or was never given out.
+    #[inline(always)]
+    pub fn get(&self, number: u64) -> Option<&T>
+        ensures { option_copied result ≡ value_at self.now.table number }
+    {
+        if number >= self.next {
+            return None;
+        }
+        self.places.get(number)
     }
 }
 

@@ -1,10 +1,9 @@
 -- The sleeps of sessions, and what a keeper's tables stand for after a call.
 use Rattle.std.proofs.Common.{◌≡◌, ◌≢◌, ◌<◌, ◌≤◌, ◌⊎◌, inl, inr, ℕ, ◌+◌, ◌-◌, ◌^◌, true, false, Bool, cond, [], ◌∷◌, length, Some, None, Option, refl, ap, sym, ◌∙◌, subst, arith}
 use Rattle.std.specs.Prelude.{◌==◌, ◌||◌, not, is_some, nat_eq, nat_lt, nat_le, map, set, Result, Ok, Err, IsOk, IfOk, is_err}
-use Rattle.std.specs.HashMap.{get}
 use Rattle.std.proofs.lemmas.Bool.{cases_eq, cases_lt}
 use Rattle.std.proofs.lemmas.Bool.Decides.{leb_tells, nat_tests}
-use Rattle.std.proofs.lemmas.List.{get_or-set_other, get_or-set_same, get_or_past, length-map, map-append, map-set, set-set}
+use Rattle.std.proofs.lemmas.List.{get_or-set_other, get_or-set_same, get_or_past, length-append, length-set, length-map, map-append, map-set, set-set}
 use Rattle.std.proofs.Math.ListN.{get_or-map}
 use Rattle.std.proofs.Math.Seq.{set-append_seam}
 use Rattle.mono_model.proofs.Counts.{counted, counted-count_of, count_of-with_value, count_of-with_next}
@@ -14,6 +13,7 @@ use Rattle.mono_model.specs.declared.error.SleepError.TheVariants as why
 use Rattle.mono_model.specs.declared.error.Error.TheVariants as cause
 use Rattle.mono_time.specs.Sleeps.{SleepTable, Added, with_added_sleep, armed, fresh, elapsed, with_table, at_tick, changed_value, with_removed_sleep, removed_value, with_fired_sleep, kept_waker}
 use Rattle.mono_time.specs.Timers.{sleeps_of, elapsed_tick}
+use Rattle.mono_ready.specs.Ready.{Places}
 use Rattle.mono_session.specs.Keeper.{Session, Keeper, closing_tick, last_tick, with_sessions, with_greatest, without_session, if_granted, is_open, open_answer, opened, beat_answer, beaten, beaten_value, close_answer, closed}
 use Rattle.mono_model.specs.Memory.{OrLacksMemory}
 use Rattle.mono_session.specs.Sleeping.{Arms}
@@ -83,10 +83,11 @@ sleep_opened k limit tick is less =
     ∙ ap (with_table (sleeps_from k)) (sym (map-append sleep_of k.sessions (Some record { last_beat = k.greatest; limit = limit } ∷ [])))
 
 -- ---- what stays
-pub beside_alike : (old new : Sessions) (k : Keeper) → ((q : ℕ) → get nat_eq new.limits q ≡ get nat_eq old.limits q) → open_count new ≡ open_count old → new.entries ≡ old.entries → new.most_entries ≡ old.most_entries → Beside old k → Beside new k
-beside_alike old new k limits count entries most beside = record {
-  limits = λ q. limits q ∙ beside.limits q;
-  open_len = count ∙ beside.open_len;
+pub beside_alike : (old new : Sessions) (k : Keeper) → new.limits.table ≡ old.limits.table → new.entries ≡ old.entries → new.most_entries ≡ old.most_entries → Beside old k → Beside new k
+beside_alike old new k limits entries most beside = record {
+  limits = λ q. ap (λ t. value_at t q) limits ∙ beside.limits q;
+  numbers = ap length limits ∙ beside.numbers;
+  open_len = ap count_of limits ∙ beside.open_len;
   entries = subst (λ e. Rattle.mono_session.specs.Entered.Entered e k.entries) (sym entries) beside.entries;
   most_entries = most ∙ beside.most_entries;
 }
@@ -119,33 +120,28 @@ open_refused sessions k limit e is stands = inl (sym is, subst (StandsFor sessio
 pub open_lacks : (sessions : Sessions) (k : Keeper) (limit : ℕ) → open_answer k limit ≡ Ok (next_number k.sessions) → StandsFor sessions k → OrLacksMemory Memory (open_answer k limit) k (opened k limit) (StandsFor sessions) (Err Memory)
 open_lacks sessions k limit is stands = inr (subst (λ (r : Result ℕ SessionError). IsOk r) (sym is) refl, refl, stands)
 
-limit_of_new : (k : Keeper) (limit q : ℕ) → limit_in (value_at (with_next k.sessions (record { last_beat = k.greatest; limit = limit })) q) ≡ cond (nat_eq (length k.sessions) q) (Some limit) (limit_in (value_at k.sessions q))
-limit_of_new k limit q = elim (cases_eq (length k.sessions) q) [
-  | inl same ↦ ap limit_in (ap (value_at (with_next k.sessions new)) (sym same) ∙ value_last k.sessions new) ∙ sym (ap (λ b. cond b (Some limit) (limit_in (value_at k.sessions q))) (tells same))
-  | inr apart ↦ elim (cases_lt q (length k.sessions)) [
-    | inl inside ↦ ap limit_in (value_before k.sessions new q inside) ∙ sym (ap (λ b. cond b (Some limit) (limit_in (value_at k.sessions q))) (tells_not apart))
-    | inr past ↦ ap limit_in (value_past k.sessions new q (omega (arith, past, apart)) ∙ sym (get_or_past k.sessions q None past)) ∙ sym (ap (λ b. cond b (Some limit) (limit_in (value_at k.sessions q))) (tells_not apart))
+limit_of_new : (old : Sessions) (k : Keeper) (limit q : ℕ) → Beside old k → value_at (with_next old.limits.table limit) q ≡ limit_in (value_at (with_next k.sessions (record { last_beat = k.greatest; limit = limit })) q)
+limit_of_new old k limit q beside = elim (cases_lt q (length k.sessions)) [
+  | inl inside ↦ value_before old.limits.table limit q (omega (arith, inside, beside.numbers)) ∙ beside.limits q ∙ sym (ap limit_in (value_before k.sessions new q inside))
+  | inr past ↦ elim (cases_eq q (length k.sessions)) [
+    | inl last ↦ ap (value_at (with_next old.limits.table limit)) (last ∙ sym beside.numbers) ∙ value_last old.limits.table limit
+        ∙ sym (ap limit_in (ap (value_at (with_next k.sessions new)) last ∙ value_last k.sessions new))
+    | inr apart ↦ value_past old.limits.table limit q (omega (arith, past, apart, beside.numbers)) ∙ sym (ap limit_in (value_past k.sessions new q (omega (arith, past, apart))))
   ]
 ]
   where
     new : Session
     new = record { last_beat = k.greatest; limit = limit }
 
-    tells : length k.sessions ≡ q → nat_eq (length k.sessions) q ≡ true
-    tells same = grind (arith, nat_tests)
-
-    tells_not : length k.sessions ≢ q → nat_eq (length k.sessions) q ≡ false
-    tells_not apart = grind (arith, nat_tests)
-
 nonzero : (limit g : ℕ) → (limit == 0) ≡ false → g < g + limit
 nonzero limit g e = grind (arith, nat_tests)
 
 pub opens : (old new : Sessions) (k : Keeper) (limit session tick : ℕ) → StandsFor old k → is_full k.sessions k.most_sessions ≡ false → nat_lt last_tick (k.greatest + limit) ≡ false → (limit == 0) ≡ false
     → Arms (sleeps_of old.timers) tick (Ok session) (sleeps_of new.timers) → tick ≡ k.greatest + limit
-    → ((q : ℕ) → get nat_eq new.limits q ≡ cond (nat_eq session q) (Some limit) (get nat_eq old.limits q)) → (get nat_eq old.limits session ≡ None → open_count new ≡ open_count old + 1)
+    → new.limits.table ≡ with_next old.limits.table limit
     → new.entries ≡ old.entries → new.most_entries ≡ old.most_entries → elapsed_tick new.timers ≡ elapsed_tick old.timers
     → OrLacksMemory Memory (open_answer k limit) k (opened k limit) (StandsFor new) (Ok session)
-opens old new k limit session tick stands full late none armed-so is limits count entries most rests =
+opens old new k limit session tick stands full late none armed-so is limits entries most rests =
     inl (
       ap Ok number ∙ sym told,
       subst (StandsFor new) (sym granted) (record {
@@ -153,8 +149,9 @@ opens old new k limit session tick stands full late none armed-so is limits coun
           sleeps = armed-so.2 ∙ ap (λ sl. with_table sl (with_next sl.table (at_tick sl.greatest tick None))) stands.matches.sleeps
               ∙ sleep_opened k limit tick is (omega (arith, is, nonzero limit k.greatest none));
           beside = record {
-            limits = λ q. limits q ∙ ap (λ s. cond (nat_eq s q) (Some limit) (get nat_eq old.limits q)) number ∙ ap (cond (nat_eq (length k.sessions) q) (Some limit)) (stands.matches.beside.limits q) ∙ sym (limit_of_new k limit q);
-            open_len = count absent ∙ ap (λ n. n + 1) stands.matches.beside.open_len ∙ sym (count_of-with_next k.sessions (record { last_beat = k.greatest; limit = limit }));
+            limits = λ q. ap (λ t. value_at t q) limits ∙ limit_of_new old k limit q stands.matches.beside;
+            numbers = ap length limits ∙ omega (arith, length-append old.limits.table (Some limit ∷ []), length-append k.sessions (Some record { last_beat = k.greatest; limit = limit } ∷ []), stands.matches.beside.numbers);
+            open_len = ap count_of limits ∙ count_of-with_next old.limits.table limit ∙ ap (λ n. n + 1) stands.matches.beside.open_len ∙ sym (count_of-with_next k.sessions (record { last_beat = k.greatest; limit = limit }));
             entries = subst (λ e. Rattle.mono_session.specs.Entered.Entered e k.entries) (sym entries) stands.matches.beside.entries;
             most_entries = most ∙ stands.matches.beside.most_entries;
           };
@@ -173,11 +170,8 @@ opens old new k limit session tick stands full late none armed-so is limits coun
     number : session ≡ length k.sessions
     number = armed-so.1 ∙ ap (λ sl. length sl.table) stands.matches.sleeps ∙ length-map k.sessions sleep_of
 
-    absent : get nat_eq old.limits session ≡ None
-    absent = stands.matches.beside.limits session ∙ ap limit_in (get_or_past k.sessions session None (omega (arith, number)))
-
 -- ---- beat
-pub beats : (old new : Sessions) (k : Keeper) (s limit tick : ℕ) → StandsFor old k → get nat_eq old.limits s ≡ Some limit → nat_lt last_tick (k.greatest + limit) ≡ false → tick ≡ k.greatest + limit
+pub beats : (old new : Sessions) (k : Keeper) (s limit tick : ℕ) → StandsFor old k → value_at old.limits.table s ≡ Some limit → nat_lt last_tick (k.greatest + limit) ≡ false → tick ≡ k.greatest + limit
     → sleeps_of new.timers ≡ changed_value (value_at (sleeps_of old.timers).table s) (sleeps_of old.timers) s (λ kept. at_tick (sleeps_of old.timers).greatest tick (kept_waker kept))
     → new.limits ≡ old.limits → new.entries ≡ old.entries → new.most_entries ≡ old.most_entries → elapsed_tick new.timers ≡ elapsed_tick old.timers
     → (Ok tt ≡ beat_answer k s) × StandsFor new (beaten k s)
@@ -197,8 +191,9 @@ beats old new k s limit tick stands at late is sleeps limits entries most rests 
               sleeps = sleeps ∙ ap (λ sl. changed_value (value_at sl.table s) sl s (λ kept. at_tick sl.greatest tick (kept_waker kept))) stands.matches.sleeps
                   ∙ sleep_beaten k s tick session here (is ∙ ap (λ n. k.greatest + n) same) above-now;
               beside = record {
-                limits = λ q. ap (λ m. get nat_eq m q) limits ∙ stands.matches.beside.limits q ∙ stays q session here;
-                open_len = ap Rattle.std.specs.HashMap.hash_map_len limits ∙ stands.matches.beside.open_len ∙ sym (count_of-with_value k.sessions s session (record { last_beat = k.greatest; limit = session.limit }) here);
+                limits = λ q. ap (λ (m : Places ℕ). value_at m.table q) limits ∙ stands.matches.beside.limits q ∙ stays q session here;
+                numbers = ap (λ (m : Places ℕ). next_number m.table) limits ∙ stands.matches.beside.numbers ∙ sym (length-set k.sessions s _);
+                open_len = ap (λ (m : Places ℕ). count_of m.table) limits ∙ stands.matches.beside.open_len ∙ sym (count_of-with_value k.sessions s session (record { last_beat = k.greatest; limit = session.limit }) here);
                 entries = subst (λ e. Rattle.mono_session.specs.Entered.Entered e k.entries) (sym entries) stands.matches.beside.entries;
                 most_entries = most ∙ stands.matches.beside.most_entries;
               };
@@ -216,7 +211,7 @@ beats old new k s limit tick stands at late is sleeps limits entries most rests 
         ]
 
 -- ---- close
-pub closes : (old new : Sessions) (k : Keeper) (s : ℕ) → StandsFor old k → is_some (get nat_eq old.limits s) ≡ true → sleeps_of new.timers ≡ with_removed_sleep (sleeps_of old.timers) s → Beside new (without_session k s) → elapsed_tick new.timers ≡ elapsed_tick old.timers
+pub closes : (old new : Sessions) (k : Keeper) (s : ℕ) → StandsFor old k → is_some (value_at old.limits.table s) ≡ true → sleeps_of new.timers ≡ with_removed_sleep (sleeps_of old.timers) s → Beside new (without_session k s) → elapsed_tick new.timers ≡ elapsed_tick old.timers
     → (Ok tt ≡ close_answer k s) × StandsFor new (closed k s)
 closes old new k s stands at sleeps beside rests = by (value_at k.sessions s) refl (sym at ∙ ap is_some (stands.matches.beside.limits s))
   where
@@ -260,10 +255,9 @@ pub nonzero-tells : (n : ℕ) → n ≢ 0 → (n == 0) ≡ false
 nonzero-tells n e = grind (arith, nat_tests)
 
 -- ---- what is as it was
-pub stands_alike : (old new : Sessions) (k : Keeper) → sleeps_of new.timers ≡ sleeps_of old.timers → ((q : ℕ) → get nat_eq new.limits q ≡ get nat_eq old.limits q) → open_count new ≡ open_count old
-    → new.entries ≡ old.entries → new.most_entries ≡ old.most_entries → elapsed_tick new.timers ≡ elapsed_tick old.timers → StandsFor old k → StandsFor new k
-stands_alike old new k sleeps limits count entries most rests stands = record {
-  matches = record { sleeps = sleeps ∙ stands.matches.sleeps; beside = beside_alike old new k limits count entries most stands.matches.beside };
+pub stands_alike : (old new : Sessions) (k : Keeper) → sleeps_of new.timers ≡ sleeps_of old.timers → new.limits.table ≡ old.limits.table → new.entries ≡ old.entries → new.most_entries ≡ old.most_entries → elapsed_tick new.timers ≡ elapsed_tick old.timers → StandsFor old k → StandsFor new k
+stands_alike old new k sleeps limits entries most rests stands = record {
+  matches = record { sleeps = sleeps ∙ stands.matches.sleeps; beside = beside_alike old new k limits entries most stands.matches.beside };
   timely = stands.timely;
   rests = rests ∙ stands.rests;
 }
@@ -277,8 +271,3 @@ unchanged_by old new nanos (why.Timer cause.Invalid) added = absurd added
 pub ok_unless : {T E : Type 0} (r : Result T E) → is_err r ≡ false → IsOk r
 ok_unless (Ok x) e = refl
 ok_unless (Err x) e = cc
-
--- a number that was not there is one more
-pub one_more : {X E : Type 0} (r : Result (Option X) E) (got : Option X) (new old : ℕ) → IsOk r → IfOk r (λ o. o ≡ got) → IfOk r (λ o. new ≡ old + cond (is_some o) 0 1) → got ≡ None → new ≡ old + 1
-one_more (Err e) got new old ok was len none = cc
-one_more (Ok o) got new old ok was len none = len ∙ ap (λ x. old + cond (is_some x) 0 1) (was ∙ none)

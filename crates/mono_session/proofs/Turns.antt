@@ -4,14 +4,13 @@ use Rattle.std.specs.Prelude.{AllPairs, Contains, is_some, true}
 use Rattle.std.proofs.lemmas.Bool.{cases_eq, cases_lt}
 use Rattle.std.proofs.lemmas.List.{get_or-set_other, get_or-set_same, get_or_past}
 use Rattle.std.proofs.lemmas.List.Elements.{Contains-get_or}
-use Rattle.mono_model.specs.Table.{Table, value_at, without}
+use Rattle.mono_model.specs.Table.{Table, value_at, next_number, count_of, without}
 use Rattle.mono_model.specs.Due.{HasCome, Ascends, ListsDue}
 use Rattle.mono_model.specs.Ticks.{down}
 use Rattle.mono_time.specs.Sleeps.{armed, IsNoneArmedUpTo, IsFiredFirst}
 use Rattle.mono_session.specs.Keeper.{Session, Keeper, with_greatest, without_session, is_open}
 use Rattle.mono_session.specs.Steps.{closing_value, greatest_at, without_all}
-use Rattle.std.specs.Prelude.{nat_eq}
-use Rattle.std.specs.HashMap.{get, hash_map_len}
+use Rattle.mono_ready.specs.Ready.{Places}
 use Rattle.mono_session.specs.Entered.{Entered}
 use Rattle.mono_session.specs.declared.keeper.Sessions.{Sessions}
 use Rattle.mono_session.specs.Stands.{sleep_of, sleeps_from, Beside}
@@ -165,8 +164,9 @@ clock-again k n s = ap (λ g. with_greatest (without_session (with_greatest k (g
 -- what does not hang on the clock
 pub beside_clock : (old new : Sessions) (k : Keeper) (g : ℕ) → new.limits ≡ old.limits → new.entries ≡ old.entries → new.most_entries ≡ old.most_entries → Beside old k → Beside new (with_greatest k g)
 beside_clock old new k g limits entries most beside = record {
-  limits = λ q. ap (λ m. get nat_eq m q) limits ∙ beside.limits q;
-  open_len = ap hash_map_len limits ∙ beside.open_len;
+  limits = λ q. ap (λ (m : Places ℕ). value_at m.table q) limits ∙ beside.limits q;
+  numbers = ap (λ (m : Places ℕ). next_number m.table) limits ∙ beside.numbers;
+  open_len = ap (λ (m : Places ℕ). count_of m.table) limits ∙ beside.open_len;
   entries = subst (λ e. Entered e k.entries) (sym entries) beside.entries;
   most_entries = most ∙ beside.most_entries;
 }

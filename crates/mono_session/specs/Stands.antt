@@ -1,7 +1,6 @@
 -- For which sessions and queues a keeper's tables stand.
-use Rattle.std.specs.Prelude.{◌≡◌, ◌<◌, ◌≤◌, ℕ, true, map, Option, Some, None, nat_eq}
-use Rattle.std.specs.HashMap.{get, hash_map_len}
-use Rattle.mono_model.specs.Table.{value_at, count_of}
+use Rattle.std.specs.Prelude.{◌≡◌, ◌<◌, ◌≤◌, ℕ, true, map, Option, Some, None}
+use Rattle.mono_model.specs.Table.{value_at, next_number, count_of}
 use Rattle.mono_time.specs.Sleeps.{Kept, armed, SleepTable}
 use Rattle.mono_time.specs.Timers.{sleeps_of, elapsed_tick, credit_left}
 use Rattle.mono_session.specs.Keeper.{Session, Keeper, closing_tick}
@@ -22,7 +21,7 @@ limit_in (Some session) = Some session.limit
 
 -- how many sessions are open
 abbrev pub open_count : Sessions → ℕ
-open_count sessions = hash_map_len sessions.limits
+open_count sessions = count_of sessions.limits.table
 
 -- how many steps the wheel has still to take at most for the open sessions
 abbrev pub steps_left : Sessions → ℕ
@@ -30,7 +29,8 @@ steps_left sessions = credit_left sessions.timers
 
 -- the limits and the entries are those of the keeper
 pub record Beside (sessions : Sessions) (keeper : Keeper) : Type 0 where
-  pub limits : (s : ℕ) → get nat_eq sessions.limits s ≡ limit_in (value_at keeper.sessions s)
+  pub limits : (s : ℕ) → value_at sessions.limits.table s ≡ limit_in (value_at keeper.sessions s)
+  pub numbers : next_number sessions.limits.table ≡ next_number keeper.sessions
   pub open_len : open_count sessions ≡ count_of keeper.sessions
   pub entries : Entered sessions.entries keeper.entries
   pub most_entries : sessions.most_entries ≡ keeper.most_entries

@@ -1,5 +1,5 @@
 // The sessions, over timers and queues.
-ghost use Rattle.std.specs.Prelude.{◌≡◌, ◌≤◌, ◌+◌, ◌++◌, ◌∷◌, [], ℕ, List, true, false, Some, if◌then◌else◌, IfOk, vec_len, vec_capacity};
+ghost use Rattle.std.specs.Prelude.{◌≡◌, ◌≤◌, ◌+◌, ◌++◌, ◌∷◌, [], ℕ, List, true, false, Some, if◌then◌else◌, IfOk, OnErr, vec_len, vec_capacity};
 ghost use Rattle.mono_model.specs.Due.{ListsDue};
 ghost use Rattle.mono_model.specs.Table.{value_at, count_of};
 ghost use Rattle.mono_time.specs.Instants.{nanos_of};
@@ -15,10 +15,10 @@ ghost use Rattle.mono_session.specs.declared.error.SessionError.TheVariants as e
 use crate::SessionError;
 use crate::deadlines::{add_armed, deadline_after};
 use crate::entries::Entries;
+use mono_ready::ReadyTable;
 use mono_time::{Instant, Timers};
 use mono_wheel::Steps;
 use std::alloc::{AllocError, Global};
-use std::collections::HashMap;
 use std::sync::ledger::Ledger;
 
 /// Sessions that are kept open by beats, and the queues of keys in which they stand.
@@ -27,12 +27,13 @@ use std::sync::ledger::Ledger;
 /// queues. The first in the queue of a key owns the key.
 ///
 /// A session's number is that of its sleep, so it is never given twice. A beat is noted at the sleep and moves nothing. No
-/// call does work that grows with the sessions, the keys or the entries that it does not touch, but for a look-up in a map.
+/// call does work that grows with the sessions, the keys or the entries that it does not touch. A session is looked up in a
+/// table by its number, and the queues of keys in maps.
 #[derive(Drop)]
 pub struct Sessions {
     timers: Timers,
     // for how many ticks each open session stays open after a beat
-    limits: HashMap<u64, u64>,
+    limits: ReadyTable<u64>,
     entries: Entries,
     most_entries: u64,
 }
@@ -58,7 +59,7 @@ impl Sessions {
         let timers = Timers::new(alloc, sessions, true)?;
         Ok(Sessions {
             timers,
-            limits: HashMap::new(alloc),
+            limits: ReadyTable::new(alloc),
             entries: Entries::new(alloc),
             most_entries: entries,
         })
@@ -83,11 +84,11 @@ impl Sessions {
         if limit_ms == 0 {
             return Err(SessionError::ZeroLimit);
         }
-        self.limits.reserve(1)?;
+        self.limits.reserve(alloc, limit_ms)?;
         match add_armed(&mut self.timers, alloc, deadline) {
             Err(_) => Err(SessionError::Memory),
             Ok(session) => {
-                let _ = self.limits.insert(session, limit_ms);
+                self.limits.add(limit_ms);
                 Ok(session)
             }
         }
@@ -96,12 +97,13 @@ impl Sessions {
     /// The last beat of a session is now, the greatest tick of the clock so far.
     ///
     /// Refused as invalid exactly where it is open and would be closed at a tick above 2^63 - 1, and exactly where it is not
-    /// open.
+    /// open. A refused beat changes nothing, so the wheel may take no step more for it (`refused`).
     pub fn beat(&mut self, session: u64) -> Result<(), SessionError>
         ensures step { (k : Keeper) → StandsFor self.old k → (result ≡ beat_answer k session) × StandsFor self.new (beaten k session) }
         ensures raise { (k : Keeper) (kept : Session) → StandsFor self.old k → value_at k.sessions session ≡ Some kept → steps_left self.new ≤ steps_left self.old + most_takes kept.limit }
+        ensures refused { OnErr result (self.new ≡ self.old) }
     {
-        let Some(limit) = self.limits.get(&session).copied() else {
+        let Some(limit) = self.limits.get(session).copied() else {
             return Err(SessionError::NoSession);
         };
         let Some(deadline) = deadline_after(self.timers.greatest(), limit) else {
@@ -116,7 +118,7 @@ impl Sessions {
         ensures step { (k : Keeper) → StandsFor self.old k → (result ≡ close_answer k session) × StandsFor self.new (closed k session) }
         ensures raise { steps_left self.new ≤ steps_left self.old }
     {
-        if !self.limits.contains_key(&session) {
+        if !self.limits.has(session) {
             return Err(SessionError::NoSession);
         }
         self.forget(session);
@@ -134,7 +136,11 @@ impl Sessions {
     {
         let _ = self.timers.remove(session);
         self.entries.leave_all(session);
-        self.limits.remove(&session).is_some()
+        let was_open = self.limits.has(session);
+        if was_open {
+            self.limits.remove(session);
+        }
+        was_open
     }
 
     /// A session comes into the queue of a key, last. The answer says whether it is the first there.
@@ -148,7 +154,7 @@ impl Sessions {
         if self.entries.len() as u64 >= self.most_entries {
             return Err(SessionError::AtCapacity);
         }
-        if !self.limits.contains_key(&session) {
+        if !self.limits.has(session) {
             return Err(SessionError::NoSession);
         }
         if self.entries.contains(session, key) {
@@ -165,7 +171,7 @@ impl Sessions {
         ensures step { (k : Keeper) → StandsFor self.old k → (result ≡ release_answer k session key) × StandsFor self.new (released k session key) }
         ensures raise { steps_left self.new ≡ steps_left self.old }
     {
-        if !self.limits.contains_key(&session) {
+        if !self.limits.has(session) {
             return Err(SessionError::NoSession);
         }
         if !self.entries.contains(session, key) {
@@ -187,7 +193,7 @@ impl Sessions {
         ensures open { (k : Keeper) → StandsFor self.now k → result ≡ count_of k.sessions }
         ensures count { result ≡ open_count self.now }
     {
-        self.limits.len()
+        self.limits.count() as usize
     }
 
     /// The clock shows an instant: the greatest tick becomes the greater of itself and the instant's, rounded down. The open

@@ -1,6 +1,7 @@
 //! Sessions that are kept open by beats, and the queues of keys in which they stand.
 #![tactic(auto)]
 
+mod advances;
 mod deadlines;
 mod entries;
 mod error;

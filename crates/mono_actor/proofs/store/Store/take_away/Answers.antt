@@ -1,7 +1,9 @@
-use Rattle.std.proofs.Common.{◌∙◌}
+use Rattle.std.proofs.Common.{ap, ◌∙◌}
+use Rattle.mono_model.specs.Table.{value_at}
 use Rattle.mono_actor.specs.Places.{unread}
 use Rattle.mono_actor.specs.Stored.{places_of}
-use Rattle.mono_actor.proofs.Storing.{changed-there, changed-gone, still-empty, gone-sound, gone-places, left-letters}
+use Rattle.mono_actor.specs.Mailboxes.{places_in}
+use Rattle.mono_actor.proofs.Storing.{changed-there, changed-gone, still-empty, is-there, read-here, gone-sound, gone-places, left-alarm, left-letters}
 use Rattle.mono_actor.proofs.store.Store.take_away.Goals as goal
 
 pub loop-preserved-in-Some : goal.loop-preserved-in-Some
@@ -15,18 +17,32 @@ invariant_of-self g c =
     let s = c.take.new.self in
     let there = changed-there unread c.args.actor (places_of c.loop.self) (places_of s) c.take.ensures.taken in
     let empty = still-empty c.args.actor (places_of c.loop.self) (places_of s) c.take.ensures.taken c.in_default.ensures.first in
-    record { sound = gone-sound s.links.slots _ s.entries.items s.sound c.args.actor there empty }
+    record { sound = rw c.remove.ensures (gone-sound s.links.slots _ s.entries s.sound c.args.actor there empty) }
 
 pub returns-clause-gone : goal.returns-clause-gone
 returns-clause-gone g c =
     let s = c.take.new.self in
     let there = changed-there unread c.args.actor (places_of c.loop.self) (places_of s) c.take.ensures.taken in
     let empty = still-empty c.args.actor (places_of c.loop.self) (places_of s) c.take.ensures.taken c.in_default.ensures.first in
-    gone-places s.links.slots _ s.entries.items s.sound c.args.actor there empty
+    ap (places_in s.links.slots) c.remove.ensures
+    ∙ gone-places s.links.slots _ s.entries s.sound c.args.actor there empty
     ∙ changed-gone unread c.args.actor (places_of c.loop.self) (places_of s) c.take.ensures.taken
     ∙ c.loop.invariant.others
 
 pub returns-clause-letters : goal.returns-clause-letters
 returns-clause-letters g c =
     let s = c.args.self.now in
-    left-letters s.links.slots _ s.entries.items s.sound c.args.actor c.requires c.index.result.now c.left_of-left.result.letters c.index.ensures c.left_of-left.ensures.letters
+    left-letters s.links.slots _ s.entries s.sound c.args.actor c.requires (value_at s.entries c.args.actor) c.left-left.result.letters (read-here s.links.slots _ s.entries s.sound c.args.actor c.requires) c.left-left.ensures.letters
+
+pub returns-clause-alarm : goal.returns-clause-alarm
+returns-clause-alarm g c =
+    let s = c.args.self.now in
+    left-alarm s.links.slots _ s.entries s.sound c.args.actor c.requires (value_at s.entries c.args.actor) c.left-left.result.alarm (read-here s.links.slots _ s.entries s.sound c.args.actor c.requires) c.left-left.ensures.alarm
+
+pub left-left-requires : goal.left-left-requires
+left-left-requires g c = let s = c.args.self.now in is-there s.links.slots _ s.entries s.sound c.args.actor c.requires
+
+pub remove-requires : goal.remove-requires
+remove-requires g c =
+    let s = c.take.new.self in
+    is-there s.links.slots _ s.entries s.sound c.args.actor (changed-there unread c.args.actor (places_of c.loop.self) (places_of s) c.take.ensures.taken)

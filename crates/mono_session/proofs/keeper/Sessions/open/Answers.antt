@@ -1,6 +1,6 @@
 use Rattle.std.proofs.Common.{◌≡◌, ◌+◌, ◌-◌, Some, cond, sym, ◌∙◌, ap, subst, refl, arith, rules}
-use Rattle.std.specs.Prelude.{Err, nat_eq, ◌≤◌, IsOk}
-use Rattle.std.specs.HashMap.{get, spare, hash_map_len}
+use Rattle.std.specs.Prelude.{Err, ◌≤◌}
+use Rattle.mono_model.specs.Table.{with_next}
 use Rattle.mono_model.specs.Ticks.{up}
 use Rattle.mono_time.specs.Instants.{nanos_of}
 use Rattle.mono_time.specs.Timers.{sleeps_of, elapsed_tick, credit_left}
@@ -10,8 +10,7 @@ use Rattle.mono_model.specs.Memory.{OrLacksMemory}
 use Rattle.mono_session.specs.Stands.{StandsFor}
 use Rattle.mono_session.specs.declared.keeper.Sessions.{Sessions}
 use Rattle.mono_session.specs.declared.error.SessionError.TheVariants.{Memory, AtCapacity, Invalid, ZeroLimit}
-use Rattle.mono_session.proofs.Keeping.{on_ok}
-use Rattle.mono_session.proofs.Timed.{opens, open_refused, open_lacks, open-full, open-late, open-none, open-ok, in_time, too_late, greatest_told, full_told, zero-tells, nonzero-tells, stands_alike, unchanged_by, one_more}
+use Rattle.mono_session.proofs.Timed.{opens, open_refused, open_lacks, open-full, open-late, open-none, open-ok, in_time, too_late, greatest_told, full_told, zero-tells, nonzero-tells, stands_alike, unchanged_by}
 use Rattle.mono_session.proofs.keeper.Sessions.open.Goals as goal
 
 pub returns-then-is_full-clause-step : goal.returns-then-is_full-clause-step
@@ -42,7 +41,7 @@ returns-in_err-reserve-clause-step c = λ k stands.
     (open-ok k limit (sym (full_told old k c.is_full.result c.is_full.ensures.full stands) ∙ c.if-is_full.false)
     (in_time c.deadline_after.result c.in-Some.deadline k.greatest c.greatest.result limit c.deadline_after.ensures.variant c.in-Some.is g)
     (nonzero-tells limit c.if-limit_ms-eq0.false))
-    (stands_alike old new k refl (λ q. c.reserve.ensures.entries.2 q) c.reserve.ensures.entries.1 refl refl refl stands))
+    (stands_alike old new k refl c.reserve.ensures.table refl refl refl stands))
 
 pub returns-in-Err-clause-step : goal.returns-in-Err-clause-step
 returns-in-Err-clause-step c = λ k stands.
@@ -54,7 +53,7 @@ returns-in-Err-clause-step c = λ k stands.
     (in_time c.deadline_after.result c.in-Some.deadline k.greatest c.greatest.result c.args.limit_ms c.deadline_after.ensures.variant c.in-Some.is g)
     (nonzero-tells c.args.limit_ms c.if-limit_ms-eq0.false))
     (stands_alike old new k (unchanged_by (sleeps_of old.timers) (sleeps_of c.add_armed.new.timers) (up (nanos_of c.in-Some.deadline)) c.in-Err.field-0 c.in-Err.ensures.armed)
-    (λ q. c.reserve.ensures.entries.2 q) c.reserve.ensures.entries.1 refl refl c.add_armed.ensures.elapsed stands)
+    c.reserve.ensures.table refl refl c.add_armed.ensures.elapsed stands)
 
 pub returns-in-Ok-clause-step : goal.returns-in-Ok-clause-step
 returns-in-Ok-clause-step c = λ k stands.
@@ -62,19 +61,14 @@ returns-in-Ok-clause-step c = λ k stands.
     let g = greatest_told old k c.greatest.result c.greatest.ensures stands in
     let limit = c.args.limit_ms in
     let session = c.in-Ok.session in
-    let new : Sessions = record { timers = c.add_armed.new.timers; limits = c.insert.new.self; entries = old.entries; most_entries = old.most_entries } in
-    let room : 1 ≤ spare c.reserve.new.self = c.in_ok-reserve.ensures.ok in
-    let ok : IsOk c.insert.result = c.insert.ensures.succeeds (omega (arith, room)) in
-    let updates = on_ok c.insert.result _ ok c.insert.ensures.updates in
+    let new : Sessions = record { timers = c.add_armed.new.timers; limits = c.add.new.self; entries = old.entries; most_entries = old.most_entries } in
     opens old new k limit session (up (nanos_of c.in-Some.deadline)) stands
     (sym (full_told old k c.is_full.result c.is_full.ensures.full stands) ∙ c.if-is_full.false)
     (in_time c.deadline_after.result c.in-Some.deadline k.greatest c.greatest.result limit c.deadline_after.ensures.variant c.in-Some.is g)
     (nonzero-tells limit c.if-limit_ms-eq0.false)
     c.in-Ok.ensures.armed
     (c.in-Some.ensures.some ∙ ap (λ n. n + limit) g)
-    (λ q. updates.0 q ∙ ap (cond (nat_eq session q) (Some limit)) (c.reserve.ensures.entries.2 q))
-    (λ none. one_more c.insert.result (get nat_eq c.reserve.new.self session) (hash_map_len c.insert.new.self) (hash_map_len c.reserve.new.self) ok c.insert.ensures.old c.insert.ensures.len (c.reserve.ensures.entries.2 session ∙ none)
-    ∙ ap (λ n. n + 1) c.reserve.ensures.entries.1)
+    (c.add.ensures.table ∙ ap (λ t. with_next t limit) c.reserve.ensures.table)
     refl refl c.add_armed.ensures.elapsed
 
 pub returns-in-Err-clause-raise : goal.returns-in-Err-clause-raise
