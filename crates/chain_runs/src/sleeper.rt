@@ -5,10 +5,9 @@ use mono_blocking::{BlockingHandle, BlockingStrategy, ThreadPool};
 use mono_forms::FutureExt;
 use mono_model::Host;
 use mono_rt::{Driver, Instant, Limits, Outcome, RunError, run_alone};
-use mono_time::SleepError;
+use mono_time::{SleepError, sleep_for};
 use std::alloc::{AllocError, Global};
 use std::time::Duration;
-use use_chain::sleep_for;
 
 /// How often a task has slept: twice, or never where a sleep was refused.
 #[derive(Drop)]
