@@ -6,10 +6,9 @@ use mono_forms::FutureExt;
 use mono_machine::Limits;
 use mono_model::Host;
 use mono_rt::{Driver, Instant, Outcome, RunError, run_alone};
-use mono_time::SleepError;
+use mono_time::{SleepError, sleep_for};
 use std::alloc::{AllocError, Global};
 use std::time::Duration;
-use use_chain::sleep_for;
 
 /// How often a task has slept: twice, or never where a sleep was refused.
 #[derive(Drop)]

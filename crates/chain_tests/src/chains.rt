@@ -8,11 +8,10 @@ use mono_machine::Limits;
 use mono_model::Host;
 use mono_rt::{Cx, Entry, Event, Instant, Journal, RunError, StepDriver, run_alone};
 use mono_task::TaskFuture;
-use mono_time::SleepError;
+use mono_time::{SleepError, sleep_for};
 use std::alloc::Global;
 use std::process::Abort;
 use std::time::Duration;
-use use_chain::sleep_for;
 
 /// A job that no test hands out.
 #[derive(Drop)]

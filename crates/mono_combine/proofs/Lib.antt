@@ -4,5 +4,6 @@ pub mod Lists
 mod Trying
 mod Rounds
 mod Ending
-mod Scanning
+pub mod Scanning
 mod Succeeding
+pub mod GivesLemmas

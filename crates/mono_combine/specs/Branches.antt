@@ -32,6 +32,10 @@ MaybeGives gives (Future f) x = gives f x
 MaybeGives gives (Done y) x = x ≡ y
 MaybeGives gives Gone x = ⊥
 
+-- it gives no more than before
+abbrev pub MaybeNarrows : {C Fut O : Type 0} → (Fut → O → Type 0) → MaybeDone C Fut O → MaybeDone C Fut O → Type 0
+MaybeNarrows {C} {Fut} {O} gives n m = (x : O) → MaybeGives gives n x → MaybeGives gives m x
+
 module _ {C Fut O : Type 0} (future : FutureOf Fut C O) where
   abbrev pub maybe_spent : MaybeDone C Fut O → Bool
   maybe_spent (Future f) = future.is_spent f

@@ -1,5 +1,5 @@
 -- Many branches of one type of which the first that is ready and passes the predicate is the answer.
-use Rattle.std.specs.Prelude.{◌≡◌, ℕ, Bool, true, false, List, [], ◌∷◌, length, map, ◌+◌, ◌==◌, ◌/◌, ◌%◌, ◌^◌, Option, Some, None, slice_index_or, slice_set}
+use Rattle.std.specs.Prelude.{◌≡◌, ⊤, ℕ, Bool, true, false, List, [], ◌∷◌, length, map, ◌+◌, ◌==◌, ◌/◌, ◌%◌, ◌^◌, Option, Some, None, slice_index_or, slice_set}
 use Rattle.std.specs.List.{FoldsTo}
 use Rattle.std.specs.Fn.{Shared}
 use denote.Ref.{Bor}
@@ -13,7 +13,7 @@ use Rattle.mono_combine.specs.declared.pick.Out as out
 use Rattle.mono_combine.specs.declared.pick.Out.TheVariants.{Picked, Disabled}
 use Rattle.mono_combine.specs.declared.start.Start.{Start}
 use Rattle.mono_combine.specs.Listed.{EachInTurn}
-use Rattle.mono_combine.specs.Looks.{is_out, branch_spent, BranchCanPoll, BranchCancels, HasTurnAt}
+use Rattle.mono_combine.specs.Looks.{is_out, branch_spent, BranchCanPoll, BranchCancels, BranchGives, ReturnsFor, HasTurnAt}
 use Rattle.mono_combine.specs.Rules.{look_at, select_rule, select_turns}
 use Rattle.mono_combine.specs.Selected.{left_out_if}
 use Rattle.mono_combine.specs.Starts.{start_of}
@@ -40,6 +40,17 @@ are_out branches = map is_out branches
 abbrev pub out_of : {X : Type 0} → Option (ℕ × X) → out.Out X
 out_of (Some (number, x)) = Picked number x
 out_of None = Disabled
+
+module _ {T G O : Type 0} (gives : T → O → Type 0) (call : Shared G (ℕ × (Bor O × Unit {0})) Bool) (test : G) (branches : List (Branch T)) where
+  -- the branch of this number gives the output, and the predicate is true of both
+  abbrev pub SelectListGives : out.Out O → Type 0
+  SelectListGives (Picked number x) = BranchGives gives (branch_at branches number) x × ReturnsFor call test number x true
+  SelectListGives Disabled = ⊤
+
+  abbrev pub PickGives : Poll (Option (ℕ × O)) → Type 0
+  PickGives (Ready (Some (number, x))) = BranchGives gives (branch_at branches number) x × ReturnsFor call test number x true
+  PickGives (Ready None) = ⊤
+  PickGives Pending = ⊤
 
 module _ {T C O : Type 0} (future : FutureOf T C O) where
   -- the branch may have its turn

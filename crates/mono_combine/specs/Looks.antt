@@ -34,6 +34,22 @@ module _ {T C O : Type 0} (future : FutureOf T C O) where
   BranchCancels (Out f) c d = future.cancels f c d
   BranchCancels Gone c d = d ≡ c
 
+-- what a branch may give; one that is out gives nothing
+abbrev pub BranchGives : {T O : Type 0} → (T → O → Type 0) → Branch T → O → Type 0
+BranchGives gives (Live f) x = gives f x
+BranchGives gives (Out f) x = ⊥
+BranchGives gives Gone x = ⊥
+
+-- the branch gives no more than before
+abbrev pub BranchNarrows : {T O : Type 0} → (T → O → Type 0) → Branch T → Branch T → Type 0
+BranchNarrows {T} {O} gives b' b = (x : O) → BranchGives gives b' x → BranchGives gives b x
+
+-- an output that passes is one that the branch gives, and passes
+abbrev pub LookGives : {T O : Type 0} → (T → O → Type 0) → (O → Type 0) → Branch T → Look O → Type 0
+LookGives gives is_passed b (Passes x) = BranchGives gives b x × is_passed x
+LookGives gives is_passed b Waits = ⊤
+LookGives gives is_passed b Rests = ⊤
+
 abbrev pub passes_if : {O : Type 0} → Bool → O → Look O
 passes_if true x = Passes x
 passes_if false x = Rests

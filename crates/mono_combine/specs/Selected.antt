@@ -1,7 +1,7 @@
 -- Two branches of which the first that is ready and passes its predicate is the answer.
-use Rattle.std.specs.Prelude.{◌≡◌, ℕ, zero, suc, Bool, true, false, ◌||◌, List, [], ◌∷◌, Option, Some, None}
+use Rattle.std.specs.Prelude.{◌≡◌, ⊤, ℕ, zero, suc, Bool, true, false, ◌||◌, List, [], ◌∷◌, Option, Some, None}
 use Rattle.std.specs.List.{FoldsTo}
-use Rattle.std.specs.Fn.{Shared}
+use Rattle.std.specs.Fn.{Shared, FnReturnsAt}
 use denote.Ref.{Bor}
 use Rattle.mono_task.specs.Members.{FutureOf}
 use Rattle.mono_model.specs.declared.poll.Poll.{Poll}
@@ -13,7 +13,7 @@ use Rattle.mono_combine.specs.declared.branch.Look.TheVariants.{Passes, Waits, R
 use Rattle.mono_combine.specs.declared.select.Out2.{Out2}
 use Rattle.mono_combine.specs.declared.select.Out2.TheVariants.{First, Second, Disabled}
 use Rattle.mono_combine.specs.declared.select.Select2.{Select2}
-use Rattle.mono_combine.specs.Looks.{is_out, branch_spent, BranchCancels, HasTurn}
+use Rattle.mono_combine.specs.Looks.{is_out, branch_spent, BranchCancels, BranchGives, BranchNarrows, HasTurn}
 use Rattle.mono_combine.specs.Rules.{select_rule, select_turns}
 use Rattle.mono_combine.specs.Starts.{start_of, next_start}
 
@@ -75,6 +75,22 @@ module _ {A B G H C X Y : Type 0} (a : FutureOf A C X) (b : FutureOf B C Y) (g :
     pub y : Look Y
     pub turns : FoldsTo (TurnOf x y) s (select_turns (masks s) start (looks x y)) t
     pub picks : picked ≡ without_number (select_rule (masks s) start (looks x y))
+
+module _ {A B G H X Y : Type 0} (a : A → X → Type 0) (b : B → Y → Type 0) (g : Shared G (Bor X × Unit {0}) Bool) (h : Shared H (Bor Y × Unit {0}) Bool) (s : Select2 A B G H) where
+  -- an output that its branch gives, and of which its predicate is true
+  abbrev pub SelectGives : Out2 X Y → Type 0
+  SelectGives (First x) = BranchGives a s.first x × FnReturnsAt g s.first_test x true
+  SelectGives (Second y) = BranchGives b s.second y × FnReturnsAt h s.second_test y true
+  SelectGives Disabled = ⊤
+
+  abbrev pub PickGives : Poll (Option (Out2 X Y)) → Type 0
+  PickGives (Ready (Some out)) = SelectGives out
+  PickGives (Ready None) = ⊤
+  PickGives Pending = ⊤
+
+-- the branches give no more than before
+abbrev pub SelectNarrows : {A B G H X Y : Type 0} → (A → X → Type 0) → (B → Y → Type 0) → Select2 A B G H → Select2 A B G H → Type 0
+SelectNarrows a b new old = BranchNarrows a new.first old.first × BranchNarrows b new.second old.second
 
 module _ {A B C X Y : Type 0} (a : FutureOf A C X) (b : FutureOf B C Y) where
   -- what is left of the branches is given up in the written order

@@ -9,7 +9,7 @@ use Rattle.mono_model.specs.declared.poll.Poll.TheVariants.{Ready, Pending}
 use Rattle.mono_combine.specs.declared.maybe.MaybeDone.{MaybeDone}
 use Rattle.mono_combine.specs.declared.maybe.MaybeDone.TheVariants.{Future, Done, Gone}
 use Rattle.mono_combine.specs.declared.try_joins.TryJoin2.{TryJoin2}
-use Rattle.mono_combine.specs.Branches.{Advances, MaybeCancels, output_of}
+use Rattle.mono_combine.specs.Branches.{Advances, MaybeCancels, MaybeGives, output_of}
 use Rattle.mono_combine.specs.Rules.{error_of, try_join_rule}
 
 -- the error or the value that a branch has
@@ -40,6 +40,11 @@ module _ {X Y E : Type 0} where
   as_result_list (Ready (Ok (x, y))) = Ready (Ok (inl x ∷ inr y ∷ []))
   as_result_list (Ready (Err e)) = Ready (Err e)
   as_result_list Pending = Pending
+
+-- both values, or an error that a branch may still give or has given
+abbrev pub TryJoinGives : {C A B X Y E : Type 0} → (A → Result X E → Type 0) → (B → Result Y E → Type 0) → TryJoin2 C A B (Result X E) (Result Y E) → Result (X × Y) E → Type 0
+TryJoinGives a b f (Ok p) = MaybeGives a f.a (Ok p.0) × MaybeGives b f.b (Ok p.1)
+TryJoinGives a b f (Err e) = MaybeGives a f.a (Err e) ⊎ MaybeGives b f.b (Err e)
 
 -- a branch is polled unless one before it has failed
 abbrev pub AdvancesUnless : {C Fut O : Type 0} → FutureOf Fut C O → Bool → MaybeDone C Fut O → C → MaybeDone C Fut O → C → Type 0

@@ -1,12 +1,13 @@
 -- Many branches of one type that are polled until one fails or all values are there.
-use Rattle.std.specs.Prelude.{◌≡◌, Bool, true, false, ◌||◌, List, [], ◌∷◌, map, is_some, Result, Ok, Err, Option, Some, None}
+use Rattle.std.specs.Prelude.{◌≡◌, ◌⊎◌, Bool, true, false, ◌||◌, List, [], ◌∷◌, map, is_some, Result, Ok, Err, Option, Some, None}
+use Rattle.std.specs.List.{AllZip}
 use Rattle.mono_task.specs.Members.{FutureOf}
 use Rattle.mono_model.specs.Poll.{OnPending, OnReady}
 use Rattle.mono_model.specs.declared.poll.Poll.{Poll}
 use Rattle.mono_model.specs.declared.poll.Poll.TheVariants.{Ready, Pending}
 use Rattle.mono_combine.specs.declared.maybe.MaybeDone.{MaybeDone}
 use Rattle.mono_combine.specs.declared.maybe.MaybeDone.TheVariants.{Future, Done, Gone}
-use Rattle.mono_combine.specs.Branches.{output_of}
+use Rattle.mono_combine.specs.Branches.{output_of, MaybeGives}
 use Rattle.mono_combine.specs.Listed.{EachInTurn, AllCancel, AllGone}
 use Rattle.mono_combine.specs.Rules.{try_join_rule}
 use Rattle.mono_combine.specs.TryJoined.{failure_of, AdvancesUnless}
@@ -37,6 +38,21 @@ abbrev pub first_failure : {C T X E : Type 0} → List (MaybeDone C T (Result X 
 first_failure [] = None
 first_failure (m ∷ ms) = earlier (failure_of m) (first_failure ms)
 
+module _ {C T X E : Type 0} (gives : T → Result X E → Type 0) where
+  -- the branch gives the value
+  abbrev pub GivesValue : MaybeDone C T (Result X E) → X → Type 0
+  GivesValue m x = MaybeGives gives m (Ok x)
+
+  -- one of the branches gives the error
+  abbrev pub OneFails : List (MaybeDone C T (Result X E)) → E → Type 0
+  OneFails [] e = ⊥
+  OneFails (m ∷ ms) e = MaybeGives gives m (Err e) ⊎ OneFails ms e
+
+  -- a value of each branch, or an error of one of them
+  abbrev pub TryJoinListGives : List (MaybeDone C T (Result X E)) → Result (List X) E → Type 0
+  TryJoinListGives branches (Ok xs) = AllZip GivesValue branches xs
+  TryJoinListGives branches (Err e) = OneFails branches e
+
 module _ {C T X E : Type 0} (future : FutureOf T C (Result X E)) where
   -- the turn of a branch: it is polled unless one before it has failed
   pub record TriesOnce (m : MaybeDone C T (Result X E)) (s : Trying C) (n : MaybeDone C T (Result X E)) (t : Trying C) : Type 0 where
@@ -57,6 +73,11 @@ module _ {C T X E : Type 0} (future : FutureOf T C (Result X E)) where
     pub answer : r ≡ try_join_rule (map output_of polled)
     pub waits : OnPending r ((left ≡ polled) × (has_answered ≡ false) × (d ≡ after))
     pub ends : OnReady r ((has_answered ≡ true) × AllCancel future polled after d × AllGone left)
+
+-- a result with a vector of values seen as the list of its items
+abbrev pub result_as : {V X E : Type 0} → (V → List X) → Result V E → Result (List X) E
+result_as items (Ok v) = Ok (items v)
+result_as items (Err e) = Err e
 
 -- the answer with a vector of values seen as the list of its items
 abbrev pub tried_as : {V X E : Type 0} → (V → List X) → Poll (Result V E) → Poll (Result (List X) E)

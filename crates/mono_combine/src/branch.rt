@@ -1,6 +1,7 @@
 // A branch of a select.
-ghost use Rattle.std.specs.Prelude.{◌≡◌, false};
-ghost use Rattle.mono_combine.specs.Looks.{is_out, branch_spent, BranchCanPoll, BranchCancels, HasTurn};
+ghost use Rattle.std.specs.Prelude.{◌≡◌, false, true};
+ghost use Rattle.std.specs.Fn.{FnReturnsAt};
+ghost use Rattle.mono_combine.specs.Looks.{is_out, branch_spent, BranchCanPoll, BranchCancels, BranchNarrows, LookGives, HasTurn};
 ghost use Rattle.mono_combine.specs.Rules.{unless_masked};
 ghost use Rattle.mono_combine.specs.Selected.{left_out_if};
 
@@ -72,6 +73,8 @@ impl<T> Branch<T> {
         ensures turn { HasTurn T.TaskFuture P.Fn test.now self.old cx.old result self.new cx.new }
         ensures counts { unless_masked (is_out self.old) result ≡ result }
         ensures unspent { branch_spent T.TaskFuture self.new ≡ false }
+        ensures given { LookGives T.gives (λ x. FnReturnsAt P.Fn test.now x true) self.old result }
+        ensures narrows { BranchNarrows T.gives self.new self.old }
         ensures callable { BranchCanPoll T.TaskFuture self.new }
         ensures reached { C.reaches cx.old cx.new }
     {

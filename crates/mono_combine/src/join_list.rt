@@ -1,7 +1,7 @@
 // Many branches that are polled until all outputs are there.
 ghost use Rattle.std.specs.Prelude.{◌≡◌, ◌≤◌, ◌||◌, false, true, [], length, map, vec_len, vec_capacity, IfOk, IfErr};
-ghost use Rattle.std.specs.List.{list_any, All};
-ghost use Rattle.mono_combine.specs.Branches.{maybe_spent};
+ghost use Rattle.std.specs.List.{list_any, All, AllZip};
+ghost use Rattle.mono_combine.specs.Branches.{maybe_spent, MaybeGives};
 ghost use Rattle.mono_combine.specs.Listed.{AllCanPoll, JoinListPolls, AllCancel, answer_as};
 
 use crate::list::{any_spent, collect, fill, give_up_each, poll_each};
@@ -56,6 +56,8 @@ impl<C: Context, T: TaskFuture<C, Output: Drop>> TaskFuture<C> for JoinList<C, T
     ghost can_poll = { λ f. AllCanPoll T.TaskFuture f.branches.items };
 
     ghost polls = { λ f c r g d. JoinListPolls T.TaskFuture f.branches.items c (answer_as (λ v. v.items) r) g.branches.items g.has_answered d };
+
+    ghost gives = { λ f v. AllZip (MaybeGives T.gives) f.branches.items v.items };
 
     ghost cancels = { λ f c d. AllCancel T.TaskFuture f.branches.items c d };
 

@@ -1,8 +1,8 @@
 // Many branches of one type that keep their output.
 ghost use Rattle.std.specs.Prelude.{◌≡◌, ◌≤◌, ◌+◌, ◌++◌, false, [], length, map, vec_len, vec_capacity};
-ghost use Rattle.std.specs.List.{list_any, filter_map};
+ghost use Rattle.std.specs.List.{list_any, filter_map, AllZip};
 ghost use Rattle.std.specs.Vec.Iter.{into_iter_items, into_iter_len};
-ghost use Rattle.mono_combine.specs.Branches.{maybe_spent, is_waiting, output_of, Advances};
+ghost use Rattle.mono_combine.specs.Branches.{maybe_spent, is_waiting, output_of, Advances, MaybeNarrows};
 ghost use Rattle.mono_combine.specs.Listed.{EachInTurn, AllMayPoll, GivesUp};
 
 use crate::maybe::{MaybeDone, maybe_done};
@@ -52,6 +52,7 @@ pub(crate) fn poll_each<R: Host, C: Context, T: TaskFuture<C, Output: Drop>>(
     ensures length { vec_len branches.new ≡ vec_len branches.old }
     ensures waits { result ≡ list_any is_waiting branches.new.items }
     ensures again { AllMayPoll T.TaskFuture branches.new.items }
+    ensures narrows { AllZip (MaybeNarrows T.gives) branches.new.items branches.old.items }
     ensures reached { C.reaches cx.old cx.new }
 {
     let mut waits = false;

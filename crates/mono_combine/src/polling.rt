@@ -1,7 +1,7 @@
 // A closure as a future.
 ghost use Rattle.std.specs.Prelude.{◌≡◌, false};
 ghost use Rattle.std.specs.Fn.{CalledAtMut};
-ghost use Rattle.mono_combine.specs.PollFns.{StaysReached};
+ghost use Rattle.mono_combine.specs.PollFns.{CallGives, StaysReached};
 
 use mono_model::{Host, Poll};
 use mono_task::{Context, TaskFuture};
@@ -32,6 +32,8 @@ impl<T, C: Context, F: FnMut(&mut C) -> Poll<T> + Drop> TaskFuture<C> for PollFn
 
     // the answer and the context are those of one call of the closure
     ghost polls = { λ p c r q d. CalledAtMut F.FnMut p.f c r q.f d };
+
+    ghost gives = { λ p. CallGives F.FnMut };
 
     ghost cancels = { λ p c d. d ≡ c };
 

@@ -1,11 +1,11 @@
 // The branches of a select of a list.
-ghost use Rattle.std.specs.Prelude.{◌≡◌, ◌≤◌, ◌+◌, ◌++◌, ◌<◌, false, [], length, vec_len, vec_capacity};
-ghost use Rattle.std.specs.List.{list_any, All};
+ghost use Rattle.std.specs.Prelude.{◌≡◌, true, ◌≤◌, ◌+◌, ◌++◌, ◌<◌, false, [], length, vec_len, vec_capacity};
+ghost use Rattle.std.specs.List.{list_any, All, AllZip};
 ghost use Rattle.std.specs.Vec.Iter.{into_iter_items, into_iter_len};
-ghost use Rattle.mono_combine.specs.Looks.{is_out, branch_spent, BranchCanPoll, HasTurnAt};
+ghost use Rattle.mono_combine.specs.Looks.{is_out, branch_spent, BranchCanPoll, BranchNarrows, LookGives, ReturnsFor, HasTurnAt};
 ghost use Rattle.mono_combine.specs.Rules.{unless_masked};
 ghost use Rattle.mono_combine.specs.Listed.{EachInTurn};
-ghost use Rattle.mono_combine.specs.ListSelected.{masked_from, MayLook, BranchEnds, RowSelects};
+ghost use Rattle.mono_combine.specs.ListSelected.{masked_from, MayLook, BranchEnds, RowSelects, PickGives};
 
 use crate::branch::{Branch, Look, branch_of};
 use mono_model::{Host, Poll};
@@ -32,6 +32,8 @@ impl<T> Branch<T> {
         ensures turn { HasTurnAt T.TaskFuture P.Fn test.now number self.old cx.old result self.new cx.new }
         ensures counts { unless_masked (is_out self.old) result ≡ result }
         ensures unspent { branch_spent T.TaskFuture self.new ≡ false }
+        ensures given { LookGives T.gives (λ x. ReturnsFor P.Fn test.now number x true) self.old result }
+        ensures narrows { BranchNarrows T.gives self.new self.old }
         ensures callable { BranchCanPoll T.TaskFuture self.new }
         ensures reached { C.reaches cx.old cx.new }
     {
@@ -105,6 +107,8 @@ where
     ensures selects { RowSelects T.TaskFuture G.Fn test.now start (record { branches = branches.old.items; cx = cx.old }) result (record { branches = branches.new.items; cx = cx.new }) }
     ensures length { vec_len branches.new ≡ vec_len branches.old }
     ensures again { All (MayLook T.TaskFuture) branches.new.items }
+    ensures given { PickGives T.gives G.Fn test.now branches.old.items result }
+    ensures narrows { AllZip (BranchNarrows T.gives) branches.new.items branches.old.items }
     ensures reached { C.reaches cx.old cx.new }
 {
     let count = branches.len();

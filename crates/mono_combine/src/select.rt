@@ -2,7 +2,7 @@
 ghost use Rattle.std.specs.Prelude.{◌≡◌, ◌<◌, ◌||◌, ◌==◌, ◌%◌, ◌/◌, true, false, if◌then◌else◌};
 ghost use Rattle.mono_model.specs.Poll.{OnPending};
 ghost use Rattle.mono_combine.specs.Looks.{branch_spent, BranchCanPoll};
-ghost use Rattle.mono_combine.specs.Selected.{Selects, SelectPolls, SelectCancels, select_spent, as_second, as_first, then_look, or_disabled, left_out_if};
+ghost use Rattle.mono_combine.specs.Selected.{Selects, SelectPolls, SelectGives, SelectCancels, PickGives, SelectNarrows, select_spent, as_second, as_first, then_look, or_disabled, left_out_if};
 
 use crate::branch::{Branch, Look, branch_of};
 use crate::start::Start;
@@ -121,6 +121,8 @@ impl<A, B, G, H> Select2<A, B, G, H> {
         requires second_test { H.IsAlwaysCallable self.old.second_test }
         ensures selects { Selects A.TaskFuture B.TaskFuture G.Fn H.Fn self.old.first_test self.old.second_test 0 (record { first = self.old.first; second = self.old.second; cx = cx.old }) result (record { first = self.new.first; second = self.new.second; cx = cx.new }) }
         ensures kept { self.new ≡ record self.old { first = self.new.first; second = self.new.second } }
+        ensures given { PickGives A.gives B.gives G.Fn H.Fn self.old result }
+        ensures narrows { SelectNarrows A.gives B.gives self.new self.old }
         ensures first { branch_spent A.TaskFuture self.new.first ≡ false }
         ensures second { branch_spent B.TaskFuture self.new.second ≡ false }
         ensures first_callable { BranchCanPoll A.TaskFuture self.new.first }
@@ -154,6 +156,8 @@ impl<A, B, G, H> Select2<A, B, G, H> {
         requires second_test { H.IsAlwaysCallable self.old.second_test }
         ensures selects { Selects A.TaskFuture B.TaskFuture G.Fn H.Fn self.old.first_test self.old.second_test 1 (record { first = self.old.first; second = self.old.second; cx = cx.old }) result (record { first = self.new.first; second = self.new.second; cx = cx.new }) }
         ensures kept { self.new ≡ record self.old { first = self.new.first; second = self.new.second } }
+        ensures given { PickGives A.gives B.gives G.Fn H.Fn self.old result }
+        ensures narrows { SelectNarrows A.gives B.gives self.new self.old }
         ensures first { branch_spent A.TaskFuture self.new.first ≡ false }
         ensures second { branch_spent B.TaskFuture self.new.second ≡ false }
         ensures first_callable { BranchCanPoll A.TaskFuture self.new.first }
@@ -189,6 +193,8 @@ impl<A, B, G, H> Select2<A, B, G, H> {
         requires second_test { H.IsAlwaysCallable self.old.second_test }
         ensures selects { Selects A.TaskFuture B.TaskFuture G.Fn H.Fn self.old.first_test self.old.second_test start (record { first = self.old.first; second = self.old.second; cx = cx.old }) result (record { first = self.new.first; second = self.new.second; cx = cx.new }) }
         ensures kept { self.new ≡ record self.old { first = self.new.first; second = self.new.second } }
+        ensures given { PickGives A.gives B.gives G.Fn H.Fn self.old result }
+        ensures narrows { SelectNarrows A.gives B.gives self.new self.old }
         ensures first { branch_spent A.TaskFuture self.new.first ≡ false }
         ensures second { branch_spent B.TaskFuture self.new.second ≡ false }
         ensures first_callable { BranchCanPoll A.TaskFuture self.new.first }
@@ -218,6 +224,8 @@ where
     ghost can_poll = { λ s. BranchCanPoll A.TaskFuture s.first × BranchCanPoll B.TaskFuture s.second × G.IsAlwaysCallable s.first_test × H.IsAlwaysCallable s.second_test };
 
     ghost polls = { SelectPolls A.TaskFuture B.TaskFuture G.Fn H.Fn };
+
+    ghost gives = { SelectGives A.gives B.gives G.Fn H.Fn };
 
     ghost cancels = { SelectCancels A.TaskFuture B.TaskFuture };
 

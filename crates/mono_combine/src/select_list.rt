@@ -3,7 +3,7 @@ ghost use Rattle.std.specs.Prelude.{◌≡◌, ◌≤◌, ◌<◌, ◌||◌, fal
 ghost use Rattle.std.specs.List.{list_any, All};
 ghost use Rattle.mono_combine.specs.Looks.{branch_spent, BranchCanPoll};
 ghost use Rattle.mono_combine.specs.Starts.{next_start};
-ghost use Rattle.mono_combine.specs.ListSelected.{masked_from, SelectListPolls, RowCancels, out_of};
+ghost use Rattle.mono_combine.specs.ListSelected.{masked_from, SelectListPolls, RowCancels, SelectListGives, out_of};
 
 use crate::branch::Branch;
 use crate::pick::Out;
@@ -85,6 +85,8 @@ where
     ghost can_poll = { λ s. All (BranchCanPoll T.TaskFuture) s.branches.items × G.IsAlwaysCallable s.test };
 
     ghost polls = { λ s c r t d. SelectListPolls T.TaskFuture G.Fn s.test s.start s.branches.items c r t.branches.items t.has_answered d × (t.test ≡ s.test) × (t.start ≡ next_start s.start) };
+
+    ghost gives = { λ s. SelectListGives T.gives G.Fn s.test s.branches.items };
 
     ghost cancels = { λ s c d. RowCancels T.TaskFuture s.branches.items c d };
 

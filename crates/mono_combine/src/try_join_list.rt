@@ -3,7 +3,7 @@ ghost use Rattle.std.specs.Prelude.{◌≡◌, ◌≤◌, ◌||◌, false, true,
 ghost use Rattle.std.specs.List.{list_any, All};
 ghost use Rattle.mono_combine.specs.Branches.{maybe_spent};
 ghost use Rattle.mono_combine.specs.Listed.{AllCanPoll, AllCancel};
-ghost use Rattle.mono_combine.specs.TryListed.{TryJoinListPolls, tried_as};
+ghost use Rattle.mono_combine.specs.TryListed.{TryJoinListPolls, TryJoinListGives, tried_as, result_as};
 
 use crate::list::{any_spent, fill, give_up_each};
 use crate::maybe::MaybeDone;
@@ -82,6 +82,8 @@ where
     ghost can_poll = { λ f. AllCanPoll T.TaskFuture f.branches.items };
 
     ghost polls = { λ f c r g d. TryJoinListPolls T.TaskFuture f.branches.items c (tried_as (λ v. v.items) r) g.branches.items g.has_answered d };
+
+    ghost gives = { λ f r. TryJoinListGives T.gives f.branches.items (result_as (λ v. v.items) r) };
 
     ghost cancels = { λ f c d. AllCancel T.TaskFuture f.branches.items c d };
 

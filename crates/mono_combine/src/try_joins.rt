@@ -1,7 +1,7 @@
 // Two branches that are polled until one fails or both values are there.
 ghost use Rattle.std.specs.Prelude.{◌≡◌, ◌||◌, false};
 ghost use Rattle.mono_combine.specs.Branches.{maybe_spent, MaybeCanPoll, is_waiting};
-ghost use Rattle.mono_combine.specs.TryJoined.{failure_of, without_failure, TryJoinPolls, TryJoinCancels};
+ghost use Rattle.mono_combine.specs.TryJoined.{failure_of, without_failure, TryJoinPolls, TryJoinGives, TryJoinCancels};
 
 use crate::maybe::{MaybeDone, maybe_done};
 use mono_model::{Host, Poll};
@@ -80,6 +80,8 @@ where
     ghost can_poll = { λ f. MaybeCanPoll A.TaskFuture f.a × MaybeCanPoll B.TaskFuture f.b };
 
     ghost polls = { TryJoinPolls A.TaskFuture B.TaskFuture };
+
+    ghost gives = { TryJoinGives A.gives B.gives };
 
     ghost cancels = { TryJoinCancels A.TaskFuture B.TaskFuture };
 

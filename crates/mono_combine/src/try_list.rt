@@ -1,8 +1,8 @@
 // Many branches of one type that keep their output, until one fails.
 ghost use Rattle.std.specs.Prelude.{◌≡◌, ◌≤◌, ◌+◌, ◌++◌, false, length, vec_len, vec_capacity};
-ghost use Rattle.std.specs.List.{list_any, filter_map};
+ghost use Rattle.std.specs.List.{list_any, filter_map, AllZip};
 ghost use Rattle.std.specs.Vec.Iter.{into_iter_items, into_iter_len};
-ghost use Rattle.mono_combine.specs.Branches.{is_waiting, MaybeCancels};
+ghost use Rattle.mono_combine.specs.Branches.{is_waiting, MaybeCancels, MaybeNarrows};
 ghost use Rattle.mono_combine.specs.Listed.{EachInTurn, AllMayPoll, GivesUp};
 ghost use Rattle.mono_combine.specs.TryJoined.{failure_of};
 ghost use Rattle.mono_combine.specs.TryListed.{TriesEach, has_failed, value_in, earlier, first_failure};
@@ -78,6 +78,7 @@ where
     ensures length { vec_len branches.new ≡ vec_len branches.old }
     ensures failed { result ≡ list_any has_failed branches.new.items }
     ensures again { AllMayPoll T.TaskFuture branches.new.items }
+    ensures narrows { AllZip (MaybeNarrows T.gives) branches.new.items branches.old.items }
     ensures reached { C.reaches cx.old cx.new }
 {
     for i in 0..branches.len() {

@@ -11,6 +11,7 @@ use crate::rescued::{OrElse, TryFlattenErr};
 use crate::tried::{AndThen, TryFlatten};
 use crate::yields::YieldNow;
 use mono_task::JoinHandle;
+use mono_time::{Sleep, SleepFor, Timeout, TimeoutFor};
 
 /// The forms as calls on a future. A future by hand has them by an empty impl.
 ///
@@ -111,3 +112,11 @@ impl<A, F> FutureExt for Repeat<A, F> {}
 impl<A, B> FutureExt for TryFlattenErr<A, B> {}
 
 impl<A, B> FutureExt for Race<A, B> {}
+
+impl FutureExt for Sleep {}
+
+impl FutureExt for SleepFor {}
+
+impl<T> FutureExt for Timeout<T> {}
+
+impl<T> FutureExt for TimeoutFor<T> {}

@@ -13,3 +13,5 @@ pub mod Missed
 pub mod Ticking
 pub mod Timeouts
 pub mod Lending
+pub mod Naps
+pub mod NapTimeouts

@@ -3,7 +3,7 @@ ghost use Rattle.std.specs.Prelude.{◌≡◌, ◌==◌, Some, codes};
 ghost use Rattle.std.specs.IoError.{error_kind};
 ghost use Rattle.std.specs.declared.io.ErrorKind.TheVariants.{TimedOut};
 
-use crate::Error;
+use crate::{Error, SleepError};
 use std::{fmt, io};
 
 /// The deadline came before the value was ready.
@@ -34,4 +34,13 @@ pub enum TimeoutError {
     Elapsed(Elapsed),
     /// The delay is no live sleep of the context.
     Timer(Error),
+}
+
+/// Why a timeout that makes its own delay did not answer its value.
+#[derive(Debug, PartialEq, Eq, Drop)]
+pub enum LateError {
+    /// The duration has elapsed.
+    Elapsed(Elapsed),
+    /// The context refused the delay, or it is no live sleep there.
+    Sleep(SleepError),
 }

@@ -2,10 +2,9 @@
 ghost use Rattle.std.specs.Prelude.{◌≡◌, ◌==◌, ◌||◌, true, IfOk};
 
 use crate::driven::poll_any;
-use crate::naps::sleep_for;
 use mono_forms::FutureExt;
 use mono_model::{Host, Poll};
-use mono_time::{SleepError, TimeContext};
+use mono_time::{SleepError, TimeContext, sleep_for};
 use std::alloc::Global;
 use std::time::Duration;
 

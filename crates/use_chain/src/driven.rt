@@ -2,11 +2,10 @@
 ghost use Rattle.std.specs.Prelude.{◌≡◌, ◌⊎◌, ◌<◌, ◌+◌, false};
 ghost use Rattle.mono_model.specs.Poll.{IfReady};
 
-use crate::naps::sleep_for;
 use mono_forms::FutureExt;
 use mono_model::{Host, Poll};
 use mono_task::{Context, TaskFuture};
-use mono_time::{SleepError, TimeContext};
+use mono_time::{SleepError, TimeContext, sleep_for};
 use std::alloc::Global;
 use std::time::Duration;
 

@@ -4,9 +4,7 @@
 mod counted;
 mod driven;
 mod looped;
-mod naps;
 
 pub use counted::{Slept, sleeps_twice};
 pub use driven::{counts_once, counts_twice, poll_any, poll_up_to};
 pub use looped::sleeps_often;
-pub use naps::{SleepFor, sleep_for};

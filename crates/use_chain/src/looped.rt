@@ -1,9 +1,8 @@
 // A loop by forms.
 use crate::driven::poll_up_to;
-use crate::naps::sleep_for;
 use mono_forms::{FutureExt, Loop, repeat};
 use mono_model::{Host, Poll};
-use mono_time::{SleepError, TimeContext};
+use mono_time::{SleepError, TimeContext, sleep_for};
 use std::alloc::Global;
 use std::time::Duration;
 

@@ -1,7 +1,8 @@
-use Rattle.std.proofs.Common.{◌≡◌, ◌<◌, ◌∙◌, sym, length, get_or, rules}
+use Rattle.std.proofs.Common.{◌≡◌, ◌<◌, ◌∙◌, refl, sym, length, get_or, rules}
 use Rattle.std.proofs.lemmas.List.{length-set}
-use Rattle.mono_combine.specs.Branches.{Advances, is_waiting}
+use Rattle.mono_combine.specs.Branches.{Advances, is_waiting, MaybeGives}
 use Rattle.mono_combine.proofs.Lists.{turn_more, may_later, may_more, any_after, or_true, or_false, all_turns, polled_again, if_pending}
+use Rattle.mono_combine.proofs.GivesLemmas.{narrows_itself, narrows_set}
 use Rattle.mono_combine.proofs.list.poll_each.Goals as goal
 use Rattle.mono_combine.proofs.list.poll_each.Goals.{then-is_pending, else-is_pending}
 
@@ -15,6 +16,7 @@ loop-i-preserved g c =
       to_come = may_later g.T.TaskFuture xs _ _ _ less is c.loop-i.invariant.to_come;
       taken = may_more g.T.TaskFuture xs _ _ less c.loop-i.invariant.taken (polled_again g.T.TaskFuture _ _ _ _ _ c.poll.ensures.polled.0 c.poll.ensures.polled.1 (if_pending _ _ c.poll.ensures.again), c.poll.ensures.callable);
       polled = turn_more (Advances g.T.TaskFuture) xs _ _ _ less is _ _ _ _ c.loop-i.invariant.polled c.poll.ensures.polled.0;
+      narrows = narrows_set (MaybeGives g.T.TaskFuture.gives) xs _ _ _ _ less is c.poll.ensures.narrows c.loop-i.invariant.narrows;
       waits = elim c.if-is_pending.branch [
         | then-is_pending w ↦ w.waits-is ∙ sym (or_true c.loop-i.waits) ∙ any_after is_waiting xs _ _ less _ c.loop-i.invariant.waits _ (sym c.poll.ensures.polled.1 ∙ sym c.is_pending.ensures ∙ w.if-is_pending.true)
         | else-is_pending w ↦ w.waits-is ∙ sym (or_false c.loop-i.waits) ∙ any_after is_waiting xs _ _ less _ c.loop-i.invariant.waits _ (sym c.poll.ensures.polled.1 ∙ sym c.is_pending.ensures ∙ w.if-is_pending.false)
@@ -27,3 +29,17 @@ returns-clause-polled g c = all_turns (Advances g.T.TaskFuture) _ _ _ _ c.loop-i
 
 pub returns-clause-reached : goal.returns-clause-reached
 returns-clause-reached g c = c.loop-i.invariant.reached
+
+pub returns-clause-narrows : goal.returns-clause-narrows
+returns-clause-narrows g c = c.loop-i.invariant.narrows
+
+pub loop-i-init : goal.loop-i-init
+loop-i-init g c = record {
+  same_length = refl;
+  to_come = c.requires;
+  taken = tt;
+  polled = λ rest d h. h;
+  narrows = narrows_itself (MaybeGives g.T.TaskFuture.gives) _;
+  waits = refl;
+  reached = g.met.C.Context.reaches_itself _;
+}

@@ -1,7 +1,9 @@
-use Rattle.std.proofs.Common.{◌≡◌, ◌<◌, ◌∙◌, refl, sym, length, arith}
+use Rattle.std.proofs.Common.{◌≡◌, ◌<◌, ◌∙◌, rules, refl, sym, length, arith}
 use Rattle.std.proofs.lemmas.List.{length-set}
 use Rattle.std.proofs.lemmas.List.Elements.{All-set}
+use Rattle.mono_combine.specs.Looks.{BranchGives}
 use Rattle.mono_combine.specs.ListSelected.{MayLook}
+use Rattle.mono_combine.proofs.GivesLemmas.{narrows_itself, narrows_set, narrows_at}
 use Rattle.mono_combine.proofs.Lists.{or_true, or_false}
 use Rattle.mono_combine.proofs.Rounds.{begins, goes_on_at, passes_at, none_at_end}
 use Rattle.mono_combine.proofs.row.look_round.Goals as goal
@@ -12,6 +14,7 @@ loop-turn-init g c = record {
   same_length = refl;
   so_far = begins g.T.TaskFuture g.G.Fn c.args.test.now c.args.start _;
   may = c.requires.may;
+  narrows = narrows_itself (BranchGives g.T.TaskFuture.gives) _;
   reached = g.met.C.Context.reaches_itself _;
 }
 
@@ -32,6 +35,7 @@ loop-turn-preserved g c =
         | in-Rests w ↦ goes_on_at g.T.TaskFuture g.G.Fn c.args.test.now c.args.start _ c.len-count.result c.loop-turn.turn _ _ (c.len-count.ensures ∙ c.args.branches.now.ok.0) c.loop-turn.invariant.so_far
             below c.loop-turn-test.true _ _ _ c.index_mut.ensures.value _ _ refl (rw w.in-Rests.is at c.look_at.ensures.turn) (rw w.in-Rests.is at c.look_at.ensures.counts) (w.some_wait-is ∙ sym (or_false c.loop-turn.some_wait))
       ];
+      narrows = narrows_set (BranchGives g.T.TaskFuture.gives) c.loop-turn.branches.items _ _ _ _ (search rules) c.index_mut.ensures.value c.look_at.ensures.narrows c.loop-turn.invariant.narrows;
       may = All-set (MayLook g.T.TaskFuture) c.loop-turn.branches.items _ _ (c.look_at.ensures.unspent, c.look_at.ensures.callable) c.loop-turn.invariant.may;
       reached = g.met.C.Context.reaches_on _ _ _ c.loop-turn.invariant.reached c.look_at.ensures.reached;
     }
@@ -65,3 +69,18 @@ returns-else-some_wait-clause-again g c = c.loop-turn.invariant.may
 
 pub returns-else-some_wait-clause-reached : goal.returns-else-some_wait-clause-reached
 returns-else-some_wait-clause-reached g c = c.loop-turn.invariant.reached
+
+pub returns-in-Passes-clause-given : goal.returns-in-Passes-clause-given
+returns-in-Passes-clause-given g c =
+    let given = rw c.in-Passes.is at c.look_at.ensures.given in
+    (narrows_at (BranchGives g.T.TaskFuture.gives) c.loop-turn.branches.items _ _ _ _ _ (search rules) c.index_mut.ensures.value c.loop-turn.invariant.narrows given.0, given.1)
+
+pub returns-in-Passes-clause-narrows : goal.returns-in-Passes-clause-narrows
+returns-in-Passes-clause-narrows g c =
+    narrows_set (BranchGives g.T.TaskFuture.gives) c.loop-turn.branches.items _ _ _ _ (search rules) c.index_mut.ensures.value c.look_at.ensures.narrows c.loop-turn.invariant.narrows
+
+pub returns-then-some_wait-clause-narrows : goal.returns-then-some_wait-clause-narrows
+returns-then-some_wait-clause-narrows g c = c.loop-turn.invariant.narrows
+
+pub returns-else-some_wait-clause-narrows : goal.returns-else-some_wait-clause-narrows
+returns-else-some_wait-clause-narrows g c = c.loop-turn.invariant.narrows

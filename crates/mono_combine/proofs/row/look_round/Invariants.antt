@@ -1,5 +1,6 @@
 use Rattle.std.proofs.Common.{◌≡◌, length}
-use Rattle.std.specs.List.{All}
+use Rattle.std.specs.List.{All, AllZip}
+use Rattle.mono_combine.specs.Looks.{BranchNarrows}
 use Rattle.mono_combine.specs.ListSelected.{MayLook}
 use Rattle.mono_combine.proofs.Rounds.{SoFar}
 use Rattle.mono_combine.proofs.row.look_round.Given as goal
@@ -10,5 +11,6 @@ invariant-loop-turn g l = record {
   same_length : length l.branches.items ≡ length l.initial.branches.items;
   so_far : SoFar g.T.TaskFuture g.G.Fn l.test l.start (record { branches = l.initial.branches.items; cx = l.initial.cx }) l.turn (record { branches = l.branches.items; cx = l.cx }) l.some_wait;
   may : All (MayLook g.T.TaskFuture) l.branches.items;
+  narrows : AllZip (BranchNarrows g.T.TaskFuture.gives) l.branches.items l.initial.branches.items;
   reached : g.C.Context.reaches l.initial.cx l.cx;
 }

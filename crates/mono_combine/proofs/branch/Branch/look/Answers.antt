@@ -1,4 +1,5 @@
 use Rattle.std.proofs.Common.{refl}
+use Rattle.std.specs.Fn.{FnReturnsAt}
 use Rattle.mono_combine.proofs.branch.Branch.look.Goals as goal
 
 pub returns-then-test-clause-turn : goal.returns-then-test-clause-turn
@@ -93,3 +94,8 @@ returns-in-Gone-clause-callable g c = c.requires.callable
 
 pub returns-in-Gone-clause-reached : goal.returns-in-Gone-clause-reached
 returns-in-Gone-clause-reached g c = g.met.C.Context.reaches_itself _
+
+pub returns-then-test-clause-given : goal.returns-then-test-clause-given
+returns-then-test-clause-given g c =
+    let says : FnReturnsAt g.P.Fn c.args.test.now c.in-Ready.x c.test.result = record { shown = _; shows = refl; says = record { met = c.test.ensures } } in
+    (rw c.in-Live.is c.in-Ready.ensures.given, rw c.if-test.true at says)

@@ -2,6 +2,9 @@ use Rattle.std.proofs.Common.{◌≡◌, false, refl, sym, ap, ◌∙◌, arith,
 use Rattle.std.specs.Prelude.{vec_len}
 use Rattle.mono_model.specs.declared.poll.Poll.TheVariants.{Ready}
 use Rattle.mono_combine.proofs.Lists.{neither, may_from, can_from, unspent_from, joins_waiting, joins_all}
+use Rattle.std.specs.List.{filter_map}
+use Rattle.mono_combine.specs.Branches.{MaybeGives, output_of}
+use Rattle.mono_combine.proofs.GivesLemmas.{narrows_each, all_given}
 use Rattle.mono_combine.proofs.join_list.JoinListTaskFuture.poll.Goals as goal
 
 pub poll_each-requires : goal.poll_each-requires
@@ -53,3 +56,14 @@ returns-then-poll_each-clause-reached g c = c.poll_each.ensures.reached
 
 pub returns-clause-reached : goal.returns-clause-reached
 returns-clause-reached g c = c.poll_each.ensures.reached
+
+pub returns-then-poll_each-clause-same : goal.returns-then-poll_each-clause-same
+returns-then-poll_each-clause-same g c = λ v h. narrows_each (MaybeGives g.T.TaskFuture.gives) (MaybeGives g.T.TaskFuture.gives) (λ n m x to. to x) _ _ v.items c.poll_each.ensures.narrows h
+
+pub returns-clause-given : goal.returns-clause-given
+returns-clause-given g c =
+    let none = ap (λ v. v.items) c.replace-outputs.ensures.value ∙ c.args.self.now.no_outputs in
+    let some = c.into_iter.ensures.rest ∙ ap (λ v. v.items) c.replace-branches.ensures.value in
+    let outputs : c.collect.new.outputs.items ≡ filter_map output_of c.poll_each.new.branches.items = c.collect.ensures ∙ (rw (none, some) refl) in
+    let given = all_given g.T.TaskFuture c.poll_each.new.branches.items c.poll_each.ensures.again (sym c.poll_each.ensures.waits ∙ c.if-poll_each.false) in
+    narrows_each (MaybeGives g.T.TaskFuture.gives) (MaybeGives g.T.TaskFuture.gives) (λ n m x to. to x) _ _ c.collect.new.outputs.items c.poll_each.ensures.narrows (rw outputs given)

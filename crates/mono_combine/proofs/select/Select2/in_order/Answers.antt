@@ -1,5 +1,6 @@
-use Rattle.std.proofs.Common.{refl}
+use Rattle.std.proofs.Common.{true, false, refl}
 use Rattle.mono_combine.proofs.Selecting.{first_passes, first_then_second}
+use Rattle.mono_combine.proofs.GivesLemmas.{second_given}
 use Rattle.mono_combine.proofs.select.Select2.in_order.Goals as goal
 
 pub returns-in-Passes-clause-selects : goal.returns-in-Passes-clause-selects
@@ -66,3 +67,21 @@ returns-in-Rests-clause-second_callable g c = c.look-in-Rests.ensures.callable
 
 pub returns-in-Rests-clause-reached : goal.returns-in-Rests-clause-reached
 returns-in-Rests-clause-reached g c = g.met.C.Context.reaches_on _ _ _ c.look.ensures.reached c.look-in-Rests.ensures.reached
+
+pub returns-in-Passes-clause-given : goal.returns-in-Passes-clause-given
+returns-in-Passes-clause-given g c = rw c.in-Passes.is at c.look.ensures.given
+
+pub returns-in-Waits-clause-given : goal.returns-in-Waits-clause-given
+returns-in-Waits-clause-given g c = rw c.then_second.ensures (second_given g.A.TaskFuture.gives g.B.TaskFuture.gives g.G.Fn g.H.Fn c.args.self.now true _ c.look-in-Waits.ensures.given)
+
+pub returns-in-Rests-clause-given : goal.returns-in-Rests-clause-given
+returns-in-Rests-clause-given g c = rw c.then_second-in-Rests.ensures (second_given g.A.TaskFuture.gives g.B.TaskFuture.gives g.G.Fn g.H.Fn c.args.self.now false _ c.look-in-Rests.ensures.given)
+
+pub returns-in-Passes-clause-narrows : goal.returns-in-Passes-clause-narrows
+returns-in-Passes-clause-narrows g c = (c.look.ensures.narrows, λ y h. h)
+
+pub returns-in-Waits-clause-narrows : goal.returns-in-Waits-clause-narrows
+returns-in-Waits-clause-narrows g c = (c.look.ensures.narrows, c.look-in-Waits.ensures.narrows)
+
+pub returns-in-Rests-clause-narrows : goal.returns-in-Rests-clause-narrows
+returns-in-Rests-clause-narrows g c = (c.look.ensures.narrows, c.look-in-Rests.ensures.narrows)

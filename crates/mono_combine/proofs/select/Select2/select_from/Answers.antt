@@ -44,3 +44,15 @@ returns-else-start-eq0-clause-second_callable g c = c.reversed.ensures.second_ca
 
 pub returns-else-start-eq0-clause-reached : goal.returns-else-start-eq0-clause-reached
 returns-else-start-eq0-clause-reached g c = c.reversed.ensures.reached
+
+pub returns-then-start-eq0-clause-given : goal.returns-then-start-eq0-clause-given
+returns-then-start-eq0-clause-given g c = c.in_order.ensures.given
+
+pub returns-then-start-eq0-clause-narrows : goal.returns-then-start-eq0-clause-narrows
+returns-then-start-eq0-clause-narrows g c = c.in_order.ensures.narrows
+
+pub returns-else-start-eq0-clause-given : goal.returns-else-start-eq0-clause-given
+returns-else-start-eq0-clause-given g c = c.reversed.ensures.given
+
+pub returns-else-start-eq0-clause-narrows : goal.returns-else-start-eq0-clause-narrows
+returns-else-start-eq0-clause-narrows g c = c.reversed.ensures.narrows

@@ -1,5 +1,6 @@
 use Rattle.std.proofs.Common.{refl, ap}
 use Rattle.mono_model.specs.declared.poll.Poll.TheVariants.{Ready, Pending}
+use Rattle.mono_combine.proofs.GivesLemmas.{picked_given, select_before}
 use Rattle.mono_combine.proofs.select.Select2TaskFuture.poll.Goals as goal
 
 pub returns-in-Ready-clause-polled : goal.returns-in-Ready-clause-polled
@@ -30,3 +31,10 @@ returns-in-Ready-clause-reached g c = g.met.C.Context.reaches_on _ _ _ (g.met.C.
 
 pub returns-in-Pending-clause-reached : goal.returns-in-Pending-clause-reached
 returns-in-Pending-clause-reached g c = c.select_from.ensures.reached
+
+pub returns-in-Ready-clause-given : goal.returns-in-Ready-clause-given
+returns-in-Ready-clause-given g c = rw c.answer_of.ensures (picked_given g.A.TaskFuture.gives g.B.TaskFuture.gives g.G.Fn g.H.Fn c.args.self.now c.in-Ready.pick (rw c.in-Ready.is at c.select_from.ensures.given))
+
+pub returns-in-Pending-clause-same : goal.returns-in-Pending-clause-same
+returns-in-Pending-clause-same g c =
+    select_before g.A.TaskFuture.gives g.B.TaskFuture.gives g.G.Fn g.H.Fn c.args.self.now c.select_from.new.self c.select_from.ensures.narrows (ap (λ s. s.first_test) c.select_from.ensures.kept) (ap (λ s. s.second_test) c.select_from.ensures.kept)

@@ -2,6 +2,7 @@ use Rattle.std.proofs.Common.{◌≡◌, ◌∙◌, false, refl, sym, ap}
 use Rattle.mono_model.specs.declared.poll.Poll.TheVariants.{Ready, Pending}
 use Rattle.mono_combine.proofs.Lists.{neither}
 use Rattle.mono_combine.proofs.Ending.{may_look, unspent_of, can_of, ended_can}
+use Rattle.mono_combine.proofs.GivesLemmas.{out_given, row_before}
 use Rattle.mono_combine.proofs.select_list.SelectListTaskFuture.poll.Goals as goal
 
 pub look_round-requires-clause-may : goal.look_round-requires-clause-may
@@ -53,3 +54,9 @@ returns-in-Ready-clause-reached g c = g.met.C.Context.reaches_on _ _ _ c.look_ro
 
 pub returns-in-Pending-clause-reached : goal.returns-in-Pending-clause-reached
 returns-in-Pending-clause-reached g c = c.look_round.ensures.reached
+
+pub returns-in-Ready-clause-given : goal.returns-in-Ready-clause-given
+returns-in-Ready-clause-given g c = rw c.answer_of.ensures (out_given g.T.TaskFuture.gives g.G.Fn c.args.self.now.test c.args.self.now.branches.items c.in-Ready.pick (rw c.in-Ready.is at c.look_round.ensures.given))
+
+pub returns-in-Pending-clause-same : goal.returns-in-Pending-clause-same
+returns-in-Pending-clause-same g c = row_before g.T.TaskFuture.gives g.G.Fn c.args.self.now.test c.look_round.new.branches.items c.args.self.now.branches.items c.look_round.ensures.narrows

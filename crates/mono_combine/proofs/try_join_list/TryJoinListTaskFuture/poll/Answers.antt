@@ -3,6 +3,10 @@ use Rattle.std.specs.Prelude.{vec_len}
 use Rattle.mono_model.specs.declared.poll.Poll.TheVariants.{Ready}
 use Rattle.mono_combine.proofs.Lists.{neither, may_from, can_from, unspent_from}
 use Rattle.mono_combine.proofs.Trying.{tries_waiting, tries_all, tries_failed, one_fails, nothing_left, all_gone, gone_can_poll}
+use Rattle.std.specs.List.{filter_map}
+use Rattle.mono_combine.specs.Branches.{MaybeGives}
+use Rattle.mono_combine.specs.TryListed.{GivesValue, value_in, result_as}
+use Rattle.mono_combine.proofs.GivesLemmas.{narrows_each, values_given, error_given, error_before, result_before}
 use Rattle.mono_combine.proofs.try_join_list.TryJoinListTaskFuture.poll.Goals as goal
 
 pub poll_until_failed-requires : goal.poll_until_failed-requires
@@ -79,3 +83,19 @@ returns-then-any_waiting-clause-reached g c = c.poll_until_failed.ensures.reache
 
 pub returns-clause-reached : goal.returns-clause-reached
 returns-clause-reached g c = c.poll_until_failed.ensures.reached
+
+pub returns-then-poll_until_failed-clause-given : goal.returns-then-poll_until_failed-clause-given
+returns-then-poll_until_failed-clause-given g c =
+    error_before g.T.TaskFuture.gives _ _ _ c.poll_until_failed.ensures.narrows (error_given g.T.TaskFuture.gives c.poll_until_failed.new.branches.items _ (sym c.give_up_failing.ensures.error ∙ c.in-Some.is))
+
+pub returns-then-any_waiting-clause-same : goal.returns-then-any_waiting-clause-same
+returns-then-any_waiting-clause-same g c = λ r h. result_before g.T.TaskFuture.gives _ _ (result_as (λ v. v.items) r) c.poll_until_failed.ensures.narrows h
+
+pub returns-clause-given : goal.returns-clause-given
+returns-clause-given g c =
+    let waits = rw c.deref.ensures.value at c.any_waiting.ensures in
+    let none = ap (λ v. v.items) c.replace-values.ensures.value ∙ c.args.self.now.no_values in
+    let some = c.into_iter.ensures.rest ∙ ap (λ v. v.items) c.replace-branches.ensures.value in
+    let values : c.collect_values.new.values.items ≡ filter_map value_in c.poll_until_failed.new.branches.items = c.collect_values.ensures ∙ (rw (none, some) refl) in
+    let given = values_given g.T.TaskFuture c.poll_until_failed.new.branches.items c.poll_until_failed.ensures.again (sym c.poll_until_failed.ensures.failed ∙ c.if-poll_until_failed.false) (sym waits ∙ c.if-any_waiting.false) in
+    narrows_each (MaybeGives g.T.TaskFuture.gives) (GivesValue g.T.TaskFuture.gives) (λ n m x to. to (Ok x)) _ _ c.collect_values.new.values.items c.poll_until_failed.ensures.narrows (rw values given)

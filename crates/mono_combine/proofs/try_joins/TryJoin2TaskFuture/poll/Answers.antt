@@ -1,6 +1,7 @@
-use Rattle.std.proofs.Common.{◌≡◌, None, sym, ◌∙◌, rules}
+use Rattle.std.proofs.Common.{◌≡◌, None, Ok, refl, inl, inr, sym, ◌∙◌, rules}
 use Rattle.mono_combine.proofs.Failing.{first_failed, second_failed, kept}
 use Rattle.mono_combine.proofs.Succeeding.{both_there, can_without}
+use Rattle.mono_combine.proofs.GivesLemmas.{failure_given}
 use Rattle.mono_combine.proofs.try_joins.TryJoin2TaskFuture.poll.Goals as goal
 
 pub returns-in-Some-clause-polled : goal.returns-in-Some-clause-polled
@@ -40,3 +41,17 @@ returns-clause-polled g c =
 
 pub returns-clause-callable : goal.returns-clause-callable
 returns-clause-callable g c = (rw c.take_value-x.ensures.gone tt, rw c.take_value-y.ensures.gone tt)
+
+pub returns-in-Some-clause-given : goal.returns-in-Some-clause-given
+returns-in-Some-clause-given g c = inl (c.poll.ensures.narrows _ (failure_given g.A.TaskFuture.gives _ _ (sym c.take_failure.ensures.error ∙ c.in-Some.is)))
+
+pub returns-in-Some-take_failure-clause-given : goal.returns-in-Some-take_failure-clause-given
+returns-in-Some-take_failure-clause-given g c = inr (c.poll-2.ensures.narrows _ (failure_given g.B.TaskFuture.gives _ _ (sym c.take_failure-2.ensures.error ∙ c.in-Some-take_failure.is)))
+
+pub returns-clause-given : goal.returns-clause-given
+returns-clause-given g c =
+    let none : c.take_failure.result ≡ None = search rules in
+    let none_either : c.take_failure-2.result ≡ None = search rules in
+    let first_same = c.take_failure.ensures.left ∙ kept c.poll.new.self (sym c.take_failure.ensures.error ∙ none) in
+    let second_same = c.take_failure-2.ensures.left ∙ kept c.poll-2.new.self (sym c.take_failure-2.ensures.error ∙ none_either) in
+    (c.poll.ensures.narrows (Ok c.take_value-x.result) (rw (sym first_same ∙ c.take_value-x.ensures.output) refl), c.poll-2.ensures.narrows (Ok c.take_value-y.result) (rw (sym second_same ∙ c.take_value-y.ensures.output) refl))

@@ -1,12 +1,14 @@
 // A sleep that is made at its first poll.
 ghost use Rattle.std.specs.Prelude.{◌≡◌, false};
 ghost use Rattle.mono_model.specs.Poll.{OnPending};
-ghost use Rattle.use_chain.specs.Naps.{nap_spent, Naps, NapPolls, NapCancels};
+ghost use Rattle.mono_time.specs.Naps.{nap_spent, Naps, NapPolls, NapCancels};
 
-use mono_forms::FutureExt;
+use crate::SleepError;
+use crate::constructors::sleep;
+use crate::context::TimeContext;
+use crate::sleeps::Sleep;
 use mono_model::{Host, Poll};
 use mono_task::TaskFuture;
-use mono_time::{Sleep, SleepError, TimeContext, sleep};
 use std::alloc::Global;
 use std::mem;
 use std::time::Duration;
@@ -29,9 +31,18 @@ pub fn sleep_for(duration: Duration) -> SleepFor
     SleepFor::Fresh(duration)
 }
 
-impl FutureExt for SleepFor {}
-
 impl SleepFor {
+    // Whether it has answered.
+    pub(crate) fn is_over(&self) -> bool
+        ensures { result ≡ nap_spent self.now }
+    {
+        match self {
+            SleepFor::Fresh(_) => false,
+            SleepFor::Asleep(_) => false,
+            SleepFor::Over => true,
+        }
+    }
+
     // The sleep is polled, and given up where it answered.
     fn go_on<C: TimeContext, R: Host>(
         &mut self,
@@ -72,11 +83,7 @@ impl<C: TimeContext> TaskFuture<C> for SleepFor {
     ghost cancels = { NapCancels C.sleeps C.work C.reaches };
 
     fn spent(&self) -> bool {
-        match self {
-            SleepFor::Fresh(_) => false,
-            SleepFor::Asleep(_) => false,
-            SleepFor::Over => true,
-        }
+        self.is_over()
     }
 
     fn poll<R: Host>(&mut self, rt: &R, alloc: Global, cx: &mut C) -> Poll<Result<(), SleepError>> {

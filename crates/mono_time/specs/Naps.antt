@@ -10,8 +10,8 @@ use Rattle.mono_model.specs.declared.error.SleepError.TheVariants.{Timer}
 use Rattle.mono_time.specs.Sleeps.{SleepTable}
 use Rattle.mono_time.specs.Futures.{SleepPolls, SleepCancels, SleepMadeAt, deadline_after}
 use Rattle.mono_time.specs.declared.sleeps.Sleep.{Sleep}
-use Rattle.use_chain.specs.declared.naps.SleepFor.{SleepFor}
-use Rattle.use_chain.specs.declared.naps.SleepFor.TheVariants.{Fresh, Asleep, Over}
+use Rattle.mono_time.specs.declared.naps.SleepFor.{SleepFor}
+use Rattle.mono_time.specs.declared.naps.SleepFor.TheVariants.{Fresh, Asleep, Over}
 
 abbrev pub nap_spent : SleepFor → Bool
 nap_spent (Fresh d) = false
