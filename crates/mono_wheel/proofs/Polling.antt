@@ -99,7 +99,7 @@ after-twice : (e f g : ℕ) (o : Option Timed) → Fits e o → e ≤ f → f �
 after-twice e f g None fits l m = refl
 after-twice e f g (Some timed) fits l m = ap Some (moved-twice e f g timed fits l m)
 
-advanced-twice : (a b c : Wheel) → Advanced a b → Advanced b c → Advanced a c
+pub advanced-twice : (a b c : Wheel) → Advanced a b → Advanced b c → Advanced a c
 advanced-twice a b c p q = record {
   fits = p.fits;
   later = let l = p.later in let m = q.later in omega (arith, l, m);
@@ -119,7 +119,7 @@ moved-tick e f timed = elim (cases_lt f (start top_level e timed.registered)) [
   | inr c ↦ ap (λ t. t.tick) (moved-anew e f timed c)
 ]
 
-tick-after : (e f : ℕ) (o p : Option Timed) (timed : Timed) → p ≡ timed_after e f o → o ≡ Some timed → (later : Timed) × (p ≡ Some later) × (later.tick ≡ timed.tick)
+pub tick-after : (e f : ℕ) (o p : Option Timed) (timed : Timed) → p ≡ timed_after e f o → o ≡ Some timed → (later : Timed) × (p ≡ Some later) × (later.tick ≡ timed.tick)
 tick-after e f o p timed is was = (moved e f timed, is ∙ ap (timed_after e f) was, moved-tick e f timed)
 
 tick-before : (e f : ℕ) (o p : Option Timed) (timed : Timed) → p ≡ timed_after e f o → p ≡ Some timed → (first : Timed) × (o ≡ Some first) × (first.tick ≡ timed.tick)

@@ -99,6 +99,13 @@ impl SlotLinks {
         self.links.entry(node)
     }
 
+    /// Returns a number above that of each known node.
+    pub fn end(&self) -> usize
+        ensures { length self.now.entries ≤ result }
+    {
+        self.links.end()
+    }
+
     /// Whether a node carries ticks.
     pub fn is_in(&self, node: usize) -> bool
         ensures { result ≡ is_some (timed_in self.now.entries node) }

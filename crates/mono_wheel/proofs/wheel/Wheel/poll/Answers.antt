@@ -8,21 +8,21 @@ returns-in-Some-clause-polled g c =
     came-out c.args.self.now c.loop-key.self c.take_due.new.self c.args.now c.in-Some.key
     (since-advanced c.args.self.now c.loop-key.self c.in-Some.ensures.fits c.loop-key.invariant.since) c.in-Some.ensures.fits c.in-Some.ensures.due c.loop-key.invariant.ahead
 
-pub advance-requires-clause-none : goal.advance-requires-clause-none
-advance-requires-clause-none g c = subst (λ w. (key : _) → IsPending w key → ⊥) (sym c.in-None.ensures.due.0) c.in-None.ensures.due.1
+pub go_on-requires-clause-none : goal.go_on-requires-clause-none
+go_on-requires-clause-none g c = subst (λ w. (key : _) → IsPending w key → ⊥) (sym c.in-None.ensures.due.0) c.in-None.ensures.due.1
 
-pub returns-then-not-advance-clause-polled : goal.returns-then-not-advance-clause-polled
-returns-then-not-advance-clause-polled g c =
-    nothing-due c.args.self.now c.take_due.new.self c.advance.new.self c.args.now
-    (subst (Since c.args.self.now) (sym c.in-None.ensures.due.0) c.loop-key.invariant.since) c.if-not-advance.ensures.advanced (c.if-not-advance.ensures.passed refl).0 (c.if-not-advance.ensures.passed refl).1
+pub returns-then-not-go_on-clause-polled : goal.returns-then-not-go_on-clause-polled
+returns-then-not-go_on-clause-polled g c =
+    nothing-due c.args.self.now c.take_due.new.self c.go_on.new.self c.args.now
+    (subst (Since c.args.self.now) (sym c.in-None.ensures.due.0) c.loop-key.invariant.since) c.if-not-go_on.ensures.advanced (c.if-not-go_on.ensures.passed refl).0 (c.if-not-go_on.ensures.passed refl).1
 
 pub loop-key-preserved : goal.loop-key-preserved
 loop-key-preserved g c = record {
-  since = inr (since-twice c.args.self.now c.take_due.new.self c.advance.new.self (subst (Since c.args.self.now) (sym c.in-None.ensures.due.0) c.loop-key.invariant.since) c.if-not-advance.ensures.advanced);
-  ahead = (c.if-not-advance.ensures.reached refl).1;
+  since = inr (since-twice c.args.self.now c.take_due.new.self c.go_on.new.self (subst (Since c.args.self.now) (sym c.in-None.ensures.due.0) c.loop-key.invariant.since) c.if-not-go_on.ensures.advanced);
+  ahead = (c.if-not-go_on.ensures.reached refl).1;
   counted =
       let due = c.in-None.ensures.credit in
-      let step = c.if-not-advance.ensures.steps in
+      let step = c.if-not-go_on.ensures.steps in
       let before = c.loop-key.invariant.counted in
       omega (arith, due, step, before);
 }
@@ -33,9 +33,9 @@ returns-in-Some-clause-steps g c =
     let before = c.loop-key.invariant.counted in
     omega (arith, due, before)
 
-pub returns-then-not-advance-clause-steps : goal.returns-then-not-advance-clause-steps
-returns-then-not-advance-clause-steps g c =
+pub returns-then-not-go_on-clause-steps : goal.returns-then-not-go_on-clause-steps
+returns-then-not-go_on-clause-steps g c =
     let due = c.in-None.ensures.credit in
-    let step = c.if-not-advance.ensures.steps in
+    let step = c.if-not-go_on.ensures.steps in
     let before = c.loop-key.invariant.counted in
     omega (arith, due, step, before)
