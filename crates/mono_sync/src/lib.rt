@@ -1,0 +1,9 @@
+//! Channels, semaphores and notices for the tasks of one runtime, as plain values that they share.
+#![tactic(auto)]
+
+mod lines;
+pub mod mpsc;
+mod semaphores;
+
+pub use lines::{Line, Waiter};
+pub use semaphores::{Acquiring, MAX_PERMITS, Semaphore, TooManyPermits, TryAcquireError};
