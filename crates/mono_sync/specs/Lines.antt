@@ -37,6 +37,11 @@ abbrev pub Joins : Line → ℕ → Result ℕ AllocError → Line → Type 0
 Joins a task (Ok t) b = (t ≡ a.next) × (b.waiters.items ≡ a.waiters.items ++ record { ticket = a.next; task = task } ∷ []) × (b.granted ≡ a.granted) × (b.next ≡ a.next + 1)
 Joins a task (Err e) b = SameLine a b
 
+-- the first leaves the line, if any
+abbrev pub Pops : Line → Option Waiter → Line → Type 0
+Pops a (Some w) b = (a.waiters.items ≡ w ∷ b.waiters.items) × (b.granted ≡ a.granted) × (b.next ≡ a.next)
+Pops a None b = (a.waiters.items ≡ []) × (b.waiters.items ≡ []) × (b.granted ≡ a.granted) × (b.next ≡ a.next)
+
 -- The first of those who wait is served, if fewer than `room` were served and have not come.
 abbrev pub Serves : List Waiter → ℕ → ℕ → Option Waiter → Line → Type 0
 Serves ws granted room (Some w) b = (granted < room) × (ws ≡ w ∷ b.waiters.items) × (b.granted ≡ granted + 1)

@@ -3,7 +3,11 @@
 
 mod lines;
 pub mod mpsc;
+mod notices;
+pub mod oneshot;
 mod semaphores;
+pub mod watch;
 
 pub use lines::{Line, Waiter};
+pub use notices::{Notify, Notifying};
 pub use semaphores::{Acquiring, MAX_PERMITS, Semaphore, TooManyPermits, TryAcquireError};

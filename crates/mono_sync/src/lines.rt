@@ -1,6 +1,6 @@
 // The tasks that wait, in the order in which they came.
 ghost use Rattle.std.specs.Prelude.{◌≡◌, []};
-ghost use Rattle.mono_sync.specs.Lines.{stands, still_waits, grants_left, left_by, Joins, Serves, Comes};
+ghost use Rattle.mono_sync.specs.Lines.{stands, still_waits, grants_left, left_by, Joins, Pops, Serves, Comes};
 
 use std::alloc::{AllocError, Global};
 use std::collections::VecDeque;
@@ -56,6 +56,16 @@ impl Line {
         self.waiters.iter().any(|w| w.ticket == ticket)
     }
 
+    /// Returns whether the future that drew this ticket, if any, waits.
+    pub fn is_in(&self, ticket: Option<u64>) -> bool
+        ensures { result ≡ still_waits self.now ticket }
+    {
+        match ticket {
+            None => false,
+            Some(ticket) => self.has(ticket),
+        }
+    }
+
     /// Puts a task last, and returns its ticket. Refused if there is no memory, or no ticket is left.
     pub fn join(&mut self, task: u64) -> Result<u64, AllocError>
         ensures { Joins self.old task result self.new }
@@ -71,6 +81,13 @@ impl Line {
             }
             Err(_) => Err(AllocError),
         }
+    }
+
+    /// Takes the first out of the line, with nothing reserved for it.
+    pub fn pop(&mut self) -> Option<Waiter>
+        ensures pops { Pops self.old result self.new }
+    {
+        self.waiters.pop_front()
     }
 
     /// Takes the first out of the line if fewer than `room` were served and have not come.
