@@ -20,11 +20,10 @@ Rises low (w ∷ ws) next = (low ≤ w.ticket) × (w.ticket < next) × Rises (w.
 abbrev pub FirstComeFirstServed : Type 0
 FirstComeFirstServed = (es : List semaphore.Event) (a b c : Semaphore) (w : Waiter) → Rises 0 a.line.waiters.items a.line.next → semaphore.Run a es b → Releases b (Ok (Some w)) c → Rises (w.ticket + 1) c.line.waiters.items c.line.next
 
-module _ {T : Type 0} where
-  -- what was received, and then what is queued, is what was queued, and then what was sent
-  abbrev pub InOrder : Type 0
-  InOrder = (es : List (channel.Event T)) (a b : Channel T) → channel.Run a es b → channel.received es ++ b.queue.items ≡ a.queue.items ++ channel.sent es
+-- what was received, and then what is queued, is what was queued, and then what was sent
+abbrev pub InOrder : (T : Type 0) → Type 0
+InOrder T = (es : List (channel.Event T)) (a b : Channel T) → channel.Run a es b → channel.received es ++ b.queue.items ≡ a.queue.items ++ channel.sent es
 
-  -- a closed channel stays closed, and takes nothing
-  abbrev pub NothingAfterClose : Type 0
-  NothingAfterClose = (es : List (channel.Event T)) (a b : Channel T) → a.is_closed ≡ true → channel.Run a es b → (b.is_closed ≡ true) × (channel.sent es ≡ []) × (channel.received es ++ b.queue.items ≡ a.queue.items)
+-- a closed channel stays closed, and takes nothing
+abbrev pub NothingAfterClose : (T : Type 0) → Type 0
+NothingAfterClose T = (es : List (channel.Event T)) (a b : Channel T) → a.is_closed ≡ true → channel.Run a es b → (b.is_closed ≡ true) × (channel.sent es ≡ []) × (channel.received es ++ b.queue.items ≡ a.queue.items)

@@ -4,3 +4,7 @@ pub mod Mpsc
 pub mod Oneshot
 pub mod Notices
 pub mod Watches
+pub mod SemaphoreRuns
+pub mod MpscRuns
+pub mod Laws
+pub mod Acquires

@@ -33,7 +33,7 @@ module _ {T : Type 0} where
 
   abbrev pub Run : Channel T → List (Event T) → Channel T → Type 0
   Run a [] b = b ≡ a
-  Run a (e ∷ es) b = (m : Channel T) × (Step a e m × Run m es b)
+  Run a (e ∷ es) b = (m : Channel T) × Step a e m × Run m es b
 
   -- the message that the call sent, if any
   abbrev pub sent_by : Event T → List T

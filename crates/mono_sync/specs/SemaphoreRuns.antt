@@ -26,7 +26,7 @@ Step a (closed woken) b = Closes a woken b
 
 abbrev pub Run : Semaphore → List Event → Semaphore → Type 0
 Run a [] b = b ≡ a
-Run a (e ∷ es) b = (m : Semaphore) × (Step a e m × Run m es b)
+Run a (e ∷ es) b = (m : Semaphore) × Step a e m × Run m es b
 
 -- how many permits the call gave
 abbrev pub given_by : Event → ℕ

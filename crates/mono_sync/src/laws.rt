@@ -13,10 +13,10 @@ pub fn first_come_first_served()
 
 /// What was received of an empty channel is a prefix of what was sent, in order, each once.
 pub fn received_in_order<T>()
-    ensures { InOrder {T = T} }
+    ensures { InOrder T }
 {}
 
 /// Once a channel was closed, what was queued is received and nothing else.
 pub fn nothing_after_close<T>()
-    ensures { NothingAfterClose {T = T} }
+    ensures { NothingAfterClose T }
 {}

@@ -1,9 +1,11 @@
 // A bounded channel as a plain value.
 ghost use Rattle.std.specs.Prelude.{◌≡◌, ◌-◌, ◌++◌, ◌∷◌, ⊤, [], true, false, length, MatchResult, MatchOption};
 ghost use Rattle.mono_sync.specs.Lines.{SameLine};
+ghost use Rattle.mono_sync.specs.MpscRuns.{Leads, leads_itself, leads_on};
 ghost use Rattle.mono_sync.specs.Mpsc.{Pushes, Pops, Rests, Kept, TriesToSend, TriesToReceive, Sends, Receives, GivesUpSend, GivesUpReceive, Closes, places};
 
 use crate::lines::{Line, Waiter};
+use mono_shared::SharedState;
 use std::alloc::Global;
 use std::collections::VecDeque;
 
@@ -68,6 +70,15 @@ pub enum Receiving<T> {
     Joined(u64),
     /// It still waits.
     Waits,
+}
+
+/// Some calls were made, and nothing else was done.
+impl<T> SharedState for Channel<T> {
+    ghost leads = { Leads };
+
+    ghost leads_itself = { leads_itself };
+
+    ghost leads_on = { leads_on };
 }
 
 impl<T: Drop> Channel<T> {

@@ -1,8 +1,10 @@
 // A semaphore as a plain value.
 ghost use Rattle.std.specs.Prelude.{◌≡◌, ◌-◌, [], false};
+ghost use Rattle.mono_sync.specs.SemaphoreRuns.{Leads, leads_itself, leads_on};
 ghost use Rattle.mono_sync.specs.Semaphores.{TriesToAcquire, Acquires, Releases, GivesUp, Closes};
 
 use crate::lines::{Line, Waiter};
+use mono_shared::SharedState;
 use std::alloc::Global;
 use std::collections::VecDeque;
 
@@ -46,6 +48,15 @@ pub enum Acquiring {
     Joined(u64),
     /// It still waits.
     Waits,
+}
+
+/// Some calls were made, and nothing else was done.
+impl SharedState for Semaphore {
+    ghost leads = { Leads };
+
+    ghost leads_itself = { leads_itself };
+
+    ghost leads_on = { leads_on };
 }
 
 impl Semaphore {
