@@ -7,4 +7,6 @@ pub mod Watches
 pub mod SemaphoreRuns
 pub mod MpscRuns
 pub mod Laws
+pub mod Wakes
 pub mod Acquires
+pub mod Messages

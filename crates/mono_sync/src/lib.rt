@@ -4,6 +4,7 @@
 mod acquires;
 pub mod laws;
 mod lines;
+mod messages;
 pub mod mpsc;
 mod notices;
 pub mod oneshot;
