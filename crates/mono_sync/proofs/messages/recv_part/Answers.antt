@@ -1,0 +1,6 @@
+use Rattle.mono_sync.specs.MpscRuns.{asked_to_receive, leads_by}
+use Rattle.mono_sync.proofs.messages.recv_part.Goals as goal
+
+pub returns-clause-leads : goal.returns-clause-leads
+returns-clause-leads g c =
+    g.met.W.Holds.leads_with _ _ (leads_by (asked_to_receive c.args.ticket c.args.task c.recv.result) _ _ (rw c.part_mut.ensures.value at c.recv.ensures))

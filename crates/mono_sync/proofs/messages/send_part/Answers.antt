@@ -1,0 +1,6 @@
+use Rattle.mono_sync.specs.MpscRuns.{asked_to_send, leads_by}
+use Rattle.mono_sync.proofs.messages.send_part.Goals as goal
+
+pub returns-clause-leads : goal.returns-clause-leads
+returns-clause-leads g c =
+    g.met.W.Holds.leads_with _ _ (leads_by (asked_to_send c.args.ticket c.args.message c.args.task c.send.result) _ _ (rw c.part_mut.ensures.value at c.send.ensures))

@@ -1,0 +1,29 @@
+-- What holds over any calls of a channel and of a semaphore.
+use Rattle.std.specs.Prelude.{⊤, true, false, ◌≡◌, ◌<◌, ◌≤◌, ◌+◌, ℕ, List, [], ◌∷◌, ◌++◌, Option, Some, None, Result, Ok, Err}
+use Rattle.mono_sync.specs.declared.lines.Waiter.{Waiter}
+use Rattle.mono_sync.specs.declared.semaphores.Semaphore.{Semaphore}
+use Rattle.mono_sync.specs.declared.mpsc.Channel.{Channel}
+use Rattle.mono_sync.specs.Semaphores.{Releases}
+use Rattle.mono_sync.specs.SemaphoreRuns as semaphore
+use Rattle.mono_sync.specs.MpscRuns as channel
+
+-- the permits that were given and those that are left are those that there were and those that were put back
+abbrev pub PermitsAreKept : Type 0
+PermitsAreKept = (es : List semaphore.Event) (a b : Semaphore) → semaphore.Run a es b → semaphore.given es + b.available ≡ a.available + semaphore.put_back es
+
+-- those who wait have rising tickets, from the first on, below the next
+abbrev pub Rises : ℕ → List Waiter → ℕ → Type 0
+Rises low [] next = low ≤ next
+Rises low (w ∷ ws) next = (low ≤ w.ticket) × (w.ticket < next) × Rises (w.ticket + 1) ws next
+
+-- Tickets rise along a line, whatever was called. So the first, which is served, has the least.
+abbrev pub FirstComeFirstServed : Type 0
+FirstComeFirstServed = (es : List semaphore.Event) (a b c : Semaphore) (w : Waiter) → Rises 0 a.line.waiters.items a.line.next → semaphore.Run a es b → Releases b (Ok (Some w)) c → Rises (w.ticket + 1) c.line.waiters.items c.line.next
+
+-- what was received, and then what is queued, is what was queued, and then what was sent
+abbrev pub InOrder : (T : Type 0) → Type 0
+InOrder T = (es : List (channel.Event T)) (a b : Channel T) → channel.Run a es b → channel.received es ++ b.queue.items ≡ a.queue.items ++ channel.sent es
+
+-- a closed channel stays closed, and takes nothing
+abbrev pub NothingAfterClose : (T : Type 0) → Type 0
+NothingAfterClose T = (es : List (channel.Event T)) (a b : Channel T) → a.is_closed ≡ true → channel.Run a es b → (b.is_closed ≡ true) × (channel.sent es ≡ []) × (channel.received es ++ b.queue.items ≡ a.queue.items)

@@ -1,0 +1,12 @@
+pub mod Lines
+pub mod Semaphores
+pub mod Mpsc
+pub mod Oneshot
+pub mod Notices
+pub mod Watches
+pub mod SemaphoreRuns
+pub mod MpscRuns
+pub mod Laws
+pub mod Wakes
+pub mod Acquires
+pub mod Messages

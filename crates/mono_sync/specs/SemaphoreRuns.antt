@@ -1,0 +1,78 @@
+-- Calls of a semaphore in a row.
+use Rattle.std.specs.Prelude.{⊤, true, false, ◌≡◌, ◌<◌, ◌≤◌, ◌+◌, ℕ, List, [], ◌∷◌, ◌++◌, Option, Some, None, Result, Ok, Err, refl}
+use Rattle.std.proofs.Common.{subst}
+use Rattle.mono_sync.specs.declared.lines.Waiter.{Waiter}
+use Rattle.mono_sync.specs.declared.semaphores.Semaphore.{Semaphore}
+use Rattle.mono_sync.specs.declared.semaphores.TryAcquireError.{TryAcquireError}
+use Rattle.mono_sync.specs.declared.semaphores.TooManyPermits.{TooManyPermits}
+use Rattle.mono_sync.specs.declared.semaphores.Acquiring.{Acquiring}
+use Rattle.mono_sync.specs.declared.semaphores.Acquiring.TheVariants as acquiring
+use Rattle.mono_sync.specs.Semaphores.{TriesToAcquire, Acquires, Releases, GivesUp, Closes}
+
+-- a call with its answer
+pub data Event : Type 0 where
+  tried : (answer : Result ⊤ TryAcquireError) → Event
+  asked : (ticket : Option ℕ) → (task : ℕ) → (answer : Acquiring) → Event
+  released : (answer : Result (Option Waiter) TooManyPermits) → Event
+  gave_up : (ticket : Option ℕ) → (first : Option Waiter) → Event
+  closed : (woken : List Waiter) → Event
+
+abbrev pub Step : Semaphore → Event → Semaphore → Type 0
+Step a (tried r) b = TriesToAcquire a r b
+Step a (asked ticket task r) b = Acquires a ticket task r b
+Step a (released r) b = Releases a r b
+Step a (gave_up ticket first) b = GivesUp a ticket first b
+Step a (closed woken) b = Closes a woken b
+
+abbrev pub Run : Semaphore → List Event → Semaphore → Type 0
+Run a [] b = b ≡ a
+Run a (e ∷ es) b = (m : Semaphore) × Step a e m × Run m es b
+
+-- how many permits the call gave
+abbrev pub given_by : Event → ℕ
+given_by (tried (Ok done)) = 1
+given_by (tried (Err e)) = 0
+given_by (asked ticket task acquiring.Acquired) = 1
+given_by (asked ticket task acquiring.Closed) = 0
+given_by (asked ticket task acquiring.Memory) = 0
+given_by (asked ticket task (acquiring.Joined t)) = 0
+given_by (asked ticket task acquiring.Waits) = 0
+given_by (released r) = 0
+given_by (gave_up ticket first) = 0
+given_by (closed woken) = 0
+
+abbrev pub given : List Event → ℕ
+given [] = 0
+given (e ∷ es) = given_by e + given es
+
+-- how many permits the call put back
+abbrev pub put_back_by : Event → ℕ
+put_back_by (tried r) = 0
+put_back_by (asked ticket task r) = 0
+put_back_by (released (Ok first)) = 1
+put_back_by (released (Err e)) = 0
+put_back_by (gave_up ticket first) = 0
+put_back_by (closed woken) = 0
+
+abbrev pub put_back : List Event → ℕ
+put_back [] = 0
+put_back (e ∷ es) = put_back_by e + put_back es
+
+-- some calls lead from the first to the second
+pub record Leads (a b : Semaphore) : Type 0 where
+  pub events : List Event
+  pub run : Run a events b
+
+pub leads_itself : (a : Semaphore) → Leads a a
+leads_itself a = record { events = []; run = refl }
+
+run_on : (xs ys : List Event) (a b c : Semaphore) → Run a xs b → Run b ys c → Run a (xs ++ ys) c
+run_on [] ys a b c same more = subst (λ m. Run m ys c) same more
+run_on (x ∷ xs) ys a b c (m, step, rest) more = (m, step, run_on xs ys m b c rest more)
+
+pub leads_on : (a b c : Semaphore) → Leads a b → Leads b c → Leads a c
+leads_on a b c p q = record { events = p.events ++ q.events; run = run_on p.events q.events a b c p.run q.run }
+
+-- one call leads on
+pub leads_by : (e : Event) (a b : Semaphore) → Step a e b → Leads a b
+leads_by e a b step = record { events = e ∷ []; run = (b, step, refl) }

@@ -1,0 +1,34 @@
+-- A watched value, and what its calls do to it.
+use Rattle.std.specs.Prelude.{true, false, ◌≡◌, ◌≢◌, ◌<◌, ◌≤◌, ◌+◌, ◌⊎◌, ℕ, List, [], ◌∷◌, ◌++◌, Option, Some, None, Result, Ok, Err}
+use Rattle.mono_sync.specs.declared.lines.Waiter.{Waiter}
+use Rattle.mono_sync.specs.declared.watch.Watch.{Watch}
+use Rattle.mono_sync.specs.declared.watch.Replaced.{Replaced}
+use Rattle.mono_sync.specs.declared.watch.Changing.{Changing}
+use Rattle.mono_sync.specs.declared.watch.Changing.TheVariants as changing
+use Rattle.mono_sync.specs.Lines.{still_waits, left_by}
+
+module _ {T : Type 0} where
+  -- the value, its version and whether it was closed stay
+  abbrev pub Kept : Watch T → Watch T → Type 0
+  Kept a b = (b.value ≡ a.value) × (b.version ≡ a.version) × (b.is_closed ≡ a.is_closed)
+
+  -- the value is replaced, and all who wait are served; or the value comes back
+  abbrev pub Sends : Watch T → T → Result (Replaced T) T → Watch T → Type 0
+  Sends a x (Ok r) b = (a.is_closed ≡ false) × (b.value ≡ x) × (r.old ≡ a.value) × (b.version ≡ a.version + 1) × (r.woken.items ≡ a.line.waiters.items) × (b.line.waiters.items ≡ []) × (b.line.next ≡ a.line.next) × (b.is_closed ≡ false)
+  Sends a x (Err y) b = (y ≡ x) × (b ≡ a)
+
+  -- A future that has seen a version asks for another.
+  abbrev pub Changes : Watch T → ℕ → Option ℕ → ℕ → Changing → Watch T → Type 0
+  Changes a seen ticket task (changing.Changed v) b = (v ≡ a.version) × (a.version ≢ seen) × (b ≡ a)
+  Changes a seen ticket task changing.Closed b = (a.version ≡ seen) × (a.is_closed ≡ true) × (b ≡ a)
+  Changes a seen ticket task changing.Waits b = (a.version ≡ seen) × (a.is_closed ≡ false) × (still_waits a.line ticket ≡ true) × (b ≡ a)
+  Changes a seen ticket task (changing.Joined t) b = (a.version ≡ seen) × (a.is_closed ≡ false) × (still_waits a.line ticket ≡ false) × (t ≡ a.line.next) × (b.line.waiters.items ≡ a.line.waiters.items ++ record { ticket = t; task = task } ∷ []) × (b.line.next ≡ a.line.next + 1) × Kept a b
+  Changes a seen ticket task changing.Memory b = (a.version ≡ seen) × (a.is_closed ≡ false) × (still_waits a.line ticket ≡ false) × (b.line.waiters.items ≡ a.line.waiters.items) × (b.line.next ≡ a.line.next) × Kept a b
+
+  -- a future leaves the line
+  abbrev pub GivesUp : Watch T → Option ℕ → Watch T → Type 0
+  GivesUp a ticket b = (b.line.waiters.items ≡ left_by a.line.waiters.items ticket) × (b.line.next ≡ a.line.next) × Kept a b
+
+  -- the value changes no more, and all who wait leave the line
+  abbrev pub Closes : Watch T → List Waiter → Watch T → Type 0
+  Closes a woken b = (woken ≡ a.line.waiters.items) × (b.line.waiters.items ≡ []) × (b.line.next ≡ a.line.next) × (b.value ≡ a.value) × (b.version ≡ a.version) × (b.is_closed ≡ true)

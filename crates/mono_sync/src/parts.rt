@@ -1,0 +1,55 @@
+// A shared value that has a channel, a semaphore or the like as a part.
+ghost use Rattle.std.specs.Prelude.{◌≡◌, refl};
+ghost use Rattle.std.specs.Borrow.{sem, Lends};
+
+use mono_shared::SharedState;
+
+/// A shared value that has an `X` as a part: the value itself, or a field of it.
+pub trait Holds<X: SharedState>: SharedState {
+    // the part
+    ghost part: { Self → X };
+
+    // the value with this part in its place
+    ghost with_part: { Self → X → Self };
+
+    /// Returns the part, to be read and changed. What is left behind the reference is the part afterwards, and nothing else of
+    /// the value changes (`writes_back`).
+    fn part_mut(&mut self) -> &mut X
+        ensures* writes_back { sem 𝓛 (Lends Self.row X.row self.entry result (with_part self.old)) }
+        ensures value { result.now ≡ part self.old };
+
+    ghost part_with: { (w : Self) (x : X) → part (with_part w x) ≡ x };
+
+    // a value whose part was led is led
+    ghost leads_with: { (w : Self) (x : X) → X.leads (part w) x → Self.leads w (with_part w x) };
+}
+
+/// A shared value with one part.
+#[derive(Drop)]
+pub struct Only<X> {
+    /// The part.
+    pub part: X,
+}
+
+/// It leads as its part does.
+impl<X: SharedState> SharedState for Only<X> {
+    ghost leads = { λ a b. X.leads a.part b.part };
+
+    ghost leads_itself = { λ a. X.leads_itself a.part };
+
+    ghost leads_on = { λ a b c. X.leads_on a.part b.part c.part };
+}
+
+impl<X: SharedState> Holds<X> for Only<X> {
+    ghost part = { λ w. w.part };
+
+    ghost with_part = { λ w x. record { part = x } };
+
+    fn part_mut(&mut self) -> &mut X {
+        &mut self.part
+    }
+
+    ghost part_with = { λ w x. refl };
+
+    ghost leads_with = { λ w x led. led };
+}
