@@ -6,7 +6,8 @@ use std::alloc::{AllocError, Global};
 /// The room for the output where it is to be enough.
 pub(crate) const ROOM: usize = 1048576;
 
-fn split(alloc: Global, text: &str) -> Result<Vec<String>, AllocError> {
+/// The words of a text, with one blank between two.
+pub(crate) fn split(alloc: Global, text: &str) -> Result<Vec<String>, AllocError> {
     let mut words = Vec::new(alloc);
     for word in text.split(' ') {
         words.push(String::from_str(alloc, word)?)?;

@@ -62,3 +62,15 @@ fn a_start_ends_with_the_output_or_the_turns(rt: HostRuntime) {
     assert!(rt; started(&rt, alloc, ready(&rt, alloc, 1), 10) == Ok(1));
     assert!(rt; started(&rt, alloc, Work::Waits, 3) == Err(RunError::Turns));
 }
+
+/// How a main task that sleeps ends on a runtime with timers and the defaults.
+fn slept<R: Host>(rt: &R, alloc: Global, units: u64) -> Result<u64, RunError> {
+    let driver = TimeDriver::new(StepDriver::new(Vec::new(alloc)));
+    start::<_, _, _, NoPool<Gives>, _>(rt, alloc, driver, Work::Sleeps(5, None), units)
+}
+
+#[test]
+fn a_start_has_so_many_units(rt: HostRuntime) {
+    assert!(rt; slept(&rt, rt.alloc(), 2) == Ok(5));
+    assert!(rt; slept(&rt, rt.alloc(), 1) == Err(RunError::Turns));
+}

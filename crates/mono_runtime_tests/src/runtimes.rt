@@ -96,3 +96,28 @@ fn woken<R: Host + Abort + Copy + Send + 'static>(rt: R, alloc: Global) -> (bool
 fn no_wake_of_a_sleeping_runtime_is_lost(rt: HostRuntime) {
     assert_eq!(rt; woken(rt, rt.alloc()), (true, WAKES + 1, 0));
 }
+
+/// Hands its waker out in its one turn.
+const HANDS_OUT: Task = Task {
+    calls: &[Call::Waker],
+    answers: &[0],
+    ..IDLE
+};
+
+/// Whether the main task's waker lists nothing once its output was answered.
+fn is_unlisted_after<R: Host + Abort>(rt: &R, alloc: Global) -> bool {
+    let main = main_task(rt, alloc, HANDS_OUT);
+    let shared = Arc::try_clone(&main.shared).expect(rt, "memory");
+    let pool = BlockingHandle::<Keeps>::Empty(BlockingStrategy::Panic);
+    let mut runtime = sleeping(rt, alloc, pool, 4);
+    let is_ready = matches!(answer_of(rt, alloc, &mut runtime, main, 10), Ok(1));
+    let waker = shared.waker.lock(rt).take().expect(rt, "a waker");
+    let is_listed = waker.wake(rt);
+    let has_no_pool = refusals_of(runtime).is_none();
+    is_ready && has_no_pool && !is_listed
+}
+
+#[test]
+fn a_waker_of_the_main_task_lists_nothing_after_the_answer(rt: HostRuntime) {
+    assert!(rt; is_unlisted_after(&rt, rt.alloc()));
+}

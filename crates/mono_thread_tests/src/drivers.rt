@@ -6,6 +6,7 @@ use mono_model::{Host, MAX_NANOS};
 use std::alloc::Global;
 use std::process::Abort;
 use std::sync::atomic::Ordering;
+use std::time;
 use std::time::Duration;
 
 /// A clock with these readings.
@@ -138,4 +139,14 @@ fn a_park_ends_by_another_thread(rt: HostRuntime) {
     for is_limited in [false, true, false] {
         assert!(rt; parks_for_the_flag(rt, rt.alloc(), &mut driver, is_limited));
     }
+}
+
+#[test]
+fn a_timed_park_of_a_driver_ends_near_its_time(rt: HostRuntime) {
+    let clock = clock_of(&rt, rt.alloc(), &[0]);
+    let mut driver = ThreadDriver::new(rt.alloc(), clock).expect(&rt, "memory");
+    let begin = time::Instant::now(&rt).expect(&rt, "a clock");
+    assert!(rt; driver.park_timeout(&rt, Duration::from_millis(300)).is_ok());
+    let gone = begin.elapsed(&rt).expect(&rt, "a clock");
+    assert!(rt; gone >= Duration::from_millis(300) && gone < Duration::from_secs(30));
 }

@@ -5,9 +5,9 @@ use std::alloc::Global;
 use std::process::Abort;
 use std::sync::Arc;
 use std::sync::atomic::{AtomicU64, Ordering};
-use std::thread;
 use std::thread::JoinHandle;
 use std::time::Duration;
+use std::{thread, time};
 
 #[test]
 fn a_token_is_taken_once(rt: HostRuntime) {
@@ -143,4 +143,28 @@ fn a_token_goes_to_and_fro(rt: HostRuntime) {
     let mine = Parker::new(rt.alloc()).expect(&rt, "memory");
     let theirs = Parker::new(rt.alloc()).expect(&rt, "memory");
     assert!(rt; goes_to_and_fro(rt, rt.alloc(), &mine, theirs));
+}
+
+/// How long a park takes, of at most so many milliseconds, that nobody ends.
+fn gone_of<R: Host + Abort>(rt: &R, parker: &Parker, milliseconds: u64) -> Duration {
+    let begin = time::Instant::now(rt).expect(rt, "a clock");
+    parker.park_timeout(rt, Duration::from_millis(milliseconds));
+    begin.elapsed(rt).expect(rt, "a clock")
+}
+
+#[test]
+fn a_timed_park_ends_near_its_time(rt: HostRuntime) {
+    let parker = Parker::new(rt.alloc()).expect(&rt, "memory");
+    let gone = gone_of(&rt, &parker, 300);
+    assert!(rt; gone >= Duration::from_millis(300) && gone < Duration::from_secs(30));
+}
+
+#[test]
+fn a_park_does_not_end_by_itself(rt: HostRuntime) {
+    let parker = Parker::new(rt.alloc()).expect(&rt, "memory");
+    let handle = handle_of(&rt, &parker);
+    let (flag, other) = start_setting(rt, rt.alloc(), handle, Duration::from_secs(4));
+    parker.park(&rt);
+    assert!(rt; flag.load(Ordering::SeqCst) == 1);
+    other.join(&rt);
 }

@@ -34,18 +34,12 @@ fn a_pool_without_workers_runs_on_the_caller(rt: HostRuntime) {
     pool.close(&rt);
 }
 
-/// How often the first job looks for the second.
-const LOOKS: u64 = 500000000;
-
-/// The first job looks for a flag, any other one sets it.
+/// The first job looks for a flag, and any other one adds one to it.
 #[derive(Drop)]
 struct Meets {
     number: u64,
     flag: Arc<AtomicU64, Global>,
 }
-
-/// What a job that never saw the flag adds to it. One that sets it adds one.
-const MISSED: u64 = 1 << 32;
 
 impl Outcome for Meets {
     ghost output_number = { λ job. job.number };
@@ -55,14 +49,13 @@ impl Outcome for Meets {
     }
 }
 
-/// Whether the flag was set within so many looks.
-fn looks(flag: &AtomicU64) -> bool {
-    for _ in 0..LOOKS {
-        if flag.load(Ordering::SeqCst) > 0 {
-            return true;
+/// Looks for the flag until it counts so many. A pool that never sets it hangs the test.
+fn looks(flag: &AtomicU64, count: u64) {
+    for _ in 0..u64::MAX {
+        if flag.load(Ordering::SeqCst) >= count {
+            return;
         }
     }
-    false
 }
 
 impl Job for Meets {
@@ -71,10 +64,10 @@ impl Job for Meets {
     type Unpark = NoUnpark;
 
     fn run(self) -> u64 {
-        if self.number != 1 {
+        if self.number == 1 {
+            looks(&self.flag, 1);
+        } else {
             self.flag.fetch_add(1, Ordering::SeqCst);
-        } else if !looks(&self.flag) {
-            self.flag.fetch_add(MISSED, Ordering::SeqCst);
         }
         self.number
     }
@@ -135,21 +128,19 @@ fn use_pool<R: Host + Abort + Send + 'static, P: Spawner>(
         Between::Sets => {
             flag.fetch_add(1, Ordering::SeqCst);
         }
-        Between::Looks => assert!(rt; looks(flag)),
+        Between::Looks => looks(flag, 1),
     }
     pool.close(rt);
     joiners
 }
 
-/// How many jobs are done, each with its own number, from the first one on. None may have missed the flag.
+/// How many jobs are done, each with its own number, from the first one on.
 fn count_met<R: Host + Abort>(
     rt: &R,
     alloc: Global,
     joiners: Vec<JobJoiner<Meets>>,
-    flag: &AtomicU64,
     first: u64,
 ) -> u64 {
-    assert!(rt; flag.load(Ordering::SeqCst) < MISSED);
     let mut number = first;
     for joiner in joiners {
         ends(rt, joiner, waker(rt, alloc, 0), Ok(number));
@@ -164,7 +155,7 @@ fn run_by<R: Host + Abort + Send + 'static>(rt: &R, alloc: Global, plan: &Plan) 
     let mut spawner = ThreadSpawner::new(alloc);
     let joiners = use_pool(rt, alloc, &mut spawner, &flag, plan);
     spawner.join(rt);
-    count_met(rt, alloc, joiners, &flag, plan.first)
+    count_met(rt, alloc, joiners, plan.first)
 }
 
 /// Uses a pool as each plan says: the workers must have run all its jobs.
@@ -177,7 +168,7 @@ fn run_all_by<R: Host + Abort + Send + 'static>(rt: &R, alloc: Global, plans: &[
 /// How long workers are given to begin to wait, in milliseconds.
 const A_WHILE: u64 = 50;
 
-const PLANS: [Plan; 6] = [
+const PLANS: [Plan; 8] = [
     // two workers run two jobs at once, of which the first looks for the flag and the second sets it
     Plan {
         workers: 2,
@@ -213,6 +204,22 @@ const PLANS: [Plan; 6] = [
     Plan {
         workers: 1,
         after: A_WHILE,
+        first: 2,
+        jobs: 1,
+        between: Between::Looks,
+    },
+    // two workers that wait are both told, before the close: the first job looks for the flag, and the second sets it
+    Plan {
+        workers: 2,
+        after: A_WHILE,
+        first: 1,
+        jobs: 2,
+        between: Between::Looks,
+    },
+    // a worker that has waited long is still there
+    Plan {
+        workers: 1,
+        after: 4000,
         first: 2,
         jobs: 1,
         between: Between::Looks,
@@ -309,7 +316,70 @@ fn a_thread_enters_before_its_worker(rt: HostRuntime) {
     let joiners = use_pool(&rt, alloc, &mut spawner, &flag, &ENTERED);
     let SetsFirst { inner, flag: _flag } = spawner;
     inner.join(&rt);
-    assert!(rt; count_met(&rt, alloc, joiners, &flag, 1) == 1);
+    assert!(rt; count_met(&rt, alloc, joiners, 1) == 1);
+}
+
+/// How many jobs are handed over one by one: so many that a wake which is lost now and then does not stay unseen.
+const HANDED: u64 = 100_000;
+
+/// Hands jobs to the pool one by one, each once the last one has run. A wake that is lost hangs the test.
+fn hand_over<R: Host + Abort>(
+    rt: &R,
+    alloc: Global,
+    pool: &mut DefaultThreadPool<Meets>,
+    flag: &Arc<AtomicU64, Global>,
+) {
+    for job in 0..HANDED {
+        let theirs = Arc::try_clone(flag).expect(rt, "memory");
+        let made = BlockingTask::new(
+            alloc,
+            Meets {
+                number: 2,
+                flag: theirs,
+            },
+        );
+        let (task, _joiner) = made.ok().expect(rt, "memory");
+        assert!(rt; pool.schedule_task(rt, alloc, task).is_ok());
+        looks(flag, job.wrapping_add(1));
+    }
+}
+
+#[test]
+fn each_job_wakes_a_worker_that_waits(rt: HostRuntime) {
+    let alloc = rt.alloc();
+    let flag = Arc::new(alloc, AtomicU64::new(0)).expect(&rt, "memory");
+    let mut spawner = ThreadSpawner::new(alloc);
+    let mut pool = DefaultThreadPool::new(&rt, alloc, 1, &mut spawner).expect(&rt, "memory");
+    hand_over(&rt, alloc, &mut pool, &flag);
+    pool.close(&rt);
+    spawner.join(&rt);
+}
+
+/// Gives the spawner a thread that adds one to a count after so many milliseconds.
+fn keep_late<R: Host + Abort + Copy + Send + 'static>(
+    rt: R,
+    spawner: &mut ThreadSpawner,
+    ended: &Arc<AtomicU64, Global>,
+    after: u64,
+) {
+    let theirs = Arc::try_clone(ended).expect(&rt, "memory");
+    let thread = thread::spawn(&rt, move || {
+        thread::sleep(&rt, Duration::from_millis(after));
+        theirs.fetch_add(1, Ordering::SeqCst);
+    });
+    assert!(rt; spawner.admit().is_some());
+    spawner.keep(thread.ok().expect(&rt, "a thread"));
+}
+
+#[test]
+fn a_spawner_joins_each_thread(rt: HostRuntime) {
+    let alloc = rt.alloc();
+    let ended = Arc::new(alloc, AtomicU64::new(0)).expect(&rt, "memory");
+    let mut spawner = ThreadSpawner::new(alloc);
+    keep_late(rt, &mut spawner, &ended, 0);
+    keep_late(rt, &mut spawner, &ended, 1000);
+    spawner.join(&rt);
+    assert!(rt; ended.load(Ordering::SeqCst) == 2);
 }
 
 #[test]

@@ -53,10 +53,14 @@ fn all_answer<R: Abort>(rt: &R, alloc: Global, state: &mut InboxState, calls: &[
     }
 }
 
-/// So many tasks are made known in turn, each woken, taken and retired; every 100,000th is not retired.
-fn come_and_go(alloc: Global, state: &mut InboxState, tasks: u64) -> bool {
+/// How far apart two tasks that are made known are, so that few calls reach all pages and parts of an inbox's marks.
+const STEP: u64 = 50;
+
+/// Every `STEP`th task below a number is made known in turn, woken, taken and retired; every 100,000th is not retired.
+fn come_and_go(alloc: Global, state: &mut InboxState, end: u64) -> bool {
     let mut all_listed = true;
-    for task in 0..tasks {
+    for at in 0..end / STEP {
+        let task = at.wrapping_mul(STEP);
         let known = state.know(alloc, task).is_ok();
         let listed = state.put(task) && !state.put(task) && state.drain_one() == Some(task);
         all_listed = all_listed && known && listed;
@@ -67,10 +71,10 @@ fn come_and_go(alloc: Global, state: &mut InboxState, tasks: u64) -> bool {
     all_listed
 }
 
-/// The calls on a new state with this room, behind so many tasks that come and go.
-fn all_answer_behind<R: Abort>(rt: &R, alloc: Global, room: usize, tasks: u64, calls: &[Call]) {
+/// The calls on a new state with this room, after tasks below a number have come and gone.
+fn all_answer_behind<R: Abort>(rt: &R, alloc: Global, room: usize, end: u64, calls: &[Call]) {
     let mut state = InboxState::new(alloc, room).expect(rt, "memory");
-    assert!(rt; come_and_go(alloc, &mut state, tasks));
+    assert!(rt; come_and_go(alloc, &mut state, end));
     all_answer(rt, alloc, &mut state, calls);
 }
 
@@ -109,30 +113,30 @@ const RETIRED: [Call; 16] = [
 // Kept marks outlive their neighbours: the tasks lie far past the first page and the first part of an inbox's marks.
 const KEPT_MARKS: [Call; 40] = [
     Call::Puts(0, true),
-    Call::Puts(1, false),
+    Call::Puts(50, false),
     Call::Puts(100_000, true),
-    Call::Puts(100_001, false),
+    Call::Puts(100_050, false),
     Call::Puts(200_000, true),
-    Call::Puts(200_001, false),
+    Call::Puts(200_050, false),
     Call::Puts(300_000, true),
-    Call::Puts(300_001, false),
+    Call::Puts(300_050, false),
     Call::Puts(400_000, true),
-    Call::Puts(400_001, false),
+    Call::Puts(400_050, false),
     Call::Puts(500_000, true),
-    Call::Puts(500_001, false),
+    Call::Puts(500_050, false),
     Call::Puts(600_000, true),
-    Call::Puts(600_001, false),
+    Call::Puts(600_050, false),
     Call::Puts(700_000, true),
-    Call::Puts(700_001, false),
+    Call::Puts(700_050, false),
     Call::Puts(800_000, true),
-    Call::Puts(800_001, false),
+    Call::Puts(800_050, false),
     Call::Puts(900_000, true),
-    Call::Puts(900_001, false),
+    Call::Puts(900_050, false),
     Call::Puts(1_000_000, true),
-    Call::Puts(1_000_001, false),
+    Call::Puts(1_000_050, false),
     Call::Puts(1_100_000, true),
-    Call::Puts(1_100_001, false),
-    Call::Puts(1_149_999, false),
+    Call::Puts(1_100_050, false),
+    Call::Puts(1_149_950, false),
     Call::Puts(1_150_000, false),
     Call::Waits(12),
     Call::DrainsOne(Some(0)),
@@ -152,10 +156,10 @@ const KEPT_MARKS: [Call; 40] = [
 
 // A number that went is known anew.
 const KNOWN_ANEW: [Call; 18] = [
-    Call::Puts(9_999, false),
-    Call::Knows(9_999, true),
-    Call::Puts(9_999, true),
-    Call::Retires(9_999),
+    Call::Puts(9_950, false),
+    Call::Knows(9_950, true),
+    Call::Puts(9_950, true),
+    Call::Retires(9_950),
     Call::Knows(5_000_000, true),
     Call::Puts(5_000_000, true),
     Call::Puts(4_999_999, false),
@@ -163,8 +167,8 @@ const KNOWN_ANEW: [Call; 18] = [
     Call::Knows(3, true),
     Call::Puts(3, true),
     Call::Puts(2, false),
-    Call::DrainsOne(Some(9_999)),
-    Call::Puts(9_999, false),
+    Call::DrainsOne(Some(9_950)),
+    Call::Puts(9_950, false),
     Call::DrainsOne(Some(5_000_000)),
     Call::DrainsOne(Some(3)),
     Call::Puts(5_000_000, true),
@@ -172,7 +176,7 @@ const KNOWN_ANEW: [Call; 18] = [
     Call::Puts(0, true),
 ];
 
-/// The room of a new state, how many tasks come and go there, and the calls behind them.
+/// The room of a new state, the number below which tasks come and go there, and the calls after them.
 const CASES: [(usize, u64, &[Call]); 5] = [
     (0, 0, &LISTED_ONCE),
     (2, 0, &RETIRED),
@@ -183,8 +187,8 @@ const CASES: [(usize, u64, &[Call]); 5] = [
 
 #[test]
 fn states_answer_so(rt: HostRuntime) {
-    for (room, tasks, calls) in CASES {
-        all_answer_behind(&rt, rt.alloc(), room, tasks, calls);
+    for (room, end, calls) in CASES {
+        all_answer_behind(&rt, rt.alloc(), room, end, calls);
     }
 }
 
