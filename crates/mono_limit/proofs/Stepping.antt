@@ -82,8 +82,14 @@ module _ {G F C X E : Type 0} (call : Mut G (ℕ × Unit {0}) F) (future : Futur
       → IsLiveStage future s.stage → MayGoOn call future s × Leaves o old s
   stays st at may c d o s step live =
       let good : IsGood o old s = by_stage st at (subst (λ x. HasLeft x old.left) at may.has_left) c d o s step in
-      (record { has_base = rw good.0.0 may.has_base; in_range = rw good.0.1 may.in_range; has_left = good.0.2; live = live; makes_live = may.makes_live }, good.1)
+      (record { has_base = rw good.0.0 may.has_base; in_range = rw good.0.1 may.in_range; has_left = good.0.2; live = live; makes_live = rw good.0.1 may.makes_live }, good.1)
+
+  pub some_left : (st : Stage F) → st ≡ stage.Due → HasLeft st old.left → 0 < old.left
+  some_left stage.Due at has = has
+  some_left (stage.Trying attempt) at has = cc
+  some_left stage.Resting at has = has
+  some_left stage.Over at has = cc
 
   -- and so where an attempt was made
   pub due_stays : old.stage ≡ stage.Due → MayGoOn call future old → (c : C) (s : Retry G F) → Makes call (without_stage old) s → MayGoOn call future s × Leaves {A = Result X (RetryError E)} None old s
-  due_stays at may c s makes = stays stage.Due at may c c None s (refl, makes, refl) (rw makes.tries (may.makes_live.live old.make (old.tried + 1) makes.attempt makes.make makes.made))
+  due_stays at may c s makes = stays stage.Due at may c c None s (refl, makes, refl) (rw makes.tries (may.makes_live.live old.make (old.tried + 1) makes.attempt makes.make (omega arith) (omega (arith, some_left old.stage at may.has_left)) makes.made))

@@ -18,7 +18,7 @@ buckets_at g stored = map (λ b. Some (bucket_at g b)) stored
 abbrev pub limits_of : Limiter → Limits
 limits_of limiter = record {
   buckets = buckets_at (greatest_of limiter.retries) limiter.buckets.items;
-  retries = limiter.retries.rows.items;
+  retries = limiter.retries.rows.table;
   greatest = greatest_of limiter.retries;
   most_buckets = limiter.most_buckets;
   most_retries = limiter.retries.most;

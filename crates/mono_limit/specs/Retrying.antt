@@ -70,10 +70,10 @@ HasLeft stage.Resting left = 0 < left
 HasLeft stage.Over left = ⊤
 
 module _ {G F C Y : Type 0} (call : Mut G (ℕ × Unit {0}) F) (future : FutureOf F C Y) where
-  -- whatever attempt the closure makes may be polled
-  pub record MakesLive : Type 0 where
-    pub can_call : (make : G) (k : ℕ) → call.pre make (k, tt)
-    pub live : (make : G) (k : ℕ) (attempt : F) (next : G) → Called call make (k, tt) attempt next → IsLive future attempt
+  -- The closure may be called for each attempt from 1 to the last one, and each of these attempts may be polled.
+  pub record MakesLive (most : ℕ) : Type 0 where
+    pub can_call : (make : G) (k : ℕ) → 0 < k → k ≤ most → call.pre make (k, tt)
+    pub live : (make : G) (k : ℕ) (attempt : F) (next : G) → 0 < k → k ≤ most → Called call make (k, tt) attempt next → IsLive future attempt
 
   -- what a poll asks, and leaves again
   pub record MayGoOn (retry : Retry G F) : Type 0 where
@@ -81,7 +81,7 @@ module _ {G F C Y : Type 0} (call : Mut G (ℕ × Unit {0}) F) (future : FutureO
     pub in_range : retry.tried + retry.left < 2 ^ 32
     pub has_left : HasLeft retry.stage retry.left
     pub live : IsLiveStage future retry.stage
-    pub makes_live : MakesLive
+    pub makes_live : MakesLive (retry.tried + retry.left)
 
 module _ {C : Type 0} (sleeps : C → SleepTable) (work : C → Tasks ⊤) (reaches : C → C → Type 0) where
   -- The sleep is reset to a deadline, or the context refuses that.

@@ -49,7 +49,8 @@ pub struct RetryRefused<G> {
 
 impl<G, F> Retry<G, F> {
     /// A retry whose first attempt is made at its first poll, of at most so many attempts. The base is not 0, the cap not below
-    /// it, there is an attempt and there are fewer than 2^32, and no attempt that the closure makes is spent.
+    /// it, there is an attempt and there are fewer than 2^32. The closure may be called for each attempt from 1 to `most`, and
+    /// no attempt that it makes then is spent (`live`). It is called for no other number.
     ///
     /// Refused as the context refuses a further sleep for now (`made`, `memory`), and then the closure comes back (`handed_back`).
     pub fn new<C, X, E>(
@@ -68,7 +69,7 @@ impl<G, F> Retry<G, F> {
         requires cap { base_ms ≤ cap_ms }
         requires some { 0 < most }
         requires in_range { most < 2 ^ 32 }
-        requires live { MakesLive G.FnMut F.TaskFuture }
+        requires live { MakesLive G.FnMut F.TaskFuture most }
         ensures made { SleepMade (C.sleeps cx.old) (C.nanos cx.old) (sleep_in result) (C.sleeps cx.new) }
         ensures retry { IfOk result (λ retry. retry ≡ new_retry_of make base_ms cap_ms most retry.sleep) }
         ensures callable { IfOk result (MayGoOn G.FnMut F.TaskFuture) }

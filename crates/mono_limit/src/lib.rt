@@ -1,6 +1,7 @@
 //! Buckets that fill with tokens tick by tick, and retries that wait longer and longer.
 #![tactic(auto)]
 
+mod advances;
 mod attempts;
 mod buckets;
 pub mod laws;

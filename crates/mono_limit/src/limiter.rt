@@ -19,7 +19,7 @@ use std::sync::ledger::Ledger;
 /// A tick is a millisecond. A bucket fills by one token at the end of each of its periods, up to its burst; it costs nothing
 /// while the clock goes on. A retry that failed waits for its next attempt until a clock step comes to its tick. Of several
 /// causes for a refusal the one that stands first in [`LimitError`] counts, but that want of memory comes last, and a
-/// refused call changes nothing. Only `new`, `bucket` and `retry` take memory. Of a retry that is gone its row stays.
+/// refused call changes nothing. Only `new`, `bucket` and `retry` take memory. That of the retries follows those that live.
 #[derive(Drop)]
 pub struct Limiter {
     buckets: Vec<StoredBucket>,
@@ -105,8 +105,8 @@ impl Limiter {
     /// A further retry, which has not failed yet and does not wait. After its failure k it is to wait for the lesser of
     /// `cap_ms` and `base_ms` times 2^(k-1) ticks, and at the failure `most` it gives up. Answers its number, the next one.
     ///
-    /// Refused as at capacity exactly where the live retries are at the limit, and else as a bad retry exactly where the
-    /// base is 0, the cap is below it, or `most` is 0, or 2^32 or more.
+    /// Refused as at capacity exactly where the live retries are at the limit or the next number is 2^64 - 1, and else as a
+    /// bad retry exactly where the base is 0, the cap is below it, or `most` is 0, or 2^32 or more.
     pub fn retry(
         &mut self,
         alloc: Global,

@@ -9,30 +9,28 @@ ghost use Rattle.mono_limit.specs.Schedules.{IsSound, failed_until, ended_row, E
 ghost use Rattle.mono_limit.specs.Holding.{Holds};
 
 use crate::schedules::Schedule;
+use mono_ready::ReadyTable;
 use mono_time::{Instant, Timers};
 use mono_wheel::Steps;
 use std::alloc::{AllocError, Global};
 use std::sync::ledger::Ledger;
 
-/// The retries by their numbers. A retry has the sleep of its number, which is armed while it waits.
+/// The retries by their numbers. A retry has the sleep of its number, which is armed while it waits. The memory follows the
+/// retries that live.
 #[derive(Drop)]
 pub(crate) struct Retries {
-    pub(crate) rows: Vec<Option<Schedule>>,
+    pub(crate) rows: ReadyTable<Schedule>,
     pub(crate) timers: Timers,
     pub(crate) live: u64,
     pub(crate) most: u64,
-    pub ghost holds: { Holds rows.items (sleeps_of timers) live },
+    pub ghost holds: { Holds rows.table (sleeps_of timers) live },
 }
 
 /// The retry of a number, while it lives.
-pub(crate) fn row_at(rows: &Vec<Option<Schedule>>, retry: u64) -> Option<Schedule>
-    ensures { result ≡ value_at rows.now.items retry }
+pub(crate) fn row_at(rows: &ReadyTable<Schedule>, retry: u64) -> Option<Schedule>
+    ensures { result ≡ value_at rows.now.table retry }
 {
-    let at = retry as usize;
-    if at >= rows.len() {
-        return None;
-    }
-    rows[at]
+    rows.get(retry).copied()
 }
 
 /// The moment at which a tick begins.
@@ -47,18 +45,17 @@ fn instant_of(tick: u64) -> Instant
 }
 
 /// The wait of a retry has ended.
-fn end_wait(rows: &mut Vec<Option<Schedule>>, retry: u64)
-    ensures { rows.new.items ≡ ended_row (value_at rows.old.items retry) rows.old.items retry }
+fn end_wait(rows: &mut ReadyTable<Schedule>, retry: u64)
+    ensures { rows.new.table ≡ ended_row (value_at rows.old.table retry) rows.old.table retry }
 {
-    let at = retry as usize;
-    if at >= rows.len() {
-        return;
-    }
-    if let Some(schedule) = rows[at] {
-        rows[at] = Some(Schedule {
-            waits_for: None,
-            ..schedule
-        });
+    if let Some(schedule) = row_at(rows, retry) {
+        rows.replace(
+            retry,
+            Schedule {
+                waits_for: None,
+                ..schedule
+            },
+        );
     }
 }
 
@@ -67,13 +64,13 @@ impl Retries {
 
     /// No retries, of which at most so many may live at a time.
     pub(crate) fn new(alloc: Global, most: u64) -> Result<Retries, AllocError>
-        ensures rows { IfOk result (λ retries. retries.rows.items ≡ []) }
+        ensures rows { IfOk result (λ retries. retries.rows.table ≡ []) }
         ensures greatest { IfOk result (λ retries. greatest_of retries ≡ 0) }
         ensures most { IfOk result (λ retries. retries.most ≡ most) }
     {
         let timers = Timers::new(alloc, u64::MAX, true)?;
         Ok(Retries {
-            rows: Vec::new(alloc),
+            rows: ReadyTable::new(alloc),
             timers,
             live: 0,
             most,
@@ -89,14 +86,14 @@ impl Retries {
 
     /// Whether no further retry is given out.
     pub(crate) fn is_full(&self) -> bool
-        ensures { result ≡ is_full self.now.rows.items self.now.most }
+        ensures { result ≡ is_full self.now.rows.table self.now.most }
     {
-        self.live >= self.most
+        self.live >= self.most || self.rows.len() == u64::MAX
     }
 
     /// How many retries live.
     pub(crate) fn live(&self) -> usize
-        ensures { result ≡ count_of self.now.rows.items }
+        ensures { result ≡ count_of self.now.rows.table }
     {
         self.live as usize
     }
@@ -105,16 +102,16 @@ impl Retries {
     pub(crate) fn add(&mut self, alloc: Global, schedule: Schedule) -> Result<u64, AllocError>
         requires sound { IsSound schedule }
         requires fresh { schedule.waits_for ≡ None }
-        ensures number { IfOk result (λ r. r ≡ next_number self.old.rows.items) }
-        ensures rows { OnOk result (self.new.rows.items ≡ with_next self.old.rows.items schedule) }
-        ensures refused { OnErr result (self.new.rows.items ≡ self.old.rows.items) }
+        ensures number { IfOk result (λ r. r ≡ next_number self.old.rows.table) }
+        ensures rows { OnOk result (self.new.rows.table ≡ with_next self.old.rows.table schedule) }
+        ensures refused { OnErr result (self.new.rows.table ≡ self.old.rows.table) }
         ensures greatest { greatest_of self.new ≡ greatest_of self.old }
         ensures most { self.new.most ≡ self.old.most }
     {
-        self.rows.reserve(1)?;
+        self.rows.reserve(alloc, schedule)?;
         match self.timers.add(alloc, instant_of(0)) {
             Ok(retry) => {
-                self.rows.push_reserved(Some(schedule));
+                self.rows.add(schedule);
                 self.live += 1;
                 Ok(retry)
             }
@@ -124,34 +121,37 @@ impl Retries {
 
     /// A live retry has failed once more, and waits for a tick above the greatest.
     pub(crate) fn wait(&mut self, retry: u64, schedule: Schedule, tick: u64)
-        requires lives { value_at self.old.rows.items retry ≡ Some schedule }
+        requires lives { value_at self.old.rows.table retry ≡ Some schedule }
         requires goes_on { schedule.failures + 1 < schedule.most }
         requires later { greatest_of self.old < tick }
         requires in_range { tick < 2 ^ 63 }
-        ensures rows { self.new.rows.items ≡ with_value self.old.rows.items retry (failed_until schedule (schedule.failures + 1) tick) }
+        ensures rows { self.new.rows.table ≡ with_value self.old.rows.table retry (failed_until schedule (schedule.failures + 1) tick) }
         ensures greatest { greatest_of self.new ≡ greatest_of self.old }
         ensures most { self.new.most ≡ self.old.most }
     {
         let failures = schedule.failures + 1;
         let waits_for = Some(tick);
         let _ = self.timers.reset(retry, instant_of(tick));
-        self.rows[retry as usize] = Some(Schedule {
-            failures,
-            waits_for,
-            ..schedule
-        });
+        self.rows.replace(
+            retry,
+            Schedule {
+                failures,
+                waits_for,
+                ..schedule
+            },
+        );
     }
 
     /// A live retry is gone.
     pub(crate) fn remove(&mut self, retry: u64, schedule: Schedule)
-        requires lives { value_at self.old.rows.items retry ≡ Some schedule }
-        ensures rows { self.new.rows.items ≡ without self.old.rows.items retry }
+        requires lives { value_at self.old.rows.table retry ≡ Some schedule }
+        ensures rows { self.new.rows.table ≡ without self.old.rows.table retry }
         ensures greatest { greatest_of self.new ≡ greatest_of self.old }
         ensures most { self.new.most ≡ self.old.most }
     {
         let _ = &schedule;
         let _ = self.timers.remove(retry);
-        self.rows[retry as usize] = None;
+        self.rows.remove(retry);
         self.live -= 1;
     }
 
@@ -162,8 +162,8 @@ impl Retries {
         due: &mut Vec<u64>,
         steps: &mut Steps<L>,
     )
-        requires room { vec_len due.old + count_of self.old.rows.items ≤ vec_capacity due.old }
-        ensures due { EndsWaits self.old.rows.items (max (greatest_of self.old) (down (nanos_of now))) due.old.items due.new.items self.new.rows.items }
+        requires room { vec_len due.old + count_of self.old.rows.table ≤ vec_capacity due.old }
+        ensures due { EndsWaits self.old.rows.table (max (greatest_of self.old) (down (nanos_of now))) due.old.items due.new.items self.new.rows.table }
         ensures greatest { greatest_of self.new ≡ max (greatest_of self.old) (down (nanos_of now)) }
         ensures most { self.new.most ≡ self.old.most }
         ensures steps { steps.new + credit_left self.new.timers ≡ steps.old + credit_left self.old.timers }

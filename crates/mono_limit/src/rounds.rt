@@ -139,7 +139,7 @@ impl<G, F: Drop> Retry<G, F> {
     fn begin(&mut self)
     where
         G: FnMut(u64) -> F,
-        requires callable { (make : G) (k : _) → G.pre make k }
+        requires callable { G.pre self.old.make (self.old.tried + 1) }
         requires some { 0 < self.old.left }
         requires in_range { self.old.tried + self.old.left < 2 ^ 32 }
         ensures { Makes G.FnMut self.old self.new }

@@ -1,8 +1,14 @@
-use Rattle.std.proofs.Common.{refl, sym, subst, ◌∙◌}
+use Rattle.std.proofs.Common.{◌+◌, refl, sym, subst, ◌∙◌, arith}
 use Rattle.mono_limit.specs.Retrying.{Makes, Tries, at_stage}
 use Rattle.mono_limit.specs.declared.attempts.Stage.TheVariants as stage
-use Rattle.mono_limit.proofs.Stepping.{stays, due_stays}
+use Rattle.mono_limit.proofs.Stepping.{stays, due_stays, some_left}
 use Rattle.mono_limit.proofs.attempts.Retry.step.Goals as goal
+
+pub begin-requires-clause-callable : goal.begin-requires-clause-callable
+begin-requires-clause-callable g c =
+    let old = c.args.self.now in
+    let some = some_left g.G.FnMut g.F.TaskFuture g.C.Context.number g.C.Context.nanos g.C.TimeContext.sleeps g.C.Context.work g.C.Context.reaches old old.stage (sym c.replace.ensures.value ∙ c.in-Due.is) c.requires.may.has_left in
+    c.requires.may.makes_live.can_call old.make (old.tried + 1) (omega arith) (omega (arith, some))
 
 -- the next attempt was made
 pub returns-in-Due-clause-step : goal.returns-in-Due-clause-step

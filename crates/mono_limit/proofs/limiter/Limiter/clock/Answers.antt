@@ -10,5 +10,5 @@ returns-clause-due g c =
     let t = c.args.self.now in
     let u = c.clock.new.self in
     let ends = c.clock.ensures.due in
-    let left = clocked (limits_of t) t.buckets.items (nanos_of c.args.now) ends.due u.rows.items (greatest_of u) u.most (λ b default inside. t.are_stored b default inside) c.clock.ensures.greatest ends.have_ended c.clock.ensures.most refl in
+    let left = clocked (limits_of t) t.buckets.items (nanos_of c.args.now) ends.due u.rows.table (greatest_of u) u.most (λ b default inside. t.are_stored b default inside) c.clock.ensures.greatest ends.have_ended c.clock.ensures.most refl in
     (ends.due, ends.appended, (c.args.now.in_range, ends.are_due, left))

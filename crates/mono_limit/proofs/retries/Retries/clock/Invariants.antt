@@ -12,12 +12,12 @@ use Rattle.mono_limit.proofs.retries.Retries.clock.Given as goal
 -- what is due from here on is due behind those that are listed
 abbrev pub invariant-loop-retry : goal.invariant-loop-retry
 invariant-loop-retry g l = record {
-  holds : Holds l.self.rows.items (sleeps_of l.self.timers) l.self.live;
-  room : vec_len l.due + waiting_count l.self.rows.items ≤ vec_capacity l.due;
+  holds : Holds l.self.rows.table (sleeps_of l.self.timers) l.self.live;
+  room : vec_len l.due + waiting_count l.self.rows.table ≤ vec_capacity l.due;
   steps : l.steps + credit_left l.self.timers ≡ l.fn.steps + credit_left l.fn.self.timers;
   greatest : max (sleeps_of l.self.timers).greatest (down (nanos_of l.now)) ≡ max (sleeps_of l.fn.self.timers).greatest (down (nanos_of l.now));
   most : l.self.most ≡ l.fn.self.most;
-  listed : IsListed l.fn.self.rows.items l.self.rows.items (max (sleeps_of l.fn.self.timers).greatest (down (nanos_of l.now))) l.fn.due.items l.due.items;
+  listed : IsListed l.fn.self.rows.table l.self.rows.table (max (sleeps_of l.fn.self.timers).greatest (down (nanos_of l.now))) l.fn.due.items l.due.items;
 }
 
 abbrev pub decreases-loop-retry : goal.decreases-loop-retry
