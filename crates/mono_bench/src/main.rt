@@ -21,7 +21,7 @@ use watch::Watch;
 use work::{Outcome, WORKS, Work, run};
 
 const HELP: &str = "usage: mono_bench WORKLOAD|all N [timed RUNS]
-  WORKLOAD: insert_fire, insert_cancel, reset_later, short_ticks, far_jump, next_expiration
+  WORKLOAD: insert_fire, insert_cancel, reset_later, short_ticks, far_jump, next_expiration, far_many
   N: how many keys; the best of RUNS runs is printed in nanoseconds a key where it is asked for";
 
 // How many keys, how often, and whether the times are printed.
