@@ -18,7 +18,7 @@ use work::{Outcome, WORKS, Work, run};
 
 /// The words of this workload, and what it does.
 pub const HELP: &str = "  wheel WORK|all N [timed RUNS]
-    WORK: insert_fire, insert_cancel, reset_later, short_ticks, far_jump, next_expiration
+    WORK: insert_fire, insert_cancel, reset_later, short_ticks, far_jump, next_expiration, far_many
     N: how many keys; the best of RUNS runs is printed in nanoseconds a key where it is asked for";
 
 // How many keys, how often, and whether the times are printed.

@@ -1,7 +1,8 @@
 -- The clock goes at once over slots of the top level in which no key is due.
-use Rattle.std.proofs.Common.{arith, ◌≡◌, ◌≢◌, zero, suc, ℕ, ◌+◌, ◌-◌, ◌*◌, ◌^◌, ◌/◌, ◌<◌, ◌≤◌, inl, inr, length, List, [], ◌∷◌, ◌++◌, map, Option, Some, None, get_or, ap, refl, sym, ◌∙◌, subst, length-append, ◌⊎◌}
+use Rattle.std.proofs.Common.{arith, ◌≡◌, ◌≢◌, zero, suc, ℕ, ◌+◌, ◌-◌, ◌*◌, ◌^◌, ◌/◌, ◌<◌, ◌≤◌, inl, inr, length, List, [], ◌∷◌, ◌++◌, map, Option, Some, None, get_or, ap, refl, sym, ◌∙◌, subst, set, length-append, get_or-set_same, get_or-set_other, ◌⊎◌}
 use Rattle.std.proofs.lemmas.Bool.{cases_lt}
-use Rattle.std.proofs.lemmas.List.{append-nil}
+use Rattle.std.proofs.lemmas.List.{append-nil, get_or_past, length-map}
+use Rattle.std.proofs.lemmas.Bool.Decides.{eqb_tells}
 use Rattle.std.proofs.Math.Nat.{mul-div_cancel, div-lt_iff_lt-mul}
 use Rattle.mono_wheel.specs.Start.{above, next_turn, far_digit, slot_of, start, top_level}
 use Rattle.mono_wheel.specs.Lists.{Lists, no_entry}
@@ -9,10 +10,11 @@ use Rattle.mono_wheel.specs.Model.{Timed, Wheel, Fits, IsPending, timed_at, move
 use Rattle.mono_wheel.specs.Credit.{takes, credit_of}
 use Rattle.mono_wheel.specs.Onward.{at_tick}
 use Rattle.mono_wheel.specs.Held.{place_of, place_in, timed_of, timed_in, StandsIn, Held, Advanced}
-use Rattle.mono_wheel.specs.Leap.{IsFar, Spared, Leap}
+use Rattle.mono_wheel.specs.Leap.{IsFar, IsDueFrom, IsKnown, Known, Spared}
 use Rattle.mono_wheel.specs.declared.entry.Entry.{Entry}
 use Rattle.mono_wheel.proofs.Starts.{div-le_mono, pow-pos, eqb-no, start-above, above-mono, above-start, next_turn-above, next_turn-le, next_turn-near, next_turn-whole}
 use Rattle.mono_wheel.proofs.Places.{place-ahead}
+use Rattle.mono_wheel.proofs.Keys.{timed-read, timed-here, timed-other, none_of}
 use Rattle.mono_wheel.proofs.Advancing.{moved-stays, moved-anew}
 use Rattle.mono_wheel.proofs.Reaching.{takes-next, takes-before}
 
@@ -101,25 +103,19 @@ far-counted from to tick count l h is =
     omega (arith, is, less, whole)
 
 -- ---- all keys
+-- all keys are far, and together they are taken `count` times while the clock goes from `begin` to `to`
+pub record Leap (begin to : ℕ) (entries : List Entry) (count : ℕ) : Type 0 where
+  pub counted : credit_of begin (map timed_of entries) ≡ credit_of to (map timed_of entries) + count
+
 credit-more : (e : ℕ) (front : List Entry) (x : Entry) → credit_of e (map timed_of (front ++ x ∷ [])) ≡ credit_of e (map timed_of front) + takes e (timed_of x)
 credit-more e [] x = omega arith
 credit-more e (y ∷ ys) x = let r = credit-more e ys x in omega (arith, r)
 
-far-none : (to : ℕ) (key : ℕ) → IsFar to (timed_in [] key)
-far-none to key = tt
-
-far-more : (to : ℕ) (front : List Entry) (x : Entry) → ((key : ℕ) → IsFar to (timed_in front key)) → IsFar to (timed_of x) → (key : ℕ) → IsFar to (timed_in (front ++ x ∷ []) key)
-far-more to [] x h f zero = f
-far-more to [] x h f (suc key) = tt
-far-more to (y ∷ ys) x h f zero = h zero
-far-more to (y ∷ ys) x h f (suc key) = far-more to ys x (λ k. h (suc k)) f key
-
 pub leap-none : (from to : ℕ) → Leap from to [] 0
-leap-none from to = record { far = λ k. tt; counted = refl }
+leap-none from to = record { counted = refl }
 
 pub leap-more : (from to : ℕ) (front : List Entry) (x : Entry) (count more : ℕ) → Leap from to front count → Spared from to (timed_of x) more → Leap from to (front ++ x ∷ []) (count + more)
 leap-more from to front x count more h s = record {
-  far = far-more to front x h.far s.far;
   counted =
       let a = credit-more from front x in let b = credit-more to front x in
       let c = h.counted in let d = s.counted in
@@ -196,6 +192,121 @@ gone-end from to count entries key g low = by g.back g.whole g.reached
     by (y ∷ back) whole (inl at) = absurd (let n : length entries ≡ length g.front + length (y ∷ back) = ap length whole ∙ length-append g.front (y ∷ back) in let m : length (y ∷ back) ≡ suc (length back) = refl in omega (arith, n, m, at, low))
     by (y ∷ back) whole (inr past) = absurd (let e : y ∷ back ≡ [] = past.0 in cc)
 
+pub far-read : (to : ℕ) (entries : List Entry) (key : ℕ) (x : Entry) → ((key : ℕ) → IsFar to (timed_in entries key)) → x ≡ get_or entries key no_entry → IsFar to (timed_of x)
+far-read to entries key x far is = subst (IsFar to) (timed-read entries key ∙ ap timed_of (sym is)) (far key)
+
+-- ---- which keys are due soonest
+abbrev pub IsBelow : ℕ → Option Timed → Type 0
+IsBelow least None = Unit {0}
+IsBelow least (Some timed) = least ≤ timed.tick
+
+pub below-less : (least less : ℕ) (o : Option Timed) → less ≤ least → IsBelow least o → IsBelow less o
+below-less least less None l b = tt
+below-less least less (Some timed) l b = omega (arith, l, b)
+
+pub below-read : (least : ℕ) (entries : List Entry) (key : ℕ) (x : Entry) → x ≡ get_or entries key no_entry → (x.tick ≢ 0 → least ≤ x.tick) → IsBelow least (timed_in entries key)
+below-read least entries key x is h = subst (IsBelow least) (ap timed_of is ∙ sym (timed-read entries key)) (elim (eqb_tells x.tick 0) [ inl t ↦ rw t.0 tt | inr f ↦ rw f.0 (h f.1) ])
+
+pub due-from : (limit least : ℕ) (near : List ℕ) (key : ℕ) (o : Option Timed) → least ≤ limit → ((place : ℕ) → place < 64 → get_or near place 0 ≡ key → IsBelow least o) → IsKnown limit near key o → IsDueFrom least o
+due-from limit least near key None l h k = tt
+due-from limit least near key (Some timed) l h (same, inl far) = (same, omega (arith, l, far))
+due-from limit least near key (Some timed) l h (same, inr (place, low, is)) = (same, h place low is)
+
+pub far-from : (least to : ℕ) (o : Option Timed) → above top_level to < above top_level least → IsDueFrom least o → IsFar to o
+far-from least to None h d = tt
+far-from least to (Some timed) h (same, l) = (same, let m = above-mono top_level least timed.tick l in omega (arith, h, m))
+
+-- the key is known, and one of the first of these if it is due before the limit
+abbrev pub IsNoted : ℕ → List ℕ → ℕ → ℕ → Option Timed → Type 0
+IsNoted limit near count key None = Unit {0}
+IsNoted limit near count key (Some timed) = (timed.registered ≡ timed.tick) × ((limit ≤ timed.tick) ⊎ ((place : ℕ) × (place < count) × (get_or near place 0 ≡ key)))
+
+-- all keys before this one are
+pub record Noted (limit : ℕ) (near : List ℕ) (count : ℕ) (entries : List Entry) (key : ℕ) : Type 0 where
+  pub room : count ≤ 64
+  pub before : (k : ℕ) → k < key → IsNoted limit near count k (timed_in entries k)
+
+noted-less : (limit less : ℕ) (near : List ℕ) (count key : ℕ) (o : Option Timed) → less ≤ limit → IsNoted limit near count key o → IsNoted less near count key o
+noted-less limit less near count key None l n = tt
+noted-less limit less near count key (Some timed) l (same, inl far) = (same, inl (omega (arith, l, far)))
+noted-less limit less near count key (Some timed) l (same, inr here) = (same, inr here)
+
+noted-more : (limit : ℕ) (near : List ℕ) (count new key : ℕ) (o : Option Timed) → IsNoted limit near count key o → IsNoted limit (set near count new) (count + 1) key o
+noted-more limit near count new key None n = tt
+noted-more limit near count new key (Some timed) (same, inl far) = (same, inl far)
+noted-more limit near count new key (Some timed) (same, inr (place, low, is)) =
+    (same, inr (place, omega (arith, low), get_or-set_other near count place new 0 (λ e. omega (arith, low, e)) ∙ is))
+
+up-to : (key : ℕ) (P : ℕ → Type 0) → ((k : ℕ) → k < key → P k) → P key → (k : ℕ) → k < key + 1 → P k
+up-to key P before here k low = elim (cases_lt k key) [
+  | inl b ↦ before k b
+  | inr b ↦ subst P (let e : key ≡ k = omega (arith, low, b) in e) here
+]
+
+noted-read : (limit : ℕ) (near : List ℕ) (count key : ℕ) (x : Entry) → x.registered ≡ x.tick → (x.tick ≢ 0 → (limit ≤ x.tick) ⊎ ((place : ℕ) × (place < count) × (get_or near place 0 ≡ key))) → IsNoted limit near count key (timed_of x)
+noted-read limit near count key x same h = elim (eqb_tells x.tick 0) [ inl t ↦ rw t.0 tt | inr f ↦ rw f.0 (same, h f.1) ]
+
+noted-at : (limit : ℕ) (near : List ℕ) (count key : ℕ) (entries : List Entry) (x : Entry) → x ≡ get_or entries key no_entry → x.registered ≡ x.tick → (x.tick ≢ 0 → (limit ≤ x.tick) ⊎ ((place : ℕ) × (place < count) × (get_or near place 0 ≡ key))) → IsNoted limit near count key (timed_in entries key)
+noted-at limit near count key entries x is same h = subst (IsNoted limit near count key) (ap timed_of is ∙ sym (timed-read entries key)) (noted-read limit near count key x same h)
+
+pub noted-start : (limit : ℕ) (near : List ℕ) (entries : List Entry) → Noted limit near 0 entries 0
+noted-start limit near entries = record { room = omega arith; before = λ k l. absurd (omega (arith, l)) }
+
+-- one key more: it is out or not due before the limit, or it is noted, or the limit falls
+pub noted-past : (limit : ℕ) (near : List ℕ) (count key : ℕ) (entries : List Entry) (x : Entry) → Noted limit near count entries key → x ≡ get_or entries key no_entry → x.registered ≡ x.tick → (x.tick ≢ 0 → limit ≤ x.tick) →
+    Noted limit near count entries (key + 1)
+noted-past limit near count key entries x n is same h = record {
+  room = n.room;
+  before = up-to key (λ k. IsNoted limit near count k (timed_in entries k)) n.before (noted-at limit near count key entries x is same (λ some. inl (h some)));
+}
+
+pub noted-here : (limit : ℕ) (near : List ℕ) (count key : ℕ) (entries : List Entry) (x : Entry) → Noted limit near count entries key → x ≡ get_or entries key no_entry → x.registered ≡ x.tick → count < 64 → count < length near →
+    Noted limit (set near count key) (count + 1) entries (key + 1)
+noted-here limit near count key entries x n is same room low = record {
+  room = omega (arith, room);
+  before = up-to key (λ k. IsNoted limit (set near count key) (count + 1) k (timed_in entries k)) (λ k b. noted-more limit near count key k (timed_in entries k) (n.before k b))
+      (noted-at limit (set near count key) (count + 1) key entries x is same (λ some. inr (count, omega arith, get_or-set_same near count key 0 low)));
+}
+
+pub noted-falls : (limit : ℕ) (near : List ℕ) (count key : ℕ) (entries : List Entry) (x : Entry) → Noted limit near count entries key → x ≡ get_or entries key no_entry → x.registered ≡ x.tick → x.tick < limit →
+    Noted x.tick near count entries (key + 1)
+noted-falls limit near count key entries x n is same less = record {
+  room = n.room;
+  before = up-to key (λ k. IsNoted x.tick near count k (timed_in entries k)) (λ k b. noted-less limit x.tick near count k (timed_in entries k) (omega (arith, less)) (n.before k b))
+      (noted-at x.tick near count key entries x is same (λ some. inl (omega arith)));
+}
+
+noted-known : (limit : ℕ) (near : List ℕ) (count key : ℕ) (o : Option Timed) → count ≤ 64 → IsNoted limit near count key o → IsKnown limit near key o
+noted-known limit near count key None room n = tt
+noted-known limit near count key (Some timed) room (same, inl far) = (same, inl far)
+noted-known limit near count key (Some timed) room (same, inr (place, low, is)) = (same, inr (place, omega (arith, room, low), is))
+
+pub noted-end : (limit : ℕ) (near : List ℕ) (count key : ℕ) (entries : List Entry) → Noted limit near count entries key → length entries ≤ key → Known limit near entries
+noted-end limit near count key entries n low some k = elim (cases_lt k key) [
+  | inl b ↦ noted-known limit near count k (timed_in entries k) n.room (n.before k b)
+  | inr b ↦ subst (IsKnown limit near k) (sym (get_or_past (map timed_of entries) k None (let h = length-map entries timed_of in omega (arith, h, low, b)))) tt
+]
+
+-- ---- what is known stays
+pub known-out : (limit : ℕ) (near : List ℕ) (entries : List Entry) (key : ℕ) (x : Entry) → key < length entries → x.tick ≡ 0 → Known limit near entries → Known limit near (set entries key x)
+known-out limit near entries key x low out h some k = elim (eqb_tells k key) [
+  | inl e ↦ subst (IsKnown limit near k) (sym (ap (timed_in (set entries key x)) e.1 ∙ timed-here entries key x low ∙ none_of x out)) tt
+  | inr e ↦ subst (IsKnown limit near k) (sym (timed-other entries key k x e.1)) (h some k)
+]
+
+known-moved : (elapsed to limit : ℕ) (near : List ℕ) (key : ℕ) (o : Option Timed) → IsKnown limit near key o → IsKnown limit near key (timed_after elapsed to o)
+known-moved elapsed to limit near key None h = tt
+known-moved elapsed to limit near key (Some timed) h = subst (λ t. IsKnown limit near key (Some t)) (elim (cases_lt to (start top_level elapsed timed.registered)) [
+  | inl b ↦ sym (moved-stays elapsed to timed b)
+  | inr b ↦ same-ticks timed h.0 ∙ sym (moved-anew elapsed to timed b)
+]) h
+  where
+    same-ticks : (timed : Timed) → timed.registered ≡ timed.tick → timed ≡ record { tick = timed.tick; registered = timed.tick }
+    same-ticks timed e = ap (λ r. let t : Timed = record { tick = timed.tick; registered = r } in t) e
+
+pub known-after : (elapsed to limit : ℕ) (near : List ℕ) (entries entries2 : List Entry) → ((key : ℕ) → timed_in entries2 key ≡ timed_after elapsed to (timed_in entries key)) → Known limit near entries → Known limit near entries2
+known-after elapsed to limit near entries entries2 after h some k = subst (IsKnown limit near k) (sym (after k)) (known-moved elapsed to limit near k (timed_in entries k) (h some k))
+
 -- ---- the wheel
 module _ (elapsed to : ℕ) (entries : List Entry) (links : Lists) (h : Held elapsed entries links) (le : elapsed ≤ to) (far : (key : ℕ) → IsFar to (timed_in entries key)) where
   far-of : (key : ℕ) (timed : Timed) → timed_in entries key ≡ Some timed → (timed.registered ≡ timed.tick) × (above top_level to < above top_level timed.tick)
@@ -265,3 +376,7 @@ module _ (elapsed to : ℕ) (entries : List Entry) (links : Lists) (h : Held ela
       let a = ahead-of to p.0.tick f.1 in
       let e = p.2 in
       omega (arith, a, e)
+
+pub noted-is : (limit limit2 : ℕ) (near near2 : List ℕ) (count count2 : ℕ) (entries : List Entry) (key : ℕ) → limit2 ≡ limit → near2 ≡ near → count2 ≡ count → Noted limit near count entries key → Noted limit2 near2 count2 entries key
+noted-is limit limit2 near near2 count count2 entries key a b c n =
+    subst (λ z. Noted z near2 count2 entries key) (sym a) (subst (λ z. Noted limit z count2 entries key) (sym b) (subst (λ z. Noted limit near z entries key) (sym c) n))

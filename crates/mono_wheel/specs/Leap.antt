@@ -1,5 +1,5 @@
 -- How the clock goes at once over slots of the top level in which no key is due.
-use Rattle.std.specs.Prelude.{◌≡◌, ℕ, ◌+◌, ◌<◌, List, map, Option, Some, None}
+use Rattle.std.specs.Prelude.{◌≡◌, ℕ, ◌+◌, ◌<◌, ◌≤◌, ◌⊎◌, List, map, Option, Some, None, slice_index_or}
 use Rattle.mono_wheel.specs.Start.{above, top_level}
 use Rattle.mono_wheel.specs.Model.{Timed}
 use Rattle.mono_wheel.specs.Credit.{takes, credit_of}
@@ -16,7 +16,16 @@ pub record Spared (begin to : ℕ) (timed : Option Timed) (count : ℕ) : Type 0
   pub far : IsFar to timed
   pub counted : takes begin timed ≡ takes to timed + count
 
--- all keys are far, and together they are taken `count` times while the clock goes from `begin` to `to`
-pub record Leap (begin to : ℕ) (entries : List Entry) (count : ℕ) : Type 0 where
-  pub far : (key : ℕ) → IsFar to (timed_in entries key)
-  pub counted : credit_of begin (map timed_of entries) ≡ credit_of to (map timed_of entries) + count
+-- a key that is in is registered at its true tick, which is not below `least`
+abbrev pub IsDueFrom : ℕ → Option Timed → Type 0
+IsDueFrom least None = Unit {0}
+IsDueFrom least (Some timed) = (timed.registered ≡ timed.tick) × (least ≤ timed.tick)
+
+-- a key that is in is registered at its true tick, which is not below `limit` unless the key is one of these
+abbrev pub IsKnown : ℕ → List ℕ → ℕ → Option Timed → Type 0
+IsKnown limit near key None = Unit {0}
+IsKnown limit near key (Some timed) = (timed.registered ≡ timed.tick) × ((limit ≤ timed.tick) ⊎ ((place : ℕ) × (place < 64) × (slice_index_or near place 0 ≡ key)))
+
+-- this holds for each key, unless the limit is 0
+abbrev pub Known : ℕ → List ℕ → List Entry → Type 0
+Known limit near entries = 0 < limit → (key : ℕ) → IsKnown limit near key (timed_in entries key)

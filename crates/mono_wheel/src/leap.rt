@@ -1,14 +1,19 @@
 //! A far step of the clock, over slots of the top level in which no key is due.
-ghost use Rattle.std.specs.Prelude.{◌≡◌, ◌+◌, ◌<◌, ◌≤◌, IfSome};
+ghost use Rattle.std.specs.Prelude.{◌≡◌, ◌+◌, ◌<◌, ◌≤◌, ℕ, map};
 ghost use Rattle.mono_wheel.specs.Start.{above, top_level};
-ghost use Rattle.mono_wheel.specs.Credit.{takes};
+ghost use Rattle.mono_wheel.specs.Credit.{takes, credit_of};
 ghost use Rattle.mono_wheel.specs.Onward.{at_tick};
-ghost use Rattle.mono_wheel.specs.Held.{timed_of};
-ghost use Rattle.mono_wheel.specs.Leap.{Spared, Leap};
+ghost use Rattle.mono_wheel.specs.Held.{timed_of, timed_in};
+ghost use Rattle.mono_wheel.specs.Leap.{IsFar, IsDueFrom, Known, Spared};
 
+use crate::Steps;
 use crate::entry::Entry;
 use crate::level::LEVELS;
 use crate::slot_links::SlotLinks;
+use std::sync::ledger::Ledger;
+
+/// How many of the keys that are due soonest are noted at once.
+pub const NEAR: usize = 64;
 
 // How many ticks a slot of the top level covers.
 const SPAN: u64 = 1 << ((LEVELS - 1) * 6);
@@ -30,33 +35,27 @@ fn far_takes(start: u64, goal: u64, tick: u64) -> u64
     (end - start / SPAN - 1) / 64 - (end - goal / SPAN - 1) / 64
 }
 
-// Returns how often the key of an entry is taken on the way from `start` to `goal`, or None unless the key is far.
-fn spared_of(start: u64, goal: u64, entry: Entry) -> Option<u64>
+// Returns how often the key of an entry is taken on the way from `start` to `goal`.
+fn spared_of(start: u64, goal: u64, entry: Entry) -> u64
     requires ahead { start ≤ goal }
-    ensures { IfSome result (λ count. Spared start goal (timed_of entry) count) }
+    requires far { IsFar goal (timed_of entry) }
+    ensures { Spared start goal (timed_of entry) result }
 {
     if entry.tick == 0 {
-        return Some(0);
+        return 0;
     }
-    if entry.registered != entry.tick || entry.tick / SPAN <= goal / SPAN {
-        return None;
-    }
-    Some(far_takes(start, goal, entry.tick))
+    far_takes(start, goal, entry.tick)
 }
 
-/// Returns how often all keys together are taken while the clock goes on from `start` to `goal`.
-///
-/// It returns None if some key is registered before its tick, or is due in the top level's slot of `goal` or before.
-pub fn spared(start: u64, goal: u64, links: &SlotLinks) -> Option<u64>
+/// Counts how often all keys together are taken while the clock goes on from `start` to `goal`.
+pub fn count_spared<L: Ledger>(start: u64, goal: u64, links: &SlotLinks, steps: &mut Steps<L>)
     requires ahead { start ≤ goal }
-    ensures { IfSome result (λ count. Leap start goal links.now.entries count) }
+    requires far { (key : ℕ) → IsFar goal (timed_in links.now.entries key) }
+    ensures { steps.new + credit_of goal (map timed_of links.now.entries) ≡ steps.old + credit_of start (map timed_of links.now.entries) }
 {
-    let mut count = 0u64;
     for key in 0..links.end() {
-        let more = spared_of(start, goal, links.entry(key))?;
-        count = count.checked_add(more)?;
+        steps.add(spared_of(start, goal, links.entry(key)));
     }
-    Some(count)
 }
 
 /// Returns whether each key that is ahead stands at the top level, and there is one.
@@ -67,17 +66,88 @@ pub fn is_high(elapsed: u64, links: &SlotLinks) -> bool {
     }
 }
 
-/// Returns the last tick before the first slot of the top level in which a key is due, or `now` if that is earlier.
-pub fn last_before_due(now: u64, links: &SlotLinks) -> u64
-    ensures { result ≤ now }
+// The place of the greatest of these ticks.
+fn greatest(ticks: &[u64; NEAR]) -> usize
+    ensures { result < 64 }
 {
-    let mut least = u64::MAX;
+    let mut found = 0;
+    for place in 0..NEAR {
+        if ticks[place] > ticks[found] {
+            found = place;
+        }
+    }
+    found
+}
+
+/// Returns a tick such that no more than `NEAR` keys are due before it, or the greatest number if there are fewer keys.
+pub fn limit_for(links: &SlotLinks) -> u64 {
+    let mut ticks = [u64::MAX; NEAR];
+    let mut last = 0;
     for key in 0..links.end() {
         let tick = links.entry(key).tick;
+        if tick != 0 && tick < ticks[last] {
+            ticks[last] = tick;
+            last = greatest(&ticks);
+        }
+    }
+    ticks[last]
+}
+
+/// Notes the keys that are due before `limit`, as far as there is place, and returns the limit that holds for all others.
+///
+/// It returns 0 if some key is registered before its tick.
+pub fn survey(limit: u64, near: &mut [usize; NEAR], links: &SlotLinks) -> u64
+    ensures { Known result near.new links.now.entries }
+{
+    let mut limit = limit;
+    let mut count = 0;
+    for key in 0..links.end() {
+        let entry = links.entry(key);
+        if entry.registered != entry.tick {
+            return 0;
+        }
+        if entry.tick != 0 && entry.tick < limit {
+            if count < NEAR {
+                near[count] = key;
+                count += 1;
+            } else {
+                limit = entry.tick;
+            }
+        }
+    }
+    limit
+}
+
+/// Returns the least tick of these keys, or the limit if that is less.
+pub fn least_near(limit: u64, near: &[usize; NEAR], links: &SlotLinks) -> u64
+    requires known { Known limit near.now links.now.entries }
+    ensures least { 0 < limit → (key : ℕ) → IsDueFrom result (timed_in links.now.entries key) }
+{
+    let mut least = limit;
+    for place in 0..NEAR {
+        let tick = links.entry(near[place]).tick;
         if tick != 0 && tick < least {
             least = tick;
         }
     }
-    let start = least / SPAN * SPAN;
-    if start == 0 || now < start { now } else { start - 1 }
+    least
+}
+
+/// Returns the last tick before the slot of the top level in which `least` lies, or `now` if that is earlier.
+pub fn last_before(elapsed: u64, least: u64, now: u64) -> u64
+    requires ahead { elapsed ≤ now }
+    requires earlier { above top_level elapsed < above top_level least }
+    ensures later { elapsed ≤ result }
+    ensures by { result ≤ now }
+    ensures before { above top_level result < above top_level least }
+{
+    let end = least / SPAN * SPAN - 1;
+    if now < end { now } else { end }
+}
+
+/// Returns the number of the top level's slot in which a tick lies, counted over all turns.
+pub fn high_slot(tick: u64) -> u64
+    ensures { result ≡ above top_level tick }
+{
+    tick / SPAN
 }

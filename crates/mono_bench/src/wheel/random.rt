@@ -41,6 +41,11 @@ fn tick(random: &mut Random, work: Work) -> u64 {
             let low = u64::from(random.next() >> 24);
             1 + high * 256 + low
         }
+        Work::FarMany => {
+            let low = u64::from(random.next() >> 1);
+            let high = u64::from(random.next());
+            1 + high * 0x7fff_ffff + low
+        }
         Work::InsertFire | Work::InsertCancel | Work::NextExpiration => {
             (1 + u64::from(random.next())).min(0xffff_ffff)
         }

@@ -24,16 +24,19 @@ pub enum Work {
     FarJump,
     /// The next expiration after each insertion.
     NextExpiration,
+    /// Ticks over the whole type, fired in one step to its end.
+    FarMany,
 }
 
 /// The workloads in the order in which they are run.
-pub const WORKS: [Work; 6] = [
+pub const WORKS: [Work; 7] = [
     Work::InsertFire,
     Work::InsertCancel,
     Work::KeepAlive,
     Work::ShortTicks,
     Work::FarJump,
     Work::NextExpiration,
+    Work::FarMany,
 ];
 
 impl Work {
@@ -46,6 +49,7 @@ impl Work {
             Work::ShortTicks => "short_ticks",
             Work::FarJump => "far_jump",
             Work::NextExpiration => "next_expiration",
+            Work::FarMany => "far_many",
         }
     }
 }
@@ -206,6 +210,7 @@ fn fire_all<L: Ledger>(table: &mut Table<L>, work: Work, base: usize, outcome: &
         }
         Work::FarJump => advance(table, base, 1 << 40, outcome),
         Work::NextExpiration => {}
+        Work::FarMany => advance(table, base, (1 << 63) - 1, outcome),
     }
 }
 

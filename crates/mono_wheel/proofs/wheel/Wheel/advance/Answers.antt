@@ -7,57 +7,60 @@ use Rattle.mono_wheel.proofs.Crediting.{credit-later}
 use Rattle.mono_wheel.proofs.Reaching.{goes-later, goes-by, goes-clear, goes-waits, goes-credit}
 use Rattle.mono_wheel.proofs.Advancing.{at_taken, taken-empty, slot-settling, slot-advanced, slot-waits, not-slot, list-below, begin-above, later-held, later-advanced, later-passed}
 use Rattle.mono_wheel.proofs.Polling.{none-pending}
+use Rattle.mono_wheel.proofs.LeapLemmas.{known-after}
 use Rattle.mono_wheel.proofs.wheel.Wheel.advance.Goals as goal
 use Rattle.mono_wheel.specs.Start.{taken_list}
 
 pub take-requires-clause-empty : goal.take-requires-clause-empty
-take-requires-clause-empty g c = taken-empty c.self.inside.elapsed c.self.inside.links.entries c.self.inside.links c.self.invariant
+take-requires-clause-empty g c = taken-empty c.self.inside.elapsed c.self.inside.links.entries c.self.inside.links c.self.invariant.0
 
 pub goes_to-goal-requires-clause-settling : goal.goes_to-goal-requires-clause-settling
 goes_to-goal-requires-clause-settling g c =
     subst (λ es. Settling c.in-Some.slot.start es c.take.new.self) (sym (ap (λ w. w.entries) c.take.ensures))
-    (slot-settling c.self.inside.elapsed c.in-Some.slot.start c.in-Some.slot.list c.self.inside.links.entries c.self.inside.links c.take.new.self c.self.invariant c.in-Some.ensures.0
+    (slot-settling c.self.inside.elapsed c.in-Some.slot.start c.in-Some.slot.list c.self.inside.links.entries c.self.inside.links c.take.new.self c.self.invariant.0 c.in-Some.ensures.0
     (none-pending c.self.inside.elapsed c.self.inside.links.entries c.self.inside.links.nodes c.self.inside.links.lists c.args.self.now c.self.view_is c.requires.none) c.take.ensures
     c.in-Some.slot.start (omega arith)
-    (not-slot c.self.inside.elapsed c.in-Some.slot.start c.in-Some.slot.list c.self.inside.links.entries c.self.inside.links c.take.new.self c.self.invariant c.in-Some.ensures.0 (none-pending c.self.inside.elapsed c.self.inside.links.entries c.self.inside.links.nodes c.self.inside.links.lists c.args.self.now c.self.view_is c.requires.none) c.take.ensures)
-    (slot-waits c.self.inside.elapsed c.in-Some.slot.start c.in-Some.slot.list c.self.inside.links.entries c.self.inside.links c.take.new.self c.self.invariant c.in-Some.ensures.0 (none-pending c.self.inside.elapsed c.self.inside.links.entries c.self.inside.links.nodes c.self.inside.links.lists c.args.self.now c.self.view_is c.requires.none) c.take.ensures))
+    (not-slot c.self.inside.elapsed c.in-Some.slot.start c.in-Some.slot.list c.self.inside.links.entries c.self.inside.links c.take.new.self c.self.invariant.0 c.in-Some.ensures.0 (none-pending c.self.inside.elapsed c.self.inside.links.entries c.self.inside.links.nodes c.self.inside.links.lists c.args.self.now c.self.view_is c.requires.none) c.take.ensures)
+    (slot-waits c.self.inside.elapsed c.in-Some.slot.start c.in-Some.slot.list c.self.inside.links.entries c.self.inside.links c.take.new.self c.self.invariant.0 c.in-Some.ensures.0 (none-pending c.self.inside.elapsed c.self.inside.links.entries c.self.inside.links.nodes c.self.inside.links.lists c.args.self.now c.self.view_is c.requires.none) c.take.ensures))
 
 pub goes_to-goal-requires-clause-list : goal.goes_to-goal-requires-clause-list
-goes_to-goal-requires-clause-list g c = list-below c.self.inside.elapsed c.in-Some.slot.start c.in-Some.slot.list c.self.inside.links.entries c.self.inside.links c.take.new.self c.self.invariant c.in-Some.ensures.0 (none-pending c.self.inside.elapsed c.self.inside.links.entries c.self.inside.links.nodes c.self.inside.links.lists c.args.self.now c.self.view_is c.requires.none) c.take.ensures
+goes_to-goal-requires-clause-list g c = list-below c.self.inside.elapsed c.in-Some.slot.start c.in-Some.slot.list c.self.inside.links.entries c.self.inside.links c.take.new.self c.self.invariant.0 c.in-Some.ensures.0 (none-pending c.self.inside.elapsed c.self.inside.links.entries c.self.inside.links.nodes c.self.inside.links.lists c.args.self.now c.self.view_is c.requires.none) c.take.ensures
 
 pub settle-requires : goal.settle-requires
 settle-requires g c =
     subst (λ es. Settling c.goes_to-goal.result es c.take.new.self) (sym (ap (λ w. w.entries) c.take.ensures))
-    (slot-settling c.self.inside.elapsed c.in-Some.slot.start c.in-Some.slot.list c.self.inside.links.entries c.self.inside.links c.take.new.self c.self.invariant c.in-Some.ensures.0
+    (slot-settling c.self.inside.elapsed c.in-Some.slot.start c.in-Some.slot.list c.self.inside.links.entries c.self.inside.links c.take.new.self c.self.invariant.0 c.in-Some.ensures.0
     (none-pending c.self.inside.elapsed c.self.inside.links.entries c.self.inside.links.nodes c.self.inside.links.lists c.args.self.now c.self.view_is c.requires.none) c.take.ensures
     c.goes_to-goal.result
-    (goes-later c.self.inside.elapsed c.in-Some.slot.start c.in-Some.slot.list c.self.inside.links.entries c.self.inside.links c.take.new.self c.self.invariant c.in-Some.ensures.0 (none-pending c.self.inside.elapsed c.self.inside.links.entries c.self.inside.links.nodes c.self.inside.links.lists c.args.self.now c.self.view_is c.requires.none) c.take.ensures c.args.now c.args.steps.now c.goes_to-goal.new.steps c.goes_to-goal.result (subst (λ es. ComesTo c.in-Some.slot.start c.args.now (c.in-Some.slot.list / 64) es c.take.new.self c.args.steps.now c.goes_to-goal.new.steps c.goes_to-goal.result) (ap (λ w. w.entries) c.take.ensures) c.goes_to-goal.ensures)) (goes-clear c.self.inside.elapsed c.in-Some.slot.start c.in-Some.slot.list c.self.inside.links.entries c.self.inside.links c.take.new.self c.self.invariant c.in-Some.ensures.0 (none-pending c.self.inside.elapsed c.self.inside.links.entries c.self.inside.links.nodes c.self.inside.links.lists c.args.self.now c.self.view_is c.requires.none) c.take.ensures c.args.now c.args.steps.now c.goes_to-goal.new.steps c.goes_to-goal.result (subst (λ es. ComesTo c.in-Some.slot.start c.args.now (c.in-Some.slot.list / 64) es c.take.new.self c.args.steps.now c.goes_to-goal.new.steps c.goes_to-goal.result) (ap (λ w. w.entries) c.take.ensures) c.goes_to-goal.ensures)) (goes-waits c.self.inside.elapsed c.in-Some.slot.start c.in-Some.slot.list c.self.inside.links.entries c.self.inside.links c.take.new.self c.self.invariant c.in-Some.ensures.0 (none-pending c.self.inside.elapsed c.self.inside.links.entries c.self.inside.links.nodes c.self.inside.links.lists c.args.self.now c.self.view_is c.requires.none) c.take.ensures c.args.now c.args.steps.now c.goes_to-goal.new.steps c.goes_to-goal.result (subst (λ es. ComesTo c.in-Some.slot.start c.args.now (c.in-Some.slot.list / 64) es c.take.new.self c.args.steps.now c.goes_to-goal.new.steps c.goes_to-goal.result) (ap (λ w. w.entries) c.take.ensures) c.goes_to-goal.ensures)))
+    (goes-later c.self.inside.elapsed c.in-Some.slot.start c.in-Some.slot.list c.self.inside.links.entries c.self.inside.links c.take.new.self c.self.invariant.0 c.in-Some.ensures.0 (none-pending c.self.inside.elapsed c.self.inside.links.entries c.self.inside.links.nodes c.self.inside.links.lists c.args.self.now c.self.view_is c.requires.none) c.take.ensures c.args.now c.args.steps.now c.goes_to-goal.new.steps c.goes_to-goal.result (subst (λ es. ComesTo c.in-Some.slot.start c.args.now (c.in-Some.slot.list / 64) es c.take.new.self c.args.steps.now c.goes_to-goal.new.steps c.goes_to-goal.result) (ap (λ w. w.entries) c.take.ensures) c.goes_to-goal.ensures)) (goes-clear c.self.inside.elapsed c.in-Some.slot.start c.in-Some.slot.list c.self.inside.links.entries c.self.inside.links c.take.new.self c.self.invariant.0 c.in-Some.ensures.0 (none-pending c.self.inside.elapsed c.self.inside.links.entries c.self.inside.links.nodes c.self.inside.links.lists c.args.self.now c.self.view_is c.requires.none) c.take.ensures c.args.now c.args.steps.now c.goes_to-goal.new.steps c.goes_to-goal.result (subst (λ es. ComesTo c.in-Some.slot.start c.args.now (c.in-Some.slot.list / 64) es c.take.new.self c.args.steps.now c.goes_to-goal.new.steps c.goes_to-goal.result) (ap (λ w. w.entries) c.take.ensures) c.goes_to-goal.ensures)) (goes-waits c.self.inside.elapsed c.in-Some.slot.start c.in-Some.slot.list c.self.inside.links.entries c.self.inside.links c.take.new.self c.self.invariant.0 c.in-Some.ensures.0 (none-pending c.self.inside.elapsed c.self.inside.links.entries c.self.inside.links.nodes c.self.inside.links.lists c.args.self.now c.self.view_is c.requires.none) c.take.ensures c.args.now c.args.steps.now c.goes_to-goal.new.steps c.goes_to-goal.result (subst (λ es. ComesTo c.in-Some.slot.start c.args.now (c.in-Some.slot.list / 64) es c.take.new.self c.args.steps.now c.goes_to-goal.new.steps c.goes_to-goal.result) (ap (λ w. w.entries) c.take.ensures) c.goes_to-goal.ensures)))
 
 pub returns-in-Some-clause-advanced : goal.returns-in-Some-clause-advanced
 returns-in-Some-clause-advanced g c =
-    slot-advanced c.self.inside.elapsed c.in-Some.slot.start c.in-Some.slot.list c.self.inside.links.entries c.self.inside.links c.take.new.self c.self.invariant c.in-Some.ensures.0
+    slot-advanced c.self.inside.elapsed c.in-Some.slot.start c.in-Some.slot.list c.self.inside.links.entries c.self.inside.links c.take.new.self c.self.invariant.0 c.in-Some.ensures.0
     (none-pending c.self.inside.elapsed c.self.inside.links.entries c.self.inside.links.nodes c.self.inside.links.lists c.args.self.now c.self.view_is c.requires.none) c.take.ensures
     c.goes_to-goal.result
-    (goes-later c.self.inside.elapsed c.in-Some.slot.start c.in-Some.slot.list c.self.inside.links.entries c.self.inside.links c.take.new.self c.self.invariant c.in-Some.ensures.0 (none-pending c.self.inside.elapsed c.self.inside.links.entries c.self.inside.links.nodes c.self.inside.links.lists c.args.self.now c.self.view_is c.requires.none) c.take.ensures c.args.now c.args.steps.now c.goes_to-goal.new.steps c.goes_to-goal.result (subst (λ es. ComesTo c.in-Some.slot.start c.args.now (c.in-Some.slot.list / 64) es c.take.new.self c.args.steps.now c.goes_to-goal.new.steps c.goes_to-goal.result) (ap (λ w. w.entries) c.take.ensures) c.goes_to-goal.ensures)) (goes-clear c.self.inside.elapsed c.in-Some.slot.start c.in-Some.slot.list c.self.inside.links.entries c.self.inside.links c.take.new.self c.self.invariant c.in-Some.ensures.0 (none-pending c.self.inside.elapsed c.self.inside.links.entries c.self.inside.links.nodes c.self.inside.links.lists c.args.self.now c.self.view_is c.requires.none) c.take.ensures c.args.now c.args.steps.now c.goes_to-goal.new.steps c.goes_to-goal.result (subst (λ es. ComesTo c.in-Some.slot.start c.args.now (c.in-Some.slot.list / 64) es c.take.new.self c.args.steps.now c.goes_to-goal.new.steps c.goes_to-goal.result) (ap (λ w. w.entries) c.take.ensures) c.goes_to-goal.ensures)) (goes-waits c.self.inside.elapsed c.in-Some.slot.start c.in-Some.slot.list c.self.inside.links.entries c.self.inside.links c.take.new.self c.self.invariant c.in-Some.ensures.0 (none-pending c.self.inside.elapsed c.self.inside.links.entries c.self.inside.links.nodes c.self.inside.links.lists c.args.self.now c.self.view_is c.requires.none) c.take.ensures c.args.now c.args.steps.now c.goes_to-goal.new.steps c.goes_to-goal.result (subst (λ es. ComesTo c.in-Some.slot.start c.args.now (c.in-Some.slot.list / 64) es c.take.new.self c.args.steps.now c.goes_to-goal.new.steps c.goes_to-goal.result) (ap (λ w. w.entries) c.take.ensures) c.goes_to-goal.ensures))
+    (goes-later c.self.inside.elapsed c.in-Some.slot.start c.in-Some.slot.list c.self.inside.links.entries c.self.inside.links c.take.new.self c.self.invariant.0 c.in-Some.ensures.0 (none-pending c.self.inside.elapsed c.self.inside.links.entries c.self.inside.links.nodes c.self.inside.links.lists c.args.self.now c.self.view_is c.requires.none) c.take.ensures c.args.now c.args.steps.now c.goes_to-goal.new.steps c.goes_to-goal.result (subst (λ es. ComesTo c.in-Some.slot.start c.args.now (c.in-Some.slot.list / 64) es c.take.new.self c.args.steps.now c.goes_to-goal.new.steps c.goes_to-goal.result) (ap (λ w. w.entries) c.take.ensures) c.goes_to-goal.ensures)) (goes-clear c.self.inside.elapsed c.in-Some.slot.start c.in-Some.slot.list c.self.inside.links.entries c.self.inside.links c.take.new.self c.self.invariant.0 c.in-Some.ensures.0 (none-pending c.self.inside.elapsed c.self.inside.links.entries c.self.inside.links.nodes c.self.inside.links.lists c.args.self.now c.self.view_is c.requires.none) c.take.ensures c.args.now c.args.steps.now c.goes_to-goal.new.steps c.goes_to-goal.result (subst (λ es. ComesTo c.in-Some.slot.start c.args.now (c.in-Some.slot.list / 64) es c.take.new.self c.args.steps.now c.goes_to-goal.new.steps c.goes_to-goal.result) (ap (λ w. w.entries) c.take.ensures) c.goes_to-goal.ensures)) (goes-waits c.self.inside.elapsed c.in-Some.slot.start c.in-Some.slot.list c.self.inside.links.entries c.self.inside.links c.take.new.self c.self.invariant.0 c.in-Some.ensures.0 (none-pending c.self.inside.elapsed c.self.inside.links.entries c.self.inside.links.nodes c.self.inside.links.lists c.args.self.now c.self.view_is c.requires.none) c.take.ensures c.args.now c.args.steps.now c.goes_to-goal.new.steps c.goes_to-goal.result (subst (λ es. ComesTo c.in-Some.slot.start c.args.now (c.in-Some.slot.list / 64) es c.take.new.self c.args.steps.now c.goes_to-goal.new.steps c.goes_to-goal.result) (ap (λ w. w.entries) c.take.ensures) c.goes_to-goal.ensures))
     c.settle.new.links.entries c.settle.new.links c.settle.ensures.held (subst (λ es. Settled es c.settle.new.links.entries c.take.new.self c.settle.new.links) (ap (λ w. w.entries) c.take.ensures) c.settle.ensures.settled) c.args.self.now c.self.view_is
 
 pub returns-in-Some-clause-reached : goal.returns-in-Some-clause-reached
 returns-in-Some-clause-reached g c _ =
-    let begins : c.self.inside.elapsed < c.in-Some.slot.start = begin-above c.self.inside.elapsed c.in-Some.slot.start c.in-Some.slot.list c.self.inside.links.entries c.self.inside.links c.take.new.self c.self.invariant c.in-Some.ensures.0
+    let begins : c.self.inside.elapsed < c.in-Some.slot.start = begin-above c.self.inside.elapsed c.in-Some.slot.start c.in-Some.slot.list c.self.inside.links.entries c.self.inside.links c.take.new.self c.self.invariant.0 c.in-Some.ensures.0
     (none-pending c.self.inside.elapsed c.self.inside.links.entries c.self.inside.links.nodes c.self.inside.links.lists c.args.self.now c.self.view_is c.requires.none) c.take.ensures in
-    let later = goes-later c.self.inside.elapsed c.in-Some.slot.start c.in-Some.slot.list c.self.inside.links.entries c.self.inside.links c.take.new.self c.self.invariant c.in-Some.ensures.0 (none-pending c.self.inside.elapsed c.self.inside.links.entries c.self.inside.links.nodes c.self.inside.links.lists c.args.self.now c.self.view_is c.requires.none) c.take.ensures c.args.now c.args.steps.now c.goes_to-goal.new.steps c.goes_to-goal.result (subst (λ es. ComesTo c.in-Some.slot.start c.args.now (c.in-Some.slot.list / 64) es c.take.new.self c.args.steps.now c.goes_to-goal.new.steps c.goes_to-goal.result) (ap (λ w. w.entries) c.take.ensures) c.goes_to-goal.ensures) in
+    let later = goes-later c.self.inside.elapsed c.in-Some.slot.start c.in-Some.slot.list c.self.inside.links.entries c.self.inside.links c.take.new.self c.self.invariant.0 c.in-Some.ensures.0 (none-pending c.self.inside.elapsed c.self.inside.links.entries c.self.inside.links.nodes c.self.inside.links.lists c.args.self.now c.self.view_is c.requires.none) c.take.ensures c.args.now c.args.steps.now c.goes_to-goal.new.steps c.goes_to-goal.result (subst (λ es. ComesTo c.in-Some.slot.start c.args.now (c.in-Some.slot.list / 64) es c.take.new.self c.args.steps.now c.goes_to-goal.new.steps c.goes_to-goal.result) (ap (λ w. w.entries) c.take.ensures) c.goes_to-goal.ensures) in
     let above : c.self.inside.elapsed < c.goes_to-goal.result = omega (arith, begins, later) in
-    (subst (λ w. w.elapsed < c.goes_to-goal.result) c.self.view_is above, goes-by c.self.inside.elapsed c.in-Some.slot.start c.in-Some.slot.list c.self.inside.links.entries c.self.inside.links c.take.new.self c.self.invariant c.in-Some.ensures.0 (none-pending c.self.inside.elapsed c.self.inside.links.entries c.self.inside.links.nodes c.self.inside.links.lists c.args.self.now c.self.view_is c.requires.none) c.take.ensures c.args.now c.args.steps.now c.goes_to-goal.new.steps c.goes_to-goal.result (subst (λ es. ComesTo c.in-Some.slot.start c.args.now (c.in-Some.slot.list / 64) es c.take.new.self c.args.steps.now c.goes_to-goal.new.steps c.goes_to-goal.result) (ap (λ w. w.entries) c.take.ensures) c.goes_to-goal.ensures) c.in-Some.ensures.1)
+    (subst (λ w. w.elapsed < c.goes_to-goal.result) c.self.view_is above, goes-by c.self.inside.elapsed c.in-Some.slot.start c.in-Some.slot.list c.self.inside.links.entries c.self.inside.links c.take.new.self c.self.invariant.0 c.in-Some.ensures.0 (none-pending c.self.inside.elapsed c.self.inside.links.entries c.self.inside.links.nodes c.self.inside.links.lists c.args.self.now c.self.view_is c.requires.none) c.take.ensures c.args.now c.args.steps.now c.goes_to-goal.new.steps c.goes_to-goal.result (subst (λ es. ComesTo c.in-Some.slot.start c.args.now (c.in-Some.slot.list / 64) es c.take.new.self c.args.steps.now c.goes_to-goal.new.steps c.goes_to-goal.result) (ap (λ w. w.entries) c.take.ensures) c.goes_to-goal.ensures) c.in-Some.ensures.1)
 
 pub invariant_of-self : goal.invariant_of-self
-invariant_of-self g c =
-    later-held c.self.inside.elapsed c.args.now c.self.inside.links.entries c.self.inside.links c.self.invariant
-    (subst (λ w. w.elapsed ≤ c.args.now) (sym c.self.view_is) c.requires.ahead)
-    (none-pending c.self.inside.elapsed c.self.inside.links.entries c.self.inside.links.nodes c.self.inside.links.lists c.args.self.now c.self.view_is c.requires.none) c.in-None.ensures
+invariant_of-self g c = (
+  later-held c.self.inside.elapsed c.args.now c.self.inside.links.entries c.self.inside.links c.self.invariant.0
+      (subst (λ w. w.elapsed ≤ c.args.now) (sym c.self.view_is) c.requires.ahead)
+      (none-pending c.self.inside.elapsed c.self.inside.links.entries c.self.inside.links.nodes c.self.inside.links.lists c.args.self.now c.self.view_is c.requires.none) c.in-None.ensures,
+  c.self.invariant.1,
+)
 
 pub returns-in-None-clause-advanced : goal.returns-in-None-clause-advanced
 returns-in-None-clause-advanced g c =
-    later-advanced c.self.inside.elapsed c.args.now c.self.inside.links.entries c.self.inside.links c.self.invariant
+    later-advanced c.self.inside.elapsed c.args.now c.self.inside.links.entries c.self.inside.links c.self.invariant.0
     (subst (λ w. w.elapsed ≤ c.args.now) (sym c.self.view_is) c.requires.ahead)
     (none-pending c.self.inside.elapsed c.self.inside.links.entries c.self.inside.links.nodes c.self.inside.links.lists c.args.self.now c.self.view_is c.requires.none) c.in-None.ensures
     c.args.self.now c.self.view_is
@@ -65,7 +68,7 @@ returns-in-None-clause-advanced g c =
 pub returns-in-None-clause-passed : goal.returns-in-None-clause-passed
 returns-in-None-clause-passed g c _ = (
   refl,
-  later-passed c.self.inside.elapsed c.args.now c.self.inside.links.entries c.self.inside.links c.self.invariant
+  later-passed c.self.inside.elapsed c.args.now c.self.inside.links.entries c.self.inside.links c.self.invariant.0
       (subst (λ w. w.elapsed ≤ c.args.now) (sym c.self.view_is) c.requires.ahead)
       (none-pending c.self.inside.elapsed c.self.inside.links.entries c.self.inside.links.nodes c.self.inside.links.lists c.args.self.now c.self.view_is c.requires.none) c.in-None.ensures
       c.args.self.now c.self.view_is,
@@ -73,17 +76,29 @@ returns-in-None-clause-passed g c _ = (
 
 pub returns-in-Some-clause-steps : goal.returns-in-Some-clause-steps
 returns-in-Some-clause-steps g c =
-    let fall = goes-credit c.self.inside.elapsed c.in-Some.slot.start c.in-Some.slot.list c.self.inside.links.entries c.self.inside.links c.take.new.self c.self.invariant c.in-Some.ensures.0
+    let fall = goes-credit c.self.inside.elapsed c.in-Some.slot.start c.in-Some.slot.list c.self.inside.links.entries c.self.inside.links c.take.new.self c.self.invariant.0 c.in-Some.ensures.0
     (none-pending c.self.inside.elapsed c.self.inside.links.entries c.self.inside.links.nodes c.self.inside.links.lists c.args.self.now c.self.view_is c.requires.none) c.take.ensures
     c.args.now c.args.steps.now c.goes_to-goal.new.steps c.goes_to-goal.result (subst (λ es. ComesTo c.in-Some.slot.start c.args.now (c.in-Some.slot.list / 64) es c.take.new.self c.args.steps.now c.goes_to-goal.new.steps c.goes_to-goal.result) (ap (λ w. w.entries) c.take.ensures) c.goes_to-goal.ensures)
     c.settle.new.links.entries c.settle.new.links c.settle.ensures.held (subst (λ es. Settled es c.settle.new.links.entries c.take.new.self c.settle.new.links) (ap (λ w. w.entries) c.take.ensures) c.settle.ensures.settled) (c.lists_are_disjoint.ensures.once c.in-Some.slot.list) in
     let taken : length (list_at c.take.new.self taken_list) ≡ length (list_at c.self.inside.links c.in-Some.slot.list) =
-    ap length (at_taken c.self.inside.elapsed c.in-Some.slot.start c.in-Some.slot.list c.self.inside.links.entries c.self.inside.links c.take.new.self c.self.invariant c.in-Some.ensures.0 (none-pending c.self.inside.elapsed c.self.inside.links.entries c.self.inside.links.nodes c.self.inside.links.lists c.args.self.now c.self.view_is c.requires.none) c.take.ensures) in
+    ap length (at_taken c.self.inside.elapsed c.in-Some.slot.start c.in-Some.slot.list c.self.inside.links.entries c.self.inside.links c.take.new.self c.self.invariant.0 c.in-Some.ensures.0 (none-pending c.self.inside.elapsed c.self.inside.links.entries c.self.inside.links.nodes c.self.inside.links.lists c.args.self.now c.self.view_is c.requires.none) c.take.ensures) in
     let steps = c.settle.ensures.steps in
     subst (λ w. c.settle.new.steps + credit_of c.goes_to-goal.result (map timed_of c.settle.new.links.entries) ≡ c.args.steps.now + credit_of w.elapsed w.entries) c.self.view_is (omega (arith, fall, taken, steps))
 
 pub returns-in-None-clause-steps : goal.returns-in-None-clause-steps
 returns-in-None-clause-steps g c =
     let none = none-pending c.self.inside.elapsed c.self.inside.links.entries c.self.inside.links.nodes c.self.inside.links.lists c.args.self.now c.self.view_is c.requires.none in
-    let same = credit-later c.self.inside.elapsed c.args.now c.self.inside.links.entries (subst (λ w. w.elapsed ≤ c.args.now) (sym c.self.view_is) c.requires.ahead) c.self.invariant.fits none c.in-None.ensures in
+    let same = credit-later c.self.inside.elapsed c.args.now c.self.inside.links.entries (subst (λ w. w.elapsed ≤ c.args.now) (sym c.self.view_is) c.requires.ahead) c.self.invariant.0.fits none c.in-None.ensures in
     subst (λ w. c.args.steps.now + credit_of c.args.now (map timed_of c.self.inside.links.entries) ≡ c.args.steps.now + credit_of w.elapsed w.entries) c.self.view_is (omega (arith, same))
+
+pub invariant_of-self-in-Some : goal.invariant_of-self-in-Some
+invariant_of-self-in-Some g c =
+    let went =
+    slot-advanced c.self.inside.elapsed c.in-Some.slot.start c.in-Some.slot.list c.self.inside.links.entries c.self.inside.links c.take.new.self c.self.invariant.0 c.in-Some.ensures.0
+    (none-pending c.self.inside.elapsed c.self.inside.links.entries c.self.inside.links.nodes c.self.inside.links.lists c.args.self.now c.self.view_is c.requires.none) c.take.ensures
+    c.goes_to-goal.result
+    (goes-later c.self.inside.elapsed c.in-Some.slot.start c.in-Some.slot.list c.self.inside.links.entries c.self.inside.links c.take.new.self c.self.invariant.0 c.in-Some.ensures.0 (none-pending c.self.inside.elapsed c.self.inside.links.entries c.self.inside.links.nodes c.self.inside.links.lists c.args.self.now c.self.view_is c.requires.none) c.take.ensures c.args.now c.args.steps.now c.goes_to-goal.new.steps c.goes_to-goal.result (subst (λ es. ComesTo c.in-Some.slot.start c.args.now (c.in-Some.slot.list / 64) es c.take.new.self c.args.steps.now c.goes_to-goal.new.steps c.goes_to-goal.result) (ap (λ w. w.entries) c.take.ensures) c.goes_to-goal.ensures)) (goes-clear c.self.inside.elapsed c.in-Some.slot.start c.in-Some.slot.list c.self.inside.links.entries c.self.inside.links c.take.new.self c.self.invariant.0 c.in-Some.ensures.0 (none-pending c.self.inside.elapsed c.self.inside.links.entries c.self.inside.links.nodes c.self.inside.links.lists c.args.self.now c.self.view_is c.requires.none) c.take.ensures c.args.now c.args.steps.now c.goes_to-goal.new.steps c.goes_to-goal.result (subst (λ es. ComesTo c.in-Some.slot.start c.args.now (c.in-Some.slot.list / 64) es c.take.new.self c.args.steps.now c.goes_to-goal.new.steps c.goes_to-goal.result) (ap (λ w. w.entries) c.take.ensures) c.goes_to-goal.ensures)) (goes-waits c.self.inside.elapsed c.in-Some.slot.start c.in-Some.slot.list c.self.inside.links.entries c.self.inside.links c.take.new.self c.self.invariant.0 c.in-Some.ensures.0 (none-pending c.self.inside.elapsed c.self.inside.links.entries c.self.inside.links.nodes c.self.inside.links.lists c.args.self.now c.self.view_is c.requires.none) c.take.ensures c.args.now c.args.steps.now c.goes_to-goal.new.steps c.goes_to-goal.result (subst (λ es. ComesTo c.in-Some.slot.start c.args.now (c.in-Some.slot.list / 64) es c.take.new.self c.args.steps.now c.goes_to-goal.new.steps c.goes_to-goal.result) (ap (λ w. w.entries) c.take.ensures) c.goes_to-goal.ensures))
+    c.settle.new.links.entries c.settle.new.links c.settle.ensures.held (subst (λ es. Settled es c.settle.new.links.entries c.take.new.self c.settle.new.links) (ap (λ w. w.entries) c.take.ensures) c.settle.ensures.settled) _ refl in (
+      c.settle.ensures.held,
+      known-after c.self.inside.elapsed c.goes_to-goal.result c.self.inside.limit c.self.inside.near c.self.inside.links.entries c.settle.new.links.entries went.ticks c.self.invariant.1,
+    )

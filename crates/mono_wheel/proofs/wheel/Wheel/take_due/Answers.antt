@@ -4,7 +4,9 @@ use Rattle.mono_wheel.specs.Held.{timed_of, wheel_of, DueTaken}
 use Rattle.mono_wheel.proofs.Crediting.{due-credit}
 use Rattle.mono_wheel.specs.Lists.{list_at}
 use Rattle.mono_wheel.proofs.Calls.{last-in}
-use Rattle.mono_wheel.proofs.Due.{due-held, due-taken}
+use Rattle.mono_wheel.proofs.Due.{due-held, due-taken, due-below}
+use Rattle.mono_wheel.specs.Leap.{Known}
+use Rattle.mono_wheel.proofs.LeapLemmas.{known-out}
 use Rattle.mono_wheel.proofs.Carrying.{written, held-written}
 use Rattle.mono_wheel.proofs.wheel.Wheel.take_due.Goals as goal
 use Rattle.mono_wheel.specs.Start.{pending_list}
@@ -13,21 +15,24 @@ pub remove-requires-clause-within : goal.remove-requires-clause-within
 remove-requires-clause-within c = last-in (list_at c.self.inside.links pending_list) c.in_ok-key.key c.in_ok-key.ensures
 
 pub invariant_of-self : goal.invariant_of-self
-invariant_of-self c =
-    held-written c.self.inside.elapsed c.self.inside.links.entries c.remove.new.self c.set_entry.new.self c.in_ok-key.key record { tick = 0; registered = 0 } (ap (λ w. w.entries) c.remove.ensures.without) c.set_entry.ensures
-    (due-held c.self.inside.elapsed c.self.inside.links.entries c.self.inside.links c.in_ok-key.key c.in_ok-key.ensures.0 c.self.invariant c.in_ok-key.ensures.1 c.remove.new.self record { tick = 0; registered = 0 } c.remove.ensures.without c.remove.ensures.gone refl)
+invariant_of-self c = (
+  held-written c.self.inside.elapsed c.self.inside.links.entries c.remove.new.self c.set_entry.new.self c.in_ok-key.key record { tick = 0; registered = 0 } (ap (λ w. w.entries) c.remove.ensures.without) c.set_entry.ensures
+      (due-held c.self.inside.elapsed c.self.inside.links.entries c.self.inside.links c.in_ok-key.key c.in_ok-key.ensures.0 c.self.invariant.0 c.in_ok-key.ensures.1 c.remove.new.self record { tick = 0; registered = 0 } c.remove.ensures.without c.remove.ensures.gone refl),
+  subst (λ es. Known c.self.inside.limit c.self.inside.near es) (sym (ap (λ w. w.entries) (written c.remove.new.self c.set_entry.new.self c.self.inside.links.entries c.in_ok-key.key record { tick = 0; registered = 0 } (ap (λ w. w.entries) c.remove.ensures.without) c.set_entry.ensures)))
+      (known-out c.self.inside.limit c.self.inside.near c.self.inside.links.entries c.in_ok-key.key record { tick = 0; registered = 0 } (due-below c.self.inside.elapsed c.self.inside.links.entries c.self.inside.links c.in_ok-key.key c.in_ok-key.ensures.0 c.self.invariant.0 c.in_ok-key.ensures.1) refl c.self.invariant.1),
+)
 
 pub returns-clause-due : goal.returns-clause-due
 returns-clause-due c =
     subst (λ w. DueTaken c.args.self.now (wheel_of c.self.inside.elapsed w) (Some c.in_ok-key.key)) (sym (written c.remove.new.self c.set_entry.new.self c.self.inside.links.entries c.in_ok-key.key record { tick = 0; registered = 0 } (ap (λ w. w.entries) c.remove.ensures.without) c.set_entry.ensures))
-    (due-taken c.self.inside.elapsed c.self.inside.links.entries c.self.inside.links c.in_ok-key.key c.in_ok-key.ensures.0 c.self.invariant c.in_ok-key.ensures.1 c.remove.new.self c.args.self.now record { tick = 0; registered = 0 } c.self.view_is c.remove.ensures.without
+    (due-taken c.self.inside.elapsed c.self.inside.links.entries c.self.inside.links c.in_ok-key.key c.in_ok-key.ensures.0 c.self.invariant.0 c.in_ok-key.ensures.1 c.remove.new.self c.args.self.now record { tick = 0; registered = 0 } c.self.view_is c.remove.ensures.without
     (c.remove.ensures.parts c.in_ok-key.ensures.0 [] c.in_ok-key.ensures.1) c.remove.ensures.gone refl)
 
 pub returns-clause-credit : goal.returns-clause-credit
 returns-clause-credit c =
     subst (λ w. credit (wheel_of c.self.inside.elapsed w) ≡ credit c.args.self.now) (sym (written c.remove.new.self c.set_entry.new.self c.self.inside.links.entries c.in_ok-key.key record { tick = 0; registered = 0 } (ap (λ w. w.entries) c.remove.ensures.without) c.set_entry.ensures))
     (subst (λ w. credit_of c.self.inside.elapsed (map timed_of (set c.self.inside.links.entries c.in_ok-key.key record { tick = 0; registered = 0 })) ≡ credit_of w.elapsed w.entries) c.self.view_is
-    (due-credit c.self.inside.elapsed c.self.inside.links.entries c.self.inside.links c.in_ok-key.key c.in_ok-key.ensures.0 record { tick = 0; registered = 0 } c.self.invariant c.in_ok-key.ensures.1 refl))
+    (due-credit c.self.inside.elapsed c.self.inside.links.entries c.self.inside.links c.in_ok-key.key c.in_ok-key.ensures.0 record { tick = 0; registered = 0 } c.self.invariant.0 c.in_ok-key.ensures.1 refl))
 
 pub set_entry-requires : goal.set_entry-requires
 set_entry-requires c = c.remove.ensures.loose.known
