@@ -10,6 +10,13 @@ const CHECK: &str = "check attached 16 16 16";
 
 const SESSIONS: &str = "sessions 4 4";
 
+const RUN: &str = "run 0 9";
+
+const SCRIPT: &[u8] = b"limits 1 1 1\ntask\ndone 5\n";
+
+const RAN: &[u8] =
+    b"spawn -> task 0\nnow 0\nturn; ready 5 -> turn 0; done\ndrop-join 0 -> dropped 5\nmain 5\n";
+
 const DEADLINE_IS_NOW: &[u8] = b"spawn\nturn; sleep 0; poll 0; ready 7\n";
 
 const DONE: &[u8] = b"task 0\nturn 0; sleep 0; ready; done\n";
@@ -84,13 +91,28 @@ fn bad(words: &'static str, input: &'static [u8], output: &'static [u8]) -> Case
     }
 }
 
-fn faults() -> [Case; 14] {
+/// The read with this number fails, and the write: the second read sees the end of the input, and one write is enough.
+fn fault_at(
+    words: &'static str,
+    input: &'static [u8],
+    output: &'static [u8],
+    call: u64,
+) -> [Case; 2] {
+    let read = if call < 2 {
+        unread(words, input, call, 4, b"")
+    } else {
+        unread(words, input, call, 0, output)
+    };
+    let write = if call < 1 {
+        unwritten(words, input, Some(call), ROOM, 5, b"")
+    } else {
+        unwritten(words, input, Some(call), ROOM, 0, output)
+    };
+    [read, write]
+}
+
+fn faults() -> [Case; 9] {
     [
-        unread(REPLAY, DEADLINE_IS_NOW, 0, 4, b""),
-        unread(REPLAY, DEADLINE_IS_NOW, 1, 4, b""),
-        unread(REPLAY, DEADLINE_IS_NOW, 2, 0, DONE),
-        unwritten(REPLAY, DEADLINE_IS_NOW, Some(0), ROOM, 5, b""),
-        unwritten(REPLAY, DEADLINE_IS_NOW, Some(1), ROOM, 0, DONE),
         unwritten(REPLAY, DEADLINE_IS_NOW, Some(1), 36, 0, DONE),
         unwritten(REPLAY, DEADLINE_IS_NOW, None, 5, 5, b"task "),
         unwritten(
@@ -110,7 +132,7 @@ fn faults() -> [Case; 14] {
     ]
 }
 
-fn bytes() -> [Case; 9] {
+fn bytes() -> [Case; 10] {
     [
         // no last line feed
         bad(REPLAY, b"spawn", b"bad line 1\n"),
@@ -118,6 +140,7 @@ fn bytes() -> [Case; 9] {
         bad("limiter 4 4", b"bucket 1 1", b"bad line 1\n"),
         bad("actors 2 2", b"actor\nactor", b"bad line 2\n"),
         bad(CHECK, b"spawn -> task 0", b"bad line 1\n"),
+        bad(RUN, b"limits 1 1 1\ntask\ndone 5", b"bad line 3\n"),
         // a carriage return
         bad(REPLAY, b"spawn\nspawn\r\n", b"bad line 2\n"),
         bad("limiter 4 4", b"take 0 1\r\n", b"bad line 1\n"),
@@ -175,25 +198,75 @@ fn calls_that_fail_and_bytes_that_are_no_text(rt: HostRuntime) {
     assert_eq!(&rt; first_that_differs(&rt, rt.alloc(), &bytes()), None);
 }
 
+/// The words, an input and its output.
+const ANSWERED: [(&str, &[u8], &[u8]); 2] = [(REPLAY, DEADLINE_IS_NOW, DONE), (RUN, SCRIPT, RAN)];
+
+#[test]
+fn each_read_and_write_fails(rt: HostRuntime) {
+    for (words, input, output) in ANSWERED {
+        for call in 0..4 {
+            let cases = fault_at(words, input, output, call);
+            assert_eq!(&rt; first_that_differs(&rt, rt.alloc(), &cases), None);
+        }
+    }
+}
+
 // So many line feeds end so.
 fn feeds_end_so<R: Host + Send + 'static>(
     rt: &R,
     alloc: Global,
+    words: &str,
     len: usize,
+    outside: &Outside,
     output: &[u8],
     status: u8,
 ) -> Option<bool> {
     let input = vec![in alloc; b'\n'; len].ok()?;
-    ends_so(rt, alloc, REPLAY, input, &PLAIN, output, status)
+    ends_so(rt, alloc, words, input, outside, output, status)
+}
+
+/// The read with this number fails, and nothing else.
+fn unread_at(call: u64) -> Outside {
+    Outside {
+        read: Some(call),
+        write: None,
+        room: ROOM,
+        millis: 0,
+    }
+}
+
+// An input that takes four reads: each of them fails in turn.
+#[test]
+fn each_block_fails(rt: HostRuntime) {
+    for words in [REPLAY, RUN] {
+        for call in 0..4 {
+            let outside = unread_at(call);
+            let met = feeds_end_so(&rt, rt.alloc(), words, 200000, &outside, b"", 4);
+            assert!(&rt; matches!(met, Some(true)));
+        }
+    }
 }
 
 #[test]
 fn one_byte_is_too_many(rt: HostRuntime) {
     assert!(&rt;
         matches!(
-            feeds_end_so(&rt, rt.alloc(), 16777216, b"bad line 1\n", 3),
+            feeds_end_so(
+                &rt,
+                rt.alloc(),
+                REPLAY,
+                16777216,
+                &PLAIN,
+                b"bad line 1\n",
+                3
+            ),
             Some(true)
         )
     );
-    assert!(&rt; matches!(feeds_end_so(&rt, rt.alloc(), 16777217, b"", 7), Some(true)));
+    assert!(&rt;
+        matches!(
+            feeds_end_so(&rt, rt.alloc(), REPLAY, 16777217, &PLAIN, b"", 7),
+            Some(true)
+        )
+    );
 }
