@@ -6,12 +6,13 @@ use mono_forms::{FutureExt, Loop, pending, race, ready, repeat, yield_now};
 use mono_inbox::NoUnpark;
 use mono_machine::Limits;
 use mono_model::Host;
-use mono_rt::{Cx, Entry, Event, Instant, Journal, RunError, StepDriver, run_alone};
+use mono_rt::{Cx, Entry, Event, Instant, Journal, RunError, Runtime, StepDriver, run_alone};
 use mono_task::TaskFuture;
-use mono_time::{SleepError, sleep_for};
+use mono_time::{LateError, SleepError, sleep_for, timeout_for};
 use std::alloc::Global;
 use std::process::Abort;
 use std::time::Duration;
+use use_client::{Server, ask};
 
 /// A job that no test hands out.
 #[derive(Drop)]
@@ -79,6 +80,34 @@ where
     (answer, told_in(&journal))
 }
 
+/// The answer of a main task beside a task that was spawned before it, and what the journal tells.
+fn run_beside<F, R: Host + Abort>(
+    rt: &R,
+    alloc: Global,
+    beside: F,
+    main: F,
+) -> (Result<u64, RunError>, (u64, u64, u64))
+where
+    F: TaskFuture<Cx<F, u64, NoPool<NoJob>, NoUnpark>, Output = u64> + Drop,
+    requires { (f : F) → F.can_poll f }
+{
+    let limits = Limits {
+        tasks: 2,
+        jobs: 0,
+        sleeps: 2,
+    };
+    let start = Instant::from_nanos(0).expect(rt, "an instant");
+    let driver = StepDriver::new(Vec::new(alloc));
+    let pool = BlockingHandle::Empty(BlockingStrategy::Panic);
+    let mut runtime = Runtime::new(alloc, driver, pool, limits, true, start, ()).expect(
+        rt, "memory",
+    );
+    let is_spawned = runtime.spawn(alloc, beside).is_ok();
+    assert!(rt; is_spawned);
+    let answer = runtime.block_on(rt, alloc, main, 1000);
+    (answer, told_in(runtime.journal()))
+}
+
 fn or_zero(answer: Result<u64, SleepError>) -> u64 {
     answer.unwrap_or(0)
 }
@@ -106,6 +135,45 @@ fn either_is_one_of_two_tasks(rt: HostRuntime) {
         } else {
             (Ok(8), (2, 0, 0))
         };
+        assert_eq!(rt; run(&rt, alloc, task), told);
+    }
+}
+
+#[test]
+fn tasks_of_two_kinds_stand_in_one_table(rt: HostRuntime) {
+    let beside = sleep_for(Duration::from_millis(1))
+        .map(|_: Result<(), SleepError>| 7u64)
+        .left_future();
+    let main = sleep_for(Duration::from_millis(2))
+        .and_then(|_: ()| sleep_for(Duration::from_millis(3)))
+        .map(|_: Result<(), SleepError>| 8u64)
+        .right_future();
+    // The task beside wakes at 1 ms, and the main task at 2 ms and at 5 ms.
+    assert_eq!(rt;
+        run_beside(&rt, rt.alloc(), beside, main),
+        (Ok(8), (5, 3, 5))
+    );
+}
+
+#[test]
+fn a_timeout_ends_what_is_late(rt: HostRuntime) {
+    let alloc = rt.alloc();
+    // (milliseconds until the answer, the limit, the answer, turns, parks and milliseconds of parks)
+    for (takes, limit, told) in [
+        (1, 3, (Ok(1), (2, 1, 1))),
+        (3, 1, (Ok(2), (2, 1, 1))),
+        (3, 3, (Ok(1), (2, 1, 3))),
+        (0, 0, (Ok(1), (1, 0, 0))),
+    ] {
+        let value = sleep_for(Duration::from_millis(takes)).map(|_: Result<(), SleepError>| 1u64);
+        let task = timeout_for(Duration::from_millis(limit), value).map(|answer: Result<
+            u64,
+            LateError,
+        >| match answer {
+            Ok(value) => value,
+            Err(LateError::Elapsed(_)) => 2,
+            Err(LateError::Sleep(_)) => 3,
+        });
         assert_eq!(rt; run(&rt, alloc, task), told);
     }
 }
@@ -179,4 +247,25 @@ fn the_first_of_two_ends_a_race(rt: HostRuntime) {
         short(),
     );
     assert_eq!(rt; run(&rt, alloc, task), (Ok(1), (2, 1, 1)));
+}
+
+#[test]
+fn a_client_asks_again_until_its_server_replies_in_time(rt: HostRuntime) {
+    let alloc = rt.alloc();
+    let start = Instant::from_nanos(0).expect(&rt, "an instant");
+    // Each attempt takes 1 ms to connect, then 20 ms or as long as the reply takes, and rests 10, 20, 40, 80 ms.
+    for (reply, answer, milliseconds) in [
+        (12, (1, Some(42)), 1 + 12),
+        (30, (2, Some(42)), 1 + 20 + 10 + 1 + 15),
+        (100, (4, Some(42)), 3 * (1 + 20) + 10 + 20 + 40 + 1 + 12),
+        (1000, (5, None), 5 * (1 + 20) + 10 + 20 + 40 + 80),
+    ] {
+        let server = Server { connect: 1, reply };
+        let driver = StepDriver::new(Vec::new(alloc));
+        let (told, journal) = ask::<StepDriver, NoPool<NoJob>, HostRuntime>(
+            &rt, alloc, driver, server, 21, start,
+        ).expect(&rt, "memory");
+        assert_eq!(rt; told, Ok(answer));
+        assert_eq!(rt; told_in(&journal).2, milliseconds);
+    }
 }

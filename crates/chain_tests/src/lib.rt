@@ -1,5 +1,9 @@
-//! Tests of chains by forms on a runtime: what they answer, and the journal.
+//! Tests of chains by forms, over a context that logs what they do, and on a runtime.
 #![tactic(auto)]
 
 #[cfg(test)]
 mod chains;
+#[cfg(test)]
+mod logs;
+#[cfg(test)]
+mod sequences;

@@ -1,5 +1,4 @@
 -- A fact of an answer leads to another.
-use Rattle.std.specs.Prelude.{⊤}
 use Rattle.mono_model.specs.Poll.{IfReady, OnPending}
 use Rattle.mono_model.specs.declared.poll.Poll.{Poll}
 use Rattle.mono_model.specs.declared.poll.Poll.TheVariants.{Ready, Pending}

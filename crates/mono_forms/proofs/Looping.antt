@@ -1,12 +1,12 @@
 -- A loop's turns: what is left of it goes on, and gives no more than before.
-use Rattle.std.proofs.Common.{◌≡◌, ℕ, zero, suc, ◌<◌, ◌-◌, List, [], ◌∷◌, Option, Some, None, refl, inl, inr, arith, false}
-use Rattle.std.specs.Prelude.{◌⊎◌, ⊤, Result}
+use Rattle.std.proofs.Common.{◌≡◌, ℕ, zero, suc, ◌<◌, ◌-◌, List, [], ◌∷◌, Option, Some, refl, inl, inr, arith, false}
+use Rattle.std.specs.Prelude.{⊤, Result}
 use Rattle.std.specs.Fn.{Mut, Called}
 use Rattle.mono_model.specs.Tasks.{Tasks}
 use Rattle.mono_model.specs.declared.Woke.{Woke}
 use Rattle.mono_model.specs.declared.task_error.TaskError.{TaskError}
 use Rattle.mono_model.specs.declared.poll.Poll.{Poll}
-use Rattle.mono_model.specs.declared.poll.Poll.TheVariants.{Ready, Pending}
+use Rattle.mono_model.specs.declared.poll.Poll.TheVariants.{Pending}
 use Rattle.mono_task.specs.Members.{FutureOf}
 use Rattle.mono_forms.specs.Parts.{MayPoll}
 use Rattle.mono_forms.specs.Loops.{CanStep, StepsWell, StepsTo}

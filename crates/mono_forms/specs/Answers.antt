@@ -1,7 +1,7 @@
 -- An answer that is there.
 use Rattle.std.specs.Prelude.{◌≡◌, Option, Some, None}
 use Rattle.mono_model.specs.declared.poll.Poll.{Poll}
-use Rattle.mono_model.specs.declared.poll.Poll.TheVariants.{Ready, Pending}
+use Rattle.mono_model.specs.declared.poll.Poll.TheVariants.{Ready}
 
 -- the value is given, and is gone
 abbrev pub ReadyPolls : {T C : Type 0} → Option T → C → Poll T → Option T → C → Type 0

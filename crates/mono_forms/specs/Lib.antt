@@ -10,3 +10,8 @@ pub mod Repeats
 pub mod Rescued
 pub mod Races
 pub mod LoopRules
+pub mod Lazies
+pub mod Inspectors
+pub mod Fuses
+pub mod EitherRaces
+pub mod RaceLists

@@ -1,11 +1,11 @@
 -- A loop by an invariant of its states: what holds of each state and of each answer, turn by turn.
-use Rattle.std.specs.Prelude.{◌≡◌, List, [], ◌∷◌, refl}
+use Rattle.std.specs.Prelude.{List, [], ◌∷◌}
 use Rattle.std.proofs.Common.{subst, inl, inr}
 use Rattle.std.specs.List.{FoldsTo}
 use Rattle.std.specs.Fn.{Mut, Called}
 use Rattle.mono_task.specs.Members.{FutureOf}
 use Rattle.mono_forms.specs.Parts.{MayPoll}
-use Rattle.mono_forms.specs.Loops.{CanStep, StepsWell, StepsTo, Step}
+use Rattle.mono_forms.specs.Loops.{CanStep, StepsWell, Step}
 use Rattle.mono_forms.specs.Repeats.{LoopGives, CanLoop}
 use Rattle.mono_forms.specs.declared.repeats.Loop.{Loop}
 use Rattle.mono_forms.specs.declared.repeats.Loop.TheVariants.{Break, Continue}

@@ -1,9 +1,9 @@
 -- Words on a closure that is called at a state, and whose future asks for the next state or for the end.
-use Rattle.std.specs.Prelude.{◌≡◌, List, [], ◌∷◌}
+use Rattle.std.specs.Prelude.{List}
 use Rattle.std.specs.List.{FoldsTo}
 use Rattle.std.specs.Fn.{Mut, Called}
 use Rattle.mono_forms.specs.declared.repeats.Loop.{Loop}
-use Rattle.mono_forms.specs.declared.repeats.Loop.TheVariants.{Break, Continue}
+use Rattle.mono_forms.specs.declared.repeats.Loop.TheVariants.{Continue}
 
 -- the call at the state may be made, and the future that it returns may be polled
 abbrev pub CanStep : {F S A : Type 0} → Mut F (S × Unit {0}) A → (A → Type 0) → F × S → Type 0

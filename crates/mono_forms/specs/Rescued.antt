@@ -1,5 +1,5 @@
 -- One future after another, where the first fails: what one poll answers and leaves, and what may be answered in the end.
-use Rattle.std.specs.Prelude.{⊤, ◌≡◌, Bool, true, false, Result, Ok, Err}
+use Rattle.std.specs.Prelude.{⊤, ◌≡◌, Bool, true, Result, Ok, Err}
 use Rattle.mono_model.specs.declared.poll.Poll.{Poll}
 use Rattle.mono_model.specs.declared.poll.Poll.TheVariants.{Ready, Pending}
 use Rattle.mono_task.specs.Members.{FutureOf}

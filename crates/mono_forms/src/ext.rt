@@ -2,15 +2,21 @@
 ghost use Rattle.std.specs.Prelude.{◌≡◌, Some};
 
 use crate::answers::{Pending, Ready};
+use crate::either_races::RaceEither;
 use crate::eithers::Either;
 use crate::flattened::{Flatten, Then};
+use crate::fuses::Fuse;
+use crate::inspectors::Inspect;
+use crate::lazies::Lazy;
 use crate::mapped::{Map, MapErr, MapOk};
+use crate::race_lists::RaceList;
 use crate::races::Race;
 use crate::repeats::Repeat;
 use crate::rescued::{OrElse, TryFlattenErr};
 use crate::tried::{AndThen, TryFlatten};
 use crate::yields::YieldNow;
-use mono_task::JoinHandle;
+use mono_combine::{Fallible, Join2, JoinList, PollFn, Select2, SelectList, TryJoin2, TryJoinList};
+use mono_task::{Context, JoinHandle, TaskFuture};
 use mono_time::{Sleep, SleepFor, Timeout, TimeoutFor};
 
 /// The forms as calls on a future. A future by hand has them by an empty impl.
@@ -72,6 +78,29 @@ pub trait FutureExt: Sized {
         })
     }
 
+    /// Its answer as it is, once a closure has seen it.
+    final fn inspect<X, F: FnOnce(&X)>(self, f: F) -> Inspect<Self, F>
+        ensures { result.inner ≡ Some (self, f) }
+    {
+        Inspect {
+            inner: Some((self, f)),
+        }
+    }
+
+    /// A future that waits for good after its answer.
+    final fn fuse(self) -> Fuse<Self>
+        ensures { result.inner ≡ Some self }
+    {
+        Fuse { inner: Some(self) }
+    }
+
+    /// The future that it answers, after it.
+    final fn flatten<B>(self) -> Flatten<Self, B>
+        ensures { result ≡ Flatten.First self }
+    {
+        Flatten::First(self)
+    }
+
     /// As the first of two.
     final fn left_future<B>(self) -> Either<Self, B>
         ensures { result ≡ Either.Left self }
@@ -113,6 +142,16 @@ impl<A, B> FutureExt for TryFlattenErr<A, B> {}
 
 impl<A, B> FutureExt for Race<A, B> {}
 
+impl<F> FutureExt for Lazy<F> {}
+
+impl<A, F> FutureExt for Inspect<A, F> {}
+
+impl<A> FutureExt for Fuse<A> {}
+
+impl<A, B> FutureExt for RaceEither<A, B> {}
+
+impl<T> FutureExt for RaceList<T> {}
+
 impl FutureExt for Sleep {}
 
 impl FutureExt for SleepFor {}
@@ -120,3 +159,17 @@ impl FutureExt for SleepFor {}
 impl<T> FutureExt for Timeout<T> {}
 
 impl<T> FutureExt for TimeoutFor<T> {}
+
+impl<F> FutureExt for PollFn<F> {}
+
+impl<C: Context, A: TaskFuture<C>, B: TaskFuture<C>> FutureExt for Join2<C, A, B> {}
+
+impl<C: Context, A: TaskFuture<C>, B: TaskFuture<C>> FutureExt for TryJoin2<C, A, B> {}
+
+impl<C: Context, T: TaskFuture<C>> FutureExt for JoinList<C, T> {}
+
+impl<C: Context, T: TaskFuture<C, Output: Fallible>> FutureExt for TryJoinList<C, T> {}
+
+impl<A, B, G, H> FutureExt for Select2<A, B, G, H> {}
+
+impl<T, G> FutureExt for SelectList<T, G> {}

@@ -7,11 +7,17 @@
 #![tactic(auto)]
 
 mod answers;
+mod either_races;
 mod eithers;
 mod ext;
 mod flattened;
+mod fuses;
+mod inspectors;
+mod lazies;
 mod makers;
 mod mapped;
+mod nests;
+mod race_lists;
 mod races;
 mod repeats;
 mod rescued;
@@ -19,11 +25,17 @@ mod tried;
 mod yields;
 
 pub use answers::{Pending, Ready};
+pub use either_races::RaceEither;
 pub use eithers::Either;
 pub use ext::FutureExt;
 pub use flattened::{Flatten, Then};
-pub use makers::{pending, race, ready, repeat, yield_now};
+pub use fuses::Fuse;
+pub use inspectors::Inspect;
+pub use lazies::Lazy;
+pub use makers::{lazy, pending, race, race_either, race_list, ready, repeat, yield_now};
 pub use mapped::{Map, MapErr, MapOk};
+pub use nests::{race_either3, race_either4, race_either5, race3, race4, race5};
+pub use race_lists::RaceList;
 pub use races::Race;
 pub use repeats::{Loop, Repeat};
 pub use rescued::{OrElse, TryFlattenErr};

@@ -1,0 +1,297 @@
+// Each form on each of its ways, and what it gives up after each number of polls.
+// The expected logs follow the rules of the crate `futures`: a form polls in the written order, the next part has its first
+// poll as soon as the one before has answered, and a part that has answered is dropped.
+use crate::logs::{Part, drive, part};
+use mono_combine::{TryJoin2, join3};
+use mono_forms::{
+    Either, FutureExt, Loop, lazy, pending, race, race_either, race_either3, race_list, race3,
+    ready, repeat, yield_now,
+};
+
+/// A value that is an error from 100 on.
+fn tried(x: u64) -> Result<u64, u64> {
+    if x < 100 { Ok(x) } else { Err(x) }
+}
+
+#[test]
+fn then_polls_its_second_part_with_the_answer_of_its_first(rt: HostRuntime) {
+    let alloc = rt.alloc();
+    for (polls, answer, lines) in [
+        (0, None, "A"),
+        (1, None, "a.A"),
+        (2, None, "a.aAb.B"),
+        (3, Some(8), "a.aAb.bB."),
+    ] {
+        let task = part('a', 1, 7u64).then(|x: u64| part('b', 1, x.wrapping_add(1)));
+        let (got, log) = drive(&rt, alloc, task, polls);
+        assert_eq!(rt; got, answer);
+        assert_eq!(rt; log.as_str(), lines);
+    }
+}
+
+#[test]
+fn and_then_ends_at_an_error(rt: HostRuntime) {
+    let alloc = rt.alloc();
+    for (value, polls, answer, lines) in [
+        (7u64, 0, None, "A"),
+        (7, 1, None, "a.A"),
+        (7, 2, None, "a.aAb.B"),
+        (7, 3, Some(Ok(8)), "a.aAb.bB."),
+        (99, 3, Some(Err(100)), "a.aAb.bB."),
+        (100, 3, Some(Err(100)), "a.aA."),
+    ] {
+        let task = part('a', 1, tried(value)).and_then(|x: u64| part(
+            'b',
+            1,
+            tried(x.wrapping_add(1)),
+        ));
+        let (got, log) = drive(&rt, alloc, task, polls);
+        assert_eq!(rt; got, answer);
+        assert_eq!(rt; log.as_str(), lines);
+    }
+}
+
+#[test]
+fn or_else_ends_at_a_value(rt: HostRuntime) {
+    let alloc = rt.alloc();
+    for (value, polls, answer, lines) in [
+        (100u64, 0, None, "A"),
+        (100, 2, None, "a.aAb.B"),
+        (100, 3, Some(Err(101)), "a.aAb.bB."),
+        (7, 3, Some(Ok(7)), "a.aA."),
+    ] {
+        let task = part('a', 1, tried(value)).or_else(|e: u64| part(
+            'b',
+            1,
+            tried(e.wrapping_add(1)),
+        ));
+        let (got, log) = drive(&rt, alloc, task, polls);
+        assert_eq!(rt; got, answer);
+        assert_eq!(rt; log.as_str(), lines);
+    }
+}
+
+#[test]
+fn maps_change_the_answer_once_its_future_is_given_up(rt: HostRuntime) {
+    let alloc = rt.alloc();
+    for (value, polls, doubled, kept, lines) in [
+        (7u64, 0, None, None, "A"),
+        (7, 1, None, None, "a.A"),
+        (7, 2, Some(Ok(14)), Some(Ok(7)), "a.aA."),
+        (100, 2, Some(Err(100)), Some(Err(101)), "a.aA."),
+    ] {
+        let (got, log) = drive(
+            &rt,
+            alloc,
+            part('a', 1, tried(value)).map_ok(|x: u64| x.wrapping_mul(2)),
+            polls,
+        );
+        assert_eq!(rt; got, doubled);
+        assert_eq!(rt; log.as_str(), lines);
+        let (got, log) = drive(
+            &rt,
+            alloc,
+            part('a', 1, tried(value)).map_err(|e: u64| e.wrapping_add(1)),
+            polls,
+        );
+        assert_eq!(rt; got, kept);
+        assert_eq!(rt; log.as_str(), lines);
+    }
+    let (got, log) = drive(&rt, alloc, part('a', 1, 7u64).map(|x: u64| x == 7), 2);
+    assert_eq!(rt; got, Some(true));
+    assert_eq!(rt; log.as_str(), "a.aA.");
+}
+
+#[test]
+fn either_polls_the_one_that_is_there(rt: HostRuntime) {
+    let alloc = rt.alloc();
+    for (is_left, polls, answer, lines) in [
+        (true, 0, None, "A"),
+        (true, 2, Some(7u64), "a.a.A"),
+        (false, 0, None, "B"),
+        (false, 2, Some(8), "b.b.B"),
+    ] {
+        let task: Either<Part<u64>, Part<u64>> = if is_left {
+            part('a', 1, 7u64).left_future()
+        } else {
+            part('b', 1, 8u64).right_future()
+        };
+        let (got, log) = drive(&rt, alloc, task, polls);
+        assert_eq!(rt; got, answer);
+        assert_eq!(rt; log.as_str(), lines);
+    }
+}
+
+#[test]
+fn a_loop_has_its_next_turn_in_the_same_poll(rt: HostRuntime) {
+    let alloc = rt.alloc();
+    for (waits, polls, answer, lines) in [
+        (0u64, 0, None, "A"),
+        (0, 1, Some(2u64), "aAaAaA."),
+        (1, 1, None, "a.A"),
+        (1, 2, None, "a.aAa.A"),
+        (1, 4, Some(2), "a.aAa.aAa.aA."),
+    ] {
+        let task = repeat(0u64, move |n: u64| {
+            part('a', waits, n).map(|n: u64| if n >= 2 {
+                Loop::Break(n)
+            } else {
+                Loop::Continue(n + 1)
+            })
+        });
+        let (got, log) = drive(&rt, alloc, task, polls);
+        assert_eq!(rt; got, answer);
+        assert_eq!(rt; log.as_str(), lines);
+    }
+}
+
+#[test]
+fn a_race_gives_both_up_in_the_written_order(rt: HostRuntime) {
+    let alloc = rt.alloc();
+    for (first, second, polls, answer, lines) in [
+        (1u64, 1u64, 0, None, "AB"),
+        (1, 1, 1, None, "ab.AB"),
+        (1, 1, 2, Some(7u64), "ab.aAB."),
+        (2, 1, 2, Some(8), "ab.abAB."),
+    ] {
+        let (got, log) = drive(
+            &rt,
+            alloc,
+            race(part('a', first, 7u64), part('b', second, 8u64)),
+            polls,
+        );
+        assert_eq!(rt; got, answer);
+        assert_eq!(rt; log.as_str(), lines);
+        let (got, log) = drive(
+            &rt,
+            alloc,
+            race_either(part('a', first, 7u64), part('b', second, 8u64)).map(|side: Either<
+                u64,
+                u64,
+            >| match side {
+                Either::Left(x) => x,
+                Either::Right(y) => y,
+            }),
+            polls,
+        );
+        assert_eq!(rt; got, answer);
+        assert_eq!(rt; log.as_str(), lines);
+    }
+}
+
+#[test]
+fn three_race_and_join_in_the_written_order(rt: HostRuntime) {
+    let alloc = rt.alloc();
+    let (a, b, c) = (part('a', 2, 1u64), part('b', 2, 2u64), part('c', 1, 3u64));
+    for (polls, answer, lines) in [
+        (0, None, "ABC"),
+        (1, None, "abc.ABC"),
+        (2, Some(3), "abc.abcABC."),
+    ] {
+        let (got, log) = drive(&rt, alloc, race3(a, b, c), polls);
+        assert_eq!(rt; got, answer);
+        assert_eq!(rt; log.as_str(), lines);
+    }
+    for (polls, answer, lines) in [
+        (0, None, "ABC"),
+        (2, None, "abc.abcC.AB"),
+        (3, Some(((1, 2), 3)), "abc.abcC.aAbB."),
+    ] {
+        let (got, log) = drive(&rt, alloc, join3(a, b, c), polls);
+        assert_eq!(rt; got, answer);
+        assert_eq!(rt; log.as_str(), lines);
+    }
+}
+
+#[test]
+fn the_first_error_of_three_gives_the_others_up(rt: HostRuntime) {
+    let alloc = rt.alloc();
+    for (values, answer, lines) in [
+        ((1u64, 2u64, 3u64), Ok(((1, 2), 3)), "aAbc.bBcC."),
+        ((100, 2, 3), Err(100), "aABC."),
+        ((1, 200, 3), Err(200), "aAbc.bBC."),
+        ((1, 2, 300), Err(300), "aAbc.bBcC."),
+    ] {
+        let form = TryJoin2::new(
+            TryJoin2::new(part('a', 0, tried(values.0)), part('b', 1, tried(values.1))),
+            part('c', 1, tried(values.2)),
+        );
+        let (got, log) = drive(&rt, alloc, form, 9);
+        assert_eq!(rt; got, Some(answer));
+        assert_eq!(rt; log.as_str(), lines);
+    }
+}
+
+#[test]
+fn the_first_of_a_list_that_answers_ends_the_race(rt: HostRuntime) {
+    let alloc = rt.alloc();
+    for (waits, polls, answer, lines) in [
+        ([1u64, 1, 1], 0, None, "ABC"),
+        ([1, 1, 1], 1, None, "abc.ABC"),
+        ([1, 1, 1], 2, Some(1u64), "abc.aABC."),
+        ([2, 1, 1], 2, Some(2), "abc.abABC."),
+        ([2, 2, 1], 2, Some(3), "abc.abcABC."),
+    ] {
+        let futures = vec![in alloc;
+            part('a', waits[0], 1u64),
+            part('b', waits[1], 2u64),
+            part('c', waits[2], 3u64),
+        ]
+        .expect(&rt, "memory");
+        let (got, log) = drive(&rt, alloc, race_list(futures), polls);
+        assert_eq!(rt; got, answer);
+        assert_eq!(rt; log.as_str(), lines);
+    }
+    let none: Vec<Part<u64>> = Vec::new(alloc);
+    let (got, log) = drive(&rt, alloc, race_list(none), 2);
+    assert_eq!(rt; got, None);
+    assert_eq!(rt; log.as_str(), "..");
+}
+
+#[test]
+fn a_fused_future_waits_after_its_answer(rt: HostRuntime) {
+    let alloc = rt.alloc();
+    let (got, log) = drive(
+        &rt,
+        alloc,
+        race(part('a', 0, 7u64).fuse(), pending::<u64>()),
+        1,
+    );
+    assert_eq!(rt; got, Some(7));
+    assert_eq!(rt; log.as_str(), "aA.");
+    let (got, log) = drive(
+        &rt,
+        alloc,
+        part('a', 0, 7u64).fuse().then(|_: u64| pending::<u64>()),
+        3,
+    );
+    assert_eq!(rt; got, None);
+    assert_eq!(rt; log.as_str(), "aA...");
+}
+
+#[test]
+fn small_forms_answer_at_once_or_in_the_next_poll(rt: HostRuntime) {
+    let alloc = rt.alloc();
+    let (got, log) = drive(&rt, alloc, ready(7u64), 1);
+    assert_eq!(rt; got, Some(7));
+    assert_eq!(rt; log.as_str(), ".");
+    let (got, log) = drive(&rt, alloc, lazy(|| 7u64), 1);
+    assert_eq!(rt; got, Some(7));
+    assert_eq!(rt; log.as_str(), ".");
+    let (got, log) = drive(&rt, alloc, yield_now(), 2);
+    assert_eq!(rt; got, Some(()));
+    assert_eq!(rt; log.as_str(), "!..");
+    let (got, log) = drive(
+        &rt,
+        alloc,
+        part('a', 1, 7u64).inspect(|x: &u64| {
+            prove!(*x < 8);
+        }),
+        2,
+    );
+    assert_eq!(rt; got, Some(7));
+    assert_eq!(rt; log.as_str(), "a.aA.");
+    let (got, log) = drive(&rt, alloc, lazy(|| part('a', 1, 7u64)).flatten(), 2);
+    assert_eq!(rt; got, Some(7));
+    assert_eq!(rt; log.as_str(), "a.aA.");
+}
