@@ -116,7 +116,11 @@ fn leave<T: Drop, W: Holds<Watch<T>>, C: SharedContext<W>>(cx: &mut C, ticket: O
 }
 
 // The running task replaces the value.
-fn replace<T: Drop, W: Holds<Watch<T>>, C: SharedContext<W>>(cx: &mut C, alloc: Global, value: T) -> Result<Replaced<T>, T>
+fn replace<T: Drop, W: Holds<Watch<T>>, C: SharedContext<W>>(
+    cx: &mut C,
+    alloc: Global,
+    value: T,
+) -> Result<Replaced<T>, T>
     ensures answer { Sends (W.part (C.shared cx.old)) value result (W.part (C.shared cx.new)) }
     ensures work { C.work cx.new ≡ C.work cx.old }
     ensures reached { C.reaches cx.old cx.new }
@@ -125,7 +129,10 @@ fn replace<T: Drop, W: Holds<Watch<T>>, C: SharedContext<W>>(cx: &mut C, alloc: 
 }
 
 // The running task closes the value.
-fn shut<T: Drop, W: Holds<Watch<T>>, C: SharedContext<W>>(cx: &mut C, alloc: Global) -> VecDeque<Waiter>
+fn shut<T: Drop, W: Holds<Watch<T>>, C: SharedContext<W>>(
+    cx: &mut C,
+    alloc: Global,
+) -> VecDeque<Waiter>
     ensures answer { Closes (W.part (C.shared cx.old)) result.items (W.part (C.shared cx.new)) }
     ensures work { C.work cx.new ≡ C.work cx.old }
     ensures reached { C.reaches cx.old cx.new }

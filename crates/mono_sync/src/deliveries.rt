@@ -85,7 +85,10 @@ fn leave<T: Drop, W: Holds<Oneshot<T>>, C: SharedContext<W>>(cx: &mut C)
 }
 
 // The running task puts the message into the channel.
-fn put<T: Drop, W: Holds<Oneshot<T>>, C: SharedContext<W>>(cx: &mut C, message: T) -> Result<Option<u64>, T>
+fn put<T: Drop, W: Holds<Oneshot<T>>, C: SharedContext<W>>(
+    cx: &mut C,
+    message: T,
+) -> Result<Option<u64>, T>
     ensures answer { Sends (W.part (C.shared cx.old)) message result (W.part (C.shared cx.new)) }
     ensures work { C.work cx.new ≡ C.work cx.old }
     ensures reached { C.reaches cx.old cx.new }

@@ -179,7 +179,10 @@ fn ask_recv<T: Drop, W: Holds<Channel<T>>, C: SharedContext<W>>(
 }
 
 // The running task's future leaves the line of those who wait to send.
-fn leave_send<T: Drop, W: Holds<Channel<T>>, C: SharedContext<W>>(cx: &mut C, ticket: Option<u64>) -> Option<Waiter>
+fn leave_send<T: Drop, W: Holds<Channel<T>>, C: SharedContext<W>>(
+    cx: &mut C,
+    ticket: Option<u64>,
+) -> Option<Waiter>
     ensures answer { GivesUpSend (W.part (C.shared cx.old)) ticket result (W.part (C.shared cx.new)) }
     ensures work { C.work cx.new ≡ C.work cx.old }
     ensures reached { C.reaches cx.old cx.new }
@@ -188,7 +191,10 @@ fn leave_send<T: Drop, W: Holds<Channel<T>>, C: SharedContext<W>>(cx: &mut C, ti
 }
 
 // The running task's future leaves the line of those who wait to receive.
-fn leave_recv<T: Drop, W: Holds<Channel<T>>, C: SharedContext<W>>(cx: &mut C, ticket: Option<u64>) -> Option<Waiter>
+fn leave_recv<T: Drop, W: Holds<Channel<T>>, C: SharedContext<W>>(
+    cx: &mut C,
+    ticket: Option<u64>,
+) -> Option<Waiter>
     ensures answer { GivesUpReceive (W.part (C.shared cx.old)) ticket result (W.part (C.shared cx.new)) }
     ensures work { C.work cx.new ≡ C.work cx.old }
     ensures reached { C.reaches cx.old cx.new }
@@ -197,7 +203,10 @@ fn leave_recv<T: Drop, W: Holds<Channel<T>>, C: SharedContext<W>>(cx: &mut C, ti
 }
 
 // The running task queues a message at once.
-fn queue<T: Drop, W: Holds<Channel<T>>, C: SharedContext<W>>(cx: &mut C, message: T) -> Result<Option<Waiter>, TrySendError<T>>
+fn queue<T: Drop, W: Holds<Channel<T>>, C: SharedContext<W>>(
+    cx: &mut C,
+    message: T,
+) -> Result<Option<Waiter>, TrySendError<T>>
     ensures answer { TriesToSend (W.part (C.shared cx.old)) message result (W.part (C.shared cx.new)) }
     ensures work { C.work cx.new ≡ C.work cx.old }
     ensures reached { C.reaches cx.old cx.new }
@@ -206,7 +215,9 @@ fn queue<T: Drop, W: Holds<Channel<T>>, C: SharedContext<W>>(cx: &mut C, message
 }
 
 // The running task takes a message at once.
-fn take<T: Drop, W: Holds<Channel<T>>, C: SharedContext<W>>(cx: &mut C) -> Result<(T, Option<Waiter>), TryRecvError>
+fn take<T: Drop, W: Holds<Channel<T>>, C: SharedContext<W>>(
+    cx: &mut C,
+) -> Result<(T, Option<Waiter>), TryRecvError>
     ensures answer { TriesToReceive (W.part (C.shared cx.old)) result (W.part (C.shared cx.new)) }
     ensures work { C.work cx.new ≡ C.work cx.old }
     ensures reached { C.reaches cx.old cx.new }
@@ -215,7 +226,10 @@ fn take<T: Drop, W: Holds<Channel<T>>, C: SharedContext<W>>(cx: &mut C) -> Resul
 }
 
 // The running task closes the channel.
-fn shut<T: Drop, W: Holds<Channel<T>>, C: SharedContext<W>>(cx: &mut C, alloc: Global) -> (VecDeque<Waiter>, VecDeque<Waiter>)
+fn shut<T: Drop, W: Holds<Channel<T>>, C: SharedContext<W>>(
+    cx: &mut C,
+    alloc: Global,
+) -> (VecDeque<Waiter>, VecDeque<Waiter>)
     ensures answer { Closes (W.part (C.shared cx.old)) result.0.items result.1.items (W.part (C.shared cx.new)) }
     ensures work { C.work cx.new ≡ C.work cx.old }
     ensures reached { C.reaches cx.old cx.new }

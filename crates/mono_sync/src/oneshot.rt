@@ -6,7 +6,6 @@ ghost use Rattle.mono_sync.specs.OneshotRuns.{Step};
 ghost use Rattle.mono_sync.specs.Oneshot.{Sends, TriesToReceive, Receives, Closes, GivesUp};
 
 pub use crate::deliveries::{Recv, close, send};
-
 use mono_shared::SharedState;
 use std::mem;
 

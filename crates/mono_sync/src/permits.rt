@@ -73,7 +73,10 @@ fn ask<W: Holds<Semaphore>, C: SharedContext<W>>(cx: &mut C, ticket: Option<u64>
 }
 
 // The running task's future leaves the line.
-fn leave<W: Holds<Semaphore>, C: SharedContext<W>>(cx: &mut C, ticket: Option<u64>) -> Option<Waiter>
+fn leave<W: Holds<Semaphore>, C: SharedContext<W>>(
+    cx: &mut C,
+    ticket: Option<u64>,
+) -> Option<Waiter>
     ensures answer { GivesUp (W.part (C.shared cx.old)) ticket result (W.part (C.shared cx.new)) }
     ensures work { C.work cx.new ≡ C.work cx.old }
     ensures reached { C.reaches cx.old cx.new }
@@ -106,7 +109,9 @@ fn close_part<W: Holds<Semaphore>>(whole: &mut W, alloc: Global) -> VecDeque<Wai
 }
 
 // The running task puts a permit back.
-fn put_back<W: Holds<Semaphore>, C: SharedContext<W>>(cx: &mut C) -> Result<Option<Waiter>, TooManyPermits>
+fn put_back<W: Holds<Semaphore>, C: SharedContext<W>>(
+    cx: &mut C,
+) -> Result<Option<Waiter>, TooManyPermits>
     ensures answer { Releases (W.part (C.shared cx.old)) result (W.part (C.shared cx.new)) }
     ensures work { C.work cx.new ≡ C.work cx.old }
     ensures reached { C.reaches cx.old cx.new }

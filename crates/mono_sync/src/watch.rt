@@ -5,7 +5,6 @@ ghost use Rattle.mono_sync.specs.WatchRuns.{Step};
 ghost use Rattle.mono_sync.specs.Watches.{Sends, Changes, GivesUp, Closes};
 
 pub use crate::changes::{Changed, ChangedError, close, send};
-
 use crate::lines::{Line, Waiter};
 use mono_shared::SharedState;
 use std::alloc::Global;
