@@ -1,3 +1,4 @@
 pub mod LineLemmas
 pub mod PermitLemmas
 pub mod MessageLemmas
+pub mod RoomLemmas

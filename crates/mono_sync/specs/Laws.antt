@@ -1,5 +1,5 @@
 -- What holds over any calls of a channel and of a semaphore.
-use Rattle.std.specs.Prelude.{⊤, true, false, ◌≡◌, ◌<◌, ◌≤◌, ◌+◌, ℕ, List, [], ◌∷◌, ◌++◌, Option, Some, None, Result, Ok, Err}
+use Rattle.std.specs.Prelude.{⊤, true, false, ◌≡◌, ◌<◌, ◌≤◌, ◌+◌, ℕ, List, [], ◌∷◌, ◌++◌, length, Option, Some, None, Result, Ok, Err}
 use Rattle.mono_sync.specs.declared.lines.Waiter.{Waiter}
 use Rattle.mono_sync.specs.declared.semaphores.Semaphore.{Semaphore}
 use Rattle.mono_sync.specs.declared.mpsc.Channel.{Channel}
@@ -27,3 +27,7 @@ InOrder T = (es : List (channel.Event T)) (a b : Channel T) → channel.Run a es
 -- a closed channel stays closed, and takes nothing
 abbrev pub NothingAfterClose : (T : Type 0) → Type 0
 NothingAfterClose T = (es : List (channel.Event T)) (a b : Channel T) → a.is_closed ≡ true → channel.Run a es b → (b.is_closed ≡ true) × (channel.sent es ≡ []) × (channel.received es ++ b.queue.items ≡ a.queue.items)
+
+-- the bound stays, and is kept
+abbrev pub StaysBounded : (T : Type 0) → Type 0
+StaysBounded T = (es : List (channel.Event T)) (a b : Channel T) → channel.Run a es b → (b.bound ≡ a.bound) × (length a.queue.items ≤ a.bound → length b.queue.items ≤ b.bound)

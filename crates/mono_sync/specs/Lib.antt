@@ -8,5 +8,12 @@ pub mod SemaphoreRuns
 pub mod MpscRuns
 pub mod Laws
 pub mod Wakes
-pub mod Acquires
+pub mod Permits
 pub mod Messages
+pub mod Runs
+pub mod OneshotRuns
+pub mod NoticeRuns
+pub mod WatchRuns
+pub mod Notifications
+pub mod Changes
+pub mod Deliveries

@@ -1,5 +1,5 @@
 //! What holds over any calls of a channel and of a semaphore.
-ghost use Rattle.mono_sync.specs.Laws.{PermitsAreKept, FirstComeFirstServed, InOrder, NothingAfterClose};
+ghost use Rattle.mono_sync.specs.Laws.{PermitsAreKept, FirstComeFirstServed, InOrder, NothingAfterClose, StaysBounded};
 
 /// Permits that were given are never more than there were and than were put back.
 pub fn permits_are_kept()
@@ -19,4 +19,9 @@ pub fn received_in_order<T>()
 /// Once a channel was closed, what was queued is received and nothing else.
 pub fn nothing_after_close<T>()
     ensures { NothingAfterClose T }
+{}
+
+/// A channel never has more messages than its bound.
+pub fn stays_bounded<T>()
+    ensures { StaysBounded T }
 {}

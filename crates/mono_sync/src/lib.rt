@@ -1,20 +1,24 @@
 //! Channels, semaphores and notices for the tasks of one runtime, as plain values that they share.
 #![tactic(auto)]
 
-mod acquires;
+mod changes;
+mod deliveries;
 pub mod laws;
 mod lines;
 mod messages;
 pub mod mpsc;
 mod notices;
+mod notifications;
 pub mod oneshot;
 mod parts;
+pub mod permits;
 mod semaphores;
 mod wakes;
 pub mod watch;
 
-pub use acquires::{Acquire, AcquireError};
 pub use lines::{Line, Waiter};
 pub use notices::{Notify, Notifying};
+pub use notifications::{Notified, notify_one, notify_waiters};
 pub use parts::{Holds, Only};
+pub use permits::{Acquire, AcquireError};
 pub use semaphores::{Acquiring, MAX_PERMITS, Semaphore, TooManyPermits, TryAcquireError};

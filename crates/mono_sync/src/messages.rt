@@ -178,6 +178,65 @@ fn ask_recv<T: Drop, W: Holds<Channel<T>>, C: SharedContext<W>>(
     recv_part::<T, W>(cx.shared_mut(), ticket, me)
 }
 
+// The running task's future leaves the line of those who wait to send.
+fn leave_send<T: Drop, W: Holds<Channel<T>>, C: SharedContext<W>>(
+    cx: &mut C,
+    ticket: Option<u64>,
+) -> Option<Waiter>
+    ensures answer { GivesUpSend (W.part (C.shared cx.old)) ticket result (W.part (C.shared cx.new)) }
+    ensures work { C.work cx.new ≡ C.work cx.old }
+    ensures reached { C.reaches cx.old cx.new }
+{
+    leave_send_part::<T, W>(cx.shared_mut(), ticket)
+}
+
+// The running task's future leaves the line of those who wait to receive.
+fn leave_recv<T: Drop, W: Holds<Channel<T>>, C: SharedContext<W>>(
+    cx: &mut C,
+    ticket: Option<u64>,
+) -> Option<Waiter>
+    ensures answer { GivesUpReceive (W.part (C.shared cx.old)) ticket result (W.part (C.shared cx.new)) }
+    ensures work { C.work cx.new ≡ C.work cx.old }
+    ensures reached { C.reaches cx.old cx.new }
+{
+    leave_recv_part::<T, W>(cx.shared_mut(), ticket)
+}
+
+// The running task queues a message at once.
+fn queue<T: Drop, W: Holds<Channel<T>>, C: SharedContext<W>>(
+    cx: &mut C,
+    message: T,
+) -> Result<Option<Waiter>, TrySendError<T>>
+    ensures answer { TriesToSend (W.part (C.shared cx.old)) message result (W.part (C.shared cx.new)) }
+    ensures work { C.work cx.new ≡ C.work cx.old }
+    ensures reached { C.reaches cx.old cx.new }
+{
+    try_send_part::<T, W>(cx.shared_mut(), message)
+}
+
+// The running task takes a message at once.
+fn take<T: Drop, W: Holds<Channel<T>>, C: SharedContext<W>>(
+    cx: &mut C,
+) -> Result<(T, Option<Waiter>), TryRecvError>
+    ensures answer { TriesToReceive (W.part (C.shared cx.old)) result (W.part (C.shared cx.new)) }
+    ensures work { C.work cx.new ≡ C.work cx.old }
+    ensures reached { C.reaches cx.old cx.new }
+{
+    try_recv_part::<T, W>(cx.shared_mut())
+}
+
+// The running task closes the channel.
+fn shut<T: Drop, W: Holds<Channel<T>>, C: SharedContext<W>>(
+    cx: &mut C,
+    alloc: Global,
+) -> (VecDeque<Waiter>, VecDeque<Waiter>)
+    ensures answer { Closes (W.part (C.shared cx.old)) result.0.items result.1.items (W.part (C.shared cx.new)) }
+    ensures work { C.work cx.new ≡ C.work cx.old }
+    ensures reached { C.reaches cx.old cx.new }
+{
+    close_part::<T, W>(cx.shared_mut(), alloc)
+}
+
 /// Sends a message at once, and wakes the first task that waits to receive: the message is promised to it.
 ///
 /// Refused with `Closed` if the channel was closed, with `Full` if no place is free, and with `Memory` if the allocation
@@ -189,7 +248,7 @@ pub fn try_send<T: Drop, W: Holds<Channel<T>>, C: SharedContext<W>>(
     ensures wakes { TrySendWakes (λ x. W.part (C.shared x)) C.number C.work cx.old message result cx.new }
     ensures reached { C.reaches cx.old cx.new }
 {
-    match try_send_part::<T, W>(cx.shared_mut(), message) {
+    match queue::<T, W, C>(cx, message) {
         Ok(first) => {
             wake_first::<W, C>(cx, first);
             Ok(())
@@ -208,7 +267,7 @@ pub fn try_recv<T: Drop, W: Holds<Channel<T>>, C: SharedContext<W>>(
     ensures wakes { TryRecvWakes (λ x. W.part (C.shared x)) C.number C.work cx.old result cx.new }
     ensures reached { C.reaches cx.old cx.new }
 {
-    match try_recv_part::<T, W>(cx.shared_mut()) {
+    match take::<T, W, C>(cx) {
         Ok((message, first)) => {
             wake_first::<W, C>(cx, first);
             Ok(message)
@@ -224,7 +283,7 @@ pub fn close<T: Drop, W: Holds<Channel<T>>, C: SharedContext<W>>(alloc: Global, 
     ensures wakes { CloseWakes (λ x. W.part (C.shared x)) C.number C.work cx.old cx.new }
     ensures reached { C.reaches cx.old cx.new }
 {
-    let (senders, receivers) = close_part::<T, W>(cx.shared_mut(), alloc);
+    let (senders, receivers) = shut::<T, W, C>(cx, alloc);
     wake_all::<W, C>(cx, senders);
     wake_all::<W, C>(cx, receivers);
 }
@@ -280,7 +339,7 @@ impl<T: Drop, W: Holds<Channel<T>>, C: SharedContext<W>> TaskFuture<C> for Send<
     }
 
     fn cancel(self, cx: &mut C) {
-        let first = leave_send_part::<T, W>(cx.shared_mut(), self.ticket);
+        let first = leave_send::<T, W, C>(cx, self.ticket);
         wake_first::<W, C>(cx, first);
     }
 }
@@ -332,7 +391,7 @@ impl<T: Drop, W: Holds<Channel<T>>, C: SharedContext<W>> TaskFuture<C> for Recv<
     }
 
     fn cancel(self, cx: &mut C) {
-        let first = leave_recv_part::<T, W>(cx.shared_mut(), self.ticket);
+        let first = leave_recv::<T, W, C>(cx, self.ticket);
         wake_first::<W, C>(cx, first);
     }
 }

@@ -4,9 +4,8 @@ ghost use Rattle.mono_sync.specs.Lines.{SameLine};
 ghost use Rattle.mono_sync.specs.MpscRuns.{Leads, leads_itself, leads_on};
 ghost use Rattle.mono_sync.specs.Mpsc.{Pushes, Pops, Rests, Kept, TriesToSend, TriesToReceive, Sends, Receives, GivesUpSend, GivesUpReceive, Closes, places};
 
-pub use crate::messages::{Recv, Send, SendError, close, try_recv, try_send};
-
 use crate::lines::{Line, Waiter};
+pub use crate::messages::{Recv, Send, SendError, close, try_recv, try_send};
 use mono_shared::SharedState;
 use std::alloc::Global;
 use std::collections::VecDeque;

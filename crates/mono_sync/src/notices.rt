@@ -1,8 +1,11 @@
 // A notice as a plain value.
 ghost use Rattle.std.specs.Prelude.{◌≡◌, [], false};
+ghost use Rattle.mono_sync.specs.Runs.{Leads, leads_itself, leads_on};
+ghost use Rattle.mono_sync.specs.NoticeRuns.{Step};
 ghost use Rattle.mono_sync.specs.Notices.{NotifiesOne, NotifiesAll, Awaits, GivesUp};
 
 use crate::lines::{Line, Waiter};
+use mono_shared::SharedState;
 use std::alloc::Global;
 use std::collections::VecDeque;
 
@@ -29,6 +32,15 @@ pub enum Notifying {
     Joined(u64),
     /// It still waits.
     Waits,
+}
+
+/// Some calls were made, and nothing else was done.
+impl SharedState for Notify {
+    ghost leads = { Leads Step };
+
+    ghost leads_itself = { leads_itself Step };
+
+    ghost leads_on = { leads_on Step };
 }
 
 impl Notify {

@@ -1,8 +1,12 @@
 // A channel for one message as a plain value.
 ghost use Rattle.std.specs.Prelude.{◌≡◌, ⊤, true, false};
 ghost use Rattle.std.specs.declared.option.Option.TheVariants.{None, Some};
+ghost use Rattle.mono_sync.specs.Runs.{Leads, leads_itself, leads_on};
+ghost use Rattle.mono_sync.specs.OneshotRuns.{Step};
 ghost use Rattle.mono_sync.specs.Oneshot.{Sends, TriesToReceive, Receives, Closes, GivesUp};
 
+pub use crate::deliveries::{Recv, close, send};
+use mono_shared::SharedState;
 use std::mem;
 
 /// A place for one message, and the task that waits for it.
@@ -32,6 +36,15 @@ pub enum Receiving<T> {
     Closed,
     /// It waits.
     Waits,
+}
+
+/// Some calls were made, and nothing else was done.
+impl<T> SharedState for Oneshot<T> {
+    ghost leads = { Leads Step };
+
+    ghost leads_itself = { leads_itself Step };
+
+    ghost leads_on = { leads_on Step };
 }
 
 impl<T: Drop> Oneshot<T> {

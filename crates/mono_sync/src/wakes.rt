@@ -29,3 +29,14 @@ pub(crate) fn wake_all<W: SharedState, C: SharedContext<W>>(cx: &mut C, woken: V
         let _ = cx.wake(first.task());
     }
 }
+
+// Wakes the task, if any.
+pub(crate) fn wake_task<W: SharedState, C: SharedContext<W>>(cx: &mut C, task: Option<u64>)
+    ensures shared { C.shared cx.new ≡ C.shared cx.old }
+    ensures work { C.work cx.new ≡ woken_if_any (C.work cx.old) task }
+    ensures reached { C.reaches cx.old cx.new }
+{
+    if let Some(task) = task {
+        let _ = cx.wake(task);
+    }
+}

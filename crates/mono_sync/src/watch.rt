@@ -1,8 +1,12 @@
 // A watched value, of which the last one alone is kept.
 ghost use Rattle.std.specs.Prelude.{◌≡◌, [], false};
+ghost use Rattle.mono_sync.specs.Runs.{Leads, leads_itself, leads_on};
+ghost use Rattle.mono_sync.specs.WatchRuns.{Step};
 ghost use Rattle.mono_sync.specs.Watches.{Sends, Changes, GivesUp, Closes};
 
+pub use crate::changes::{Changed, ChangedError, close, send};
 use crate::lines::{Line, Waiter};
+use mono_shared::SharedState;
 use std::alloc::Global;
 use std::collections::VecDeque;
 use std::mem;
@@ -38,6 +42,15 @@ pub struct Replaced<T> {
     pub old: T,
     /// Those who waited.
     pub woken: VecDeque<Waiter>,
+}
+
+/// Some calls were made, and nothing else was done.
+impl<T> SharedState for Watch<T> {
+    ghost leads = { Leads Step };
+
+    ghost leads_itself = { leads_itself Step };
+
+    ghost leads_on = { leads_on Step };
 }
 
 impl<T: Drop> Watch<T> {

@@ -1,6 +1,0 @@
-use Rattle.mono_sync.specs.SemaphoreRuns.{tried, leads_by}
-use Rattle.mono_sync.proofs.acquires.try_part.Goals as goal
-
-pub returns-clause-leads : goal.returns-clause-leads
-returns-clause-leads g c =
-    g.met.W.Holds.leads_with _ _ (leads_by (tried c.try_acquire.result) _ _ (rw c.part_mut.ensures.value at c.try_acquire.ensures))

@@ -1,0 +1,7 @@
+use Rattle.mono_sync.specs.Runs.{leads_by}
+use Rattle.mono_sync.specs.WatchRuns.{asked, Step}
+use Rattle.mono_sync.proofs.changes.ask_part.Goals as goal
+
+pub returns-clause-leads : goal.returns-clause-leads
+returns-clause-leads g c =
+    g.met.W.Holds.leads_with _ _ (leads_by Step (asked c.args.seen c.args.ticket c.args.task c.changed.result) _ _ (rw c.part_mut.ensures.value at c.changed.ensures))

@@ -1,0 +1,6 @@
+use Rattle.mono_sync.specs.SemaphoreRuns.{released, leads_by}
+use Rattle.mono_sync.proofs.permits.release_part.Goals as goal
+
+pub returns-clause-leads : goal.returns-clause-leads
+returns-clause-leads g c =
+    g.met.W.Holds.leads_with _ _ (leads_by (released c.release.result) _ _ (rw c.part_mut.ensures.value at c.release.ensures))

@@ -1,0 +1,19 @@
+-- Calls of a watched value, each with its answer.
+use Rattle.std.specs.Prelude.{ℕ, List, Option, Result}
+use Rattle.mono_sync.specs.declared.lines.Waiter.{Waiter}
+use Rattle.mono_sync.specs.declared.watch.Watch.{Watch}
+use Rattle.mono_sync.specs.declared.watch.Replaced.{Replaced}
+use Rattle.mono_sync.specs.declared.watch.Changing.{Changing}
+use Rattle.mono_sync.specs.Watches.{Sends, Changes, GivesUp, Closes}
+
+pub data Event (T : Type 0) : Type 0 where
+  sent : (value : T) → (answer : Result (Replaced T) T) → Event T
+  asked : (seen : ℕ) → (ticket : Option ℕ) → (task : ℕ) → (answer : Changing) → Event T
+  gave_up : (ticket : Option ℕ) → Event T
+  closed : (woken : List Waiter) → Event T
+
+abbrev pub Step : {T : Type 0} → Watch T → Event T → Watch T → Type 0
+Step a (sent x r) b = Sends a x r b
+Step a (asked seen ticket task r) b = Changes a seen ticket task r b
+Step a (gave_up ticket) b = GivesUp a ticket b
+Step a (closed woken) b = Closes a woken b

@@ -1,0 +1,15 @@
+//! Tests of channels, semaphores, notices and watched values, over their public calls.
+#![tactic(auto)]
+
+#[cfg(test)]
+mod channels;
+#[cfg(test)]
+mod memory;
+#[cfg(test)]
+mod notices;
+#[cfg(test)]
+mod oneshots;
+#[cfg(test)]
+mod semaphores;
+#[cfg(test)]
+mod watches;

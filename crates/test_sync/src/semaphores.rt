@@ -1,0 +1,152 @@
+// A semaphore: each test is a table of calls with the answers that they must have.
+use mono_sync::{Acquiring, MAX_PERMITS, Semaphore, TryAcquireError, Waiter};
+use std::alloc::Global;
+use std::process::Abort;
+
+/// One call, with its answer.
+#[derive(Clone, Copy)]
+enum Call {
+    /// A permit is taken at once.
+    Takes,
+    /// No permit is free.
+    HasNone,
+    /// It was closed.
+    IsShut,
+    /// A task's future with this ticket asks: it has a permit.
+    Acquires(Option<u64>, u64),
+    /// It waits from now on, with the second ticket.
+    Joins(Option<u64>, u64, u64),
+    /// It still waits.
+    Waits(Option<u64>, u64),
+    /// It finds the semaphore closed.
+    Finds(Option<u64>, u64),
+    /// A permit is released, and this task is woken, if any.
+    Releases(Option<u64>),
+    /// A future leaves the line, and this task is woken, if any.
+    Leaves(Option<u64>, Option<u64>),
+    /// It is closed, and these two tasks are woken.
+    Closes(u64, u64),
+    /// So many permits are free.
+    Has(usize),
+}
+
+fn task(waiter: Option<Waiter>) -> Option<u64> {
+    match waiter {
+        None => None,
+        Some(waiter) => Some(waiter.task()),
+    }
+}
+
+/// Makes one call: whether it answers so.
+fn answers(alloc: Global, semaphore: &mut Semaphore, call: Call) -> bool {
+    match call {
+        Call::Takes => semaphore.try_acquire().is_ok(),
+        Call::HasNone => matches!(semaphore.try_acquire(), Err(TryAcquireError::NoPermits)),
+        Call::IsShut => matches!(semaphore.try_acquire(), Err(TryAcquireError::Closed)),
+        Call::Acquires(ticket, by) => matches!(semaphore.acquire(ticket, by), Acquiring::Acquired),
+        Call::Joins(ticket, by, drawn) => match semaphore.acquire(ticket, by) {
+            Acquiring::Joined(had) => had == drawn,
+            _ => false,
+        },
+        Call::Waits(ticket, by) => matches!(semaphore.acquire(ticket, by), Acquiring::Waits),
+        Call::Finds(ticket, by) => matches!(semaphore.acquire(ticket, by), Acquiring::Closed),
+        Call::Releases(woken) => match semaphore.release() {
+            Ok(first) => task(first) == woken,
+            Err(_) => false,
+        },
+        Call::Leaves(ticket, woken) => task(semaphore.give_up(ticket)) == woken,
+        Call::Closes(one, other) => {
+            let mut woken = semaphore.close(alloc);
+            let first = task(woken.pop_front());
+            let second = task(woken.pop_front());
+            first == Some(one) && second == Some(other) && woken.is_empty()
+        }
+        Call::Has(permits) => semaphore.available_permits() == permits,
+    }
+}
+
+/// Makes the calls in turn on a semaphore with this many permits: each must answer so.
+fn all_answer<R: Abort>(rt: &R, alloc: Global, permits: usize, calls: &[Call]) {
+    let mut semaphore = Semaphore::new(alloc, permits);
+    for call in calls {
+        assert!(rt; answers(alloc, &mut semaphore, *call));
+    }
+}
+
+// Permits are given in the order in which they were asked for, and none is taken past those who wait.
+#[test]
+fn first_come_first_served(rt: HostRuntime) {
+    all_answer(
+        &rt,
+        rt.alloc(),
+        1,
+        &[
+            Call::Acquires(None, 7),
+            Call::Has(0),
+            Call::HasNone,
+            Call::Joins(None, 8, 0),
+            Call::Joins(None, 9, 1),
+            Call::Waits(Some(0), 8),
+            Call::Releases(Some(8)),
+            Call::Has(0),
+            Call::HasNone,
+            Call::Waits(Some(1), 9),
+            Call::Acquires(Some(0), 8),
+            Call::Releases(Some(9)),
+            Call::Acquires(Some(1), 9),
+            Call::Releases(None),
+            Call::Has(1),
+            Call::Takes,
+        ],
+    );
+}
+
+// A future that is given up leaves the line; one that was served hands its permit on.
+#[test]
+fn given_up(rt: HostRuntime) {
+    all_answer(
+        &rt,
+        rt.alloc(),
+        0,
+        &[
+            Call::Joins(None, 1, 0),
+            Call::Joins(None, 2, 1),
+            Call::Joins(None, 3, 2),
+            Call::Leaves(Some(1), None),
+            Call::Releases(Some(1)),
+            Call::Leaves(Some(0), Some(3)),
+            Call::Acquires(Some(2), 3),
+            Call::Joins(None, 4, 3),
+            Call::Releases(Some(4)),
+            Call::Leaves(Some(3), None),
+            Call::Has(1),
+        ],
+    );
+}
+
+// All who wait when a semaphore is closed are woken, and find it closed.
+#[test]
+fn closed(rt: HostRuntime) {
+    all_answer(
+        &rt,
+        rt.alloc(),
+        0,
+        &[
+            Call::Joins(None, 1, 0),
+            Call::Joins(None, 2, 1),
+            Call::Closes(1, 2),
+            Call::Finds(Some(0), 1),
+            Call::Finds(Some(1), 2),
+            Call::Finds(None, 3),
+            Call::IsShut,
+        ],
+    );
+}
+
+#[test]
+fn no_permit_too_many(rt: HostRuntime) {
+    let mut semaphore = Semaphore::new(rt.alloc(), MAX_PERMITS - 1);
+    assert!(rt; semaphore.release().is_ok());
+    assert!(rt; semaphore.release().is_err());
+    assert_eq!(rt; semaphore.available_permits(), MAX_PERMITS);
+}
