@@ -13,6 +13,8 @@ mod desks;
 #[cfg(test)]
 mod examples;
 #[cfg(test)]
+mod far_wheels;
+#[cfg(test)]
 mod instants;
 #[cfg(test)]
 mod lent;

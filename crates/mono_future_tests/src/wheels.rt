@@ -19,12 +19,12 @@ fn polled<L: Ledger>(wheel: &mut Wheel, now: u64, blank: Blank) -> Option<usize>
 }
 
 // What comes out up to a tick.
-fn comes_out(wheel: &mut Wheel, now: u64) -> Option<usize> {
+pub fn comes_out(wheel: &mut Wheel, now: u64) -> Option<usize> {
     polled::<Brand>(wheel, now, Blank::new(1))
 }
 
 // A new key that is due at a tick.
-fn put<R: Abort>(rt: &R, alloc: Global, wheel: &mut Wheel, tick: u64) -> usize {
+pub fn put<R: Abort>(rt: &R, alloc: Global, wheel: &mut Wheel, tick: u64) -> usize {
     let key = wheel.reserve_entry(alloc).expect(rt, "memory");
     if tick < 1 << 63 {
         let _ = wheel.insert(key, tick);
@@ -78,7 +78,7 @@ fn put_late<R: Abort>(rt: &R, alloc: Global, wheel: &mut Wheel) -> Option<usize>
 }
 
 // Whether a key is let be due at a tick.
-fn extends(wheel: &mut Wheel, key: usize, tick: u64) -> bool {
+pub fn extends(wheel: &mut Wheel, key: usize, tick: u64) -> bool {
     wheel.is_in(key) && tick < 1 << 63 && wheel.extend(key, tick)
 }
 
