@@ -1,5 +1,5 @@
 // One call on the actors, with its answer.
-ghost use Rattle.std.specs.Prelude.{◌≡◌, ◌<◌, None, IfOk, OnOk};
+ghost use Rattle.std.specs.Prelude.{◌≡◌, None, IfOk, OnOk};
 ghost use Rattle.mono_time.specs.Instants.{nanos_of};
 ghost use Rattle.mono_actor.specs.Answers as answer;
 ghost use Rattle.mono_actor.specs.Callers.{actors_of};
@@ -12,10 +12,7 @@ ghost use Rattle.mono_actor_lines.specs.declared.wording.ActorLine.TheVariants a
 use crate::printing::{Told, put_due, put_told};
 use mono_actor::{ActorError, Actors, SendRefused};
 use mono_time::Instant;
-use mono_wheel::Steps;
 use std::alloc::{AllocError, Global};
-use std::marker::Brand;
-use std::sync::ledger::{Blank, Ledger};
 
 /// A new actor. Want of memory is no answer.
 pub fn spawned(alloc: Global, actors: &mut Actors<u64>) -> Result<Told, AllocError>
@@ -63,26 +60,24 @@ pub fn timed(actors: &mut Actors<u64>, actor: u64, ms: u64) -> Told
 }
 
 // The actors that are due at an instant, in a list that is emptied first.
-fn rung<L: Ledger>(
+fn rung(
+    alloc: Global,
     actors: &mut Actors<u64>,
     now: Instant,
     due: &mut Vec<u64>,
-    blank: Blank,
 ) -> Result<(), AllocError>
-    requires ledger { (blank.name ≡ L.name) × (blank.parts ≡ L.parts) × (0 < L.parts) }
     requires over { (actors_of actors.old).turn ≡ None }
     ensures step { OnOk result (ClockStep (actors_of actors.old) (nanos_of now) (answer.Due due.new.items) (actors_of actors.new)) }
     ensures turn { (actors_of actors.new).turn ≡ None }
 {
-    let mut steps: Steps<L> = Steps::new(blank);
     due.clear();
-    due.reserve(actors.live())?;
-    actors.clock(now, due, &mut steps);
+    actors.advance(alloc, now, due)?;
     Ok(())
 }
 
 /// The clock shows so many nanoseconds, and the answer is put behind the others. The list is for the actors that are due.
 pub fn clock(
+    alloc: Global,
     actors: &mut Actors<u64>,
     n: u128,
     due: &mut Vec<u64>,
@@ -95,6 +90,6 @@ pub fn clock(
     let Some(now) = Instant::from_nanos(n) else {
         return put_told(out, Told::Invalid);
     };
-    rung::<Brand>(actors, now, due, Blank::new(1))?;
+    rung(alloc, actors, now, due)?;
     put_due(out, due.as_slice())
 }

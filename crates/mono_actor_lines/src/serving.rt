@@ -61,7 +61,7 @@ fn made(
             let told = timed(actors, actor, ms);
             put_told(out, told)
         }
-        ActorLine::Clock(n) => clock(actors, n, due, out),
+        ActorLine::Clock(n) => clock(alloc, actors, n, due, out),
         ActorLine::Turn(sends, stop) => turn(actors, &sends, stop, out),
     }
 }

@@ -13,7 +13,9 @@ mod standard;
 
 pub use memory::{MemSink, MemSource};
 pub use plain::{PlainSink, PlainSource};
-pub use printer::{put_list, put_number, put_pair, put_word, report_line};
+pub use printer::{
+    front_and_number, put_front, put_list, put_number, put_pair, put_word, report_line,
+};
 pub use reader::{Reader, whole_number};
 pub use services::{Served, Service, serve};
 pub use sink::{Sink, SinkFault, write_all};

@@ -84,10 +84,17 @@ fn write_number(out: &mut Vec<u8>, at: usize, n: u64) -> usize
     end
 }
 
-// Puts the first bytes of a word at the end, and a number's digits behind them. The whole word is copied, which takes no loop
-// and no call where its length is known beforehand, and the digits are written over its last bytes.
+/// Puts the first `len` bytes of a word at the end, and a number's digits after them.
+///
+/// The whole word is copied, and the digits are written over its last bytes. The copy takes no loop and no call if the
+/// word's length is known when the code is compiled.
 #[inline(always)]
-fn front_and_number(out: &mut Vec<u8>, word: &[u8], len: usize, n: u64) -> Result<(), AllocError>
+pub fn front_and_number(
+    out: &mut Vec<u8>,
+    word: &[u8],
+    len: usize,
+    n: u64,
+) -> Result<(), AllocError>
     requires { len + 20 ≤ length word.now }
     ensures { OnOk result (out.new.items ≡ out.old.items ++ (take len word.now ++ decimal n)) }
 {
@@ -114,10 +121,11 @@ pub fn put_pair(out: &mut Vec<u8>, text: &[u8], n: u64) -> Result<(), AllocError
     word_and_number(out, text, n)
 }
 
-// Puts so many bytes of a text at the end, its first ones. The whole text is copied, which takes no loop and no call where
-// its length is known beforehand.
+/// Puts the first `len` bytes of a text at the end.
+///
+/// The whole text is copied. The copy takes no loop and no call if the text's length is known when the code is compiled.
 #[inline(always)]
-fn put_front(out: &mut Vec<u8>, text: &[u8], len: usize) -> Result<(), AllocError>
+pub fn put_front(out: &mut Vec<u8>, text: &[u8], len: usize) -> Result<(), AllocError>
     requires { len ≤ length text.now }
     ensures { OnOk result (out.new.items ≡ out.old.items ++ take len text.now) }
 {
