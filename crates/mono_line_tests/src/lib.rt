@@ -13,3 +13,5 @@ mod lines;
 mod readers;
 #[cfg(test)]
 mod reasons;
+#[cfg(test)]
+mod wrong_lines;

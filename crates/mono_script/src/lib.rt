@@ -20,7 +20,7 @@ pub use command::Command;
 pub use ends::{Ended, Status};
 pub use mono_blocking::{NoSpawner, Spawner, ThreadSpawner};
 pub use mono_driver::{Clock, Instant, ListClock};
-pub use mono_reason::Reason;
+pub use mono_reason::{Fault, Reason};
 pub use mono_text::{
     InputError, MAX_INPUT, MemSink, MemSource, PlainSink, PlainSource, Reader, Sink, SinkFault,
     Source, SourceFault, StdinSource, StdoutSink, read_all, report_line, write_all,

@@ -4,10 +4,8 @@
 mod help;
 
 use help::{HELP, VERSION, asks_for_help, is_only};
-use mono_script::{
-    Ended, Reason, Status, StdClock, StdinSource, StdoutSink, ThreadSpawner, explained,
-};
-use mono_usage::complaint;
+use mono_script::{Ended, Status, StdClock, StdinSource, StdoutSink, ThreadSpawner, explained};
+use mono_usage::{complaint, line_sentence};
 use std::alloc::{AllocError, Global};
 use std::process::ExitCode;
 use std::{env, format, io};
@@ -33,32 +31,11 @@ fn say(rt: &HostRuntime, cause: Result<String, AllocError>) {
     };
 }
 
-// Why a line says nothing of the command.
-fn reason_text(alloc: Global, ended: &Ended) -> Result<String, AllocError> {
-    let text = match ended.reason() {
-        Some(Reason::NoLineFeed) => "no line feed at the end",
-        Some(Reason::CarriageReturn) => "a carriage return before the line feed",
-        Some(Reason::GreatNumber) => "a number above 18446744073709551615",
-        Some(Reason::GreatNanos) => "a number above 340282366920938463463374607431768211455",
-        Some(Reason::UnknownWord) => {
-            return match ended.first_word() {
-                Some(word) => {
-                    let word = String::from_utf8_lossy(alloc, word)?;
-                    format!(in alloc; "unknown word \"{word}\"")
-                }
-                None => String::from_str(alloc, "unknown word"),
-            };
-        }
-        _ => "not in the form that its first word has",
-    };
-    String::from_str(alloc, text)
-}
-
-fn bad_line_text(alloc: Global, ended: &Ended) -> Result<String, AllocError> {
-    let reason = reason_text(alloc, ended)?;
-    match ended.bad_line() {
-        Some(line) => format!(in alloc; "line {line}: {reason}"),
-        None => Ok(reason),
+// What is wrong with the first bad line of the command.
+fn bad_line_text(alloc: Global, command: &str, ended: &Ended) -> Result<String, AllocError> {
+    match (ended.bad_line(), ended.fault()) {
+        (Some(line), Some(fault)) => line_sentence(alloc, command, line, &fault),
+        _ => String::from_str(alloc, "a line says nothing of the command"),
     }
 }
 
@@ -77,11 +54,11 @@ fn is_closed_pipe(error: Option<&io::Error>) -> bool {
 }
 
 // Says why the command ended so. A closed pipe downstream is no news.
-fn tell(rt: &HostRuntime, ended: &Ended, source: &StdinSource, sink: &StdoutSink) {
+fn tell(rt: &HostRuntime, command: &str, ended: &Ended, source: &StdinSource, sink: &StdoutSink) {
     let alloc = rt.alloc();
     match ended.status() {
         Status::Done => {}
-        Status::BadLine => say(rt, bad_line_text(alloc, ended)),
+        Status::BadLine => say(rt, bad_line_text(alloc, command, ended)),
         Status::ReadFault => say(
             rt,
             system_text(alloc, "standard input can't be read", source.error()),
@@ -139,6 +116,14 @@ fn shown_of(rt: &HostRuntime, words: &Vec<String>) -> Option<u8> {
     None
 }
 
+// The first of the words; empty if there is none.
+fn first_word(words: &Vec<String>) -> &str {
+    match words.first() {
+        Some(word) => word.as_str(),
+        None => "",
+    }
+}
+
 // The status with which the program ends, once its cause is said.
 fn told(
     rt: &HostRuntime,
@@ -149,7 +134,7 @@ fn told(
 ) -> u8 {
     match ended {
         Some(ended) => {
-            tell(rt, ended, source, sink);
+            tell(rt, first_word(words), ended, source, sink);
             ended.status().code()
         }
         None => {
