@@ -24,14 +24,18 @@ fn says(alloc: Global, words: &Vec<String>, sentence: &str) -> bool {
 }
 
 // Words, and what is said of them.
-const CASES: [(&str, &str); 17] = [
+const CASES: [(&str, &str); 18] = [
     (
         "",
-        "a command is missing: replay, run, load, sessions, limiter, actors or check",
+        "usage: monoio COMMAND WORD .. < INPUT; COMMAND is replay, run, load, sessions, limiter, actors or check; monoio --help says more",
     ),
     (
         "reply attached 1 1 1",
-        "\"reply\" is no command: replay, run, load, sessions, limiter, actors or check",
+        "\"reply\" is no command: replay, run, load, sessions, limiter, actors or check; monoio --help says more",
+    ),
+    (
+        "help reply",
+        "\"reply\" is no command: replay, run, load, sessions, limiter, actors or check; monoio --help says more",
     ),
     (
         "replay detached 1 1 1",

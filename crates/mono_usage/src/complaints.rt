@@ -56,16 +56,26 @@ fn complaint_at(
     }
 }
 
+// The command that the words are about: behind `help` the second word.
+fn asked_of<'a>(words: &'a Vec<String>, first: &'a str) -> &'a str {
+    match words.get(1) {
+        Some(second) if first == "help" => second.as_str(),
+        _ => first,
+    }
+}
+
 /// What is wrong with words that are no command, in one sentence: which word, and what was expected there. Of words that
 /// are one it says that nothing is wrong.
 pub fn complaint(alloc: Global, words: &Vec<String>) -> Result<String, AllocError> {
     let Some(command) = words.first() else {
-        return format!(in alloc; "a command is missing: {COMMANDS}");
+        return format!(in alloc;
+            "usage: monoio COMMAND WORD .. < INPUT; COMMAND is {COMMANDS}; monoio --help says more"
+        );
     };
-    let command = command.as_str();
+    let command = asked_of(words, command.as_str());
     if !is_command(command) {
         let command = shown(alloc, command.as_bytes())?;
-        return format!(in alloc; "\"{command}\" is no command: {COMMANDS}");
+        return format!(in alloc; "\"{command}\" is no command: {COMMANDS}; monoio --help says more");
     }
     for at in 1..6usize {
         if let Some(text) = complaint_at(alloc, command, place_at(command, at), words.get(at))? {

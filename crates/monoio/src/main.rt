@@ -2,25 +2,21 @@
 #![tactic(auto)]
 
 mod help;
+mod pages;
 
-use help::{HELP, VERSION, asks_for_help, is_only};
+use help::{VERSION, help_of, is_only};
 use mono_script::{Ended, Status, StdClock, StdinSource, StdoutSink, ThreadSpawner, explained};
 use mono_usage::{complaint, line_sentence};
 use std::alloc::{AllocError, Global};
+use std::io::IsTerminal;
 use std::process::ExitCode;
+use std::rt::Stdin;
 use std::{env, format, io};
 
 // The words behind the program's name.
 fn words(rt: &HostRuntime) -> io::Result<Vec<String>> {
     let words: Vec<String> = env::args(rt)?.skip(1).collect(rt.alloc())?;
     Ok(words)
-}
-
-fn shown(rt: &HostRuntime, text: &str) -> u8 {
-    match println!(rt; "{text}") {
-        Ok(()) => Status::Done.code(),
-        Err(_) => Status::WriteFault.code(),
-    }
 }
 
 // Says a cause on standard error, where there was memory for it. A cause that cannot be said changes no status.
@@ -53,6 +49,44 @@ fn is_closed_pipe(error: Option<&io::Error>) -> bool {
     }
 }
 
+// Says why standard output can't be written. A closed pipe is no news.
+fn tell_unwritten(rt: &HostRuntime, error: Option<&io::Error>) {
+    if !is_closed_pipe(error) {
+        say(
+            rt,
+            system_text(rt.alloc(), "standard output can't be written", error),
+        );
+    }
+}
+
+// The status once a text was shown.
+fn shown(rt: &HostRuntime, text: &str) -> u8 {
+    match println!(rt; "{text}") {
+        Ok(()) => Status::Done.code(),
+        Err(error) => {
+            tell_unwritten(rt, Some(&error));
+            Status::WriteFault.code()
+        }
+    }
+}
+
+// Says on standard error what the command waits for if a person is at the terminal.
+fn tell_waiting(rt: &HostRuntime, words: &Vec<String>, stdin: &Stdin) {
+    if reads_lines(first_word(words)) && stdin.is_terminal() {
+        let _ = eprintln!(rt;
+            "monoio: reading lines from standard input; end with ^D at the beginning of a line"
+        );
+    }
+}
+
+// Whether a command of this name reads standard input.
+fn reads_lines(command: &str) -> bool {
+    matches!(
+        command,
+        "replay" | "run" | "sessions" | "limiter" | "actors" | "check"
+    )
+}
+
 // Says why the command ended so. A closed pipe downstream is no news.
 fn tell(rt: &HostRuntime, command: &str, ended: &Ended, source: &StdinSource, sink: &StdoutSink) {
     let alloc = rt.alloc();
@@ -63,14 +97,7 @@ fn tell(rt: &HostRuntime, command: &str, ended: &Ended, source: &StdinSource, si
             rt,
             system_text(alloc, "standard input can't be read", source.error()),
         ),
-        Status::WriteFault => {
-            if !is_closed_pipe(sink.error()) {
-                say(
-                    rt,
-                    system_text(alloc, "standard output can't be written", sink.error()),
-                );
-            }
-        }
+        Status::WriteFault => tell_unwritten(rt, sink.error()),
         Status::Turns => say(
             rt,
             String::from_str(alloc, "the run had no turn left; the output is what it did"),
@@ -107,8 +134,8 @@ fn lacks_memory(ended: &Option<Ended>) -> bool {
 
 // The status of words that ask what the program is, once that is shown; none of other words.
 fn shown_of(rt: &HostRuntime, words: &Vec<String>) -> Option<u8> {
-    if asks_for_help(words) {
-        return Some(shown(rt, HELP));
+    if let Some(page) = help_of(words) {
+        return Some(shown(rt, page));
     }
     if is_only(words, "--version") {
         return Some(shown(rt, VERSION));
@@ -167,7 +194,9 @@ fn main(rt: HostRuntime) -> ExitCode {
     let Ok(theirs) = rt.clone() else {
         return ExitCode::from(Status::OutOfMemory.code());
     };
-    let mut source = StdinSource::new(rt.stdin());
+    let stdin = rt.stdin();
+    tell_waiting(&rt, &words, &stdin);
+    let mut source = StdinSource::new(stdin);
     let mut sink = StdoutSink::new(rt.stdout());
     let mut spawner = ThreadSpawner::new(rt.alloc());
     let clock = StdClock::new(theirs);
