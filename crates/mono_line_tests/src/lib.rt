@@ -14,4 +14,6 @@ mod readers;
 #[cfg(test)]
 mod reasons;
 #[cfg(test)]
+mod tries;
+#[cfg(test)]
 mod wrong_lines;

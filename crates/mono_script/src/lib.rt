@@ -5,6 +5,7 @@ mod acting;
 mod check_line;
 mod command;
 mod ends;
+mod exits;
 mod limiter_lines;
 mod line_words;
 mod load_line;
@@ -18,6 +19,7 @@ mod words;
 
 pub use command::Command;
 pub use ends::{Ended, Status};
+pub use exits::{exit_code, joins_workers, words_behind};
 pub use mono_blocking::{NoSpawner, Spawner, ThreadSpawner};
 pub use mono_driver::{Clock, Instant, ListClock};
 pub use mono_reason::{Fault, Reason};

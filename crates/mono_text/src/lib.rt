@@ -10,6 +10,7 @@ mod services;
 mod sink;
 mod source;
 mod standard;
+mod tries;
 
 pub use memory::{MemSink, MemSource};
 pub use plain::{PlainSink, PlainSource};
@@ -19,3 +20,4 @@ pub use services::{Served, Service, serve};
 pub use sink::{Sink, SinkFault, write_all};
 pub use source::{InputError, MAX_INPUT, Source, SourceFault, read_all};
 pub use standard::{StdinSource, StdoutSink};
+pub use tries::{has_taken, is_tried_again, read_again, write_again};

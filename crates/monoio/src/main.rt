@@ -15,8 +15,8 @@ use std::{env, format, io};
 
 // The words behind the program's name.
 fn words(rt: &HostRuntime) -> io::Result<Vec<String>> {
-    let words: Vec<String> = env::args(rt)?.skip(1).collect(rt.alloc())?;
-    Ok(words)
+    let words: Vec<String> = env::args(rt)?.collect(rt.alloc())?;
+    Ok(words_behind(words))
 }
 
 // Says a cause on standard error, where there was memory for it. A cause that cannot be said changes no status.
@@ -124,14 +124,6 @@ fn tell(rt: &HostRuntime, command: &str, ended: &Ended, source: &StdinSource, si
     }
 }
 
-// Whether memory was refused: a pool may then be open, and its workers wait.
-fn lacks_memory(ended: &Option<Ended>) -> bool {
-    match ended {
-        Some(ended) => ended.status() == Status::OutOfMemory,
-        None => false,
-    }
-}
-
 // The status of words that ask what the program is, once that is shown; none of other words.
 fn shown_of(rt: &HostRuntime, words: &Vec<String>) -> Option<u8> {
     if let Some(page) = help_of(words) {
@@ -151,23 +143,17 @@ fn first_word(words: &Vec<String>) -> &str {
     }
 }
 
-// The status with which the program ends, once its cause is said.
-fn told(
+// Says why the program ends so.
+fn tell_end(
     rt: &HostRuntime,
     words: &Vec<String>,
     ended: &Option<Ended>,
     source: &StdinSource,
     sink: &StdoutSink,
-) -> u8 {
+) {
     match ended {
-        Some(ended) => {
-            tell(rt, first_word(words), ended, source, sink);
-            ended.status().code()
-        }
-        None => {
-            say(rt, complaint(rt.alloc(), words));
-            Status::Usage.code()
-        }
+        Some(ended) => tell(rt, first_word(words), ended, source, sink),
+        None => say(rt, complaint(rt.alloc(), words)),
     }
 }
 
@@ -209,8 +195,9 @@ fn main(rt: HostRuntime) -> ExitCode {
         clock,
         &mut spawner,
     );
-    if !lacks_memory(&ended) {
+    if joins_workers(&ended) {
         spawner.join(&rt);
     }
-    ExitCode::from(told(&rt, &words, &ended, &source, &sink))
+    tell_end(&rt, &words, &ended, &source, &sink);
+    ExitCode::from(exit_code(&ended))
 }
