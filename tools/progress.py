@@ -16,7 +16,7 @@ import time
 sys.dont_write_bytecode = True
 import below
 
-BEGINS = re.compile(r"^rt: chose --jobs .* for (\w+)$")
+BEGINS = re.compile(r"^rt: chose --jobs .* for (\w+)$|^crate (\w+): modules loaded=")
 GOES_ON = re.compile(r"^so far: .* functions checked")
 PROVED = re.compile(r"^logic=proved \w+=(\d+)")
 FAILED = re.compile(r": error(\[|:)|^error(\[|:)|: no proof: |: not proved$|^logic=not-proved| NOT PROVED")
@@ -32,6 +32,7 @@ class Progress:
         self.all = set(below.closure(crate))
         self.done = set()
         self.failures = []
+        self.name = None
         self.is_open = False
         self.begin = time.time()
 
@@ -46,7 +47,10 @@ class Progress:
         self.is_open = False
 
     def begins(self, name):
+        if name == self.name and self.is_open:
+            return
         self.close()
+        self.name = name
         self.done |= set(below.closure(name)) & self.all
         self.write(f"{len(self.done):2} of {len(self.all)}  {name:18}")
         self.is_open = True
@@ -54,7 +58,7 @@ class Progress:
     def take(self, line):
         begins, proved = BEGINS.match(line), PROVED.match(line)
         if begins:
-            self.begins(begins.group(1))
+            self.begins(begins.group(1) or begins.group(2))
         elif GOES_ON.match(line):
             self.write(".")
         elif proved:
@@ -63,7 +67,12 @@ class Progress:
         elif WAITS.match(line):
             self.close()
             self.write(line + "\n")
-        elif FAILED.search(line) and line not in self.failures:
+        elif FAILED.search(line):
+            self.fails(line.removeprefix("so far: "))
+
+    def fails(self, line):
+        """Keeps a failure once, and none that only follows from another."""
+        if line not in self.failures and "no proof: it calls " not in line:
             self.failures.append(line)
 
     def end(self, status, tail):
