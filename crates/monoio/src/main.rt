@@ -5,7 +5,10 @@ mod help;
 mod pages;
 
 use help::{VERSION, help_of, is_only};
-use mono_script::{Ended, Status, StdClock, StdinSource, StdoutSink, ThreadSpawner, explained};
+use mono_script::{
+    Ended, Status, StdClock, StdinSource, StdoutSink, ThreadSpawner, exit_code, explained,
+    joins_workers, words_behind,
+};
 use mono_usage::{complaint, line_sentence};
 use std::alloc::{AllocError, Global};
 use std::io::IsTerminal;
