@@ -1,6 +1,7 @@
 //! Event lines in, report lines out, and the sources and sinks of their bytes.
 #![tactic(auto)]
 
+mod followers;
 pub mod laws;
 mod memory;
 mod plain;
@@ -12,6 +13,7 @@ mod source;
 mod standard;
 mod tries;
 
+pub use followers::{FollowEnd, Followed, follow};
 pub use memory::{MemSink, MemSource};
 pub use plain::{PlainSink, PlainSource};
 pub use printer::{put_list, put_number, put_pair, put_word, report_line};
