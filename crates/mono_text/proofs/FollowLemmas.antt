@@ -1,5 +1,5 @@
 -- Lines that were answered one after another, and what was read and written for them.
-use Rattle.std.proofs.Common.{◌≡◌, ℕ, suc, ◌+◌, ◌<◌, ◌≤◌, List, [], ◌∷◌, ◌++◌, length, take, flat_map, Option, Some, None, refl, sym, ap, subst, ◌∙◌, arith, append_assoc, length-append}
+use Rattle.std.proofs.Common.{◌≡◌, ℕ, suc, ◌+◌, ◌<◌, List, [], ◌∷◌, ◌++◌, length, take, flat_map, Option, Some, None, refl, sym, ap, subst, ◌∙◌, arith, append_assoc, length-append}
 use Rattle.std.proofs.lemmas.List.{append-nil, take_all}
 use Rattle.mono_text.specs.Outside.{HasRead, HasReadAll, Reads, HasWritten, HasWrittenPrefix}
 use Rattle.mono_text.specs.Serving.{AnswersAll, AnswersAs, answer_line, HasNoFeed, StartsWith, StartsWithNone}

@@ -1,7 +1,5 @@
-use Rattle.std.proofs.Common.{rules, []}
+use Rattle.std.proofs.Common.{rules}
 use Rattle.mono_text.specs.Outside.{HasWritten, HasWrittenPrefix}
-use Rattle.mono_text.specs.Serving.{HasNoFeed, StartsWithNone}
-use Rattle.mono_text.specs.Following.{Advances}
 use Rattle.mono_text.proofs.FollowLemmas.{from_empty}
 use Rattle.mono_text.proofs.followers.answer_block.Goals as goal
 

@@ -1,6 +1,5 @@
-use Rattle.std.proofs.Common.{◌≡◌, refl, sym}
+use Rattle.std.proofs.Common.{sym}
 use Rattle.mono_text.specs.Serving.{StartsWith}
-use Rattle.mono_text.specs.Following.{Advances}
 use Rattle.mono_text.proofs.FollowLemmas.{not_advanced, advanced}
 use Rattle.mono_text.proofs.followers.answer_ready.Goals as goal
 

@@ -1,4 +1,4 @@
-use Rattle.std.proofs.Common.{◌≡◌, ◌<◌, ◌++◌, [], None, Some, length, take, rules}
+use Rattle.std.proofs.Common.{◌≡◌, ◌<◌, ◌++◌, None, Some, length, take, rules}
 use Rattle.mono_text.specs.Following.{Answered, end_of}
 use Rattle.mono_text.specs.declared.followers.FollowEnd.TheVariants as end
 use Rattle.mono_text.proofs.FollowLemmas.{standing, unread, at_end, after_read, grown, failed, ended_in, goes_on}
