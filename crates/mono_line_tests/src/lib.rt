@@ -8,6 +8,8 @@ mod event_texts;
 #[cfg(test)]
 mod executors;
 #[cfg(test)]
+mod followers;
+#[cfg(test)]
 mod lines;
 #[cfg(test)]
 mod readers;

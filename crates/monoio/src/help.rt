@@ -23,6 +23,8 @@ pub(crate) const HELP: &str = "usage:
   monoio check STRATEGY TASKS JOBS SLEEPS
       reads a journal, event lines with their report lines, and writes yes where it is a run of the machine,
       or no and the number of the first line that no step allows
+  monoio COMMAND --follow WORD ..
+      answers each line as soon as it was read, up to the first bad one; of replay, sessions, limiter and actors
   monoio --help, -h or help
   monoio COMMAND --help, or help COMMAND
       shows the command's words, the form of each line that it reads and writes, its statuses and an example

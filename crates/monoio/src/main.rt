@@ -6,8 +6,8 @@ mod pages;
 
 use help::{VERSION, help_of, is_only};
 use mono_script::{
-    Ended, Status, StdClock, StdinSource, StdoutSink, ThreadSpawner, exit_code, explained,
-    joins_workers, words_behind,
+    Ended, FollowedCommand, Status, StdClock, StdinSource, StdoutSink, ThreadSpawner, exit_code,
+    explained, follow_command, joins_workers, words_behind,
 };
 use mono_usage::{complaint, line_sentence};
 use std::alloc::{AllocError, Global};
@@ -92,10 +92,17 @@ fn reads_lines(command: &str) -> bool {
 
 // Says why the command ended so. A closed pipe downstream is no news.
 fn tell(rt: &HostRuntime, command: &str, ended: &Ended, source: &StdinSource, sink: &StdoutSink) {
-    let alloc = rt.alloc();
     match ended.status() {
+        Status::BadLine => say(rt, bad_line_text(rt.alloc(), command, ended)),
+        status => tell_status(rt, status, source, sink),
+    }
+}
+
+// Says what a status means, other than that of a bad line.
+fn tell_status(rt: &HostRuntime, status: Status, source: &StdinSource, sink: &StdoutSink) {
+    let alloc = rt.alloc();
+    match status {
         Status::Done => {}
-        Status::BadLine => say(rt, bad_line_text(alloc, command, ended)),
         Status::ReadFault => say(
             rt,
             system_text(alloc, "standard input can't be read", source.error()),
@@ -172,6 +179,64 @@ fn unread(rt: &HostRuntime, error: &io::Error) -> u8 {
     }
 }
 
+// The words without `--follow`, where that is the second of them.
+fn without_follow(alloc: Global, words: &Vec<String>) -> Result<Option<Vec<String>>, AllocError> {
+    match words.get(1) {
+        Some(second) if second.as_str() == "--follow" => {}
+        _ => return Ok(None),
+    }
+    let mut others = Vec::new(alloc);
+    for at in 0..words.len() {
+        if at != 1 {
+            others.push(words[at].clone()?)?;
+        }
+    }
+    Ok(Some(others))
+}
+
+// What is wrong with the line at which a command ended that answered each line as it came.
+fn bad_line_after(
+    alloc: Global,
+    command: &str,
+    ended: &FollowedCommand,
+) -> Result<String, AllocError> {
+    match ended.fault() {
+        Some(fault) => line_sentence(alloc, command, ended.line(), &fault),
+        None => String::from_str(alloc, "the input ends within a line"),
+    }
+}
+
+// Answers each line as soon as it was read, and returns the status.
+fn follow(rt: &HostRuntime, words: &Vec<String>) -> u8 {
+    let alloc = rt.alloc();
+    let stdin = rt.stdin();
+    tell_waiting(rt, words, &stdin);
+    let mut source = StdinSource::new(stdin);
+    let mut sink = StdoutSink::new(rt.stdout());
+    let Some(ended) = follow_command(alloc, words, &mut source, &mut sink) else {
+        say(rt, follow_complaint(alloc, words));
+        return Status::Usage.code();
+    };
+    let status = ended.status();
+    if status == Status::BadLine {
+        say(rt, bad_line_after(alloc, first_word(words), &ended));
+    } else {
+        tell_status(rt, status, &source, &sink);
+    }
+    status.code()
+}
+
+// What is wrong with the words of a command that is to answer each line as it comes.
+fn follow_complaint(alloc: Global, words: &Vec<String>) -> Result<String, AllocError> {
+    match first_word(words) {
+        "run" | "load" | "check" => String::from_str(
+            alloc,
+            "--follow goes with replay, sessions, limiter and actors alone",
+        ),
+        _ => complaint(alloc, words),
+    }
+}
+
 fn main(rt: HostRuntime) -> ExitCode {
     let words = match words(&rt) {
         Ok(words) => words,
@@ -179,6 +244,11 @@ fn main(rt: HostRuntime) -> ExitCode {
     };
     if let Some(status) = shown_of(&rt, &words) {
         return ExitCode::from(status);
+    }
+    match without_follow(rt.alloc(), &words) {
+        Ok(Some(others)) => return ExitCode::from(follow(&rt, &others)),
+        Ok(None) => {}
+        Err(_) => return ExitCode::from(Status::OutOfMemory.code()),
     }
     let Ok(theirs) = rt.clone() else {
         return ExitCode::from(Status::OutOfMemory.code());

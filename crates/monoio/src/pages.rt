@@ -1,8 +1,9 @@
 // What `monoio COMMAND --help` shows.
 
-const REPLAY: &str = "usage: monoio replay STRATEGY TASKS JOBS SLEEPS < EVENTS
+const REPLAY: &str = "usage: monoio replay [--follow] STRATEGY TASKS JOBS SLEEPS < EVENTS
   applies the events of standard input to an executor, and writes a report line for each
 words:
+  --follow          answers each line as soon as it was read, up to the first bad one
   STRATEGY          attached (a job ends by a job-end), local (it has run on the caller) or panic (it is refused)
   TASKS JOBS SLEEPS how many there may be at a time, numbers below 2^64
 lines, and their reports; TASK, JOB, SLEEP and OUTPUT are below 2^64, NANOS below 2^128:
@@ -70,9 +71,10 @@ it writes one line:
 exit status: 0 done, 2 other words, 5 a write failed, 6 out of memory
 example: monoio load 7 1000";
 
-const SESSIONS: &str = "usage: monoio sessions SESSIONS ENTRIES < CALLS
+const SESSIONS: &str = "usage: monoio sessions [--follow] SESSIONS ENTRIES < CALLS
   answers calls on sessions, which are kept open by heartbeats, and on the locks for which they queue
 words:
+  --follow          answers each line as soon as it was read, up to the first bad one
   SESSIONS          how many may be open, a number below 2^64
   ENTRIES           how many may stand in all queues, a number below 2^64
 lines, and their answers; SESSION, KEY and MILLIS are below 2^64, NANOS below 2^128:
@@ -88,9 +90,10 @@ exit status: 0 done, 2 other words, 3 a bad line, 4 a read failed, 5 a write fai
   7 more than 16777216 bytes of input
 example: printf 'open 5\\nacquire 0 1\\nowner 1\\nclock 6000000\\n' | monoio sessions 16 16";
 
-const LIMITER: &str = "usage: monoio limiter BUCKETS RETRIES < CALLS
+const LIMITER: &str = "usage: monoio limiter [--follow] BUCKETS RETRIES < CALLS
   answers calls on token buckets and on retries with exponential backoff
 words:
+  --follow          answers each line as soon as it was read, up to the first bad one
   BUCKETS           how many may be made, a number below 2^64
   RETRIES           how many may live at a time, a number below 2^64
 lines, and their answers; the numbers are below 2^64, NANOS below 2^128; a tick is a millisecond:
@@ -105,9 +108,10 @@ exit status: 0 done, 2 other words, 3 a bad line, 4 a read failed, 5 a write fai
   7 more than 16777216 bytes of input
 example: printf 'bucket 2 10\\ntake 0 2\\ntake 0 1\\nclock 10000000\\ntake 0 1\\n' | monoio limiter 16 16";
 
-const ACTORS: &str = "usage: monoio actors ACTORS MESSAGES < CALLS
+const ACTORS: &str = "usage: monoio actors [--follow] ACTORS MESSAGES < CALLS
   answers calls on actors with mailboxes and receive timeouts
 words:
+  --follow          answers each line as soon as it was read, up to the first bad one
   ACTORS            how many may live at a time, a number below 2^64
   MESSAGES          how many may be in all mailboxes, a number below 2^64
 lines, and their answers; the numbers are below 2^64, NANOS below 2^128:
