@@ -1,6 +1,7 @@
 # What there is to make; `make` alone prints this list.
 #
-#   make try         the example by the program as it stands, unproved, within a minute
+#   make try         the example by the program as it stands, unproved, in about two processor minutes; the program is
+#                    kept as bin/monoio-unproved
 #   make run         proves and builds the program where that is not done, and replays the example
 #   make build       proves and builds the program, and leaves it as bin/monoio
 #   make test        the gate: every proof, wrong body, test and program; it ends in `rt ci`
@@ -27,10 +28,8 @@ run: build
 
 build: has-rt
 	@mkdir -p bin
-	@echo 'proving the program and what stands below it: minutes from nothing, seconds where nothing changed; log: bin/build.log'
-	@{ (cd crates/monoio && rt run -- --version); echo $$? > bin/build.status; } 2>&1 \
-	    | tee bin/build.log | awk -v total=$$(python3 tools/below.py monoio | wc -l) -f tools/progress.awk
-	@test "$$(cat bin/build.status)" = 0 || { tail -30 bin/build.log; exit 1; }
+	@echo 'proving the program and what stands below it: some 100 processor minutes from nothing; log: bin/build.log'
+	@python3 tools/progress.py monoio bin/build.log rt run -- --version
 	@cp crates/monoio/out/monoio bin/monoio
 
 # A sentence where the kit is missing.
@@ -58,10 +57,10 @@ soak: build
 
 try: has-rt
 	@echo 'unproved: this runs the program before any proof'
-	cd crates/monoio && rt try -- $(WORDS) < ../../$(EXAMPLE)
+	@python3 tools/unproved.py bin/monoio-unproved $(WORDS) < $(EXAMPLE)
 
-planted:
+planted: has-rt
 	python3 tools/planted.py $(CRATE)
 
-gate-times:
+gate-times: has-rt
 	python3 tools/gate_times.py

@@ -4,6 +4,7 @@
 usage: tools/below.py CRATE
 """
 import os
+import shutil
 import sys
 
 TOP = os.path.dirname(os.path.dirname(os.path.abspath(__file__)))
@@ -15,15 +16,26 @@ def libraries():
     return {line.split(":")[0].split()[0]: line.split(":")[1].split() for line in lines if line}
 
 
-def main():
+def closure(crate):
+    """The crate and those that it stands on."""
     below = libraries()
-    found, ahead = [], [sys.argv[1]]
+    found, ahead = [], [crate]
     while ahead:
-        crate = ahead.pop()
-        if crate in below and crate not in found:
-            found.append(crate)
-            ahead += below[crate]
-    print("\n".join(found))
+        name = ahead.pop()
+        if name in below and name not in found:
+            found.append(name)
+            ahead += below[name]
+    return found
+
+
+def need_rt():
+    """Ends the program with a sentence if the kit's command is missing."""
+    if shutil.which("rt") is None:
+        sys.exit("the Rattle kit is missing: put its command rt on the path")
+
+
+def main():
+    print("\n".join(closure(sys.argv[1])))
 
 
 if __name__ == "__main__":

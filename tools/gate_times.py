@@ -141,6 +141,7 @@ def print_table(used, whole):
 
 
 def main():
+    below.need_rt()
     begin = time.time()
     used, last, status, whole = run_gate(sys.argv[1:] or ["--anew"])
     print_table(used, whole)

@@ -195,6 +195,7 @@ def try_crate(copy, crate):
 
 
 def main():
+    below.need_rt()
     with tempfile.TemporaryDirectory() as folder:
         copy = copy_of_the_repository(folder)
         through = sum(try_crate(copy, crate) for crate in crates(sys.argv[1:]))

@@ -10,6 +10,6 @@ mod serving;
 mod turns;
 mod wording;
 
-pub use command::actors;
+pub use command::{actors, follow_actors};
 pub use serving::ActorService;
 pub use wording::{ActorLine, Handed};

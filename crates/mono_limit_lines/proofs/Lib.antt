@@ -2,3 +2,4 @@ pub mod Clocking
 pub mod Spelled
 pub mod Serving
 pub mod Running
+pub mod FollowLemmas

@@ -15,7 +15,7 @@ use Rattle.mono_limit_lines.specs.Lines.{call_text, FitsCall, call_of, StepByLin
 use Rattle.mono_limit_lines.proofs.Spelled.{line_text, FitsLine}
 
 -- each call of the model is said by a line of code
-line_of : (c : Call) → (l : LimiterCall) × (call_of l ≡ c)
+pub line_of : (c : Call) → (l : LimiterCall) × (call_of l ≡ c)
 line_of (call.Bucket burst period) = (line.Bucket burst period, refl)
 line_of (call.Take b n) = (line.Take b n, refl)
 line_of (call.Retry base cap most) = (line.Retry base cap most, refl)
@@ -38,10 +38,10 @@ none_said bad none c s =
     let t : Says call_text FitsCall (call_of k.0) bad = subst (λ x. Says call_text FitsCall x bad) (sym k.1) s in
     none k.0 (record { fits = t.fits; text_is = t.text_is; is_ended = t.is_ended })
 
-abbrev AnswersBy : LimiterLines → LimiterCall → List ℕ → LimiterLines → Type 0
+abbrev pub AnswersBy : LimiterLines → LimiterCall → List ℕ → LimiterLines → Type 0
 AnswersBy old l text new = StepByLine (limits_of old.limiter) (call_of l) text (limits_of new.limiter)
 
-all_answered : (start : LimiterLines) (ls : List LimiterCall) (texts : List (List ℕ)) (last : LimiterLines) → AnswersAll AnswersBy start ls texts last
+pub all_answered : (start : LimiterLines) (ls : List LimiterCall) (texts : List (List ℕ)) (last : LimiterLines) → AnswersAll AnswersBy start ls texts last
     → AnswersAll StepByLine (limits_of start.limiter) (map call_of ls) texts (limits_of last.limiter)
 all_answered start [] [] last e = ap (λ (x : LimiterLines). limits_of x.limiter) e
 all_answered start [] (t ∷ texts) last e = absurd e

@@ -7,4 +7,4 @@ mod lines;
 mod printing;
 mod reading;
 
-pub use lines::limiter;
+pub use lines::{follow_limiter, limiter};

@@ -1,7 +1,8 @@
 // A limiter that answers lines.
-ghost use Rattle.std.specs.Prelude.{◌≡◌, ◌<◌, ◌≤◌, ◌+◌, IfOk, OnOk, vec_len, vec_capacity};
+ghost use Rattle.std.specs.Prelude.{◌≡◌, ◌<◌, ◌≤◌, ◌+◌, IfOk, OnOk, OnErr, vec_len, vec_capacity};
 ghost use Rattle.mono_model.specs.Table.{count_of};
 ghost use Rattle.mono_text.specs.Serving.{Serves};
+ghost use Rattle.mono_text.specs.Following.{HasFollowed};
 ghost use Rattle.mono_time.specs.Instants.{nanos_of};
 ghost use Rattle.mono_limit.specs.Limiter.{no_limits};
 ghost use Rattle.mono_limit.specs.Limits.{limits_of, ListsInto};
@@ -11,7 +12,7 @@ ghost use Rattle.mono_limit_lines.specs.Lines.{call_text, FitsCall, call_of, Ste
 use crate::calls::LimiterCall;
 use crate::{printing, reading};
 use mono_limit::{LimitError, Limiter};
-use mono_text::{Reader, Served, Service, serve};
+use mono_text::{Followed, Reader, Served, Service, Sink, Source, follow, serve};
 use mono_time::Instant;
 use mono_wheel::Steps;
 use std::alloc::{AllocError, Global};
@@ -150,4 +151,20 @@ pub fn limiter(
 {
     let lines = LimiterLines::new(alloc, buckets, retries)?;
     serve(alloc, lines, input)
+}
+
+/// Answers each line of the source as soon as it was read, as [`limiter`] answers a whole input: what was written is the
+/// answers to lines at its front. If there is no memory for the limiter the source is not read and nothing is written.
+pub fn follow_limiter<S: Source, K: Sink>(
+    alloc: Global,
+    buckets: u64,
+    retries: u64,
+    source: &mut S,
+    sink: &mut K,
+) -> Result<Followed, AllocError>
+    ensures followed { IfOk result (λ f. HasFollowed call_text FitsCall StepByLine (no_limits buckets retries) f.end f.rest.items (S.left source.old) (S.left source.new) (K.written sink.old) (K.written sink.new)) }
+    ensures none { OnErr result ((S.left source.new ≡ S.left source.old) × (K.written sink.new ≡ K.written sink.old)) }
+{
+    let lines = LimiterLines::new(alloc, buckets, retries)?;
+    follow(alloc, lines, source, sink)
 }

@@ -24,14 +24,18 @@ fn says(alloc: Global, words: &Vec<String>, sentence: &str) -> bool {
 }
 
 // Words, and what is said of them.
-const CASES: [(&str, &str); 15] = [
+const CASES: [(&str, &str); 18] = [
     (
         "",
-        "a command is missing: replay, run, load, sessions, limiter, actors or check",
+        "usage: monoio COMMAND WORD .. < INPUT; COMMAND is replay, run, load, sessions, limiter, actors or check; monoio --help says more",
     ),
     (
         "reply attached 1 1 1",
-        "\"reply\" is no command: replay, run, load, sessions, limiter, actors or check",
+        "\"reply\" is no command: replay, run, load, sessions, limiter, actors or check; monoio --help says more",
+    ),
+    (
+        "help reply",
+        "\"reply\" is no command: replay, run, load, sessions, limiter, actors or check; monoio --help says more",
     ),
     (
         "replay detached 1 1 1",
@@ -45,7 +49,15 @@ const CASES: [(&str, &str); 15] = [
         "replay local 1 1",
         "replay: a word is missing: SLEEPS is a number below 2^64",
     ),
-    ("replay local 1 1 1 1", "replay: \"1\" is a word too many"),
+    (
+        "replay local 1 1 1 1",
+        "replay: \"1\" is a word too many: the input is standard input, as in < FILE",
+    ),
+    ("load 7 1 x", "load: \"x\" is a word too many"),
+    (
+        "load \x1b[2J 1",
+        "load: \"\\x1b[2J\": SEED is a number below 2^64",
+    ),
     (
         "load 7 100001",
         "load: \"100001\": COUNT is a number, at most 100000",
@@ -59,7 +71,10 @@ const CASES: [(&str, &str); 15] = [
         "run 0 65537",
         "run: \"65537\": TURNS is a number, at most 65536",
     ),
-    ("sessions 1 1 x", "sessions: \"x\" is a word too many"),
+    (
+        "sessions 1 1 day.events",
+        "sessions: \"day.events\" is a word too many: the input is standard input, as in < FILE",
+    ),
     (
         "limiter 1",
         "limiter: a word is missing: RETRIES is a number below 2^64",

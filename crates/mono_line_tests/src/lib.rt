@@ -8,8 +8,14 @@ mod event_texts;
 #[cfg(test)]
 mod executors;
 #[cfg(test)]
+mod followers;
+#[cfg(test)]
 mod lines;
 #[cfg(test)]
 mod readers;
 #[cfg(test)]
 mod reasons;
+#[cfg(test)]
+mod tries;
+#[cfg(test)]
+mod wrong_lines;

@@ -1,2 +1,4 @@
 pub mod Words
 pub mod Reasons
+pub mod Scripts
+pub mod Told

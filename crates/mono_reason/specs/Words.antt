@@ -1,5 +1,5 @@
 -- The words of a line, and numbers among them.
-use Rattle.std.specs.Prelude.{ℕ, ◌==◌, ◌-◌, ◌||◌, Bool, true, false, if◌then◌else◌, nat_lt, List, [], ◌∷◌, length, Option, Some, None}
+use Rattle.std.specs.Prelude.{ℕ, ◌==◌, ◌-◌, ◌||◌, Bool, true, false, if◌then◌else◌, nat_lt, List, [], ◌∷◌, length, Option, Some, None, codes}
 use Rattle.std.specs.Char.{is_ascii_digit}
 use Rattle.std.specs.Ordering.{nat_cmp}
 use Rattle.std.specs.Bool.{nat_eq}
@@ -8,6 +8,7 @@ use Rattle.std.specs.Cmp.Lexicographic.{slice_cmp}
 use Rattle.std.specs.Ordering.{is_lt}
 use Rattle.std.specs.List.{slice_split}
 use Rattle.mono_text.specs.Lines.{Line}
+use Rattle.mono_text.specs.Reading.{number_at}
 
 -- a blank or a semicolon stands between words
 abbrev pub is_gap : ℕ → Bool
@@ -30,12 +31,35 @@ abbrev pub is_number : List ℕ → Bool
 is_number [] = false
 is_number (b ∷ bs) = if b == 48 then false else are_digits (b ∷ bs)
 
+abbrev pub is_text : List ℕ → List ℕ → Bool
+is_text word text = pointwise nat_eq word text
+
+-- zero, or a number
+abbrev pub is_plain : List ℕ → Bool
+is_plain word = is_text word (codes "0") || is_number word
+
 -- Of two numbers the longer one is greater, and of two that are as long the one that is later in the order of digits.
 abbrev pub is_above : List ℕ → List ℕ → Bool
 is_above top word =
     if is_number word
     then (if nat_lt (length top) (length word) then true else if length word == length top then is_lt (slice_cmp nat_cmp top word) else false)
     else false
+
+abbrev pub first_of : List (List ℕ) → List ℕ
+first_of [] = []
+first_of (w ∷ ws) = w
+
+abbrev pub if_empty : {A : Type 0} → List ℕ → A → Option A
+if_empty [] x = Some x
+if_empty (b ∷ bs) x = None
+
+abbrev pub if_all : Option (ℕ × List ℕ) → Option ℕ
+if_all None = None
+if_all (Some read) = if_empty read.1 read.0
+
+-- the number below 2^64 that is all of the word
+abbrev pub number_of : List ℕ → Option ℕ
+number_of word = if_all (number_at word)
 
 -- line n, counted from 1
 abbrev pub line_at : ℕ → List Line → Option Line

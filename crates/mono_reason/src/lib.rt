@@ -3,6 +3,8 @@
 
 mod lines;
 mod reasons;
+mod scripts;
 mod words;
 
-pub use reasons::{Reason, first_word_of_line, reason_of_line};
+pub use reasons::{Fault, Reason, fault_of_line};
+pub use scripts::fault_of_script;

@@ -3,8 +3,8 @@ ghost use Rattle.std.specs.Prelude.{◌≡◌, ◌<◌, ◌∷◌, [], true, fal
 ghost use Rattle.mono_text.specs.Lines.{lines};
 ghost use Rattle.mono_reason.specs.Words as spec;
 
-// The first line of what is not empty, and the bytes behind its line feed; none where none ends it.
-fn cut_line(bytes: &[u8]) -> (&[u8], Option<&[u8]>)
+/// The first line of what is not empty, and the bytes behind its line feed; none where none ends it.
+pub(crate) fn cut_line(bytes: &[u8]) -> (&[u8], Option<&[u8]>)
     requires { 0 < length bytes.now }
     ensures behind { IfSome result.1 (λ rest. lines bytes.now ≡ record { bytes = result.0.now; is_ended = true } ∷ lines rest.now) }
     ensures last { IfNone result.1 (lines bytes.now ≡ record { bytes = result.0.now; is_ended = false } ∷ []) }

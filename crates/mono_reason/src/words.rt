@@ -65,6 +65,13 @@ fn is_number(word: &[u8]) -> bool
     }
 }
 
+/// Whether it is zero or a number.
+pub(crate) fn is_plain(word: &[u8]) -> bool
+    ensures { result ≡ spec.is_plain word.now }
+{
+    word == b"0".as_slice() || is_number(word)
+}
+
 /// Whether the word is a number above this one.
 pub(crate) fn is_above(top: &[u8], word: &[u8]) -> bool
     ensures { result ≡ spec.is_above top.now word.now }

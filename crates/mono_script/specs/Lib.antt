@@ -6,3 +6,4 @@ pub mod Served
 pub mod Meanings
 pub mod LineWords
 pub mod Checked
+pub mod Following

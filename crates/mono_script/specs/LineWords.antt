@@ -1,7 +1,10 @@
 -- With which words the lines of a command begin.
-use Rattle.std.specs.Prelude.{ℕ, List, codes}
+use Rattle.std.specs.Prelude.{ℕ, List, Option, Some, codes}
 use Rattle.mono_script.specs.declared.command.Command.{Command}
 use Rattle.mono_script.specs.declared.command.Command.TheVariants as command
+use Rattle.mono_reason.specs.Words.{words}
+use Rattle.mono_reason.specs.Reasons.{Wrong, wrong_at}
+use Rattle.mono_reason.specs.Scripts.{script_wrong_at}
 
 abbrev pub event_words : List ℕ
 event_words = codes "spawn wake sleep reset drop-sleep elapsed drop-join finished block drop-job job-finished job-end turn clock remote drain"
@@ -19,3 +22,40 @@ line_words (command.Sessions sessions entries) = codes "open beat close acquire 
 line_words (command.Limiter buckets retries) = codes "bucket take retry fail done clock"
 line_words (command.Actors actors messages) = codes "actor send timeout turn clock"
 line_words (command.Check limits strategy) = journal_words
+
+-- the words of a turn's steps and ends
+abbrev pub step_words : List ℕ
+step_words = codes "spawn wake sleep reset drop-sleep elapsed drop-join finished block drop-job job-finished job-end poll join job pending ready"
+
+-- With which words a part of a line begins, with blanks between them.
+abbrev pub part_words : Command → List ℕ
+part_words (command.Replay limits strategy) = step_words
+part_words (command.Run workers turns) = codes ""
+part_words (command.Load seed count) = codes ""
+part_words (command.Sessions sessions entries) = codes ""
+part_words (command.Limiter buckets retries) = codes ""
+part_words (command.Actors actors messages) = codes "send stay stop"
+part_words (command.Check limits strategy) = step_words
+
+-- With which words a line begins that has a report, with blanks between them.
+abbrev pub pair_words : Command → List ℕ
+pair_words (command.Replay limits strategy) = codes ""
+pair_words (command.Run workers turns) = codes ""
+pair_words (command.Load seed count) = codes ""
+pair_words (command.Sessions sessions entries) = codes ""
+pair_words (command.Limiter buckets retries) = codes ""
+pair_words (command.Actors actors messages) = codes ""
+pair_words (command.Check limits strategy) = event_words
+
+abbrev pub line_fault_at : Command → List ℕ → ℕ → Option Wrong
+line_fault_at c input n = wrong_at (words (line_words c)) (words (part_words c)) (words (pair_words c)) input n
+
+-- What is wrong with line n of the input, counted from 1, by the bytes of that line, and for a script by those before it.
+abbrev pub fault_at : Command → List ℕ → ℕ → Option Wrong
+fault_at (command.Run workers turns) input n = Some (script_wrong_at (words (line_words (command.Run workers turns))) input n)
+fault_at (command.Replay limits strategy) input n = line_fault_at (command.Replay limits strategy) input n
+fault_at (command.Load seed count) input n = line_fault_at (command.Load seed count) input n
+fault_at (command.Sessions sessions entries) input n = line_fault_at (command.Sessions sessions entries) input n
+fault_at (command.Limiter buckets retries) input n = line_fault_at (command.Limiter buckets retries) input n
+fault_at (command.Actors actors messages) input n = line_fault_at (command.Actors actors messages) input n
+fault_at (command.Check limits strategy) input n = line_fault_at (command.Check limits strategy) input n

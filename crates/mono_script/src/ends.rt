@@ -1,14 +1,13 @@
 // How a command ends.
 ghost use Rattle.std.specs.Prelude.{◌≡◌, IfOk, IfSome, IfNone, Some, None};
 ghost use Rattle.std.specs.Option.{option_map};
-ghost use Rattle.mono_reason.specs.Words.{words};
-ghost use Rattle.mono_reason.specs.Reasons.{reason_at, first_word_at};
+ghost use Rattle.mono_reason.specs.Told.{told};
 ghost use Rattle.mono_script.specs.Ending.{bad_line_text, status_code};
-ghost use Rattle.mono_script.specs.LineWords.{line_words};
+ghost use Rattle.mono_script.specs.LineWords.{fault_at};
 
 use crate::command::Command;
-use crate::line_words::first_words;
-use mono_reason::{Reason, first_word_of_line, reason_of_line};
+use crate::line_words::fault;
+use mono_reason::Fault;
 use std::alloc::{AllocError, Global};
 
 /// How the program ends.
@@ -105,20 +104,13 @@ impl Ended {
         self.bad_line
     }
 
-    /// Why the first bad line says nothing of the command, by its bytes alone.
-    pub fn reason(&self) -> Option<Reason>
-        ensures some { IfSome self.now.bad_line (λ n. result ≡ reason_at (words (line_words self.now.command)) self.now.input.items n) }
+    /// What is wrong with the first bad line: why it says nothing of the command, and the word that shows it. It goes by the
+    /// bytes of the line alone, and of a script by those before it.
+    pub fn fault(&self) -> Option<Fault>
+        ensures some { IfSome self.now.bad_line (λ n. option_map told result ≡ fault_at self.now.command self.now.input.items n) }
         ensures none { IfNone self.now.bad_line (result ≡ None) }
     {
-        reason_of_line(first_words(self.command), &self.input, self.bad_line?)
-    }
-
-    /// The first word of the first bad line, without the blank behind it.
-    pub fn first_word(&self) -> Option<&[u8]>
-        ensures some { IfSome self.now.bad_line (λ n. option_map (λ word. word.now) result ≡ first_word_at self.now.input.items n) }
-        ensures none { IfNone self.now.bad_line (result ≡ None) }
-    {
-        first_word_of_line(&self.input, self.bad_line?)
+        fault(self.command, &self.input, self.bad_line?)
     }
 }
 

@@ -5,6 +5,8 @@ mod acting;
 mod check_line;
 mod command;
 mod ends;
+mod exits;
+mod follows;
 mod limiter_lines;
 mod line_words;
 mod load_line;
@@ -18,9 +20,11 @@ mod words;
 
 pub use command::Command;
 pub use ends::{Ended, Status};
+pub use exits::{exit_code, joins_workers, words_behind};
+pub use follows::{FollowedCommand, follow_command};
 pub use mono_blocking::{NoSpawner, Spawner, ThreadSpawner};
 pub use mono_driver::{Clock, Instant, ListClock};
-pub use mono_reason::Reason;
+pub use mono_reason::{Fault, Reason};
 pub use mono_text::{
     InputError, MAX_INPUT, MemSink, MemSource, PlainSink, PlainSource, Reader, Sink, SinkFault,
     Source, SourceFault, StdinSource, StdoutSink, read_all, report_line, write_all,

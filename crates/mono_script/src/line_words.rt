@@ -1,8 +1,11 @@
-// With which words the lines of a command begin.
+// With which words the lines of a command begin, and what is wrong with a line.
 ghost use Rattle.std.specs.Prelude.{◌≡◌};
-ghost use Rattle.mono_script.specs.LineWords.{line_words};
+ghost use Rattle.std.specs.Option.{option_map};
+ghost use Rattle.mono_reason.specs.Told.{told};
+ghost use Rattle.mono_script.specs.LineWords.{line_words, part_words, pair_words, line_fault_at, fault_at};
 
 use crate::command::Command;
+use mono_reason::{Fault, fault_of_line, fault_of_script};
 
 const EVENT_WORDS: &[u8] =
     b"spawn wake sleep reset drop-sleep elapsed drop-join finished block drop-job job-finished job-end turn clock remote drain";
@@ -24,5 +27,66 @@ pub(crate) fn first_words(command: Command) -> &'static [u8]
         Command::Sessions(_, _) => b"open beat close acquire release owner clock".as_slice(),
         Command::Limiter(_, _) => b"bucket take retry fail done clock".as_slice(),
         Command::Actors(_, _) => b"actor send timeout turn clock".as_slice(),
+    }
+}
+
+const STEP_WORDS: &[u8] =
+    b"spawn wake sleep reset drop-sleep elapsed drop-join finished block drop-job job-finished job-end poll join job pending ready";
+
+// The words with which a part of a line begins, with blanks between them.
+fn first_words_of_parts(command: Command) -> &'static [u8]
+    ensures { result.now ≡ part_words command }
+{
+    match command {
+        Command::Replay(_, _) => STEP_WORDS,
+        Command::Check(_, _) => STEP_WORDS,
+        Command::Run(_, _) => b"".as_slice(),
+        Command::Load(_, _) => b"".as_slice(),
+        Command::Sessions(_, _) => b"".as_slice(),
+        Command::Limiter(_, _) => b"".as_slice(),
+        Command::Actors(_, _) => b"send stay stop".as_slice(),
+    }
+}
+
+// The words with which a line begins that has a report, with blanks between them.
+fn first_words_of_pairs(command: Command) -> &'static [u8]
+    ensures { result.now ≡ pair_words command }
+{
+    match command {
+        Command::Check(_, _) => EVENT_WORDS,
+        Command::Replay(_, _) => b"".as_slice(),
+        Command::Run(_, _) => b"".as_slice(),
+        Command::Load(_, _) => b"".as_slice(),
+        Command::Sessions(_, _) => b"".as_slice(),
+        Command::Limiter(_, _) => b"".as_slice(),
+        Command::Actors(_, _) => b"".as_slice(),
+    }
+}
+
+// What is wrong with a line, by its bytes alone.
+fn line_fault<'a>(command: Command, input: &'a [u8], n: usize) -> Option<Fault<'a>>
+    ensures { option_map told result ≡ line_fault_at command input.now n }
+{
+    fault_of_line(
+        first_words(command),
+        first_words_of_parts(command),
+        first_words_of_pairs(command),
+        input,
+        n,
+    )
+}
+
+/// Returns what is wrong with line n of the input, counted from 1; of a script also that the line is missing.
+pub(crate) fn fault<'a>(command: Command, input: &'a [u8], n: usize) -> Option<Fault<'a>>
+    ensures { option_map told result ≡ fault_at command input.now n }
+{
+    match command {
+        Command::Run(_, _) => Some(fault_of_script(first_words(command), input, n)),
+        Command::Replay(_, _) => line_fault(command, input, n),
+        Command::Load(_, _) => line_fault(command, input, n),
+        Command::Sessions(_, _) => line_fault(command, input, n),
+        Command::Limiter(_, _) => line_fault(command, input, n),
+        Command::Actors(_, _) => line_fault(command, input, n),
+        Command::Check(_, _) => line_fault(command, input, n),
     }
 }

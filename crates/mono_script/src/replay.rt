@@ -1,6 +1,9 @@
 // Reads, replays and writes line by line.
-ghost use Rattle.std.specs.Prelude.{IfOk, OnOk};
-ghost use Rattle.mono_machine.specs.Machine.{Machine};
+ghost use Rattle.std.specs.Prelude.{◌≡◌, IfOk, OnOk, OnErr};
+ghost use Rattle.mono_machine.specs.Machine.{Machine, start_machine};
+ghost use Rattle.mono_text.specs.Following.{HasFollowed};
+ghost use Rattle.mono_text.specs.Written.{event_text, FitsEvent};
+ghost use Rattle.mono_script.specs.Following.{ReportsAs};
 ghost use Rattle.mono_exec.specs.Stands.{Stands};
 ghost use Rattle.mono_script.specs.Answers.{IsAnswer, Answers};
 ghost use Rattle.mono_script.specs.Ending.{IsOutput, IsLine};
@@ -9,7 +12,7 @@ ghost use Rattle.mono_script.specs.Meanings.{replaying};
 use crate::ends::{Output, Status, bad_line};
 use mono_exec::{Blocking, Event, Exec, List, Reply, Report, TurnStep};
 use mono_machine::Limits;
-use mono_text::{Reader, report_line};
+use mono_text::{Followed, Reader, Service, Sink, Source, follow, report_line};
 use std::alloc::{AllocError, Global};
 
 /// What an input is answered: the number of the first line that says no event, counted from 1, or the lines of the
@@ -102,4 +105,51 @@ pub(crate) fn output_of_replay(
             bad_line: None,
         }),
     }
+}
+
+// An executor that answers event lines.
+#[derive(Drop)]
+struct ReplayLines {
+    exec: Exec,
+}
+
+impl Service for ReplayLines {
+    type Call = Event;
+
+    ghost use Rattle.mono_text.specs.Serving.{AnswersAs};
+    ghost use Rattle.mono_text.specs.Written.{event_text, FitsEvent};
+    ghost use Rattle.mono_exec.specs.Stands.{Stands};
+    ghost use Rattle.mono_script.specs.Following.{ReportsAs};
+
+    ghost text = { λ call. event_text call };
+
+    ghost fits = { λ call. FitsEvent call };
+
+    ghost answers = { λ old call text new. AnswersAs Stands ReportsAs old.exec call text new.exec };
+
+    fn read(alloc: Global, reader: &mut Reader) -> Result<Option<Event>, AllocError> {
+        let mut spare = List::new(alloc);
+        reader.line(alloc, &mut spare)
+    }
+
+    fn answer(&mut self, alloc: Global, call: Event, out: &mut Vec<u8>) -> Result<(), AllocError> {
+        let report = self.exec.apply(alloc, &call)?;
+        report_line(out, &report)
+    }
+}
+
+/// Replays each line of the source as soon as it was read: what was written is the reports of a run for the lines at its
+/// front. If there is no memory for the executor the source is not read and nothing is written.
+pub(crate) fn follow_replay<S: Source, K: Sink>(
+    alloc: Global,
+    limits: Limits,
+    blocking: Blocking,
+    source: &mut S,
+    sink: &mut K,
+) -> Result<Followed, AllocError>
+    ensures followed { IfOk result (λ f. HasFollowed event_text FitsEvent ReportsAs (start_machine limits blocking) f.end f.rest.items (S.left source.old) (S.left source.new) (K.written sink.old) (K.written sink.new)) }
+    ensures none { OnErr result ((S.left source.new ≡ S.left source.old) × (K.written sink.new ≡ K.written sink.old)) }
+{
+    let exec = Exec::new(alloc, limits, blocking)?;
+    follow(alloc, ReplayLines { exec }, source, sink)
 }

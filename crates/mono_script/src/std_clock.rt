@@ -1,7 +1,12 @@
 // The system's clock.
+ghost use Rattle.std.specs.Prelude.{◌≡◌, min, IfSome, IfNone};
+ghost use Rattle.std.specs.Duration.{as_nanos};
+ghost use Rattle.mono_model.specs.Ticks.{max_nanos};
+ghost use Rattle.mono_time.specs.Instants.{nanos_of};
+
 use mono_driver::{Clock, Instant};
 use mono_model::{Host, MAX_NANOS};
-use std::time;
+use std::time::{self, Duration};
 
 /// The system's clock, in nanoseconds from its making. It ends at `MAX_NANOS`, and a reading that the system refuses
 /// repeats the last one. It tells nothing of its readings.
@@ -10,6 +15,20 @@ pub struct StdClock<R> {
     rt: R,
     begin: Option<time::Instant>,
     last: Instant,
+}
+
+// The instant so long after the clock's beginning, which ends at `MAX_NANOS`; the last one if the system told none.
+fn reading(gone: Option<Duration>, last: Instant) -> Instant
+    ensures told { IfSome gone (λ gone. nanos_of result ≡ min (as_nanos gone) max_nanos) }
+    ensures repeated { IfNone gone (result ≡ last) }
+{
+    match gone {
+        Some(gone) => match Instant::from_nanos(gone.as_nanos().min(MAX_NANOS)) {
+            Some(now) => now,
+            None => unreachable!(),
+        },
+        None => last,
+    }
 }
 
 // The first instant.
@@ -34,12 +53,12 @@ impl<R: Host + Drop> StdClock<R> {
         }
     }
 
-    // The nanoseconds since its making, where the system tells them.
-    fn gone(&self) -> Option<u128> {
+    // The time since its making, where the system tells it.
+    fn gone(&self) -> Option<Duration> {
         match &self.begin {
             None => None,
             Some(begin) => match begin.elapsed(&self.rt) {
-                Ok(gone) => Some(gone.as_nanos()),
+                Ok(gone) => Some(gone),
                 Err(_) => None,
             },
         }
@@ -48,11 +67,7 @@ impl<R: Host + Drop> StdClock<R> {
 
 impl<R: Host + Drop> Clock for StdClock<R> {
     fn now(&mut self) -> Instant {
-        if let Some(nanos) = self.gone() {
-            if let Some(now) = Instant::from_nanos(nanos.min(MAX_NANOS)) {
-                self.last = now;
-            }
-        }
+        self.last = reading(self.gone(), self.last);
         self.last
     }
 }

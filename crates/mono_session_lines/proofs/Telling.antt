@@ -1,10 +1,13 @@
 -- What is served by the tables of the sessions is served by their model.
-use Rattle.std.proofs.Common.{◌≡◌, ◌≤◌, ◌<◌, ℕ, List, ◌++◌, Result, Ok, Err, IfOk, OnOk, codes, flat_map, refl, ap}
+use Rattle.std.proofs.Common.{◌≡◌, ◌≤◌, ◌<◌, ℕ, List, ◌++◌, Option, Result, Ok, Err, IfOk, OnOk, codes, flat_map, refl, ap}
 use Rattle.mono_model.specs.Due.{ListsDue}
 use Rattle.mono_model.specs.Ticks.{max_nanos}
 use Rattle.mono_text.specs.Serving.{AnswersAs, Serves}
 use Rattle.mono_text.specs.Written.{number_part}
 use Rattle.mono_text.specs.declared.services.Served.{Served}
+use Rattle.mono_text.specs.Following.{HasFollowed}
+use Rattle.mono_text.specs.declared.followers.Followed.{Followed}
+use Rattle.mono_text.proofs.FollowLemmas.{followed_through}
 use Rattle.mono_text.proofs.Serving.{serves_through}
 use Rattle.mono_session.specs.Keeper.{Keeper, with_greatest, no_sessions}
 use Rattle.mono_session.specs.Answers as answer
@@ -46,3 +49,9 @@ pub served : {E : Type 0} (start : SessionLines) (sessions entries : ℕ) (input
     → IfOk r (λ r. Serves call_text FitsCall StepsAs (no_sessions sessions entries) input r)
 served start sessions entries input (Ok r) stands s = serves_through LinesStand StepsAs call_text FitsCall start (no_sessions sessions entries) input r stands s
 served start sessions entries input (Err e) stands s = tt
+
+pub followed : {E : Type 0} (start : SessionLines) (sessions entries : ℕ) (r : Result Followed E) (left now before after : Option (List ℕ)) → StandsFor start.sessions (no_sessions sessions entries)
+    → IfOk r (λ f. HasFollowed call_text FitsCall (λ old c text new. AnswersAs StandsFor StepsAs old.sessions c text new.sessions) start f.end f.rest.items left now before after)
+    → IfOk r (λ f. HasFollowed call_text FitsCall StepsAs (no_sessions sessions entries) f.end f.rest.items left now before after)
+followed start sessions entries (Ok f) left now before after stands p = followed_through LinesStand StepsAs call_text FitsCall start (no_sessions sessions entries) f.end f.rest.items left now before after stands p
+followed start sessions entries (Err e) left now before after stands p = tt

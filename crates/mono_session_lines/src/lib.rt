@@ -9,4 +9,4 @@ mod reading;
 
 pub use calls::SessionCall;
 pub use laws::lines_are_one_run;
-pub use lines::sessions;
+pub use lines::{follow_sessions, sessions};

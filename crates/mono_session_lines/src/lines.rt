@@ -1,7 +1,8 @@
 // Sessions that answer lines.
-ghost use Rattle.std.specs.Prelude.{◌≡◌, ◌++◌, ◌≤◌, ◌<◌, ◌+◌, ℕ, List, IfOk, OnOk, vec_len, vec_capacity};
+ghost use Rattle.std.specs.Prelude.{◌≡◌, ◌++◌, ◌≤◌, ◌<◌, ◌+◌, ℕ, List, IfOk, OnOk, OnErr, vec_len, vec_capacity};
 ghost use Rattle.mono_model.specs.Due.{ListsDue};
 ghost use Rattle.mono_text.specs.Serving.{Serves};
+ghost use Rattle.mono_text.specs.Following.{HasFollowed};
 ghost use Rattle.mono_time.specs.Instants.{nanos_of};
 ghost use Rattle.mono_session.specs.Keeper.{Keeper, no_sessions, with_greatest};
 ghost use Rattle.mono_session.specs.Steps.{closing_value, greatest_at, without_all};
@@ -14,7 +15,7 @@ use crate::calls::SessionCall;
 use crate::printing::{put_done, put_first, put_opened, put_owner, put_refused};
 use crate::reading::call_line;
 use mono_session::{SessionError, Sessions};
-use mono_text::{Reader, Served, Service, put_list, serve};
+use mono_text::{Followed, Reader, Served, Service, Sink, Source, follow, put_list, serve};
 use mono_time::Instant;
 use mono_wheel::Steps;
 use std::alloc::{AllocError, Global};
@@ -153,4 +154,24 @@ pub fn sessions(
         closed: Vec::new(alloc),
     };
     serve(alloc, start, input)
+}
+
+/// Answers each line of the source as soon as it was read, as [`sessions`] answers a whole input: what was written is the
+/// answers to lines at its front. If the sessions can't be made the source is not read and nothing is written.
+pub fn follow_sessions<S: Source, K: Sink>(
+    alloc: Global,
+    sessions: u64,
+    entries: u64,
+    source: &mut S,
+    sink: &mut K,
+) -> Result<Followed, AllocError>
+    ensures followed { IfOk result (λ f. HasFollowed call_text FitsCall StepsAs (no_sessions sessions entries) f.end f.rest.items (S.left source.old) (S.left source.new) (K.written sink.old) (K.written sink.new)) }
+    ensures none { OnErr result ((S.left source.new ≡ S.left source.old) × (K.written sink.new ≡ K.written sink.old)) }
+{
+    let made = Sessions::new(alloc, sessions, entries)?;
+    let start = SessionLines {
+        sessions: made,
+        closed: Vec::new(alloc),
+    };
+    follow(alloc, start, source, sink)
 }

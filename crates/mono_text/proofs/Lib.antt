@@ -10,3 +10,4 @@ pub mod Serving
 pub mod Calls
 pub mod Firsts
 pub mod Counted
+pub mod FollowLemmas

@@ -80,7 +80,7 @@ module _ {S A : Type 0} (text : A → List ℕ) (Fits : A → Type 0) (Answers :
 -- ---- from a value to the model for which it stands
 
 module _ {S K A : Type 0} (Stands : S → K → Type 0) (Allowed : K → A → List ℕ → K → Type 0) where
-  run_through : (old new : S) (model : K) (calls : List A) (answers : List (List ℕ)) → AnswersAll (AnswersAs Stands Allowed) old calls answers new → Stands old model
+  pub run_through : (old new : S) (model : K) (calls : List A) (answers : List (List ℕ)) → AnswersAll (AnswersAs Stands Allowed) old calls answers new → Stands old model
       → (last : K) × AnswersAll Allowed model calls answers last
   run_through old new model [] [] run stands = (model, refl)
   run_through old new model [] (a ∷ answers) run stands = absurd run

@@ -4,3 +4,4 @@ pub mod Reading
 pub mod Outside
 pub mod Memory
 pub mod Serving
+pub mod Following

@@ -1,6 +1,7 @@
 //! Event lines in, report lines out, and the sources and sinks of their bytes.
 #![tactic(auto)]
 
+mod followers;
 pub mod laws;
 mod memory;
 mod plain;
@@ -10,7 +11,9 @@ mod services;
 mod sink;
 mod source;
 mod standard;
+mod tries;
 
+pub use followers::{FollowEnd, Followed, follow};
 pub use memory::{MemSink, MemSource};
 pub use plain::{PlainSink, PlainSource};
 pub use printer::{
@@ -21,3 +24,4 @@ pub use services::{Served, Service, serve};
 pub use sink::{Sink, SinkFault, write_all};
 pub use source::{InputError, MAX_INPUT, Source, SourceFault, read_all};
 pub use standard::{StdinSource, StdoutSink};
+pub use tries::{has_taken, is_tried_again, read_again, write_again};

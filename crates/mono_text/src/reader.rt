@@ -1,6 +1,7 @@
 // One pass over the input by a reader that holds what is left.
-ghost use Rattle.std.specs.Prelude.{◌≡◌, ◌+◌, ◌-◌, ◌*◌, ◌^◌, ◌<◌, ◌≤◌, ◌↔◌, IfNone, IfSome, IfOk, Some, None, length, IsTrue, if◌then◌else◌, [], ◌++◌, slice_index, nat_lt, drop, decimal, ℕ};
+ghost use Rattle.std.specs.Prelude.{◌≡◌, ◌+◌, ◌-◌, ◌*◌, ◌^◌, ◌<◌, ◌≤◌, ◌↔◌, IfNone, IfSome, IfOk, Some, None, length, IsTrue, if◌then◌else◌, [], ◌++◌, slice_index, nat_lt, drop, decimal, ℕ, false};
 ghost use Rattle.mono_text.specs.Lines.{BeginsWith, BeginsWithNone};
+ghost use Rattle.mono_text.specs.Serving.{HasNoFeed};
 ghost use Rattle.mono_text.specs.Reading as Reading;
 ghost use Rattle.mono_text.specs.Reading.{Gives, GivesIf, GivesEnd, word_at, number_at, nanos_at, behind_at, s_act_at, drop_at, reset_at, how_at, job_act_at, other_act_at, act_at, job_step_at, step_at, end_at, parts_at, event_at, line_at};
 
@@ -93,6 +94,27 @@ impl<'a> Reader<'a> {
         ensures { IsTrue result ↔ length self.now.rest.now ≡ 0 }
     {
         self.rest.is_empty()
+    }
+
+    /// Returns the bytes that are left.
+    pub fn rest(&self) -> &'a [u8]
+        ensures { result.now ≡ self.now.rest.now }
+    {
+        self.rest
+    }
+
+    /// Returns whether a line feed is left. Without one there is no whole line.
+    pub fn has_line(&self) -> bool
+        ensures { result ≡ false → HasNoFeed self.now.rest.now }
+    {
+        let mut rest = self.rest;
+        'bytes: while let Some((byte, more)) = rest.split_first() {
+            if *byte == b'\n' {
+                return true;
+            }
+            rest = more;
+        }
+        false
     }
 
     /// How many bytes are left.

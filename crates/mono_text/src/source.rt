@@ -31,7 +31,8 @@ pub trait Source {
 /// The most bytes that an input may have, 2^24.
 pub const MAX_INPUT: usize = 16777216;
 
-const BLOCK: usize = 65536;
+/// How many bytes are read at a time.
+pub(crate) const BLOCK: usize = 65536;
 
 /// Why there is no input: no memory, a read that failed, or more bytes than an input may have.
 #[derive(Clone, Copy, Debug, PartialEq, Eq)]
@@ -51,15 +52,16 @@ impl From<AllocError> for InputError {
     }
 }
 
-// A block of zeros. Its length is all that is told, so that no proof computes the block.
-fn zeros(alloc: Global, len: usize) -> Result<Vec<u8>, AllocError>
+/// A block of zeros. Its length is all that is told, so that no proof computes the block.
+pub(crate) fn zeros(alloc: Global, len: usize) -> Result<Vec<u8>, AllocError>
     ensures { IfOk result (λ block. length block.items ≡ len) }
 {
     vec![in alloc; 0u8; len]
 }
 
+/// The first bytes of a block.
 #[inline(always)]
-fn front_of(block: &[u8], n: usize) -> &[u8]
+pub(crate) fn front_of(block: &[u8], n: usize) -> &[u8]
     requires { n ≤ length block.now }
     ensures { result.now ≡ take n block.now }
 {

@@ -3,10 +3,12 @@ ghost use Rattle.std.specs.Prelude.{◌≡◌};
 
 use crate::sink::{Sink, SinkFault};
 use crate::source::{Source, SourceFault};
-use std::io::{self, Read, Write};
+use crate::tries::{has_taken, read_again, write_again};
+use std::io;
 use std::rt::{Stdin, Stdout};
 
-/// Standard input. It tells nothing of its bytes, and its count of faults starts at 0.
+/// Standard input. It tells nothing of its bytes, and its count of faults starts at 0. A read that a signal interrupts is
+/// made again.
 #[derive(Drop)]
 pub struct StdinSource {
     stdin: Stdin,
@@ -40,7 +42,7 @@ impl Source for StdinSource {
     ghost left = { λ source. None };
 
     fn read(&mut self, buffer: &mut [u8]) -> Result<usize, SourceFault> {
-        match self.stdin.read(buffer) {
+        match read_again(&mut self.stdin, buffer) {
             Ok(n) => Ok(n),
             Err(error) => {
                 self.faults = self.faults.saturating_add(1);
@@ -53,7 +55,8 @@ impl Source for StdinSource {
 
 /// Standard output. It tells nothing of its bytes, and its count of faults starts at 0.
 ///
-/// A write to a closed pipe fails as any other does, and so does one that takes no byte of a piece that isn't empty.
+/// A write that a signal interrupts is made again. A write to a closed pipe fails as any other does, and so does one that
+/// takes no byte of a piece that isn't empty.
 #[derive(Drop)]
 pub struct StdoutSink {
     stdout: Stdout,
@@ -87,9 +90,9 @@ impl Sink for StdoutSink {
     ghost written = { λ sink. None };
 
     fn write(&mut self, piece: &[u8]) -> Result<usize, SinkFault> {
-        match self.stdout.write(piece) {
+        match write_again(&mut self.stdout, piece) {
             Ok(n) => {
-                if n > 0 || piece.is_empty() {
+                if has_taken(n, piece.len()) {
                     return Ok(n);
                 }
             }

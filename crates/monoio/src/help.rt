@@ -1,4 +1,5 @@
-// What `monoio --help` and `monoio --version` show.
+// What `monoio --help` and `monoio --version` show, and which words ask for a page.
+use crate::pages::page_of;
 
 pub(crate) const HELP: &str = "usage:
   monoio replay STRATEGY TASKS JOBS SLEEPS
@@ -22,7 +23,11 @@ pub(crate) const HELP: &str = "usage:
   monoio check STRATEGY TASKS JOBS SLEEPS
       reads a journal, event lines with their report lines, and writes yes where it is a run of the machine,
       or no and the number of the first line that no step allows
-  monoio --help, -h, help, or COMMAND --help
+  monoio COMMAND --follow WORD ..
+      answers each line as soon as it was read, up to the first bad one; of replay, sessions, limiter and actors
+  monoio --help, -h or help
+  monoio COMMAND --help, or help COMMAND
+      shows the command's words, the form of each line that it reads and writes, its statuses and an example
   monoio --version
 event lines begin with: spawn, wake, sleep, reset, drop-sleep, elapsed, drop-join, finished, block, drop-job, job-finished,
       job-end, turn, clock, remote, drain; in a turn also poll, join, job, pending, ready
@@ -41,20 +46,24 @@ pub(crate) fn is_only(words: &Vec<String>, word: &str) -> bool {
     }
 }
 
-fn is_command(word: &str) -> bool {
-    matches!(
-        word,
-        "replay" | "run" | "load" | "sessions" | "limiter" | "actors" | "check"
-    )
+fn asks(word: &str) -> bool {
+    matches!(word, "--help" | "-h" | "help")
 }
 
-/// Whether the words ask for help: one word that does, or such a word behind a command.
-pub(crate) fn asks_for_help(words: &Vec<String>) -> bool {
+/// Returns what is to be shown if the words ask for help: one word that does, such a word behind a command, or `help`
+/// before one.
+pub(crate) fn help_of(words: &Vec<String>) -> Option<&'static str> {
     match words.as_slice() {
-        [one] => matches!(one.as_str(), "--help" | "-h" | "help"),
-        [command, asked] => {
-            is_command(command.as_str()) && matches!(asked.as_str(), "--help" | "-h")
+        [one] => { if asks(one.as_str()) { Some(HELP) } else { None } }
+        [first, second] => {
+            if first.as_str() == "help" {
+                page_of(second.as_str())
+            } else if asks(second.as_str()) && second.as_str() != "help" {
+                page_of(first.as_str())
+            } else {
+                None
+            }
         }
-        _ => false,
+        _ => None,
     }
 }

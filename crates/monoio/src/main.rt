@@ -2,27 +2,24 @@
 #![tactic(auto)]
 
 mod help;
+mod pages;
 
-use help::{HELP, VERSION, asks_for_help, is_only};
+use help::{VERSION, help_of, is_only};
 use mono_script::{
-    Ended, Reason, Status, StdClock, StdinSource, StdoutSink, ThreadSpawner, explained,
+    Ended, FollowedCommand, Status, StdClock, StdinSource, StdoutSink, ThreadSpawner, exit_code,
+    explained, follow_command, joins_workers, words_behind,
 };
-use mono_usage::complaint;
+use mono_usage::{complaint, line_sentence};
 use std::alloc::{AllocError, Global};
+use std::io::IsTerminal;
 use std::process::ExitCode;
+use std::rt::Stdin;
 use std::{env, format, io};
 
 // The words behind the program's name.
 fn words(rt: &HostRuntime) -> io::Result<Vec<String>> {
-    let words: Vec<String> = env::args(rt)?.skip(1).collect(rt.alloc())?;
-    Ok(words)
-}
-
-fn shown(rt: &HostRuntime, text: &str) -> u8 {
-    match println!(rt; "{text}") {
-        Ok(()) => Status::Done.code(),
-        Err(_) => Status::WriteFault.code(),
-    }
+    let words: Vec<String> = env::args(rt)?.collect(rt.alloc())?;
+    Ok(words_behind(words))
 }
 
 // Says a cause on standard error, where there was memory for it. A cause that cannot be said changes no status.
@@ -33,32 +30,11 @@ fn say(rt: &HostRuntime, cause: Result<String, AllocError>) {
     };
 }
 
-// Why a line says nothing of the command.
-fn reason_text(alloc: Global, ended: &Ended) -> Result<String, AllocError> {
-    let text = match ended.reason() {
-        Some(Reason::NoLineFeed) => "no line feed at the end",
-        Some(Reason::CarriageReturn) => "a carriage return before the line feed",
-        Some(Reason::GreatNumber) => "a number above 18446744073709551615",
-        Some(Reason::GreatNanos) => "a number above 340282366920938463463374607431768211455",
-        Some(Reason::UnknownWord) => {
-            return match ended.first_word() {
-                Some(word) => {
-                    let word = String::from_utf8_lossy(alloc, word)?;
-                    format!(in alloc; "unknown word \"{word}\"")
-                }
-                None => String::from_str(alloc, "unknown word"),
-            };
-        }
-        _ => "not in the form that its first word has",
-    };
-    String::from_str(alloc, text)
-}
-
-fn bad_line_text(alloc: Global, ended: &Ended) -> Result<String, AllocError> {
-    let reason = reason_text(alloc, ended)?;
-    match ended.bad_line() {
-        Some(line) => format!(in alloc; "line {line}: {reason}"),
-        None => Ok(reason),
+// What is wrong with the first bad line of the command.
+fn bad_line_text(alloc: Global, command: &str, ended: &Ended) -> Result<String, AllocError> {
+    match (ended.bad_line(), ended.fault()) {
+        (Some(line), Some(fault)) => line_sentence(alloc, command, line, &fault),
+        _ => String::from_str(alloc, "a line says nothing of the command"),
     }
 }
 
@@ -76,24 +52,62 @@ fn is_closed_pipe(error: Option<&io::Error>) -> bool {
     }
 }
 
+// Says why standard output can't be written. A closed pipe is no news.
+fn tell_unwritten(rt: &HostRuntime, error: Option<&io::Error>) {
+    if !is_closed_pipe(error) {
+        say(
+            rt,
+            system_text(rt.alloc(), "standard output can't be written", error),
+        );
+    }
+}
+
+// The status once a text was shown.
+fn shown(rt: &HostRuntime, text: &str) -> u8 {
+    match println!(rt; "{text}") {
+        Ok(()) => Status::Done.code(),
+        Err(error) => {
+            tell_unwritten(rt, Some(&error));
+            Status::WriteFault.code()
+        }
+    }
+}
+
+// Says on standard error what the command waits for if a person is at the terminal.
+fn tell_waiting(rt: &HostRuntime, words: &Vec<String>, stdin: &Stdin) {
+    if reads_lines(first_word(words)) && stdin.is_terminal() {
+        let _ = eprintln!(rt;
+            "monoio: reading lines from standard input; end with ^D at the beginning of a line"
+        );
+    }
+}
+
+// Whether a command of this name reads standard input.
+fn reads_lines(command: &str) -> bool {
+    matches!(
+        command,
+        "replay" | "run" | "sessions" | "limiter" | "actors" | "check"
+    )
+}
+
 // Says why the command ended so. A closed pipe downstream is no news.
-fn tell(rt: &HostRuntime, ended: &Ended, source: &StdinSource, sink: &StdoutSink) {
-    let alloc = rt.alloc();
+fn tell(rt: &HostRuntime, command: &str, ended: &Ended, source: &StdinSource, sink: &StdoutSink) {
     match ended.status() {
+        Status::BadLine => say(rt, bad_line_text(rt.alloc(), command, ended)),
+        status => tell_status(rt, status, source, sink),
+    }
+}
+
+// Says what a status means, other than that of a bad line.
+fn tell_status(rt: &HostRuntime, status: Status, source: &StdinSource, sink: &StdoutSink) {
+    let alloc = rt.alloc();
+    match status {
         Status::Done => {}
-        Status::BadLine => say(rt, bad_line_text(alloc, ended)),
         Status::ReadFault => say(
             rt,
             system_text(alloc, "standard input can't be read", source.error()),
         ),
-        Status::WriteFault => {
-            if !is_closed_pipe(sink.error()) {
-                say(
-                    rt,
-                    system_text(alloc, "standard output can't be written", sink.error()),
-                );
-            }
-        }
+        Status::WriteFault => tell_unwritten(rt, sink.error()),
         Status::Turns => say(
             rt,
             String::from_str(alloc, "the run had no turn left; the output is what it did"),
@@ -120,18 +134,10 @@ fn tell(rt: &HostRuntime, ended: &Ended, source: &StdinSource, sink: &StdoutSink
     }
 }
 
-// Whether memory was refused: a pool may then be open, and its workers wait.
-fn lacks_memory(ended: &Option<Ended>) -> bool {
-    match ended {
-        Some(ended) => ended.status() == Status::OutOfMemory,
-        None => false,
-    }
-}
-
 // The status of words that ask what the program is, once that is shown; none of other words.
 fn shown_of(rt: &HostRuntime, words: &Vec<String>) -> Option<u8> {
-    if asks_for_help(words) {
-        return Some(shown(rt, HELP));
+    if let Some(page) = help_of(words) {
+        return Some(shown(rt, page));
     }
     if is_only(words, "--version") {
         return Some(shown(rt, VERSION));
@@ -139,23 +145,25 @@ fn shown_of(rt: &HostRuntime, words: &Vec<String>) -> Option<u8> {
     None
 }
 
-// The status with which the program ends, once its cause is said.
-fn told(
+// The first of the words; empty if there is none.
+fn first_word(words: &Vec<String>) -> &str {
+    match words.first() {
+        Some(word) => word.as_str(),
+        None => "",
+    }
+}
+
+// Says why the program ends so.
+fn tell_end(
     rt: &HostRuntime,
     words: &Vec<String>,
     ended: &Option<Ended>,
     source: &StdinSource,
     sink: &StdoutSink,
-) -> u8 {
+) {
     match ended {
-        Some(ended) => {
-            tell(rt, ended, source, sink);
-            ended.status().code()
-        }
-        None => {
-            say(rt, complaint(rt.alloc(), words));
-            Status::Usage.code()
-        }
+        Some(ended) => tell(rt, first_word(words), ended, source, sink),
+        None => say(rt, complaint(rt.alloc(), words)),
     }
 }
 
@@ -171,6 +179,64 @@ fn unread(rt: &HostRuntime, error: &io::Error) -> u8 {
     }
 }
 
+// The words without `--follow`, where that is the second of them.
+fn without_follow(alloc: Global, words: &Vec<String>) -> Result<Option<Vec<String>>, AllocError> {
+    match words.get(1) {
+        Some(second) if second.as_str() == "--follow" => {}
+        _ => return Ok(None),
+    }
+    let mut others = Vec::new(alloc);
+    for at in 0..words.len() {
+        if at != 1 {
+            others.push(words[at].clone()?)?;
+        }
+    }
+    Ok(Some(others))
+}
+
+// What is wrong with the line at which a command ended that answered each line as it came.
+fn bad_line_after(
+    alloc: Global,
+    command: &str,
+    ended: &FollowedCommand,
+) -> Result<String, AllocError> {
+    match ended.fault() {
+        Some(fault) => line_sentence(alloc, command, ended.line(), &fault),
+        None => String::from_str(alloc, "the input ends within a line"),
+    }
+}
+
+// Answers each line as soon as it was read, and returns the status.
+fn follow(rt: &HostRuntime, words: &Vec<String>) -> u8 {
+    let alloc = rt.alloc();
+    let stdin = rt.stdin();
+    tell_waiting(rt, words, &stdin);
+    let mut source = StdinSource::new(stdin);
+    let mut sink = StdoutSink::new(rt.stdout());
+    let Some(ended) = follow_command(alloc, words, &mut source, &mut sink) else {
+        say(rt, follow_complaint(alloc, words));
+        return Status::Usage.code();
+    };
+    let status = ended.status();
+    if status == Status::BadLine {
+        say(rt, bad_line_after(alloc, first_word(words), &ended));
+    } else {
+        tell_status(rt, status, &source, &sink);
+    }
+    status.code()
+}
+
+// What is wrong with the words of a command that is to answer each line as it comes.
+fn follow_complaint(alloc: Global, words: &Vec<String>) -> Result<String, AllocError> {
+    match first_word(words) {
+        "run" | "load" | "check" => String::from_str(
+            alloc,
+            "--follow goes with replay, sessions, limiter and actors alone",
+        ),
+        _ => complaint(alloc, words),
+    }
+}
+
 fn main(rt: HostRuntime) -> ExitCode {
     let words = match words(&rt) {
         Ok(words) => words,
@@ -179,10 +245,17 @@ fn main(rt: HostRuntime) -> ExitCode {
     if let Some(status) = shown_of(&rt, &words) {
         return ExitCode::from(status);
     }
+    match without_follow(rt.alloc(), &words) {
+        Ok(Some(others)) => return ExitCode::from(follow(&rt, &others)),
+        Ok(None) => {}
+        Err(_) => return ExitCode::from(Status::OutOfMemory.code()),
+    }
     let Ok(theirs) = rt.clone() else {
         return ExitCode::from(Status::OutOfMemory.code());
     };
-    let mut source = StdinSource::new(rt.stdin());
+    let stdin = rt.stdin();
+    tell_waiting(&rt, &words, &stdin);
+    let mut source = StdinSource::new(stdin);
     let mut sink = StdoutSink::new(rt.stdout());
     let mut spawner = ThreadSpawner::new(rt.alloc());
     let clock = StdClock::new(theirs);
@@ -195,8 +268,9 @@ fn main(rt: HostRuntime) -> ExitCode {
         clock,
         &mut spawner,
     );
-    if !lacks_memory(&ended) {
+    if joins_workers(&ended) {
         spawner.join(&rt);
     }
-    ExitCode::from(told(&rt, &words, &ended, &source, &sink))
+    tell_end(&rt, &words, &ended, &source, &sink);
+    ExitCode::from(exit_code(&ended))
 }

@@ -1,4 +1,4 @@
-use Rattle.std.proofs.Common.{◌≡◌, arith}
+use Rattle.std.proofs.Common.{arith}
 use Rattle.itoa.proofs.Decimal.{length_four}
 use Rattle.mono_text.proofs.printer.digit_count.Goals as goal
 

@@ -1,4 +1,4 @@
-use Rattle.std.proofs.Common.{◌≡◌, ◌+◌, ◌++◌, take, decimal, ◌∙◌, arith}
+use Rattle.std.proofs.Common.{◌+◌, decimal, ◌∙◌, arith}
 use Rattle.mono_text.proofs.Counted.{front_kept}
 use Rattle.mono_text.proofs.printer.front_and_number.Goals as goal
 

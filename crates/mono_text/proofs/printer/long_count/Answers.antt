@@ -1,4 +1,4 @@
-use Rattle.std.proofs.Common.{◌≡◌, arith}
+use Rattle.std.proofs.Common.{arith}
 use Rattle.mono_text.proofs.Counted.{eight_more, twelve_more, sixteen_more}
 use Rattle.mono_text.proofs.printer.long_count.Goals as goal
 

@@ -1,4 +1,4 @@
-use Rattle.std.proofs.Common.{◌≡◌, arith}
+use Rattle.std.proofs.Common.{arith}
 use Rattle.itoa.proofs.Decimal.{length_one, length_two}
 use Rattle.mono_text.proofs.Counted.{three_digits, four_digits}
 use Rattle.mono_text.proofs.printer.short_count.Goals as goal

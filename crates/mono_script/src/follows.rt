@@ -1,0 +1,112 @@
+// Commands whose lines are answered as soon as they were read.
+ghost use Rattle.std.specs.Prelude.{◌≡◌, IfSome, IfNone, map, string_bytes};
+ghost use Rattle.std.specs.Option.{option_map};
+ghost use Rattle.mono_reason.specs.Told.{told};
+ghost use Rattle.mono_script.specs.Command.{IsCommand};
+ghost use Rattle.mono_script.specs.Following.{FollowsAs, status_of_end};
+ghost use Rattle.mono_script.specs.LineWords.{fault_at};
+
+use crate::command::{Command, read_command};
+use crate::ends::Status;
+use crate::line_words::fault;
+use crate::replay::follow_replay;
+use mono_actor_lines::follow_actors;
+use mono_limit_lines::follow_limiter;
+use mono_reason::Fault;
+use mono_session_lines::follow_sessions;
+use mono_text::{FollowEnd, Followed, Sink, Source};
+use std::alloc::{AllocError, Global};
+
+/// How a command ended whose lines were answered as soon as they were read.
+#[derive(Drop)]
+pub struct FollowedCommand {
+    pub(crate) command: Command,
+    pub(crate) followed: Followed,
+}
+
+// The status that goes with an end.
+fn status_of(end: FollowEnd) -> Status
+    ensures { result ≡ status_of_end end }
+{
+    match end {
+        FollowEnd::Done => Status::Done,
+        FollowEnd::BadLine => Status::BadLine,
+        FollowEnd::ReadFault => Status::ReadFault,
+        FollowEnd::WriteFault => Status::WriteFault,
+        FollowEnd::OutOfMemory => Status::OutOfMemory,
+        FollowEnd::TooLong => Status::TooLong,
+    }
+}
+
+impl FollowedCommand {
+    /// Returns the status.
+    pub fn status(&self) -> Status
+        ensures { result ≡ status_of_end self.now.followed.end }
+    {
+        status_of(self.followed.end)
+    }
+
+    /// Returns the number of the line after those that were answered, counted from 1; it ends at 2^64 - 1.
+    pub fn line(&self) -> usize {
+        self.followed.lines.saturating_add(1) as usize
+    }
+
+    /// Returns what is wrong with the first line that was not answered, by its bytes alone.
+    pub fn fault(&self) -> Option<Fault>
+        ensures { option_map told result ≡ fault_at self.now.command self.now.followed.rest.items 1 }
+    {
+        fault(self.command, &self.followed.rest, 1)
+    }
+}
+
+// An end before anything was read.
+fn without_memory(alloc: Global) -> Followed {
+    Followed {
+        end: FollowEnd::OutOfMemory,
+        lines: 0,
+        rest: Vec::new(alloc),
+    }
+}
+
+// What the command did, or that there was no memory to begin.
+fn followed_of(
+    alloc: Global,
+    command: Command,
+    followed: Result<Followed, AllocError>,
+) -> FollowedCommand {
+    let followed = match followed {
+        Ok(followed) => followed,
+        Err(_) => without_memory(alloc),
+    };
+    FollowedCommand { command, followed }
+}
+
+/// Carries out the command that the words say, and answers each line of the source as soon as it was read. What was written
+/// is the answers to lines at the front of the input. None if the words are no command, or one whose lines are answered
+/// together, and then nothing is read or written.
+pub fn follow_command<S: Source, K: Sink>(
+    alloc: Global,
+    words: &Vec<String>,
+    source: &mut S,
+    sink: &mut K,
+) -> Option<FollowedCommand>
+    ensures command { IfSome result (λ f. IsCommand (map string_bytes words.now.items) f.command) }
+    ensures followed { IfSome result (λ f. FollowsAs f.command f.followed.end f.followed.rest.items (S.left source.old) (S.left source.new) (K.written sink.old) (K.written sink.new)) }
+    ensures none { IfNone result ((S.left source.new ≡ S.left source.old) × (K.written sink.new ≡ K.written sink.old)) }
+{
+    let command = read_command(words)?;
+    let followed = match command {
+        Command::Replay(limits, blocking) => {
+            follow_replay(alloc, limits, blocking, source, sink)
+        }
+        Command::Sessions(sessions, entries) => {
+            follow_sessions(alloc, sessions, entries, source, sink)
+        }
+        Command::Limiter(buckets, retries) => {
+            follow_limiter(alloc, buckets, retries, source, sink)
+        }
+        Command::Actors(actors, messages) => follow_actors(alloc, actors, messages, source, sink),
+        Command::Run(_, _) | Command::Load(_, _) | Command::Check(_, _) => return None,
+    };
+    Some(followed_of(alloc, command, followed))
+}

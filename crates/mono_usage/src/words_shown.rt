@@ -1,0 +1,24 @@
+// Bytes as a person may see them on a terminal.
+use std::alloc::{AllocError, Global};
+use std::format;
+
+// How many bytes of a word are shown.
+const MOST: usize = 40;
+
+/// Returns the first 40 bytes as text. A byte that is neither graphic ASCII nor a blank is written as `\x` and two digits,
+/// and `...` stands behind a text that was cut.
+pub fn shown(alloc: Global, bytes: &[u8]) -> Result<String, AllocError> {
+    let mut text = String::new(alloc);
+    for byte in bytes.iter().take(MOST) {
+        let byte = *byte;
+        if byte == b' ' || byte.is_ascii_graphic() {
+            text.push(char::from(byte))?;
+        } else {
+            text.push_str(format!(in alloc; "\\x{byte:02x}")?.as_str())?;
+        }
+    }
+    if bytes.len() > MOST {
+        text.push_str("...")?;
+    }
+    Ok(text)
+}
