@@ -89,7 +89,7 @@ module _ {O P : Type 0} (number : O → ℕ) where
       → ((m mid new : Machine) (xs ys zs : List Entry) → Matches number hosting_of a m → Matches number hosting_of b mid → Matches number hosting_of c new → R m xs mid ys → S mid ys new zs → T m xs new zs)
       → Does number R a b i j → Does number S b c j k → Does number T a c i k
   does_on R S T a b c i j k law p q = record {
-        did = λ m st.
+    did = λ m st.
         let first : Did number R a b i j m = p.did m st in
         let second : Did number S b c j k first.went.new = q.did first.went.new first.went.matches in
         let xs : List Entry = first.went.part in
@@ -113,7 +113,7 @@ module _ {O P : Type 0} (number : O → ℕ) where
       → ((m new : Machine) (xs zs : List Entry) → Matches number hosting_of c m → Matches number hosting_of d new → R m xs new zs → T m xs new zs)
       → Does number R c d j k → Does number T c d j k
   does_more R T c d j k law p = record {
-        did = λ m st.
+    did = λ m st.
         let first : Did number R c d j k m = p.did m st in
         record { went = first.went; is = λ rest. law m first.went.new (first.went.part ++ rest) rest st first.went.matches (first.is rest) };
   }
@@ -128,7 +128,7 @@ module _ {O P : Type 0} (number : O → ℕ) where
       → l.history.entries ≡ k.history.entries ++ (drain_of woken) ∷ []
       → d.tasks ≡ schedule.with_tasks c.tasks (all_woken c.tasks.tasks woken) → d.timers ≡ c.timers → d.has_timers ≡ c.has_timers → d.blocking ≡ c.blocking → Does number Drained c d j l
   does_drain c d j k l ts woken once told are grew tasks timers has blocking = record {
-        did = λ m st.
+    did = λ m st.
         let before : remotes c.tasks.tasks ts ≡ remotes m.tasks ts = sym (remotes_numbered number c.tasks.tasks ts) ∙ ap (λ x. remotes x ts) st.tasks in
         let mine : woken ≡ listed m.tasks ts = are ∙ sym (listed_numbered number c.tasks.tasks ts) ∙ ap (λ x. listed x ts) st.tasks in
         let new : Machine = with_tasks m (all_woken m.tasks (listed m.tasks ts)) in

@@ -61,12 +61,12 @@ follows_run a b (Park v ∷ xs) p = follows_run a b xs p
 module _ {O P : Type 0} (number : O → ℕ) where
   pub goes_nowhere : (c d : Parts O (Seen P)) (j k : Journal) → d.tasks ≡ c.tasks → d.timers ≡ c.timers → d.has_timers ≡ c.has_timers → d.blocking ≡ c.blocking → k.history.entries ≡ j.history.entries → Goes number c d j k
   goes_nowhere c d j k tasks timers has blocking entries = record {
-        went = λ m st. record { part = []; new = m; grew = entries ∙ sym (append-nil j.history.entries); follows = refl; registers = (refl, λ s. ap (λ t. registered_of t s) timers); matches = same_machine number hosting_of c d m tasks timers has blocking st };
+    went = λ m st. record { part = []; new = m; grew = entries ∙ sym (append-nil j.history.entries); follows = refl; registers = (refl, λ s. ap (λ t. registered_of t s) timers); matches = same_machine number hosting_of c d m tasks timers has blocking st };
   }
 
   pub goes_on : (a b c : Parts O (Seen P)) (i j k : Journal) → Goes number a b i j → Goes number b c j k → Goes number a c i k
   goes_on a b c i j k p q = record {
-        went = λ m st.
+    went = λ m st.
         let first : Went number a b i j m = p.went m st in
         let second : Went number b c j k first.new = q.went first.new first.matches in
         record {
@@ -84,7 +84,7 @@ module _ {O P : Type 0} (number : O → ℕ) where
 
   pub does_stay : (c d : Parts O (Seen P)) (j k : Journal) → d.tasks ≡ c.tasks → d.timers ≡ c.timers → d.has_timers ≡ c.has_timers → d.blocking ≡ c.blocking → k.history.entries ≡ j.history.entries → Does number Stays c d j k
   does_stay c d j k tasks timers has blocking entries = record {
-        did = λ m st. record {
+    did = λ m st. record {
       went = record { part = []; new = m; grew = entries ∙ sym (append-nil j.history.entries); follows = refl; registers = (refl, λ s. ap (λ t. registered_of t s) timers); matches = same_machine number hosting_of c d m tasks timers has blocking st };
       is = λ rest. (refl, refl);
     };
@@ -93,14 +93,14 @@ module _ {O P : Type 0} (number : O → ℕ) where
   -- what was done are steps of the machine
   pub does_led : (c d : Parts O (Seen P)) (j k : Journal) → Goes number c d j k → Does number Led c d j k
   does_led c d j k p = record {
-        did = λ m st. let went : Went number c d j k m = p.went m st in record { went = went; is = λ rest. (went.part, (refl, went.follows)) };
+    did = λ m st. let went : Went number c d j k m = p.went m st in record { went = went; is = λ rest. (went.part, (refl, went.follows)) };
   }
 
   -- one event
   pub does_by : (c d : Parts O (Seen P)) (j k : Journal) (e : Event) (r : Report) → k.history.entries ≡ j.history.entries ++ (Ran e r) ∷ [] → ((m : Machine) → Matches number hosting_of c m → (new : Machine) × Step m e r new × Matches number hosting_of d new)
       → ((m : Machine) → Matches number hosting_of c m → (s : ℕ) → registered_of d.timers s ≡ registered_after e m s (registered_of c.timers s)) → Does number (IsStep e r) c d j k
   does_by c d j k e r grew steps registered = record {
-        did = λ m st.
+    did = λ m st.
         let left = steps m st in
         record {
           went = record { part = Ran e r ∷ []; new = left.0; grew = grew; follows = (left.0, left.1, refl); registers = (left.0, left.1, (refl, registered m st)); matches = left.2 };
@@ -112,7 +112,7 @@ module _ {O P : Type 0} (number : O → ℕ) where
   pub does_past : (R : Machine → List Entry → Machine → List Entry → Type 0) (c : Parts O (Seen P)) (j k : Journal) (entries : List Entry) → k.history.entries ≡ j.history.entries ++ entries → ((m : Machine) → Follows m entries m) → ((m : Machine) → Matches number hosting_of c m → Registers None m (registered_of c.timers) entries m (registered_of c.timers))
       → ((m : Machine) → Matches number hosting_of c m → (rest : List Entry) → R m (entries ++ rest) m rest) → Does number R c c j k
   does_past R c j k entries grew still ticks is = record {
-        did = λ m st. record { went = record { part = entries; new = m; grew = grew; follows = still m; registers = ticks m st; matches = st }; is = is m st };
+    did = λ m st. record { went = record { part = entries; new = m; grew = grew; follows = still m; registers = ticks m st; matches = st }; is = is m st };
   }
 
   -- a turn
@@ -120,7 +120,7 @@ module _ {O P : Type 0} (number : O → ℕ) where
       → k.history.entries ≡ j.history.entries ++ Ran (event.Turn d.acts.steps e) (report.Turn t d.acts.replies ended) ∷ []
       → ((m : Machine) → Matches number hosting_of d m → Matches number hosting_of x m) → x.timers ≡ d.timers → Does number (IsStep (event.Turn d.acts.steps e) (report.Turn t d.acts.replies ended)) c x j k
   does_turn c d x j k t e ended is kept same timers = record {
-        did = λ m st.
+    did = λ m st.
         let turn : IsTurnOf number t e ended c d m = is m st in
         let told = turn.kept in
         let step : Step m (event.Turn d.acts.steps e) (report.Turn t d.acts.replies ended) (after_turn turn.steps e m) = (sym told.1 ∙ ap (λ s. turn_report s e m) (sym told.0), ap (λ s. after_turn s e m) (sym told.0)) in

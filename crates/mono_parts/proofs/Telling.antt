@@ -26,13 +26,13 @@ tells_on a b c p q r (Park w ∷ xs) ys (at, (mid, (f, (is, rest)))) more = (at,
 -- nothing was done
 pub tells_nothing : {Ends : Course → Type 0} {a b : Told} {p : Course} {j k : Journal} → Ends p → b ≡ a → k.history.entries ≡ j.history.entries → Telling Ends a p j k b
 tells_nothing {Ends} {a} {b} {p} {j} {k} ends same entries = record {
-    tells = ([], (p, (entries ∙ sym (append-nil j.history.entries), (ends, (same, refl)))));
+  tells = ([], (p, (entries ∙ sym (append-nil j.history.entries), (ends, (same, refl)))));
 }
 
 -- these entries
 pub tells_by : {Ends : Course → Type 0} {a b : Told} {p : Course} {j k : Journal} (q : Course) (part : List Entry) → Ends q → Tells a p part b q → k.history.entries ≡ j.history.entries ++ part → Telling Ends a p j k b
 tells_by {Ends} {a} {b} {p} {j} {k} q part ends tells grew = record {
-    tells = (part, (q, (grew, (ends, tells))));
+  tells = (part, (q, (grew, (ends, tells))));
 }
 
 -- one entry
@@ -42,7 +42,7 @@ tells_one {Ends} {a} {b} {p} {j} {k} q entry ends tells grew = tells_by q (entry
 -- one after the other
 pub telling_on : {Ends : Course → Type 0} {a b c : Told} {p q : Course} {i j k : Journal} → Telling (Still q) a p i j b → Telling Ends b q j k c → Telling Ends a p i k c
 telling_on {Ends} {a} {b} {c} {p} {q} {i} {j} {k} f g = record {
-    tells =
+  tells =
       let first = f.tells in
       let second = g.tells in
       let xs : List Entry = first.0 in
@@ -61,7 +61,7 @@ telling_on {Ends} {a} {b} {c} {p} {q} {i} {j} {k} f g = record {
 -- what follows of how it ended
 pub telling_more : {P Q : Course → Type 0} {a b : Told} {p : Course} {j k : Journal} → ((x : Course) → P x → Q x) → Telling P a p j k b → Telling Q a p j k b
 telling_more {P} {Q} {a} {b} {p} {j} {k} law f = record {
-    tells =
+  tells =
       let first = f.tells in
       (first.0, (first.1.0, (first.1.1.0, (law first.1.0 first.1.1.1.0, first.1.1.1.1))));
 }
@@ -69,7 +69,7 @@ telling_more {P} {Q} {a} {b} {p} {j} {k} law f = record {
 -- then something that goes on in any way, and that it does not touch
 pub telling_past : {P : Course → Type 0} {a b c : Told} {p : Course} {i j k : Journal} → Telling P a p i j b → ((q : Course) → Telling (Still q) b q j k c) → Telling P a p i k c
 telling_past {P} {a} {b} {c} {p} {i} {j} {k} f g = record {
-    tells =
+  tells =
       let first = f.tells in
       let q : Course = first.1.0 in
       let second = (g q).tells in
@@ -128,7 +128,7 @@ read_at {a} {b} n m is read = subst (λ x. IsRead x a b) (sym is) read
 -- the turn that was kept
 pub tells_kept : {a b : Told} {j k : Journal} (steps : List TurnStep) (e : End) (r : Report) → b ≡ a → k.history.entries ≡ j.history.entries ++ Ran (event.Turn steps e) r ∷ [] → Telling (Still going) a going j k b
 tells_kept {a} {b} {j} {k} steps e r same kept = record {
-    tells = (Ran (event.Turn steps e) r ∷ [], (going, (kept, (refl, (b, (going, ((same, refl), (refl, refl))))))));
+  tells = (Ran (event.Turn steps e) r ∷ [], (going, (kept, (refl, (b, (going, ((same, refl), (refl, refl))))))));
 }
 
 -- from an empty history, what it then has

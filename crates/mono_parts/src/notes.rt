@@ -65,10 +65,7 @@ fn keep_turn(entries: &mut RoomList<Entry>, is_full: bool, turned: Turned) -> bo
     match acts.take() {
         None => true,
         Some((steps, replies)) => {
-            entries.push(Entry::Ran(
-                Event::Turn(steps, end),
-                Report::Turn(task, replies, ended),
-            ));
+            entries.push(Entry::Ran(Event::Turn(steps, end), Report::Turn(task, replies, ended)));
             false
         }
     }

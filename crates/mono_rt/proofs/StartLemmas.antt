@@ -16,16 +16,16 @@ use Rattle.mono_parts.proofs.Doing.{relation_of}
 use Rattle.mono_parts.proofs.Telling.{told_in}
 use Rattle.mono_rt.specs.Starts.{RunsFrom}
 
-module _ {O P : Type 0} (number : O → ℕ) where
-  -- no runtime could be made
-  pub none_made : (h : Bool) (turns : ℕ) (m : Machine) (t : Told) → RunsFrom number h turns (Err error.Memory) m t
-  none_made h turns m t = record {
-    part = [];
-    new = m;
-    blocked = inl (refl, refl);
-    told = record { new = t; after = going; ends = tt; tells = (refl, refl) };
-  }
+-- no runtime could be made
+pub none_made : {O : Type 0} (number : O → ℕ) (h : Bool) (turns : ℕ) (m : Machine) (t : Told) → RunsFrom number h turns (Err error.Memory) m t
+none_made number h turns m t = record {
+  part = [];
+  new = m;
+  blocked = inl (refl, refl);
+  told = record { new = t; after = going; ends = tt; tells = (refl, refl) };
+}
 
+module _ {O P : Type 0} (number : O → ℕ) where
   pub runs_from : (h : Bool) (turns : ℕ) (answer : Result O RunError) (m : Machine) (t u : Told) (c d : Parts O (Seen P)) (j k : Journal) → Matches number hosting_of c m → j.history.entries ≡ []
       → Does number (Blocked h turns (answer_numbered number answer)) c d j k → Telling (EndsSo answer) t going j k u → RunsFrom number h turns answer m t
   runs_from h turns answer m t u c d j k st empty does tells =

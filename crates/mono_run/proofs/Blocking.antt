@@ -1,5 +1,5 @@
 -- What was told of a run is what the runtime's call tells.
-use Rattle.std.proofs.Common.{◌≡◌, ℕ, zero, suc, true, false, Bool, List, [], length, map, Option, Some, None, Result, Ok, Err, IfOk, OnOk, refl, sym, subst, arith}
+use Rattle.std.proofs.Common.{◌∙◌, ap, ◌≡◌, ℕ, zero, suc, true, false, Bool, List, [], length, map, Option, Some, None, Result, Ok, Err, IfOk, OnOk, refl, sym, subst, arith}
 use Rattle.std.specs.Prelude.{⊤}
 use Rattle.mono_machine.specs.Machine.{Machine, start_machine}
 use Rattle.mono_machine.specs.declared.events.Limits.{Limits}

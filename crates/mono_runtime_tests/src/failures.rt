@@ -98,6 +98,12 @@ fn sleeping<R: Host + Abort>(
 #[test]
 fn each_park_may_fail(rt: HostRuntime) {
     let alloc = rt.alloc();
-    assert_eq!(rt; sleeping(&rt, alloc, 0, 6), (Err(RunError::Driver), 8, Some(0)));
-    assert_eq!(rt; sleeping(&rt, alloc, 1, 10), (Err(RunError::Driver), 12, Some(64000000)));
+    assert_eq!(rt;
+        sleeping(&rt, alloc, 0, 6),
+        (Err(RunError::Driver), 8, Some(0))
+    );
+    assert_eq!(rt;
+        sleeping(&rt, alloc, 1, 10),
+        (Err(RunError::Driver), 12, Some(64000000))
+    );
 }

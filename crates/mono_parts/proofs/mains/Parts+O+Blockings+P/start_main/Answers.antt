@@ -65,3 +65,9 @@ returns-in-Err-clause-told g c = λ told. tells_nothing refl refl c.reserve.ensu
 
 pub returns-in-Err-Memory-clause-unmade : goal.returns-in-Err-Memory-clause-unmade
 returns-in-Err-Memory-clause-unmade g c = does_stay g.O.Outcome.output_number c.args.self.now _ c.args.journal.now c.reserve.new.self (rw c.in-Err-Memory.is at c.spawn.ensures.refused) refl refl refl c.reserve.ensures.history
+
+pub returns-in-Err-Memory-clause-goes : goal.returns-in-Err-Memory-clause-goes
+returns-in-Err-Memory-clause-goes g c = goes_nowhere g.O.Outcome.output_number c.args.self.now _ c.args.journal.now c.reserve.new.self (rw c.in-Err-Memory.is at c.spawn.ensures.refused) refl refl refl c.reserve.ensures.history
+
+pub returns-in-Err-Memory-clause-told : goal.returns-in-Err-Memory-clause-told
+returns-in-Err-Memory-clause-told g c = λ told. tells_nothing refl refl c.reserve.ensures.history
