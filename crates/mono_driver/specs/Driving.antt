@@ -19,9 +19,9 @@ ReadsTime (Some t) n = n ≡ t
 abbrev pub HasRisen : ℕ → ℕ → Type 0
 HasRisen before now = (before < now) ⊎ (2 ^ 64 - 1 ≤ before)
 
--- a call fails only where the count of faults rose, and that count never falls
+-- a call fails if and only if the count of faults rises in it
 abbrev pub Faults : Result ⊤ DriverFault → ℕ → ℕ → Type 0
-Faults (Ok x) before now = before ≤ now
+Faults (Ok x) before now = now ≡ before
 Faults (Err e) before now = (before ≤ now) × HasRisen before now
 
 -- A driver that tells that it can't fail answers Ok; its count of faults stays, and so does what it tells.

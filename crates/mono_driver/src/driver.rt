@@ -15,7 +15,7 @@ pub struct DriverFault;
 
 /// What a runtime waits on.
 ///
-/// A driver's counts are the clock's members `faults`, `parks` and `can_fail`. A call answers Err only where the count of
+/// A driver's counts are the clock's members `faults`, `parks` and `can_fail`. A call answers Err if and only if the count of
 /// faults rose in it (`faults`), and that count never falls. A driver that tells that it can't fail answers no Err, and
 /// neither its count of faults nor what it tells changes by a call (`sure`). Each `park` and `park_timeout` raises the count
 /// of parks by one, at most to 2^64 - 1, and no other call changes it (`parks`). Of the calls here only a `park_timeout`

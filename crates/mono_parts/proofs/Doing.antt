@@ -34,13 +34,13 @@ use Rattle.mono_parts.proofs.Calling.{other_tasks}
 use Rattle.mono_parts.proofs.Draining.{remotes_numbered, listed_numbered, drained_is, drained_follow}
 use Rattle.mono_jobs.specs.Spawning.{Seen}
 use Rattle.mono_parts.specs.Stands.{hosting_of, Matches}
-use Rattle.mono_parts.specs.Journals.{Did, Does, Led, Stays, IsStep, IsReading, pushed}
+use Rattle.mono_parts.specs.Journals.{Did, Does, Led, Stays, IsStep, IsReading}
 use Rattle.mono_parts.specs.declared.parts.Parts.{Parts}
 use Rattle.mono_parts.specs.declared.journals.Entry.{Entry}
 use Rattle.mono_parts.specs.declared.journals.Journal.{Journal}
 use Rattle.mono_time.specs.Timers.{registered_of}
 use Rattle.mono_parts.proofs.Registering.{registers_on, drained_registers}
-use Rattle.mono_parts.proofs.Going.{follows_on, pushed_open, goes_on, goes_of, does_led, does_stay}
+use Rattle.mono_parts.proofs.Going.{follows_on, goes_on, goes_of, does_led, does_stay}
 
 abbrev pub Relation : Type 1
 Relation = Machine → List Entry → Machine → List Entry → Type 0
@@ -57,9 +57,8 @@ some_queue [] h m new part rest some is = absurd (omega (arith, some))
 some_queue (x ∷ xs) h m new part rest some is = is
 
 -- two entries that are no events
-pub two_pushed : (i j k : Journal) (one two : Entry) → j.is_full ≡ i.is_full → k.is_full ≡ j.is_full → j.entries.items ≡ pushed i one → k.entries.items ≡ pushed j two → k.is_full ≡ false → k.entries.items ≡ i.entries.items ++ one ∷ two ∷ []
-two_pushed i j k one two first second a b unfull =
-    b ∙ pushed_open j two (sym second ∙ unfull) ∙ ap (λ xs. xs ++ two ∷ []) (a ∙ pushed_open i one (sym first ∙ sym second ∙ unfull)) ∙ append_assoc i.entries.items (one ∷ []) (two ∷ [])
+pub two_pushed : (i j k : Journal) (one two : Entry) → j.history.entries ≡ i.history.entries ++ one ∷ [] → k.history.entries ≡ j.history.entries ++ two ∷ [] → k.history.entries ≡ i.history.entries ++ one ∷ two ∷ []
+two_pushed i j k one two a b = b ∙ ap (λ xs. xs ++ two ∷ []) a ∙ append_assoc i.history.entries (one ∷ []) (two ∷ [])
 
 suc_one : (n : ℕ) → suc n ≡ n + 1
 suc_one n = omega arith
@@ -90,17 +89,16 @@ module _ {O P : Type 0} (number : O → ℕ) where
       → ((m mid new : Machine) (xs ys zs : List Entry) → Matches number hosting_of a m → Matches number hosting_of b mid → Matches number hosting_of c new → R m xs mid ys → S mid ys new zs → T m xs new zs)
       → Does number R a b i j → Does number S b c j k → Does number T a c i k
   does_on R S T a b c i j k law p q = record {
-    opens = λ unfull. p.opens (q.opens unfull);
-    did = λ m st unfull.
-        let first : Did number R a b i j m = p.did m st (q.opens unfull) in
-        let second : Did number S b c j k first.went.new = q.did first.went.new first.went.matches unfull in
+    did = λ m st.
+        let first : Did number R a b i j m = p.did m st in
+        let second : Did number S b c j k first.went.new = q.did first.went.new first.went.matches in
         let xs : List Entry = first.went.part in
         let ys : List Entry = second.went.part in
         record {
           went = record {
             part = xs ++ ys;
             new = second.went.new;
-            grew = second.went.grew ∙ ap (λ zs. zs ++ ys) first.went.grew ∙ append_assoc i.entries.items xs ys;
+            grew = second.went.grew ∙ ap (λ zs. zs ++ ys) first.went.grew ∙ append_assoc i.history.entries xs ys;
             follows = follows_on m first.went.new second.went.new xs ys first.went.follows second.went.follows;
             registers = registers_on None m first.went.new second.went.new (registered_of a.timers) (registered_of b.timers) (registered_of c.timers) xs ys first.went.registers second.went.registers;
             matches = second.went.matches;
@@ -115,9 +113,8 @@ module _ {O P : Type 0} (number : O → ℕ) where
       → ((m new : Machine) (xs zs : List Entry) → Matches number hosting_of c m → Matches number hosting_of d new → R m xs new zs → T m xs new zs)
       → Does number R c d j k → Does number T c d j k
   does_more R T c d j k law p = record {
-    opens = p.opens;
-    did = λ m st unfull.
-        let first : Did number R c d j k m = p.did m st unfull in
+    did = λ m st.
+        let first : Did number R c d j k m = p.did m st in
         record { went = first.went; is = λ rest. law m first.went.new (first.went.part ++ rest) rest st first.went.matches (first.is rest) };
   }
 
@@ -127,12 +124,11 @@ module _ {O P : Type 0} (number : O → ℕ) where
 
   -- what waited is drained
   pub does_drain : (c d : Parts O (Seen P)) (j k l : Journal) (ts woken : List ℕ) → AllPairs (λ s t. s ≢ t) ts
-      → (k.is_full ≡ false → k.entries.items ≡ j.entries.items ++ remotes c.tasks.tasks ts) → k.is_full ≡ j.is_full → woken ≡ listed c.tasks.tasks ts
-      → l.entries.items ≡ pushed k (drain_of woken) → l.is_full ≡ k.is_full
+      → k.history.entries ≡ j.history.entries ++ remotes c.tasks.tasks ts → woken ≡ listed c.tasks.tasks ts
+      → l.history.entries ≡ k.history.entries ++ (drain_of woken) ∷ []
       → d.tasks ≡ schedule.with_tasks c.tasks (all_woken c.tasks.tasks woken) → d.timers ≡ c.timers → d.has_timers ≡ c.has_timers → d.blocking ≡ c.blocking → Does number Drained c d j l
-  does_drain c d j k l ts woken once told same are grew full tasks timers has blocking = record {
-    opens = λ unfull. sym same ∙ sym full ∙ unfull;
-    did = λ m st unfull.
+  does_drain c d j k l ts woken once told are grew tasks timers has blocking = record {
+    did = λ m st.
         let before : remotes c.tasks.tasks ts ≡ remotes m.tasks ts = sym (remotes_numbered number c.tasks.tasks ts) ∙ ap (λ x. remotes x ts) st.tasks in
         let mine : woken ≡ listed m.tasks ts = are ∙ sym (listed_numbered number c.tasks.tasks ts) ∙ ap (λ x. listed x ts) st.tasks in
         let new : Machine = with_tasks m (all_woken m.tasks (listed m.tasks ts)) in
@@ -142,8 +138,8 @@ module _ {O P : Type 0} (number : O → ℕ) where
           went = record {
             part = part;
             new = new;
-            grew = grew ∙ pushed_open k (drain_of woken) (sym full ∙ unfull) ∙ ap (λ xs. xs ++ drain_of woken ∷ []) (told (sym full ∙ unfull) ∙ ap (λ xs. j.entries.items ++ xs) before)
-                ∙ append_assoc j.entries.items (remotes m.tasks ts) (drain_of woken ∷ []) ∙ ap (λ x. j.entries.items ++ (remotes m.tasks ts ++ drain_of x ∷ [])) mine;
+            grew = grew ∙ ap (λ xs. xs ++ drain_of woken ∷ []) (told ∙ ap (λ xs. j.history.entries ++ xs) before)
+                ∙ append_assoc j.history.entries (remotes m.tasks ts) (drain_of woken ∷ []) ∙ ap (λ x. j.history.entries ++ (remotes m.tasks ts ++ drain_of x ∷ [])) mine;
             follows = drained_follow m new new part [] (drained []) refl;
             registers = drained_registers m new new (registered_of c.timers) (registered_of d.timers) part [] (drained []) (refl, λ s. ap (λ x. registered_of x s) timers);
             matches = other_tasks number hosting_of c d m (all_woken m.tasks (listed m.tasks ts)) st
@@ -173,7 +169,7 @@ module _ {O P : Type 0} (number : O → ℕ) where
   turns_more n a b c i j k p q = does_on (Turns n) OneTurn (Turns (n + 1)) a b c i j k (λ m mid new xs ys zs stm std stn turns one. subst (λ x. Turns x m xs new zs) (suc_one n) (mid, (ys, (turns, one)))) p q
 
   pub no_turns : (c : Parts O (Seen P)) (j : Journal) → Does number (Turns 0) c c j j
-  no_turns c j = does_stay number c c j j refl refl refl refl refl refl
+  no_turns c j = does_stay number c c j j refl refl refl refl refl
 
   -- the turns that were done are a round
   pub does_round : (n units left : ℕ) (c d : Parts O (Seen P)) (j k : Journal) → Does number (Turns n) c d j k → n ≤ min units (2 * length c.tasks.tasks.queue + 1) → (d.tasks.tasks.queue ≡ []) ⊎ (n ≡ min units (2 * length c.tasks.tasks.queue + 1)) → left ≡ units - n → Does number (Round units left) c d j k
@@ -307,9 +303,9 @@ module _ {O P : Type 0} (number : O → ℕ) where
   blocks_refused error.Turns h units c d j k stays p = absurd p
   blocks_refused error.Driver h units c d j k stays p = absurd p
 
-  -- from an empty journal, what it then has stands in the relation
-  pub relation_of : (R : Relation) (c d : Parts O (Seen P)) (j k l : Journal) (m : Machine) → Matches number hosting_of c m → j.entries.items ≡ [] → l ≡ k → Does number R c d j k → l.is_full ≡ false → (new : Machine) × R m l.entries.items new []
-  relation_of R c d j k l m st empty same does unfull =
-      let did = does.did m st (ap (λ x. x.is_full) (sym same) ∙ unfull) in
-      let part : did.went.part ++ [] ≡ l.entries.items = append-nil did.went.part ∙ sym (ap (λ x. x.entries.items) same ∙ did.went.grew ∙ ap (λ xs. xs ++ did.went.part) empty) in
+  -- from an empty history, what it then has stands in the relation
+  pub relation_of : (R : Relation) (c d : Parts O (Seen P)) (j k l : Journal) (m : Machine) → Matches number hosting_of c m → j.history.entries ≡ [] → l ≡ k → Does number R c d j k → (new : Machine) × R m l.history.entries new []
+  relation_of R c d j k l m st empty same does =
+      let did = does.did m st in
+      let part : did.went.part ++ [] ≡ l.history.entries = append-nil did.went.part ∙ sym (ap (λ x. x.history.entries) same ∙ did.went.grew ∙ ap (λ xs. xs ++ did.went.part) empty) in
       (did.went.new, subst (λ xs. R m xs did.went.new []) part (did.is []))

@@ -24,7 +24,7 @@ use Rattle.mono_parts.specs.Numbered.{numbered, drop_numbered}
 use Rattle.mono_jobs.specs.Spawning.{Seen}
 use Rattle.mono_parts.specs.Stands.{hosting_of, Matches}
 use Rattle.mono_parts.specs.Turns.{IsTurnOf}
-use Rattle.mono_parts.specs.Journals.{events_in, reports_in, Follows, Registers, Went, Goes, Does, Led, Stays, IsStep, pushed}
+use Rattle.mono_parts.specs.Journals.{events_in, reports_in, Follows, Registers, Went, Goes, Does, Led, Stays, IsStep}
 use Rattle.mono_parts.specs.declared.parts.Parts.{Parts}
 use Rattle.mono_parts.specs.declared.journals.Entry.{Entry}
 use Rattle.mono_parts.specs.declared.journals.Entry.TheVariants.{Ran, Now, Park}
@@ -58,26 +58,21 @@ follows_run a b (Ran e r ∷ xs) (mid, step, rest) = (mid, step, follows_run mid
 follows_run a b (Now n ∷ xs) p = follows_run a b xs p
 follows_run a b (Park v ∷ xs) p = follows_run a b xs p
 
-pub pushed_open : (j : Journal) (entry : Entry) → j.is_full ≡ false → pushed j entry ≡ j.entries.items ++ entry ∷ []
-pushed_open j entry is = ap (λ b. cond b j.entries.items (j.entries.items ++ entry ∷ [])) is
-
 module _ {O P : Type 0} (number : O → ℕ) where
-  pub goes_nowhere : (c d : Parts O (Seen P)) (j k : Journal) → d.tasks ≡ c.tasks → d.timers ≡ c.timers → d.has_timers ≡ c.has_timers → d.blocking ≡ c.blocking → k.entries.items ≡ j.entries.items → k.is_full ≡ j.is_full → Goes number c d j k
-  goes_nowhere c d j k tasks timers has blocking entries full = record {
-    opens = λ unfull. sym full ∙ unfull;
-    went = λ m st unfull. record { part = []; new = m; grew = entries ∙ sym (append-nil j.entries.items); follows = refl; registers = (refl, λ s. ap (λ t. registered_of t s) timers); matches = same_machine number hosting_of c d m tasks timers has blocking st };
+  pub goes_nowhere : (c d : Parts O (Seen P)) (j k : Journal) → d.tasks ≡ c.tasks → d.timers ≡ c.timers → d.has_timers ≡ c.has_timers → d.blocking ≡ c.blocking → k.history.entries ≡ j.history.entries → Goes number c d j k
+  goes_nowhere c d j k tasks timers has blocking entries = record {
+    went = λ m st. record { part = []; new = m; grew = entries ∙ sym (append-nil j.history.entries); follows = refl; registers = (refl, λ s. ap (λ t. registered_of t s) timers); matches = same_machine number hosting_of c d m tasks timers has blocking st };
   }
 
   pub goes_on : (a b c : Parts O (Seen P)) (i j k : Journal) → Goes number a b i j → Goes number b c j k → Goes number a c i k
   goes_on a b c i j k p q = record {
-    opens = λ unfull. p.opens (q.opens unfull);
-    went = λ m st unfull.
-        let first : Went number a b i j m = p.went m st (q.opens unfull) in
-        let second : Went number b c j k first.new = q.went first.new first.matches unfull in
+    went = λ m st.
+        let first : Went number a b i j m = p.went m st in
+        let second : Went number b c j k first.new = q.went first.new first.matches in
         record {
           part = first.part ++ second.part;
           new = second.new;
-          grew = second.grew ∙ ap (λ xs. xs ++ second.part) first.grew ∙ append_assoc i.entries.items first.part second.part;
+          grew = second.grew ∙ ap (λ xs. xs ++ second.part) first.grew ∙ append_assoc i.history.entries first.part second.part;
           follows = follows_on m first.new second.new first.part second.part first.follows second.follows;
           registers = registers_on None m first.new second.new (registered_of a.timers) (registered_of b.timers) (registered_of c.timers) first.part second.part first.registers second.registers;
           matches = second.matches;
@@ -85,13 +80,12 @@ module _ {O P : Type 0} (number : O → ℕ) where
   }
 
   pub goes_of : (R : Machine → List Entry → Machine → List Entry → Type 0) (c d : Parts O (Seen P)) (j k : Journal) → Does number R c d j k → Goes number c d j k
-  goes_of R c d j k is = record { opens = is.opens; went = λ m st unfull. (is.did m st unfull).went }
+  goes_of R c d j k is = record { went = λ m st. (is.did m st).went }
 
-  pub does_stay : (c d : Parts O (Seen P)) (j k : Journal) → d.tasks ≡ c.tasks → d.timers ≡ c.timers → d.has_timers ≡ c.has_timers → d.blocking ≡ c.blocking → k.entries.items ≡ j.entries.items → k.is_full ≡ j.is_full → Does number Stays c d j k
-  does_stay c d j k tasks timers has blocking entries full = record {
-    opens = λ unfull. sym full ∙ unfull;
-    did = λ m st unfull. record {
-      went = record { part = []; new = m; grew = entries ∙ sym (append-nil j.entries.items); follows = refl; registers = (refl, λ s. ap (λ t. registered_of t s) timers); matches = same_machine number hosting_of c d m tasks timers has blocking st };
+  pub does_stay : (c d : Parts O (Seen P)) (j k : Journal) → d.tasks ≡ c.tasks → d.timers ≡ c.timers → d.has_timers ≡ c.has_timers → d.blocking ≡ c.blocking → k.history.entries ≡ j.history.entries → Does number Stays c d j k
+  does_stay c d j k tasks timers has blocking entries = record {
+    did = λ m st. record {
+      went = record { part = []; new = m; grew = entries ∙ sym (append-nil j.history.entries); follows = refl; registers = (refl, λ s. ap (λ t. registered_of t s) timers); matches = same_machine number hosting_of c d m tasks timers has blocking st };
       is = λ rest. (refl, refl);
     };
   }
@@ -99,46 +93,42 @@ module _ {O P : Type 0} (number : O → ℕ) where
   -- what was done are steps of the machine
   pub does_led : (c d : Parts O (Seen P)) (j k : Journal) → Goes number c d j k → Does number Led c d j k
   does_led c d j k p = record {
-    opens = p.opens;
-    did = λ m st unfull. let went : Went number c d j k m = p.went m st unfull in record { went = went; is = λ rest. (went.part, (refl, went.follows)) };
+    did = λ m st. let went : Went number c d j k m = p.went m st in record { went = went; is = λ rest. (went.part, (refl, went.follows)) };
   }
 
   -- one event
-  pub does_by : (c d : Parts O (Seen P)) (j k : Journal) (e : Event) (r : Report) → k.entries.items ≡ pushed j (Ran e r) → k.is_full ≡ j.is_full → ((m : Machine) → Matches number hosting_of c m → (new : Machine) × Step m e r new × Matches number hosting_of d new)
+  pub does_by : (c d : Parts O (Seen P)) (j k : Journal) (e : Event) (r : Report) → k.history.entries ≡ j.history.entries ++ (Ran e r) ∷ [] → ((m : Machine) → Matches number hosting_of c m → (new : Machine) × Step m e r new × Matches number hosting_of d new)
       → ((m : Machine) → Matches number hosting_of c m → (s : ℕ) → registered_of d.timers s ≡ registered_after e m s (registered_of c.timers s)) → Does number (IsStep e r) c d j k
-  does_by c d j k e r grew full steps registered = record {
-    opens = λ unfull. sym full ∙ unfull;
-    did = λ m st unfull.
+  does_by c d j k e r grew steps registered = record {
+    did = λ m st.
         let left = steps m st in
         record {
-          went = record { part = Ran e r ∷ []; new = left.0; grew = grew ∙ pushed_open j (Ran e r) (sym full ∙ unfull); follows = (left.0, left.1, refl); registers = (left.0, left.1, (refl, registered m st)); matches = left.2 };
+          went = record { part = Ran e r ∷ []; new = left.0; grew = grew; follows = (left.0, left.1, refl); registers = (left.0, left.1, (refl, registered m st)); matches = left.2 };
           is = λ rest. (refl, left.1);
         };
   }
 
   -- entries that are no events
-  pub does_past : (R : Machine → List Entry → Machine → List Entry → Type 0) (c : Parts O (Seen P)) (j k : Journal) (entries : List Entry) → (k.is_full ≡ false → k.entries.items ≡ j.entries.items ++ entries) → k.is_full ≡ j.is_full → ((m : Machine) → Follows m entries m) → ((m : Machine) → Matches number hosting_of c m → Registers None m (registered_of c.timers) entries m (registered_of c.timers))
+  pub does_past : (R : Machine → List Entry → Machine → List Entry → Type 0) (c : Parts O (Seen P)) (j k : Journal) (entries : List Entry) → k.history.entries ≡ j.history.entries ++ entries → ((m : Machine) → Follows m entries m) → ((m : Machine) → Matches number hosting_of c m → Registers None m (registered_of c.timers) entries m (registered_of c.timers))
       → ((m : Machine) → Matches number hosting_of c m → (rest : List Entry) → R m (entries ++ rest) m rest) → Does number R c c j k
-  does_past R c j k entries grew full still ticks is = record {
-    opens = λ unfull. sym full ∙ unfull;
-    did = λ m st unfull. record { went = record { part = entries; new = m; grew = grew unfull; follows = still m; registers = ticks m st; matches = st }; is = is m st };
+  does_past R c j k entries grew still ticks is = record {
+    did = λ m st. record { went = record { part = entries; new = m; grew = grew; follows = still m; registers = ticks m st; matches = st }; is = is m st };
   }
 
   -- a turn
-  pub does_turn : (c d x : Parts O (Seen P)) (j k : Journal) (t : ℕ) (e : End) (ended : Ended) → (k.is_full ≡ false → (m : Machine) → Matches number hosting_of c m → IsTurnOf number t e ended c d m)
-      → (k.is_full ≡ false → (j.is_full ≡ false) × (d.acts.is_full ≡ false) × (k.entries.items ≡ j.entries.items ++ Ran (event.Turn d.acts.steps e) (report.Turn t d.acts.replies ended) ∷ []))
+  pub does_turn : (c d x : Parts O (Seen P)) (j k : Journal) (t : ℕ) (e : End) (ended : Ended) → ((m : Machine) → Matches number hosting_of c m → IsTurnOf number t e ended c d m)
+      → k.history.entries ≡ j.history.entries ++ Ran (event.Turn d.acts.steps e) (report.Turn t d.acts.replies ended) ∷ []
       → ((m : Machine) → Matches number hosting_of d m → Matches number hosting_of x m) → x.timers ≡ d.timers → Does number (IsStep (event.Turn d.acts.steps e) (report.Turn t d.acts.replies ended)) c x j k
   does_turn c d x j k t e ended is kept same timers = record {
-    opens = λ unfull. (kept unfull).0;
-    did = λ m st unfull.
-        let turn : IsTurnOf number t e ended c d m = is unfull m st in
-        let told = turn.kept (kept unfull).1 in
+    did = λ m st.
+        let turn : IsTurnOf number t e ended c d m = is m st in
+        let told = turn.kept in
         let step : Step m (event.Turn d.acts.steps e) (report.Turn t d.acts.replies ended) (after_turn turn.steps e m) = (sym told.1 ∙ ap (λ s. turn_report s e m) (sym told.0), ap (λ s. after_turn s e m) (sym told.0)) in
         record {
           went = record {
             part = Ran (event.Turn d.acts.steps e) (report.Turn t d.acts.replies ended) ∷ [];
             new = after_turn turn.steps e m;
-            grew = (kept unfull).2;
+            grew = kept;
             follows = (after_turn turn.steps e m, step, refl);
             registers = (after_turn turn.steps e m, step, (refl, λ s. ap (λ ts. registered_of ts s) timers ∙ turn.registered s ∙ ap (λ xs. registered_after (event.Turn xs e) m s (registered_of c.timers s)) (sym told.0)));
             matches = same _ turn.matches;
@@ -148,15 +138,15 @@ module _ {O P : Type 0} (number : O → ℕ) where
   }
 
   -- a clock step
-  pub does_clock : (c d : Parts O (Seen P)) (j k : Journal) (n now : ℕ) (fired wakers : List ℕ) → n ≡ now → now ≤ max_nanos → k.entries.items ≡ pushed j (Ran (event.Clock n) (report.Fired fired)) → k.is_full ≡ j.is_full
+  pub does_clock : (c d : Parts O (Seen P)) (j k : Journal) (n now : ℕ) (fired wakers : List ℕ) → n ≡ now → now ≤ max_nanos → k.history.entries ≡ j.history.entries ++ (Ran (event.Clock n) (report.Fired fired)) ∷ []
       → c.has_timers ≡ true
       → ((m : Sleeps) → Keeps c.timers m → Keeps d.timers (all_fired (sleep.at_clock m now) fired) × FireInTurn (sleep.at_clock m now).table (sleep.at_clock m now).greatest fired)
       → ((m : Sleeps) → Keeps c.timers m → wakers ≡ wakers_of (sleep.at_clock m now) fired)
       → elapsed_tick d.timers ≡ (sleeps_of d.timers).greatest → IsNoneArmedUpTo (sleeps_of d.timers)
       → ((s : ℕ) → registered_of d.timers s ≡ stepped_registered (elapsed_tick c.timers) (elapsed_tick d.timers) (value_at (sleeps_of c.timers).table s) (registered_of c.timers s))
       → d.tasks ≡ schedule.with_tasks c.tasks (all_woken c.tasks.tasks wakers) → d.has_timers ≡ c.has_timers → d.blocking ≡ c.blocking → Does number (IsStep (event.Clock n) (report.Fired fired)) c d j k
-  does_clock c d j k n now fired wakers is below grew full are_there fires woken gone none stepped tasks has blocking =
-      does_by c d j k (event.Clock n) (report.Fired fired) grew full (λ m st.
+  does_clock c d j k n now fired wakers is below grew are_there fires woken gone none stepped tasks has blocking =
+      does_by c d j k (event.Clock n) (report.Fired fired) grew (λ m st.
       let keeps : Keeps c.timers m.sleeps = record { stands = st.sleeps; is_enabled = st.enabled ∙ are_there } in
       let fire = fires m.sleeps keeps in
       let left : Machine = after_fires (at_clock m now) fired in
@@ -183,10 +173,10 @@ module _ {O P : Type 0} (number : O → ℕ) where
   pub spawn_full : (c : Parts O (Seen P)) (m : Machine) → Matches number hosting_of c m → (b : Bool) → is_full c.tasks.tasks.table c.tasks.tasks.limit ≡ b → is_full m.tasks.table m.tasks.limit ≡ b
   spawn_full c m st b is = ap (λ x. is_full x.table x.limit) (sym st.tasks) ∙ full_numbered number c.tasks.tasks ∙ is
 
-  pub does_spawn : (c d : Parts O (Seen P)) (j k : Journal) (t : ℕ) → k.entries.items ≡ pushed j (Ran (event.Act act.Spawn) (report.Reply (reply.Task t))) → k.is_full ≡ j.is_full
+  pub does_spawn : (c d : Parts O (Seen P)) (j k : Journal) (t : ℕ) → k.history.entries ≡ j.history.entries ++ (Ran (event.Act act.Spawn) (report.Reply (reply.Task t))) ∷ []
       → is_full c.tasks.tasks.table c.tasks.tasks.limit ≡ false → t ≡ next_number c.tasks.tasks.table → d.tasks ≡ schedule.with_tasks c.tasks (spawned c.tasks.tasks) → d.timers ≡ c.timers → d.has_timers ≡ c.has_timers → d.blocking ≡ c.blocking → Does number (IsStep (event.Act act.Spawn) (report.Reply (reply.Task t))) c d j k
-  does_spawn c d j k t grew full room at tasks timers has blocking =
-      does_by c d j k (event.Act act.Spawn) (report.Reply (reply.Task t)) grew full (λ m st.
+  does_spawn c d j k t grew room at tasks timers has blocking =
+      does_by c d j k (event.Act act.Spawn) (report.Reply (reply.Task t)) grew (λ m st.
       let free : is_full m.tasks.table m.tasks.limit ≡ false = spawn_full c m st false room in
       let outcome : act_outcome act.Spawn m ≡ answered (reply.Task (next_number m.tasks.table)) (with_tasks m (spawned m.tasks)) = ap (λ b. cond b (refused refusal.AtCapacity m) (answered (reply.Task (next_number m.tasks.table)) (with_tasks m (spawned m.tasks)))) free in (
         with_tasks m (spawned m.tasks),
@@ -195,37 +185,37 @@ module _ {O P : Type 0} (number : O → ℕ) where
       ))
       (λ m st. stays_registered c.timers d.timers m.sleeps _ timers (spawn-sleeps m))
 
-  pub does_full : (c d : Parts O (Seen P)) (j k : Journal) → k.entries.items ≡ pushed j (Ran (event.Act act.Spawn) (report.Reply (reply.Refused refusal.AtCapacity))) → k.is_full ≡ j.is_full
+  pub does_full : (c d : Parts O (Seen P)) (j k : Journal) → k.history.entries ≡ j.history.entries ++ (Ran (event.Act act.Spawn) (report.Reply (reply.Refused refusal.AtCapacity))) ∷ []
       → is_full c.tasks.tasks.table c.tasks.tasks.limit ≡ true → d.tasks ≡ c.tasks → d.timers ≡ c.timers → d.has_timers ≡ c.has_timers → d.blocking ≡ c.blocking → Does number (IsStep (event.Act act.Spawn) (report.Reply (reply.Refused refusal.AtCapacity))) c d j k
-  does_full c d j k grew full no_room tasks timers has blocking =
-      does_by c d j k (event.Act act.Spawn) (report.Reply (reply.Refused refusal.AtCapacity)) grew full (λ m st.
+  does_full c d j k grew no_room tasks timers has blocking =
+      does_by c d j k (event.Act act.Spawn) (report.Reply (reply.Refused refusal.AtCapacity)) grew (λ m st.
       let outcome : act_outcome act.Spawn m ≡ refused refusal.AtCapacity m = ap (λ b. cond b (refused refusal.AtCapacity m) (answered (reply.Task (next_number m.tasks.table)) (with_tasks m (spawned m.tasks)))) (spawn_full c m st true no_room) in
       (m, (sym (ap (λ o. report.Reply o.reply) outcome), sym (ap (λ o. o.machine) outcome)), same_machine number hosting_of c d m tasks timers has blocking st))
       (λ m st. stays_registered c.timers d.timers m.sleeps _ timers (spawn-sleeps m))
 
   -- the handle of a task is dropped outside of a turn
-  pub does_drop : (c d : Parts O (Seen P)) (j k : Journal) (t : ℕ) (r : Reply) → k.entries.items ≡ pushed j (Ran (event.Act (act.DropJoin t)) (report.Reply r)) → k.is_full ≡ j.is_full
+  pub does_drop : (c d : Parts O (Seen P)) (j k : Journal) (t : ℕ) (r : Reply) → k.history.entries ≡ j.history.entries ++ (Ran (event.Act (act.DropJoin t)) (report.Reply r)) ∷ []
       → r ≡ drop_reply (drop_numbered number (drop_answer c.tasks.tasks t)) → d.tasks ≡ schedule.with_tasks c.tasks (join_dropped c.tasks.tasks t) → d.timers ≡ c.timers → d.has_timers ≡ c.has_timers → d.blocking ≡ c.blocking → Does number (IsStep (event.Act (act.DropJoin t)) (report.Reply r)) c d j k
-  does_drop c d j k t r grew full is tasks timers has blocking =
-      does_by c d j k (event.Act (act.DropJoin t)) (report.Reply r) grew full (λ m st. (
+  does_drop c d j k t r grew is tasks timers has blocking =
+      does_by c d j k (event.Act (act.DropJoin t)) (report.Reply r) grew (λ m st. (
         with_tasks m (join_dropped m.tasks t),
         (ap report.Reply (is ∙ ap drop_reply (sym (drop_answer-numbered number c.tasks.tasks t) ∙ ap (λ x. drop_answer x t) st.tasks)), refl),
         other_tasks number hosting_of c d m (join_dropped m.tasks t) st (ap (λ x. numbered number x.tasks) tasks ∙ numbered-dropped number c.tasks.tasks t ∙ ap (λ x. join_dropped x t) st.tasks) timers has blocking,
       ))
       (λ m st. stays_registered c.timers d.timers m.sleeps _ timers refl)
 
-  -- from an empty journal, what it then has is a run
-  pub run_of : (c d : Parts O (Seen P)) (j k l : Journal) (m : Machine) → Matches number hosting_of c m → j.entries.items ≡ [] → l ≡ k → Goes number c d j k → l.is_full ≡ false → (new : Machine) × Run m (events_in l.entries.items) (reports_in l.entries.items) new
-  run_of c d j k l m st empty same goes unfull =
-      let went = goes.went m st (ap (λ x. x.is_full) (sym same) ∙ unfull) in
-      let part : went.part ≡ l.entries.items = sym (ap (λ x. x.entries.items) same ∙ went.grew ∙ ap (λ xs. xs ++ went.part) empty) in
+  -- from an empty history, what it then has is a run
+  pub run_of : (c d : Parts O (Seen P)) (j k l : Journal) (m : Machine) → Matches number hosting_of c m → j.history.entries ≡ [] → l ≡ k → Goes number c d j k → (new : Machine) × Run m (events_in l.history.entries) (reports_in l.history.entries) new
+  run_of c d j k l m st empty same goes =
+      let went = goes.went m st in
+      let part : went.part ≡ l.history.entries = sym (ap (λ x. x.history.entries) same ∙ went.grew ∙ ap (λ xs. xs ++ went.part) empty) in
       (went.new, subst (λ xs. Run m (events_in xs) (reports_in xs) went.new) part (follows_run m went.new went.part went.follows))
 
   -- and the parks are those of the wheel, where nothing was registered
-  pub registers_of : (c d : Parts O (Seen P)) (j k l : Journal) (m : Machine) → Matches number hosting_of c m → j.entries.items ≡ [] → l ≡ k → ((s : ℕ) → registered_of c.timers s ≡ None) → Goes number c d j k → l.is_full ≡ false
-      → (new : Machine) × ((left : ℕ → Option ℕ) × Registers None m (λ s. None) l.entries.items new left)
-  registers_of c d j k l m st empty same none goes unfull =
-      let went = goes.went m st (ap (λ x. x.is_full) (sym same) ∙ unfull) in
-      let part : went.part ≡ l.entries.items = sym (ap (λ x. x.entries.items) same ∙ went.grew ∙ ap (λ xs. xs ++ went.part) empty) in
+  pub registers_of : (c d : Parts O (Seen P)) (j k l : Journal) (m : Machine) → Matches number hosting_of c m → j.history.entries ≡ [] → l ≡ k → ((s : ℕ) → registered_of c.timers s ≡ None) → Goes number c d j k
+      → (new : Machine) × ((left : ℕ → Option ℕ) × Registers None m (λ s. None) l.history.entries new left)
+  registers_of c d j k l m st empty same none goes =
+      let went = goes.went m st in
+      let part : went.part ≡ l.history.entries = sym (ap (λ x. x.history.entries) same ∙ went.grew ∙ ap (λ xs. xs ++ went.part) empty) in
       let left = registered_of d.timers in
       (went.new, (left, subst (λ xs. Registers None m (λ s. None) xs went.new left) part (same_ticks None m (λ s. None) (registered_of c.timers) went.part went.new left (λ s. sym (none s)) went.registers)))

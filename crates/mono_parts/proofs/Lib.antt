@@ -10,3 +10,5 @@ pub mod Doing
 pub mod Waiting
 pub mod Spawned
 pub mod JobActs
+pub mod KeepingLemmas
+pub mod FaultLemmas

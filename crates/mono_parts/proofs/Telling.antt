@@ -10,14 +10,12 @@ use Rattle.mono_machine.specs.declared.events.Event.TheVariants as event
 use Rattle.mono_machine.specs.declared.events.Report.{Report}
 use Rattle.mono_parts.specs.Blocked.{OnCapacity}
 use Rattle.mono_parts.specs.Drains.{remotes}
-use Rattle.mono_parts.specs.Journals.{pushed}
 use Rattle.mono_parts.specs.Telling.{Told, telling, Course, going, IsRead, IsDrained, Tells, Telling, IsTold, Still, EndsBy, EndsSo, after_park, after_wait, parked_time}
 use Rattle.mono_parts.specs.declared.errors.RunError.{RunError}
 use Rattle.mono_parts.specs.declared.errors.RunError.TheVariants as error
 use Rattle.mono_parts.specs.declared.journals.Entry.{Entry}
 use Rattle.mono_parts.specs.declared.journals.Entry.TheVariants.{Ran, Now, Park}
 use Rattle.mono_parts.specs.declared.journals.Journal.{Journal}
-use Rattle.mono_parts.proofs.Going.{pushed_open}
 
 pub tells_on : (a b c : Told) (p q r : Course) (xs ys : List Entry) → Tells a p xs b q → Tells b q ys c r → Tells a p (xs ++ ys) c r
 tells_on a b c p q r [] ys (is, same) more = subst (λ x. Tells x p ys c r) is (subst (λ x. Tells b x ys c r) same more)
@@ -26,37 +24,34 @@ tells_on a b c p q r (Now n ∷ xs) ys (at, (mid, (read, rest))) more = (at, (mi
 tells_on a b c p q r (Park w ∷ xs) ys (at, (mid, (f, (is, rest)))) more = (at, (mid, (f, (is, tells_on mid b c (after_park f) q r xs ys rest more))))
 
 -- nothing was done
-pub tells_nothing : {Ends : Course → Type 0} {a b : Told} {p : Course} {j k : Journal} → Ends p → b ≡ a → k.entries.items ≡ j.entries.items → k.is_full ≡ j.is_full → Telling Ends a p j k b
-tells_nothing {Ends} {a} {b} {p} {j} {k} ends same entries full = record {
-  opens = λ unfull. sym full ∙ unfull;
-  tells = λ unfull. ([], (p, (entries ∙ sym (append-nil j.entries.items), (ends, (same, refl)))));
+pub tells_nothing : {Ends : Course → Type 0} {a b : Told} {p : Course} {j k : Journal} → Ends p → b ≡ a → k.history.entries ≡ j.history.entries → Telling Ends a p j k b
+tells_nothing {Ends} {a} {b} {p} {j} {k} ends same entries = record {
+  tells = ([], (p, (entries ∙ sym (append-nil j.history.entries), (ends, (same, refl)))));
 }
 
 -- these entries
-pub tells_by : {Ends : Course → Type 0} {a b : Told} {p : Course} {j k : Journal} (q : Course) (part : List Entry) → Ends q → Tells a p part b q → (k.is_full ≡ false → k.entries.items ≡ j.entries.items ++ part) → k.is_full ≡ j.is_full → Telling Ends a p j k b
-tells_by {Ends} {a} {b} {p} {j} {k} q part ends tells grew full = record {
-  opens = λ unfull. sym full ∙ unfull;
-  tells = λ unfull. (part, (q, (grew unfull, (ends, tells))));
+pub tells_by : {Ends : Course → Type 0} {a b : Told} {p : Course} {j k : Journal} (q : Course) (part : List Entry) → Ends q → Tells a p part b q → k.history.entries ≡ j.history.entries ++ part → Telling Ends a p j k b
+tells_by {Ends} {a} {b} {p} {j} {k} q part ends tells grew = record {
+  tells = (part, (q, (grew, (ends, tells))));
 }
 
 -- one entry
-pub tells_one : {Ends : Course → Type 0} {a b : Told} {p : Course} {j k : Journal} (q : Course) (entry : Entry) → Ends q → Tells a p (entry ∷ []) b q → k.entries.items ≡ pushed j entry → k.is_full ≡ j.is_full → Telling Ends a p j k b
-tells_one {Ends} {a} {b} {p} {j} {k} q entry ends tells grew full = tells_by q (entry ∷ []) ends tells (λ unfull. grew ∙ pushed_open j entry (sym full ∙ unfull)) full
+pub tells_one : {Ends : Course → Type 0} {a b : Told} {p : Course} {j k : Journal} (q : Course) (entry : Entry) → Ends q → Tells a p (entry ∷ []) b q → k.history.entries ≡ j.history.entries ++ entry ∷ [] → Telling Ends a p j k b
+tells_one {Ends} {a} {b} {p} {j} {k} q entry ends tells grew = tells_by q (entry ∷ []) ends tells grew
 
 -- one after the other
 pub telling_on : {Ends : Course → Type 0} {a b c : Told} {p q : Course} {i j k : Journal} → Telling (Still q) a p i j b → Telling Ends b q j k c → Telling Ends a p i k c
 telling_on {Ends} {a} {b} {c} {p} {q} {i} {j} {k} f g = record {
-  opens = λ unfull. f.opens (g.opens unfull);
-  tells = λ unfull.
-      let first = f.tells (g.opens unfull) in
-      let second = g.tells unfull in
+  tells =
+      let first = f.tells in
+      let second = g.tells in
       let xs : List Entry = first.0 in
       let ys : List Entry = second.0 in (
         xs ++ ys,
         (
           second.1.0,
           (
-            second.1.1.0 ∙ ap (λ zs. zs ++ ys) first.1.1.0 ∙ append_assoc i.entries.items xs ys,
+            second.1.1.0 ∙ ap (λ zs. zs ++ ys) first.1.1.0 ∙ append_assoc i.history.entries xs ys,
             (second.1.1.1.0, tells_on a b c p q second.1.0 xs ys (subst (λ x. Tells a p xs b x) first.1.1.1.0 first.1.1.1.1) second.1.1.1.1),
           ),
         ),
@@ -66,27 +61,25 @@ telling_on {Ends} {a} {b} {c} {p} {q} {i} {j} {k} f g = record {
 -- what follows of how it ended
 pub telling_more : {P Q : Course → Type 0} {a b : Told} {p : Course} {j k : Journal} → ((x : Course) → P x → Q x) → Telling P a p j k b → Telling Q a p j k b
 telling_more {P} {Q} {a} {b} {p} {j} {k} law f = record {
-  opens = f.opens;
-  tells = λ unfull.
-      let first = f.tells unfull in
+  tells =
+      let first = f.tells in
       (first.0, (first.1.0, (first.1.1.0, (law first.1.0 first.1.1.1.0, first.1.1.1.1))));
 }
 
 -- then something that goes on in any way, and that it does not touch
 pub telling_past : {P : Course → Type 0} {a b c : Told} {p : Course} {i j k : Journal} → Telling P a p i j b → ((q : Course) → Telling (Still q) b q j k c) → Telling P a p i k c
 telling_past {P} {a} {b} {c} {p} {i} {j} {k} f g = record {
-  opens = λ unfull. f.opens ((g going).opens unfull);
-  tells = λ unfull.
-      let first = f.tells ((g going).opens unfull) in
+  tells =
+      let first = f.tells in
       let q : Course = first.1.0 in
-      let second = (g q).tells unfull in
+      let second = (g q).tells in
       let xs : List Entry = first.0 in
       let ys : List Entry = second.0 in (
         xs ++ ys,
         (
           second.1.0,
           (
-            second.1.1.0 ∙ ap (λ zs. zs ++ ys) first.1.1.0 ∙ append_assoc i.entries.items xs ys,
+            second.1.1.0 ∙ ap (λ zs. zs ++ ys) first.1.1.0 ∙ append_assoc i.history.entries xs ys,
             (subst P (sym second.1.1.1.0) first.1.1.1.0, tells_on a b c p q second.1.0 xs ys first.1.1.1.1 second.1.1.1.1),
           ),
         ),
@@ -133,15 +126,14 @@ pub read_at : {a b : Told} (n m : ℕ) → n ≡ m → IsRead m a b → IsRead n
 read_at {a} {b} n m is read = subst (λ x. IsRead x a b) (sym is) read
 
 -- the turn that was kept
-pub tells_kept : {a b : Told} {j k : Journal} (E : Type 0) (steps : List TurnStep) (e : End) (r : Report) → b ≡ a → (k.is_full ≡ false → (j.is_full ≡ false) × E × (k.entries.items ≡ j.entries.items ++ Ran (event.Turn steps e) r ∷ [])) → Telling (Still going) a going j k b
-tells_kept {a} {b} {j} {k} E steps e r same kept = record {
-  opens = λ unfull. (kept unfull).0;
-  tells = λ unfull. (Ran (event.Turn steps e) r ∷ [], (going, ((kept unfull).2, (refl, (b, (going, ((same, refl), (refl, refl))))))));
+pub tells_kept : {a b : Told} {j k : Journal} (steps : List TurnStep) (e : End) (r : Report) → b ≡ a → k.history.entries ≡ j.history.entries ++ Ran (event.Turn steps e) r ∷ [] → Telling (Still going) a going j k b
+tells_kept {a} {b} {j} {k} steps e r same kept = record {
+  tells = (Ran (event.Turn steps e) r ∷ [], (going, (kept, (refl, (b, (going, ((same, refl), (refl, refl))))))));
 }
 
--- from an empty journal, what it then has
-pub told_in : {A : Type 0} {answer : Result A RunError} {a b : Told} {j k : Journal} (l : Journal) → j.entries.items ≡ [] → l ≡ k → Telling (EndsSo answer) a going j k b → l.is_full ≡ false → IsTold answer a l.entries.items
-told_in {A} {answer} {a} {b} {j} {k} l empty same f unfull =
-    let first = f.tells (ap (λ x. x.is_full) (sym same) ∙ unfull) in
-    let part : first.0 ≡ l.entries.items = sym (ap (λ x. x.entries.items) same ∙ first.1.1.0 ∙ ap (λ xs. xs ++ first.0) empty) in
+-- from an empty history, what it then has
+pub told_in : {A : Type 0} {answer : Result A RunError} {a b : Told} {j k : Journal} (l : Journal) → j.history.entries ≡ [] → l ≡ k → Telling (EndsSo answer) a going j k b → IsTold answer a l.history.entries
+told_in {A} {answer} {a} {b} {j} {k} l empty same f =
+    let first = f.tells in
+    let part : first.0 ≡ l.history.entries = sym (ap (λ x. x.history.entries) same ∙ first.1.1.0 ∙ ap (λ xs. xs ++ first.0) empty) in
     record { new = b; after = first.1.0; ends = first.1.1.1.0; tells = subst (λ xs. Tells a going xs b first.1.0) part first.1.1.1.1 }

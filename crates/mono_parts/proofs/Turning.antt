@@ -1,5 +1,5 @@
 -- A turn that began, went on by acts and ended is a turn of the machine.
-use Rattle.std.proofs.Common.{◌≡◌, ℕ, false, List, ◌∷◌, ◌++◌, Some, None, ap, sym, subst, ◌∙◌, arith}
+use Rattle.std.proofs.Common.{◌≡◌, ℕ, Bool, false, List, ◌∷◌, ◌++◌, Some, None, ap, sym, subst, ◌∙◌, arith}
 use Rattle.std.specs.Prelude.{nat_lt, length}
 use Rattle.mono_model.specs.Table.{value_at}
 use Rattle.mono_model.specs.Tasks.{begun, paused_value, pause_answer, completed_value, complete_answer}
@@ -63,13 +63,13 @@ module _ {O P : Type 0} (number : O → ℕ) where
   ended_turn answer ended c d me e turn = ap (λ x. x.turn) (e.tasks ∙ after_poll c.tasks me answer turn)
 
   -- a turn that began, went on by acts, and ended
-  pub is_turn : (c b x d : Parts O (Seen P)) (t : ℕ) (now : Instant) (answer : Poll O) (ended : Ended) (m : Machine) → BeginsParts t now no_acts c b → Leads number hosting_of b x → EndsParts answer ended x d → Matches number hosting_of c m → IsTurnOf number t (end_of number answer) ended c d m
-  is_turn c b x d t now answer ended m begins leads ends st =
+  pub is_turn : (c b x d : Parts O (Seen P)) (t : ℕ) (now : Instant) (answer : Poll O) (ended : Ended) (m : Machine) (is_unread : Bool) → c.acts ≡ no_acts is_unread → BeginsParts t now c.acts c b → Leads number hosting_of b x → EndsParts answer ended x d → Matches number hosting_of c m → IsTurnOf number t (end_of number answer) ended c d m
+  is_turn c b x d t now answer ended m is_unread blank begins leads ends st =
       let front = front_is c.tasks.tasks.queue t begins.front in
       let rest = front.0 in
       let queue : m.tasks.queue ≡ t ∷ rest = sym (ap (λ y. y.queue) st.tasks) ∙ front.1 in
-      let begun : Matches number hosting_of b (after_begin t rest m) = begun_matches c b t now no_acts m rest begins queue st in
-      let turn : x.tasks.turn ≡ Some t = leads.same_turn ∙ begun_turn c b t now no_acts begins in
+      let begun : Matches number hosting_of b (after_begin t rest m) = begun_matches c b t now c.acts m rest begins queue st in
+      let turn : x.tasks.turn ≡ Some t = leads.same_turn ∙ begun_turn c b t now c.acts begins in
       let steps = leads.steps in
       let mid : Matches number hosting_of x (after_steps t steps (after_begin t rest m)) = subst (λ me. Matches number hosting_of x (after_steps me steps (after_begin t rest m))) begins.me (leads.leads (after_begin t rest m) begun) in
       let e = end_of number answer in
@@ -82,16 +82,14 @@ module _ {O P : Type 0} (number : O → ℕ) where
             ∙ ap (λ me. registered_by_steps me steps (after_begin t rest m) s (registered_of b.timers s)) begins.me
             ∙ ap (λ ts. registered_by_steps t steps (after_begin t rest m) s (registered_of ts s)) begins.timers
             ∙ sym (ap (λ q. registered_by_turn q steps m s (registered_of c.timers s)) queue);
-        kept = λ unfull.
-            let open_x : x.acts.is_full ≡ false = sym (ap (λ y. y.is_full) ends.acts) ∙ unfull in
-            let kept = leads.kept open_x in
-            let answers : x.acts.replies ≡ b.acts.replies ++ replies_of b.me steps (after_begin t rest m) = leads.answers (after_begin t rest m) begun open_x in
+        kept =
+            let acts : b.acts ≡ no_acts is_unread = begins.acts_are ∙ blank in
             let replies : replies_of t steps (after_begin t rest m) ≡ d.acts.replies =
-            sym (ap (λ y. y.replies) ends.acts ∙ answers ∙ ap (λ y. y.replies ++ replies_of b.me steps (after_begin t rest m)) begins.acts_are ∙ ap (λ me. replies_of me steps (after_begin t rest m)) begins.me) in (
-              ap (λ y. y.steps) ends.acts ∙ kept.1 ∙ ap (λ y. y.steps ++ steps) begins.acts_are,
+            sym (ap (λ y. y.replies) ends.acts ∙ leads.answers (after_begin t rest m) begun ∙ ap (λ y. y.replies ++ replies_of b.me steps (after_begin t rest m)) acts ∙ ap (λ me. replies_of me steps (after_begin t rest m)) begins.me) in (
+              ap (λ y. y.steps) ends.acts ∙ leads.grew ∙ ap (λ y. y.steps ++ steps) acts,
               ap (λ q. turn_report_for q steps e m) queue ∙ ap (λ rs. report.Turn t rs (end_answer e t (after_steps t steps (after_begin t rest m)))) replies ∙ ap (λ y. report.Turn t d.acts.replies y) (sym (ended_told answer ended x d t _ ends turn mid)),
             );
-        full =
-            let none : length b.acts.steps ≡ 0 = ap (λ y. length y.steps) begins.acts_are in
-            ap (λ y. y.is_full) ends.acts ∙ leads.full (ap (λ y. y.is_full) begins.acts_are) (omega (arith, none)) ∙ ap (λ n. nat_lt room n) (omega (arith, none));
+        full = λ unfull.
+            let none : length b.acts.steps ≡ 0 = ap (λ y. length y.steps) (begins.acts_are ∙ blank) in
+            ap (λ y. y.is_full) ends.acts ∙ leads.full (ap (λ y. y.is_full) begins.acts_are ∙ unfull) (omega (arith, none)) ∙ ap (λ n. nat_lt room n) (omega (arith, none));
       }

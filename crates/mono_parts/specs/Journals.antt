@@ -1,5 +1,5 @@
 -- What a journal says of the machine.
-use Rattle.std.specs.Prelude.{◌≡◌, ℕ, false, List, [], ◌∷◌, ◌++◌, ◌-◌, if◌then◌else◌, Option, Some, None}
+use Rattle.std.specs.Prelude.{◌≡◌, ℕ, Bool, true, false, List, [], ◌∷◌, ◌++◌, ◌-◌, Option, Some, None}
 use Rattle.mono_model.specs.Ticks.{down}
 use Rattle.mono_time.specs.Registered.{FirstSlot}
 use Rattle.mono_time.specs.Timers.{registered_of}
@@ -51,20 +51,19 @@ Registers reading old ticks (Now n ∷ part) new left = Registers (Some n) old t
 Registers reading old ticks (Park None ∷ part) new left = Registers reading old ticks part new left
 Registers reading old ticks (Park (Some v) ∷ part) new left = WaitsForNext old ticks reading v × Registers reading old ticks part new left
 
--- From each machine for which the parts stood, what the journal grew by is a run to one for which they stand, unless the
--- journal is full. From the ticks at which the sleeps were registered before it leads to those at which they are now, and
--- each park is until the next expiration.
+-- From each machine for which the parts stood, what the history grew by is a run to one for which they stand. From the ticks
+-- at which the sleeps were registered before it leads to those at which they are now, and each park is until the next
+-- expiration.
 pub record Went {O P : Type 0} (number : O → ℕ) (c d : Parts O (Seen P)) (j k : Journal) (old : Machine) : Type 0 where
   pub part : List Entry
   pub new : Machine
-  pub grew : k.entries.items ≡ j.entries.items ++ part
+  pub grew : k.history.entries ≡ j.history.entries ++ part
   pub follows : Follows old part new
   pub registers : Registers None old (registered_of c.timers) part new (registered_of d.timers)
   pub matches : Matches number hosting_of d new
 
 pub record Goes {O P : Type 0} (number : O → ℕ) (c d : Parts O (Seen P)) (j k : Journal) : Type 0 where
-  pub opens : k.is_full ≡ false → j.is_full ≡ false
-  pub went : (old : Machine) → Matches number hosting_of c old → k.is_full ≡ false → Went number c d j k old
+  pub went : (old : Machine) → Matches number hosting_of c old → Went number c d j k old
 
 -- The same, and what was done stands in a relation: from the machine before with the part and any entries after it, to the
 -- machine after with these.
@@ -73,8 +72,7 @@ pub record Did {O P : Type 0} (number : O → ℕ) (R : Machine → List Entry �
   pub is : (rest : List Entry) → R old (went.part ++ rest) went.new rest
 
 pub record Does {O P : Type 0} (number : O → ℕ) (R : Machine → List Entry → Machine → List Entry → Type 0) (c d : Parts O (Seen P)) (j k : Journal) : Type 0 where
-  pub opens : k.is_full ≡ false → j.is_full ≡ false
-  pub did : (old : Machine) → Matches number hosting_of c old → k.is_full ≡ false → Did number R c d j k old
+  pub did : (old : Machine) → Matches number hosting_of c old → Did number R c d j k old
 
 -- some entries, by which the machine was led on
 abbrev pub Led : Machine → List Entry → Machine → List Entry → Type 0
@@ -96,9 +94,10 @@ IsReading old part new rest = (n : ℕ) × ((part ≡ Now n ∷ rest) × (new �
 abbrev pub ReadsAt : ℕ → Machine → List Entry → Machine → List Entry → Type 0
 ReadsAt n old part new rest = (part ≡ Now n ∷ rest) × (new ≡ old)
 
--- one more entry, unless the journal is full
-abbrev pub pushed : Journal → Entry → List Entry
-pushed j entry = if j.is_full then j.entries.items else j.entries.items ++ entry ∷ []
+-- What is kept in memory, by whether it is full now: nothing more, or the entry after the others.
+abbrev pub IsKept : Bool → List Entry → Bool → List Entry → Entry → Type 0
+IsKept was old true new entry = new ≡ old
+IsKept was old false new entry = (was ≡ false) × (new ≡ old ++ entry ∷ [])
 
 -- there is room for so many entries, beside those for which it is held
 abbrev pub HasPlaces : Journal → ℕ → Type 0

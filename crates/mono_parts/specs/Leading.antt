@@ -1,11 +1,11 @@
 -- Parts that were reached from others by calls of the running task.
 use Rattle.std.specs.Prelude.{◌≡◌, ℕ, ◌+◌, Bool, true, false, ◌||◌, nat_le, nat_lt, List, [], ◌∷◌, ◌++◌, length, Option, ◌≤◌, refl}
-use Rattle.std.proofs.Common.{sym, ◌∙◌, ap, subst, cond, append_assoc, append-nil, arith}
+use Rattle.std.proofs.Common.{sym, ◌∙◌, ap, subst, append_assoc, append-nil, arith}
 use Rattle.std.proofs.lemmas.Bool.{lt-ltb, ltb-true, le-ltb, ltb-false, leb-true, leb-false}
 use Rattle.std.proofs.lemmas.List.{length-append}
 use Rattle.mono_machine.specs.Acts.{step_outcome}
 use Rattle.mono_machine.specs.declared.events.Reply.{Reply}
-use Rattle.mono_parts.specs.Record.{Record, room, noted, filled, with_act}
+use Rattle.mono_parts.specs.Record.{Record, room, noted}
 use Rattle.mono_machine.specs.Machine.{Machine}
 use Rattle.mono_machine.specs.Turns.{replies_of, after_steps}
 use Rattle.mono_machine.specs.declared.events.TurnStep.{TurnStep}
@@ -14,16 +14,17 @@ use Rattle.mono_time.specs.Registrations.{registered_by_steps, registered_by_act
 use Rattle.mono_parts.specs.Stands.{Hosting, Matches}
 use Rattle.mono_parts.specs.declared.parts.Parts.{Parts}
 
--- A list of acts leads each machine for which the parts stood to one for which they stand. While the record of the turn is
--- not full, it grew by these acts and by the machine's replies to them, and it becomes full exactly where these and those
--- before are more than it has room for. Where the sleeps are registered in the wheel follows the acts.
+-- A list of acts leads each machine for which the parts stood to one for which they stand. The record of the turn grew by
+-- these acts and by the machine's replies to them. It becomes full if and only if these and those before are more than it
+-- has room for, and it stays full. The ticks at which the wheel has the sleeps follow the acts.
 pub record Leads {O B : Type 0} (number : O → ℕ) (hosting : B → Hosting) (c d : Parts O B) : Type 0 where
   pub steps : List TurnStep
   pub leads : (m : Machine) → Matches number hosting c m → Matches number hosting d (after_steps c.me steps m)
   pub registered : (m : Machine) → Matches number hosting c m → (s : ℕ) → registered_of d.timers s ≡ registered_by_steps c.me steps m s (registered_of c.timers s)
-  pub kept : d.acts.is_full ≡ false → (c.acts.is_full ≡ false) × (d.acts.steps ≡ c.acts.steps ++ steps)
+  pub grew : d.acts.steps ≡ c.acts.steps ++ steps
+  pub opens : d.acts.is_full ≡ false → c.acts.is_full ≡ false
   pub full : c.acts.is_full ≡ false → length c.acts.steps ≤ room → d.acts.is_full ≡ nat_lt room (length c.acts.steps + length steps)
-  pub answers : (m : Machine) → Matches number hosting c m → d.acts.is_full ≡ false → d.acts.replies ≡ c.acts.replies ++ replies_of c.me steps m
+  pub answers : (m : Machine) → Matches number hosting c m → d.acts.replies ≡ c.acts.replies ++ replies_of c.me steps m
   pub same_me : d.me ≡ c.me
   pub same_now : d.now ≡ c.now
   pub same_turn : d.tasks.turn ≡ c.tasks.turn
@@ -43,39 +44,35 @@ pub registered-append : (me : ℕ) (xs ys : List TurnStep) (m : Machine) (s : �
 registered-append me [] ys m s r = refl
 registered-append me (x ∷ xs) ys m s r = registered-append me xs ys (step_outcome me x m).machine s (registered_by_act m.sleeps (step_outcome me x m).machine.sleeps s r)
 
--- an act that did not fill the record is its last
 true-false : true ≡ false → ⊥
 true-false e = cc
 
-unfilled_by : (b full : Bool) (acts : Record) (step : TurnStep) (reply : Reply) → (b || nat_le room (length acts.steps)) ≡ full → acts.is_full ≡ b → (cond full (filled acts) (with_act acts step reply)).is_full ≡ false
-    → (acts.is_full ≡ false) × ((cond full (filled acts) (with_act acts step reply)).steps ≡ acts.steps ++ step ∷ []) × ((cond full (filled acts) (with_act acts step reply)).replies ≡ acts.replies ++ reply ∷ [])
-unfilled_by b true acts step reply is was left = absurd (true-false left)
-unfilled_by true false acts step reply is was left = absurd (true-false is)
-unfilled_by false false acts step reply is was left = (was, refl, refl)
+-- a record that is not full was not full before
+open_before : (b c : Bool) → (b || c) ≡ false → b ≡ false
+open_before true c is = absurd (true-false is)
+open_before false c is = refl
 
-pub unfilled : (acts : Record) (step : TurnStep) (reply : Reply) → (noted acts step reply).is_full ≡ false
-    → (acts.is_full ≡ false) × ((noted acts step reply).steps ≡ acts.steps ++ step ∷ []) × ((noted acts step reply).replies ≡ acts.replies ++ reply ∷ [])
-unfilled acts step reply left = unfilled_by acts.is_full _ acts step reply refl refl left
+pub unfilled : (acts : Record) (step : TurnStep) (reply : Reply) → (noted acts step reply).is_full ≡ false → acts.is_full ≡ false
+unfilled acts step reply left = open_before acts.is_full _ left
 
 -- an act fills the record exactly where it is one more than there is room for
 one_more : (full : Bool) (n : ℕ) → nat_le room n ≡ full → full ≡ nat_lt room (n + 1)
 one_more true n is = sym (lt-ltb room (n + 1) (omega (arith, leb-true room n is)))
 one_more false n is = sym (le-ltb room (n + 1) (omega (arith, leb-false room n is)))
 
-filled_by : (b full : Bool) (acts : Record) (step : TurnStep) (reply : Reply) → (b || nat_le room (length acts.steps)) ≡ full → b ≡ false → (cond full (filled acts) (with_act acts step reply)).is_full ≡ nat_lt room (length acts.steps + 1)
-filled_by true full acts step reply is unfull = absurd (true-false unfull)
-filled_by false true acts step reply is unfull = one_more true (length acts.steps) is
-filled_by false false acts step reply is unfull = one_more false (length acts.steps) is
+filled_by : (b full : Bool) (n : ℕ) → nat_le room n ≡ full → b ≡ false → (b || full) ≡ nat_lt room (n + 1)
+filled_by true full n is unfull = absurd (true-false unfull)
+filled_by false full n is unfull = one_more full n is
 
 pub filled_after : (acts : Record) (step : TurnStep) (reply : Reply) → acts.is_full ≡ false → (noted acts step reply).is_full ≡ nat_lt room (length acts.steps + 1)
-filled_after acts step reply unfull = filled_by acts.is_full _ acts step reply refl unfull
+filled_after acts step reply unfull = filled_by acts.is_full _ (length acts.steps) refl unfull
 
 -- some acts, and more acts after them
-full_on : (b c : Bool) (before first second middle : ℕ) → b ≡ nat_lt room (before + first) → (c ≡ false → b ≡ false) → (b ≡ false → middle ≡ before + first) → (b ≡ false → middle ≤ room → c ≡ nat_lt room (middle + second))
+full_on : (b c : Bool) (before first second middle : ℕ) → b ≡ nat_lt room (before + first) → (c ≡ false → b ≡ false) → middle ≡ before + first → (b ≡ false → middle ≤ room → c ≡ nat_lt room (middle + second))
     → c ≡ nat_lt room (before + (first + second))
 full_on true true before first second middle is stays grew more = sym (lt-ltb room (before + (first + second)) (omega (arith, ltb-true room (before + first) (sym is))))
 full_on true false before first second middle is stays grew more = absurd (true-false (stays refl))
-full_on false c before first second middle is stays grew more = more refl (omega (arith, grew refl, ltb-false room (before + first) (sym is))) ∙ ap (λ n. nat_lt room n) (omega (arith, grew refl))
+full_on false c before first second middle is stays grew more = more refl (omega (arith, grew, ltb-false room (before + first) (sym is))) ∙ ap (λ n. nat_lt room n) (omega (arith, grew))
 
 module _ {O B : Type 0} (number : O → ℕ) (hosting : B → Hosting) where
   pub leads_itself : (c : Parts O B) → Leads number hosting c c
@@ -83,9 +80,10 @@ module _ {O B : Type 0} (number : O → ℕ) (hosting : B → Hosting) where
     steps = [];
     leads = λ m st. st;
     registered = λ m st s. refl;
-    kept = λ left. (left, sym (append-nil c.acts.steps));
+    grew = sym (append-nil c.acts.steps);
+    opens = λ left. left;
     full = λ unfull within. unfull ∙ sym (le-ltb room (length c.acts.steps + 0) (omega (arith, within)));
-    answers = λ m st left. sym (append-nil c.acts.replies);
+    answers = λ m st. sym (append-nil c.acts.replies);
     same_me = refl;
     same_now = refl;
     same_turn = refl;
@@ -102,16 +100,17 @@ module _ {O B : Type 0} (number : O → ℕ) (hosting : B → Hosting) where
         let mid : Machine = after_steps a.me p.steps m in
         q.registered mid (p.leads m st) s ∙ ap (λ me. registered_by_steps me q.steps mid s (registered_of b.timers s)) p.same_me
         ∙ ap (registered_by_steps a.me q.steps mid s) (p.registered m st s) ∙ sym (registered-append a.me p.steps q.steps m s (registered_of a.timers s));
-    kept = λ left. ((p.kept (q.kept left).0).0, (q.kept left).1 ∙ ap (λ xs. xs ++ q.steps) (p.kept (q.kept left).0).1 ∙ append_assoc a.acts.steps p.steps q.steps);
+    grew = q.grew ∙ ap (λ xs. xs ++ q.steps) p.grew ∙ append_assoc a.acts.steps p.steps q.steps;
+    opens = λ left. p.opens (q.opens left);
     full = λ unfull within.
-        full_on b.acts.is_full c.acts.is_full (length a.acts.steps) (length p.steps) (length q.steps) (length b.acts.steps) (p.full unfull within) (λ left. (q.kept left).0)
-        (λ left. ap length (p.kept left).1 ∙ length-append a.acts.steps p.steps) q.full
+        full_on b.acts.is_full c.acts.is_full (length a.acts.steps) (length p.steps) (length q.steps) (length b.acts.steps) (p.full unfull within) q.opens
+        (ap length p.grew ∙ length-append a.acts.steps p.steps) q.full
         ∙ ap (λ n. nat_lt room (length a.acts.steps + n)) (sym (length-append p.steps q.steps));
-    answers = λ m st left.
+    answers = λ m st.
         let mid : Machine = after_steps a.me p.steps m in
         let first : List Reply = replies_of a.me p.steps m in
-        let told : c.acts.replies ≡ b.acts.replies ++ replies_of b.me q.steps mid = q.answers mid (p.leads m st) left in
-        let before : b.acts.replies ≡ a.acts.replies ++ first = p.answers m st (q.kept left).0 in
+        let told : c.acts.replies ≡ b.acts.replies ++ replies_of b.me q.steps mid = q.answers mid (p.leads m st) in
+        let before : b.acts.replies ≡ a.acts.replies ++ first = p.answers m st in
         let both : replies_of a.me (p.steps ++ q.steps) m ≡ first ++ replies_of a.me q.steps mid = replies_of-append a.me p.steps q.steps m in
         told ∙ ap (λ xs. xs ++ replies_of b.me q.steps mid) before ∙ ap (λ me. (a.acts.replies ++ first) ++ replies_of me q.steps mid) p.same_me
         ∙ append_assoc a.acts.replies first (replies_of a.me q.steps mid) ∙ ap (λ rs. a.acts.replies ++ rs) (sym both);
@@ -133,9 +132,10 @@ module _ {O B : Type 0} (number : O → ℕ) (hosting : B → Hosting) where
     steps = step ∷ [];
     leads = left;
     registered = follows;
-    kept = λ unfull. ((unfilled c.acts step reply (sym (ap (λ x. x.is_full) is) ∙ unfull)).0, ap (λ x. x.steps) is ∙ (unfilled c.acts step reply (sym (ap (λ x. x.is_full) is) ∙ unfull)).1);
+    grew = ap (λ x. x.steps) is;
+    opens = λ unfull. unfilled c.acts step reply (sym (ap (λ x. x.is_full) is) ∙ unfull);
     full = λ unfull within. ap (λ x. x.is_full) is ∙ filled_after c.acts step reply unfull;
-    answers = λ m st unfull. ap (λ x. x.replies) is ∙ (unfilled c.acts step reply (sym (ap (λ x. x.is_full) is) ∙ unfull)).2 ∙ ap (λ r. c.acts.replies ++ r ∷ []) (answer m st);
+    answers = λ m st. ap (λ x. x.replies) is ∙ ap (λ r. c.acts.replies ++ r ∷ []) (answer m st);
     same_me = me;
     same_now = now;
     same_turn = turn;
@@ -151,9 +151,10 @@ module _ {O B : Type 0} (number : O → ℕ) (hosting : B → Hosting) where
     steps = [];
     leads = left;
     registered = λ m st. stays;
-    kept = λ unfull. (sym (ap (λ x. x.is_full) is) ∙ unfull, ap (λ x. x.steps) is ∙ sym (append-nil c.acts.steps));
+    grew = ap (λ x. x.steps) is ∙ sym (append-nil c.acts.steps);
+    opens = λ unfull. sym (ap (λ x. x.is_full) is) ∙ unfull;
     full = λ unfull within. ap (λ x. x.is_full) is ∙ unfull ∙ sym (le-ltb room (length c.acts.steps + 0) (omega (arith, within)));
-    answers = λ m st unfull. ap (λ x. x.replies) is ∙ sym (append-nil c.acts.replies);
+    answers = λ m st. ap (λ x. x.replies) is ∙ sym (append-nil c.acts.replies);
     same_me = me;
     same_now = now;
     same_turn = turn;

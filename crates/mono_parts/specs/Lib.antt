@@ -13,3 +13,4 @@ pub mod Rounds
 pub mod Texts
 pub mod JobActs
 pub mod CallActs
+pub mod Faults

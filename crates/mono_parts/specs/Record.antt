@@ -1,33 +1,29 @@
--- The acts of the turn that runs, with their replies, as they are kept for the journal.
-use Rattle.std.specs.Prelude.{◌≡◌, ◌≤◌, ℕ, Bool, true, false, ◌||◌, if◌then◌else◌, nat_le, List, [], ◌∷◌, ◌++◌, length}
+-- The acts of the turn that runs, with their replies, and whether memory keeps all of them.
+use Rattle.std.specs.Prelude.{◌≡◌, ◌≤◌, ℕ, Bool, true, false, ◌||◌, nat_le, List, [], ◌∷◌, ◌++◌, length}
 use Rattle.mono_machine.specs.declared.events.TurnStep.{TurnStep}
 use Rattle.mono_machine.specs.declared.events.Reply.{Reply}
 
--- Where the record is full it has lost an act, and nothing more is kept.
+-- All acts of the turn stand here. If the record is full, memory does not keep them.
 pub record Record : Type 0 where
   pub steps : List TurnStep
   pub replies : List Reply
   pub is_full : Bool
 
-abbrev pub no_acts : Record
-no_acts = record { steps = []; replies = []; is_full = false }
+-- No act was done yet. If nobody reads the record, it is full from the start.
+abbrev pub no_acts : Bool → Record
+no_acts is_unread = record { steps = []; replies = []; is_full = is_unread }
 
-abbrev pub no_record : Record
-no_record = record { steps = []; replies = []; is_full = true }
-
--- so many acts of a turn are kept
+-- memory keeps so many acts of a turn
 abbrev pub room : ℕ
 room = 512
 
-abbrev pub with_act : Record → TurnStep → Reply → Record
-with_act acts step reply = record { steps = acts.steps ++ step ∷ []; replies = acts.replies ++ reply ∷ []; is_full = false }
-
-abbrev pub filled : Record → Record
-filled acts = record { steps = acts.steps; replies = acts.replies; is_full = true }
-
--- one more act
+-- One more act. If there is no room for it, the record is full from then on.
 abbrev pub noted : Record → TurnStep → Reply → Record
-noted acts step reply = if acts.is_full || nat_le room (length acts.steps) then filled acts else with_act acts step reply
+noted acts step reply = record { steps = acts.steps ++ step ∷ []; replies = acts.replies ++ reply ∷ []; is_full = acts.is_full || nat_le room (length acts.steps) }
+
+-- While the record is not full, memory keeps all acts and their replies.
+abbrev pub KeepsActs : Bool → List TurnStep → List Reply → List TurnStep → List Reply → Type 0
+KeepsActs is_full steps replies done replied = is_full ≡ false → (steps ≡ done) × (replies ≡ replied)
 
 -- Room for that many acts is there, unless the record is full.
 abbrev pub HasRoom : Bool → List TurnStep → List Reply → ℕ → ℕ → Type 0

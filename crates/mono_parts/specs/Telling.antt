@@ -106,12 +106,11 @@ abbrev pub EndsDrained : {A : Type 0} → Result A RunError → Course → Cours
 EndsDrained (Ok x) before after = IsDrained before after
 EndsDrained (Err e) before after = after ≡ before
 
--- What the journal grew by tells of the driver, unless the journal is full, and then it goes so with the driver.
+-- What the history grew by tells of the driver, and then it goes so with the driver.
 pub record Telling (Ends : Course → Type 0) (old : Told) (before : Course) (j k : Journal) (new : Told) : Type 0 where
-  pub opens : k.is_full ≡ false → j.is_full ≡ false
-  pub tells : k.is_full ≡ false → (part : List Entry) × ((after : Course) × ((k.entries.items ≡ j.entries.items ++ part) × (Ends after × Tells old before part new after)))
+  pub tells : (part : List Entry) × ((after : Course) × ((k.history.entries ≡ j.history.entries ++ part) × (Ends after × Tells old before part new after)))
 
--- The entries of a whole journal tell of the driver, in a call that answered so.
+-- The entries of a whole history tell of the driver, in a call that answered so.
 pub record IsTold {A : Type 0} (answer : Result A RunError) (old : Told) (part : List Entry) : Type 0 where
   pub new : Told
   pub after : Course

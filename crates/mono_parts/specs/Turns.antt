@@ -38,11 +38,11 @@ module _ {O B : Type 0} where
     pub acts : d.acts ≡ c.acts
     pub memory : d.is_out_of_memory ≡ c.is_out_of_memory
 
--- A turn of t is one of the machine, by some acts. Its record is full exactly where these are more than it has room for, and
--- while it is not full it has these acts and their replies.
+-- A turn of t is one of the machine, by the acts in its record, whose replies are the machine's. If the record began unfull,
+-- it is full if and only if these are more than it has room for.
 pub record IsTurnOf {O P : Type 0} (number : O → ℕ) (t : ℕ) (e : End) (ended : Ended) (c d : Parts O (Seen P)) (m : Machine) : Type 0 where
   pub steps : List TurnStep
   pub matches : Matches number hosting_of d (after_turn steps e m)
   pub registered : (s : ℕ) → registered_of d.timers s ≡ registered_by_turn m.tasks.queue steps m s (registered_of c.timers s)
-  pub kept : d.acts.is_full ≡ false → (d.acts.steps ≡ steps) × (turn_report steps e m ≡ report.Turn t d.acts.replies ended)
-  pub full : d.acts.is_full ≡ nat_lt room (length steps)
+  pub kept : (d.acts.steps ≡ steps) × (turn_report steps e m ≡ report.Turn t d.acts.replies ended)
+  pub full : c.acts.is_full ≡ false → d.acts.is_full ≡ nat_lt room (length steps)

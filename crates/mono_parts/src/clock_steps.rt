@@ -31,10 +31,11 @@ fn open_clock<D: Driver>(
     ensures place { IfSome result (λ x. HasPlaces journal.new 1) }
     ensures fired { IfSome result (λ x. (x.1.fired.items ≡ []) × (armed_count (sleeps_of timers.now) + vec_len x.1.fired ≤ vec_capacity x.1.fired)) }
     ensures wakers { IfSome result (λ x. (x.1.wakers.items ≡ []) × (armed_count (sleeps_of timers.now) + vec_len x.1.wakers ≤ vec_capacity x.1.wakers)) }
-    ensures entries { journal.new.entries.items ≡ journal.old.entries.items }
+    ensures history { journal.new.history.entries ≡ journal.old.history.entries }
     ensures full { journal.new.is_full ≡ journal.old.is_full }
     ensures read { IfSome result (λ x. IsRead (nanos_of x.0) (telling (D.readings driver.old) (D.time driver.old) (D.parks driver.old)) (telling (D.readings driver.new) (D.time driver.new) (D.parks driver.new))) }
     ensures unread { IfNone result (driver.new ≡ driver.old) }
+    ensures faults { D.faults driver.new ≡ D.faults driver.old }
     ensures held { journal.new.entries.held ≡ journal.old.entries.held }
 {
     match journal.reserve(1) {
@@ -61,6 +62,7 @@ impl<O: Outcome + Drop, P: ThreadPool + Drop> Parts<O, Blockings<P>> {
         ensures refused { OnErr result (self.new ≡ self.old) }
         ensures has_timers { self.new.has_timers ≡ self.old.has_timers }
         ensures turn { self.new.tasks.turn ≡ self.old.tasks.turn }
+        ensures faults { D.faults driver.new ≡ D.faults driver.old }
         ensures told { (course : Course) → Telling (Still course) (telling (D.readings driver.old) (D.time driver.old) (D.parks driver.old)) course journal.old journal.new (telling (D.readings driver.new) (D.time driver.new) (D.parks driver.new)) }
         ensures full { journal.new.is_full ≡ journal.old.is_full }
         ensures held { journal.new.entries.held ≡ journal.old.entries.held }

@@ -1,11 +1,11 @@
 // What other threads woke, once it was taken: it is told in the journal, and woken.
-ghost use Rattle.std.specs.Prelude.{◌≡◌, ◌≤◌, ◌<◌, ◌+◌, ◌++◌, ◌∷◌, ℕ, [], false, length, vec_len, vec_capacity, IfSome, OnOk};
+ghost use Rattle.std.specs.Prelude.{◌≡◌, ◌≤◌, ◌<◌, ◌+◌, ◌++◌, ◌∷◌, ℕ, [], length, vec_len, vec_capacity, IfSome, OnOk};
 ghost use Rattle.mono_inbox.specs.State.{HasNoDoubles};
 ghost use Rattle.mono_task.specs.Work.{over_answer};
 ghost use Rattle.mono_machine.specs.declared.events.Event.TheVariants as event;
 ghost use Rattle.mono_parts.specs.declared.journals.Entry.TheVariants.{Ran};
 ghost use Rattle.mono_parts.specs.Drains.{told_by, listed_by, remotes, listed};
-ghost use Rattle.mono_parts.specs.Journals.{Goes, Does, HasPlaces, pushed};
+ghost use Rattle.mono_parts.specs.Journals.{Goes, Does, HasPlaces};
 ghost use Rattle.mono_parts.specs.Rounds.{Drained};
 ghost use Rattle.mono_parts.specs.Telling.{Told, Course, Telling, Still, EndsDrained};
 
@@ -24,7 +24,7 @@ fn open_drain(alloc: Global, journal: &mut Journal, taken: &[u64]) -> Option<Vec
     ensures places { IfSome result (λ list. HasPlaces journal.new (length taken.now + 1)) }
     ensures room { IfSome result (λ list. vec_len list + length taken.now ≤ vec_capacity list) }
     ensures empty { IfSome result (λ list. list.items ≡ []) }
-    ensures entries { journal.new.entries.items ≡ journal.old.entries.items }
+    ensures history { journal.new.history.entries ≡ journal.old.history.entries }
     ensures full { journal.new.is_full ≡ journal.old.is_full }
     ensures held { journal.new.entries.held ≡ journal.old.entries.held }
 {
@@ -70,7 +70,7 @@ impl<O: Outcome + Drop, P: ThreadPool + Drop> Parts<O, Blockings<P>> {
     fn tell_remotes(&self, journal: &mut Journal, taken: &[u64], into: &mut Vec<u64>)
         requires places { HasPlaces journal.old (length taken.now + 1) }
         requires room { vec_len into.old + length taken.now ≤ vec_capacity into.old }
-        ensures entries { journal.new.is_full ≡ false → journal.new.entries.items ≡ journal.old.entries.items ++ remotes self.entry.now.tasks.tasks taken.now }
+        ensures history { journal.new.history.entries ≡ journal.old.history.entries ++ remotes self.entry.now.tasks.tasks taken.now }
         ensures full { journal.new.is_full ≡ journal.old.is_full }
         ensures place { HasPlaces journal.new 1 }
         ensures listed { into.new.items ≡ into.old.items ++ listed self.entry.now.tasks.tasks taken.now }
@@ -84,7 +84,7 @@ impl<O: Outcome + Drop, P: ThreadPool + Drop> Parts<O, Blockings<P>> {
     fn tell_remote(&self, journal: &mut Journal, t: u64, into: &mut Vec<u64>)
         requires place { HasPlaces journal.old 1 }
         requires room { vec_len into.old < vec_capacity into.old }
-        ensures entries { journal.new.entries.items ≡ pushed journal.old (Ran (event.Remote t) (told_by (over_answer self.entry.now.tasks.tasks t))) }
+        ensures history { journal.new.history.entries ≡ journal.old.history.entries ++ Ran (event.Remote t) (told_by (over_answer self.entry.now.tasks.tasks t)) ∷ [] }
         ensures full { journal.new.is_full ≡ journal.old.is_full }
         ensures places { (n : ℕ) → HasPlaces journal.old (n + 1) → HasPlaces journal.new n }
         ensures listed { into.new.items ≡ into.old.items ++ listed_by (over_answer self.entry.now.tasks.tasks t) t }

@@ -12,6 +12,7 @@ mod journals;
 mod keeping;
 pub mod laws;
 mod mains;
+mod notes;
 mod parks;
 mod parts;
 mod starting;

@@ -5,6 +5,7 @@ ghost use Rattle.mono_time.specs.Timers.{registered_of};
 ghost use Rattle.mono_machine.specs.Machine.{Machine};
 ghost use Rattle.mono_parts.specs.Stands.{hosting_of, Matches};
 ghost use Rattle.mono_parts.specs.Journals.{Goes, Does, WaitsForNext};
+ghost use Rattle.mono_parts.specs.Faults.{RisesIf, FaultsParked};
 ghost use Rattle.mono_parts.specs.Rounds.{IsWait, IsPark};
 ghost use Rattle.mono_parts.specs.Telling.{telling, going, Telling, IsParked, EndsParked};
 
@@ -21,7 +22,8 @@ use std::time::Duration;
 
 // Parks the driver, for so many milliseconds at most. The answer tells whether it failed.
 fn park_driver<D: Driver, R: Host>(rt: &R, driver: &mut D, wait: Option<u64>) -> bool
-    ensures { IsParked wait result (telling (D.readings driver.old) (D.time driver.old) (D.parks driver.old)) (telling (D.readings driver.new) (D.time driver.new) (D.parks driver.new)) }
+    ensures parked { IsParked wait result (telling (D.readings driver.old) (D.time driver.old) (D.parks driver.old)) (telling (D.readings driver.new) (D.time driver.new) (D.parks driver.new)) }
+    ensures faults { RisesIf result (D.faults driver.old) (D.faults driver.new) }
 {
     match wait {
         Some(ticks) => driver
@@ -57,6 +59,7 @@ impl<O: Outcome + Drop, P: ThreadPool + Drop> Parts<O, Blockings<P>> {
         ensures goes { Goes O.output_number self.entry.now self.entry.now journal.old journal.new }
         ensures parked { OnOk result (Does O.output_number (IsPark self.entry.now.has_timers) self.entry.now self.entry.now journal.old journal.new) }
         ensures told { Telling (EndsParked result) (telling (D.readings driver.old) (D.time driver.old) (D.parks driver.old)) going journal.old journal.new (telling (D.readings driver.new) (D.time driver.new) (D.parks driver.new)) }
+        ensures faults { FaultsParked result (D.faults driver.old) (D.faults driver.new) }
         ensures full { journal.new.is_full ≡ journal.old.is_full }
         ensures held { journal.new.entries.held ≡ journal.old.entries.held }
     {

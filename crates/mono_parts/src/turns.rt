@@ -1,5 +1,5 @@
 // What stands in the journal before a turn and after it.
-ghost use Rattle.std.specs.Prelude.{◌≡◌, ◌++◌, ◌∷◌, ◌||◌, [], false, IfSome};
+ghost use Rattle.std.specs.Prelude.{◌≡◌, ◌++◌, ◌∷◌, ◌||◌, [], IfSome};
 ghost use Rattle.mono_time.specs.Instants.{nanos_of};
 ghost use Rattle.mono_machine.specs.declared.events.Event.TheVariants as event;
 ghost use Rattle.mono_machine.specs.declared.events.Report.TheVariants as report;
@@ -21,7 +21,7 @@ use std::alloc::Global;
 use std::mem;
 
 impl<O: Outcome + Drop, P: ThreadPool + Drop> Parts<O, Blockings<P>> {
-    /// The turn that ended is put into the journal, unless that is full.
+    /// Notes the turn that ended.
     pub fn keep_turn(
         &mut self,
         alloc: Global,
@@ -31,7 +31,7 @@ impl<O: Outcome + Drop, P: ThreadPool + Drop> Parts<O, Blockings<P>> {
         ended: Ended,
     )
         requires { HasPlaces journal.old 1 }
-        ensures kept { journal.new.is_full ≡ false → (journal.old.is_full ≡ false) × (self.old.acts.is_full ≡ false) × (journal.new.entries.items ≡ journal.old.entries.items ++ Ran (event.Turn self.old.acts.steps end) (report.Turn task self.old.acts.replies ended) ∷ []) }
+        ensures history { journal.new.history.entries ≡ journal.old.history.entries ++ Ran (event.Turn self.old.acts.steps end) (report.Turn task self.old.acts.replies ended) ∷ [] }
         ensures tasks { self.new.tasks ≡ self.old.tasks }
         ensures timers { self.new.timers ≡ self.old.timers }
         ensures has_timers { self.new.has_timers ≡ self.old.has_timers }
@@ -40,10 +40,8 @@ impl<O: Outcome + Drop, P: ThreadPool + Drop> Parts<O, Blockings<P>> {
         ensures full { journal.new.is_full ≡ (journal.old.is_full || self.old.acts.is_full) }
         ensures held { journal.new.entries.held ≡ journal.old.entries.held }
     {
-        if !journal.is_full() {
-            let acts = mem::replace(&mut self.acts, Acts::keeping_none(alloc));
-            journal.push_turn(task, acts, end, ended);
-        }
+        let acts = mem::replace(&mut self.acts, Acts::keeping_none(alloc));
+        journal.push_turn(task, acts, end, ended);
     }
 
     /// Room for a turn, and the reading of the clock, which stands in the journal.
@@ -53,7 +51,7 @@ impl<O: Outcome + Drop, P: ThreadPool + Drop> Parts<O, Blockings<P>> {
         driver: &mut D,
         journal: &mut Journal,
     ) -> Option<Instant>
-        ensures acts { IfSome result (λ now. journal.old.is_full ≡ false → self.new.acts ≡ no_acts) }
+        ensures acts { IfSome result (λ now. self.new.acts ≡ no_acts journal.old.is_full) }
         ensures place { IfSome result (λ x. HasPlaces journal.new 1) }
         ensures reading { IfSome result (λ x. Does O.output_number IsReading self.old self.new journal.old journal.new) }
         ensures at { IfSome result (λ x. Does O.output_number (ReadsAt (nanos_of x)) self.old self.new journal.old journal.new) }
@@ -61,6 +59,7 @@ impl<O: Outcome + Drop, P: ThreadPool + Drop> Parts<O, Blockings<P>> {
         ensures same { self.new ≡ record self.old { acts = self.new.acts } }
         ensures tasks { self.new.tasks ≡ self.old.tasks }
         ensures has_timers { self.new.has_timers ≡ self.old.has_timers }
+        ensures faults { D.faults driver.new ≡ D.faults driver.old }
         ensures told { Telling (Still going) (telling (D.readings driver.old) (D.time driver.old) (D.parks driver.old)) going journal.old journal.new (telling (D.readings driver.new) (D.time driver.new) (D.parks driver.new)) }
         ensures full { journal.new.is_full ≡ journal.old.is_full }
         ensures held { journal.new.entries.held ≡ journal.old.entries.held }

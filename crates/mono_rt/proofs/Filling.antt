@@ -7,7 +7,7 @@ use Rattle.mono_task.specs.Members.{FutureOf}
 use Rattle.mono_time.specs.declared.instant.Instant.{Instant}
 use Rattle.mono_machine.specs.Machine.{Machine}
 use Rattle.mono_machine.specs.declared.events.End.{End}
-use Rattle.mono_parts.specs.Record.{Record, no_acts, room}
+use Rattle.mono_parts.specs.Record.{no_acts, room}
 use Rattle.mono_parts.specs.Stands.{hosting_of, Matches}
 use Rattle.mono_rt.specs.Turns.{Turn}
 use Rattle.mono_parts.specs.Turns.{IsTurnOf}
@@ -45,10 +45,10 @@ module _ {F O P U W J A V : Type 0} (number : O → ℕ) (leads : W → W → Ty
   fills_still a i j k first same full = first (sym same ∙ full)
 
   -- a turn
-  pub fills_turn : (c b d : Cx F O P U W J A V) (i j k : Journal) (t : ℕ) (now : Instant) (acts : Record) (e : End) (ended : Ended) → Goes number c.parts b.parts i j → j.is_full ≡ i.is_full → (j.is_full ≡ false → acts ≡ no_acts)
-      → Turn number leads future t now acts e ended b d → (j.is_full ≡ false → (m : Machine) → Matches number hosting_of b.parts m → IsTurnOf number t e ended b.parts d.parts m)
+  pub fills_turn : (c b d : Cx F O P U W J A V) (i j k : Journal) (t : ℕ) (now : Instant) (e : End) (ended : Ended) → Goes number c.parts b.parts i j → j.is_full ≡ i.is_full → (j.is_full ≡ false → b.parts.acts ≡ no_acts false)
+      → Turn number leads future t now b.parts.acts e ended b d → ((m : Machine) → Matches number hosting_of b.parts m → IsTurnOf number t e ended b.parts d.parts m)
       → k.is_full ≡ (j.is_full || d.parts.acts.is_full) → Fills number leads future c i k
-  fills_turn c b d i j k t now acts e ended goes same empty turn is kept full = elim (either j.is_full d.parts.acts.is_full (sym kept ∙ full)) [
+  fills_turn c b d i j k t now e ended goes same empty turn is kept full = elim (either j.is_full d.parts.acts.is_full (sym kept ∙ full)) [
     | inl was ↦ inl (sym same ∙ was)
     | inr (unfull, long) ↦ inr (record {
       before = b;
@@ -63,7 +63,7 @@ module _ {F O P U W J A V : Type 0} (number : O → ℕ) (leads : W → W → Ty
         ended = ended;
         turn = subst (λ a. Turn number leads future t now a e ended b d) (empty unfull) turn;
         is_full = long;
-        acts = λ m st. (is unfull m st, ltb-true room (length (is unfull m st).steps) (sym (is unfull m st).full ∙ long));
+        acts = λ m st. (is m st, ltb-true room (length (is m st).steps) (sym ((is m st).full (ap (λ x. x.is_full) (empty unfull))) ∙ long));
       };
     })
   ]

@@ -92,7 +92,7 @@ module _ {F O P U W J A V : Type 0} (number : O → ℕ) (leads : W → W → Ty
   pub polls_nothing : (fs : List (Option F)) (c : Parts O (Seen P)) (j : Journal) → Does number (Polling number leads future h fs fs) c c j j
   polls_nothing fs c j = does_more number Stays (Polling number leads future h fs fs) c c j j
       (λ m new xs zs stm stn stays. λ polled reading. subst (λ ys. Polled number leads future h m fs reading ys) (sym stays.0) (subst (λ x. Polled number leads future h x fs reading zs) stays.1 (polled reading)))
-      (does_stay number c c j j refl refl refl refl refl refl)
+      (does_stay number c c j j refl refl refl refl refl)
 
   -- between two rounds, unless memory was refused
   pub polls_pause : (fs gs : List (Option F)) (g : Bool) (r : Result Bool RunError) (c d : Parts O (Seen P)) (j k : Journal) → gs ≡ fs → Does number (PauseEnds g r) c d j k → OnMain r (Does number (Polling number leads future h fs gs) c d j k)
@@ -111,22 +111,22 @@ module _ {F O P U W J A V : Type 0} (number : O → ℕ) (leads : W → W → Ty
   From fs gs n m part new rest = ((reading : ℕ) → Polled number leads future h new gs reading rest) → Polled number leads future h m fs n part
 
   -- the clock is read and a task has its turn
-  pub polls_turn : (old opened done left : Cx F O P U W J A V) (i j k : Journal) (t : ℕ) (now : Instant) (e : End) (ended : Ended) → opened.parts.has_timers ≡ old.parts.has_timers → opened.futures.items ≡ old.futures.items
+  pub polls_turn : (old opened done left : Cx F O P U W J A V) (i j k : Journal) (t : ℕ) (now : Instant) (is_unread : Bool) (e : End) (ended : Ended) → opened.parts.has_timers ≡ old.parts.has_timers → opened.futures.items ≡ old.futures.items
       → Does number (ReadsAt (nanos_of now)) old.parts opened.parts i j
-      → (k.is_full ≡ false → Turn number leads future t now no_acts e ended opened done)
+      → Turn number leads future t now (no_acts is_unread) e ended opened done
       → Does number (IsStep (event.Turn done.parts.acts.steps e) (report.Turn t done.parts.acts.replies ended)) opened.parts left.parts j k
-      → (k.is_full ≡ false → done.parts.acts.is_full ≡ false) → old.parts.has_timers ≡ h → done.parts.is_out_of_memory ≡ false → left.futures.items ≡ done.futures.items
+      → old.parts.has_timers ≡ h → done.parts.is_out_of_memory ≡ false → left.futures.items ≡ done.futures.items
       → Does number (Polling number leads future h old.futures.items left.futures.items) old.parts left.parts i k
-  polls_turn old opened done left i j k t now e ended same_timers same_futures read turn step unfull timers memory kept =
+  polls_turn old opened done left i j k t now is_unread e ended same_timers same_futures read turn step timers memory kept =
       does_on number (ReadsAt (nanos_of now)) (From old.futures.items left.futures.items (nanos_of now)) (Polling number leads future h old.futures.items left.futures.items) old.parts opened.parts left.parts i j k
       (λ m mid new xs ys zs stm std stn reads tells. λ polled reading.
       subst (λ ws. Polled number leads future h m old.futures.items reading ws) (sym reads.0)
       (subst (λ x. Polled number leads future h x old.futures.items (nanos_of now) ys) reads.1 (tells polled)))
-      read (record { opens = step.opens; did = told })
+      read (record { did = told })
     where
-      told : (m : Machine) → Matches number hosting_of opened.parts m → k.is_full ≡ false → Did number (From old.futures.items left.futures.items (nanos_of now)) opened.parts left.parts j k m
-      told m st whole =
-          let did = step.did m st whole in
+      told : (m : Machine) → Matches number hosting_of opened.parts m → Did number (From old.futures.items left.futures.items (nanos_of now)) opened.parts left.parts j k m
+      told m st =
+          let did = step.did m st in
           record {
             went = did.went;
             is = λ rest polled.
@@ -143,13 +143,13 @@ module _ {F O P U W J A V : Type 0} (number : O → ℕ) (leads : W → W → Ty
                         ended = ended;
                         before = opened;
                         after = done;
-                        turn = turn whole;
+                        is_unread = is_unread;
+                        turn = turn;
                         reads = refl;
                         stands = st;
                         timers = same_timers ∙ timers;
                         had = same_futures;
                         has = sym kept;
-                        unfull = unfull whole;
                         memory = memory;
                         acts = refl;
                         told = refl;

@@ -19,22 +19,22 @@ use Rattle.mono_rt.specs.Turns.{Pauses, AfterPoll, UnlessSpent, Runs}
 use Rattle.mono_rt.specs.declared.contexts.Cx.{Cx}
 
 module _ {F O P U W J A V : Type 0} (number : O → ℕ) (leads : W → W → Type 0) (future : FutureOf F (Cx F O P U W J A V) O) where
-  by_rest : (c b x d : Cx F O P U W J A V) (t : ℕ) (now : Instant) (answer : Poll O) (g : F) (ended : Ended) (m : Machine) → BeginsParts t now no_acts c.parts b.parts → ReachesSharing number leads b x → AfterPoll number leads future answer t g ended x d → Matches number hosting_of c.parts m
+  by_rest : (c b x d : Cx F O P U W J A V) (t : ℕ) (now : Instant) (answer : Poll O) (g : F) (ended : Ended) (m : Machine) (is_unread : Bool) → c.parts.acts ≡ no_acts is_unread → BeginsParts t now c.parts.acts c.parts b.parts → ReachesSharing number leads b x → AfterPoll number leads future answer t g ended x d → Matches number hosting_of c.parts m
       → IsTurnOf number t (end_of number answer) ended c.parts d.parts m
-  by_rest c b x d t now Pending g ended m begins reached rest st = is_turn number c.parts b.parts x.parts d.parts t now Pending ended m begins reached.parts rest.parts st
-  by_rest c b x d t now (Ready output) g ended m begins reached (e, cancels, on, completes) st =
-      is_turn number c.parts b.parts e.parts d.parts t now (Ready output) ended m begins (leads_on number hosting_of b.parts x.parts e.parts reached.parts on.parts) completes.parts st
+  by_rest c b x d t now Pending g ended m is_unread blank begins reached rest st = is_turn number c.parts b.parts x.parts d.parts t now Pending ended m is_unread blank begins reached.parts rest.parts st
+  by_rest c b x d t now (Ready output) g ended m is_unread blank begins reached (e, cancels, on, completes) st =
+      is_turn number c.parts b.parts e.parts d.parts t now (Ready output) ended m is_unread blank begins (leads_on number hosting_of b.parts x.parts e.parts reached.parts on.parts) completes.parts st
 
-  by_pause : (c b d : Cx F O P U W J A V) (t : ℕ) (now : Instant) (f : Option F) (e : End) (ended : Ended) (m : Machine) → BeginsParts t now no_acts c.parts b.parts → e ≡ end.Pending → Pauses t f ended b d → Matches number hosting_of c.parts m → IsTurnOf number t e ended c.parts d.parts m
-  by_pause c b d t now f e ended m begins is pauses st = subst (λ x. IsTurnOf number t x ended c.parts d.parts m) (sym is) (is_turn number c.parts b.parts b.parts d.parts t now Pending ended m begins (leads_itself number hosting_of b.parts) pauses.parts st)
+  by_pause : (c b d : Cx F O P U W J A V) (t : ℕ) (now : Instant) (f : Option F) (e : End) (ended : Ended) (m : Machine) (is_unread : Bool) → c.parts.acts ≡ no_acts is_unread → BeginsParts t now c.parts.acts c.parts b.parts → e ≡ end.Pending → Pauses t f ended b d → Matches number hosting_of c.parts m → IsTurnOf number t e ended c.parts d.parts m
+  by_pause c b d t now f e ended m is_unread blank begins is pauses st = subst (λ x. IsTurnOf number t x ended c.parts d.parts m) (sym is) (is_turn number c.parts b.parts b.parts d.parts t now Pending ended m is_unread blank begins (leads_itself number hosting_of b.parts) pauses.parts st)
 
-  by_spent : (s : Bool) (c b d : Cx F O P U W J A V) (t : ℕ) (now : Instant) (f : F) (e : End) (ended : Ended) (m : Machine) → BeginsParts t now no_acts c.parts b.parts → UnlessSpent number leads future s t f e ended b d → Matches number hosting_of c.parts m → IsTurnOf number t e ended c.parts d.parts m
-  by_spent true c b d t now f e ended m begins runs st = by_pause c b d t now (Some f) e ended m begins runs.0 runs.1 st
-  by_spent false c b d t now f e ended m begins runs st = subst (λ x. IsTurnOf number t x ended c.parts d.parts m) (sym runs.is_end) (by_rest c b runs.middle d t now runs.answer runs.left ended m begins runs.reached runs.rest st)
+  by_spent : (s : Bool) (c b d : Cx F O P U W J A V) (t : ℕ) (now : Instant) (f : F) (e : End) (ended : Ended) (m : Machine) (is_unread : Bool) → c.parts.acts ≡ no_acts is_unread → BeginsParts t now c.parts.acts c.parts b.parts → UnlessSpent number leads future s t f e ended b d → Matches number hosting_of c.parts m → IsTurnOf number t e ended c.parts d.parts m
+  by_spent true c b d t now f e ended m is_unread blank begins runs st = by_pause c b d t now (Some f) e ended m is_unread blank begins runs.0 runs.1 st
+  by_spent false c b d t now f e ended m is_unread blank begins runs st = subst (λ x. IsTurnOf number t x ended c.parts d.parts m) (sym runs.is_end) (by_rest c b runs.middle d t now runs.answer runs.left ended m is_unread blank begins runs.reached runs.rest st)
 
-  pub turn_is : (f : Option F) (c b d : Cx F O P U W J A V) (t : ℕ) (now : Instant) (e : End) (ended : Ended) (m : Machine) → BeginsParts t now no_acts c.parts b.parts → Runs number leads future f t e ended b d → Matches number hosting_of c.parts m → IsTurnOf number t e ended c.parts d.parts m
-  turn_is None c b d t now e ended m begins runs st = by_pause c b d t now None e ended m begins runs.0 runs.1 st
-  turn_is (Some f) c b d t now e ended m begins runs st = by_spent (future.is_spent f) c b d t now f e ended m begins runs st
+  pub turn_is : (f : Option F) (c b d : Cx F O P U W J A V) (t : ℕ) (now : Instant) (e : End) (ended : Ended) (m : Machine) (is_unread : Bool) → c.parts.acts ≡ no_acts is_unread → BeginsParts t now c.parts.acts c.parts b.parts → Runs number leads future f t e ended b d → Matches number hosting_of c.parts m → IsTurnOf number t e ended c.parts d.parts m
+  turn_is None c b d t now e ended m is_unread blank begins runs st = by_pause c b d t now None e ended m is_unread blank begins runs.0 runs.1 st
+  turn_is (Some f) c b d t now e ended m is_unread blank begins runs st = by_spent (future.is_spent f) c b d t now f e ended m is_unread blank begins runs st
 
   -- no turn runs afterwards
   rest_after : (answer : Poll O) (b x d : Cx F O P U W J A V) (t : ℕ) (g : F) (ended : Ended) → b.parts.tasks.turn ≡ Some t → ReachesSharing number leads b x → AfterPoll number leads future answer t g ended x d → d.parts.tasks.turn ≡ None

@@ -21,7 +21,7 @@ module _ {F O P U W J A V : Type 0} (number : O → ℕ) (leads : W → W → Ty
     pub now : Instant
     pub ending : End
     pub ended : Ended
-    pub turn : Turn number leads future task now no_acts ending ended c d
+    pub turn : Turn number leads future task now (no_acts false) ending ended c d
     pub is_full : d.parts.acts.is_full ≡ true
     pub acts : (m : Machine) → Matches number hosting_of c.parts m → (is : IsTurnOf number task ending ended c.parts d.parts m) × (room < length is.steps)
 
@@ -29,7 +29,7 @@ module _ {F O P U W J A V : Type 0} (number : O → ℕ) (leads : W → W → Ty
   abbrev pub IsOneLong : Type 0
   IsOneLong = (c : Cx F O P U W J A V) × ((d : Cx F O P U W J A V) × LongTurn c d)
 
-  -- Such a turn came. Until it began the journal was not full, and told all that was done since then.
+  -- Such a turn came. Until it began the journal was not full, so it kept all that was done.
   pub record FilledBy (c : Cx F O P U W J A V) (j : Journal) : Type 0 where
     pub before : Cx F O P U W J A V
     pub after : Cx F O P U W J A V

@@ -3,3 +3,4 @@ pub mod Turns
 pub mod Polling
 pub mod Filling
 pub mod Spawns
+pub mod Starts

@@ -1,4 +1,4 @@
--- The futures go along the entries of a journal: each turn is one poll of its task's own future, at the reading before it,
+-- The futures go along the entries of a history: each turn is one poll of its task's own future, at the reading before it,
 -- from the futures that the turns before it left.
 use Rattle.std.specs.Prelude.{⊤, ◌≡◌, ℕ, Bool, false, List, [], ◌∷◌, ◌++◌, Option, Some, Result, Ok, Err}
 use Rattle.mono_task.specs.Members.{FutureOf}
@@ -30,21 +30,21 @@ MakesNoTask act.Spawn = ⊥
 MakesNoTask other = ⊤
 
 module _ {F O P U W J A V : Type 0} (number : O → ℕ) (leads : W → W → Type 0) (future : FutureOf F (Cx F O P U W J A V) O) (has_timers : Bool) where
-  -- A turn that a journal tells, at this reading of the clock: the context before it stands for the machine and has these
-  -- futures, that after it has those that are left. Each of its acts is told, and each of its calls found memory.
+  -- A turn of the history, at this reading of the clock: the context before it stands for the machine and has these futures,
+  -- that after it has those that are left. The entry has each of its acts, and each of its calls found memory.
   pub record TellsTurn (m : Machine) (futures : List (Option F)) (reading : ℕ) (steps : List TurnStep) (e : End) (answer : Report) (left : List (Option F)) : Type 0 where
     pub task : ℕ
     pub now : Instant
     pub ended : Ended
     pub before : Cx F O P U W J A V
     pub after : Cx F O P U W J A V
-    pub turn : Turn number leads future task now no_acts e ended before after
+    pub is_unread : Bool
+    pub turn : Turn number leads future task now (no_acts is_unread) e ended before after
     pub reads : nanos_of now ≡ reading
     pub stands : Matches number hosting_of before.parts m
     pub timers : before.parts.has_timers ≡ has_timers
     pub had : before.futures.items ≡ futures
     pub has : after.futures.items ≡ left
-    pub unfull : after.parts.acts.is_full ≡ false
     pub memory : after.parts.is_out_of_memory ≡ false
     pub acts : after.parts.acts.steps ≡ steps
     pub told : answer ≡ report.Turn task after.parts.acts.replies ended
@@ -62,7 +62,7 @@ module _ {F O P U W J A V : Type 0} (number : O → ℕ) (leads : W → W → Ty
   Polled m futures reading (Ran (event.Remote t) answer ∷ part) = (mid : Machine) × (Step m (event.Remote t) answer mid × Polled mid futures reading part)
   Polled m futures reading (Ran event.Drain answer ∷ part) = (mid : Machine) × (Step m event.Drain answer mid × Polled mid futures reading part)
 
-  -- The same of a part of a journal, which leaves these futures: where what follows it is polled, so is the whole.
+  -- The same of a part of a history, which leaves these futures: where what follows it is polled, so is the whole.
   abbrev pub Polling : List (Option F) → List (Option F) → Machine → List Entry → Machine → List Entry → Type 0
   Polling futures left old part new rest = ((reading : ℕ) → Polled new left reading rest) → (reading : ℕ) → Polled old futures reading part
 

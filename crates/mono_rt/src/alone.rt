@@ -1,5 +1,5 @@
 // A whole run of a runtime of its own.
-ghost use Rattle.std.specs.Prelude.{⊤, ◌≡◌, ℕ, IfOk, Option, None, true, false, []};
+ghost use Rattle.std.specs.Prelude.{⊤, ◌≡◌, ℕ, IfOk, Option, None, true, []};
 ghost use Rattle.mono_machine.specs.Machine.{Machine, start_machine};
 ghost use Rattle.mono_machine.specs.Steps.{Run};
 ghost use Rattle.mono_jobs.specs.Spawning.{strategy_of};
@@ -23,7 +23,11 @@ use std::alloc::{AllocError, Global};
 
 /// Runs a main task on a new runtime, and answers the journal beside the answer.
 ///
-/// The journal is what `Blocked` tells of the answer, from the machine's start, but where it is full (`blocked`). So what it says was done is a run of the plain machine from its start (`run`). Each park is until the next expiration over the registered ticks, of which there are none at the start (`parks`). Each reading is the one that the driver told: where it tells its time, that time and what it was parked for since; where it tells its readings, the next of them (`told`). It is full only where a turn made more acts than 512 (`full`).
+/// The journal's history is what `Blocked` says of the answer, from the machine's start (`blocked`). So what was done is a
+/// run of the plain machine from its start (`run`). Each park is until the next expiration over the registered ticks, of
+/// which there are none at the start (`parks`). Each reading is the one that the driver told: if it tells its time, that
+/// time and what it was parked for since; if it tells its readings, the next of them (`told`). The journal is full only if a
+/// turn made more acts than 512 (`full`); until then its entries are the history (`Journal::kept`).
 pub fn run_alone<F, O, D, P, R: Host>(
     rt: &R,
     alloc: Global,
@@ -40,10 +44,10 @@ where
     D: Driver,
     P: ThreadPool + Drop,
     requires callable { (f : F) → F.can_poll f }
-    ensures blocked { IfOk result (λ r. r.1.is_full ≡ false → (new : Machine) × Blocked true turns (answer_numbered O.output_number r.0) (start_machine limits (strategy_of pool)) r.1.entries.items new []) }
-    ensures told { IfOk result (λ r. r.1.is_full ≡ false → IsTold r.0 (telling (D.readings driver) (D.time driver) (D.parks driver)) r.1.entries.items) }
-    ensures run { IfOk result (λ r. r.1.is_full ≡ false → (new : Machine) × Run (start_machine limits (strategy_of pool)) (events_in r.1.entries.items) (reports_in r.1.entries.items) new) }
-    ensures parks { IfOk result (λ r. r.1.is_full ≡ false → (new : Machine) × ((left : ℕ → Option ℕ) × Registers None (start_machine limits (strategy_of pool)) (λ s. None) r.1.entries.items new left)) }
+    ensures blocked { IfOk result (λ r. (new : Machine) × Blocked true turns (answer_numbered O.output_number r.0) (start_machine limits (strategy_of pool)) r.1.history.entries new []) }
+    ensures told { IfOk result (λ r. IsTold r.0 (telling (D.readings driver) (D.time driver) (D.parks driver)) r.1.history.entries) }
+    ensures run { IfOk result (λ r. (new : Machine) × Run (start_machine limits (strategy_of pool)) (events_in r.1.history.entries) (reports_in r.1.history.entries) new) }
+    ensures parks { IfOk result (λ r. (new : Machine) × ((left : ℕ → Option ℕ) × Registers None (start_machine limits (strategy_of pool)) (λ s. None) r.1.history.entries new left)) }
     ensures full { IfOk result (λ r. r.1.is_full ≡ true → IsOneLong O.output_number (λ a b. ⊤) F.TaskFuture) }
 {
     let mut runtime = Runtime::new(alloc, driver, pool, limits, true, start, ())?;

@@ -5,6 +5,7 @@ ghost use Rattle.mono_parts.specs.Numbered.{answer_numbered};
 ghost use Rattle.mono_parts.specs.Journals.{Goes, Does, Stays};
 ghost use Rattle.mono_parts.specs.Rounds.{Parks, OrLed, PauseEnds, Round, PassEnds, Ends, IsSpawn, IsRefused, Blocked, cost};
 ghost use Rattle.mono_parts.specs.Blocked.{OnCapacity, OnMemory};
+ghost use Rattle.mono_parts.specs.Faults.{FaultsBy, FaultsParked};
 ghost use Rattle.mono_rt.specs.Polling.{Polling, PollsMain, OnMain};
 ghost use Rattle.mono_rt.specs.Filling.{Fills};
 ghost use Rattle.mono_parts.specs.Telling.{telling, going, Telling, Still, EndsSo, EndsWaited};
@@ -35,6 +36,7 @@ impl<F: Drop, O: Outcome + Drop, D: Driver, P: ThreadPool + Drop, W: SharedState
         ensures turn { self.new.cx.parts.tasks.turn ≡ self.old.cx.parts.tasks.turn }
         ensures futures { self.new.cx.futures ≡ self.old.cx.futures }
         ensures shared { self.new.cx.shared ≡ self.old.cx.shared }
+        ensures faults { FaultsParked result (D.faults self.old.driver) (D.faults self.new.driver) }
         ensures told { Telling (EndsWaited result) (telling (D.readings self.old.driver) (D.time self.old.driver) (D.parks self.old.driver)) going self.old.journal self.new.journal (telling (D.readings self.new.driver) (D.time self.new.driver) (D.parks self.new.driver)) }
         ensures full { self.new.journal.is_full ≡ self.old.journal.is_full }
         ensures held { self.new.journal.entries.held ≡ self.old.journal.entries.held }
@@ -70,6 +72,7 @@ impl<F: Drop, O: Outcome + Drop, D: Driver, P: ThreadPool + Drop, W: SharedState
         ensures turn { self.new.cx.parts.tasks.turn ≡ self.old.cx.parts.tasks.turn }
         ensures futures { self.new.cx.futures ≡ self.old.cx.futures }
         ensures shared { self.new.cx.shared ≡ self.old.cx.shared }
+        ensures faults { FaultsBy result (D.faults self.old.driver) (D.faults self.new.driver) }
         ensures told { Telling (EndsSo result) (telling (D.readings self.old.driver) (D.time self.old.driver) (D.parks self.old.driver)) going self.old.journal self.new.journal (telling (D.readings self.new.driver) (D.time self.new.driver) (D.parks self.new.driver)) }
         ensures full { self.new.journal.is_full ≡ self.old.journal.is_full }
         ensures held { self.new.journal.entries.held ≡ self.old.journal.entries.held }
@@ -100,6 +103,7 @@ impl<F: Drop, O: Outcome + Drop, D: Driver, P: ThreadPool + Drop, W: SharedState
         ensures turn { self.new.cx.parts.tasks.turn ≡ self.old.cx.parts.tasks.turn }
         ensures shared { self.new.cx.shared ≡ self.old.cx.shared }
         ensures made { OnOk result (self.new.cx.futures.items ≡ self.old.cx.futures.items ++ Some future ∷ []) }
+        ensures faults { D.faults self.new.driver ≡ D.faults self.old.driver }
         ensures told { Telling (Still going) (telling (D.readings self.old.driver) (D.time self.old.driver) (D.parks self.old.driver)) going self.old.journal self.new.journal (telling (D.readings self.new.driver) (D.time self.new.driver) (D.parks self.new.driver)) }
         ensures full { self.new.journal.is_full ≡ self.old.journal.is_full }
         ensures unmade { IfErr result (λ error. OnMemory error (Does O.output_number Stays self.old.cx.parts self.new.cx.parts self.old.journal self.new.journal)) }
@@ -143,6 +147,7 @@ where
         ensures round { IfOk result (λ left. Does O.output_number (Round units left) self.old.cx.parts self.new.cx.parts self.old.journal self.new.journal) }
         ensures fewer { IfOk result (λ left. 0 < length self.old.cx.parts.tasks.tasks.queue → 0 < units → left < units) }
         ensures polled { OnOk result (Does O.output_number (Polling O.output_number W.leads F.TaskFuture self.old.cx.parts.has_timers self.old.cx.futures.items self.new.cx.futures.items) self.old.cx.parts self.new.cx.parts self.old.journal self.new.journal) }
+        ensures faults { D.faults self.new.driver ≡ D.faults self.old.driver }
         ensures told { Telling (Still going) (telling (D.readings self.old.driver) (D.time self.old.driver) (D.parks self.old.driver)) going self.old.journal self.new.journal (telling (D.readings self.new.driver) (D.time self.new.driver) (D.parks self.new.driver)) }
         ensures full { Fills O.output_number W.leads F.TaskFuture self.old.cx self.old.journal self.new.journal }
         ensures held { self.new.journal.entries.held ≡ self.old.journal.entries.held }
@@ -169,6 +174,7 @@ where
         ensures rests { self.new.cx.parts.tasks.turn ≡ None }
         ensures fewer { IfOk result (λ left. left < units) }
         ensures polled { OnMain result (Does O.output_number (Polling O.output_number W.leads F.TaskFuture self.old.cx.parts.has_timers self.old.cx.futures.items self.new.cx.futures.items) self.old.cx.parts self.new.cx.parts self.old.journal self.new.journal) }
+        ensures faults { FaultsBy result (D.faults self.old.driver) (D.faults self.new.driver) }
         ensures told { Telling (EndsSo result) (telling (D.readings self.old.driver) (D.time self.old.driver) (D.parks self.old.driver)) going self.old.journal self.new.journal (telling (D.readings self.new.driver) (D.time self.new.driver) (D.parks self.new.driver)) }
         ensures full { Fills O.output_number W.leads F.TaskFuture self.old.cx self.old.journal self.new.journal }
         ensures held { self.new.journal.entries.held ≡ self.old.journal.entries.held }
@@ -196,6 +202,7 @@ where
         ensures shared { W.leads self.old.cx.shared self.new.cx.shared }
         ensures rests { self.new.cx.parts.tasks.turn ≡ None }
         ensures polled { OnMain result (Does O.output_number (Polling O.output_number W.leads F.TaskFuture self.old.cx.parts.has_timers self.old.cx.futures.items self.new.cx.futures.items) self.old.cx.parts self.new.cx.parts self.old.journal self.new.journal) }
+        ensures faults { FaultsBy result (D.faults self.old.driver) (D.faults self.new.driver) }
         ensures told { Telling (EndsSo result) (telling (D.readings self.old.driver) (D.time self.old.driver) (D.parks self.old.driver)) going self.old.journal self.new.journal (telling (D.readings self.new.driver) (D.time self.new.driver) (D.parks self.new.driver)) }
         ensures full { Fills O.output_number W.leads F.TaskFuture self.old.cx self.old.journal self.new.journal }
         ensures held { self.new.journal.entries.held ≡ self.old.journal.entries.held }
@@ -220,11 +227,13 @@ where
     /// Runs the future as the main task until it is ready, with so many units: each turn costs one, and each wait after
     /// which no task is queued.
     ///
-    /// From each machine for which the parts stood, the journal grew by what `Blocked` tells of the answer, which is a run of
-    /// the machine, but where it is full (`blocked`). After want of memory nothing was done, or the main task was made, what
-    /// follows is a run, and the last entry is the drop of the main task's handle, which takes no memory: room for it is made
-    /// before the main task. Each turn that it tells is one poll of its task's own future, from the futures that the turns
-    /// before it left, unless memory was wanting (`polled`).
+    /// From each machine for which the parts stood, the history grew by what `Blocked` says of the answer, which is a run of
+    /// the machine (`blocked`). The history is there whether or not a journal is kept; a journal that is not full equals it
+    /// (`Journal::kept`). If the answer is Memory, nothing was done, or the main task was made, what follows is a run, and the
+    /// last entry is the drop of the main task's handle, which takes no memory: room for it is made before the main task. Each
+    /// turn of the history is one poll of its task's own future, from the futures that the turns before it left, unless the
+    /// answer is Memory (`polled`). The answer is Driver only if the driver's count of faults rose in this call, and if it
+    /// rose the answer is Driver or Memory (`faults`).
     pub fn block_on<R: Host>(
         &mut self,
         rt: &R,
@@ -238,6 +247,7 @@ where
         ensures shared { W.leads self.old.cx.shared self.new.cx.shared }
         ensures rests { self.new.cx.parts.tasks.turn ≡ None }
         ensures polled { OnMain result (Does O.output_number (PollsMain O.output_number W.leads F.TaskFuture self.old.cx.parts.has_timers future self.old.cx.futures.items self.new.cx.futures.items) self.old.cx.parts self.new.cx.parts self.old.journal self.new.journal) }
+        ensures faults { FaultsBy result (D.faults self.old.driver) (D.faults self.new.driver) }
         ensures told { Telling (EndsSo result) (telling (D.readings self.old.driver) (D.time self.old.driver) (D.parks self.old.driver)) going self.old.journal self.new.journal (telling (D.readings self.new.driver) (D.time self.new.driver) (D.parks self.new.driver)) }
         ensures full { Fills O.output_number W.leads F.TaskFuture self.old.cx self.old.journal self.new.journal }
         ensures held { self.new.journal.entries.held ≡ self.old.journal.entries.held }

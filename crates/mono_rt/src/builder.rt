@@ -5,6 +5,9 @@ ghost use Rattle.mono_time.specs.Instants.{nanos_of};
 ghost use Rattle.mono_time.specs.Timers.{registered_of};
 ghost use Rattle.mono_jobs.specs.Spawning.{strategy_of, IsApart};
 ghost use Rattle.mono_parts.specs.Stands.{hosting_of, Matches};
+ghost use Rattle.mono_parts.specs.Telling.{telling};
+ghost use Rattle.mono_rt.specs.Starts.{RunsFrom};
+ghost use Rattle.mono_machine.specs.declared.events.Blocking.TheVariants as none;
 ghost use Rattle.mono_blocking.specs.declared.strategy.BlockingHandle.TheVariants.{Attached, Empty};
 ghost use Rattle.mono_blocking.specs.declared.strategy.BlockingStrategy.TheVariants.{Panic};
 
@@ -158,7 +161,7 @@ impl<D: Drop, P: Drop> RuntimeBuilder<D, P> {
 impl<D: Buildable, P: ThreadPool + Drop> RuntimeBuilder<D, P> {
     /// A runtime. Its context stands for the machine's start, with the limits that were set, and with the strategy Attached
     /// where a pool is attached, else with the one that was set (`stands`). It has timers exactly where its driver marks
-    /// them (`timers`).
+    /// them (`timers`). No future is in its table (`futures`), and nothing was done yet (`history`).
     pub fn build<F: Drop, O: Outcome + Drop>(
         self,
         alloc: Global,
@@ -168,6 +171,8 @@ impl<D: Buildable, P: ThreadPool + Drop> RuntimeBuilder<D, P> {
         ensures pool { IfOk result (λ made. made.cx.parts.blocking.pool ≡ self.pool) }
         ensures driver { IfOk result (λ made. made.driver ≡ self.driver) }
         ensures journal { IfOk result (λ made. (made.journal.entries.items ≡ []) × (made.journal.is_full ≡ not self.keeps_journal)) }
+        ensures history { IfOk result (λ made. made.journal.history.entries ≡ []) }
+        ensures futures { IfOk result (λ made. made.cx.futures.items ≡ []) }
         ensures rests { IfOk result (λ made. made.cx.parts.tasks.turn ≡ None) }
         ensures me { IfOk result (λ made. (made.cx.parts.me ≡ 0) × (nanos_of made.cx.parts.now ≡ 0)) }
         ensures registered { IfOk result (λ made. (s : ℕ) → registered_of made.cx.parts.timers s ≡ None) }
@@ -187,6 +192,8 @@ impl<D: Buildable, P: ThreadPool + Drop> RuntimeBuilder<D, P> {
         ensures pool { IfOk result (λ made. made.cx.parts.blocking.pool ≡ self.pool) }
         ensures driver { IfOk result (λ made. made.driver ≡ self.driver) }
         ensures journal { IfOk result (λ made. (made.journal.entries.items ≡ []) × (made.journal.is_full ≡ not self.keeps_journal)) }
+        ensures history { IfOk result (λ made. made.journal.history.entries ≡ []) }
+        ensures futures { IfOk result (λ made. made.cx.futures.items ≡ []) }
         ensures rests { IfOk result (λ made. made.cx.parts.tasks.turn ≡ None) }
         ensures me { IfOk result (λ made. (made.cx.parts.me ≡ 0) × (nanos_of made.cx.parts.now ≡ 0)) }
         ensures registered { IfOk result (λ made. (s : ℕ) → registered_of made.cx.parts.timers s ≡ None) }
@@ -210,6 +217,7 @@ impl<D: Driver, P: ThreadPool + Drop> RuntimeBuilder<D, P> {
         ensures pool { IfOk result (λ made. made.cx.parts.blocking.pool ≡ self.pool) }
         ensures driver { IfOk result (λ made. made.driver ≡ self.driver) }
         ensures entries { IfOk result (λ made. made.journal.entries.items ≡ []) }
+        ensures history { IfOk result (λ made. made.journal.history.entries ≡ []) }
         ensures full { IfOk result (λ made. made.journal.is_full ≡ not self.keeps_journal) }
         ensures futures { IfOk result (λ made. made.cx.futures.items ≡ []) }
         ensures rests { IfOk result (λ made. made.cx.parts.tasks.turn ≡ None) }
@@ -267,6 +275,8 @@ pub trait Buildable: Driver + Sized {
         ensures pool { IfOk result (λ made. made.cx.parts.blocking.pool ≡ this.pool) }
         ensures driver { IfOk result (λ made. made.driver ≡ this.driver) }
         ensures journal { IfOk result (λ made. (made.journal.entries.items ≡ []) × (made.journal.is_full ≡ not this.keeps_journal)) }
+        ensures history { IfOk result (λ made. made.journal.history.entries ≡ []) }
+        ensures futures { IfOk result (λ made. made.cx.futures.items ≡ []) }
         ensures rests { IfOk result (λ made. made.cx.parts.tasks.turn ≡ None) }
         ensures me { IfOk result (λ made. (made.cx.parts.me ≡ 0) × (nanos_of made.cx.parts.now ≡ 0)) }
         ensures registered { IfOk result (λ made. (s : ℕ) → registered_of made.cx.parts.timers s ≡ None) }
@@ -344,7 +354,8 @@ impl<F: Drop, O: Outcome + Drop, D: Driver, P: ThreadPool + Drop, W: SharedState
     }
 }
 
-/// Makes a runtime with the defaults on this driver, and runs the future on it as `Runtime::block_on` does.
+/// Makes a runtime with the defaults on this driver, and runs the future on it as `Runtime::block_on` does: there is a history
+/// from the machine's start that is what `Blocked` says of the answer, and that tells of the driver.
 pub fn start<D, F, O, P, R: Host>(
     rt: &R,
     alloc: Global,
@@ -358,6 +369,7 @@ where
     D: Buildable,
     P: ThreadPool + Drop,
     requires { (f : F) → F.can_poll f }
+    ensures { RunsFrom O.output_number D.marks_timers turns result (start_machine (record { tasks = 2 ^ 20; jobs = 2 ^ 20; sleeps = 2 ^ 20 }) none.Panic) (telling (D.readings driver) (D.time driver) (D.parks driver)) }
 {
     let builder: RuntimeBuilder<D, P> = RuntimeBuilder::new(driver);
     match builder.build(alloc) {

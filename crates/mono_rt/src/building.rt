@@ -40,6 +40,7 @@ impl<F: Drop, O: Outcome + Drop, D: Driver, P: ThreadPool + Drop, W: SharedState
         ensures driver { IfOk result (λ runtime. runtime.driver ≡ driver) }
         ensures rests { IfOk result (λ runtime. runtime.cx.parts.tasks.turn ≡ None) }
         ensures journal { IfOk result (λ runtime. runtime.journal.entries.items ≡ []) }
+        ensures history { IfOk result (λ runtime. runtime.journal.history.entries ≡ []) }
         ensures futures { IfOk result (λ runtime. runtime.cx.futures.items ≡ []) }
         ensures unfull { IfOk result (λ runtime. runtime.journal.is_full ≡ false) }
         ensures registered { IfOk result (λ runtime. (s : ℕ) → registered_of runtime.cx.parts.timers s ≡ None) }

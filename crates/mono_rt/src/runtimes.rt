@@ -43,6 +43,7 @@ where
         ensures shared { W.leads self.old.cx.shared self.new.cx.shared }
         ensures has_timers { self.new.cx.parts.has_timers ≡ self.old.cx.parts.has_timers }
         ensures rests { self.new.cx.parts.tasks.turn ≡ None }
+        ensures faults { D.faults self.new.driver ≡ D.faults self.old.driver }
         ensures told { Telling (Still going) (telling (D.readings self.old.driver) (D.time self.old.driver) (D.parks self.old.driver)) going self.old.journal self.new.journal (telling (D.readings self.new.driver) (D.time self.new.driver) (D.parks self.new.driver)) }
         ensures full { Fills O.output_number W.leads F.TaskFuture self.old.cx self.old.journal self.new.journal }
         ensures held { self.new.journal.entries.held ≡ self.old.journal.entries.held }

@@ -1,5 +1,5 @@
 // A turn of the task at the queue's front.
-ghost use Rattle.std.specs.Prelude.{◌≡◌, ◌<◌, None, Some, true, false, length, IfSome, IfNone, is_some, not, slice_set};
+ghost use Rattle.std.specs.Prelude.{◌≡◌, ◌<◌, Bool, None, Some, true, false, length, IfSome, IfNone, is_some, not, slice_set};
 ghost use Rattle.mono_model.specs.Table.{value_at};
 ghost use Rattle.mono_machine.specs.Machine.{Machine};
 ghost use Rattle.mono_parts.specs.Record.{no_acts};
@@ -133,7 +133,7 @@ where
         requires rests { self.old.parts.tasks.turn ≡ None }
         requires queued { 0 < length self.old.parts.tasks.tasks.queue }
         ensures turn { Turn O.output_number W.leads F.TaskFuture result.0 now self.old.parts.acts result.1 result.2 self.old self.new }
-        ensures is { self.old.parts.acts ≡ no_acts → (m : Machine) → Matches O.output_number hosting_of self.old.parts m → IsTurnOf O.output_number result.0 result.1 result.2 self.old.parts self.new.parts m }
+        ensures is { (is_unread : Bool) → self.old.parts.acts ≡ no_acts is_unread → (m : Machine) → Matches O.output_number hosting_of self.old.parts m → IsTurnOf O.output_number result.0 result.1 result.2 self.old.parts self.new.parts m }
         ensures shared { W.leads self.old.shared self.new.shared }
         ensures has_timers { self.new.parts.has_timers ≡ self.old.parts.has_timers }
         ensures rests { self.new.parts.tasks.turn ≡ None }

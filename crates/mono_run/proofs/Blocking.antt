@@ -1,5 +1,5 @@
 -- What was told of a run is what the runtime's call tells.
-use Rattle.std.proofs.Common.{◌≡◌, ℕ, zero, suc, true, false, Bool, List, [], length, map, Option, Some, None, Result, Ok, Err, IfOk, OnOk, refl, sym, subst, arith}
+use Rattle.std.proofs.Common.{◌∙◌, ap, ◌≡◌, ℕ, zero, suc, true, false, Bool, List, [], length, map, Option, Some, None, Result, Ok, Err, IfOk, OnOk, refl, sym, subst, arith}
 use Rattle.std.specs.Prelude.{⊤}
 use Rattle.mono_machine.specs.Machine.{Machine, start_machine}
 use Rattle.mono_machine.specs.declared.events.Limits.{Limits}
@@ -37,19 +37,23 @@ pub same_answer : (a : Result ℕ RunError) → answer_numbered (λ n. n) a ≡ 
 same_answer (Ok o) = refl
 same_answer (Err e) = refl
 
-whole : (run : ScriptRun) (limits : Limits) (turns : ℕ) (j : Journal) (answer : Result ℕ RunError)
-    → ((new : Machine) × Blocked true turns (answer_numbered (λ n. n) answer) (start_machine limits strategy.Attached) j.entries.items new [])
-    → answer ≡ answer_of run.end → run.text.items ≡ journal_text (map told j.entries.items) (output_in (answer_of run.end))
-    → (made : Ran limits turns run.end run.text.items) × (made.entries ≡ j.entries.items)
-whole run limits turns j answer b is text =
-    let same = subst (λ a. Blocked true turns a (start_machine limits strategy.Attached) j.entries.items b.0 []) (same_answer answer) b.1 in
-    (record { entries = j.entries.items; last = b.0; blocked = subst (λ a. Blocked true turns a (start_machine limits strategy.Attached) j.entries.items b.0 []) is same; text = text }, refl)
+whole : (run : ScriptRun) (limits : Limits) (turns : ℕ) (part : List Entry) (answer : Result ℕ RunError)
+    → ((new : Machine) × Blocked true turns (answer_numbered (λ n. n) answer) (start_machine limits strategy.Attached) part new [])
+    → answer ≡ answer_of run.end → run.text.items ≡ journal_text (map told part) (output_in (answer_of run.end))
+    → (made : Ran limits turns run.end run.text.items) × (made.entries ≡ part)
+whole run limits turns part answer b is text =
+    let same = subst (λ a. Blocked true turns a (start_machine limits strategy.Attached) part b.0 []) (same_answer answer) b.1 in
+    (record { entries = part; last = b.0; blocked = subst (λ a. Blocked true turns a (start_machine limits strategy.Attached) part b.0 []) is same; text = text }, refl)
+
+-- what is printed are the lines of the history
+by_history : (j : Journal) (run : ScriptRun) → j.is_full ≡ false → run.text.items ≡ journal_text (map told j.entries.items) (output_in (answer_of run.end)) → run.text.items ≡ journal_text (map told j.history.entries) (output_in (answer_of run.end))
+by_history j run unfull text = text ∙ ap (λ es. journal_text (map told es) (output_in (answer_of run.end))) (j.kept unfull)
 
 pub told_ran : {E : Type 0} (r : Result ScriptRun E) (limits : Limits) (turns : ℕ) (j : Journal) (answer : Result ℕ RunError)
-    → (j.is_full ≡ false → (new : Machine) × Blocked true turns (answer_numbered (λ n. n) answer) (start_machine limits strategy.Attached) j.entries.items new [])
+    → ((new : Machine) × Blocked true turns (answer_numbered (λ n. n) answer) (start_machine limits strategy.Attached) j.history.entries new [])
     → IfOk r (λ run. answer ≡ answer_of run.end) → OnOk r (j.is_full ≡ false) → IfOk r (λ run. run.text.items ≡ journal_text (map told j.entries.items) (output_in (answer_of run.end)))
     → IfOk r (λ run. Ran limits turns run.end run.text.items)
-told_ran (Ok run) limits turns j answer blocked is kept text = (whole run limits turns j answer (blocked kept) is text).0
+told_ran (Ok run) limits turns j answer blocked is kept text = (whole run limits turns j.history.entries answer blocked is (by_history j run kept text)).0
 told_ran (Err e) limits turns j answer blocked is kept text = tt
 
 -- none of these is a fault
@@ -64,27 +68,27 @@ reads_so zero readings new part tells = sums_from (told_first zero readings) new
 reads_so (suc n) None new part tells = tt
 reads_so (suc n) (Some readings) new part tells = in_order (told_first (suc n) (Some readings)) new going going readings part refl tells
 
-made_reads : (workers : ℕ) (readings : Option (List ℕ)) (run : ScriptRun) (limits : Limits) (turns : ℕ) (j : Journal) (answer : Result ℕ RunError)
-    → ((new : Machine) × Blocked true turns (answer_numbered (λ n. n) answer) (start_machine limits strategy.Attached) j.entries.items new [])
-    → IsTold answer (told_first workers readings) j.entries.items
-    → answer ≡ answer_of run.end → run.text.items ≡ journal_text (map told j.entries.items) (output_in (answer_of run.end))
-    → (made : RanBy workers readings limits turns run.end run.text.items) × (made.ran.entries ≡ j.entries.items)
-made_reads workers readings run limits turns j answer b t is text =
-    let w = whole run limits turns j answer b is text in (
+made_reads : (workers : ℕ) (readings : Option (List ℕ)) (run : ScriptRun) (limits : Limits) (turns : ℕ) (part : List Entry) (answer : Result ℕ RunError)
+    → ((new : Machine) × Blocked true turns (answer_numbered (λ n. n) answer) (start_machine limits strategy.Attached) part new [])
+    → IsTold answer (told_first workers readings) part
+    → answer ≡ answer_of run.end → run.text.items ≡ journal_text (map told part) (output_in (answer_of run.end))
+    → (made : RanBy workers readings limits turns run.end run.text.items) × (made.ran.entries ≡ part)
+made_reads workers readings run limits turns part answer b t is text =
+    let w = whole run limits turns part answer b is text in (
       record {
         ran = w.0;
-        reads = subst (ReadsSo workers readings) (sym w.1) (reads_so workers readings t.new j.entries.items
-            (subst (λ x. Tells (told_first workers readings) going j.entries.items t.new x) (going_by run.end t.after (subst (λ a. EndsSo a t.after) is t.ends)) t.tells));
+        reads = subst (ReadsSo workers readings) (sym w.1) (reads_so workers readings t.new part
+            (subst (λ x. Tells (told_first workers readings) going part t.new x) (going_by run.end t.after (subst (λ a. EndsSo a t.after) is t.ends)) t.tells));
       },
       w.1,
     )
 
 pub told_reads : {E : Type 0} (workers : ℕ) (readings : Option (List ℕ)) (r : Result ScriptRun E) (limits : Limits) (turns : ℕ) (j : Journal) (answer : Result ℕ RunError)
-    → (j.is_full ≡ false → (new : Machine) × Blocked true turns (answer_numbered (λ n. n) answer) (start_machine limits strategy.Attached) j.entries.items new [])
-    → (j.is_full ≡ false → IsTold answer (told_first workers readings) j.entries.items)
+    → ((new : Machine) × Blocked true turns (answer_numbered (λ n. n) answer) (start_machine limits strategy.Attached) j.history.entries new [])
+    → IsTold answer (told_first workers readings) j.history.entries
     → IfOk r (λ run. answer ≡ answer_of run.end) → OnOk r (j.is_full ≡ false) → IfOk r (λ run. run.text.items ≡ journal_text (map told j.entries.items) (output_in (answer_of run.end)))
     → IfOk r (λ run. RanBy workers readings limits turns run.end run.text.items)
-told_reads workers readings (Ok run) limits turns j answer blocked tells is kept text = (made_reads workers readings run limits turns j answer (blocked kept) (tells kept) is text).0
+told_reads workers readings (Ok run) limits turns j answer blocked tells is kept text = (made_reads workers readings run limits turns j.history.entries answer blocked tells is (by_history j run kept text)).0
 told_reads workers readings (Err e) limits turns j answer blocked tells is kept text = tt
 
 -- the turns that were told are those of the script
@@ -111,25 +115,25 @@ pub driven_does : {P U J A V Q : Type 0} (future : FutureOf ScriptTask (Cx Scrip
     → (cancels : (f : ScriptTask) (x y : Cx ScriptTask ℕ P U ⊤ J A V) → future.cancels f x y → y ≡ x)
     → (e : RunEnd) (s : Script) (turns : ℕ) (answer : Result ℕ RunError) (l : Journal)
     → OnMain answer (Does (λ n. n) (PollsMain (λ n. n) (λ a b. ⊤) future h main had left) c d j k)
-    → h ≡ true → had ≡ [] → Matches (λ n. n) hosting_of c (start_machine s.limits strategy.Attached) → j.entries.items ≡ [] → l ≡ k → l.is_full ≡ false
+    → h ≡ true → had ≡ [] → Matches (λ n. n) hosting_of c (start_machine s.limits strategy.Attached) → j.history.entries ≡ [] → l ≡ k
     → answer ≡ answer_of e → main ≡ new_task main 0 → main.kinds.now ≡ s.kinds → IsSound (length s.kinds) s
-    → ((new : Machine) × Blocked true turns (answer_numbered (λ n. n) answer) (start_machine s.limits strategy.Attached) l.entries.items new []) → Driven s (map told l.entries.items)
-driven_does future h main had left c d j k unspent polls cancels e s turns answer l does timers none stands empty same unfull is first kinds sound blocked =
+    → ((new : Machine) × Blocked true turns (answer_numbered (λ n. n) answer) (start_machine s.limits strategy.Attached) l.history.entries new []) → Driven s (map told l.history.entries)
+driven_does future h main had left c d j k unspent polls cancels e s turns answer l does timers none stands empty same is first kinds sound blocked =
     let m : Machine = start_machine s.limits strategy.Attached in
-    let Whole : Type 0 = (new : Machine) × PollsMain (λ n. n) (λ a b. ⊤) future true main [] left m l.entries.items new [] in
+    let Whole : Type 0 = (new : Machine) × PollsMain (λ n. n) (λ a b. ⊤) future true main [] left m l.history.entries new [] in
     let polled : OnMain answer Whole = on_main {X = ℕ} answer (Does (λ n. n) (PollsMain (λ n. n) (λ a b. ⊤) future h main had left) c d j k) Whole
-    (λ did. subst (λ b. (new : Machine) × PollsMain (λ n. n) (λ a b. ⊤) future b main [] left m l.entries.items new []) timers
-    (subst (λ xs. (new : Machine) × PollsMain (λ n. n) (λ a b. ⊤) future h main xs left m l.entries.items new []) none
-    (relation_of (λ n. n) (PollsMain (λ n. n) (λ a b. ⊤) future h main had left) c d j k l m stands empty same did unfull))) does in
-    driven_by future unspent polls cancels e s turns main left answer l.entries.items is first kinds sound polled blocked
+    (λ did. subst (λ b. (new : Machine) × PollsMain (λ n. n) (λ a b. ⊤) future b main [] left m l.history.entries new []) timers
+    (subst (λ xs. (new : Machine) × PollsMain (λ n. n) (λ a b. ⊤) future h main xs left m l.history.entries new []) none
+    (relation_of (λ n. n) (PollsMain (λ n. n) (λ a b. ⊤) future h main had left) c d j k l m stands empty same did))) does in
+    driven_by future unspent polls cancels e s turns main left answer l.history.entries is first kinds sound polled blocked
 
 pub told_driven : {E : Type 0} (workers : ℕ) (readings : Option (List ℕ)) (r : Result ScriptRun E) (s : Script) (turns : ℕ) (j : Journal) (answer : Result ℕ RunError)
-    → (j.is_full ≡ false → (new : Machine) × Blocked true turns (answer_numbered (λ n. n) answer) (start_machine s.limits strategy.Attached) j.entries.items new [])
-    → (j.is_full ≡ false → IsTold answer (told_first workers readings) j.entries.items)
-    → (j.is_full ≡ false → (e : RunEnd) → answer ≡ answer_of e → IsSound (length s.kinds) s → Driven s (map told j.entries.items))
+    → ((new : Machine) × Blocked true turns (answer_numbered (λ n. n) answer) (start_machine s.limits strategy.Attached) j.history.entries new [])
+    → IsTold answer (told_first workers readings) j.history.entries
+    → ((e : RunEnd) → answer ≡ answer_of e → IsSound (length s.kinds) s → Driven s (map told j.history.entries))
     → IfOk r (λ run. answer ≡ answer_of run.end) → OnOk r (j.is_full ≡ false) → IfOk r (λ run. run.text.items ≡ journal_text (map told j.entries.items) (output_in (answer_of run.end)))
     → IfOk r (λ run. IsSound (length s.kinds) s → RunsScript workers readings s turns run.end run.text.items)
 told_driven workers readings (Ok run) s turns j answer blocked tells driven is kept text = λ sound.
-    let made = made_reads workers readings run s.limits turns j answer (blocked kept) (tells kept) is text in
-    record { run = made.0; driven = subst (λ es. Driven s (map told es)) (sym made.1) (driven kept run.end is sound) }
+    let made = made_reads workers readings run s.limits turns j.history.entries answer blocked tells is (by_history j run kept text) in
+    record { run = made.0; driven = subst (λ es. Driven s (map told es)) (sym made.1) (driven run.end is sound) }
 told_driven workers readings (Err e) s turns j answer blocked tells driven is kept text = tt

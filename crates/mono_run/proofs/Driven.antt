@@ -194,12 +194,12 @@ pub record Gave (kinds : List Kind) (t reading : ℕ) (steps : List TurnStep) (r
   pub is_over : after ≡ None → (o : ℕ) × (e ≡ end.Ready o)
 
 module _ {P U J A V : Type 0} where
-  gave : (kinds : List Kind) (t reading : ℕ) (steps : List TurnStep) (replies : List Reply) (e : End) (fs gs : Futures) (f : ScriptTask) (c d : Cx ScriptTask ℕ P U ⊤ J A V) (answer : Poll ℕ) (left : ScriptTask) (after : Option ScriptTask)
-      → RunsLines f c answer left d → c.parts.acts ≡ no_acts → c.parts.me ≡ t → nanos_of c.parts.now ≡ reading → d.parts.acts.steps ≡ steps → d.parts.acts.replies ≡ replies → e ≡ end_of (λ n. n) answer
+  gave : (kinds : List Kind) (t reading : ℕ) (steps : List TurnStep) (replies : List Reply) (e : End) (fs gs : Futures) (f : ScriptTask) (c d : Cx ScriptTask ℕ P U ⊤ J A V) (answer : Poll ℕ) (left : ScriptTask) (after : Option ScriptTask) (is_unread : Bool)
+      → RunsLines f c answer left d → c.parts.acts ≡ no_acts is_unread → c.parts.me ≡ t → nanos_of c.parts.now ≡ reading → d.parts.acts.steps ≡ steps → d.parts.acts.replies ≡ replies → e ≡ end_of (λ n. n) answer
       → ((turned : Turned) → d.futures.items ≡ c.futures.items ++ new_futures f turned.made → gs ≡ slice_set fs t after ++ new_futures f turned.made)
       → stands_at answer left ≡ place_in after → IfOurs kinds after → (after ≡ None → (o : ℕ) × (e ≡ end.Ready o))
       → Gave kinds t reading steps replies e fs gs f
-  gave kinds t reading steps replies e fs gs f c d answer left after lines none me now steps_are replies_are is_end placed stands ours over =
+  gave kinds t reading steps replies e fs gs f c d answer left after is_unread lines none me now steps_are replies_are is_end placed stands ours over =
       let acts : lines.acts.acts ≡ steps = sym (lines.acts.steps_are ∙ ap (λ r. r.steps ++ lines.acts.acts) none) ∙ steps_are in
       let told : lines.acts.told ≡ replies = sym (lines.acts.replies_are ∙ ap (λ r. r.replies ++ lines.acts.told) none) ∙ replies_are in
       let answers : lines.replies ≡ own_replies steps replies = sym lines.acts.answers ∙ ap (λ xs. own_replies xs lines.acts.told) acts ∙ ap (own_replies steps) told in
@@ -285,41 +285,39 @@ module _ {P U J A V : Type 0} (future : FutureOf ScriptTask (Cx ScriptTask ℕ P
       ∙ set-append_left (slice_set fs t None) ks t g (subst (λ n. t < n) (sym (length-set fs t None)) below)
       ∙ ap (λ xs. xs ++ ks) (set_twice fs t None g)
 
-  by_rest : (kinds : List Kind) (t reading : ℕ) (steps : List TurnStep) (replies : List Reply) (e : End) (ended : Ended) (fs gs : Futures) (f : ScriptTask) (c x d : Cx ScriptTask ℕ P U ⊤ J A V) (answer : Poll ℕ) (left : ScriptTask)
+  by_rest : (kinds : List Kind) (t reading : ℕ) (steps : List TurnStep) (replies : List Reply) (e : End) (ended : Ended) (fs gs : Futures) (f : ScriptTask) (c x d : Cx ScriptTask ℕ P U ⊤ J A V) (answer : Poll ℕ) (left : ScriptTask) (is_unread : Bool)
       → IsOurs kinds f → t < length fs → c.futures.items ≡ slice_set fs t None → d.futures.items ≡ gs
-      → c.parts.acts ≡ no_acts → c.parts.me ≡ t → nanos_of c.parts.now ≡ reading → c.parts.has_timers ≡ true → (m : Machine) × Matches (λ n. n) hosting_of c.parts m
-      → d.parts.acts.is_full ≡ false → d.parts.is_out_of_memory ≡ false → d.parts.acts.steps ≡ steps → d.parts.acts.replies ≡ replies → e ≡ end_of (λ n. n) answer
+      → c.parts.acts ≡ no_acts is_unread → c.parts.me ≡ t → nanos_of c.parts.now ≡ reading → c.parts.has_timers ≡ true → (m : Machine) × Matches (λ n. n) hosting_of c.parts m
+      → d.parts.is_out_of_memory ≡ false → d.parts.acts.steps ≡ steps → d.parts.acts.replies ≡ replies → e ≡ end_of (λ n. n) answer
       → future.polls f c answer left x → Reaches (λ n. n) c x → AfterPoll (λ n. n) (λ a b. ⊤) future answer t left ended x d
       → Gave kinds t reading steps replies e fs gs f
-  by_rest kinds t reading steps replies e ended fs gs f c x d Pending left ours below taken is none me now timers stands unfull memory steps_are replies_are is_end polled reached rest =
+  by_rest kinds t reading steps replies e ended fs gs f c x d Pending left is_unread ours below taken is none me now timers stands memory steps_are replies_are is_end polled reached rest =
       let lines : RunsLines f c Pending left x = polls f c Pending left x polled ours.fits stands (record {
-        unfull = sym (ap (λ a. a.is_full) rest.parts.acts) ∙ unfull;
         memory = sym rest.parts.memory ∙ memory;
         timers = reached.parts.same_timers ∙ timers;
       }) in
-      gave kinds t reading steps replies e fs gs f c x Pending left (Some left) lines none me now (sym (ap (λ a. a.steps) rest.parts.acts) ∙ steps_are) (sym (ap (λ a. a.replies) rest.parts.acts) ∙ replies_are) is_end
+      gave kinds t reading steps replies e fs gs f c x Pending left (Some left) is_unread lines none me now (sym (ap (λ a. a.steps) rest.parts.acts) ∙ steps_are) (sym (ap (λ a. a.replies) rest.parts.acts) ∙ replies_are) is_end
       (λ turned made. left_pending fs gs (new_futures f turned.made) t (Some left) c.futures.items x.futures.items below taken made (sym is ∙ rest.futures))
       refl (record { kinds_are = ap (λ k. k.now) lines.kinds ∙ ours.kinds_are; fits = lines.fits }) (λ e. absurd (none-some left (sym e)))
-  by_rest kinds t reading steps replies e ended fs gs f c x d (Ready output) left ours below taken is none me now timers stands unfull memory steps_are replies_are is_end polled reached (y, gives_up, on, done) =
+  by_rest kinds t reading steps replies e ended fs gs f c x d (Ready output) left is_unread ours below taken is none me now timers stands memory steps_are replies_are is_end polled reached (y, gives_up, on, done) =
       let same : y ≡ x = cancels left x y gives_up in
       let acts : d.parts.acts ≡ x.parts.acts = done.parts.acts ∙ ap (λ z. z.parts.acts) same in
       let lines : RunsLines f c (Ready output) left x = polls f c (Ready output) left x polled ours.fits stands (record {
-        unfull = sym (ap (λ a. a.is_full) acts) ∙ unfull;
         memory = sym (done.parts.memory ∙ ap (λ z. z.parts.is_out_of_memory) same) ∙ memory;
         timers = reached.parts.same_timers ∙ timers;
       }) in
-      gave kinds t reading steps replies e fs gs f c x (Ready output) left None lines none me now (sym (ap (λ a. a.steps) acts) ∙ steps_are) (sym (ap (λ a. a.replies) acts) ∙ replies_are) is_end
+      gave kinds t reading steps replies e fs gs f c x (Ready output) left None is_unread lines none me now (sym (ap (λ a. a.steps) acts) ∙ steps_are) (sym (ap (λ a. a.replies) acts) ∙ replies_are) is_end
       (λ turned made. sym is ∙ done.futures ∙ ap (λ z. z.futures.items) same ∙ made ∙ ap (λ xs. xs ++ new_futures f turned.made) taken)
       refl tt (λ e. (output, is_end))
 
-  by_future : (kinds : List Kind) (t reading : ℕ) (steps : List TurnStep) (replies : List Reply) (e : End) (ended : Ended) (fs gs : Futures) (f : ScriptTask) (s : Bool) (c d : Cx ScriptTask ℕ P U ⊤ J A V)
+  by_future : (kinds : List Kind) (t reading : ℕ) (steps : List TurnStep) (replies : List Reply) (e : End) (ended : Ended) (fs gs : Futures) (f : ScriptTask) (s : Bool) (c d : Cx ScriptTask ℕ P U ⊤ J A V) (is_unread : Bool)
       → s ≡ false → IsOurs kinds f → t < length fs → c.futures.items ≡ slice_set fs t None → d.futures.items ≡ gs
-      → c.parts.acts ≡ no_acts → c.parts.me ≡ t → nanos_of c.parts.now ≡ reading → c.parts.has_timers ≡ true → (m : Machine) × Matches (λ n. n) hosting_of c.parts m
-      → d.parts.acts.is_full ≡ false → d.parts.is_out_of_memory ≡ false → d.parts.acts.steps ≡ steps → d.parts.acts.replies ≡ replies
+      → c.parts.acts ≡ no_acts is_unread → c.parts.me ≡ t → nanos_of c.parts.now ≡ reading → c.parts.has_timers ≡ true → (m : Machine) × Matches (λ n. n) hosting_of c.parts m
+      → d.parts.is_out_of_memory ≡ false → d.parts.acts.steps ≡ steps → d.parts.acts.replies ≡ replies
       → UnlessSpent (λ n. n) (λ a b. ⊤) future s t f e ended c d → Gave kinds t reading steps replies e fs gs f
-  by_future kinds t reading steps replies e ended fs gs f true c d spent ours below taken is none me now timers stands unfull memory steps_are replies_are runs = absurd (true-false spent)
-  by_future kinds t reading steps replies e ended fs gs f false c d spent ours below taken is none me now timers stands unfull memory steps_are replies_are runs =
-      by_rest kinds t reading steps replies e ended fs gs f c runs.middle d runs.answer runs.left ours below taken is none me now timers stands unfull memory steps_are replies_are runs.is_end runs.polled runs.reached runs.rest
+  by_future kinds t reading steps replies e ended fs gs f true c d is_unread spent ours below taken is none me now timers stands memory steps_are replies_are runs = absurd (true-false spent)
+  by_future kinds t reading steps replies e ended fs gs f false c d is_unread spent ours below taken is none me now timers stands memory steps_are replies_are runs =
+      by_rest kinds t reading steps replies e ended fs gs f c runs.middle d runs.answer runs.left is_unread ours below taken is none me now timers stands memory steps_are replies_are runs.is_end runs.polled runs.reached runs.rest
 
   -- what one turn leaves
   record TurnsOn (kinds : List Kind) (m mid : Machine) (fs gs : Futures) (reading : ℕ) (steps : List TurnStep) (e : End) (answer : Report) : Type 0 where
@@ -374,10 +372,10 @@ module _ {P U J A V : Type 0} (future : FutureOf ScriptTask (Cx ScriptTask ℕ P
         at = found.1;
         below = below;
         ours = one;
-        gave = by_future kinds t reading steps replies e tells.ended fs gs f (future.is_spent f) tells.turn.begun tells.after (unspent f) one below (begins.futures ∙ ap (λ xs. slice_set xs t None) tells.had) tells.has
+        gave = by_future kinds t reading steps replies e tells.ended fs gs f (future.is_spent f) tells.turn.begun tells.after tells.is_unread (unspent f) one below (begins.futures ∙ ap (λ xs. slice_set xs t None) tells.had) tells.has
             begins.parts.acts_are begins.parts.me (ap nanos_of begins.parts.now_is ∙ tells.reads) (begins.parts.has_timers ∙ tells.timers)
-            (after_begin t first.behind m, begun_matches (λ n. n) tells.before.parts tells.turn.begun.parts t tells.now no_acts m first.behind begins.parts first.queue_is tells.stands)
-            tells.unfull tells.memory tells.acts refl (subst (λ v. Runs (λ n. n) (λ a b. ⊤) future v t e tells.ended tells.turn.begun tells.after) (ap (λ xs. value_at xs t) tells.had ∙ found.1) tells.turn.runs);
+            (after_begin t first.behind m, begun_matches (λ n. n) tells.before.parts tells.turn.begun.parts t tells.now (no_acts tells.is_unread) m first.behind begins.parts first.queue_is tells.stands)
+            tells.memory tells.acts refl (subst (λ v. Runs (λ n. n) (λ a b. ⊤) future v t e tells.ended tells.turn.begun tells.after) (ap (λ xs. value_at xs t) tells.had ∙ found.1) tells.turn.runs);
         count = ap (λ x. next_number x.tasks.table) left ∙ counts;
         over = λ o done. subst (λ x. IsOver t x.tasks) (sym left) (finished_at t o steps e m first.behind given done);
       }

@@ -8,6 +8,8 @@ mod cases;
 #[cfg(test)]
 mod crowds;
 #[cfg(test)]
+mod failures;
+#[cfg(test)]
 mod jobs;
 #[cfg(test)]
 mod naps;

@@ -14,7 +14,6 @@ use Rattle.mono_parts.specs.JobActs.{noted_end}
 use Rattle.mono_parts.specs.Numbered.{end_of}
 use Rattle.mono_parts.specs.Record.{Record, noted}
 use Rattle.mono_rt.specs.Reached.{Reaches}
-use Rattle.mono_parts.specs.Leading.{unfilled}
 use Rattle.mono_rt.specs.declared.contexts.Cx.{Cx}
 use Rattle.mono_scripts.specs.Driven.{Place, Turned, with_step, stops_at, acted, awaited, is_pending, is_job_end, own_steps, own_replies, turn_of, with_handle}
 use Rattle.mono_script_task.specs.Turning.{Grew, HasKept, RunsLines, Fits, new_futures, new_task, place_of, stands_at}
@@ -77,30 +76,28 @@ grew_none c d is = record {
 }
 
 -- one act, which is the task's own or not
-grew_by : (q : Bool) (c d : Record) (x : TurnStep) (r : Reply) → is_job_end x ≡ q → d ≡ noted c x r → d.is_full ≡ false → Grew c d (if q then [] else x ∷ []) (if q then [] else r ∷ [])
-grew_by q c d x r own is unfull =
-    let u = unfilled c x r (sym (ap (λ a. a.is_full) is) ∙ unfull) in
-    record {
-      acts = x ∷ [];
-      told = r ∷ [];
-      steps_are = ap (λ a. a.steps) is ∙ u.1;
-      replies_are = ap (λ a. a.replies) is ∙ u.2;
-      paired = refl;
-      own = ap (λ b. if b then [] else x ∷ []) own;
-      answers = ap (λ b. if b then [] else r ∷ []) own;
-    }
+grew_by : (q : Bool) (c d : Record) (x : TurnStep) (r : Reply) → is_job_end x ≡ q → d ≡ noted c x r → Grew c d (if q then [] else x ∷ []) (if q then [] else r ∷ [])
+grew_by q c d x r own is = record {
+  acts = x ∷ [];
+  told = r ∷ [];
+  steps_are = ap (λ a. a.steps) is;
+  replies_are = ap (λ a. a.replies) is;
+  paired = refl;
+  own = ap (λ b. if b then [] else x ∷ []) own;
+  answers = ap (λ b. if b then [] else r ∷ []) own;
+}
 
-pub grew_one : (c d : Record) (x : TurnStep) (r : Reply) → is_job_end x ≡ false → d ≡ noted c x r → d.is_full ≡ false → Grew c d (x ∷ []) (r ∷ [])
-grew_one c d x r own is unfull = grew_by false c d x r own is unfull
+pub grew_one : (c d : Record) (x : TurnStep) (r : Reply) → is_job_end x ≡ false → d ≡ noted c x r → Grew c d (x ∷ []) (r ∷ [])
+grew_one c d x r own is = grew_by false c d x r own is
 
 -- an act, perhaps behind the end of a job
-pub grew_job : (c d : Record) (j : ℕ) (end : Option job.End) (x : TurnStep) (r : Reply) → is_job_end x ≡ false → d ≡ noted (noted_end c j end) x r → d.is_full ≡ false → Grew c d (x ∷ []) (r ∷ [])
-grew_job c d j None x r own is unfull = grew_one c d x r own is unfull
-grew_job c d j (Some e) x r own is unfull =
+pub grew_job : (c d : Record) (j : ℕ) (end : Option job.End) (x : TurnStep) (r : Reply) → is_job_end x ≡ false → d ≡ noted (noted_end c j end) x r → Grew c d (x ∷ []) (r ∷ [])
+grew_job c d j None x r own is = grew_one c d x r own is
+grew_job c d j (Some e) x r own is =
     let mid = noted_end c j (Some e) in
     grew_on c mid d [] (x ∷ []) [] (r ∷ [])
-    (grew_by true c mid (step.Act (act.JobEnd j e.how)) (reply.Ended e.waiter) refl refl (unfilled mid x r (sym (ap (λ a. a.is_full) is) ∙ unfull)).0)
-    (grew_one mid d x r own is unfull)
+    (grew_by true c mid (step.Act (act.JobEnd j e.how)) (reply.Ended e.waiter) refl refl)
+    (grew_one mid d x r own is)
 
 -- ---- contexts
 
@@ -119,7 +116,6 @@ new_futures-append task (k ∷ a) b = ap (λ fs. Some (new_task task k) ∷ fs) 
 module _ {P U J A V : Type 0} where
   pub kept_before : (c d : Cx ScriptTask ℕ P U ⊤ J A V) → Reaches (λ n. n) c d → HasKept d.parts → HasKept c.parts
   kept_before c d reached had = record {
-    unfull = (reached.parts.kept had.unfull).0;
     memory = stays_false c.parts.is_out_of_memory d.parts.is_out_of_memory reached.parts.memory had.memory;
     timers = sym reached.parts.same_timers ∙ had.timers;
   }

@@ -62,9 +62,8 @@ pub record Grew (c d : Record) (steps : List TurnStep) (replies : List Reply) : 
   pub own : own_steps acts ≡ steps
   pub answers : own_replies acts told ≡ replies
 
--- The record of the turn has kept each act, there was memory for all calls, and there are timers.
+-- There was memory for all calls, and there are timers.
 pub record HasKept {O B : Type 0} (c : Parts O B) : Type 0 where
-  pub unfull : c.acts.is_full ≡ false
   pub memory : c.is_out_of_memory ≡ false
   pub timers : c.has_timers ≡ true
 
@@ -93,6 +92,6 @@ module _ {P U J A V : Type 0} where
     pub kind : left.kind ≡ task.kind
     pub fits : Fits left
 
-  -- One poll of a task of a script, in a turn of a runtime, where its acts were all kept.
+  -- One poll of a task of a script, in a turn of a runtime in which each call found memory.
   abbrev pub PollsTask : ScriptTask → Cx ScriptTask ℕ P U ⊤ J A V → Poll ℕ → ScriptTask → Cx ScriptTask ℕ P U ⊤ J A V → Type 0
   PollsTask task c answer left d = Fits task → Stands c.parts → HasKept d.parts → RunsLines task c answer left d

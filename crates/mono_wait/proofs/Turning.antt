@@ -58,7 +58,7 @@ inside_of table t v at = elim (cases_lt t (length table)) [
 
 module _ {F O P U W J A V : Type 0} (number : O → ℕ) (leads : W → W → Type 0) (future : FutureOf F (Cx F O P U W J A V) O) (needs : F → Source → Type 0)
     (covers : (f : F) (c : Cx F O P U W J A V) (g : F) (d : Cx F O P U W J A V) → future.polls f c Pending g d
-        → Covers (λ c. c.parts.me) (λ c. without_outputs c.parts.tasks.tasks) (ReachesSharing number leads) (λ c. parts_watcher hosting_of c.parts) c d (needs g)) where
+    → Covers (λ c. c.parts.me) (λ c. without_outputs c.parts.tasks.tasks) (ReachesSharing number leads) (λ c. parts_watcher hosting_of c.parts) c d (needs g)) where
   abbrev HeardIn : Cx F O P U W J A V → Cx F O P U W J A V → Source → Type 0
   HeardIn = Heard (λ c. c.parts.me) (λ c. without_outputs c.parts.tasks.tasks) (ReachesSharing number leads) (λ c. parts_watcher hosting_of c.parts)
 
@@ -90,9 +90,6 @@ module _ {F O P U W J A V : Type 0} (number : O → ℕ) (leads : W → W → Ty
   module _ (law : TurnRegisters) (has_timers : Bool) (m : Machine) (futures : List (Option F)) (reading : ℕ) (steps : List TurnStep) (answer : Report) (lefts : List (Option F))
       (t : TellsTurn number leads future has_timers m futures reading steps end.Pending answer lefts) where
     module _ (f : F) (p : IsPaused t.task f t.ended t.turn.begun t.after) where
-      unfull : p.middle.parts.acts.is_full ≡ false
-      unfull = ap (λ a. a.is_full) (sym p.rest.parts.acts) ∙ t.unfull
-
       module _ (x : Source) (it : HeardIn t.turn.begun p.middle x) where
         abbrev b : List TurnStep
         b = it.before.parts.steps
@@ -102,8 +99,8 @@ module _ {F O P U W J A V : Type 0} (number : O → ℕ) (leads : W → W → Ty
 
         acts : steps ≡ b ++ s
         acts =
-            sym t.acts ∙ ap (λ a. a.steps) p.rest.parts.acts ∙ (it.since.parts.kept unfull).1
-            ∙ ap (λ xs. xs ++ s) ((it.before.parts.kept ((it.since.parts.kept unfull).0)).1 ∙ ap (λ a. a.steps ++ b) t.turn.begins.parts.acts_are)
+            sym t.acts ∙ ap (λ a. a.steps) p.rest.parts.acts ∙ it.since.parts.grew
+            ∙ ap (λ xs. xs ++ s) (it.before.parts.grew ∙ ap (λ a. a.steps ++ b) t.turn.begins.parts.acts_are)
 
         me : t.turn.begun.parts.me ≡ t.task
         me = t.turn.begins.parts.me
@@ -114,8 +111,8 @@ module _ {F O P U W J A V : Type 0} (number : O → ℕ) (leads : W → W → Ty
             (λ c d r. r.parts.same_me) (λ c d r. (r.parts.steps, r.parts.leads)) (λ c n y st. parts_same_watcher number hosting_of c.parts n y st) (λ c n st. parts_same_stirred number hosting_of c.parts n c.parts.me st)
             t.task it.moment (after_steps t.task b (begun_machine m.tasks.queue m)) x (it.before.parts.same_me ∙ me)
             (subst (λ q. Matches number hosting_of it.moment.parts (after_steps t.task b (begun_machine q m))) (sym queue)
-              (subst (λ n. Matches number hosting_of it.moment.parts (after_steps n b (after_begin t.task rest m))) me
-                (it.before.parts.leads (after_begin t.task rest m) (begun_matches number t.before.parts t.turn.begun.parts t.task t.now no_acts m rest t.turn.begins.parts queue t.stands))))
+            (subst (λ n. Matches number hosting_of it.moment.parts (after_steps n b (after_begin t.task rest m))) me
+            (it.before.parts.leads (after_begin t.task rest m) (begun_matches number t.before.parts t.turn.begun.parts t.task t.now (no_acts t.is_unread) m rest t.turn.begins.parts queue t.stands))))
             it.hears
 
         stays : (new : Machine) → IsValid m → Step m (event.Turn steps end.Pending) answer new → drops_in x s ≡ false → IsWatched new t.task x ⊎ (is_awaiting t.task new ≡ true)

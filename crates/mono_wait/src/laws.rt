@@ -29,7 +29,7 @@ pub fn a_pending_poll_registers<C: MachineContext, F: Waits<C>>()
     what_a_turn_registers_stands();
 }
 
-/// A turn that a journal tells and that ended pending leaves its task waiting at each source that its future needs, or
+/// A turn of a history that ended pending leaves its task waiting at each source that its future needs, or
 /// awaiting, unless one of its later acts drops the source.
 pub fn a_pending_turn_leaves_its_task_waiting<F, O, P, U, W>()
 where
@@ -45,9 +45,9 @@ where
     what_a_turn_registers_stands();
 }
 
-/// Along a journal whose turns are told (the clause `polled` of `block_on`), for each task t and each source x: at each park
+/// Along a history whose turns are polls (the clause `polled` of `block_on`), for each task t and each source x: at each park
 /// t waits for x or is awaiting, if it has not finished, its future needed x after its last turn, no act of that turn
-/// dropped x, and nobody took its wait since. Nothing is owed for what the journal begins with.
+/// dropped x, and nobody took its wait since. Nothing is owed for what the history begins with.
 pub fn each_park_finds_its_tasks_waiting<F, O, P, U, W>()
 where
     F: Waits<Cx<F, O, P, U, W>, Output = O> + Drop,

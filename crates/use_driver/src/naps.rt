@@ -78,8 +78,8 @@ impl<C: TimeContext> TaskFuture<C> for Nap {
     }
 }
 
-/// One nap on a runtime of its own, whose driver parks at most so many times: the answer, and the journal, whose entries
-/// are a run of the plain machine (`run`).
+/// One nap on a runtime of its own, whose driver parks at most so many times: the answer, and the journal, whose history is
+/// a run of the plain machine (`run`).
 pub fn nap_within<D: Driver, P: ThreadPool + Drop, R: Host>(
     rt: &R,
     alloc: Global,
@@ -88,7 +88,7 @@ pub fn nap_within<D: Driver, P: ThreadPool + Drop, R: Host>(
     length: Duration,
     start: Instant,
 ) -> Result<(Result<u64, RunError>, Journal), AllocError>
-    ensures run { IfOk result (λ r. r.1.is_full ≡ false → (new : Machine) × Run (start_machine (record { tasks = 1; jobs = 0; sleeps = 1 }) Panic) (events_in r.1.entries.items) (reports_in r.1.entries.items) new) }
+    ensures run { IfOk result (λ r. (new : Machine) × Run (start_machine (record { tasks = 1; jobs = 0; sleeps = 1 }) Panic) (events_in r.1.history.entries) (reports_in r.1.history.entries) new) }
 {
     let limits = Limits {
         tasks: 1,

@@ -20,11 +20,11 @@ returns g c =
     let answer = answer_numbered number c.block_on-answer.result in
     let told = Blocked made.cx.parts.has_timers c.args.turns answer in
     record {
-      blocked = λ unfull. subst (λ h. (new : Machine) × Blocked h c.args.turns answer m c.into_journal.result.entries.items new []) c.in_ok-runtime.ensures.timers
-          (relation_of number told made.cx.parts left.cx.parts made.journal left.journal c.into_journal.result m c.in_ok-runtime.ensures.stands c.in_ok-runtime.ensures.journal c.into_journal.ensures c.block_on-answer.ensures.blocked unfull);
-      told = λ unfull. subst (λ d. IsTold c.block_on-answer.result (telling (g.D.Clock.readings d) (g.D.Clock.time d) (g.D.Clock.parks d)) c.into_journal.result.entries.items) c.in_ok-runtime.ensures.driver
-          (told_in c.into_journal.result c.in_ok-runtime.ensures.journal c.into_journal.ensures c.block_on-answer.ensures.told unfull);
-      parks = λ unfull. registers_of number made.cx.parts left.cx.parts made.journal left.journal c.into_journal.result m c.in_ok-runtime.ensures.stands c.in_ok-runtime.ensures.journal c.into_journal.ensures c.in_ok-runtime.ensures.registered (goes_of number told made.cx.parts left.cx.parts made.journal left.journal c.block_on-answer.ensures.blocked) unfull;
-      run = λ unfull. run_of number made.cx.parts left.cx.parts made.journal left.journal c.into_journal.result m c.in_ok-runtime.ensures.stands c.in_ok-runtime.ensures.journal c.into_journal.ensures (goes_of number told made.cx.parts left.cx.parts made.journal left.journal c.block_on-answer.ensures.blocked) unfull;
+      blocked = subst (λ h. (new : Machine) × Blocked h c.args.turns answer m c.into_journal.result.history.entries new []) c.in_ok-runtime.ensures.timers
+          (relation_of number told made.cx.parts left.cx.parts made.journal left.journal c.into_journal.result m c.in_ok-runtime.ensures.stands c.in_ok-runtime.ensures.history c.into_journal.ensures c.block_on-answer.ensures.blocked);
+      told = subst (λ d. IsTold c.block_on-answer.result (telling (g.D.Clock.readings d) (g.D.Clock.time d) (g.D.Clock.parks d)) c.into_journal.result.history.entries) c.in_ok-runtime.ensures.driver
+          (told_in c.into_journal.result c.in_ok-runtime.ensures.history c.into_journal.ensures c.block_on-answer.ensures.told);
+      parks = registers_of number made.cx.parts left.cx.parts made.journal left.journal c.into_journal.result m c.in_ok-runtime.ensures.stands c.in_ok-runtime.ensures.history c.into_journal.ensures c.in_ok-runtime.ensures.registered (goes_of number told made.cx.parts left.cx.parts made.journal left.journal c.block_on-answer.ensures.blocked);
+      run = run_of number made.cx.parts left.cx.parts made.journal left.journal c.into_journal.result m c.in_ok-runtime.ensures.stands c.in_ok-runtime.ensures.history c.into_journal.ensures (goes_of number told made.cx.parts left.cx.parts made.journal left.journal c.block_on-answer.ensures.blocked);
       full = one_long number (λ a b. ⊤) g.F.TaskFuture made.cx made.journal left.journal c.into_journal.result c.in_ok-runtime.ensures.unfull c.into_journal.ensures c.block_on-answer.ensures.full;
     }

@@ -1,6 +1,5 @@
-use Rattle.std.proofs.Common.{◌-◌, length, arith, sym, ◌∙◌}
+use Rattle.std.proofs.Common.{◌-◌, length, arith, ◌∙◌}
 use Rattle.mono_parts.proofs.Draining.{remotes_more, listed_more}
-use Rattle.mono_parts.proofs.Going.{pushed_open}
 use Rattle.mono_parts.proofs.drains.Parts+O+Blockings+P.tell_remotes.Goals as goal
 
 pub loop-t-preserved : goal.loop-t-preserved
@@ -12,9 +11,7 @@ loop-t-preserved g c =
     let i = c.loop-t.t-index in
     let journal = c.loop-t.journal in (
       told.full ∙ before.0,
-      λ unfull. remotes_more tasks taken i 0 journal.entries.items _ _ c.loop-t-test.true
-          (told.entries ∙ pushed_open journal _ (sym told.full ∙ unfull))
-          (before.1 (sym told.full ∙ unfull)),
+      remotes_more tasks taken i 0 journal.history.entries _ _ c.loop-t-test.true told.history before.1,
       listed_more tasks taken i 0 c.loop-t.into.items _ _ c.loop-t-test.true told.listed before.2,
       omega (arith, c.loop-t-test.true),
       omega (arith, c.loop-t-test.true, told.places (length taken - i) (omega (arith, c.loop-t-test.true, before.4))),

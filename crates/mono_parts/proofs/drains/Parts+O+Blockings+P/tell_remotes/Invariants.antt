@@ -1,4 +1,4 @@
-use Rattle.std.proofs.Common.{◌≡◌, ◌≤◌, ◌+◌, ◌++◌, false, length, drop}
+use Rattle.std.proofs.Common.{◌≡◌, ◌≤◌, ◌+◌, ◌++◌, length, drop}
 use Rattle.std.specs.Prelude.{vec_len, vec_capacity}
 use Rattle.mono_parts.specs.Drains.{remotes, listed}
 use Rattle.mono_parts.proofs.drains.Parts+O+Blockings+P.tell_remotes.Given as goal
@@ -6,7 +6,7 @@ use Rattle.mono_parts.proofs.drains.Parts+O+Blockings+P.tell_remotes.Given as go
 -- with those that are left all are told, and there is room for these
 abbrev pub invariant-loop-t : goal.invariant-loop-t
 invariant-loop-t g l = (l.journal.is_full ≡ l.fn.journal.is_full)
-    × (l.journal.is_full ≡ false → l.journal.entries.items ++ remotes l.fn.self.tasks.tasks (drop l.t-index l.taken) ≡ l.fn.journal.entries.items ++ remotes l.fn.self.tasks.tasks l.taken)
+    × (l.journal.history.entries ++ remotes l.fn.self.tasks.tasks (drop l.t-index l.taken) ≡ l.fn.journal.history.entries ++ remotes l.fn.self.tasks.tasks l.taken)
     × (l.into.items ++ listed l.fn.self.tasks.tasks (drop l.t-index l.taken) ≡ l.fn.into.items ++ listed l.fn.self.tasks.tasks l.taken)
     × (l.t-index ≤ length l.taken)
     × (length l.journal.entries.items + (length l.taken + 1) + l.journal.entries.held ≤ l.journal.entries.capacity + l.t-index)

@@ -8,6 +8,7 @@ use Rattle.mono_parts.specs.Journals.{WaitsForNext}
 use Rattle.mono_parts.proofs.Registering.{parked_registers}
 use Rattle.mono_parts.specs.Rounds.{IsPark, IsWait}
 use Rattle.mono_parts.specs.declared.journals.Entry.TheVariants.{Now, Park}
+use Rattle.mono_parts.proofs.FaultLemmas.{rises_after}
 use Rattle.mono_parts.proofs.Going.{goes_of, does_stay, does_past, goes_nowhere}
 use Rattle.mono_parts.proofs.Doing.{stay_on, two_pushed}
 use Rattle.mono_parts.specs.Telling.{going, after_park}
@@ -26,9 +27,9 @@ returns-in-Ok-clause-parked g c =
     let wait = c.wait_from-wait.result in
     let last = c.push-in-Ok.new.self in
     stay_on number (IsPark parts.has_timers) parts parts parts c.args.journal.now opened last
-    (does_stay number parts parts c.args.journal.now opened refl refl refl refl c.reserve.ensures.entries c.reserve.ensures.full)
-    (does_past number (IsPark parts.has_timers) parts opened last (Now n ∷ Park wait ∷ []) (two_pushed opened c.push.new.self last (Now n) (Park wait) c.push.ensures.full c.push-in-Ok.ensures.full c.push.ensures.entries c.push-in-Ok.ensures.entries)
-    (c.push-in-Ok.ensures.full ∙ c.push.ensures.full) (λ m. refl) (λ m st. parked_registers n wait m (registered_of parts.timers) (by_reading m st wait c.wait_from-wait.ensures.next))
+    (does_stay number parts parts c.args.journal.now opened refl refl refl refl c.reserve.ensures.history)
+    (does_past number (IsPark parts.has_timers) parts opened last (Now n ∷ Park wait ∷ []) (two_pushed opened c.push.new.self last (Now n) (Park wait) c.push.ensures.history c.push-in-Ok.ensures.history)
+    (λ m. refl) (λ m st. parked_registers n wait m (registered_of parts.timers) (by_reading m st wait c.wait_from-wait.ensures.next))
     (λ m st rest. (n, (wait, (subst (λ x. IsWait parts.has_timers m x wait) (sym c.as_nanos.ensures) (c.wait_from-wait.ensures.wait m st), (refl, refl))))))
   where
     by_reading : (m : Machine) → Matches g.O.Outcome.output_number hosting_of c.args.self.now m → (wait : Option ℕ)
@@ -44,12 +45,15 @@ pub returns-in-Ok-clause-told : goal.returns-in-Ok-clause-told
 returns-in-Ok-clause-told g c =
     let read = c.now-now.ensures in
     let failed = c.park_driver-failed.result in
-    telling_on {j = c.reserve.new.self} (tells_nothing refl refl c.reserve.ensures.entries c.reserve.ensures.full)
-    (telling_on {j = c.push.new.self} (tells_one going (Now c.as_nanos.result) refl (refl, (_, (read_at c.as_nanos.result (nanos_of c.now-now.result) c.as_nanos.ensures (record { reads = read.reads; reads_time = read.reads_time; time = read.time; parks = read.parks }), (refl, refl)))) c.push.ensures.entries c.push.ensures.full)
-    (tells_one (after_park failed) (Park c.wait_from-wait.result) refl (refl, (_, (failed, (c.park_driver-failed.ensures, (refl, refl))))) c.push-in-Ok.ensures.entries c.push-in-Ok.ensures.full))
+    telling_on {j = c.reserve.new.self} (tells_nothing refl refl c.reserve.ensures.history)
+    (telling_on {j = c.push.new.self} (tells_one going (Now c.as_nanos.result) refl (refl, (_, (read_at c.as_nanos.result (nanos_of c.now-now.result) c.as_nanos.ensures (record { reads = read.reads; reads_time = read.reads_time; time = read.time; parks = read.parks }), (refl, refl)))) c.push.ensures.history)
+    (tells_one (after_park failed) (Park c.wait_from-wait.result) refl (refl, (_, (failed, (c.park_driver-failed.ensures.parked, (refl, refl))))) c.push-in-Ok.ensures.history))
 
 pub returns-in-Err-clause-told : goal.returns-in-Err-clause-told
-returns-in-Err-clause-told g c = tells_nothing refl refl c.reserve.ensures.entries c.reserve.ensures.full
+returns-in-Err-clause-told g c = tells_nothing refl refl c.reserve.ensures.history
 
 pub returns-in-Err-clause-goes : goal.returns-in-Err-clause-goes
-returns-in-Err-clause-goes g c = goes_nowhere g.O.Outcome.output_number c.args.self.now c.args.self.now c.args.journal.now c.reserve.new.self refl refl refl refl c.reserve.ensures.entries c.reserve.ensures.full
+returns-in-Err-clause-goes g c = goes_nowhere g.O.Outcome.output_number c.args.self.now c.args.self.now c.args.journal.now c.reserve.new.self refl refl refl refl c.reserve.ensures.history
+
+pub returns-in-Ok-clause-faults : goal.returns-in-Ok-clause-faults
+returns-in-Ok-clause-faults g c = rises_after c.park_driver-failed.result _ _ _ c.now-now.ensures.faults c.park_driver-failed.ensures.faults

@@ -38,3 +38,9 @@ returns-clause-registered g c = c.make.ensures.registered
 
 pub returns-clause-shared : goal.returns-clause-shared
 returns-clause-shared g c = c.make.ensures.shared
+
+pub returns-clause-history : goal.returns-clause-history
+returns-clause-history g c = c.make.ensures.history
+
+pub returns-clause-futures : goal.returns-clause-futures
+returns-clause-futures g c = c.make.ensures.futures

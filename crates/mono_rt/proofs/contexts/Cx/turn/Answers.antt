@@ -1,5 +1,4 @@
 use Rattle.std.proofs.Common.{sym, ◌∙◌, subst}
-use Rattle.mono_parts.specs.Turns.{BeginsParts}
 use Rattle.mono_rt.proofs.Turning.{turn_is, rests_after, same_has_timers, turn_led}
 use Rattle.mono_parts.proofs.Turning.{begun_turn}
 use Rattle.mono_rt.proofs.contexts.Cx.turn.Goals as goal
@@ -8,13 +7,13 @@ pub returns-clause-turn : goal.returns-clause-turn
 returns-clause-turn g c = record { begun = _; begins = c.begin_turn-task.ensures.begins; runs = rw (sym c.begin_turn-task.ensures.future) c.run_turn-end.ensures }
 
 pub returns-clause-is : goal.returns-clause-is
-returns-clause-is g c = λ empty m st.
+returns-clause-is g c = λ is_unread blank m st.
     let number = g.O.Outcome.output_number in
     let old = c.args.self.now in
     let begun = c.begin_turn-task.new.self in
     let t = c.begin_turn-task.result.0 in
-    turn_is number g.W.SharedState.leads g.F.TaskFuture c.begin_turn-task.result.1 old begun c.run_turn-end.new.self t c.args.now _ _ m
-    (subst (λ a. BeginsParts t c.args.now a old.parts begun.parts) empty c.begin_turn-task.ensures.begins.parts) c.run_turn-end.ensures st
+    turn_is number g.W.SharedState.leads g.F.TaskFuture c.begin_turn-task.result.1 old begun c.run_turn-end.new.self t c.args.now _ _ m is_unread blank
+    c.begin_turn-task.ensures.begins.parts c.run_turn-end.ensures st
 
 pub returns-clause-rests : goal.returns-clause-rests
 returns-clause-rests g c =

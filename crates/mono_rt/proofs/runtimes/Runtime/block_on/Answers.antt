@@ -9,6 +9,7 @@ use Rattle.mono_parts.specs.Journals.{Does}
 use Rattle.mono_rt.specs.Polling.{Polling}
 use Rattle.mono_rt.proofs.Polling.{polls_on, polls_drop, polls_main, same_error, on_main, none_made}
 use Rattle.mono_rt.proofs.Filling.{fills_on, fills_not, fills_still}
+use Rattle.mono_parts.proofs.FaultLemmas.{capacity_faults, faults_after}
 use Rattle.mono_rt.proofs.runtimes.Runtime.block_on.Goals as goal
 
 -- where the main task has its output, the drop of its handle gives it
@@ -110,3 +111,12 @@ returns-in-Some-clause-polled g c =
     (polls_on number g.W.SharedState.leads g.F.TaskFuture h started.cx.futures.items ran.cx.futures.items ran.cx.futures.items started.cx.parts ran.cx.parts ended started.journal ran.journal last
     (subst (λ b. Does number (Polling number g.W.SharedState.leads g.F.TaskFuture b started.cx.futures.items ran.cx.futures.items) started.cx.parts ran.cx.parts started.journal ran.journal) c.start_main.ensures.has_timers (rw c.in-Ok-answer.is at c.run-answer.ensures.polled))
     (polls_drop number g.W.SharedState.leads g.F.TaskFuture h ran.cx.futures.items ran.cx.futures.items c.in-Ok.main (option_map number c.end_main-output.result) ran.cx.parts ended ran.journal last refl c.end_main-output.ensures.dropped))
+
+pub returns-in-Err-clause-faults : goal.returns-in-Err-clause-faults
+returns-in-Err-clause-faults g c = capacity_faults _ c.in-Err.error _ _ c.in-Err.ensures.refused c.start_main.ensures.faults
+
+pub returns-in-Err-answer-clause-faults : goal.returns-in-Err-answer-clause-faults
+returns-in-Err-answer-clause-faults g c = faults_after c.in-Err-answer.error _ _ _ c.start_main.ensures.faults (rw c.in-Err-answer.is at c.run-answer.ensures.faults)
+
+pub returns-in-Some-clause-faults : goal.returns-in-Some-clause-faults
+returns-in-Some-clause-faults g c = (rw c.in-Ok-answer.is at c.run-answer.ensures.faults) ∙ c.start_main.ensures.faults

@@ -29,3 +29,6 @@ returns-clause-registered g c = c.make.ensures.registered
 
 pub returns-clause-shared : goal.returns-clause-shared
 returns-clause-shared g c = c.make.ensures.shared
+
+pub returns-clause-history : goal.returns-clause-history
+returns-clause-history g c = c.make.ensures.history

@@ -130,3 +130,12 @@ returns-in-Err-round-2-clause-full g c =
     fills_on number g.W.SharedState.leads g.F.TaskFuture old.cx paused.cx old.journal paused.journal c.round-in-Ok-false.new.self.journal
     (goes_of number (PauseEnds old.cx.parts.has_timers c.pause.result) old.cx.parts paused.cx.parts old.journal paused.journal c.pause.ensures.pauses)
     (fills_not number g.W.SharedState.leads g.F.TaskFuture old.cx old.journal paused.journal c.pause.ensures.full) c.round-in-Ok-false.ensures.full
+
+pub returns-in-Err-clause-faults : goal.returns-in-Err-clause-faults
+returns-in-Err-clause-faults g c = rw c.in-Err.is at c.pause.ensures.faults
+
+pub returns-in-Ok-clause-faults : goal.returns-in-Ok-clause-faults
+returns-in-Ok-clause-faults g c = c.round.ensures.faults ∙ (rw c.in-Ok-true.is at c.pause.ensures.faults)
+
+pub returns-in-Ok-round-clause-faults : goal.returns-in-Ok-round-clause-faults
+returns-in-Ok-round-clause-faults g c = c.round-in-Ok-false.ensures.faults ∙ (rw c.in-Ok-false.is at c.pause.ensures.faults)

@@ -1,8 +1,10 @@
-use Rattle.std.proofs.Common.{arith, refl, inl, inr, ap, ◌∙◌}
+use Rattle.std.proofs.Common.{arith, refl, inl, inr, ap, subst, ◌∙◌}
 use Rattle.mono_parts.proofs.Going.{does_led}
 use Rattle.mono_parts.proofs.Doing.{pause_some, pause_none, no_queue}
 use Rattle.mono_parts.specs.Telling.{going, failed, after_wait}
 use Rattle.mono_parts.proofs.Telling.{tells_nothing, telling_on, telling_more, same_telling}
+use Rattle.mono_parts.specs.Faults.{RisesIf}
+use Rattle.mono_parts.proofs.FaultLemmas.{risen_before}
 use Rattle.mono_rt.proofs.runtimes.Runtime.pause.Goals as goal
 
 pub returns-in-Ok-handed-clause-pauses : goal.returns-in-Ok-handed-clause-pauses
@@ -32,13 +34,13 @@ pub returns-in-Err-wait-clause-pauses : goal.returns-in-Err-wait-clause-pauses
 returns-in-Err-wait-clause-pauses g c = c.in-Err-wait.ensures.parks
 
 pub returns-in-Ok-handed-clause-told : goal.returns-in-Ok-handed-clause-told
-returns-in-Ok-handed-clause-told g c = telling_on {q = going} (tells_nothing refl (same_telling c.submit-handed.ensures.readings c.submit-handed.ensures.time c.submit-handed.ensures.parks) refl refl) (c.in-Ok.ensures.told going going (inl refl))
+returns-in-Ok-handed-clause-told g c = telling_on {q = going} (tells_nothing refl (same_telling c.submit-handed.ensures.readings c.submit-handed.ensures.time c.submit-handed.ensures.parks) refl) (c.in-Ok.ensures.told going going (inl refl))
 
 pub returns-in-Err-handed-clause-told : goal.returns-in-Err-handed-clause-told
-returns-in-Err-handed-clause-told g c = telling_on {q = going} (tells_nothing refl (same_telling c.submit-handed.ensures.readings c.submit-handed.ensures.time c.submit-handed.ensures.parks) refl refl) (c.in-Ok.ensures.told going failed (inr refl))
+returns-in-Err-handed-clause-told g c = telling_on {q = going} (tells_nothing refl (same_telling c.submit-handed.ensures.readings c.submit-handed.ensures.time c.submit-handed.ensures.parks) refl) (c.in-Ok.ensures.told going failed (inr refl))
 
 pub returns-in-Err-clause-told : goal.returns-in-Err-clause-told
-returns-in-Err-clause-told g c = telling_more (λ x e. tt) (telling_on {q = going} (tells_nothing refl (same_telling c.submit-handed.ensures.readings c.submit-handed.ensures.time c.submit-handed.ensures.parks) refl refl) (c.in-Err.ensures.told going going refl))
+returns-in-Err-clause-told g c = telling_more (λ x e. tt) (telling_on {q = going} (tells_nothing refl (same_telling c.submit-handed.ensures.readings c.submit-handed.ensures.time c.submit-handed.ensures.parks) refl) (c.in-Err.ensures.told going going refl))
 
 pub returns-in-Ok-true-clause-told : goal.returns-in-Ok-true-clause-told
 returns-in-Ok-true-clause-told g c = telling_more (λ x e. e ∙ ap after_wait c.in-Ok-true.field-0-test) c.in-Ok-true.ensures.told
@@ -48,3 +50,15 @@ returns-in-Ok-false-clause-told g c = telling_more (λ x e. e ∙ ap after_wait 
 
 pub returns-in-Err-wait-clause-told : goal.returns-in-Err-wait-clause-told
 returns-in-Err-wait-clause-told g c = telling_more (λ x e. tt) c.wait.ensures.told
+
+pub returns-in-Ok-handed-clause-faults : goal.returns-in-Ok-handed-clause-faults
+returns-in-Ok-handed-clause-faults g c = c.drain.ensures.faults ∙ (rw c.in-Ok-handed.is at c.submit-handed.ensures.faults)
+
+pub returns-in-Err-handed-clause-faults : goal.returns-in-Err-handed-clause-faults
+returns-in-Err-handed-clause-faults g c = risen_before _ _ _ (rw c.in-Err-handed.is at c.submit-handed.ensures.faults).1 c.drain.ensures.faults
+
+pub returns-in-Ok-true-clause-faults : goal.returns-in-Ok-true-clause-faults
+returns-in-Ok-true-clause-faults g c = subst (λ b. RisesIf b (g.D.Clock.faults c.args.self.now.driver) (g.D.Clock.faults c.wait.new.self.driver)) c.in-Ok-true.field-0-test c.in-Ok-true.ensures.faults
+
+pub returns-in-Ok-false-clause-faults : goal.returns-in-Ok-false-clause-faults
+returns-in-Ok-false-clause-faults g c = subst (λ b. RisesIf b (g.D.Clock.faults c.args.self.now.driver) (g.D.Clock.faults c.wait.new.self.driver)) c.in-Ok-false.field-0-test c.in-Ok-false.ensures.faults

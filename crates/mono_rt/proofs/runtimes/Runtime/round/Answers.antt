@@ -28,13 +28,14 @@ loop-done-preserved g c = (
   fills_on g.O.Outcome.output_number g.W.SharedState.leads g.F.TaskFuture c.args.self.now.cx c.loop-done.self.cx c.args.self.now.journal c.loop-done.self.journal c.turn.new.self.journal c.loop-done.invariant.0 c.loop-done.invariant.7 c.turn.ensures.full,
   c.turn.ensures.held ∙ c.loop-done.invariant.8,
   g.W.SharedState.leads_on _ _ _ c.loop-done.invariant.9 c.turn.ensures.shared,
+  c.turn.ensures.faults ∙ c.loop-done.invariant.10,
 )
 
 pub loop-done-init : goal.loop-done-init
 loop-done-init g c =
     let parts = c.args.self.now.cx.parts in
     let journal = c.args.self.now.journal in
-    (goes_nowhere g.O.Outcome.output_number parts parts journal journal refl refl refl refl refl refl, c.requires.rests, λ e. refl, no_turns g.O.Outcome.output_number parts journal, refl, tells_nothing refl refl refl refl, polls_nothing g.O.Outcome.output_number g.W.SharedState.leads g.F.TaskFuture parts.has_timers c.args.self.now.cx.futures.items parts journal, fills_not g.O.Outcome.output_number g.W.SharedState.leads g.F.TaskFuture c.args.self.now.cx journal journal refl, refl, g.W.SharedState.leads_itself _)
+    (goes_nowhere g.O.Outcome.output_number parts parts journal journal refl refl refl refl refl, c.requires.rests, λ e. refl, no_turns g.O.Outcome.output_number parts journal, refl, tells_nothing refl refl refl, polls_nothing g.O.Outcome.output_number g.W.SharedState.leads g.F.TaskFuture parts.has_timers c.args.self.now.cx.futures.items parts journal, fills_not g.O.Outcome.output_number g.W.SharedState.leads g.F.TaskFuture c.args.self.now.cx journal journal refl, refl, g.W.SharedState.leads_itself _, refl)
 
 pub returns-then-queue_len-eq0-clause-round : goal.returns-then-queue_len-eq0-clause-round
 returns-then-queue_len-eq0-clause-round g c =
@@ -75,3 +76,12 @@ returns-then-queue_len-eq0-clause-shared g c = c.loop-done.invariant.9
 
 pub returns-clause-shared : goal.returns-clause-shared
 returns-clause-shared g c = c.loop-done.invariant.9
+
+pub returns-in_err-turn-clause-faults : goal.returns-in_err-turn-clause-faults
+returns-in_err-turn-clause-faults g c = c.turn.ensures.faults ∙ c.loop-done.invariant.10
+
+pub returns-then-queue_len-eq0-clause-faults : goal.returns-then-queue_len-eq0-clause-faults
+returns-then-queue_len-eq0-clause-faults g c = c.loop-done.invariant.10
+
+pub returns-clause-faults : goal.returns-clause-faults
+returns-clause-faults g c = c.loop-done.invariant.10

@@ -18,3 +18,4 @@ invariant-loop-done g l = Goes g.O.Outcome.output_number l.initial.self.cx.parts
     × Fills g.O.Outcome.output_number g.W.SharedState.leads g.F.TaskFuture l.initial.self.cx l.initial.self.journal l.self.journal
     × (l.self.journal.entries.held ≡ l.initial.self.journal.entries.held)
     × g.W.SharedState.leads l.initial.self.cx.shared l.self.cx.shared
+    × (g.D.Clock.faults l.self.driver ≡ g.D.Clock.faults l.initial.self.driver)

@@ -10,6 +10,7 @@ use Rattle.mono_parts.specs.Journals.{Does}
 use Rattle.mono_rt.specs.Polling.{Polling}
 use Rattle.mono_rt.proofs.Polling.{polls_on, same_error, on_main}
 use Rattle.mono_rt.proofs.Filling.{fills_on}
+use Rattle.mono_parts.proofs.FaultLemmas.{faults_after}
 use Rattle.mono_rt.proofs.runtimes.Runtime.run.Goals as goal
 
 both : (b : Bool) → true ≡ b → false ≡ b → ⊥
@@ -28,6 +29,7 @@ loop-units-init g c = (
   c.round.ensures.full,
   c.round.ensures.held,
   c.round.ensures.shared,
+  c.round.ensures.faults,
 )
 
 pub loop-units-preserved : goal.loop-units-preserved
@@ -43,6 +45,7 @@ loop-units-preserved g c = (
       (goes_of g.O.Outcome.output_number (Rounds c.args.self.now.cx.parts.has_timers c.args.main c.args.turns c.loop-units.units) c.args.self.now.cx.parts c.loop-units.self.cx.parts c.args.self.now.journal c.loop-units.self.journal c.loop-units.invariant.0) c.loop-units.invariant.5 c.pass.ensures.full,
   c.pass.ensures.held ∙ c.loop-units.invariant.6,
   g.W.SharedState.leads_on _ _ _ c.loop-units.invariant.7 c.pass.ensures.shared,
+  (rw c.in-Ok-pass.is at c.pass.ensures.faults) ∙ c.loop-units.invariant.8,
 )
 
 pub returns-in-Err-pass-clause-ends : goal.returns-in-Err-pass-clause-ends
@@ -124,3 +127,15 @@ returns-else-has_output-clause-shared g c = c.loop-units.invariant.7
 
 pub returns-in-Err-clause-shared : goal.returns-in-Err-clause-shared
 returns-in-Err-clause-shared g c = c.round.ensures.shared
+
+pub returns-in-Err-pass-clause-faults : goal.returns-in-Err-pass-clause-faults
+returns-in-Err-pass-clause-faults g c = faults_after c.in-Err-pass.error _ _ _ c.loop-units.invariant.8 (rw c.in-Err-pass.is at c.pass.ensures.faults)
+
+pub returns-then-has_output-clause-faults : goal.returns-then-has_output-clause-faults
+returns-then-has_output-clause-faults g c = c.loop-units.invariant.8
+
+pub returns-else-has_output-clause-faults : goal.returns-else-has_output-clause-faults
+returns-else-has_output-clause-faults g c = c.loop-units.invariant.8
+
+pub returns-in-Err-clause-faults : goal.returns-in-Err-clause-faults
+returns-in-Err-clause-faults g c = tt

@@ -16,6 +16,7 @@ invariant-loop-units g l = Does g.O.Outcome.output_number (Rounds l.fn.self.cx.p
     × Fills g.O.Outcome.output_number g.W.SharedState.leads g.F.TaskFuture l.fn.self.cx l.fn.self.journal l.self.journal
     × (l.self.journal.entries.held ≡ l.fn.self.journal.entries.held)
     × g.W.SharedState.leads l.fn.self.cx.shared l.self.cx.shared
+    × (g.D.Clock.faults l.self.driver ≡ g.D.Clock.faults l.fn.self.driver)
 
 -- each pass spends a unit
 abbrev pub decreases-loop-units : goal.decreases-loop-units

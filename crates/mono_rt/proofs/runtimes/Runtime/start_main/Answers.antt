@@ -6,15 +6,15 @@ use Rattle.mono_rt.proofs.runtimes.Runtime.start_main.Goals as goal
 pub returns-in-Err-clause-goes : goal.returns-in-Err-clause-goes
 returns-in-Err-clause-goes g c =
     let old = c.args.self.now in
-    goes_nowhere g.O.Outcome.output_number old.cx.parts old.cx.parts old.journal old.journal refl refl refl refl refl refl
+    goes_nowhere g.O.Outcome.output_number old.cx.parts old.cx.parts old.journal old.journal refl refl refl refl refl
 
 pub returns-in-Err-clause-unmade : goal.returns-in-Err-clause-unmade
 returns-in-Err-clause-unmade g c =
     let old = c.args.self.now in
-    does_stay g.O.Outcome.output_number old.cx.parts old.cx.parts old.journal old.journal refl refl refl refl refl refl
+    does_stay g.O.Outcome.output_number old.cx.parts old.cx.parts old.journal old.journal refl refl refl refl refl
 
 pub returns-in-Err-clause-told : goal.returns-in-Err-clause-told
-returns-in-Err-clause-told g c = tells_nothing refl refl refl refl
+returns-in-Err-clause-told g c = tells_nothing refl refl refl
 
 pub returns-in-Err-start_main-clause-goes : goal.returns-in-Err-start_main-clause-goes
 returns-in-Err-start_main-clause-goes g c = c.start_main.ensures.goes

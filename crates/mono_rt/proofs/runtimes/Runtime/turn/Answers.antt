@@ -5,6 +5,7 @@ use Rattle.mono_parts.proofs.Going.{goes_of, goes_on, does_turn}
 use Rattle.mono_parts.proofs.Doing.{does_one}
 use Rattle.mono_parts.proofs.Telling.{telling_on, tells_kept}
 use Rattle.std.proofs.Common.{refl, ap, sym, subst, ◌∙◌}
+use Rattle.mono_parts.specs.Record.{no_acts}
 use Rattle.mono_rt.specs.Turns.{Turn}
 use Rattle.mono_rt.proofs.Polling.{polls_turn}
 use Rattle.mono_rt.proofs.Filling.{fills_turn}
@@ -20,7 +21,7 @@ returns-then-self-clause-goes g c =
     let first = c.open_turn.new.journal in
     let last = c.keep_turn.new.journal in
     goes_on number old.cx.parts opened left old.journal first last c.open_turn.ensures.goes
-    (goes_of number _ opened left first last (does_turn number opened done.parts left first last _ _ _ (λ unfull. c.turn-task.ensures.is (c.in-Some.ensures.acts (sym c.open_turn.ensures.full ∙ (c.keep_turn.ensures.kept unfull).0))) c.keep_turn.ensures.kept
+    (goes_of number _ opened left first last (does_turn number opened done.parts left first last _ _ _ (c.turn-task.ensures.is old.journal.is_full c.in-Some.ensures.acts) c.keep_turn.ensures.history
     (λ m st. same_machine number hosting_of done.parts left m c.keep_turn.ensures.tasks c.keep_turn.ensures.timers c.keep_turn.ensures.has_timers c.keep_turn.ensures.blocking st) c.keep_turn.ensures.timers))
 
 pub returns-clause-turned : goal.returns-clause-turned
@@ -33,17 +34,17 @@ returns-clause-turned g c =
     let first = c.open_turn.new.journal in
     let last = c.keep_turn.new.journal in
     does_one number old.cx.parts opened left old.journal first last _ _ _ _ _ c.in-Some.ensures.reading
-    (does_turn number opened done.parts left first last _ _ _ (λ unfull. c.turn-task.ensures.is (c.in-Some.ensures.acts (sym c.open_turn.ensures.full ∙ (c.keep_turn.ensures.kept unfull).0))) c.keep_turn.ensures.kept
+    (does_turn number opened done.parts left first last _ _ _ (c.turn-task.ensures.is old.journal.is_full c.in-Some.ensures.acts) c.keep_turn.ensures.history
     (λ m st. same_machine number hosting_of done.parts left m c.keep_turn.ensures.tasks c.keep_turn.ensures.timers c.keep_turn.ensures.has_timers c.keep_turn.ensures.blocking st) c.keep_turn.ensures.timers)
 
 pub returns-clause-goes : goal.returns-clause-goes
 returns-clause-goes g c = goes_of g.O.Outcome.output_number OneTurn c.args.self.now.cx.parts c.keep_turn.new.self c.args.self.now.journal c.keep_turn.new.journal (returns-clause-turned g c)
 
 pub returns-then-self-clause-told : goal.returns-then-self-clause-told
-returns-then-self-clause-told g c = telling_on c.open_turn.ensures.told (tells_kept _ _ _ _ refl c.keep_turn.ensures.kept)
+returns-then-self-clause-told g c = telling_on c.open_turn.ensures.told (tells_kept _ _ _ refl c.keep_turn.ensures.history)
 
 pub returns-clause-told : goal.returns-clause-told
-returns-clause-told g c = telling_on c.open_turn.ensures.told (tells_kept _ _ _ _ refl c.keep_turn.ensures.kept)
+returns-clause-told g c = telling_on c.open_turn.ensures.told (tells_kept _ _ _ refl c.keep_turn.ensures.history)
 
 pub returns-clause-polled : goal.returns-clause-polled
 returns-clause-polled g c =
@@ -54,23 +55,23 @@ returns-clause-polled g c =
     let left = c.keep_turn.new.self in
     let first = c.open_turn.new.journal in
     let last = c.keep_turn.new.journal in
-    polls_turn number g.W.SharedState.leads g.F.TaskFuture old.cx.parts.has_timers old.cx (record old.cx { parts = opened }) done (record done { parts = left }) old.journal first last c.turn-task.result.0 c.in-Some.now c.turn-task.result.1 c.turn-task.result.2 (ap (λ x. x.has_timers) c.open_turn.ensures.same) refl c.in-Some.ensures.at
-    (λ unfull. subst (λ acts. Turn number g.W.SharedState.leads g.F.TaskFuture c.turn-task.result.0 c.in-Some.now acts c.turn-task.result.1 c.turn-task.result.2 (record old.cx { parts = opened }) done)
-    (c.in-Some.ensures.acts (sym c.open_turn.ensures.full ∙ (c.keep_turn.ensures.kept unfull).0)) c.turn-task.ensures.turn)
-    (does_turn number opened done.parts left first last _ _ _ (λ unfull. c.turn-task.ensures.is (c.in-Some.ensures.acts (sym c.open_turn.ensures.full ∙ (c.keep_turn.ensures.kept unfull).0))) c.keep_turn.ensures.kept
+    polls_turn number g.W.SharedState.leads g.F.TaskFuture old.cx.parts.has_timers old.cx (record old.cx { parts = opened }) done (record done { parts = left }) old.journal first last c.turn-task.result.0 c.in-Some.now old.journal.is_full c.turn-task.result.1 c.turn-task.result.2 (ap (λ x. x.has_timers) c.open_turn.ensures.same) refl c.in-Some.ensures.at
+    (subst (λ acts. Turn number g.W.SharedState.leads g.F.TaskFuture c.turn-task.result.0 c.in-Some.now acts c.turn-task.result.1 c.turn-task.result.2 (record old.cx { parts = opened }) done)
+    c.in-Some.ensures.acts c.turn-task.ensures.turn)
+    (does_turn number opened done.parts left first last _ _ _ (c.turn-task.ensures.is old.journal.is_full c.in-Some.ensures.acts) c.keep_turn.ensures.history
     (λ m st. same_machine number hosting_of done.parts left m c.keep_turn.ensures.tasks c.keep_turn.ensures.timers c.keep_turn.ensures.has_timers c.keep_turn.ensures.blocking st) c.keep_turn.ensures.timers)
-    (λ unfull. (c.keep_turn.ensures.kept unfull).1) refl (sym c.keep_turn.ensures.memory ∙ c.if-self.false) refl
+    refl (sym c.keep_turn.ensures.memory ∙ c.if-self.false) refl
 
 pub returns-then-self-clause-full : goal.returns-then-self-clause-full
 returns-then-self-clause-full g c =
     let old = c.args.self.now in
-    fills_turn g.O.Outcome.output_number g.W.SharedState.leads g.F.TaskFuture old.cx (record old.cx { parts = c.open_turn.new.self }) c.turn-task.new.self old.journal c.open_turn.new.journal c.keep_turn.new.journal _ _ _ _ _
-    c.open_turn.ensures.goes c.open_turn.ensures.full (λ unfull. c.in-Some.ensures.acts (sym c.open_turn.ensures.full ∙ unfull)) c.turn-task.ensures.turn
-    (λ unfull. c.turn-task.ensures.is (c.in-Some.ensures.acts (sym c.open_turn.ensures.full ∙ unfull))) c.keep_turn.ensures.full
+    fills_turn g.O.Outcome.output_number g.W.SharedState.leads g.F.TaskFuture old.cx (record old.cx { parts = c.open_turn.new.self }) c.turn-task.new.self old.journal c.open_turn.new.journal c.keep_turn.new.journal _ _ _ _
+    c.open_turn.ensures.goes c.open_turn.ensures.full (λ unfull. c.in-Some.ensures.acts ∙ ap no_acts (sym c.open_turn.ensures.full ∙ unfull)) c.turn-task.ensures.turn
+    (c.turn-task.ensures.is old.journal.is_full c.in-Some.ensures.acts) c.keep_turn.ensures.full
 
 pub returns-clause-full : goal.returns-clause-full
 returns-clause-full g c =
     let old = c.args.self.now in
-    fills_turn g.O.Outcome.output_number g.W.SharedState.leads g.F.TaskFuture old.cx (record old.cx { parts = c.open_turn.new.self }) c.turn-task.new.self old.journal c.open_turn.new.journal c.keep_turn.new.journal _ _ _ _ _
-    c.open_turn.ensures.goes c.open_turn.ensures.full (λ unfull. c.in-Some.ensures.acts (sym c.open_turn.ensures.full ∙ unfull)) c.turn-task.ensures.turn
-    (λ unfull. c.turn-task.ensures.is (c.in-Some.ensures.acts (sym c.open_turn.ensures.full ∙ unfull))) c.keep_turn.ensures.full
+    fills_turn g.O.Outcome.output_number g.W.SharedState.leads g.F.TaskFuture old.cx (record old.cx { parts = c.open_turn.new.self }) c.turn-task.new.self old.journal c.open_turn.new.journal c.keep_turn.new.journal _ _ _ _
+    c.open_turn.ensures.goes c.open_turn.ensures.full (λ unfull. c.in-Some.ensures.acts ∙ ap no_acts (sym c.open_turn.ensures.full ∙ unfull)) c.turn-task.ensures.turn
+    (c.turn-task.ensures.is old.journal.is_full c.in-Some.ensures.acts) c.keep_turn.ensures.full

@@ -6,6 +6,7 @@ use Rattle.mono_parts.specs.Rounds.{IsPark}
 use Rattle.mono_parts.proofs.Going.{goes_on, does_led}
 use Rattle.mono_parts.specs.Telling.{Telling, Still, after_park, after_wait}
 use Rattle.mono_parts.proofs.Telling.{telling_on, telling_more, drained_wait}
+use Rattle.mono_parts.proofs.FaultLemmas.{rises_before}
 use Rattle.mono_rt.proofs.runtimes.Runtime.wait.Goals as goal
 
 pub returns-else-self-clause-parks : goal.returns-else-self-clause-parks
@@ -75,3 +76,9 @@ pub returns-in-Err-clock_step-clause-told : goal.returns-in-Err-clock_step-claus
 returns-in-Err-clock_step-clause-told g c =
     let failed = c.in-Ok.failed in
     telling_more (λ x e. tt) (telling_on {q = after_wait failed} (telling_on {q = after_park failed} c.in-Ok.ensures.told (c.in-Ok-drain.ensures.told (after_park failed) (after_wait failed) (drained_wait failed))) (c.clock_step.ensures.told (after_wait failed)))
+
+pub returns-else-self-clause-faults : goal.returns-else-self-clause-faults
+returns-else-self-clause-faults g c = rises_before c.in-Ok.failed _ _ _ c.in-Ok.ensures.faults c.drain.ensures.faults
+
+pub returns-in-Ok-clock_step-clause-faults : goal.returns-in-Ok-clock_step-clause-faults
+returns-in-Ok-clock_step-clause-faults g c = rises_before c.in-Ok.failed _ _ _ c.in-Ok.ensures.faults (c.clock_step.ensures.faults ∙ c.drain.ensures.faults)

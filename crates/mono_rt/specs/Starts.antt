@@ -1,0 +1,16 @@
+-- What one call on a new runtime did.
+use Rattle.std.specs.Prelude.{ℕ, Bool, List, [], Result}
+use Rattle.mono_machine.specs.Machine.{Machine}
+use Rattle.mono_parts.specs.Numbered.{answer_numbered}
+use Rattle.mono_parts.specs.Rounds.{Blocked}
+use Rattle.mono_parts.specs.Telling.{Told, IsTold}
+use Rattle.mono_parts.specs.declared.errors.RunError.{RunError}
+use Rattle.mono_parts.specs.declared.journals.Entry.{Entry}
+
+-- There is a history from this machine on that is what `Blocked` says of the answer, and whose readings and parks are those of
+-- a driver that told this before it.
+pub record RunsFrom {O : Type 0} (number : O → ℕ) (has_timers : Bool) (turns : ℕ) (answer : Result O RunError) (old : Machine) (first : Told) : Type 0 where
+  pub part : List Entry
+  pub new : Machine
+  pub blocked : Blocked has_timers turns (answer_numbered number answer) old part new []
+  pub told : IsTold answer first part
