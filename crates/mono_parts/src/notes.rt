@@ -9,7 +9,7 @@ ghost use Rattle.mono_parts.specs.Roomy.{HasRoomFor};
 use crate::acts::Acts;
 use crate::journals::{Entry, Journal};
 use crate::keeping::RoomList;
-use mono_exec::{End, Ended, Event, Report};
+use mono_machine::{End, Ended, Event, Report};
 use mono_history::Tells;
 use std::alloc::AllocError;
 
