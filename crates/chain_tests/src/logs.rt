@@ -69,7 +69,7 @@ pub(crate) struct Part<X> {
     answer: X,
 }
 
-pub(crate) fn part<X>(name: char, waits: u64, answer: X) -> Part<X>
+pub(crate) fn make_part<X>(name: char, waits: u64, answer: X) -> Part<X>
     ensures { result ≡ record { name = name; waits = waits; answer = answer } }
 {
     Part {

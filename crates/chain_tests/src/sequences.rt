@@ -1,7 +1,7 @@
 // Each form on each of its ways, and what it gives up after each number of polls.
 // The expected logs follow the rules of the crate `futures`: a form polls in the written order, the next part has its first
 // poll as soon as the one before has answered, and a part that has answered is dropped.
-use crate::logs::{Part, drive, part};
+use crate::logs::{Part, drive, make_part};
 use mono_combine::{TryJoin2, join3};
 use mono_forms::{
     Either, FutureExt, Loop, lazy, pending, race, race_either, race_either3, race_list, race3,
@@ -22,7 +22,7 @@ fn then_polls_its_second_part_with_the_answer_of_its_first(rt: HostRuntime) {
         (2, None, "a.aAb.B"),
         (3, Some(8), "a.aAb.bB."),
     ] {
-        let task = part('a', 1, 7u64).then(|x: u64| part('b', 1, x.wrapping_add(1)));
+        let task = make_part('a', 1, 7u64).then(|x: u64| make_part('b', 1, x.wrapping_add(1)));
         let (got, log) = drive(&rt, alloc, task, polls);
         assert_eq!(rt; got, answer);
         assert_eq!(rt; log.as_str(), lines);
@@ -40,7 +40,7 @@ fn and_then_ends_at_an_error(rt: HostRuntime) {
         (99, 3, Some(Err(100)), "a.aAb.bB."),
         (100, 3, Some(Err(100)), "a.aA."),
     ] {
-        let task = part('a', 1, tried(value)).and_then(|x: u64| part(
+        let task = make_part('a', 1, tried(value)).and_then(|x: u64| make_part(
             'b',
             1,
             tried(x.wrapping_add(1)),
@@ -60,7 +60,7 @@ fn or_else_ends_at_a_value(rt: HostRuntime) {
         (100, 3, Some(Err(101)), "a.aAb.bB."),
         (7, 3, Some(Ok(7)), "a.aA."),
     ] {
-        let task = part('a', 1, tried(value)).or_else(|e: u64| part(
+        let task = make_part('a', 1, tried(value)).or_else(|e: u64| make_part(
             'b',
             1,
             tried(e.wrapping_add(1)),
@@ -83,7 +83,7 @@ fn maps_change_the_answer_once_its_future_is_given_up(rt: HostRuntime) {
         let (got, log) = drive(
             &rt,
             alloc,
-            part('a', 1, tried(value)).map_ok(|x: u64| x.wrapping_mul(2)),
+            make_part('a', 1, tried(value)).map_ok(|x: u64| x.wrapping_mul(2)),
             polls,
         );
         assert_eq!(rt; got, doubled);
@@ -91,13 +91,13 @@ fn maps_change_the_answer_once_its_future_is_given_up(rt: HostRuntime) {
         let (got, log) = drive(
             &rt,
             alloc,
-            part('a', 1, tried(value)).map_err(|e: u64| e.wrapping_add(1)),
+            make_part('a', 1, tried(value)).map_err(|e: u64| e.wrapping_add(1)),
             polls,
         );
         assert_eq!(rt; got, kept);
         assert_eq!(rt; log.as_str(), lines);
     }
-    let (got, log) = drive(&rt, alloc, part('a', 1, 7u64).map(|x: u64| x == 7), 2);
+    let (got, log) = drive(&rt, alloc, make_part('a', 1, 7u64).map(|x: u64| x == 7), 2);
     assert_eq!(rt; got, Some(true));
     assert_eq!(rt; log.as_str(), "a.aA.");
 }
@@ -112,9 +112,9 @@ fn either_polls_the_one_that_is_there(rt: HostRuntime) {
         (false, 2, Some(8), "b.b.B"),
     ] {
         let task: Either<Part<u64>, Part<u64>> = if is_left {
-            part('a', 1, 7u64).left_future()
+            make_part('a', 1, 7u64).left_future()
         } else {
-            part('b', 1, 8u64).right_future()
+            make_part('b', 1, 8u64).right_future()
         };
         let (got, log) = drive(&rt, alloc, task, polls);
         assert_eq!(rt; got, answer);
@@ -133,7 +133,7 @@ fn a_loop_has_its_next_turn_in_the_same_poll(rt: HostRuntime) {
         (1, 4, Some(2), "a.aAa.aAa.aA."),
     ] {
         let task = repeat(0u64, move |n: u64| {
-            part('a', waits, n).map(|n: u64| if n >= 2 {
+            make_part('a', waits, n).map(|n: u64| if n >= 2 {
                 Loop::Break(n)
             } else {
                 Loop::Continue(n + 1)
@@ -157,7 +157,7 @@ fn a_race_gives_both_up_in_the_written_order(rt: HostRuntime) {
         let (got, log) = drive(
             &rt,
             alloc,
-            race(part('a', first, 7u64), part('b', second, 8u64)),
+            race(make_part('a', first, 7u64), make_part('b', second, 8u64)),
             polls,
         );
         assert_eq!(rt; got, answer);
@@ -165,13 +165,12 @@ fn a_race_gives_both_up_in_the_written_order(rt: HostRuntime) {
         let (got, log) = drive(
             &rt,
             alloc,
-            race_either(part('a', first, 7u64), part('b', second, 8u64)).map(|side: Either<
-                u64,
-                u64,
-            >| match side {
-                Either::Left(x) => x,
-                Either::Right(y) => y,
-            }),
+            race_either(make_part('a', first, 7u64), make_part('b', second, 8u64)).map(
+                |side: Either<u64, u64>| match side {
+                    Either::Left(x) => x,
+                    Either::Right(y) => y,
+                },
+            ),
             polls,
         );
         assert_eq!(rt; got, answer);
@@ -182,7 +181,11 @@ fn a_race_gives_both_up_in_the_written_order(rt: HostRuntime) {
 #[test]
 fn three_race_and_join_in_the_written_order(rt: HostRuntime) {
     let alloc = rt.alloc();
-    let (a, b, c) = (part('a', 2, 1u64), part('b', 2, 2u64), part('c', 1, 3u64));
+    let (a, b, c) = (
+        make_part('a', 2, 1u64),
+        make_part('b', 2, 2u64),
+        make_part('c', 1, 3u64),
+    );
     for (polls, answer, lines) in [
         (0, None, "ABC"),
         (1, None, "abc.ABC"),
@@ -213,8 +216,11 @@ fn the_first_error_of_three_gives_the_others_up(rt: HostRuntime) {
         ((1, 2, 300), Err(300), "aAbc.bBcC."),
     ] {
         let form = TryJoin2::new(
-            TryJoin2::new(part('a', 0, tried(values.0)), part('b', 1, tried(values.1))),
-            part('c', 1, tried(values.2)),
+            TryJoin2::new(
+                make_part('a', 0, tried(values.0)),
+                make_part('b', 1, tried(values.1)),
+            ),
+            make_part('c', 1, tried(values.2)),
         );
         let (got, log) = drive(&rt, alloc, form, 9);
         assert_eq!(rt; got, Some(answer));
@@ -233,9 +239,9 @@ fn the_first_of_a_list_that_answers_ends_the_race(rt: HostRuntime) {
         ([2, 2, 1], 2, Some(3), "abc.abcABC."),
     ] {
         let futures = vec![in alloc;
-            part('a', waits[0], 1u64),
-            part('b', waits[1], 2u64),
-            part('c', waits[2], 3u64),
+            make_part('a', waits[0], 1u64),
+            make_part('b', waits[1], 2u64),
+            make_part('c', waits[2], 3u64),
         ]
         .expect(&rt, "memory");
         let (got, log) = drive(&rt, alloc, race_list(futures), polls);
@@ -254,7 +260,7 @@ fn a_fused_future_waits_after_its_answer(rt: HostRuntime) {
     let (got, log) = drive(
         &rt,
         alloc,
-        race(part('a', 0, 7u64).fuse(), pending::<u64>()),
+        race(make_part('a', 0, 7u64).fuse(), pending::<u64>()),
         1,
     );
     assert_eq!(rt; got, Some(7));
@@ -262,7 +268,9 @@ fn a_fused_future_waits_after_its_answer(rt: HostRuntime) {
     let (got, log) = drive(
         &rt,
         alloc,
-        part('a', 0, 7u64).fuse().then(|_: u64| pending::<u64>()),
+        make_part('a', 0, 7u64)
+            .fuse()
+            .then(|_: u64| pending::<u64>()),
         3,
     );
     assert_eq!(rt; got, None);
@@ -284,14 +292,14 @@ fn small_forms_answer_at_once_or_in_the_next_poll(rt: HostRuntime) {
     let (got, log) = drive(
         &rt,
         alloc,
-        part('a', 1, 7u64).inspect(|x: &u64| {
+        make_part('a', 1, 7u64).inspect(|x: &u64| {
             prove!(*x < 8);
         }),
         2,
     );
     assert_eq!(rt; got, Some(7));
     assert_eq!(rt; log.as_str(), "a.aA.");
-    let (got, log) = drive(&rt, alloc, lazy(|| part('a', 1, 7u64)).flatten(), 2);
+    let (got, log) = drive(&rt, alloc, lazy(|| make_part('a', 1, 7u64)).flatten(), 2);
     assert_eq!(rt; got, Some(7));
     assert_eq!(rt; log.as_str(), "a.aA.");
 }
