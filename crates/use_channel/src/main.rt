@@ -1,17 +1,21 @@
-//! Tasks of one runtime that send and receive over a channel which they share.
+//! Tasks of one runtime that send and receive over a channel which they share, with a permit for each message.
 #![tactic(auto)]
 
 ghost use Rattle.std.specs.Prelude.{◌≤◌, IfSome};
 
+mod boards;
 mod parties;
 
+use boards::Board;
 use mono_blocking::{Job, NoPool};
-use mono_channel::Channel;
 use mono_driver::{StepDriver, TimeDriver};
 use mono_inbox::NoUnpark;
 use mono_joinword::Outcome;
 use mono_model::Host;
 use mono_rt::{Runtime, RuntimeBuilder};
+use mono_sync::Semaphore;
+use mono_sync::laws::stays_bounded;
+use mono_sync::mpsc::Channel;
 use parties::Party;
 use std::alloc::Global;
 use std::io;
@@ -38,16 +42,26 @@ impl Job for Idle {
     }
 }
 
-type Running = Runtime<Party, u64, TimeDriver<StepDriver>, NoPool<Idle>, Channel<u64>>;
+type Running = Runtime<Party, u64, TimeDriver<StepDriver>, NoPool<Idle>, Board>;
 
 // A consumer of all that two producers send, over a channel of so many places: the sum of its messages, each times its place,
 // and how many messages are left. As many at most as there are places, whatever the tasks did.
-fn sum_of<R: Host>(rt: &R, alloc: Global, most: usize, each: u64) -> Option<(u64, usize)>
+fn sum_of<R: Host>(
+    rt: &R,
+    alloc: Global,
+    most: usize,
+    permits: usize,
+    each: u64,
+) -> Option<(u64, usize)>
     ensures { IfSome result (λ r. r.1 ≤ most) }
 {
     let driver = TimeDriver::new(StepDriver::new(Vec::new(alloc)));
     let builder: RuntimeBuilder<TimeDriver<StepDriver>, NoPool<Idle>> = RuntimeBuilder::new(driver);
-    let made: Running = match builder.build_sharing(alloc, Channel::new(alloc, most)) {
+    let board = Board {
+        numbers: Channel::new(alloc, most),
+        permits: Semaphore::new(alloc, permits),
+    };
+    let made: Running = match builder.build_sharing(alloc, board) {
         Ok(made) => made,
         Err(_) => return None,
     };
@@ -59,18 +73,19 @@ fn sum_of<R: Host>(rt: &R, alloc: Global, most: usize, each: u64) -> Option<(u64
         return None;
     }
     let total = each.saturating_mul(2);
-    match runtime.block_on(rt, alloc, Party::consumer(total), 100000) {
-        Ok(sum) => Some((sum, runtime.shared().len())),
+    stays_bounded::<u64>();
+    match runtime.block_on(rt, alloc, Party::consumer(total), 1000) {
+        Ok(sum) => Some((sum, runtime.shared().numbers.len())),
         Err(_) => None,
     }
 }
 
 fn main(rt: HostRuntime) -> io::Result<()> {
     let alloc = rt.alloc();
-    for most in 0..4 {
-        match sum_of(&rt, alloc, most, 5) {
-            Some((sum, left)) => println!(rt; "{most} places: {sum}, {left} left")?,
-            None => println!(rt; "{most} places: gave up")?,
+    for (most, permits) in [(0, 1), (1, 1), (1, 4), (2, 4), (3, 4), (3, 1)] {
+        match sum_of(&rt, alloc, most, permits, 5) {
+            Some((sum, left)) => println!(rt; "{most} places, {permits} permits: {sum}, {left} left")?,
+            None => println!(rt; "{most} places, {permits} permits: gave up")?,
         }
     }
     Ok(())

@@ -2,9 +2,11 @@
 ghost use Rattle.std.specs.Prelude.{⊤};
 ghost use Rattle.use_channel.specs.Parties.{is_over};
 
-use mono_channel::{Channel, Receive, Send};
+use crate::boards::Board;
 use mono_model::{Host, Poll};
 use mono_shared::SharedContext;
+use mono_sync::mpsc::{Recv, Send};
+use mono_sync::{Acquire, permits};
 use mono_task::TaskFuture;
 use std::alloc::Global;
 use std::mem;
@@ -12,27 +14,47 @@ use std::mem;
 /// A task that sends numbers, or one that receives them.
 #[derive(Drop)]
 pub enum Party {
+    /// It waits for a permit to send this number, and then so many more.
+    Asks(Acquire<Board>, u64, u64),
     /// It sends this number, and then so many more.
-    Sends(Send<u64>, u64, u64),
+    Sends(Send<Board, u64>, u64, u64),
     /// It receives, and then so many more; the sum so far, and how many it has received.
-    Receives(Receive<u64>, u64, u64, u64),
+    Receives(Recv<Board, u64>, u64, u64, u64),
     /// It has answered.
     Over,
 }
 
 impl Party {
-    /// Sends so many numbers from the first on.
+    /// Sends so many numbers from the first on, each with a permit.
     pub fn producer(first: u64, count: u64) -> Party {
-        Party::Sends(Send::new(first), first, count.saturating_sub(1))
+        Party::Asks(Acquire::new(), first, count.saturating_sub(1))
     }
 
-    /// Receives so many numbers.
+    /// Receives so many numbers, and releases a permit for each.
     pub fn consumer(count: u64) -> Party {
-        Party::Receives(Receive::new(), count.saturating_sub(1), 0, 0)
+        Party::Receives(Recv::new(), count.saturating_sub(1), 0, 0)
     }
 }
 
-impl<C: SharedContext<Channel<u64>>> TaskFuture<C> for Party {
+// The running task runs again after its turn.
+fn again<C: SharedContext<Board>>(cx: &mut C)
+    ensures { C.reaches cx.old cx.new }
+{
+    let me = cx.me();
+    let _ = cx.wake(me);
+}
+
+// A number was received: its permit is released, and the task runs again if some are left.
+fn received<C: SharedContext<Board>>(cx: &mut C, left: u64)
+    ensures { C.reaches cx.old cx.new }
+{
+    let _ = permits::release::<Board, C>(cx);
+    if left > 0 {
+        again(cx);
+    }
+}
+
+impl<C: SharedContext<Board>> TaskFuture<C> for Party {
     type Output = u64;
 
     ghost is_spent = { is_over };
@@ -44,14 +66,30 @@ impl<C: SharedContext<Channel<u64>>> TaskFuture<C> for Party {
     fn spent(&self) -> bool {
         match self {
             Party::Over => true,
+            Party::Asks(acquire, _, _) => TaskFuture::<C>::spent(acquire),
             Party::Sends(send, _, _) => TaskFuture::<C>::spent(send),
-            Party::Receives(receive, _, _, _) => TaskFuture::<C>::spent(receive),
+            Party::Receives(recv, _, _, _) => TaskFuture::<C>::spent(recv),
         }
     }
 
     fn poll<R: Host>(&mut self, rt: &R, alloc: Global, cx: &mut C) -> Poll<u64> {
         match mem::replace(self, Party::Over) {
             Party::Over => Poll::Ready(0),
+            Party::Asks(acquire, number, left) => {
+                let mut acquire = acquire;
+                match acquire.poll(rt, alloc, cx) {
+                    Poll::Pending => {
+                        *self = Party::Asks(acquire, number, left);
+                        Poll::Pending
+                    }
+                    Poll::Ready(Err(_)) => Poll::Ready(0),
+                    Poll::Ready(Ok(())) => {
+                        *self = Party::Sends(Send::new(number), number, left);
+                        again(cx);
+                        Poll::Pending
+                    }
+                }
+            }
             Party::Sends(send, number, left) => {
                 let mut send = send;
                 match send.poll(rt, alloc, cx) {
@@ -64,31 +102,29 @@ impl<C: SharedContext<Channel<u64>>> TaskFuture<C> for Party {
                         if left == 0 {
                             return Poll::Ready(number);
                         }
-                        let next = number.saturating_add(1);
-                        *self = Party::Sends(Send::new(next), next, left - 1);
-                        let me = cx.me();
-                        let _ = cx.wake(me);
+                        *self = Party::Asks(Acquire::new(), number.saturating_add(1), left - 1);
+                        again(cx);
                         Poll::Pending
                     }
                 }
             }
-            Party::Receives(receive, left, sum, place) => {
-                let mut receive = receive;
-                match receive.poll(rt, alloc, cx) {
+            Party::Receives(recv, left, sum, place) => {
+                let mut recv = recv;
+                match recv.poll(rt, alloc, cx) {
                     Poll::Pending => {
-                        *self = Party::Receives(receive, left, sum, place);
+                        *self = Party::Receives(recv, left, sum, place);
                         Poll::Pending
                     }
                     Poll::Ready(Err(_)) => Poll::Ready(0),
-                    Poll::Ready(Ok(number)) => {
+                    Poll::Ready(Ok(None)) => Poll::Ready(sum),
+                    Poll::Ready(Ok(Some(number))) => {
+                        received(cx, left);
                         let place = place.saturating_add(1);
                         let sum = sum.saturating_add(number.saturating_mul(place));
                         if left == 0 {
                             return Poll::Ready(sum);
                         }
-                        *self = Party::Receives(Receive::new(), left - 1, sum, place);
-                        let me = cx.me();
-                        let _ = cx.wake(me);
+                        *self = Party::Receives(Recv::new(), left - 1, sum, place);
                         Poll::Pending
                     }
                 }
@@ -99,8 +135,9 @@ impl<C: SharedContext<Channel<u64>>> TaskFuture<C> for Party {
     fn cancel(self, cx: &mut C) {
         match self {
             Party::Over => {}
+            Party::Asks(acquire, _, _) => acquire.cancel(cx),
             Party::Sends(send, _, _) => send.cancel(cx),
-            Party::Receives(receive, _, _, _) => receive.cancel(cx),
+            Party::Receives(recv, _, _, _) => recv.cancel(cx),
         }
     }
 }
