@@ -3,16 +3,16 @@ use Rattle.std.proofs.Common.{arith, ◌≡◌, ◌≢◌, zero, suc, ℕ, ◌+�
 use Rattle.std.proofs.lemmas.Bool.{cases_lt}
 use Rattle.std.proofs.lemmas.List.{append-nil, get_or_past, length-map}
 use Rattle.std.proofs.lemmas.Bool.Decides.{eqb_tells}
-use Rattle.std.proofs.Math.Nat.{mul-div_cancel, div-lt_iff_lt-mul}
+use Rattle.std.proofs.Math.Nat.{div-lt_iff_lt-mul}
 use Rattle.mono_wheel.specs.Start.{above, next_turn, far_digit, slot_of, start, top_level}
 use Rattle.mono_wheel.specs.Lists.{Lists, no_entry}
-use Rattle.mono_wheel.specs.Model.{Timed, Wheel, Fits, IsPending, timed_at, moved, timed_after}
+use Rattle.mono_wheel.specs.Model.{Timed, Wheel, Fits, IsPending, timed_after}
 use Rattle.mono_wheel.specs.Credit.{takes, credit_of}
 use Rattle.mono_wheel.specs.Onward.{at_tick}
-use Rattle.mono_wheel.specs.Held.{place_of, place_in, timed_of, timed_in, StandsIn, Held, Advanced}
+use Rattle.mono_wheel.specs.Held.{place_in, timed_of, timed_in, StandsIn, Held, Advanced}
 use Rattle.mono_wheel.specs.Leap.{IsFar, IsDueFrom, IsKnown, Known, Spared}
 use Rattle.mono_wheel.specs.declared.entry.Entry.{Entry}
-use Rattle.mono_wheel.proofs.Starts.{div-le_mono, pow-pos, eqb-no, start-above, above-mono, above-start, next_turn-above, next_turn-le, next_turn-near, next_turn-whole}
+use Rattle.mono_wheel.proofs.Starts.{div-le_mono, pow-pos, eqb-no, start-above, above-mono, above-start, next_turn-above, next_turn-near, next_turn-whole}
 use Rattle.mono_wheel.proofs.Places.{place-ahead}
 use Rattle.mono_wheel.proofs.Keys.{timed-read, timed-here, timed-other, none_of}
 use Rattle.mono_wheel.proofs.Advancing.{moved-stays, moved-anew}

@@ -166,3 +166,21 @@ nothing-due old middle new now s a clock passed =
       order = whole.order;
       reserved = whole.reserved;
     }
+
+-- the clock had gone on before a key came out
+pub came-later : (old middle new : Wheel) (now key : ℕ) → Advanced old middle → AllFit middle → CameOut middle new now key → CameOut old new now key
+came-later old middle new now key a fits c =
+    let was = tick-before old.elapsed middle.elapsed (timed_at old key) (timed_at middle key) c.due.0 (a.ticks key) c.due.1 in
+    let high = fits-tick middle.elapsed c.due.0 (subst (Fits middle.elapsed) c.due.1 (fits key)) in
+    let here = c.due.2 in
+    record {
+      due = (was.0, was.1, was.2 ∙ c.due.2, c.due.3);
+      least = λ other tick due.
+          let other_now = tick-after old.elapsed middle.elapsed (timed_at old other) (timed_at middle other) due.0 (a.ticks other) due.1 in
+          c.least other tick (other_now.0, other_now.1, other_now.2 ∙ due.2, due.3);
+      first = λ other p. c.first other (a.order other key p);
+      out = c.out;
+      others = λ other ne. c.others other ne ∙ ap (timed_after middle.elapsed new.elapsed) (a.ticks other) ∙ after-twice old.elapsed middle.elapsed new.elapsed (timed_at old other) (a.fits other) a.later (omega (arith, high, here));
+      order = λ x y nx ny p. c.order x y nx ny (a.order x y p);
+      reserved = c.reserved ∙ a.reserved;
+    }

@@ -1,9 +1,9 @@
 -- How the clock goes at once over slots of the top level in which no key is due.
-use Rattle.std.specs.Prelude.{◌≡◌, ℕ, ◌+◌, ◌<◌, ◌≤◌, ◌⊎◌, List, map, Option, Some, None, slice_index_or}
+use Rattle.std.specs.Prelude.{◌≡◌, ℕ, ◌+◌, ◌<◌, ◌≤◌, ◌⊎◌, List, Option, Some, None, slice_index_or}
 use Rattle.mono_wheel.specs.Start.{above, top_level}
 use Rattle.mono_wheel.specs.Model.{Timed}
-use Rattle.mono_wheel.specs.Credit.{takes, credit_of}
-use Rattle.mono_wheel.specs.Held.{timed_of, timed_in}
+use Rattle.mono_wheel.specs.Credit.{takes}
+use Rattle.mono_wheel.specs.Held.{timed_in}
 use Rattle.mono_wheel.specs.declared.entry.Entry.{Entry}
 
 -- a key that is in is registered at its true tick, in a later slot of the top level than `to`

@@ -11,8 +11,8 @@ use crate::search::NextSlot;
 use crate::slot_links::SlotLinks;
 use std::sync::ledger::Ledger;
 
-// How often a key with this tick is taken from a slot while the clock goes on from `start` to `goal`.
-fn takes_between(start: u64, goal: u64, tick: u64) -> u64
+/// Returns how often a key with this tick is taken from a slot while the clock goes on from `start` to `goal`.
+pub fn takes_between(start: u64, goal: u64, tick: u64) -> u64
     requires ahead { start ≤ goal }
     requires within { goal ≤ tick }
     ensures { result + takes goal (at_tick tick) ≡ takes start (at_tick tick) }

@@ -165,6 +165,14 @@ impl SlotLinks {
         self.links.only(TAKEN)
     }
 
+    /// Returns the node of a list that has one alone, or None if the list has none or several.
+    pub fn only_in(&self, list: usize) -> Option<usize>
+        requires { list < list_count }
+        ensures { IfSome result (λ node. list_at self.now list ≡ node ∷ []) }
+    {
+        self.links.only(list)
+    }
+
     /// Takes the last node of the taken list out, as one step, or answers None exactly where that
     /// list is empty, as no step.
     pub fn pop_taken<L: Ledger>(&mut self, steps: &mut Steps<L>) -> Option<usize>

@@ -1,5 +1,5 @@
 use Rattle.std.proofs.Common.{arith, ◌≡◌, ◌≢◌, ◌+◌, ◌≤◌, ◌<◌, length, set, ap, ◌∙◌, length-set}
-use Rattle.mono_wheel.proofs.LeapLemmas.{Noted, noted-past, noted-here, noted-falls, noted-is}
+use Rattle.mono_wheel.proofs.LeapLemmas.{noted-past, noted-here, noted-falls, noted-is}
 use Rattle.mono_wheel.proofs.leap.survey.Goals.{then-entry-ne0+then-entry-limit+then-count-lt-NEAR, then-entry-ne0+then-entry-limit+else-count-lt-NEAR, else-entry-ne0, else-entry-ne0-via-then-entry-ne0+else-entry-limit, else-entry-ne0-via-else-entry-ne0}
 use Rattle.mono_wheel.proofs.leap.survey.Goals as goal
 

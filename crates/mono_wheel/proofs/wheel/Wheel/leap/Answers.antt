@@ -1,4 +1,4 @@
-use Rattle.std.proofs.Common.{arith, ℕ, ◌<◌, ◌≤◌, sym, ◌∙◌, subst}
+use Rattle.std.proofs.Common.{arith, ℕ, sym, ◌∙◌, subst}
 use Rattle.mono_wheel.specs.Model.{IsPending, timed_at}
 use Rattle.mono_wheel.specs.Held.{timed_in}
 use Rattle.mono_wheel.specs.Leap.{IsFar, IsDueFrom}
