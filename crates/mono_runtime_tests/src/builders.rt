@@ -74,3 +74,16 @@ fn a_start_has_so_many_units(rt: HostRuntime) {
     assert!(rt; slept(&rt, rt.alloc(), 2) == Ok(5));
     assert!(rt; slept(&rt, rt.alloc(), 1) == Err(RunError::Turns));
 }
+
+/// How a main task that wakes itself in each turn ends where the first call of the driver under the timers fails: a submit.
+fn waked<R: Host + Abort>(rt: &R, alloc: Global) -> Result<u64, RunError> {
+    let mut failing = Vec::new(alloc);
+    failing.push(0).expect(rt, "memory");
+    let driver = TimeDriver::new(StepDriver::new(failing));
+    start::<_, _, _, NoPool<Gives>, _>(rt, alloc, driver, Work::Wakes, 100)
+}
+
+#[test]
+fn a_driver_with_timers_submits(rt: HostRuntime) {
+    assert!(rt; waked(&rt, rt.alloc()) == Err(RunError::Driver));
+}
