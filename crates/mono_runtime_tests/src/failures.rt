@@ -3,7 +3,7 @@ ghost use Rattle.std.specs.Prelude.{◌≡◌, ⊤, false, None};
 
 use crate::running::a_runtime;
 use crate::turning::Gives;
-use crate::waits::Work;
+use crate::waits::{Work, outcome_of};
 use mono_blocking::{BlockingHandle, BlockingStrategy, NoPool};
 use mono_model::Host;
 use mono_rt::{Entry, Event, Journal, Limits, RunError, Runtime, StepDriver};
@@ -48,12 +48,23 @@ fn failing<R: Abort>(rt: &R, alloc: Global, call: u64) -> StepDriver {
     StepDriver::new(vec![in alloc; call].expect(rt, "memory"))
 }
 
+/// The answer of a busy task as the main one. No clause speaks of it, so that callers have none to carry.
+fn busy_outcome<R: Host>(
+    rt: &R,
+    alloc: Global,
+    runtime: &mut Runtime<Busy, u64, StepDriver, NoPool<Gives>>,
+) -> Result<u64, RunError>
+    requires { runtime.old.cx.parts.tasks.turn ≡ None }
+{
+    runtime.block_on(rt, alloc, Busy, 1000)
+}
+
 /// How a busy main task ends whose driver fails at this submit, and how many entries its journal has.
-fn busy<R: Host + Abort>(rt: &R, alloc: Global, call: u64) -> (Result<u64, RunError>, usize) {
+fn ends_busy<R: Host + Abort>(rt: &R, alloc: Global, call: u64) -> (Result<u64, RunError>, usize) {
     let pool: BlockingHandle<NoPool<Gives>> = BlockingHandle::Empty(BlockingStrategy::Panic);
     let driver = failing(rt, alloc, call);
     let mut runtime: Runtime<Busy, u64, _, _> = a_runtime(rt, alloc, driver, pool, LIMITS, false);
-    let answer = runtime.block_on(rt, alloc, Busy, 1000);
+    let answer = busy_outcome(rt, alloc, &mut runtime);
     let entries = runtime.journal().len();
     assert!(rt; runtime.into_pool().is_none());
     (answer, entries)
@@ -64,9 +75,9 @@ fn busy<R: Host + Abort>(rt: &R, alloc: Global, call: u64) -> (Result<u64, RunEr
 #[test]
 fn each_submit_may_fail(rt: HostRuntime) {
     let alloc = rt.alloc();
-    assert_eq!(rt; busy(&rt, alloc, 0), (Err(RunError::Driver), 9));
-    assert_eq!(rt; busy(&rt, alloc, 1), (Err(RunError::Driver), 16));
-    assert_eq!(rt; busy(&rt, alloc, 2), (Err(RunError::Driver), 23));
+    assert_eq!(rt; ends_busy(&rt, alloc, 0), (Err(RunError::Driver), 9));
+    assert_eq!(rt; ends_busy(&rt, alloc, 1), (Err(RunError::Driver), 16));
+    assert_eq!(rt; ends_busy(&rt, alloc, 2), (Err(RunError::Driver), 23));
 }
 
 /// The instant of the clock step at this place of the journal.
@@ -87,7 +98,7 @@ fn sleeping<R: Host + Abort>(
     let pool: BlockingHandle<NoPool<Gives>> = BlockingHandle::Empty(BlockingStrategy::Panic);
     let driver = failing(rt, alloc, call);
     let mut runtime: Runtime<Work, u64, _, _> = a_runtime(rt, alloc, driver, pool, LIMITS, true);
-    let answer = runtime.block_on(rt, alloc, Work::Sleeps(100, None), 10);
+    let answer = outcome_of(rt, alloc, &mut runtime, Work::Sleeps(100, None), 10);
     let entries = runtime.journal().len();
     let last = clock_at(runtime.journal(), place);
     assert!(rt; runtime.into_pool().is_none());
