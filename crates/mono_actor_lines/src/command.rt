@@ -31,6 +31,6 @@ pub fn follow_actors<S: Source, K: Sink>(
     ensures followed { IfOk result (λ f. HasFollowed line_text FitsLine Answers (no_actors actors messages) f.end f.rest.items (S.left source.old) (S.left source.new) (K.written sink.old) (K.written sink.new)) }
     ensures none { OnErr result ((S.left source.new ≡ S.left source.old) × (K.written sink.new ≡ K.written sink.old)) }
 {
-    let service = ActorService::new(alloc, actors, messages)?;
+    let service: ActorService = ActorService::new(alloc, actors, messages)?;
     follow(alloc, service, source, sink)
 }

@@ -157,14 +157,14 @@ pub fn limiter(
 /// answers to lines at its front. If there is no memory for the limiter the source is not read and nothing is written.
 pub fn follow_limiter<S: Source, K: Sink>(
     alloc: Global,
-    buckets: u64,
-    retries: u64,
+    most_buckets: u64,
+    most_retries: u64,
     source: &mut S,
     sink: &mut K,
 ) -> Result<Followed, AllocError>
-    ensures followed { IfOk result (λ f. HasFollowed call_text FitsCall StepByLine (no_limits buckets retries) f.end f.rest.items (S.left source.old) (S.left source.new) (K.written sink.old) (K.written sink.new)) }
+    ensures followed { IfOk result (λ f. HasFollowed call_text FitsCall StepByLine (no_limits most_buckets most_retries) f.end f.rest.items (S.left source.old) (S.left source.new) (K.written sink.old) (K.written sink.new)) }
     ensures none { OnErr result ((S.left source.new ≡ S.left source.old) × (K.written sink.new ≡ K.written sink.old)) }
 {
-    let lines = LimiterLines::new(alloc, buckets, retries)?;
+    let lines = LimiterLines::new(alloc, most_buckets, most_retries)?;
     follow(alloc, lines, source, sink)
 }
