@@ -22,7 +22,11 @@ fn closed(alloc: Global, early: Instant, late: Instant) -> Option<[usize; 2]> {
     let before = closed.len();
     sessions.advance(alloc, late, &mut closed).ok()?;
     let is_right = closed.as_slice() == [7, 0].as_slice() && sessions.open_len() == 0;
-    if is_right { Some([before, closed.len()]) } else { None }
+    if is_right {
+        Some([before, closed.len()])
+    } else {
+        None
+    }
 }
 
 // The same of a retry that failed once.
@@ -35,7 +39,11 @@ fn ended(alloc: Global, early: Instant, late: Instant) -> Option<[usize; 2]> {
     let before = due.len();
     limiter.advance(alloc, late, &mut due).ok()?;
     let is_right = failed == Ok(Next::Again(5)) && due.as_slice() == [7, 0].as_slice();
-    if is_right { Some([before, due.len()]) } else { None }
+    if is_right {
+        Some([before, due.len()])
+    } else {
+        None
+    }
 }
 
 // Advances actors of which none runs.
@@ -60,7 +68,11 @@ fn rung(alloc: Global, early: Instant, late: Instant) -> Option<[usize; 2]> {
     let mut due = seven(alloc)?;
     let before = advanced(&mut actors, alloc, early, &mut due)?;
     let after = advanced(&mut actors, alloc, late, &mut due)?;
-    if due.as_slice() == [7, 0].as_slice() { Some([before, after]) } else { None }
+    if due.as_slice() == [7, 0].as_slice() {
+        Some([before, after])
+    } else {
+        None
+    }
 }
 
 // All three at one nanosecond before 5 milliseconds, and at 5.
