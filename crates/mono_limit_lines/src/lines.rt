@@ -1,11 +1,9 @@
 // A limiter that answers lines.
-ghost use Rattle.std.specs.Prelude.{◌≡◌, ◌<◌, ◌≤◌, ◌+◌, IfOk, OnOk, OnErr, vec_len, vec_capacity};
-ghost use Rattle.mono_model.specs.Table.{count_of};
+ghost use Rattle.std.specs.Prelude.{◌≡◌, IfOk, OnOk, OnErr};
 ghost use Rattle.mono_text.specs.Serving.{Serves};
 ghost use Rattle.mono_text.specs.Following.{HasFollowed};
-ghost use Rattle.mono_time.specs.Instants.{nanos_of};
 ghost use Rattle.mono_limit.specs.Limiter.{no_limits};
-ghost use Rattle.mono_limit.specs.Limits.{limits_of, ListsInto};
+ghost use Rattle.mono_limit.specs.Limits.{limits_of};
 ghost use Rattle.mono_limit.specs.Calls as calls;
 ghost use Rattle.mono_limit_lines.specs.Lines.{call_text, FitsCall, call_of, StepByLine, StepInto};
 
@@ -14,26 +12,13 @@ use crate::{printing, reading};
 use mono_limit::{LimitError, Limiter};
 use mono_text::{Followed, Reader, Served, Service, Sink, Source, follow, serve};
 use mono_time::Instant;
-use mono_wheel::Steps;
 use std::alloc::{AllocError, Global};
-use std::marker::Brand;
-use std::sync::ledger::{Blank, Ledger};
 
 // A limiter, and a list for the retries of a clock step, which is used again.
 #[derive(Drop)]
 struct LimiterLines {
     limiter: Limiter,
     due: Vec<u64>,
-}
-
-// A clock step whose steps are not counted. There is room for the retries that are due.
-fn clock_step<L: Ledger>(limiter: &mut Limiter, now: Instant, due: &mut Vec<u64>, blank: Blank)
-    requires ledger { (blank.name ≡ L.name) × (blank.parts ≡ L.parts) × (0 < L.parts) }
-    requires room { vec_len due.old + count_of (limits_of limiter.old).retries ≤ vec_capacity due.old }
-    ensures { ListsInto (limits_of limiter.old) (nanos_of now) due.old.items due.new.items (limits_of limiter.new) }
-{
-    let mut steps: Steps<L> = Steps::new(blank);
-    limiter.clock(now, due, &mut steps);
 }
 
 impl LimiterLines {
@@ -96,15 +81,14 @@ impl LimiterLines {
         printing::done(out, told)
     }
 
-    fn clock(&mut self, n: u128, out: &mut Vec<u8>) -> Result<(), AllocError>
+    fn clock(&mut self, alloc: Global, n: u128, out: &mut Vec<u8>) -> Result<(), AllocError>
         ensures { OnOk result (StepInto (limits_of self.old.limiter) (calls.Clock n) out.old.items out.new.items (limits_of self.new.limiter)) }
     {
         let Some(now) = Instant::from_nanos(n) else {
             return printing::refused(out, LimitError::Invalid);
         };
         self.due.clear();
-        self.due.reserve(self.limiter.live())?;
-        clock_step::<Brand>(&mut self.limiter, now, &mut self.due, Blank::new(1));
+        self.limiter.advance(alloc, now, &mut self.due)?;
         printing::due(out, &self.due)
     }
 }
@@ -134,7 +118,7 @@ impl Service for LimiterLines {
             LimiterCall::Retry(base, cap, most) => self.retry(alloc, base, cap, most, out),
             LimiterCall::Fail(retry) => self.fail(retry, out),
             LimiterCall::Done(retry) => self.done(retry, out),
-            LimiterCall::Clock(n) => self.clock(n, out),
+            LimiterCall::Clock(n) => self.clock(alloc, n, out),
         }
     }
 }

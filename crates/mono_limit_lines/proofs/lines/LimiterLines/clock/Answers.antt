@@ -12,5 +12,5 @@ returns-in_default c =
 
 pub returns : goal.returns
 returns c =
-    let none : c.reserve.new.self.items ≡ [] = search rules in
-    listed c.due.result (limits_of c.args.self.now.limiter) (limits_of c.clock_step.new.limiter) (nanos_of c.in-Some.now) c.args.n _ _ c.deref.result.now _ _ c.in-Some.ensures.some none c.clock_step.ensures (search rules) c.due.ensures
+    let none : c.clear.new.self.items ≡ [] = search rules in
+    listed c.due.result (limits_of c.args.self.now.limiter) (limits_of c.advance.new.self) (nanos_of c.in-Some.now) c.args.n _ _ c.deref.result.now _ _ c.in-Some.ensures.some none c.in_ok-advance.ensures.due (search rules) c.due.ensures
