@@ -51,8 +51,8 @@ soak: build
 	python3 tools/soak/soak.py bin/monoio $(SECONDS)
 	python3 tools/soak/faults.py bin/monoio
 	python3 tools/soak/scripts.py bin/monoio
-	cd crates/mono_refused && rt run -- send 300 > /dev/null
-	cp crates/mono_refused/out/mono_refused bin/refused
+	cd crates/test_out_of_memory && rt run -- send 300 > /dev/null
+	cp crates/test_out_of_memory/out/test_out_of_memory bin/refused
 	python3 tools/soak/refused.py bin/refused
 
 try: has-rt

@@ -5,7 +5,7 @@ use Rattle.mono_actor.specs.Actors as model
 use Rattle.mono_actor.specs.Answers as answer
 use Rattle.mono_actor.specs.Steps.{ClockStep}
 use Rattle.mono_actor.specs.Places.{table_of}
-use Rattle.mono_actor.specs.Stored.{places_of}
+use Rattle.mono_actor.specs.Store.{places_of}
 use Rattle.mono_actor.specs.declared.answers.ActorError.{ActorError}
 use Rattle.mono_actor.specs.declared.answers.ActorError.TheVariants.{Memory}
 use Rattle.mono_actor.specs.declared.answers.Sent.{Sent}
@@ -29,7 +29,7 @@ module _ {M : Type 0} where
 
   -- how many steps the wheel has still to take for the actors that wait
   abbrev pub credit_left : Actors M → ℕ
-  credit_left actors = credit actors.alarms.wheel
+  credit_left actors = credit actors.timers.wheel
 
   -- a send's answer without the message that was refused
   abbrev pub without_message : Result Sent (SendRefused M) → Result Sent ActorError

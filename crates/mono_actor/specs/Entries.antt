@@ -7,10 +7,10 @@ use Rattle.mono_actor.specs.declared.places.Mode.TheVariants as place
 use Rattle.mono_actor.specs.declared.places.Entry.{Entry}
 
 abbrev pub entry_with : Mailbox → Entry → Entry
-entry_with mailbox entry = record { mode = entry.mode; mailbox = mailbox; timeout = entry.timeout; alarm = entry.alarm }
+entry_with mailbox entry = record { mode = entry.mode; mailbox = mailbox; timeout = entry.timeout; timer = entry.timer }
 
 abbrev pub entry_in : declared.Mode → Entry → Entry
-entry_in mode entry = record { mode = mode; mailbox = entry.mailbox; timeout = entry.timeout; alarm = entry.alarm }
+entry_in mode entry = record { mode = mode; mailbox = entry.mailbox; timeout = entry.timeout; timer = entry.timer }
 
 -- an idle actor is queued
 abbrev pub notified_mode : declared.Mode → declared.Mode
@@ -19,7 +19,7 @@ notified_mode place.Queued = place.Queued
 notified_mode place.Running = place.Running
 
 abbrev pub notified : Mailbox → Entry → Entry
-notified mailbox entry = record { mode = notified_mode entry.mode; mailbox = mailbox; timeout = entry.timeout; alarm = entry.alarm }
+notified mailbox entry = record { mode = notified_mode entry.mode; mailbox = mailbox; timeout = entry.timeout; timer = entry.timer }
 
 -- an idle actor waits anew from now
 abbrev pub timed_mode : ℕ → ℕ → declared.Mode → declared.Mode
@@ -28,7 +28,7 @@ timed_mode now timeout place.Queued = place.Queued
 timed_mode now timeout place.Running = place.Running
 
 abbrev pub timed_entry : ℕ → ℕ → Entry → Entry
-timed_entry now timeout entry = record { mode = timed_mode now timeout entry.mode; mailbox = entry.mailbox; timeout = timeout; alarm = entry.alarm }
+timed_entry now timeout entry = record { mode = timed_mode now timeout entry.mode; mailbox = entry.mailbox; timeout = timeout; timer = entry.timer }
 
 -- after its turn an actor is queued again where it has messages, and else idle
 abbrev pub rested_mode : ℕ → ℕ → Bool → declared.Mode

@@ -56,7 +56,7 @@ module _ {M : Type 0} where
 
   -- what is kept of an actor says this of it
   abbrev pub place_of : List (Option (Link M)) → Entry → Place M
-  place_of slots entry = record { mode = entry.mode; mailbox = letters_at slots (keys_of slots entry.mailbox); timeout = entry.timeout; alarm = entry.alarm }
+  place_of slots entry = record { mode = entry.mode; mailbox = letters_at slots (keys_of slots entry.mailbox); timeout = entry.timeout; timer = entry.timer }
 
   abbrev pub places_in : List (Option (Link M)) → List (Option Entry) → List (Option (Place M))
   places_in slots entries = map (option_map (place_of slots)) entries

@@ -22,26 +22,26 @@ mode_of place.Running = running
 
 -- what a message asks for, by the receiver's mode and key
 abbrev pub receipt_in : ℕ → declared.Mode → Receipt
-receipt_in alarm (place.Idle waits_for) = receipt.Queues alarm waits_for
-receipt_in alarm place.Queued = receipt.Waits
-receipt_in alarm place.Running = receipt.Waits
+receipt_in timer (place.Idle waits_for) = receipt.Queues timer waits_for
+receipt_in timer place.Queued = receipt.Waits
+receipt_in timer place.Running = receipt.Waits
 
 -- what a new timeout asks for
 abbrev pub timing_in : ℕ → ℕ → ℕ → declared.Mode → Timing
-timing_in now timeout alarm (place.Idle waits_for) = timing.Rearms alarm waits_for (wait_from now timeout)
-timing_in now timeout alarm place.Queued = timing.Keeps
-timing_in now timeout alarm place.Running = timing.Keeps
+timing_in now timeout timer (place.Idle waits_for) = timing.Rearms timer waits_for (wait_from now timeout)
+timing_in now timeout timer place.Queued = timing.Keeps
+timing_in now timeout timer place.Running = timing.Keeps
 
 -- what the end of a turn asks for, where the mailbox is empty, and where it is not
 abbrev pub rest_in : ℕ → ℕ → ℕ → Bool → Rest
-rest_in now alarm timeout empty = if empty then rest.Waits alarm (wait_from now timeout) else rest.Again
+rest_in now timer timeout empty = if empty then rest.Waits timer (wait_from now timeout) else rest.Again
 
 -- An actor has its mailbox, the oldest message first, and the key of its receive timeout.
 pub record Place (M : Type 0) : Type 0 where
   pub mode : declared.Mode
   pub mailbox : List (Letter M)
   pub timeout : ℕ
-  pub alarm : ℕ
+  pub timer : ℕ
 
 module _ {M : Type 0} where
   abbrev pub actor_of : Place M → Actor M
@@ -56,7 +56,7 @@ module _ {M : Type 0} where
     pub after : Place M
     pub was : old ≡ Some before
     pub is : new ≡ Some after
-    pub alarm : after.alarm ≡ before.alarm
+    pub timer : after.timer ≡ before.timer
     pub actor : actor_of after ≡ change (actor_of before)
 
   -- The actor a is another one, has its key still, and all others stay.
@@ -66,14 +66,14 @@ module _ {M : Type 0} where
     pub is : new ≡ slice_set old a place
 
   abbrev pub receipt_of : Place M → Receipt
-  receipt_of place = receipt_in place.alarm place.mode
+  receipt_of place = receipt_in place.timer place.mode
 
   abbrev pub timing_of : ℕ → ℕ → Place M → Timing
-  timing_of now timeout place = timing_in now timeout place.alarm place.mode
+  timing_of now timeout place = timing_in now timeout place.timer place.mode
 
   -- what the end of a turn asks for
   abbrev pub rest_of_turn : ℕ → Place M → Rest
-  rest_of_turn now place = rest_in now place.alarm place.timeout (length place.mailbox == 0)
+  rest_of_turn now place = rest_in now place.timer place.timeout (length place.mailbox == 0)
 
   -- the oldest message, and an actor without it
   abbrev pub first_of : List (Letter M) → Option (Letter M)

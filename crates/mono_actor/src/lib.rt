@@ -2,7 +2,6 @@
 #![tactic(auto)]
 
 mod advances;
-mod alarms;
 mod answers;
 pub mod laws;
 mod mailboxes;
@@ -10,6 +9,7 @@ mod places;
 pub mod rows;
 mod store;
 mod table;
+mod timers;
 
 pub use answers::{ActorError, After, Got, SendRefused, Sent};
 pub use table::Actors;

@@ -29,7 +29,7 @@ pub struct Entry {
     pub mode: Mode,
     pub mailbox: Mailbox,
     pub timeout: u64,
-    pub alarm: usize,
+    pub timer: usize,
 }
 
 /// What a message asks for: that its receiver is queued and its key waits no longer for this tick, or nothing.
@@ -67,8 +67,8 @@ pub fn wait_from(now: u64, timeout: u64) -> Option<u64>
 }
 
 /// A new actor: it is idle and waits for no tick, its mailbox is empty, and it has no timeout.
-pub fn new_entry(alarm: usize) -> Entry
-    ensures { result ≡ record { mode = place.Idle None; mailbox = record { first = 0; last = 0; count = 0 }; timeout = 0; alarm = alarm } }
+pub fn new_entry(timer: usize) -> Entry
+    ensures { result ≡ record { mode = place.Idle None; mailbox = record { first = 0; last = 0; count = 0 }; timeout = 0; timer = timer } }
 {
     Entry {
         mode: Mode::Idle(None),
@@ -78,7 +78,7 @@ pub fn new_entry(alarm: usize) -> Entry
             count: 0,
         },
         timeout: 0,
-        alarm,
+        timer,
     }
 }
 
@@ -94,13 +94,13 @@ pub fn set_mailbox(entry: &mut Entry, mailbox: Mailbox)
 #[inline(always)]
 pub fn notify(entry: &mut Entry, mailbox: Mailbox) -> Receipt
     ensures becomes { entry.new ≡ notified mailbox entry.old }
-    ensures receipt { result ≡ receipt_in entry.old.alarm entry.old.mode }
+    ensures receipt { result ≡ receipt_in entry.old.timer entry.old.mode }
 {
     entry.mailbox = mailbox;
     match entry.mode {
         Mode::Idle(waits_for) => {
             entry.mode = Mode::Queued;
-            Receipt::Queues(entry.alarm, waits_for)
+            Receipt::Queues(entry.timer, waits_for)
         }
         Mode::Queued | Mode::Running => Receipt::Waits,
     }
@@ -109,14 +109,14 @@ pub fn notify(entry: &mut Entry, mailbox: Mailbox) -> Receipt
 /// The actor has another timeout. An idle one waits anew from now.
 pub fn set_timeout(entry: &mut Entry, now: u64, timeout: u64) -> Timing
     ensures becomes { entry.new ≡ timed_entry now timeout entry.old }
-    ensures timing { result ≡ timing_in now timeout entry.old.alarm entry.old.mode }
+    ensures timing { result ≡ timing_in now timeout entry.old.timer entry.old.mode }
 {
     entry.timeout = timeout;
     match entry.mode {
         Mode::Idle(waits_for) => {
             let tick = wait_from(now, timeout);
             entry.mode = Mode::Idle(tick);
-            Timing::Rearms(entry.alarm, waits_for, tick)
+            Timing::Rearms(entry.timer, waits_for, tick)
         }
         Mode::Queued | Mode::Running => Timing::Keeps,
     }
@@ -154,12 +154,12 @@ pub fn taken<M>(got: &Got<M>) -> u64
 #[inline(always)]
 pub fn end_turn(entry: &mut Entry, now: u64) -> Rest
     ensures becomes { entry.new ≡ rested_entry now entry.old }
-    ensures rest { result ≡ rest_in now entry.old.alarm entry.old.timeout (entry.old.mailbox.count == 0) }
+    ensures rest { result ≡ rest_in now entry.old.timer entry.old.timeout (entry.old.mailbox.count == 0) }
 {
     if entry.mailbox.count == 0 {
         let tick = wait_from(now, entry.timeout);
         entry.mode = Mode::Idle(tick);
-        Rest::Waits(entry.alarm, tick)
+        Rest::Waits(entry.timer, tick)
     } else {
         entry.mode = Mode::Queued;
         Rest::Again
@@ -169,7 +169,7 @@ pub fn end_turn(entry: &mut Entry, now: u64) -> Rest
 /// What is left of an actor: its key, and how many messages were in its mailbox.
 #[derive(Clone, Copy, Drop)]
 pub struct Gone {
-    pub alarm: usize,
+    pub timer: usize,
     pub letters: u64,
 }
 

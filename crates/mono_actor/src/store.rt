@@ -5,7 +5,7 @@ ghost use Rattle.mono_model.specs.Table.{value_at};
 ghost use Rattle.mono_actor.specs.Actors.{idle, queued, got_in, in_mode};
 ghost use Rattle.mono_actor.specs.Places.{receipt_of, timing_of, rest_of_turn, delivered, timed_actor, begun_actor, unread, first_of, rested, Changes};
 ghost use Rattle.mono_actor.specs.Mailboxes.{Sound};
-ghost use Rattle.mono_actor.specs.Once.{found};
+ghost use Rattle.mono_actor.specs.Uniqueness.{found};
 ghost use Rattle.mono_actor.specs.declared.places.Mode.TheVariants as place;
 
 use crate::answers::Got;
@@ -30,7 +30,7 @@ pub(crate) struct Store<M> {
 }
 
 impl<M> Store<M> {
-    ghost use Rattle.mono_actor.specs.Stored.{places_of};
+    ghost use Rattle.mono_actor.specs.Store.{places_of};
 
     /// No actor.
     pub(crate) fn new(alloc: Global) -> Store<M>
@@ -58,12 +58,12 @@ impl<M> Store<M> {
     }
 
     /// A new actor at the next number, with this key. Refused only if the allocation failed; nothing changed then.
-    pub(crate) fn push(&mut self, alloc: Global, alarm: usize) -> Result<(), AllocError>
+    pub(crate) fn push(&mut self, alloc: Global, timer: usize) -> Result<(), AllocError>
         requires { length (places_of self.old) < 2 ^ 64 - 1 }
-        ensures after { OnOk result (places_of self.new ≡ places_of self.old ++ Some (record { mode = place.Idle None; mailbox = []; timeout = 0; alarm = alarm }) ∷ []) }
+        ensures after { OnOk result (places_of self.new ≡ places_of self.old ++ Some (record { mode = place.Idle None; mailbox = []; timeout = 0; timer = timer }) ∷ []) }
         ensures refused { OnErr result (places_of self.new ≡ places_of self.old) }
     {
-        self.entries.push(alloc, new_entry(alarm))
+        self.entries.push(alloc, new_entry(timer))
     }
 
     // The mailbox of an actor.
@@ -82,13 +82,13 @@ impl<M> Store<M> {
     #[inline(always)]
     fn left(&self, actor: u64) -> Gone
         requires { is_some (value_at self.now.entries actor) ≡ true }
-        ensures alarm { IfSome (value_at self.now.entries actor) (λ e. result.alarm ≡ e.alarm) }
+        ensures timer { IfSome (value_at self.now.entries actor) (λ e. result.timer ≡ e.timer) }
         ensures letters { IfSome (value_at self.now.entries actor) (λ e. result.letters ≡ e.mailbox.count) }
     {
         match self.entries.get(actor) {
             None => unreachable!(),
             Some(entry) => Gone {
-                alarm: entry.alarm,
+                timer: entry.timer,
                 letters: entry.mailbox.count as u64,
             },
         }
@@ -158,13 +158,13 @@ impl<M> Store<M> {
 }
 
 impl<M: Drop> Store<M> {
-    ghost use Rattle.mono_actor.specs.Stored.{places_of};
+    ghost use Rattle.mono_actor.specs.Store.{places_of};
 
     /// The actor is gone, and so are the letters in its mailbox, which takes a step each.
     pub(crate) fn take_away(&mut self, actor: u64) -> Gone
         requires { is_some (value_at (places_of self.old) actor) ≡ true }
         ensures gone { places_of self.new ≡ slice_set (places_of self.old) actor None }
-        ensures alarm { IfSome (value_at (places_of self.old) actor) (λ p. result.alarm ≡ p.alarm) }
+        ensures timer { IfSome (value_at (places_of self.old) actor) (λ p. result.timer ≡ p.timer) }
         ensures letters { IfSome (value_at (places_of self.old) actor) (λ p. result.letters ≡ length p.mailbox) }
     {
         let left = self.left(actor);

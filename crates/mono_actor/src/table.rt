@@ -2,14 +2,14 @@
 ghost use Rattle.std.specs.Prelude.{◌≡◌, ◌<◌, ◌≤◌, ◌^◌, ℕ, ◌+◌, ◌-◌, true, None, Some, IfOk, OnOk, IfErr, OnErr, IfSome, is_some, length, vec_len, vec_capacity};
 ghost use Rattle.std.specs.VecDeque.{deque_capacity};
 ghost use Rattle.mono_model.specs.Table.{value_at, count_of};
-ghost use Rattle.mono_actor.specs.Keeping.{Holds};
-ghost use Rattle.mono_actor.specs.Stored.{places_of};
+ghost use Rattle.mono_actor.specs.Consistency.{Holds};
+ghost use Rattle.mono_actor.specs.Store.{places_of};
 
-use crate::alarms::Alarms;
 use crate::answers::{ActorError, After, Got, SendRefused, Sent};
 use crate::mailboxes::Letter;
 use crate::places::{Receipt, Rest, Timing, clock_tick, taken};
 use crate::store::Store;
+use crate::timers::Alarms;
 use mono_time::Instant;
 use mono_wheel::Steps;
 use std::alloc::{AllocError, Global};
@@ -28,7 +28,7 @@ pub struct Actors<M> {
     // by number, what is kept of the actor while it is live
     places: Store<M>,
     queue: VecDeque<u64>,
-    alarms: Alarms,
+    timers: Alarms,
     turn: Option<u64>,
     // the greatest tick of the clock so far
     greatest: u64,
@@ -36,7 +36,7 @@ pub struct Actors<M> {
     most_messages: u64,
     live: u64,
     letters: u64,
-    pub ghost holds: { Holds (places_of places) alarms queue.items turn greatest live letters (deque_capacity queue) },
+    pub ghost holds: { Holds (places_of places) timers queue.items turn greatest live letters (deque_capacity queue) },
 }
 
 impl<M> Actors<M> {
@@ -47,11 +47,11 @@ impl<M> Actors<M> {
     pub fn new(alloc: Global, actors: u64, messages: u64) -> Result<Actors<M>, AllocError>
         ensures { IfOk result (λ a. actors_of a ≡ no_actors actors messages) }
     {
-        let alarms = Alarms::new(alloc)?;
+        let timers = Alarms::new(alloc)?;
         Ok(Actors {
             places: Store::new(alloc),
             queue: VecDeque::new(alloc),
-            alarms,
+            timers,
             turn: None,
             greatest: 0,
             most_actors: actors,
@@ -105,14 +105,14 @@ impl<M> Actors<M> {
     {
         self.queue
             .reserve(self.live as usize + 1 - self.queue.len())?;
-        let alarm = self.alarms.add(alloc, self.places.len())?;
-        match self.places.push(alloc, alarm) {
+        let timer = self.timers.add(alloc, self.places.len())?;
+        match self.places.push(alloc, timer) {
             Ok(()) => {
                 self.live += 1;
                 Ok(())
             }
             Err(error) => {
-                self.alarms.free(alarm);
+                self.timers.free(timer);
                 Err(error)
             }
         }
@@ -165,8 +165,8 @@ impl<M> Actors<M> {
         let receipt = self.places.receive(to, letter)?;
         self.letters += 1;
         match receipt {
-            Receipt::Queues(alarm, tick) => {
-                self.alarms.clear(alarm, tick);
+            Receipt::Queues(timer, tick) => {
+                self.timers.clear(timer, tick);
                 self.queue.push_back_reserved(to);
                 Ok(Sent::Queued)
             }
@@ -185,9 +185,9 @@ impl<M> Actors<M> {
             return Err(ActorError::NoActor);
         }
         match self.places.set_timeout(actor, self.greatest, ms) {
-            Timing::Rearms(alarm, from, to) => {
-                self.alarms.clear(alarm, from);
-                self.alarms.set(alarm, to);
+            Timing::Rearms(timer, from, to) => {
+                self.timers.clear(timer, from);
+                self.timers.set(timer, to);
             }
             Timing::Keeps => {}
         }
@@ -217,7 +217,7 @@ impl<M> Actors<M> {
 impl<M: Drop> Actors<M> {
     ghost use Rattle.std.specs.Prelude.{false};
     ghost use Rattle.mono_actor.specs.Actors.{end_answer, ended, ended_value, with_table};
-    ghost use Rattle.mono_actor.specs.Standing.{is_running, of_actor};
+    ghost use Rattle.mono_actor.specs.QueueInvariants.{is_running, of_actor};
     ghost use Rattle.mono_model.specs.Table.{without};
     ghost use Rattle.mono_actor.specs.Callers.{actors_of};
 
@@ -247,7 +247,7 @@ impl<M: Drop> Actors<M> {
         ensures { actors_of self.new ≡ with_table (actors_of self.old) (without (actors_of self.old).table me) }
     {
         let gone = self.places.take_away(me);
-        self.alarms.free(gone.alarm);
+        self.timers.free(gone.timer);
         self.letters -= gone.letters;
         self.live -= 1;
     }
@@ -264,8 +264,8 @@ impl<M: Drop> Actors<M> {
                 self.queue.push_back_reserved(me);
                 After::Again
             }
-            Rest::Waits(alarm, tick) => {
-                self.alarms.set(alarm, tick);
+            Rest::Waits(timer, tick) => {
+                self.timers.set(timer, tick);
                 After::Idle
             }
         }
@@ -275,7 +275,7 @@ impl<M: Drop> Actors<M> {
 impl<M> Actors<M> {
     ghost use Rattle.std.specs.Prelude.{MatchOption, OnSome};
     ghost use Rattle.mono_time.specs.Instants.{nanos_of};
-    ghost use Rattle.mono_actor.specs.Clocking.{IsNoneDue, RingsFirst, RingsAll, waiting_count};
+    ghost use Rattle.mono_actor.specs.ClockSteps.{IsNoneDue, RingsFirst, RingsAll, waiting_count};
     ghost use Rattle.mono_actor.specs.Callers.{actors_of, credit_left, ListsAndQueues};
 
     /// The clock shows `now`: the greatest tick becomes the greater of itself and the reading's tick, rounded down. The actors
@@ -312,7 +312,7 @@ impl<M> Actors<M> {
         ensures fewer { OnSome result (waiting_count (actors_of self.new) + 1 ≡ waiting_count (actors_of self.old)) }
         ensures steps { steps.new + credit_left self.new ≡ steps.old + credit_left self.old }
     {
-        let actor = self.alarms.poll(self.greatest, steps)?;
+        let actor = self.timers.poll(self.greatest, steps)?;
         self.places.ring(actor);
         self.queue.push_back_reserved(actor);
         Some(actor)

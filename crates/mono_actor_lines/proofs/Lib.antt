@@ -1,5 +1,5 @@
-pub mod Spelled
-pub mod Feeds
-pub mod Parts
-pub mod Turning
-pub mod Whole
+pub mod SpellingLemmas
+pub mod LineFeedLemmas
+pub mod TurnPartLemmas
+pub mod CallLemmas
+pub mod AllLinesLemmas

@@ -1,6 +1,6 @@
 -- What a line is answered.
 use Rattle.std.specs.Prelude.{◌≡◌, ℕ, Bool, List, [], ◌∷◌, ◌++◌, map, flat_map, codes, decimal}
-use Rattle.mono_text.specs.Written.{number_part}
+use Rattle.mono_text.specs.LineText.{number_part}
 use Rattle.mono_actor.specs.Actors.{Actors}
 use Rattle.mono_actor.specs.Calls.{Call}
 use Rattle.mono_actor.specs.Calls as call
@@ -15,9 +15,9 @@ use Rattle.mono_actor.specs.declared.answers.Got.{Got}
 use Rattle.mono_actor.specs.declared.answers.Got.TheVariants as got
 use Rattle.mono_actor.specs.declared.answers.After.{After}
 use Rattle.mono_actor.specs.declared.answers.After.TheVariants as after
-use Rattle.mono_actor_lines.specs.declared.wording.Handed.{Handed}
-use Rattle.mono_actor_lines.specs.declared.wording.ActorLine.{ActorLine}
-use Rattle.mono_actor_lines.specs.declared.wording.ActorLine.TheVariants as line
+use Rattle.mono_actor_lines.specs.declared.words.Handed.{Handed}
+use Rattle.mono_actor_lines.specs.declared.words.ActorLine.{ActorLine}
+use Rattle.mono_actor_lines.specs.declared.words.ActorLine.TheVariants as line
 
 -- ---- how an answer is written
 

@@ -1,6 +1,6 @@
 pub mod Lines
-pub mod Reading
+pub mod Parser
 pub mod Answers
-pub mod Told
+pub mod Replies
 pub mod Turns
-pub mod Whole
+pub mod AllLines

@@ -1,8 +1,8 @@
 -- How calls on actors are written. Each has one spelling.
 use Rattle.std.specs.Prelude.{◌^◌, ◌<◌, ℕ, Bool, true, false, List, [], ◌∷◌, ◌++◌, codes, decimal}
-use Rattle.mono_actor_lines.specs.declared.wording.Handed.{Handed}
-use Rattle.mono_actor_lines.specs.declared.wording.ActorLine.{ActorLine}
-use Rattle.mono_actor_lines.specs.declared.wording.ActorLine.TheVariants as line
+use Rattle.mono_actor_lines.specs.declared.words.Handed.{Handed}
+use Rattle.mono_actor_lines.specs.declared.words.ActorLine.{ActorLine}
+use Rattle.mono_actor_lines.specs.declared.words.ActorLine.TheVariants as line
 
 abbrev pub handed_text : Handed → List ℕ
 handed_text handed = decimal handed.to ++ codes " " ++ decimal handed.message

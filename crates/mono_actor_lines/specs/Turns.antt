@@ -3,8 +3,8 @@ use Rattle.std.specs.Prelude.{◌≡◌, ℕ, List, ◌++◌, map, flat_map}
 use Rattle.mono_actor.specs.Actors.{Actors}
 use Rattle.mono_actor.specs.Answers.{Answer}
 use Rattle.mono_actor.specs.Steps.{Run}
-use Rattle.mono_actor_lines.specs.declared.wording.Handed.{Handed}
-use Rattle.mono_actor_lines.specs.declared.wording.ActorLine.{ActorLine}
+use Rattle.mono_actor_lines.specs.declared.words.Handed.{Handed}
+use Rattle.mono_actor_lines.specs.declared.words.ActorLine.{ActorLine}
 use Rattle.mono_actor_lines.specs.Answers.{answer_part, send_from, Answers}
 
 -- the actor sends all of these, and the answer of each is put behind the others

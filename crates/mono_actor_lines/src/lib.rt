@@ -1,15 +1,15 @@
 //! Lines that say calls on actors, and the lines of their answers.
 #![tactic(auto)]
 
-mod answering;
-mod command;
+mod answers;
+mod calls;
 pub mod laws;
-mod parsing;
-mod printing;
-mod serving;
+mod print;
+mod read;
+mod serve;
 mod turns;
-mod wording;
+mod words;
 
-pub use command::{actors, follow_actors};
-pub use serving::ActorService;
-pub use wording::{ActorLine, Handed};
+pub use calls::{actors, follow_actors};
+pub use serve::ActorService;
+pub use words::{ActorLine, Handed};

@@ -4,11 +4,11 @@ ghost use Rattle.mono_actor.specs.Answers as answer;
 ghost use Rattle.mono_actor.specs.Callers.{actors_of};
 ghost use Rattle.mono_actor_lines.specs.Answers.{answer_text, answer_part};
 ghost use Rattle.mono_actor_lines.specs.Turns.{SendsAll, IsAnswered};
-ghost use Rattle.mono_actor_lines.specs.declared.wording.ActorLine.TheVariants as line;
+ghost use Rattle.mono_actor_lines.specs.declared.words.ActorLine.TheVariants as line;
 
-use crate::answering::posted;
-use crate::printing::{Told, put_told, put_word};
-use crate::wording::Handed;
+use crate::answers::posted;
+use crate::print::{Told, put_told, put_word};
+use crate::words::Handed;
 use mono_actor::{Actors, After, Got};
 use mono_machine::List;
 use std::alloc::AllocError;

@@ -1,7 +1,7 @@
 // Tasks that come and go, each with a sleep: what is gone is to cost nothing.
 
-use mono_exec::{Act, Blocking, End, Event, Exec, List, Query, Reply, Report, TurnStep};
 use mono_machine::Limits;
+use mono_replay::{Act, Blocking, End, Event, Exec, List, Query, Reply, Report, TurnStep};
 use std::alloc::{AllocError, Global};
 use std::{io, mem};
 

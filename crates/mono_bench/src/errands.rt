@@ -1,9 +1,8 @@
 // Blocking jobs that come and go, each with its word: what is gone is to cost nothing.
 ghost use Rattle.std.specs.Prelude.{◌≡◌};
 
-use mono_blocking::{BlockingHandle, DefaultThreadPool, Job, Outcome, ThreadSpawner};
+use mono_blocking::{BlockingHandle, Blockings, DefaultThreadPool, Job, Outcome, ThreadSpawner};
 use mono_inbox::NoUnpark;
-use mono_jobs::Blockings;
 use mono_model::Host;
 use std::alloc::Global;
 use std::io;

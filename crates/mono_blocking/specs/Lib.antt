@@ -1,3 +1,6 @@
 pub mod Counts
 pub mod Pool
 pub mod Tasks
+pub mod JobAnswers
+pub mod JobTable
+pub mod JobSpawns

@@ -2,6 +2,7 @@
 //! threads of the workers.
 #![tactic(auto)]
 
+mod jobs;
 mod pool;
 mod queue;
 mod spawner;
@@ -10,6 +11,9 @@ mod strategy;
 mod task;
 mod worker;
 
+pub use jobs::{
+    Answered, Blockings, End, JobHandle, JobTable, OutputOf, PollJob, PolledJob, SpawnError,
+};
 pub use mono_joinword::{JoinError, Outcome};
 pub use pool::DefaultThreadPool;
 pub use spawner::{Entry, Spawner, StartFault};

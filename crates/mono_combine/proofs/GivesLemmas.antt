@@ -18,12 +18,12 @@ use Rattle.mono_combine.specs.declared.select.Out2.{Out2}
 use Rattle.mono_combine.specs.declared.select.Out2.TheVariants.{First, Second, Disabled}
 use Rattle.mono_combine.specs.declared.select.Select2.{Select2}
 use Rattle.mono_combine.specs.declared.try_joins.TryJoin2.{TryJoin2}
-use Rattle.mono_combine.specs.Listed.{AllMayPoll}
+use Rattle.mono_combine.specs.BranchLists.{AllMayPoll}
 use Rattle.mono_combine.specs.Looks.{BranchGives, BranchNarrows, LookGives}
-use Rattle.mono_combine.specs.Selected.{SelectGives, PickGives, SelectNarrows, then_look, as_first, as_second, or_disabled}
-use Rattle.mono_combine.specs.ListSelected as row
-use Rattle.mono_combine.specs.TryJoined.{failure_of, without_failure, TryJoinGives}
-use Rattle.mono_combine.specs.TryListed.{has_failed, value_in, first_failure, GivesValue, OneFails, TryJoinListGives}
+use Rattle.mono_combine.specs.Selects.{SelectGives, PickGives, SelectNarrows, then_look, as_first, as_second, or_disabled}
+use Rattle.mono_combine.specs.ListSelects as row
+use Rattle.mono_combine.specs.TryJoins.{failure_of, without_failure, TryJoinGives}
+use Rattle.mono_combine.specs.TryLists.{has_failed, value_in, first_failure, GivesValue, OneFails, TryJoinListGives}
 
 module _ {M O : Type 0} (G : M → O → Type 0) where
   -- it gives no more than before

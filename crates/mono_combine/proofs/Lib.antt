@@ -1,9 +1,9 @@
-pub mod Failing
-pub mod Selecting
-pub mod Lists
-mod Trying
-mod Rounds
-mod Ending
-pub mod Scanning
-mod Succeeding
+pub mod FailureLemmas
+pub mod SelectLemmas
+pub mod ListLemmas
+mod TryListLemmas
+mod RoundLemmas
+mod ListEndLemmas
+pub mod ScanLemmas
+mod SuccessLemmas
 pub mod GivesLemmas

@@ -4,10 +4,10 @@ pub mod Rules
 pub mod Starts
 pub mod Looks
 pub mod Branches
-pub mod Lending
-pub mod Joined
-pub mod TryJoined
-pub mod Selected
-pub mod Listed
-pub mod TryListed
-pub mod ListSelected
+pub mod Loans
+pub mod Joins
+pub mod TryJoins
+pub mod Selects
+pub mod BranchLists
+pub mod TryLists
+pub mod ListSelects

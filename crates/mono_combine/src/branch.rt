@@ -3,7 +3,7 @@ ghost use Rattle.std.specs.Prelude.{◌≡◌, false, true};
 ghost use Rattle.std.specs.Fn.{FnReturnsAt};
 ghost use Rattle.mono_combine.specs.Looks.{is_out, branch_spent, BranchCanPoll, BranchCancels, BranchNarrows, LookGives, HasTurn};
 ghost use Rattle.mono_combine.specs.Rules.{unless_masked};
-ghost use Rattle.mono_combine.specs.Selected.{left_out_if};
+ghost use Rattle.mono_combine.specs.Selects.{left_out_if};
 
 use mono_model::{Host, Poll};
 use mono_task::{Context, TaskFuture};

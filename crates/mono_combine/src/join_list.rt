@@ -2,7 +2,7 @@
 ghost use Rattle.std.specs.Prelude.{◌≡◌, ◌≤◌, ◌||◌, false, true, [], length, map, vec_len, vec_capacity, IfOk, IfErr};
 ghost use Rattle.std.specs.List.{list_any, All, AllZip};
 ghost use Rattle.mono_combine.specs.Branches.{maybe_spent, MaybeGives};
-ghost use Rattle.mono_combine.specs.Listed.{AllCanPoll, JoinListPolls, AllCancel, answer_as};
+ghost use Rattle.mono_combine.specs.BranchLists.{AllCanPoll, JoinListPolls, AllCancel, answer_as};
 
 use crate::list::{any_spent, collect, fill, give_up_each, poll_each};
 use crate::maybe::MaybeDone;

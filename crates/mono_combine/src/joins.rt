@@ -1,7 +1,7 @@
 // Two branches that are polled until both outputs are there.
 ghost use Rattle.std.specs.Prelude.{◌≡◌, ◌||◌, false};
 ghost use Rattle.mono_combine.specs.Branches.{maybe_spent, MaybeCanPoll, MaybeGives};
-ghost use Rattle.mono_combine.specs.Joined.{JoinPolls, JoinCancels};
+ghost use Rattle.mono_combine.specs.Joins.{JoinPolls, JoinCancels};
 
 use crate::maybe::{MaybeDone, maybe_done};
 use mono_model::{Host, Poll};

@@ -3,7 +3,7 @@ ghost use Rattle.std.specs.Prelude.{◌≡◌, ◌≤◌, ◌+◌, ◌++◌, fal
 ghost use Rattle.std.specs.List.{list_any, filter_map, AllZip};
 ghost use Rattle.std.specs.Vec.Iter.{into_iter_items, into_iter_len};
 ghost use Rattle.mono_combine.specs.Branches.{maybe_spent, is_waiting, output_of, Advances, MaybeNarrows};
-ghost use Rattle.mono_combine.specs.Listed.{EachInTurn, AllMayPoll, GivesUp};
+ghost use Rattle.mono_combine.specs.BranchLists.{EachInTurn, AllMayPoll, GivesUp};
 
 use crate::maybe::{MaybeDone, maybe_done};
 use mono_model::Host;

@@ -3,7 +3,7 @@ ghost use Rattle.std.specs.Prelude.{◌≡◌, ⊤, false};
 ghost use Rattle.mono_model.specs.Poll.{OnPending, IfReady};
 ghost use Rattle.std.specs.Option.{option_copied_mut};
 ghost use Rattle.std.specs.Borrow.{sem};
-ghost use Rattle.mono_combine.specs.Lending.{LendsOutput};
+ghost use Rattle.mono_combine.specs.Loans.{LendsOutput};
 ghost use Rattle.mono_combine.specs.Branches.{maybe_spent, MaybeCanPoll, MaybePolls, MaybeGives, MaybeCancels, is_waiting, output_of, without_output};
 
 use mono_model::{Host, Poll};

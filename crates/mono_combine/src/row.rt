@@ -4,8 +4,8 @@ ghost use Rattle.std.specs.List.{list_any, All, AllZip};
 ghost use Rattle.std.specs.Vec.Iter.{into_iter_items, into_iter_len};
 ghost use Rattle.mono_combine.specs.Looks.{is_out, branch_spent, BranchCanPoll, BranchNarrows, LookGives, ReturnsFor, HasTurnAt};
 ghost use Rattle.mono_combine.specs.Rules.{unless_masked};
-ghost use Rattle.mono_combine.specs.Listed.{EachInTurn};
-ghost use Rattle.mono_combine.specs.ListSelected.{masked_from, MayLook, BranchEnds, RowSelects, PickGives};
+ghost use Rattle.mono_combine.specs.BranchLists.{EachInTurn};
+ghost use Rattle.mono_combine.specs.ListSelects.{masked_from, MayLook, BranchEnds, RowSelects, PickGives};
 
 use crate::branch::{Branch, Look, branch_of};
 use mono_model::{Host, Poll};

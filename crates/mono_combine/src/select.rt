@@ -2,7 +2,7 @@
 ghost use Rattle.std.specs.Prelude.{◌≡◌, ◌<◌, ◌||◌, ◌==◌, ◌%◌, ◌/◌, true, false, if◌then◌else◌};
 ghost use Rattle.mono_model.specs.Poll.{OnPending};
 ghost use Rattle.mono_combine.specs.Looks.{branch_spent, BranchCanPoll};
-ghost use Rattle.mono_combine.specs.Selected.{Selects, SelectPolls, SelectGives, SelectCancels, PickGives, SelectNarrows, select_spent, as_second, as_first, then_look, or_disabled, left_out_if};
+ghost use Rattle.mono_combine.specs.Selects.{Selects, SelectPolls, SelectGives, SelectCancels, PickGives, SelectNarrows, select_spent, as_second, as_first, then_look, or_disabled, left_out_if};
 
 use crate::branch::{Branch, Look, branch_of};
 use crate::start::Start;

@@ -3,7 +3,7 @@ ghost use Rattle.std.specs.Prelude.{◌≡◌, ◌≤◌, ◌<◌, ◌||◌, fal
 ghost use Rattle.std.specs.List.{list_any, All};
 ghost use Rattle.mono_combine.specs.Looks.{branch_spent, BranchCanPoll};
 ghost use Rattle.mono_combine.specs.Starts.{next_start};
-ghost use Rattle.mono_combine.specs.ListSelected.{masked_from, SelectListPolls, RowCancels, SelectListGives, out_of};
+ghost use Rattle.mono_combine.specs.ListSelects.{masked_from, SelectListPolls, RowCancels, SelectListGives, out_of};
 
 use crate::branch::Branch;
 use crate::pick::Out;

@@ -2,8 +2,8 @@
 ghost use Rattle.std.specs.Prelude.{◌≡◌, ◌≤◌, ◌||◌, false, true, [], length, map, vec_len, vec_capacity, IfOk, IfErr};
 ghost use Rattle.std.specs.List.{list_any, All};
 ghost use Rattle.mono_combine.specs.Branches.{maybe_spent};
-ghost use Rattle.mono_combine.specs.Listed.{AllCanPoll, AllCancel};
-ghost use Rattle.mono_combine.specs.TryListed.{TryJoinListPolls, TryJoinListGives, tried_as, result_as};
+ghost use Rattle.mono_combine.specs.BranchLists.{AllCanPoll, AllCancel};
+ghost use Rattle.mono_combine.specs.TryLists.{TryJoinListPolls, TryJoinListGives, tried_as, result_as};
 
 use crate::list::{any_spent, fill, give_up_each};
 use crate::maybe::MaybeDone;

@@ -1,7 +1,7 @@
 // Two branches that are polled until one fails or both values are there.
 ghost use Rattle.std.specs.Prelude.{◌≡◌, ◌||◌, false};
 ghost use Rattle.mono_combine.specs.Branches.{maybe_spent, MaybeCanPoll, is_waiting};
-ghost use Rattle.mono_combine.specs.TryJoined.{failure_of, without_failure, TryJoinPolls, TryJoinGives, TryJoinCancels};
+ghost use Rattle.mono_combine.specs.TryJoins.{failure_of, without_failure, TryJoinPolls, TryJoinGives, TryJoinCancels};
 
 use crate::maybe::{MaybeDone, maybe_done};
 use mono_model::{Host, Poll};

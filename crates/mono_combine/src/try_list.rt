@@ -3,9 +3,9 @@ ghost use Rattle.std.specs.Prelude.{◌≡◌, ◌≤◌, ◌+◌, ◌++◌, fal
 ghost use Rattle.std.specs.List.{list_any, filter_map, AllZip};
 ghost use Rattle.std.specs.Vec.Iter.{into_iter_items, into_iter_len};
 ghost use Rattle.mono_combine.specs.Branches.{is_waiting, MaybeCancels, MaybeNarrows};
-ghost use Rattle.mono_combine.specs.Listed.{EachInTurn, AllMayPoll, GivesUp};
-ghost use Rattle.mono_combine.specs.TryJoined.{failure_of};
-ghost use Rattle.mono_combine.specs.TryListed.{TriesEach, has_failed, value_in, earlier, first_failure};
+ghost use Rattle.mono_combine.specs.BranchLists.{EachInTurn, AllMayPoll, GivesUp};
+ghost use Rattle.mono_combine.specs.TryJoins.{failure_of};
+ghost use Rattle.mono_combine.specs.TryLists.{TriesEach, has_failed, value_in, earlier, first_failure};
 
 use crate::maybe::MaybeDone;
 use mono_model::Host;

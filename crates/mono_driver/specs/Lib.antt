@@ -1,2 +1,2 @@
-pub mod Driving
-pub mod Stepping
+pub mod Drivers
+pub mod StepDrivers

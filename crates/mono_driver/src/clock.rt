@@ -1,7 +1,7 @@
 // What tells the time.
 ghost use Rattle.std.specs.Prelude.{◌≡◌, ℕ, Bool, true, List, Option, None};
 ghost use Rattle.mono_time.specs.Instants.{nanos_of};
-ghost use Rattle.mono_driver.specs.Driving.{Reads, ReadsTime};
+ghost use Rattle.mono_driver.specs.Drivers.{Reads, ReadsTime};
 
 use mono_time::Instant;
 

@@ -1,7 +1,7 @@
 // What a runtime waits on.
 ghost use Rattle.std.specs.Prelude.{◌≡◌};
 ghost use Rattle.std.specs.Duration.{as_nanos};
-ghost use Rattle.mono_driver.specs.Driving.{Faults, IsSure, one_more, moved};
+ghost use Rattle.mono_driver.specs.Drivers.{Faults, IsSure, one_more, moved};
 
 use crate::clock::Clock;
 use mono_inbox::Unpark;

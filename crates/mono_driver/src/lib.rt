@@ -8,7 +8,7 @@ mod lists;
 mod moments;
 mod steps;
 mod threads;
-mod timed;
+mod time_driver;
 
 pub use clock::Clock;
 pub use driver::{Driver, DriverFault};
@@ -16,4 +16,4 @@ pub use lists::ListClock;
 pub use mono_time::Instant;
 pub use steps::StepDriver;
 pub use threads::ThreadDriver;
-pub use timed::TimeDriver;
+pub use time_driver::TimeDriver;

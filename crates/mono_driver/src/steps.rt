@@ -2,8 +2,8 @@
 ghost use Rattle.std.specs.Prelude.{◌≡◌, Some};
 ghost use Rattle.std.specs.Duration.{as_nanos};
 ghost use Rattle.mono_time.specs.Instants.{nanos_of};
-ghost use Rattle.mono_driver.specs.Driving.{Faults, IsSure, one_more, moved};
-ghost use Rattle.mono_driver.specs.Stepping.{start_with, next_fails, FailsIf, called, parked, slept, has_any};
+ghost use Rattle.mono_driver.specs.Drivers.{Faults, IsSure, one_more, moved};
+ghost use Rattle.mono_driver.specs.StepDrivers.{start_with, next_fails, FailsIf, called, parked, slept, has_any};
 
 use crate::clock::Clock;
 use crate::driver::{Driver, DriverFault};
@@ -29,7 +29,7 @@ pub struct StepDriver {
 
 impl Model for StepDriver {
     ghost use Rattle.mono_time.specs.Instants.{nanos_of};
-    ghost use Rattle.mono_driver.specs.Stepping.{Stepped};
+    ghost use Rattle.mono_driver.specs.StepDrivers.{Stepped};
 
     ghost Value = { Stepped };
 

@@ -1,3 +1,3 @@
-pub mod Answering
-pub mod Looping
+pub mod AnswerLemmas
+pub mod LoopLemmas
 pub mod RaceListLemmas

@@ -3,8 +3,8 @@ use Rattle.std.proofs.Common.{◌≡◌, ℕ, zero, suc, ◌+◌, ◌<◌, Bool,
 use Rattle.std.specs.List.{list_any, All}
 use Rattle.std.proofs.lemmas.List.{take-append-drop}
 use Rattle.mono_task.specs.Members.{FutureOf}
-use Rattle.mono_combine.specs.Listed.{EachInTurn}
-use Rattle.mono_combine.proofs.Lists.{turn_more}
+use Rattle.mono_combine.specs.BranchLists.{EachInTurn}
+use Rattle.mono_combine.proofs.ListLemmas.{turn_more}
 use Rattle.mono_forms.specs.RaceLists.{Racing, RacesOnce, OneGives}
 
 module _ {T X : Type 0} (gives : T → X → Type 0) where

@@ -4,7 +4,7 @@ use Rattle.std.specs.Fn.{Once, FnOnceReturnsAt, FnOnceTakesAt}
 use denote.Ref.{Bor}
 use Rattle.mono_model.specs.declared.poll.Poll.{Poll}
 use Rattle.mono_task.specs.Members.{FutureOf}
-use Rattle.mono_forms.specs.Mapped.{LeadCanPoll, LeadPolls, LeadGives}
+use Rattle.mono_forms.specs.Maps.{LeadCanPoll, LeadPolls, LeadGives}
 
 module _ {X F : Type 0} (call : Once F (Bor X × Unit {0}) ⊤) where
   -- the closure saw the answer, which stays

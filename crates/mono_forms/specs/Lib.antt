@@ -1,13 +1,13 @@
 pub mod Parts
 pub mod Answers
-pub mod Mapped
-pub mod Flattened
-pub mod Tried
+pub mod Maps
+pub mod Flattens
+pub mod Tries
 pub mod Eithers
 pub mod Yields
 pub mod Loops
 pub mod Repeats
-pub mod Rescued
+pub mod Rescues
 pub mod Races
 pub mod LoopRules
 pub mod Lazies

@@ -3,7 +3,7 @@ use Rattle.std.specs.Prelude.{◌≡◌, ◌⊎◌, Bool, true, false, List, [],
 use Rattle.mono_model.specs.Poll.{OnPending, OnReady, ready_value}
 use Rattle.mono_model.specs.declared.poll.Poll.{Poll}
 use Rattle.mono_task.specs.Members.{FutureOf}
-use Rattle.mono_combine.specs.Listed.{EachInTurn}
+use Rattle.mono_combine.specs.BranchLists.{EachInTurn}
 
 -- the answer so far, and the context
 pub record Racing (C X : Type 0) : Type 0 where

@@ -2,7 +2,7 @@
 ghost use Rattle.std.specs.Prelude.{◌≡◌, ◌||◌, false, true, vec_len, [], None};
 ghost use Rattle.std.specs.List.{list_any, All};
 ghost use Rattle.mono_model.specs.Poll.{OnPending, IfReady, ready_value};
-ghost use Rattle.mono_combine.specs.Listed.{EachInTurn};
+ghost use Rattle.mono_combine.specs.BranchLists.{EachInTurn};
 ghost use Rattle.mono_forms.specs.Parts.{MayPoll};
 ghost use Rattle.mono_forms.specs.RaceLists.{RacesOnce, AllCancel, OneGives, RaceListPolls};
 

@@ -1,7 +1,7 @@
 -- The callers of a recorded inbox, and what a wake with a caller's share tells.
 use Rattle.std.specs.Prelude.{◌≡◌, ◌+◌, ◌++◌, ℕ, zero, suc, Bool, true, false, List, [], ◌∷◌}
-use Rattle.mono_inbox.specs.declared.recorded.PutReply.{PutReply}
-use Rattle.mono_inbox.specs.declared.recorded.PutReply.TheVariants.{Kept, Unkept}
+use Rattle.mono_inbox.specs.declared.shares.PutReply.{PutReply}
+use Rattle.mono_inbox.specs.declared.shares.PutReply.TheVariants.{Kept, Unkept}
 
 -- A caller's number, and how many of its wakes were kept.
 pub record Caller : Type 0 where

@@ -2,15 +2,15 @@
 #![tactic(auto)]
 
 mod inbox;
-mod listing;
+mod list;
 mod log;
 mod marks;
 mod pages;
 mod parker;
 mod parts;
-mod recorded;
 mod recorded_inbox;
 mod registry;
+mod shares;
 mod standings;
 mod state;
 mod waker;
@@ -18,8 +18,8 @@ mod waker;
 pub use inbox::Inbox;
 pub use log::CallEntry;
 pub use parker::{Parker, Token, UnparkHandle};
-pub use recorded::{CallShare, PutReply, Recorded};
 pub use recorded_inbox::{RecordedInbox, RecordedWaker};
 pub use registry::{RegisterError, Registry, RegistryState};
+pub use shares::{CallShare, PutReply, Recorded};
 pub use state::InboxState;
 pub use waker::{NoUnpark, RemoteWaker, Unpark};

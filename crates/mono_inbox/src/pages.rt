@@ -162,7 +162,7 @@ impl Page {
 
 // The task at a place stands so. Most often the place is the next behind the entries.
 #[inline(always)]
-#[tactic(auto, using(crate::proofs::Laying::mark_behind))]
+#[tactic(auto, using(crate::proofs::LayoutLemmas::mark_behind))]
 fn put_mark(standings: &mut Vec<Standing>, at: usize, standing: Standing) -> Result<(), AllocError>
     requires { at < 4096 }
     ensures items { OnOk result (standings.new.items ≡ with_mark standings.old.items at standing) }

@@ -5,7 +5,7 @@ ghost use Rattle.mono_inbox.specs.Log.{Recording};
 ghost use Rattle.mono_inbox.specs.State.{AppendsOnce};
 ghost use Rattle.mono_inbox.specs.Callers.{new_callers, CountsKept};
 
-use crate::recorded::{CallShare, PutReply, Recorded};
+use crate::shares::{CallShare, PutReply, Recorded};
 use crate::state::InboxState;
 use crate::waker::Unpark;
 use mono_model::Host;

@@ -6,7 +6,7 @@ ghost use Rattle.mono_inbox.specs.State.{no_state, is_known, put_answer, after_p
 ghost use Rattle.mono_inbox.specs.History.{is_history, StandsFor, count_puts};
 ghost use Rattle.mono_inbox.specs.Log.{is_full, with_entry, with_ledger_put, new_recording};
 
-use crate::listing::Listing;
+use crate::list::Listing;
 use crate::log::{CallEntry, CallLog};
 use std::alloc::{AllocError, Global};
 use std::marker::Model;

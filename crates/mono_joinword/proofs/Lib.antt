@@ -1,6 +1,6 @@
-mod Seats
-mod RunnerSteps
-mod RunnerTells
-mod JoinerSteps
-mod JoinerForms
-mod Follows
+mod SeatLemmas
+mod RunnerStepLemmas
+mod CompletionLemmas
+mod JoinerStepLemmas
+mod JoinerSeatLemmas
+mod LawLemmas

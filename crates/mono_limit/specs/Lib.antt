@@ -1,8 +1,8 @@
 pub mod Buckets
-pub mod Stored
+pub mod BucketTable
 pub mod Delays
 pub mod Schedules
-pub mod Holding
+pub mod RetryTable
 pub mod Retries
 pub mod Limiter
 pub mod Calls
@@ -10,7 +10,7 @@ pub mod Answers
 pub mod Steps
 pub mod Limits
 pub mod Laws
-pub mod Worked
+pub mod Examples
 pub mod Stages
-pub mod Retrying
-pub mod Made
+pub mod RetryPolls
+pub mod RetrySleeps

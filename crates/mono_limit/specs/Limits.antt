@@ -3,7 +3,7 @@ use Rattle.std.specs.Prelude.{◌≡◌, ℕ, List, ◌++◌, map, Some}
 use Rattle.mono_model.specs.Table.{Table}
 use Rattle.mono_time.specs.Timers.{credit_left}
 use Rattle.mono_limit.specs.Buckets.{Bucket}
-use Rattle.mono_limit.specs.Stored.{bucket_at}
+use Rattle.mono_limit.specs.BucketTable.{bucket_at}
 use Rattle.mono_limit.specs.Limiter.{Limits}
 use Rattle.mono_limit.specs.Answers.{Due}
 use Rattle.mono_limit.specs.Steps.{ClockStep}

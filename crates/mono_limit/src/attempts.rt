@@ -1,9 +1,9 @@
 // A future that makes one attempt after another.
 ghost use Rattle.std.specs.Prelude.{◌≡◌, ◌<◌, ◌≤◌, ◌+◌, ◌*◌, ◌^◌, true, false, None, IfOk, IfErr, IfNone};
 ghost use Rattle.mono_time.specs.Futures.{SleepMade};
-ghost use Rattle.mono_limit.specs.Made.{sleep_in};
+ghost use Rattle.mono_limit.specs.RetrySleeps.{sleep_in};
 ghost use Rattle.mono_limit.specs.Stages.{is_over};
-ghost use Rattle.mono_limit.specs.Retrying.{MakesLive, MayGoOn, RetryPolls, RetryCancels, AttemptCancels, new_retry_of};
+ghost use Rattle.mono_limit.specs.RetryPolls.{MakesLive, MayGoOn, RetryPolls, RetryCancels, AttemptCancels, new_retry_of};
 ghost use Rattle.mono_model.specs.declared.error.SleepError.TheVariants.{Memory};
 
 use crate::RetryError;

@@ -1,6 +1,6 @@
 // A bucket of tokens, and what is taken from it.
 ghost use Rattle.std.specs.Prelude.{◌≡◌, ◌<◌, ◌+◌, ◌-◌, ◌*◌};
-ghost use Rattle.mono_limit.specs.Stored.{IsStored, TakesOf, bucket_at, ended_at};
+ghost use Rattle.mono_limit.specs.BucketTable.{IsStored, TakesOf, bucket_at, ended_at};
 
 use crate::{LimitError, Take};
 

@@ -2,7 +2,7 @@
 ghost use Rattle.std.specs.Prelude.{◌≡◌, ◌≤◌, ◌+◌, ℕ, IfOk, vec_len, vec_capacity};
 ghost use Rattle.mono_model.specs.Table.{count_of};
 ghost use Rattle.mono_limit.specs.Limiter.{is_out_of_range};
-ghost use Rattle.mono_limit.specs.Stored.{AreStored};
+ghost use Rattle.mono_limit.specs.BucketTable.{AreStored};
 ghost use Rattle.mono_limit.specs.Retries.{greatest_of};
 
 use crate::buckets::StoredBucket;

@@ -6,10 +6,10 @@ ghost use Rattle.mono_model.specs.Due.{ListsDue};
 ghost use Rattle.mono_time.specs.Instants.{nanos_of};
 ghost use Rattle.mono_time.specs.Timers.{sleeps_of, credit_left};
 ghost use Rattle.mono_limit.specs.Schedules.{IsSound, failed_until, ended_row, EndsWaits};
-ghost use Rattle.mono_limit.specs.Holding.{Holds};
+ghost use Rattle.mono_limit.specs.RetryTable.{Holds};
 
 use crate::schedules::Schedule;
-use mono_ready::ReadyTable;
+use mono_table::ReadyTable;
 use mono_time::{Instant, Timers};
 use mono_wheel::Steps;
 use std::alloc::{AllocError, Global};

@@ -1,17 +1,17 @@
 -- What was followed by lines of code, as calls of the model.
 use Rattle.std.proofs.Common.{◌≡◌, ℕ, List, [], ◌∷◌, ◌++◌, map, flat_map, Option, Result, Ok, Err, IfOk, refl, sym, ap, subst, ◌∙◌}
-use Rattle.mono_text.specs.Serving.{AnswersAll, StartsWithNone}
-use Rattle.mono_text.specs.Following.{call_line, AllFit, Follows, HasFollowed}
+use Rattle.mono_text.specs.Services.{AnswersAll, StartsWithNone}
+use Rattle.mono_text.specs.Follows.{call_line, AllFit, Follows, HasFollowed}
 use Rattle.mono_text.specs.declared.followers.FollowEnd.{FollowEnd}
 use Rattle.mono_text.specs.declared.followers.Followed.{Followed}
 use Rattle.mono_limit.specs.Calls.{Call}
 use Rattle.mono_limit.specs.Limiter.{Limits}
 use Rattle.mono_limit.specs.Limits.{limits_of}
 use Rattle.mono_limit_lines.specs.declared.calls.LimiterCall.{LimiterCall}
-use Rattle.mono_limit_lines.specs.declared.lines.LimiterLines.{LimiterLines}
+use Rattle.mono_limit_lines.specs.declared.serve.LimiterLines.{LimiterLines}
 use Rattle.mono_limit_lines.specs.Lines.{call_text, FitsCall, call_of, StepByLine}
-use Rattle.mono_limit_lines.proofs.Spelled.{line_text, FitsLine}
-use Rattle.mono_limit_lines.proofs.Serving.{line_of, AnswersBy, all_answered}
+use Rattle.mono_limit_lines.proofs.SpellingLemmas.{line_text, FitsLine}
+use Rattle.mono_limit_lines.proofs.ServiceLemmas.{line_of, AnswersBy, all_answered}
 
 texts_of : (ls : List LimiterCall) → flat_map (call_line line_text) ls ≡ flat_map (call_line call_text) (map call_of ls)
 texts_of [] = refl

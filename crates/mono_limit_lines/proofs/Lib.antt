@@ -1,5 +1,5 @@
-pub mod Clocking
-pub mod Spelled
-pub mod Serving
-pub mod Running
+pub mod ClockStepLemmas
+pub mod SpellingLemmas
+pub mod ServiceLemmas
+pub mod RunLemmas
 pub mod FollowLemmas

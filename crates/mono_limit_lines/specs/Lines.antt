@@ -1,7 +1,7 @@
 -- How the limiter's calls and answers are written. Each has one spelling.
 use Rattle.std.specs.Prelude.{◌≡◌, ◌^◌, ◌<◌, ℕ, List, [], ◌++◌, codes, decimal, flat_map, map}
-use Rattle.mono_text.specs.Written.{number_part}
-use Rattle.mono_text.specs.Serving.{answer_line, AnswersAll}
+use Rattle.mono_text.specs.LineText.{number_part}
+use Rattle.mono_text.specs.Services.{answer_line, AnswersAll}
 use Rattle.mono_limit.specs.Limiter.{Limits}
 use Rattle.mono_limit.specs.Calls.{Call}
 use Rattle.mono_limit.specs.Calls as call

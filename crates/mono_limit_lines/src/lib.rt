@@ -3,8 +3,8 @@
 
 mod calls;
 pub mod laws;
-mod lines;
-mod printing;
-mod reading;
+mod print;
+mod read;
+mod serve;
 
-pub use lines::{follow_limiter, limiter};
+pub use serve::{follow_limiter, limiter};

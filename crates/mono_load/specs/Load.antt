@@ -2,8 +2,8 @@
 use Rattle.std.specs.Prelude.{◌≡◌, ℕ, zero, suc, ◌+◌, ◌*◌, ◌%◌, ◌^◌, List, [], ◌∷◌, ◌++◌, length, flat_map}
 use Rattle.mono_machine.specs.Machine.{Machine, start_machine}
 use Rattle.mono_machine.specs.Steps.{Run, Step}
-use Rattle.mono_exec.specs.Stands.{Stands}
-use Rattle.mono_exec.specs.declared.executor.Exec.{Exec}
+use Rattle.mono_replay.specs.Refinement.{Stands}
+use Rattle.mono_replay.specs.declared.executor.Exec.{Exec}
 use Rattle.mono_machine.specs.declared.events.Limits.{Limits}
 use Rattle.mono_machine.specs.declared.events.Blocking.TheVariants as blocking
 use Rattle.mono_machine.specs.declared.events.Act.TheVariants as act

@@ -2,13 +2,13 @@
 ghost use Rattle.std.specs.Prelude.{◌≡◌, ◌-◌, ◌≤◌, ◌*◌, ◌<◌, IfOk, OnOk};
 ghost use Rattle.mono_machine.specs.Machine.{start_machine};
 ghost use Rattle.mono_machine.specs.declared.events.Blocking.TheVariants.{Panic};
-ghost use Rattle.mono_exec.specs.Stands.{Stands};
+ghost use Rattle.mono_replay.specs.Refinement.{Stands};
 ghost use Rattle.mono_load.specs.Load.{Goes, GoesOn, IsSummary, load_limits, sleep_turn, sleepers, clocks, endings};
 
 use crate::tallies::{Tally, added};
 use mono_combine::FastRand;
-use mono_exec::{Act, Blocking, End, Event, Exec, List, Query, TurnStep};
 use mono_machine::Limits;
+use mono_replay::{Act, Blocking, End, Event, Exec, List, Query, TurnStep};
 use std::alloc::{AllocError, Global};
 
 /// What the reports of a load come to.

@@ -2,7 +2,7 @@
 ghost use Rattle.std.specs.Prelude.{◌≡◌, ◌+◌, ◌∷◌, [], if◌then◌else◌, IfOk, length};
 ghost use Rattle.mono_load.specs.Load.{Adds, order_from, fired_in, total_of, refusal_in, refusals_in};
 
-use mono_exec::{Reply, Report};
+use mono_replay::{Reply, Report};
 use std::alloc::AllocError;
 
 // How many sleeps fired and in which order, and how many refusals there were.

@@ -5,7 +5,7 @@ pub mod SleepCalls
 pub mod Acts
 pub mod Turns
 pub mod Steps
-pub mod Worked
+pub mod Examples
 pub mod History
 pub mod Handouts
 pub mod Fairness

@@ -8,7 +8,7 @@ pub mod Jobs
 pub mod Inbox
 pub mod Joins
 pub mod Valid
-pub mod Firing
+pub mod FireOrder
 pub mod SleepAnswers
 pub mod SleepActs
 pub mod Texts

@@ -3,7 +3,7 @@ use Rattle.std.specs.Prelude.{◌≡◌, ℕ, ⊤, max, Bool, true, false, if◌
 use Rattle.mono_model.specs.Ticks.{up, down}
 use Rattle.mono_model.specs.Table.{value_at, is_full, next_number}
 use Rattle.mono_model.specs.Sleeps.{Sleeps, Sleep, fresh, armed, elapsed, waker_of, with_sleep, without_sleep, with_next_sleep, with_greatest, armed_anew, after_arming, woken_by_arming}
-use Rattle.mono_model.specs.Firing.{IsFirstDue, IsNoneDue}
+use Rattle.mono_model.specs.FireOrder.{IsFirstDue, IsNoneDue}
 use Rattle.mono_model.specs.declared.poll.Poll.{Poll}
 use Rattle.mono_model.specs.SleepAnswers.{poll_of}
 use Rattle.mono_model.specs.declared.error.Error.{Error}

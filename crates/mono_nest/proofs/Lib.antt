@@ -1,5 +1,5 @@
-mod Delays
-mod Limits
-mod Races
-mod Nesting
-mod Making
+mod DelayLemmas
+mod DeadlinePollLemmas
+mod RaceLemmas
+mod NestPollLemmas
+mod DeadlineLemmas

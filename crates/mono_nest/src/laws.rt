@@ -8,7 +8,7 @@ ghost use Rattle.mono_combine.specs.declared.select.Select2.{Select2};
 ghost use Rattle.mono_nest.specs.Countdowns.{is_over};
 ghost use Rattle.mono_nest.specs.Nests.{Limited, race_of, nest_of, Waits, IsLate, Apart, IsGone, Passes, late, polled_once, all_polled, all_removed, after_end, delays_of};
 
-use crate::composed::{Answer, Race};
+use crate::nests::{Answer, Race};
 use mono_combine::Join2;
 use mono_task::TaskFuture;
 use mono_time::TimeContext;

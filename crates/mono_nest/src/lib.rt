@@ -4,11 +4,11 @@
 //! by the context's sleeps. Nothing of how a join, a select or a timeout works is opened for that.
 #![tactic(auto)]
 
-mod begun;
 mod by_hand;
-mod composed;
 pub mod laws;
+mod nests;
+mod start;
 
-pub use begun::begin;
 pub use by_hand::Countdown;
-pub use composed::{Answer, Limited, Race, Raced, nest, polled_once, race};
+pub use nests::{Answer, Limited, Race, Raced, nest, polled_once, race};
+pub use start::begin;

@@ -1,19 +1,19 @@
 -- What one call on a new runtime did, from what the runtime's call promises.
 use Rattle.std.proofs.Common.{◌≡◌, ℕ, Bool, [], refl, inl, Err}
 use Rattle.std.specs.Prelude.{Result}
-use Rattle.mono_jobs.specs.Spawning.{Seen}
+use Rattle.mono_blocking.specs.JobSpawns.{Seen}
 use Rattle.mono_machine.specs.Machine.{Machine}
-use Rattle.mono_parts.specs.Journals.{Does}
-use Rattle.mono_parts.specs.Numbered.{answer_numbered}
-use Rattle.mono_parts.specs.Rounds.{Blocked}
-use Rattle.mono_parts.specs.Stands.{hosting_of, Matches}
-use Rattle.mono_parts.specs.Telling.{Told, going, EndsSo, Telling}
-use Rattle.mono_parts.specs.declared.errors.RunError.{RunError}
-use Rattle.mono_parts.specs.declared.errors.RunError.TheVariants as error
-use Rattle.mono_parts.specs.declared.journals.Journal.{Journal}
-use Rattle.mono_parts.specs.declared.parts.Parts.{Parts}
-use Rattle.mono_parts.proofs.Doing.{relation_of}
-use Rattle.mono_parts.proofs.Telling.{told_in}
+use Rattle.mono_rt.specs.Journals.{Does}
+use Rattle.mono_rt.specs.Numbering.{answer_numbered}
+use Rattle.mono_rt.specs.Rounds.{Blocked}
+use Rattle.mono_rt.specs.Refinement.{hosting_of, Matches}
+use Rattle.mono_rt.specs.DriverReadings.{Told, going, EndsSo, Telling}
+use Rattle.mono_rt.specs.declared.parts.errors.RunError.{RunError}
+use Rattle.mono_rt.specs.declared.parts.errors.RunError.TheVariants as error
+use Rattle.mono_rt.specs.declared.parts.journals.Journal.{Journal}
+use Rattle.mono_rt.specs.declared.parts.state.Parts.{Parts}
+use Rattle.mono_rt.proofs.RoundLemmas.{relation_of}
+use Rattle.mono_rt.proofs.DriverLemmas.{told_in}
 use Rattle.mono_rt.specs.Starts.{RunsFrom}
 
 -- no runtime could be made

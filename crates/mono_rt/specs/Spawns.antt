@@ -6,7 +6,7 @@ use Rattle.mono_machine.specs.declared.events.Act.TheVariants as act
 use Rattle.mono_machine.specs.declared.events.Refusal.TheVariants as refusal
 use Rattle.mono_machine.specs.declared.events.Reply.TheVariants as reply
 use Rattle.mono_machine.specs.declared.events.TurnStep.TheVariants as step
-use Rattle.mono_parts.specs.Record.{Record, noted}
+use Rattle.mono_rt.specs.Record.{Record, noted}
 use Rattle.mono_rt.specs.declared.contexts.SpawnRefused.{SpawnRefused}
 use Rattle.mono_rt.specs.declared.contexts.SpawnRefused.TheVariants.{Memory, AtCapacity}
 

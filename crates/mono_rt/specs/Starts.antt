@@ -1,11 +1,11 @@
 -- What one call on a new runtime did.
 use Rattle.std.specs.Prelude.{ℕ, Bool, List, [], Result}
 use Rattle.mono_machine.specs.Machine.{Machine}
-use Rattle.mono_parts.specs.Numbered.{answer_numbered}
-use Rattle.mono_parts.specs.Rounds.{Blocked}
-use Rattle.mono_parts.specs.Telling.{Told, IsTold}
-use Rattle.mono_parts.specs.declared.errors.RunError.{RunError}
-use Rattle.mono_parts.specs.declared.journals.Entry.{Entry}
+use Rattle.mono_rt.specs.Numbering.{answer_numbered}
+use Rattle.mono_rt.specs.Rounds.{Blocked}
+use Rattle.mono_rt.specs.DriverReadings.{Told, IsTold}
+use Rattle.mono_rt.specs.declared.parts.errors.RunError.{RunError}
+use Rattle.mono_rt.specs.declared.parts.journals.Entry.{Entry}
 
 -- There is a history from this machine on that is what `Blocked` says of the answer, and whose readings and parks are those of
 -- a driver that told this before it.

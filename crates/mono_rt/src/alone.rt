@@ -2,21 +2,21 @@
 ghost use Rattle.std.specs.Prelude.{⊤, ◌≡◌, ℕ, IfOk, Option, None, true, []};
 ghost use Rattle.mono_machine.specs.Machine.{Machine, start_machine};
 ghost use Rattle.mono_machine.specs.Steps.{Run};
-ghost use Rattle.mono_jobs.specs.Spawning.{strategy_of};
-ghost use Rattle.mono_rt.specs.Filling.{IsOneLong};
-ghost use Rattle.mono_parts.specs.Journals.{events_in, reports_in, Registers};
-ghost use Rattle.mono_parts.specs.Numbered.{answer_numbered};
-ghost use Rattle.mono_parts.specs.Rounds.{Blocked};
-ghost use Rattle.mono_parts.specs.Telling.{IsTold, telling};
+ghost use Rattle.mono_blocking.specs.JobSpawns.{strategy_of};
+ghost use Rattle.mono_rt.specs.JournalRoom.{IsOneLong};
+ghost use Rattle.mono_rt.specs.Journals.{events_in, reports_in, Registers};
+ghost use Rattle.mono_rt.specs.Numbering.{answer_numbered};
+ghost use Rattle.mono_rt.specs.Rounds.{Blocked};
+ghost use Rattle.mono_rt.specs.DriverReadings.{IsTold, telling};
 
 use crate::contexts::Cx;
+use crate::parts::{Journal, RunError};
 use crate::runtimes::Runtime;
 use mono_blocking::{BlockingHandle, ThreadPool};
 use mono_driver::Driver;
 use mono_joinword::Outcome;
 use mono_machine::Limits;
 use mono_model::Host;
-use mono_parts::{Journal, RunError};
 use mono_task::TaskFuture;
 use mono_time::Instant;
 use std::alloc::{AllocError, Global};

@@ -11,18 +11,17 @@ ghost use Rattle.mono_task.specs.Work.{without_outputs};
 ghost use Rattle.mono_time.specs.Instants.{nanos_of};
 ghost use Rattle.mono_time.specs.Sleeps.{Added, sleep_poll_answer, with_polled_sleep, sleep_reset_answer, with_reset_sleep, sleep_remove_answer, with_removed_sleep};
 ghost use Rattle.mono_time.specs.Timers.{sleeps_of};
-ghost use Rattle.mono_parts.specs.CallActs.{noted_wake, noted_join, noted_drop, noted_sleep, lacks_sleep, noted_poll, noted_gone, noted_reset};
+ghost use Rattle.mono_rt.specs.CallActs.{noted_wake, noted_join, noted_drop, noted_sleep, lacks_sleep, noted_poll, noted_gone, noted_reset};
 ghost use Rattle.mono_rt.specs.Spawns.{noted_spawn, lacks_spawn};
-ghost use Rattle.mono_rt.specs.Reached.{ReachesSharing, sharing_itself, sharing_on, by_shared};
+ghost use Rattle.mono_rt.specs.Reaches.{ReachesSharing, sharing_itself, sharing_on, by_shared};
 
+use crate::parts::Parts;
 use crate::wakers::Wakers;
-use mono_blocking::ThreadPool;
+use mono_blocking::{Blockings, ThreadPool};
 use mono_inbox::{RemoteWaker, Unpark};
-use mono_jobs::Blockings;
 use mono_joinword::Outcome;
-use mono_parts::Parts;
 use mono_shared::{SharedContext, SharedState};
-use mono_slots::Slots;
+use mono_table::Slots;
 use mono_task::{Context, JoinContext, JoinHandle, Poll, SpawnTask, TaskError, Woke};
 use mono_time::{Error, Instant, SleepError, TimeContext};
 use std::alloc::{AllocError, Global};
@@ -68,17 +67,17 @@ impl<F: Drop, O: Outcome + Drop, P: ThreadPool + Drop, U: Unpark, W: SharedState
         ensures kept { self.new.parts ≡ record self.old.parts { tasks = self.new.parts.tasks; acts = noted_spawn self.old.parts.acts result; is_out_of_memory = lacks_spawn self.old.parts.is_out_of_memory result } }
         ensures reached { ReachesSharing O.output_number W.leads self.old self.new }
     {
-        if let Err(future) = self.futures.offer(alloc, future) {
+        if let Err(future) = self.futures.reserve_value(alloc, future) {
             self.parts.is_out_of_memory = true;
             return Err(SpawnRefused::Memory(future));
         }
         match self.parts.spawn(alloc) {
             Ok(t) => {
-                self.futures.accept();
+                self.futures.commit();
                 Ok(JoinHandle::of_task(t))
             }
-            Err(SpawnTask::AtCapacity) => Err(SpawnRefused::AtCapacity(self.futures.withdraw())),
-            Err(SpawnTask::Memory) => Err(SpawnRefused::Memory(self.futures.withdraw())),
+            Err(SpawnTask::AtCapacity) => Err(SpawnRefused::AtCapacity(self.futures.abort())),
+            Err(SpawnTask::Memory) => Err(SpawnRefused::Memory(self.futures.abort())),
         }
     }
 }

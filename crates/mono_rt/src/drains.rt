@@ -1,15 +1,15 @@
 // What other threads woke is taken from the inbox.
 ghost use Rattle.std.specs.Prelude.{◌≡◌, ◌≤◌, length, OnOk};
-ghost use Rattle.mono_parts.specs.Journals.{Goes, Does};
-ghost use Rattle.mono_parts.specs.Rounds.{Drained};
-ghost use Rattle.mono_parts.specs.Telling.{telling, Course, Telling, Still, EndsDrained};
+ghost use Rattle.mono_rt.specs.Journals.{Goes, Does};
+ghost use Rattle.mono_rt.specs.Rounds.{Drained};
+ghost use Rattle.mono_rt.specs.DriverReadings.{telling, Course, Telling, Still, EndsDrained};
 
+use crate::parts::RunError;
 use crate::runtimes::Runtime;
 use mono_blocking::ThreadPool;
 use mono_driver::Driver;
 use mono_joinword::Outcome;
 use mono_model::Host;
-use mono_parts::RunError;
 use mono_shared::SharedState;
 use std::alloc::Global;
 

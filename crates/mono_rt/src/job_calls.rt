@@ -1,12 +1,11 @@
 // Blocking jobs, as a running task calls for them.
 ghost use Rattle.std.specs.Prelude.{◌≡◌, IfOk};
-ghost use Rattle.mono_parts.specs.JobActs.{SpawnsJob, PollsJob, DropsJob, AsksWhetherEnded};
-ghost use Rattle.mono_rt.specs.Reached.{ReachesSharing};
+ghost use Rattle.mono_rt.specs.JobActs.{SpawnsJob, PollsJob, DropsJob, AsksWhetherEnded};
+ghost use Rattle.mono_rt.specs.Reaches.{ReachesSharing};
 
 use crate::contexts::Cx;
-use mono_blocking::{Job, JobWaker, ThreadPool};
+use mono_blocking::{Job, JobHandle, JobWaker, OutputOf, PollJob, SpawnError, ThreadPool};
 use mono_inbox::{RemoteWaker, Unpark};
-use mono_jobs::{JobHandle, OutputOf, PollJob, SpawnError};
 use mono_joinword::{JoinError, Outcome};
 use mono_machine::Refusal;
 use mono_model::{Host, Poll};

@@ -1,17 +1,17 @@
 // A runtime, and the turns that it does.
 ghost use Rattle.std.specs.Prelude.{◌≡◌, ◌<◌, None, length, OnOk};
-ghost use Rattle.mono_parts.specs.Journals.{Goes, Does};
-ghost use Rattle.mono_parts.specs.Rounds.{OneTurn};
-ghost use Rattle.mono_rt.specs.Polling.{Polling};
-ghost use Rattle.mono_rt.specs.Filling.{Fills};
-ghost use Rattle.mono_parts.specs.Telling.{telling, going, Telling, Still};
+ghost use Rattle.mono_rt.specs.Journals.{Goes, Does};
+ghost use Rattle.mono_rt.specs.Rounds.{OneTurn};
+ghost use Rattle.mono_rt.specs.FuturePolls.{Polling};
+ghost use Rattle.mono_rt.specs.JournalRoom.{Fills};
+ghost use Rattle.mono_rt.specs.DriverReadings.{telling, going, Telling, Still};
 
 use crate::contexts::Cx;
+use crate::parts::{Journal, RunError};
 use mono_blocking::ThreadPool;
 use mono_driver::Driver;
 use mono_joinword::Outcome;
 use mono_model::Host;
-use mono_parts::{Journal, RunError};
 use mono_shared::SharedState;
 use mono_task::TaskFuture;
 use std::alloc::Global;

@@ -2,11 +2,11 @@
 ghost use Rattle.std.specs.Prelude.{◌≡◌, ◌<◌, Bool, None, Some, true, false, length, IfSome, IfNone, is_some, not, slice_set};
 ghost use Rattle.mono_model.specs.Table.{value_at};
 ghost use Rattle.mono_machine.specs.Machine.{Machine};
-ghost use Rattle.mono_parts.specs.Record.{no_acts};
-ghost use Rattle.mono_parts.specs.Stands.{hosting_of, Matches};
-ghost use Rattle.mono_slots.specs.Slots.{lent_at};
+ghost use Rattle.mono_rt.specs.Record.{no_acts};
+ghost use Rattle.mono_rt.specs.Refinement.{hosting_of, Matches};
+ghost use Rattle.mono_table.specs.Slots.{lent_at};
 ghost use Rattle.mono_rt.specs.Turns.{Begins, Pauses, Completes, Runs, Turn};
-ghost use Rattle.mono_parts.specs.Turns.{IsTurnOf};
+ghost use Rattle.mono_rt.specs.PartTurns.{IsTurnOf};
 
 use crate::contexts::Cx;
 use mono_blocking::ThreadPool;

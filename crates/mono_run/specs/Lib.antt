@@ -1,1 +1,14 @@
-pub mod Told
+pub mod RunRecord
+pub mod Fronts
+pub mod Parser
+pub mod ScriptDrivers
+pub mod TaskStages
+pub mod TaskPolls
+pub mod Segments
+pub mod Beginnings
+pub mod Script
+pub mod ScriptText
+pub mod LineOrder
+pub mod ScriptTurns
+pub mod Journal
+pub mod Examples

@@ -1,11 +1,10 @@
 // A journal as text.
 ghost use Rattle.std.specs.Prelude.{◌≡◌, ◌++◌, flat_map, map, IfOk, OnOk};
-ghost use Rattle.mono_scripts.specs.Journal.{entry_line, journal_text};
-ghost use Rattle.mono_run.specs.Told.{told, main_text};
+ghost use Rattle.mono_run.specs.Journal.{entry_line, journal_text};
+ghost use Rattle.mono_run.specs.RunRecord.{told, main_text};
 
-use mono_event_text::{put_event, put_nanos};
 use mono_rt::{Entry, Event, Journal, Report};
-use mono_text::{put_pair, put_word, report_line};
+use mono_text::{put_event, put_nanos, put_pair, put_word, report_line};
 use std::alloc::{AllocError, Global};
 
 // An event, an arrow, and its report.

@@ -1,7 +1,7 @@
 // Facts about the definitions alone.
 ghost use Rattle.std.specs.Prelude.{◌≡◌, ◌↔◌, ℕ, List};
 ghost use Rattle.mono_machine.specs.declared.events.Limits.{Limits};
-ghost use Rattle.mono_run.specs.Told.{Ran};
+ghost use Rattle.mono_run.specs.RunRecord.{Ran};
 ghost use Rattle.mono_run.specs.declared.runs.RunEnd.{RunEnd};
 ghost use Rattle.mono_run.specs.declared.runs.RunEnd.TheVariants as ran;
 

@@ -1,20 +1,20 @@
 // A script on a runtime.
 ghost use Rattle.std.specs.Prelude.{◌≡◌, false, length, map, IfOk, IfSome, OnOk};
 ghost use Rattle.mono_blocking.specs.Counts.{counted_by};
-ghost use Rattle.mono_scripts.specs.Journal.{journal_text};
-ghost use Rattle.mono_scripts.specs.Script.{IsSound};
-ghost use Rattle.mono_parts.specs.Rounds.{output_in};
-ghost use Rattle.mono_parts.specs.Telling.{telling};
-ghost use Rattle.mono_script_task.specs.Driving.{readings_of, time_of, parks_of};
-ghost use Rattle.mono_run.specs.Told.{Ran, RunsScript, RanBy, told_first, answer_of, told};
+ghost use Rattle.mono_run.specs.Journal.{journal_text};
+ghost use Rattle.mono_run.specs.Script.{IsSound};
+ghost use Rattle.mono_rt.specs.Rounds.{output_in};
+ghost use Rattle.mono_rt.specs.DriverReadings.{telling};
+ghost use Rattle.mono_run.specs.ScriptDrivers.{readings_of, time_of, parks_of};
+ghost use Rattle.mono_run.specs.RunRecord.{Ran, RunsScript, RanBy, told_first, answer_of, told};
 
 use crate::entries::journal_lines;
+use crate::parser::Script;
+use crate::{ScriptDriver, ScriptJob, ScriptTask};
 use mono_blocking::{BlockingHandle, DefaultThreadPool, Spawner};
 use mono_driver::{Clock, StepDriver, ThreadDriver};
 use mono_model::Host;
 use mono_rt::{Instant, Journal, RunError, Runtime};
-use mono_script_reader::Script;
-use mono_script_task::{ScriptDriver, ScriptJob, ScriptTask};
 use std::alloc::{AllocError, Global};
 
 /// How a run ended.

@@ -1,9 +1,9 @@
 pub mod Answers
 pub mod Words
 pub mod Command
-pub mod Ending
-pub mod Served
+pub mod Endings
+pub mod Services
 pub mod Meanings
 pub mod LineWords
-pub mod Checked
-pub mod Following
+pub mod Checks
+pub mod Follows

@@ -2,9 +2,9 @@
 use Rattle.std.specs.Prelude.{ℕ, List, Option, Some, codes}
 use Rattle.mono_script.specs.declared.command.Command.{Command}
 use Rattle.mono_script.specs.declared.command.Command.TheVariants as command
-use Rattle.mono_reason.specs.Words.{words}
-use Rattle.mono_reason.specs.Reasons.{Wrong, wrong_at}
-use Rattle.mono_reason.specs.Scripts.{script_wrong_at}
+use Rattle.mono_text.specs.Words.{words}
+use Rattle.mono_text.specs.Reasons.{Wrong, wrong_at}
+use Rattle.mono_text.specs.Scripts.{script_wrong_at}
 
 abbrev pub event_words : List ℕ
 event_words = codes "spawn wake sleep reset drop-sleep elapsed drop-join finished block drop-job job-finished job-end turn clock remote drain"

@@ -9,13 +9,13 @@ use Rattle.mono_script.specs.declared.ends.Status.TheVariants as status
 use Rattle.mono_load.specs.Load.{IsSummary}
 use Rattle.mono_load.specs.declared.loads.Summary.{Summary}
 use Rattle.mono_script.specs.declared.ends.Status.{Status}
-use Rattle.mono_scripts.specs.Script.{Script}
-use Rattle.mono_scripts.specs.Written.{Spells}
-use Rattle.mono_scripts.specs.Written as scripts
-use Rattle.mono_run.specs.Told.{RunsScript}
+use Rattle.mono_run.specs.Script.{Script}
+use Rattle.mono_run.specs.ScriptText.{Spells}
+use Rattle.mono_run.specs.ScriptText as scripts
+use Rattle.mono_run.specs.RunRecord.{RunsScript}
 use Rattle.mono_run.specs.declared.runs.RunEnd.{RunEnd}
 use Rattle.mono_run.specs.declared.runs.RunEnd.TheVariants as ran
-use Rattle.mono_script.specs.Ending.{Meaning}
+use Rattle.mono_script.specs.Endings.{Meaning}
 use Rattle.mono_text.specs.Lines.{lines, AreEventLines, IsFirstBad}
 use Rattle.mono_actor.specs.Actors.{no_actors}
 use Rattle.mono_actor_lines.specs.Lines.{line_text, FitsLine}
@@ -23,10 +23,10 @@ use Rattle.mono_actor_lines.specs.Answers.{Answers}
 use Rattle.mono_script.specs.Answers.{IsReplayed}
 use Rattle.mono_session.specs.Keeper.{no_sessions}
 use Rattle.mono_session_lines.specs.Lines as session_line
-use Rattle.mono_script.specs.Served.{serving}
+use Rattle.mono_script.specs.Services.{serving}
 use Rattle.mono_limit.specs.Limiter.{no_limits}
 use Rattle.mono_limit_lines.specs.Lines as limiter_line
-use Rattle.mono_script.specs.Checked.{checking}
+use Rattle.mono_script.specs.Checks.{checking}
 
 -- a replay: event lines in, and a line for each report of a run
 abbrev pub replaying : Limits → Blocking → Meaning

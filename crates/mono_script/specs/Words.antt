@@ -3,7 +3,7 @@ use Rattle.std.specs.Prelude.{◌≡◌, ℕ, ◌<◌, ◌^◌, List, [], ◌∷
 use Rattle.mono_machine.specs.declared.events.Limits.{Limits}
 use Rattle.mono_machine.specs.declared.events.Blocking.{Blocking}
 use Rattle.mono_machine.specs.declared.events.Blocking.TheVariants as blocking
-use Rattle.mono_text.specs.Written.{FitLimits}
+use Rattle.mono_text.specs.LineText.{FitLimits}
 
 abbrev pub strategy_text : Blocking → List ℕ
 strategy_text blocking.Attached = codes "attached"

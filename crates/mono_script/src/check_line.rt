@@ -1,11 +1,11 @@
 // A check of a journal, and the line of its answer.
 ghost use Rattle.std.specs.Prelude.{◌≡◌, IfOk};
-ghost use Rattle.mono_script.specs.Ending.{IsOutput, IsLine};
-ghost use Rattle.mono_script.specs.Checked.{checking, yes_line, no_line};
+ghost use Rattle.mono_script.specs.Endings.{IsOutput, IsLine};
+ghost use Rattle.mono_script.specs.Checks.{checking, yes_line, no_line};
 
 use crate::ends::{Output, Status, bad_line};
-use mono_exec::Blocking;
 use mono_machine::Limits;
+use mono_replay::Blocking;
 use mono_trace_lines::{Answer, check_lines};
 use std::alloc::{AllocError, Global};
 

@@ -9,8 +9,8 @@ use crate::words::load::read_load;
 use crate::words::replay::read_replay;
 use crate::words::run::read_run;
 use crate::words::sessions::read_sessions;
-use mono_exec::Blocking;
 use mono_machine::Limits;
+use mono_replay::Blocking;
 
 /// What the words ask for.
 #[derive(Clone, Copy)]

@@ -1,13 +1,13 @@
 // How a command ends.
 ghost use Rattle.std.specs.Prelude.{◌≡◌, IfOk, IfSome, IfNone, Some, None};
 ghost use Rattle.std.specs.Option.{option_map};
-ghost use Rattle.mono_reason.specs.Told.{told};
-ghost use Rattle.mono_script.specs.Ending.{bad_line_text, status_code};
+ghost use Rattle.mono_text.specs.ReasonTexts.{told};
+ghost use Rattle.mono_script.specs.Endings.{bad_line_text, status_code};
 ghost use Rattle.mono_script.specs.LineWords.{fault_at};
 
 use crate::command::Command;
 use crate::line_words::fault;
-use mono_reason::Fault;
+use mono_text::Fault;
 use std::alloc::{AllocError, Global};
 
 /// How the program ends.

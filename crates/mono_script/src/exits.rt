@@ -1,6 +1,6 @@
 // What the program decides from the way in which a command ended, and from the words that it was given.
 ghost use Rattle.std.specs.Prelude.{◌≡◌, ◌≢◌, ◌↔◌, true, IfSome, IfNone, IsTrue, drop};
-ghost use Rattle.mono_script.specs.Ending.{status_code};
+ghost use Rattle.mono_script.specs.Endings.{status_code};
 ghost use Rattle.mono_script.specs.declared.ends.Status.TheVariants as status;
 
 use crate::ends::{Ended, Status};

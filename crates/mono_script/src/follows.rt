@@ -1,9 +1,9 @@
 // Commands whose lines are answered as soon as they were read.
 ghost use Rattle.std.specs.Prelude.{◌≡◌, IfSome, IfNone, map, string_bytes};
 ghost use Rattle.std.specs.Option.{option_map};
-ghost use Rattle.mono_reason.specs.Told.{told};
+ghost use Rattle.mono_text.specs.ReasonTexts.{told};
 ghost use Rattle.mono_script.specs.Command.{IsCommand};
-ghost use Rattle.mono_script.specs.Following.{FollowsAs, status_of_end};
+ghost use Rattle.mono_script.specs.Follows.{FollowsAs, status_of_end};
 ghost use Rattle.mono_script.specs.LineWords.{fault_at};
 
 use crate::command::{Command, read_command};
@@ -12,9 +12,8 @@ use crate::line_words::fault;
 use crate::replay::follow_replay;
 use mono_actor_lines::follow_actors;
 use mono_limit_lines::follow_limiter;
-use mono_reason::Fault;
 use mono_session_lines::follow_sessions;
-use mono_text::{FollowEnd, Followed, Sink, Source};
+use mono_text::{Fault, FollowEnd, Followed, Sink, Source};
 use std::alloc::{AllocError, Global};
 
 /// How a command ended whose lines were answered as soon as they were read.

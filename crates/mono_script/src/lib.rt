@@ -1,34 +1,41 @@
 //! The commands: each is words, an input and an answer, and `program` carries one out.
 #![tactic(auto)]
 
-mod acting;
+mod actor_calls;
 mod check_line;
 mod command;
+mod complaints;
 mod ends;
 mod exits;
+mod faults;
 mod follows;
+mod forms;
 mod limiter_lines;
+mod line_forms;
 mod line_words;
 mod load_line;
 mod replay;
 mod script_run;
-mod served;
+mod services;
 mod session_lines;
 mod std_clock;
 mod top;
+mod word_texts;
 mod words;
 
 pub use command::Command;
+pub use complaints::complaint;
 pub use ends::{Ended, Status};
 pub use exits::{exit_code, joins_workers, words_behind};
+pub use faults::line_sentence;
 pub use follows::{FollowedCommand, follow_command};
 pub use mono_blocking::{NoSpawner, Spawner, ThreadSpawner};
 pub use mono_driver::{Clock, Instant, ListClock};
-pub use mono_reason::{Fault, Reason};
 pub use mono_text::{
-    InputError, MAX_INPUT, MemSink, MemSource, PlainSink, PlainSource, Reader, Sink, SinkFault,
-    Source, SourceFault, StdinSource, StdoutSink, read_all, report_line, write_all,
+    Fault, InputError, MAX_INPUT, MemSink, MemSource, PlainSink, PlainSource, Reader, Reason, Sink,
+    SinkFault, Source, SourceFault, StdinSource, StdoutSink, read_all, report_line, write_all,
 };
 pub use replay::{Replayed, answer};
 pub use std_clock::StdClock;
 pub use top::{explained, program};
+pub use word_texts::shown;

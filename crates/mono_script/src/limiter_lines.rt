@@ -1,10 +1,10 @@
 // What the lines of a limiter are answered, as an output.
 ghost use Rattle.std.specs.Prelude.{IfOk};
-ghost use Rattle.mono_script.specs.Ending.{IsOutput, IsLine};
+ghost use Rattle.mono_script.specs.Endings.{IsOutput, IsLine};
 ghost use Rattle.mono_script.specs.Meanings.{limiting};
 
 use crate::ends::Output;
-use crate::served::output_of;
+use crate::services::output_of;
 use mono_limit_lines::limiter;
 use std::alloc::{AllocError, Global};
 

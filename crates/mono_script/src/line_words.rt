@@ -1,11 +1,11 @@
 // With which words the lines of a command begin, and what is wrong with a line.
 ghost use Rattle.std.specs.Prelude.{◌≡◌};
 ghost use Rattle.std.specs.Option.{option_map};
-ghost use Rattle.mono_reason.specs.Told.{told};
+ghost use Rattle.mono_text.specs.ReasonTexts.{told};
 ghost use Rattle.mono_script.specs.LineWords.{line_words, part_words, pair_words, line_fault_at, fault_at};
 
 use crate::command::Command;
-use mono_reason::{Fault, fault_of_line, fault_of_script};
+use mono_text::{Fault, fault_of_line, fault_of_script};
 
 const EVENT_WORDS: &[u8] =
     b"spawn wake sleep reset drop-sleep elapsed drop-join finished block drop-job job-finished job-end turn clock remote drain";

@@ -1,17 +1,17 @@
 // Reads, replays and writes line by line.
 ghost use Rattle.std.specs.Prelude.{◌≡◌, IfOk, OnOk, OnErr};
 ghost use Rattle.mono_machine.specs.Machine.{Machine, start_machine};
-ghost use Rattle.mono_text.specs.Following.{HasFollowed};
-ghost use Rattle.mono_text.specs.Written.{event_text, FitsEvent};
-ghost use Rattle.mono_script.specs.Following.{ReportsAs};
-ghost use Rattle.mono_exec.specs.Stands.{Stands};
+ghost use Rattle.mono_text.specs.Follows.{HasFollowed};
+ghost use Rattle.mono_text.specs.LineText.{event_text, FitsEvent};
+ghost use Rattle.mono_script.specs.Follows.{ReportsAs};
+ghost use Rattle.mono_replay.specs.Refinement.{Stands};
 ghost use Rattle.mono_script.specs.Answers.{IsAnswer, Answers};
-ghost use Rattle.mono_script.specs.Ending.{IsOutput, IsLine};
+ghost use Rattle.mono_script.specs.Endings.{IsOutput, IsLine};
 ghost use Rattle.mono_script.specs.Meanings.{replaying};
 
 use crate::ends::{Output, Status, bad_line};
-use mono_exec::{Blocking, Event, Exec, List, Reply, Report, TurnStep};
 use mono_machine::Limits;
+use mono_replay::{Blocking, Event, Exec, List, Reply, Report, TurnStep};
 use mono_text::{Followed, Reader, Service, Sink, Source, follow, report_line};
 use std::alloc::{AllocError, Global};
 
@@ -116,10 +116,10 @@ struct ReplayLines {
 impl Service for ReplayLines {
     type Call = Event;
 
-    ghost use Rattle.mono_text.specs.Serving.{AnswersAs};
-    ghost use Rattle.mono_text.specs.Written.{event_text, FitsEvent};
-    ghost use Rattle.mono_exec.specs.Stands.{Stands};
-    ghost use Rattle.mono_script.specs.Following.{ReportsAs};
+    ghost use Rattle.mono_text.specs.Services.{AnswersAs};
+    ghost use Rattle.mono_text.specs.LineText.{event_text, FitsEvent};
+    ghost use Rattle.mono_replay.specs.Refinement.{Stands};
+    ghost use Rattle.mono_script.specs.Follows.{ReportsAs};
 
     ghost text = { λ call. event_text call };
 

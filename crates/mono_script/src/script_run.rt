@@ -1,14 +1,13 @@
 // A script, run and told as an output.
 ghost use Rattle.std.specs.Prelude.{◌≡◌, Some, IfOk};
-ghost use Rattle.mono_script.specs.Ending.{IsOutput, IsLine, Asks};
+ghost use Rattle.mono_script.specs.Endings.{IsOutput, IsLine, Asks};
 ghost use Rattle.mono_script.specs.Meanings.{running, run_status};
 
 use crate::ends::{Output, Status, bad_line};
 use mono_blocking::Spawner;
 use mono_driver::Clock;
 use mono_model::Host;
-use mono_run::{RunEnd, run_script};
-use mono_script_reader::{ScriptRead, read_script};
+use mono_run::{RunEnd, ScriptRead, read_script, run_script};
 use std::alloc::{AllocError, Global};
 
 fn status_of(end: RunEnd) -> Status

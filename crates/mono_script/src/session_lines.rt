@@ -1,10 +1,10 @@
 // What the sessions answer, as an output.
 ghost use Rattle.std.specs.Prelude.{IfOk};
-ghost use Rattle.mono_script.specs.Ending.{IsOutput, IsLine};
+ghost use Rattle.mono_script.specs.Endings.{IsOutput, IsLine};
 ghost use Rattle.mono_script.specs.Meanings.{keeping_sessions};
 
 use crate::ends::Output;
-use crate::served::output_of;
+use crate::services::output_of;
 use mono_session_lines::sessions;
 use std::alloc::{AllocError, Global};
 

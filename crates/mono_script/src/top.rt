@@ -1,16 +1,16 @@
 // The top call: words, source and sink to a status.
 ghost use Rattle.std.specs.Prelude.{◌≡◌, ◌≢◌, ◌≤◌, ◌<◌, ◌↔◌, ◌⊎◌, true, false, List, ℕ, Option, Some, None, length, IfOk, OnOk, IfSome, IfNone, IsErrOf, map, string_bytes};
-ghost use Rattle.mono_text.specs.Outside.{HasRisen, IsLongerThan};
+ghost use Rattle.mono_text.specs.Environment.{HasRisen, IsLongerThan};
 ghost use Rattle.mono_script.specs.Command.{FitsCommand, IsCommand, IsNoCommand};
-ghost use Rattle.mono_script.specs.Ending.{HasInput, IsInput, HasAnswered, NamesBadLine, IsCutShort, IsRead, IsLine, IsOutput, IsAnswered, Ends, IsWritten, Asks, status_code, max_input};
+ghost use Rattle.mono_script.specs.Endings.{HasInput, IsInput, HasAnswered, NamesBadLine, IsCutShort, IsRead, IsLine, IsOutput, IsAnswered, Ends, IsWritten, Asks, status_code, max_input};
 ghost use Rattle.mono_script.specs.Meanings.{meaning};
-ghost use Rattle.mono_scripts.specs.Script.{Script};
-ghost use Rattle.mono_scripts.specs.Written.{Spells};
+ghost use Rattle.mono_run.specs.Script.{Script};
+ghost use Rattle.mono_run.specs.ScriptText.{Spells};
 ghost use Rattle.mono_script.specs.declared.command.Command.TheVariants as command;
 ghost use Rattle.mono_script.specs.declared.ends.Status.TheVariants as status;
 ghost use Rattle.mono_text.specs.declared.source.InputError.TheVariants as input_error;
 
-use crate::acting::output_of_actors;
+use crate::actor_calls::output_of_actors;
 use crate::check_line::output_of_check;
 use crate::command::{Command, read_command};
 use crate::ends::{Ended, Output, Status};

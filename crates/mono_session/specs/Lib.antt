@@ -3,9 +3,9 @@ pub mod Calls
 pub mod Answers
 pub mod Steps
 pub mod Laws
-pub mod Worked
+pub mod Examples
 pub mod Links
 pub mod Queues
-pub mod Entered
-pub mod Sleeping
-pub mod Stands
+pub mod Entries
+pub mod SessionSleeps
+pub mod Refinement

@@ -4,7 +4,7 @@ ghost use Rattle.mono_model.specs.Due.{ListsDue};
 ghost use Rattle.mono_time.specs.Instants.{nanos_of};
 ghost use Rattle.mono_session.specs.Keeper.{Keeper, with_greatest};
 ghost use Rattle.mono_session.specs.Steps.{closing_value, greatest_at, without_all};
-ghost use Rattle.mono_session.specs.Stands.{StandsFor, open_count, steps_left};
+ghost use Rattle.mono_session.specs.Refinement.{StandsFor, open_count, steps_left};
 
 use crate::keeper::Sessions;
 use mono_time::Instant;

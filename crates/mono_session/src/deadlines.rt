@@ -5,7 +5,7 @@ ghost use Rattle.mono_time.specs.Instants.{nanos_of};
 ghost use Rattle.mono_time.specs.Timers.{sleeps_of, elapsed_tick, credit_left};
 ghost use Rattle.mono_wheel.specs.Credit.{most_takes};
 ghost use Rattle.mono_session.specs.Keeper.{last_tick};
-ghost use Rattle.mono_session.specs.Sleeping.{Arms};
+ghost use Rattle.mono_session.specs.SessionSleeps.{Arms};
 
 use mono_time::{Instant, SleepError, Timers};
 use std::alloc::Global;

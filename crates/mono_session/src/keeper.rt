@@ -9,13 +9,13 @@ ghost use Rattle.mono_wheel.specs.Credit.{most_takes};
 ghost use Rattle.mono_session.specs.Keeper.{Keeper, Session, no_sessions, is_open, open_answer, opened, beat_answer, beaten, close_answer, closed, acquire_answer, acquired, release_answer, released, owner_answer, with_greatest, without_session};
 ghost use Rattle.mono_model.specs.Memory.{OrLacksMemory};
 ghost use Rattle.mono_session.specs.Steps.{closing_value, greatest_at, without_all};
-ghost use Rattle.mono_session.specs.Stands.{StandsFor, Beside, open_count, steps_left};
+ghost use Rattle.mono_session.specs.Refinement.{StandsFor, Beside, open_count, steps_left};
 ghost use Rattle.mono_session.specs.declared.error.SessionError.TheVariants as error;
 
 use crate::SessionError;
 use crate::deadlines::{add_armed, deadline_after};
 use crate::entries::Entries;
-use mono_ready::ReadyTable;
+use mono_table::ReadyTable;
 use mono_time::{Instant, Timers};
 use mono_wheel::Steps;
 use std::alloc::{AllocError, Global};

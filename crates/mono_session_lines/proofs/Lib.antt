@@ -1,3 +1,3 @@
-pub mod Spelled
-pub mod Telling
-pub mod Whole
+pub mod SpellingLemmas
+pub mod ReportLemmas
+pub mod AllLinesLemmas

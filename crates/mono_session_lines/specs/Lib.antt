@@ -1,4 +1,4 @@
 pub mod Lines
-pub mod Reading
-pub mod Serving
-pub mod Whole
+pub mod Parser
+pub mod Services
+pub mod AllLines

@@ -1,6 +1,6 @@
 -- How the calls on the sessions and their answers are written. Each has one spelling.
 use Rattle.std.specs.Prelude.{◌≡◌, ◌<◌, ◌^◌, ℕ, List, [], ◌++◌, codes, decimal, flat_map}
-use Rattle.mono_text.specs.Written.{number_part}
+use Rattle.mono_text.specs.LineText.{number_part}
 use Rattle.mono_session.specs.Keeper.{Keeper}
 use Rattle.mono_session.specs.Calls.{Call}
 use Rattle.mono_session.specs.Calls as call

@@ -3,10 +3,10 @@
 
 mod calls;
 mod laws;
-mod lines;
-mod printing;
-mod reading;
+mod print;
+mod read;
+mod serve;
 
 pub use calls::SessionCall;
 pub use laws::lines_are_one_run;
-pub use lines::{follow_sessions, sessions};
+pub use serve::{follow_sessions, sessions};

@@ -1,8 +1,8 @@
 -- Words on what a stream answers.
 use Rattle.std.specs.Prelude.{⊤, Option, Some, None}
 use Rattle.mono_model.specs.declared.poll.Poll.{Poll}
-use Rattle.mono_stream.specs.declared.handled.Stop.{Stop}
-use Rattle.mono_stream.specs.declared.handled.Stop.TheVariants.{Ended, Waits, Many}
+use Rattle.mono_stream.specs.declared.for_each.Stop.{Stop}
+use Rattle.mono_stream.specs.declared.for_each.Stop.TheVariants.{Ended, Waits, Many}
 use Rattle.mono_model.specs.declared.poll.Poll.TheVariants.{Ready, Pending}
 
 -- the fact holds unless the stream has ended

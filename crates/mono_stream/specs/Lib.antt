@@ -1,8 +1,8 @@
 pub mod Ends
 pub mod Members
-pub mod Iterated
-pub mod Mapped
-pub mod Chained
-pub mod Handled
-pub mod Given
-pub mod Worked
+pub mod Iterators
+pub mod Maps
+pub mod Chains
+pub mod ForEaches
+pub mod Items
+pub mod Examples

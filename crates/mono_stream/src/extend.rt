@@ -1,9 +1,9 @@
 // Streams and futures made of a stream.
 ghost use Rattle.std.specs.Prelude.{◌≡◌, false, None};
 
-use crate::chained::Then;
-use crate::handled::ForEach;
-use crate::mapped::Map;
+use crate::chains::Then;
+use crate::for_each::ForEach;
+use crate::maps::Map;
 use crate::streams::Stream;
 use mono_task::{Context, TaskFuture};
 

@@ -2,7 +2,7 @@
 ghost use Rattle.std.specs.Prelude.{◌≡◌, IfSome};
 ghost use Rattle.std.specs.Iterator.{UpTo};
 ghost use Rattle.std.specs.Iterator.SizeHint.{IsWithinCount};
-ghost use Rattle.mono_stream.specs.Iterated.{IterPolls};
+ghost use Rattle.mono_stream.specs.Iterators.{IterPolls};
 
 use crate::streams::Stream;
 use mono_model::{Host, Poll};

@@ -1,13 +1,13 @@
 // Laws on the items that streams give over polls in a row, as functions with empty bodies.
 ghost use Rattle.std.specs.Prelude.{◌≡◌, ℕ, List, Option, None, Bool};
-ghost use Rattle.mono_stream.specs.Given.{Gives, AreImages, AreOutputs, AreNext, blank, is_end, polls_for};
+ghost use Rattle.mono_stream.specs.Items.{Gives, AreImages, AreOutputs, AreNext, blank, is_end, polls_for};
 ghost use Rattle.mono_stream.specs.declared.iterate.Iter.{Iter};
-ghost use Rattle.mono_stream.specs.Mapped.{MapPolls};
-ghost use Rattle.mono_stream.specs.Chained.{ThenPolls};
-ghost use Rattle.mono_stream.specs.Handled.{Polls, Handles};
-ghost use Rattle.mono_stream.specs.declared.mapped.Map.{Map};
-ghost use Rattle.mono_stream.specs.declared.chained.Then.{Then};
-ghost use Rattle.mono_stream.specs.declared.handled.Stop.{Stop};
+ghost use Rattle.mono_stream.specs.Maps.{MapPolls};
+ghost use Rattle.mono_stream.specs.Chains.{ThenPolls};
+ghost use Rattle.mono_stream.specs.ForEaches.{Polls, Handles};
+ghost use Rattle.mono_stream.specs.declared.maps.Map.{Map};
+ghost use Rattle.mono_stream.specs.declared.chains.Then.{Then};
+ghost use Rattle.mono_stream.specs.declared.for_each.Stop.{Stop};
 
 use crate::iterate::Iter;
 use crate::streams::Stream;

@@ -2,20 +2,20 @@
 #![tactic(auto)]
 
 mod by_reference;
-mod chained;
+mod chains;
 mod extend;
-mod handled;
+mod for_each;
 mod iterate;
 pub mod laws;
-mod mapped;
+mod maps;
 mod of_iterator;
 pub mod rows;
 mod streams;
 
-pub use chained::Then;
+pub use chains::Then;
 pub use extend::StreamExt;
-pub use handled::ForEach;
+pub use for_each::ForEach;
 pub use iterate::Iter;
-pub use mapped::Map;
+pub use maps::Map;
 pub use of_iterator::iter;
 pub use streams::Stream;

@@ -2,8 +2,8 @@
 ghost use Rattle.std.specs.Prelude.{◌≡◌, ℕ, true, false, List, [], ◌∷◌, Bool, Option, None};
 ghost use Rattle.mono_model.specs.declared.poll.Poll.{Poll};
 ghost use Rattle.mono_model.specs.declared.poll.Poll.TheVariants.{Ready, Pending};
-ghost use Rattle.mono_stream.specs.Given.{Gives};
-ghost use Rattle.mono_stream.specs.Worked.{AnswersNext, five_and_seven};
+ghost use Rattle.mono_stream.specs.Items.{Gives};
+ghost use Rattle.mono_stream.specs.Examples.{AnswersNext, five_and_seven};
 
 /// Polls that answer 5, then that it has to wait, then 7, then that the stream has ended, give 5 and 7 and the end; three
 /// of them give 5 and 7 and no end; and they give nothing else.

@@ -1,2 +1,4 @@
-pub mod Counting
-pub mod Laying
+pub mod CountLemmas
+pub mod LayoutLemmas
+pub mod ReadyLemmas
+pub mod SlotLemmas

@@ -1,2 +1,4 @@
-pub mod Laying
-pub mod Lending
+pub mod Layout
+pub mod Loans
+pub mod Ready
+pub mod Slots

@@ -3,7 +3,7 @@ ghost use Rattle.std.specs.Prelude.{◌≡◌, ◌<◌, ◌≤◌, ◌+◌, ◌-
 ghost use Rattle.std.specs.Borrow.{sem};
 ghost use Rattle.std.specs.Option.{option_copied};
 ghost use Rattle.mono_model.specs.Table.{value_at, with_next, with_value, without, count_of, next_number};
-ghost use Rattle.mono_table.specs.Laying.{child_at};
+ghost use Rattle.mono_table.specs.Layout.{child_at};
 
 use crate::parts::{PART, Part};
 use std::alloc::{AllocError, Global};
@@ -28,7 +28,7 @@ impl<T> Model for Table<T> {
 
     ghost Value = { model.Table T };
 
-    ghost use Rattle.mono_table.specs.Laying.{laid_table, IsLaid};
+    ghost use Rattle.mono_table.specs.Layout.{laid_table, IsLaid};
 
     ghost view = { λ a. laid_table 65536 a.parts.items a.len };
 
@@ -36,7 +36,7 @@ impl<T> Model for Table<T> {
 }
 
 impl<T> Table<T> {
-    ghost use Rattle.mono_table.specs.Lending.{table_lends};
+    ghost use Rattle.mono_table.specs.Loans.{table_lends};
 
     /// No number was given out. It takes no memory.
     pub fn new(alloc: Global) -> Table<T>

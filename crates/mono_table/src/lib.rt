@@ -4,5 +4,9 @@
 mod directory;
 mod pages;
 mod parts;
+mod ready;
+mod slots;
 
 pub use directory::Table;
+pub use ready::ReadyTable;
+pub use slots::{Slot, Slots};

@@ -3,8 +3,8 @@ ghost use Rattle.std.specs.Prelude.{◌≡◌, ◌<◌, ◌↔◌, ℕ, true, []
 ghost use Rattle.std.specs.Borrow.{sem};
 ghost use Rattle.std.specs.Option.{option_copied};
 ghost use Rattle.mono_model.specs.Table.{value_at, with_next, with_value, without, count_of};
-ghost use Rattle.mono_table.specs.Laying.{left_of};
-ghost use Rattle.mono_table.specs.Lending.{place_lends};
+ghost use Rattle.mono_table.specs.Layout.{left_of};
+ghost use Rattle.mono_table.specs.Loans.{place_lends};
 
 use std::alloc::Global;
 use std::marker::Model;
@@ -25,7 +25,7 @@ impl<T> Model for Page<T> {
 
     ghost Value = { Table T };
 
-    ghost use Rattle.mono_table.specs.Laying.{IsPage};
+    ghost use Rattle.mono_table.specs.Layout.{IsPage};
 
     ghost view = { λ a. a.places.items };
 
@@ -33,7 +33,7 @@ impl<T> Model for Page<T> {
 }
 
 impl<T> Page<T> {
-    ghost use Rattle.mono_table.specs.Lending.{page_lends};
+    ghost use Rattle.mono_table.specs.Loans.{page_lends};
 
     /// A page without places, and without memory.
     pub(crate) fn new(alloc: Global) -> Page<T>

@@ -3,7 +3,7 @@ ghost use Rattle.std.specs.Prelude.{◌≡◌, ◌<◌, ◌≤◌, ◌+◌, ◌�
 ghost use Rattle.std.specs.Borrow.{sem};
 ghost use Rattle.std.specs.Option.{option_copied};
 ghost use Rattle.mono_model.specs.Table.{value_at, with_next, with_value, without, count_of};
-ghost use Rattle.mono_table.specs.Laying.{child_at, left_of};
+ghost use Rattle.mono_table.specs.Layout.{child_at, left_of};
 
 use crate::pages::{PAGE, Page};
 use std::alloc::{AllocError, Global};
@@ -27,7 +27,7 @@ impl<T> Model for Part<T> {
 
     ghost Value = { Table T };
 
-    ghost use Rattle.mono_table.specs.Laying.{laid_table, IsLaid};
+    ghost use Rattle.mono_table.specs.Layout.{laid_table, IsLaid};
 
     ghost view = { λ a. laid_table 256 a.pages.items a.len };
 
@@ -35,7 +35,7 @@ impl<T> Model for Part<T> {
 }
 
 impl<T> Part<T> {
-    ghost use Rattle.mono_table.specs.Lending.{part_lends};
+    ghost use Rattle.mono_table.specs.Loans.{part_lends};
 
     /// A part without numbers, and without memory.
     pub(crate) fn new(alloc: Global) -> Part<T>

@@ -3,7 +3,7 @@ use Rattle.std.specs.Prelude.{ℕ, Bool, true, false, Option, Some, None}
 use Rattle.mono_model.specs.Tasks as model
 use Rattle.mono_task.specs.declared.entries.Handle.{Handle}
 use Rattle.mono_task.specs.declared.entries.Handle.TheVariants as handle
-use Rattle.mono_task.specs.Stored.{Entry, Gone, Taken, Done, Idle, Queued, Running, Noted}
+use Rattle.mono_task.specs.Places.{Entry, Gone, Taken, Done, Idle, Queued, Running, Noted}
 use Rattle.mono_task.specs.declared.entries.Waking.{Waking}
 use Rattle.mono_task.specs.declared.entries.Waking.TheVariants as waking
 

@@ -1,7 +1,7 @@
 pub mod Work
 pub mod Members
-pub mod Stored
+pub mod Places
 pub mod Entries
 pub mod Schedule
-pub mod Standing
-pub mod Finishing
+pub mod Invariants
+pub mod TaskEnds

@@ -3,7 +3,7 @@ ghost use Rattle.std.specs.Prelude.{◌≡◌, true, Ok};
 ghost use Rattle.mono_model.specs.Joins.{kept_value, join_value, drop_value, finished_value};
 ghost use Rattle.mono_task.specs.Work.{has_output, has_finished};
 ghost use Rattle.mono_task.specs.Entries.{task_of, handle_of, is_over, is_noted, woken_entry, waking_of, begun_entry, paused_entry, completed_entry, joined_entry, dropped_entry};
-ghost use Rattle.mono_task.specs.Stored.{Gone, Taken, Queued};
+ghost use Rattle.mono_task.specs.Places.{Gone, Taken, Queued};
 ghost use Rattle.mono_task.specs.declared.entries.Handle.TheVariants.{Kept};
 
 use mono_model::{Poll, TaskError};
@@ -46,7 +46,7 @@ pub struct Place<O> {
 }
 
 impl<O> Model for Place<O> {
-    ghost use Rattle.mono_task.specs.Stored.{Entry, entry_in};
+    ghost use Rattle.mono_task.specs.Places.{Entry, entry_in};
 
     ghost Value = { Entry O };
 

@@ -6,10 +6,10 @@ ghost use Rattle.mono_model.specs.Tasks.{spawned, woken};
 ghost use Rattle.mono_model.specs.Joins.{wake_answer, join_answer, joined, drop_answer, join_dropped, finished_answer};
 ghost use Rattle.mono_task.specs.Schedule.{no_schedule, with_tasks, begin_answer, after_begin, end_answer, after_end};
 ghost use Rattle.mono_task.specs.Work.{has_output, GivesOutput, over_answer};
-ghost use Rattle.mono_task.specs.Finishing.{Finishes};
+ghost use Rattle.mono_task.specs.TaskEnds.{Finishes};
 ghost use Rattle.mono_model.specs.declared.poll.Poll.TheVariants.{Ready, Pending};
 ghost use Rattle.mono_task.specs.declared.error.SpawnTask.TheVariants.{AtCapacity};
-ghost use Rattle.mono_task.specs.Stored.{Queued};
+ghost use Rattle.mono_task.specs.Places.{Queued};
 ghost use Rattle.mono_task.specs.declared.entries.Handle.TheVariants.{Kept};
 
 use crate::entries::{Handle, Place, Waking};
@@ -47,7 +47,7 @@ impl<O> Model for Tasks<O> {
 
     ghost Value = { Schedule O };
 
-    ghost use Rattle.mono_task.specs.Standing.{entries_of, tasks_of, Keeps};
+    ghost use Rattle.mono_task.specs.Invariants.{entries_of, tasks_of, Keeps};
 
     ghost view = { λ a. record { tasks = tasks_of a.queue.items (entries_of a.entries) a.limit; turns = a.turns; turn = a.running } };
 

@@ -1,13 +1,13 @@
 -- Lines that were answered one after another, and what was read and written for them.
 use Rattle.std.proofs.Common.{◌≡◌, ℕ, suc, ◌+◌, ◌<◌, List, [], ◌∷◌, ◌++◌, length, take, flat_map, Option, Some, None, refl, sym, ap, subst, ◌∙◌, arith, append_assoc, length-append}
 use Rattle.std.proofs.lemmas.List.{append-nil, take_all}
-use Rattle.mono_text.specs.Outside.{HasRead, HasReadAll, Reads, HasWritten, HasWrittenPrefix}
-use Rattle.mono_text.specs.Serving.{AnswersAll, AnswersAs, answer_line, HasNoFeed, StartsWith, StartsWithNone}
-use Rattle.mono_text.specs.Following.{call_line, AllFit, Follows, Advances, Answered, HasFollowed, end_of}
+use Rattle.mono_text.specs.Environment.{HasRead, HasReadAll, Reads, HasWritten, HasWrittenPrefix}
+use Rattle.mono_text.specs.Services.{AnswersAll, AnswersAs, answer_line, HasNoFeed, StartsWith, StartsWithNone}
+use Rattle.mono_text.specs.Follows.{call_line, AllFit, Follows, Advances, Answered, HasFollowed, end_of}
 use Rattle.mono_text.specs.declared.followers.FollowEnd.{FollowEnd}
 use Rattle.mono_text.specs.declared.followers.FollowEnd.TheVariants as end
-use Rattle.mono_text.proofs.Outside.{read_on, read_start, read_to_end}
-use Rattle.mono_text.proofs.Serving.{run_through}
+use Rattle.mono_text.proofs.EnvironmentLemmas.{read_on, read_start, read_to_end}
+use Rattle.mono_text.proofs.ServiceLemmas.{run_through}
 
 texts_append : {A : Type 0} (f : A → List ℕ) (xs ys : List A) → flat_map f (xs ++ ys) ≡ flat_map f xs ++ flat_map f ys
 texts_append f [] ys = refl

@@ -1,13 +1,15 @@
-pub mod Outside
-pub mod Listing
-pub mod Spelled
-pub mod Parts
-pub mod Words
-pub mod Digits
-pub mod Lined
-pub mod Numbers
-pub mod Serving
-pub mod Calls
-pub mod Firsts
-pub mod Counted
+pub mod EnvironmentLemmas
+pub mod ListTextLemmas
+pub mod SpellingLemmas
+pub mod TurnPartLemmas
+pub mod PrefixLemmas
+pub mod DigitLemmas
+pub mod InputLineLemmas
+pub mod NumberLemmas
+pub mod ServiceLemmas
+pub mod CallLemmas
+pub mod FirstByteLemmas
+pub mod DigitCountLemmas
 pub mod FollowLemmas
+pub mod EventPartLemmas
+mod WordEndLemmas

@@ -1,7 +1,11 @@
-pub mod Written
+pub mod LineText
 pub mod Lines
-pub mod Reading
-pub mod Outside
+pub mod Parser
+pub mod Environment
 pub mod Memory
-pub mod Serving
-pub mod Following
+pub mod Services
+pub mod Follows
+pub mod Words
+pub mod Reasons
+pub mod Scripts
+pub mod ReasonTexts

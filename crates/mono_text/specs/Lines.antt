@@ -1,7 +1,7 @@
 -- The lines of an input, and which of them are events.
 use Rattle.std.specs.Prelude.{◌≡◌, ℕ, ◌+◌, Bool, true, false, ◌==◌, if◌then◌else◌, List, [], ◌∷◌, ◌++◌, length}
 use Rattle.mono_machine.specs.declared.events.Event.{Event}
-use Rattle.mono_text.specs.Written.{event_text, FitsEvent}
+use Rattle.mono_text.specs.LineText.{event_text, FitsEvent}
 
 -- the bytes before a line feed, or those behind the last one
 pub record Line : Type 0 where

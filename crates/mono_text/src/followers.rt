@@ -1,7 +1,7 @@
 // Lines that are answered when they were read.
 ghost use Rattle.std.specs.Prelude.{◌≡◌, ◌<◌, true, false, length, IfOk, OnErr};
-ghost use Rattle.mono_text.specs.Serving.{StartsWithNone, HasNoFeed};
-ghost use Rattle.mono_text.specs.Following.{Advances, Answered, HasFollowed, end_of};
+ghost use Rattle.mono_text.specs.Services.{StartsWithNone, HasNoFeed};
+ghost use Rattle.mono_text.specs.Follows.{Advances, Answered, HasFollowed, end_of};
 
 use crate::reader::Reader;
 use crate::services::Service;

@@ -1,18 +1,24 @@
 //! Event lines in, report lines out, and the sources and sinks of their bytes.
 #![tactic(auto)]
 
+mod events;
 mod followers;
 pub mod laws;
+mod lines;
 mod memory;
 mod plain;
 mod printer;
 mod reader;
+mod reasons;
+mod scripts;
 mod services;
 mod sink;
 mod source;
 mod standard;
 mod tries;
+mod words;
 
+pub use events::{put_event, put_nanos};
 pub use followers::{FollowEnd, Followed, follow};
 pub use memory::{MemSink, MemSource};
 pub use plain::{PlainSink, PlainSource};
@@ -20,6 +26,8 @@ pub use printer::{
     front_and_number, put_front, put_list, put_number, put_pair, put_word, report_line,
 };
 pub use reader::{Reader, whole_number};
+pub use reasons::{Fault, Reason, fault_of_line};
+pub use scripts::fault_of_script;
 pub use services::{Served, Service, serve};
 pub use sink::{Sink, SinkFault, write_all};
 pub use source::{InputError, MAX_INPUT, Source, SourceFault, read_all};

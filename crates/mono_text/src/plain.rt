@@ -1,6 +1,6 @@
 // A source and a sink in memory that never fail.
 ghost use Rattle.std.specs.Prelude.{◌≡◌, ◌<◌, ◌≤◌, Some, IfOk, OnErr, length, take, drop, min};
-ghost use Rattle.mono_text.specs.Outside.{HasCause, Reads};
+ghost use Rattle.mono_text.specs.Environment.{HasCause, Reads};
 
 use crate::sink::{Sink, SinkFault};
 use crate::source::{Source, SourceFault};

@@ -1,6 +1,6 @@
 // Report lines into one vector of bytes.
 ghost use Rattle.std.specs.Prelude.{◌≡◌, ◌≤◌, ◌<◌, ◌+◌, ◌-◌, ◌++◌, [], ◌∷◌, codes, decimal, drop, take, flat_map, length, IfSome, OnOk};
-ghost use Rattle.mono_text.specs.Written.{reply_text, refusal_text, ended_text, any_number, woke_text, reply_part, number_part, report_line};
+ghost use Rattle.mono_text.specs.LineText.{reply_text, refusal_text, ended_text, any_number, woke_text, reply_part, number_part, report_line};
 
 use itoa::write_digits;
 use mono_machine::{Ended, Refusal, Reply, Report, Woke};

@@ -1,9 +1,9 @@
 // One pass over the input by a reader that holds what is left.
 ghost use Rattle.std.specs.Prelude.{◌≡◌, ◌+◌, ◌-◌, ◌*◌, ◌^◌, ◌<◌, ◌≤◌, ◌↔◌, IfNone, IfSome, IfOk, Some, None, length, IsTrue, if◌then◌else◌, [], ◌++◌, slice_index, nat_lt, drop, decimal, ℕ, false};
 ghost use Rattle.mono_text.specs.Lines.{BeginsWith, BeginsWithNone};
-ghost use Rattle.mono_text.specs.Serving.{HasNoFeed};
-ghost use Rattle.mono_text.specs.Reading as Reading;
-ghost use Rattle.mono_text.specs.Reading.{Gives, GivesIf, GivesEnd, word_at, number_at, nanos_at, behind_at, s_act_at, drop_at, reset_at, how_at, job_act_at, other_act_at, act_at, job_step_at, step_at, end_at, parts_at, event_at, line_at};
+ghost use Rattle.mono_text.specs.Services.{HasNoFeed};
+ghost use Rattle.mono_text.specs.Parser as Reading;
+ghost use Rattle.mono_text.specs.Parser.{Gives, GivesIf, GivesEnd, word_at, number_at, nanos_at, behind_at, s_act_at, drop_at, reset_at, how_at, job_act_at, other_act_at, act_at, job_step_at, step_at, end_at, parts_at, event_at, line_at};
 
 use mono_machine::{Act, End, Event, How, List, Query, TurnStep};
 use std::alloc::{AllocError, Global};
@@ -263,7 +263,7 @@ impl<'a> Reader<'a> {
 
     // An act whose word begins with an s.
     #[inline(always)]
-    #[tactic(auto, unfolding(crate::specs::Reading::s_act_at))]
+    #[tactic(auto, unfolding(crate::specs::Parser::s_act_at))]
     fn s_act(&mut self) -> Option<Act>
         ensures { Gives result self.new.rest.now (s_act_at self.old.rest.now) }
     {
@@ -278,7 +278,7 @@ impl<'a> Reader<'a> {
     }
 
     // An act that drops a handle or a sleep.
-    #[tactic(auto, unfolding(crate::specs::Reading::drop_at))]
+    #[tactic(auto, unfolding(crate::specs::Parser::drop_at))]
     fn drop_act(&mut self) -> Option<Act>
         ensures { Gives result self.new.rest.now (drop_at self.old.rest.now) }
     {
@@ -311,7 +311,7 @@ impl<'a> Reader<'a> {
     }
 
     // An act on a job whose word begins with that of a job.
-    #[tactic(auto, unfolding(crate::specs::Reading::job_act_at))]
+    #[tactic(auto, unfolding(crate::specs::Parser::job_act_at))]
     fn job_act(&mut self) -> Option<Act>
         ensures { Gives result self.new.rest.now (job_act_at self.old.rest.now) }
     {
@@ -343,7 +343,7 @@ impl<'a> Reader<'a> {
     }
 
     // An act whose first letter no other act has.
-    #[tactic(auto, unfolding(crate::specs::Reading::other_act_at))]
+    #[tactic(auto, unfolding(crate::specs::Parser::other_act_at))]
     fn other_act(&mut self) -> Option<Act>
         ensures { Gives result self.new.rest.now (other_act_at self.old.rest.now) }
     {
@@ -370,7 +370,7 @@ impl<'a> Reader<'a> {
     }
 
     // An act that stands by itself or in a turn.
-    #[tactic(auto, unfolding(crate::specs::Reading::act_at))]
+    #[tactic(auto, unfolding(crate::specs::Parser::act_at))]
     fn act(&mut self) -> Option<Act>
         ensures { Gives result self.new.rest.now (act_at self.old.rest.now) }
     {
@@ -388,7 +388,7 @@ impl<'a> Reader<'a> {
     }
 
     // A poll of a task or a job, or an act on a job.
-    #[tactic(auto, unfolding(crate::specs::Reading::job_step_at))]
+    #[tactic(auto, unfolding(crate::specs::Parser::job_step_at))]
     fn job_step(&mut self) -> Option<TurnStep>
         ensures { Gives result self.new.rest.now (job_step_at self.old.rest.now) }
     {
@@ -406,7 +406,7 @@ impl<'a> Reader<'a> {
 
     // A step of a turn: an act or a poll.
     #[inline(always)]
-    #[tactic(auto, unfolding(crate::specs::Reading::step_at))]
+    #[tactic(auto, unfolding(crate::specs::Parser::step_at))]
     fn step(&mut self) -> Option<TurnStep>
         ensures { Gives result self.new.rest.now (step_at self.old.rest.now) }
     {
@@ -427,7 +427,7 @@ impl<'a> Reader<'a> {
 
     // The end of a turn, where it stands here.
     #[inline(always)]
-    #[tactic(auto, unfolding(crate::specs::Reading::end_at))]
+    #[tactic(auto, unfolding(crate::specs::Parser::end_at))]
     fn turn_end(&mut self) -> TurnEnd
         ensures { GivesEnd result self.old.rest.now self.new.rest.now (end_at self.old.rest.now) }
     {
@@ -470,7 +470,7 @@ impl<'a> Reader<'a> {
     /// The event that stands here, without a line feed, and goes past it. None where none stands here; what is left then is
     /// not told. The spare list is used as [`Reader::line`] uses it.
     #[inline(always)]
-    #[tactic(auto, using(crate::proofs::Firsts::event_from_s), unfolding(crate::specs::Reading::event_at))]
+    #[tactic(auto, using(crate::proofs::FirstByteLemmas::event_from_s), unfolding(crate::specs::Parser::event_at))]
     pub fn event(
         &mut self,
         alloc: Global,
@@ -511,7 +511,7 @@ impl<'a> Reader<'a> {
 
     // What the next line is by the definitions of `Reading`.
     #[inline(always)]
-    #[tactic(auto, unfolding(crate::specs::Reading::line_at))]
+    #[tactic(auto, unfolding(crate::specs::Parser::line_at))]
     fn line_read(
         &mut self,
         alloc: Global,

@@ -1,6 +1,6 @@
 // Values that answer lines one at a time.
 ghost use Rattle.std.specs.Prelude.{◌≡◌, ◌++◌, ◌∷◌, [], ℕ, List, IfOk, OnOk, IfSome, IfNone};
-ghost use Rattle.mono_text.specs.Serving.{StartsWith, StartsWithNone, Serves, answer_line};
+ghost use Rattle.mono_text.specs.Services.{StartsWith, StartsWithNone, Serves, answer_line};
 
 use crate::reader::Reader;
 use std::alloc::{AllocError, Global};

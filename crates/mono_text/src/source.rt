@@ -1,6 +1,6 @@
 // Where the input comes from.
 ghost use Rattle.std.specs.Prelude.{◌≡◌, ℕ, ◌+◌, ◌<◌, ◌≤◌, ◌⊎◌, Option, Some, None, List, [], length, take, drop, IfOk, IfErr, OnErr, OnOk, IsErrOf, vec_len};
-ghost use Rattle.mono_text.specs.Outside.{HasCause, HasRisen, Reads, HasRead, HasReadAll, IsLongerThan};
+ghost use Rattle.mono_text.specs.Environment.{HasCause, HasRisen, Reads, HasRead, HasReadAll, IsLongerThan};
 
 use std::alloc::{AllocError, Global};
 

@@ -4,7 +4,7 @@ use Rattle.mono_model.specs.Ticks.{down}
 use Rattle.mono_model.specs.Sleeps.{Sleeps, with_greatest}
 use Rattle.mono_model.specs.SleepActs as sleep
 use Rattle.mono_time.specs.Sleeps as table
-use Rattle.mono_time.specs.Stands.{StandsForSleeps, Keeps}
+use Rattle.mono_time.specs.Refinement.{StandsForSleeps, Keeps}
 use Rattle.mono_time.specs.Timers.{sleeps_of}
 use Rattle.mono_time.specs.declared.timers.Timers.{Timers}
 

@@ -10,8 +10,8 @@ use Rattle.mono_model.specs.Sleeps.{Sleeps, Sleep, Arming, fresh, armed, elapsed
 use Rattle.mono_model.specs.SleepActs as machine
 use Rattle.mono_time.specs.Sleeps as table
 use Rattle.mono_time.specs.Sleeps.{SleepTable, IsNoneArmedUpTo}
-use Rattle.mono_time.specs.Stands.{StandsForSleeps, seen}
-use Rattle.mono_time.specs.Registered.{RegistersOnly, polled_registered, reset_registered, stepped_registered, IsRegistered, NextExpiration, FirstSlot}
+use Rattle.mono_time.specs.Refinement.{StandsForSleeps, seen}
+use Rattle.mono_time.specs.SlotRegistration.{RegistersOnly, polled_registered, reset_registered, stepped_registered, IsRegistered, NextExpiration, FirstSlot}
 use Rattle.mono_time.specs.Timers.{sleeps_of, elapsed_tick, registered_of}
 use Rattle.mono_time.specs.declared.timers.Timers.{Timers}
 use Rattle.mono_machine.specs.Machine.{Machine, with_tasks, with_sleeps}
@@ -19,7 +19,7 @@ use Rattle.mono_machine.specs.Acts.{answered, act_outcome, block, for_sleep, ref
 use Rattle.mono_machine.specs.Acts.{reset as resetting}
 use Rattle.mono_model.specs.Tasks.{spawned}
 use Rattle.mono_machine.specs.Steps.{greatest_at}
-use Rattle.mono_machine.proofs.Running.{first_and_rest}
+use Rattle.mono_machine.proofs.RunLemmas.{first_and_rest}
 use Rattle.mono_machine.specs.declared.events.Act.TheVariants as act
 use Rattle.mono_machine.specs.declared.events.Blocking.{Blocking}
 use Rattle.mono_machine.specs.declared.events.Blocking.TheVariants as blocking

@@ -14,7 +14,7 @@ use Rattle.mono_machine.specs.Acts.{Outcome, for_sleep, refused}
 use Rattle.mono_machine.specs.declared.events.Refusal.TheVariants as refusal
 use Rattle.mono_time.specs.Sleeps.{Kept, SleepTable, armed, with_polled_sleep, polled_kept, with_reset_sleep, changed_value, with_removed_sleep, removed_value, with_added_sleep, IsNoneArmedUpTo}
 use Rattle.mono_time.specs.Timers.{sleeps_of}
-use Rattle.mono_time.specs.Stands.{StandsForSleeps, seen}
+use Rattle.mono_time.specs.Refinement.{StandsForSleeps, seen}
 use Rattle.mono_time.specs.declared.timers.Timers.{Timers}
 
 -- what stays of a table of sleeps: the greatest tick, and whether there are timers

@@ -6,7 +6,7 @@ use Rattle.mono_model.specs.Ticks.{max_nanos}
 use Rattle.mono_model.specs.Table.{value_at}
 use Rattle.mono_model.specs.Sleeps.{Sleep, Sleeps, Arming, fresh, armed, elapsed}
 use Rattle.mono_wheel.specs.Start.{start, top_level}
-use Rattle.mono_time.specs.Registered.{FirstSlot}
+use Rattle.mono_time.specs.SlotRegistration.{FirstSlot}
 use Rattle.mono_time.specs.Timers.{registered_of}
 use Rattle.mono_time.specs.declared.timers.Timers.{Timers}
 use Rattle.mono_machine.specs.Machine.{Machine}

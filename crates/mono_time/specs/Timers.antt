@@ -3,8 +3,8 @@ use Rattle.std.specs.Prelude.{ℕ, ◌-◌, Option, Some, None, length}
 use Rattle.mono_model.specs.Table.{table_of}
 use Rattle.mono_wheel.specs.Credit.{credit, most_takes}
 use Rattle.mono_time.specs.Sleeps.{Kept, SleepTable, fresh, armed, elapsed}
-use Rattle.mono_time.specs.Keeping.{kept_at}
-use Rattle.mono_time.specs.Registered.{registered_at}
+use Rattle.mono_time.specs.Representation.{kept_at}
+use Rattle.mono_time.specs.SlotRegistration.{registered_at}
 use Rattle.mono_time.specs.declared.timers.Timers.{Timers}
 
 abbrev pub sleeps_of : Timers → SleepTable

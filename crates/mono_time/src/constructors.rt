@@ -4,14 +4,14 @@ ghost use Rattle.std.specs.Option.{option_map};
 ghost use Rattle.std.specs.Duration.{as_nanos};
 ghost use Rattle.mono_time.specs.Instants.{nanos_of};
 ghost use Rattle.mono_time.specs.Futures.{SleepMade, SleepMadeAt, deadline_after};
-ghost use Rattle.mono_time.specs.Ticking.{IntervalMade};
+ghost use Rattle.mono_time.specs.IntervalTicks.{IntervalMade};
 ghost use Rattle.mono_time.specs.Timeouts.{delay_of, future_of};
 ghost use Rattle.mono_model.specs.declared.error.SleepError.TheVariants.{Memory};
 
 use crate::context::TimeContext;
 use crate::instant::Instant;
 use crate::intervals::Interval;
-use crate::missed::MissedTickBehavior;
+use crate::missed_ticks::MissedTickBehavior;
 use crate::sleeps::Sleep;
 use crate::timeouts::{Timeout, TimeoutRefused};
 use crate::{Error, SleepError};

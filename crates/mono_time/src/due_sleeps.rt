@@ -3,13 +3,13 @@ ghost use Rattle.std.specs.Prelude.{◌≡◌, ◌<◌, ◌≤◌, ◌+◌, ◌+
 ghost use Rattle.mono_model.specs.Table.{value_at};
 ghost use Rattle.mono_model.specs.Sleeps.{Sleeps};
 ghost use Rattle.mono_model.specs.SleepActs as sleep;
-ghost use Rattle.mono_model.specs.Firing.{FireInTurn};
+ghost use Rattle.mono_model.specs.FireOrder.{FireInTurn};
 ghost use Rattle.mono_machine.specs.Steps.{all_fired, with_first, wakers_of};
 ghost use Rattle.mono_time.specs.Instants.{nanos_of};
 ghost use Rattle.mono_time.specs.Sleeps.{armed_count, IsNoneArmedUpTo};
-ghost use Rattle.mono_time.specs.Stands.{Keeps};
+ghost use Rattle.mono_time.specs.Refinement.{Keeps};
 ghost use Rattle.mono_time.specs.Timers.{sleeps_of, elapsed_tick, registered_of};
-ghost use Rattle.mono_time.specs.Registered.{stepped_registered};
+ghost use Rattle.mono_time.specs.SlotRegistration.{stepped_registered};
 
 use crate::{Instant, Timers};
 use mono_machine::List;

@@ -3,7 +3,7 @@ ghost use Rattle.std.specs.Prelude.{◌≡◌, ◌<◌, ◌-◌, ◌^◌, ℕ, [
 ghost use Rattle.mono_model.specs.Table.{next_number};
 ghost use Rattle.mono_wheel.specs.Credit.{credit};
 ghost use Rattle.mono_time.specs.Entries.{is_armed_state, is_elapsed_state, waker_in_state};
-ghost use Rattle.mono_time.specs.Keeping.{EntriesStay, KeyMade, NoKeyMade};
+ghost use Rattle.mono_time.specs.Representation.{EntriesStay, KeyMade, NoKeyMade};
 
 use mono_table::Table;
 use mono_wheel::Wheel;

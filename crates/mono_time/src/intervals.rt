@@ -2,12 +2,12 @@
 ghost use Rattle.std.specs.Prelude.{◌≡◌, ◌<◌, ◌≤◌};
 ghost use Rattle.std.specs.Duration.{as_nanos};
 ghost use Rattle.mono_model.specs.Ticks.{max_nanos};
-ghost use Rattle.mono_time.specs.Missed.{next_deadline};
+ghost use Rattle.mono_time.specs.MissedTicks.{next_deadline};
 
 use crate::Error;
 use crate::context::TimeContext;
 use crate::instant::Instant;
-use crate::missed::MissedTickBehavior;
+use crate::missed_ticks::MissedTickBehavior;
 use crate::sleeps::Sleep;
 use mono_model::Poll;
 use mono_task::TaskFuture;
@@ -46,7 +46,7 @@ fn next_after(behavior: MissedTickBehavior, deadline: u128, period: Duration, no
 }
 
 impl Interval {
-    ghost use Rattle.mono_time.specs.Ticking.{TickPolls};
+    ghost use Rattle.mono_time.specs.IntervalTicks.{TickPolls};
     ghost use Rattle.mono_time.specs.Futures.{SleepCancels};
 
     /// The time between two ticks; it is not zero.

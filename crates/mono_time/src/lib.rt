@@ -1,23 +1,23 @@
 //! Instants, sleeps and what waits for them.
 #![tactic(auto)]
 
-mod arming;
+mod arms;
 mod constructors;
 mod context;
 mod due_sleeps;
 mod entry;
 mod error;
-mod firing;
+mod fires;
 mod instant;
 mod intervals;
+mod key_calls;
 pub mod laws;
-mod missed;
+mod missed_ticks;
 mod nap_timeouts;
 mod naps;
 mod sleeps;
 mod timeouts;
 mod timers;
-mod turning;
 
 pub use constructors::{interval, interval_at, sleep, sleep_until, timeout, timeout_at};
 pub use context::TimeContext;
@@ -25,7 +25,7 @@ pub use due_sleeps::{Due, take_due};
 pub use error::{Elapsed, LateError, TimeoutError};
 pub use instant::Instant;
 pub use intervals::Interval;
-pub use missed::MissedTickBehavior;
+pub use missed_ticks::MissedTickBehavior;
 pub use mono_model::{Error, SleepError};
 pub use nap_timeouts::{TimeoutFor, timeout_for};
 pub use naps::{SleepFor, sleep_for};

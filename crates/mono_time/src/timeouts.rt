@@ -2,7 +2,7 @@
 ghost use Rattle.std.specs.Prelude.{◌≡◌};
 ghost use Rattle.mono_time.specs.Futures.{SleepCancels};
 ghost use Rattle.std.specs.Borrow.{sem};
-ghost use Rattle.mono_time.specs.Lending.{LendsValue};
+ghost use Rattle.mono_time.specs.Loans.{LendsValue};
 ghost use Rattle.mono_time.specs.Timeouts.{TimeoutPolls, TimeoutGives, TimeoutCancels};
 
 use crate::SleepError;

@@ -3,13 +3,13 @@ ghost use Rattle.std.specs.Prelude.{◌≡◌, ◌<◌, ◌≤◌, ◌+◌, ◌-
 ghost use Rattle.mono_model.specs.Ticks.{up, down};
 ghost use Rattle.mono_model.specs.Table.{value_at, count_of, is_full};
 ghost use Rattle.mono_wheel.specs.Model.{timed_at, is_reserved};
-ghost use Rattle.mono_time.specs.Keeping.{Holds};
+ghost use Rattle.mono_time.specs.Representation.{Holds};
 ghost use Rattle.mono_model.specs.SleepAnswers.{poll_of};
 
-use crate::arming::{put_in, put_later};
+use crate::arms::{put_in, put_later};
 use crate::entry::{Entry, State, make_key};
 use crate::instant::Instant;
-use crate::turning::{elapse, poll_entry, reset_entry, take_out};
+use crate::key_calls::{elapse, poll_entry, reset_entry, take_out};
 use crate::{Error, SleepError};
 use mono_model::Poll;
 use mono_table::Table;
@@ -73,8 +73,8 @@ impl Timers {
     ghost use Rattle.mono_model.specs.SleepActs as machine;
     ghost use Rattle.mono_time.specs.Timers.{sleeps_of, elapsed_tick, registered_of, credit_left, poll_raise};
     ghost use Rattle.mono_wheel.specs.Credit.{most_takes};
-    ghost use Rattle.mono_time.specs.Registered.{RegistersOnly, polled_registered, reset_registered, moved_registered, IsRegistered, NextExpiration};
-    ghost use Rattle.mono_time.specs.Stands.{StandsForSleeps};
+    ghost use Rattle.mono_time.specs.SlotRegistration.{RegistersOnly, polled_registered, reset_registered, moved_registered, IsRegistered, NextExpiration};
+    ghost use Rattle.mono_time.specs.Refinement.{StandsForSleeps};
 
     /// Timers without sleeps, for at most `limit` live ones; without `enabled` no sleep is ever made.
     pub fn new(alloc: Global, limit: u64, enabled: bool) -> Result<Timers, AllocError>

@@ -1,6 +1,6 @@
 // The check of a whole list of events with their reports.
 ghost use Rattle.std.specs.Prelude.{◌≡◌, ◌<◌, ◌^◌, length, IfOk};
-ghost use Rattle.mono_trace.specs.Stands.{machine_of};
+ghost use Rattle.mono_trace.specs.Refinement.{machine_of};
 ghost use Rattle.mono_trace.specs.Verdicts.{Checked, IsVerdict};
 
 use crate::{Trace, Verdict};

@@ -1,11 +1,11 @@
 // A clock step whose list of sleeps is tested, whatever order was chosen within a tick.
 ghost use Rattle.std.specs.Prelude.{◌≡◌, ◌≤◌, MatchBool, MatchOption, IfOk, OnOk, true, false};
 ghost use Rattle.mono_model.specs.Ticks.{max_nanos};
-ghost use Rattle.mono_model.specs.Firing.{IsNoneDue};
+ghost use Rattle.mono_model.specs.FireOrder.{IsNoneDue};
 ghost use Rattle.mono_machine.specs.Steps.{after_fires};
 ghost use Rattle.mono_trace.specs.Traces.{may_follow, arms_after, may_follow_value, tick_after_value, arms_after_value};
 ghost use Rattle.mono_trace.specs.Tables.{arming_of, sleep_place};
-ghost use Rattle.mono_trace.specs.Told.{Tried, are_in_turn, least_after};
+ghost use Rattle.mono_trace.specs.Trials.{Tried, are_in_turn, least_after};
 ghost use Rattle.mono_machine.specs.declared.events.Event.TheVariants as event;
 
 use crate::comparisons::is_reply;

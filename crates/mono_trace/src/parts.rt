@@ -29,7 +29,7 @@ pub struct Parts {
 impl Model for Parts {
     ghost use Rattle.mono_machine.specs.Machine.{Machine};
     ghost use Rattle.mono_trace.specs.Versions.{Versions};
-    ghost use Rattle.mono_trace.specs.Told.{machine_in};
+    ghost use Rattle.mono_trace.specs.Trials.{machine_in};
 
     ghost Value = { Versions Machine };
 

@@ -37,7 +37,7 @@ impl<V> Model for Places<V> {
 }
 
 /// Takes back all changes, the last first.
-#[tactic(auto, using(crate::proofs::Undoing::undone_last, crate::proofs::Undoing::undone_past))]
+#[tactic(auto, using(crate::proofs::UndoLemmas::undone_last, crate::proofs::UndoLemmas::undone_past))]
 fn take_back<V: Copy + Drop>(items: &mut Vec<Option<V>>, changes: &mut Vec<Change<V>>)
     ensures items { items.new.items ≡ undone changes.old.items items.old.items }
     ensures changes { changes.new.items ≡ [] }

@@ -34,7 +34,7 @@ impl Model for Queue {
 }
 
 /// Takes back all changes, the last first.
-#[tactic(auto, using(crate::proofs::Undoing::unmoved_last))]
+#[tactic(auto, using(crate::proofs::UndoLemmas::unmoved_last))]
 fn take_back(items: &mut VecDeque<u64>, moves: &mut Vec<Move>) -> Result<(), AllocError>
     ensures items { OnOk result (items.new.items ≡ unmoved moves.old.items items.old.items) }
     ensures moves { OnOk result (moves.new.items ≡ []) }
@@ -62,7 +62,7 @@ impl Queue {
     }
 
     /// Puts a number at the back.
-    #[tactic(auto, using(crate::proofs::Undoing::unmoved_put))]
+    #[tactic(auto, using(crate::proofs::UndoLemmas::unmoved_put))]
     pub fn put(&mut self, t: u64) -> Result<(), AllocError>
         ensures { OnOk result (self.new ≡ changed self.old (self.old.now ++ t ∷ [])) }
     {
@@ -72,7 +72,7 @@ impl Queue {
     }
 
     /// Takes the number at the front, if there is one.
-    #[tactic(auto, using(crate::proofs::Undoing::unmoved_took))]
+    #[tactic(auto, using(crate::proofs::UndoLemmas::unmoved_took))]
     pub fn take(&mut self) -> Result<Option<u64>, AllocError>
         ensures { IfOk result (λ r. MatchOption r ((self.old.now ≡ []) × (self.new ≡ self.old)) (λ t. (self.old.now ≡ t ∷ self.new.now) × (self.new.before ≡ self.old.before))) }
     {

@@ -4,7 +4,7 @@ ghost use Rattle.mono_model.specs.Tasks.{all_woken};
 ghost use Rattle.mono_model.specs.Inbox.{is_waiting};
 ghost use Rattle.mono_machine.specs.Steps.{remote_report, after_remote, after_drain};
 ghost use Rattle.mono_trace.specs.Versions.{changed};
-ghost use Rattle.mono_trace.specs.Told.{Told};
+ghost use Rattle.mono_trace.specs.Trials.{Told};
 
 use crate::comparisons::{is_drained, is_listed, is_reply, is_unlisted};
 use crate::parts::Parts;

@@ -4,13 +4,13 @@ ghost use Rattle.mono_model.specs.Ticks.{up, down};
 ghost use Rattle.mono_model.specs.Table.{value_at, next_number, is_full};
 ghost use Rattle.mono_model.specs.Sleeps as model;
 ghost use Rattle.mono_model.specs.SleepActs as sleep;
-ghost use Rattle.mono_model.specs.Firing.{IsNoneDue};
+ghost use Rattle.mono_model.specs.FireOrder.{IsNoneDue};
 ghost use Rattle.mono_model.specs.SleepAnswers.{waker_in};
 ghost use Rattle.mono_machine.specs.SleepCalls.{poll_reply, gone_reply, elapsed_reply, reset_reply};
 ghost use Rattle.mono_trace.specs.Versions.{kept, changed};
 ghost use Rattle.mono_trace.specs.Tables.{sleep_of, sleep_place};
 
-use crate::armed::SleepPlaces;
+use crate::tick_counts::SleepPlaces;
 use mono_machine::{Refusal, Reply};
 use std::alloc::{AllocError, Global};
 use std::marker::Model;

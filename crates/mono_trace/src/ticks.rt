@@ -1,6 +1,6 @@
 // At how many ticks sleeps are armed, and how many at each, with changes that can be taken back.
 ghost use Rattle.std.specs.Prelude.{◌≡◌, [], OnOk, MatchBool, ℕ};
-ghost use Rattle.mono_trace.specs.Ordered.{AreAlike, AreCounts, AreCountsBut, AreTicks, AreNoneUpTo, IsOneUpTo, none_at, one_more, more_at, all_more};
+ghost use Rattle.mono_trace.specs.TickCounts.{AreAlike, AreCounts, AreCountsBut, AreTicks, AreNoneUpTo, IsOneUpTo, none_at, one_more, more_at, all_more};
 
 use std::alloc::{AllocError, Global};
 use std::collections::BTreeMap;

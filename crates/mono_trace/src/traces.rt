@@ -2,7 +2,7 @@
 ghost use Rattle.std.specs.Prelude.{◌≡◌, ◌<◌, ◌≤◌, ◌+◌, ◌^◌, IfOk, OnOk, true};
 ghost use Rattle.mono_machine.specs.Machine.{start_machine};
 ghost use Rattle.mono_machine.specs.Acts.{act_outcome};
-ghost use Rattle.mono_trace.specs.Told.{Told, Tried};
+ghost use Rattle.mono_trace.specs.Trials.{Told, Tried};
 
 use crate::comparisons::same_reply;
 use crate::parts::Parts;
@@ -49,7 +49,7 @@ pub struct Trace {
 }
 
 impl Trace {
-    ghost use Rattle.mono_trace.specs.Stands.{machine_of};
+    ghost use Rattle.mono_trace.specs.Refinement.{machine_of};
     ghost use Rattle.mono_trace.specs.Traces.{Checks};
 
     /// Stands for the start machine with these limits and this strategy. It takes no memory yet.

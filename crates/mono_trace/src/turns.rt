@@ -1,7 +1,7 @@
 // A turn whose report is compared, reply by reply.
 ghost use Rattle.std.specs.Prelude.{◌≡◌, ◌≢◌, ◌<◌, ◌+◌, ◌^◌, length, MatchBool, IfOk, OnOk};
 ghost use Rattle.mono_machine.specs.Turns.{replies_of, after_steps, end_answer, after_end, turn_report, after_turn};
-ghost use Rattle.mono_trace.specs.Told.{Told};
+ghost use Rattle.mono_trace.specs.Trials.{Told};
 
 use crate::comparisons::{is_reply, same_end, same_reply};
 use crate::parts::Parts;

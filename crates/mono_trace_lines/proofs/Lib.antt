@@ -1,5 +1,5 @@
-pub mod Spelled
-pub mod Again
-pub mod Lines
-pub mod Checking
-mod Listed
+pub mod SpellingLemmas
+pub mod ReportReadingLemmas
+pub mod JournalLineLemmas
+pub mod CheckLemmas
+mod TurnPartLemmas

@@ -4,11 +4,11 @@ use Rattle.mono_machine.specs.declared.events.Limits.{Limits}
 use Rattle.mono_machine.specs.declared.events.Blocking.{Blocking}
 use Rattle.mono_machine.specs.declared.events.Event.{Event}
 use Rattle.mono_machine.specs.declared.events.Report.{Report}
-use Rattle.mono_text.specs.Written.{event_text, report_text, number_text, FitsEvent}
+use Rattle.mono_text.specs.LineText.{event_text, report_text, number_text, FitsEvent}
 use Rattle.mono_text.specs.Lines.{Line, lines, AreLines, IsFirstWrong}
 use Rattle.mono_trace.specs.Verdicts.{Checked}
 use Rattle.mono_trace.specs.declared.Verdict.TheVariants.{Yes, No}
-use Rattle.mono_trace_lines.specs.Reported.{FitsReport, FitsAny}
+use Rattle.mono_trace_lines.specs.PrintableReports.{FitsReport, FitsAny}
 use Rattle.mono_trace_lines.specs.declared.journal.JournalLine.{JournalLine}
 use Rattle.mono_trace_lines.specs.declared.journal.JournalLine.TheVariants.{Ran, Now, Park, Main}
 use Rattle.mono_trace_lines.specs.declared.checks.Answer.{Answer}

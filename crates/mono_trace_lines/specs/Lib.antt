@@ -1,4 +1,4 @@
-pub mod Reported
-pub mod Reading
+pub mod PrintableReports
+pub mod Parser
 pub mod Journal
-pub mod Taking
+pub mod CheckProgress

@@ -1,9 +1,9 @@
 // The check of a whole journal.
 ghost use Rattle.std.specs.Prelude.{◌≡◌, ◌-◌, ◌<◌, true, false, IfOk, OnOk};
-ghost use Rattle.mono_trace.specs.Stands.{machine_of};
+ghost use Rattle.mono_trace.specs.Refinement.{machine_of};
 ghost use Rattle.mono_trace_lines.specs.Journal.{BeginsWith, BeginsWithNone, IsAnswer};
 ghost use Rattle.mono_trace_lines.specs.declared.journal.JournalLine.{JournalLine};
-ghost use Rattle.mono_trace_lines.specs.Taking.{LeadsOn, HasFewArms};
+ghost use Rattle.mono_trace_lines.specs.CheckProgress.{LeadsOn, HasFewArms};
 
 use crate::journal::{JournalLine, read_line};
 use mono_machine::{Blocking, Event, Limits, List, Report, TurnStep};

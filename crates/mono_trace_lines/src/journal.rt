@@ -1,7 +1,7 @@
 // One line of a journal.
 ghost use Rattle.std.specs.Prelude.{IfOk, IfSome, IfNone};
-ghost use Rattle.mono_text.specs.Reading.{GivesIf};
-ghost use Rattle.mono_trace_lines.specs.Reading.{pair_at, journal_at, line_at};
+ghost use Rattle.mono_text.specs.Parser.{GivesIf};
+ghost use Rattle.mono_trace_lines.specs.Parser.{pair_at, journal_at, line_at};
 ghost use Rattle.mono_trace_lines.specs.Journal.{BeginsWith, BeginsWithNone};
 
 use crate::reports::{any_number, read_report};
@@ -43,7 +43,7 @@ fn pair(
 }
 
 // What stands here, without its line feed.
-#[tactic(auto, unfolding(crate::specs::Reading::journal_at))]
+#[tactic(auto, unfolding(crate::specs::Parser::journal_at))]
 fn journal(
     alloc: Global,
     reader: &mut Reader,
@@ -73,7 +73,7 @@ fn journal(
 }
 
 // What the next line is by the definitions of `Reading`.
-#[tactic(auto, unfolding(crate::specs::Reading::line_at))]
+#[tactic(auto, unfolding(crate::specs::Parser::line_at))]
 fn line_read(
     alloc: Global,
     reader: &mut Reader,

@@ -1,7 +1,7 @@
 // Report lines in.
 ghost use Rattle.std.specs.Prelude.{◌≡◌, [], None, length};
-ghost use Rattle.mono_text.specs.Reading.{Gives, GivesIf, number_at};
-ghost use Rattle.mono_trace_lines.specs.Reading.{any_number_at, refusal_at, n_reply_at, e_reply_at, r_reply_at, other_reply_at, reply_at, ended_at, replies_at, numbers_at, report_at};
+ghost use Rattle.mono_text.specs.Parser.{Gives, GivesIf, number_at};
+ghost use Rattle.mono_trace_lines.specs.Parser.{any_number_at, refusal_at, n_reply_at, e_reply_at, r_reply_at, other_reply_at, reply_at, ended_at, replies_at, numbers_at, report_at};
 
 use mono_machine::{Ended, List, Refusal, Reply, Report, Woke};
 use mono_text::Reader;
@@ -18,7 +18,7 @@ pub(crate) fn any_number(reader: &mut Reader) -> Option<Option<u64>>
     Some(None)
 }
 
-#[tactic(auto, unfolding(crate::specs::Reading::refusal_at))]
+#[tactic(auto, unfolding(crate::specs::Parser::refusal_at))]
 fn refusal(reader: &mut Reader) -> Option<Refusal>
     ensures { Gives result reader.new.rest.now (refusal_at reader.old.rest.now) }
 {
@@ -53,7 +53,7 @@ fn refusal(reader: &mut Reader) -> Option<Refusal>
 }
 
 // A reply whose word begins with an n.
-#[tactic(auto, unfolding(crate::specs::Reading::n_reply_at))]
+#[tactic(auto, unfolding(crate::specs::Parser::n_reply_at))]
 fn n_reply(reader: &mut Reader) -> Option<Reply>
     ensures { Gives result reader.new.rest.now (n_reply_at reader.old.rest.now) }
 {
@@ -70,7 +70,7 @@ fn n_reply(reader: &mut Reader) -> Option<Reply>
 }
 
 // A reply whose word begins with an e.
-#[tactic(auto, unfolding(crate::specs::Reading::e_reply_at))]
+#[tactic(auto, unfolding(crate::specs::Parser::e_reply_at))]
 fn e_reply(reader: &mut Reader) -> Option<Reply>
     ensures { Gives result reader.new.rest.now (e_reply_at reader.old.rest.now) }
 {
@@ -85,7 +85,7 @@ fn e_reply(reader: &mut Reader) -> Option<Reply>
 }
 
 // A reply whose word begins with an r.
-#[tactic(auto, unfolding(crate::specs::Reading::r_reply_at))]
+#[tactic(auto, unfolding(crate::specs::Parser::r_reply_at))]
 fn r_reply(reader: &mut Reader) -> Option<Reply>
     ensures { Gives result reader.new.rest.now (r_reply_at reader.old.rest.now) }
 {
@@ -103,7 +103,7 @@ fn r_reply(reader: &mut Reader) -> Option<Reply>
 }
 
 // A reply whose first letter no other reply has.
-#[tactic(auto, unfolding(crate::specs::Reading::other_reply_at))]
+#[tactic(auto, unfolding(crate::specs::Parser::other_reply_at))]
 fn other_reply(reader: &mut Reader) -> Option<Reply>
     ensures { Gives result reader.new.rest.now (other_reply_at reader.old.rest.now) }
 {
@@ -142,7 +142,7 @@ fn other_reply(reader: &mut Reader) -> Option<Reply>
 }
 
 // The next byte is this one.
-#[tactic(auto, unfolding(crate::specs::Reading::reply_at))]
+#[tactic(auto, unfolding(crate::specs::Parser::reply_at))]
 fn reply(reader: &mut Reader) -> Option<Reply>
     ensures { Gives result reader.new.rest.now (reply_at reader.old.rest.now) }
 {
@@ -160,7 +160,7 @@ fn reply(reader: &mut Reader) -> Option<Reply>
 }
 
 // How a turn ended, where that stands here; else nothing changes.
-#[tactic(auto, unfolding(crate::specs::Reading::ended_at))]
+#[tactic(auto, unfolding(crate::specs::Parser::ended_at))]
 fn turn_end(reader: &mut Reader) -> Option<Ended>
     ensures found { Gives result reader.new.rest.now (ended_at reader.old.rest.now) }
     ensures kept { result ≡ None → reader.new.rest.now ≡ reader.old.rest.now }
@@ -219,7 +219,7 @@ fn numbers(alloc: Global, reader: &mut Reader) -> Result<Option<List<u64>>, Allo
 
 /// The report that stands here, without a line feed, and goes past it. None where none stands here; what is left then is
 /// not told.
-#[tactic(auto, unfolding(crate::specs::Reading::report_at))]
+#[tactic(auto, unfolding(crate::specs::Parser::report_at))]
 pub fn read_report(alloc: Global, reader: &mut Reader) -> Result<Option<Report>, AllocError>
     ensures { GivesIf result reader.new.rest.now (report_at reader.old.rest.now) }
 {

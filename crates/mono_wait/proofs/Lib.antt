@@ -1,3 +1,3 @@
-pub mod Registering
-pub mod Turning
-pub mod Parking
+pub mod RegistrationLemmas
+pub mod TurnLemmas
+pub mod ParkLemmas

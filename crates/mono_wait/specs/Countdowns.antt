@@ -5,10 +5,10 @@ use Rattle.mono_model.specs.Poll.{OnPending}
 use Rattle.mono_model.specs.declared.poll.Poll.{Poll}
 use Rattle.mono_model.specs.declared.poll.Poll.TheVariants.{Pending}
 use Rattle.mono_machine.specs.Watches.{Source, of_task, is_stirred_in}
-use Rattle.mono_wait.specs.Heard.{Covers, Heard}
+use Rattle.mono_wait.specs.Sources.{Covers, Heard}
 use Rattle.mono_wait.specs.declared.countdown.Countdown.{Countdown}
 use Rattle.std.proofs.Common.{inr, sym, ap, ◌∙◌, subst}
-use Rattle.mono_wait.specs.Stirring.{stirs}
+use Rattle.mono_wait.specs.WakeEffects.{stirs}
 use Rattle.mono_model.specs.Table.{value_at}
 
 module _ {C : Type 0} (number : C → ℕ) (work : C → Tasks ⊤) (reaches : C → C → Type 0) where

@@ -14,7 +14,7 @@ use Rattle.mono_time.specs.declared.sleeps.Sleep.{Sleep}
 use Rattle.mono_time.specs.declared.timeouts.Timeout.{Timeout}
 use Rattle.mono_time.specs.declared.error.TimeoutError.{TimeoutError}
 use Rattle.mono_machine.specs.Watches.{Source, of_sleep}
-use Rattle.mono_wait.specs.Heard.{Covers, Heard, heard_on, waker_in}
+use Rattle.mono_wait.specs.Sources.{Covers, Heard, heard_on, waker_in}
 use Rattle.mono_wait.specs.Leaves.{SleepNeeds, sleeps_cover}
 
 -- what its value waits for, and its delay

@@ -9,8 +9,8 @@ use Rattle.mono_model.specs.declared.poll.Poll.TheVariants.{Pending}
 use Rattle.mono_model.specs.declared.task_error.TaskError.{TaskError}
 use Rattle.mono_task.specs.Work.{without_outputs}
 use Rattle.mono_machine.specs.Watches.{Source, of_task}
-use Rattle.mono_wait.specs.Heard.{Covers, Heard, waiter_in}
-use Rattle.mono_wait.specs.Joining.{pending_joins, same_waiter}
+use Rattle.mono_wait.specs.Sources.{Covers, Heard, waiter_in}
+use Rattle.mono_wait.specs.JoinPolls.{pending_joins, same_waiter}
 
 module _ {C O : Type 0} (number : C → ℕ) (tasks : C → Tasks O) (work : C → Tasks ⊤) (reaches : C → C → Type 0) (watcher : C → Source → Option ℕ)
     (itself : (c : C) → reaches c c) (same_number : (a b : C) → reaches a b → number b ≡ number a) (same_work : (c : C) → work c ≡ without_outputs (tasks c))

@@ -10,10 +10,10 @@ use Rattle.mono_combine.specs.declared.maybe.MaybeDone.{MaybeDone}
 use Rattle.mono_combine.specs.declared.maybe.MaybeDone.TheVariants.{Future, Done, Gone}
 use Rattle.mono_combine.specs.declared.joins.Join2.{Join2}
 use Rattle.mono_combine.specs.Branches.{Advances, AfterBranch, MaybePolls, MaybeCancels, is_waiting, output_of}
-use Rattle.mono_combine.specs.Joined.{JoinPolls, JoinCancels, both}
+use Rattle.mono_combine.specs.Joins.{JoinPolls, JoinCancels, both}
 use Rattle.mono_combine.specs.Rules.{join_rule}
 use Rattle.mono_machine.specs.Watches.{Source}
-use Rattle.mono_wait.specs.Heard.{Covers, Heard, heard_on}
+use Rattle.mono_wait.specs.Sources.{Covers, Heard, heard_on}
 
 abbrev pub MaybeNeeds : {C F O : Type 0} → (F → Source → Type 0) → MaybeDone C F O → Source → Type 0
 MaybeNeeds needs (Future f) x = needs f x
@@ -103,12 +103,12 @@ module _ {C A B X Y : Type 0} (number : C → ℕ) (work : C → Tasks ⊤) (rea
   two_cover (Future f) second one two told = record {
     some = one.some;
     armed = heard_on number work reaches watcher on c c middle d one.some (itself c) one.armed more;
-    each = λ x is. elim is [ | inl left ↦ first_stays (Future f) one x left | inr right ↦ second_stays second two x right ];
+    each = λ x is. elim is [ inl left ↦ first_stays (Future f) one x left | inr right ↦ second_stays second two x right ];
   }
   two_cover (Done y) (Future g) one two told = record {
     some = two.some;
     armed = heard_on number work reaches watcher on c middle d d two.some first_reached two.armed (itself d);
-    each = λ x is. elim is [ | inl left ↦ absurd left | inr right ↦ second_stays (Future g) two x right ];
+    each = λ x is. elim is [ inl left ↦ absurd left | inr right ↦ second_stays (Future g) two x right ];
   }
   two_cover (Done x) (Done y) one two told = absurd (both_done x y told)
   two_cover (Done x) Gone one two told = absurd two
@@ -123,5 +123,5 @@ module _ {C A B X Y : Type 0} (a : FutureOf A C X) (b : FutureOf B C Y) (number 
   pub joins_cover : (f : Join2 C A B X Y) (c : C) (g : Join2 C A B X Y) (d : C) → JoinPolls a b f c Pending g d → Covers number work reaches watcher c d (JoinNeeds a_needs b_needs g)
   joins_cover f c g d p = subst (λ v. Covers number work reaches watcher c d (JoinNeeds a_needs b_needs v)) (sym p.waits)
       (two_cover number work reaches watcher itself on a b a_needs b_needs c p.middle d (advance_reached a reaches itself on a_reach a_left f.a c p.first p.middle p.a_polled) (advance_reached b reaches itself on b_reach b_left f.b p.middle p.second d p.b_polled) p.first p.second
-        (advance_covers a number work reaches watcher a_needs a_covers f.a c p.first p.middle p.a_polled)
-        (advance_covers b number work reaches watcher b_needs b_covers f.b p.middle p.second d p.b_polled) p.answer)
+      (advance_covers a number work reaches watcher a_needs a_covers f.a c p.first p.middle p.a_polled)
+      (advance_covers b number work reaches watcher b_needs b_covers f.b p.middle p.second d p.b_polled) p.answer)

@@ -9,8 +9,8 @@ use Rattle.mono_time.specs.Sleeps.{SleepTable, with_polled_sleep}
 use Rattle.mono_time.specs.Futures.{SleepPolls}
 use Rattle.mono_time.specs.declared.sleeps.Sleep.{Sleep}
 use Rattle.mono_machine.specs.Watches.{Source, of_sleep}
-use Rattle.mono_wait.specs.Heard.{Covers, Heard, waker_in}
-use Rattle.mono_wait.specs.Polling.{pending_arms}
+use Rattle.mono_wait.specs.Sources.{Covers, Heard, waker_in}
+use Rattle.mono_wait.specs.SleepPolls.{pending_arms}
 
 abbrev pub SleepNeeds : Sleep → Source → Type 0
 SleepNeeds f x = x ≡ of_sleep f.number

@@ -1,7 +1,7 @@
-pub mod Heard
-pub mod Stirring
-pub mod Polling
-pub mod Joining
+pub mod Sources
+pub mod WakeEffects
+pub mod SleepPolls
+pub mod JoinPolls
 pub mod Countdowns
 pub mod Leaves
 pub mod Deadlines
@@ -10,5 +10,5 @@ pub mod Joins
 pub mod Registers
 pub mod Selects
 pub mod Runtime
-pub mod Turned
-pub mod Waiting
+pub mod PendingTurns
+pub mod JournalWaits

@@ -7,15 +7,15 @@ use Rattle.mono_model.specs.Tasks.{Tasks, Task, Phase, idle, queued, running, do
 use Rattle.mono_model.specs.Sleeps as model
 use Rattle.mono_model.specs.SleepActs as sleep
 use Rattle.mono_task.specs.Work.{without_outputs, task_without, phase_without}
-use Rattle.mono_time.specs.Stands.{seen}
+use Rattle.mono_time.specs.Refinement.{seen}
 use Rattle.mono_time.specs.Timers.{sleeps_of}
 use Rattle.mono_machine.specs.Machine.{Machine}
 use Rattle.mono_machine.specs.History.{waiter_at}
-use Rattle.mono_parts.specs.Numbered.{numbered, task_numbered, phase_numbered}
-use Rattle.mono_parts.specs.Stands.{Hosting, Matches}
-use Rattle.mono_parts.specs.declared.parts.Parts.{Parts}
+use Rattle.mono_rt.specs.Numbering.{numbered, task_numbered, phase_numbered}
+use Rattle.mono_rt.specs.Refinement.{Hosting, Matches}
+use Rattle.mono_rt.specs.declared.parts.state.Parts.{Parts}
 use Rattle.mono_machine.specs.Watches.{Source, of_sleep, of_task, of_job, watcher, job_waiter, is_stirred, is_stirred_in}
-use Rattle.mono_wait.specs.Heard.{waiter_in, waker_in}
+use Rattle.mono_wait.specs.Sources.{waiter_in, waker_in}
 
 module _ {O B : Type 0} (hosting : B → Hosting) where
   abbrev pub parts_watcher : Parts O B → Source → Option ℕ

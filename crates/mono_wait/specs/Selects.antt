@@ -21,9 +21,9 @@ use Rattle.mono_combine.specs.Random.{drawn}
 use Rattle.mono_combine.specs.Starts.{start_of}
 use Rattle.mono_combine.specs.Looks.{is_out, BranchCancels, passes_if, AfterPoll, TurnBy}
 use Rattle.mono_combine.specs.Rules.{passes, waits, unless_masked, order_from, picked_of, up_to_pass, select_rule, select_turns}
-use Rattle.mono_combine.specs.Selected.{Seats, masks, as_first, as_second, looks, without_number, TurnOf, Selects, SeatsCancel, SelectCancels, SelectEnds, SelectPolls}
+use Rattle.mono_combine.specs.Selects.{Seats, masks, as_first, as_second, looks, without_number, TurnOf, Selects, SeatsCancel, SelectCancels, SelectEnds, SelectPolls}
 use Rattle.mono_machine.specs.Watches.{Source}
-use Rattle.mono_wait.specs.Heard.{Covers, Heard, heard_on}
+use Rattle.mono_wait.specs.Sources.{Covers, Heard, heard_on}
 
 abbrev pub BranchNeeds : {T : Type 0} → (T → Source → Type 0) → Branch T → Source → Type 0
 BranchNeeds needs (Live f) x = needs f x
@@ -259,7 +259,7 @@ module _ {A B G H C X Y : Type 0} (a : FutureOf A C X) (b : FutureOf B C Y) (num
         it = arms some
 
     who_waits : (m n : Bool) (x : Look X) (y : Look Y) → NonePass (unless_masked m (as_first {X = X} {Y = Y} x)) (unless_masked n (as_second {X = X} {Y = Y} y)) → IsWaiting m x ⊎ IsWaiting n y
-    who_waits m n x y none = elim (one_of _ _ none.some) [ | inl w ↦ inl (first_waits Y m x w) | inr w ↦ inr (second_waits X n y w) ]
+    who_waits m n x y none = elim (one_of _ _ none.some) [ inl w ↦ inl (first_waits Y m x w) | inr w ↦ inr (second_waits X n y w) ]
 
     by_start : (p : G) (q : H) (start : ℕ) (x : Look X) (y : Look Y) (s t : Seats A B C) → (start ≡ 0) ⊎ (start ≡ 1) → FoldsTo (TurnOf a b g h p q x y) s (select_turns (masks s) start (looks x y)) t
         → Pending ≡ without_number (select_rule (masks s) start (looks x y)) → Covers number work reaches watcher s.cx t.cx (SeatsNeed t)
@@ -285,7 +285,7 @@ module _ {A B G H C X Y : Type 0} (a : FutureOf A C X) (b : FutureOf B C Y) (num
     by_end s c s' d Pending t selects ends =
         subst (λ v. Covers number work reaches watcher c d (SelectNeeds a_needs b_needs v)) (sym ends.1)
         (subst (λ e. Covers number work reaches watcher c e (SeatsNeed t)) (sym ends.2)
-          (by_start s.first_test s.second_test (start_of s.start 2) selects.x selects.y (record { first = s.first; second = s.second; cx = c }) t (start_cases s.start) selects.turns selects.picks))
+        (by_start s.first_test s.second_test (start_of s.start 2) selects.x selects.y (record { first = s.first; second = s.second; cx = c }) t (start_cases s.start) selects.turns selects.picks))
 
     pub selects_cover : (s : Select2 A B G H) (c : C) (s' : Select2 A B G H) (d : C) → SelectPolls a b g h s c Pending s' d → Covers number work reaches watcher c d (SelectNeeds a_needs b_needs s')
     selects_cover s c s' d p = by_end s c s' d p.picked p.left p.selects p.ends

@@ -16,7 +16,8 @@ impl<C: WaitContext, F: Waits<C, Output: Drop>> Waits<C> for MaybeDone<C, F> {
 }
 
 // It needs what each of its unfinished branches needs.
-impl<C: WaitContext, A: Waits<C, Output: Drop>, B: Waits<C, Output: Drop>> Waits<C> for Join2<C, A, B> {
+impl<C: WaitContext, A: Waits<C, Output: Drop>, B: Waits<C, Output: Drop>> Waits<C>
+    for Join2<C, A, B> {
     ghost needs = { JoinNeeds A.needs B.needs };
 
     ghost polls_reach = { join_reached A.TaskFuture B.TaskFuture C.reaches C.reaches_itself C.reaches_on A.polls_reach A.cancels_reach B.polls_reach B.cancels_reach };

@@ -6,11 +6,11 @@ ghost use Rattle.mono_machine.specs.Watches.{Source};
 ghost use Rattle.mono_machine.specs.declared.events.TurnStep.{TurnStep};
 ghost use Rattle.mono_machine.specs.declared.events.End.TheVariants as end;
 ghost use Rattle.mono_machine.specs.declared.events.Report.{Report};
-ghost use Rattle.mono_parts.specs.declared.journals.Entry.{Entry};
-ghost use Rattle.mono_rt.specs.Polling.{TellsTurn, Polled};
+ghost use Rattle.mono_rt.specs.declared.parts.journals.Entry.{Entry};
+ghost use Rattle.mono_rt.specs.FuturePolls.{TellsTurn, Polled};
 ghost use Rattle.mono_wait.specs.Registers.{Registers};
-ghost use Rattle.mono_wait.specs.Turned.{LeavesWaiting};
-ghost use Rattle.mono_wait.specs.Waiting.{Waiting};
+ghost use Rattle.mono_wait.specs.PendingTurns.{LeavesWaiting};
+ghost use Rattle.mono_wait.specs.JournalWaits.{Waiting};
 
 use crate::machines::MachineContext;
 use crate::waits::Waits;

@@ -1,6 +1,6 @@
 // The runtime's context tells who waits as the machine does.
 ghost use Rattle.std.specs.Prelude.{refl};
-ghost use Rattle.mono_parts.specs.Stands.{hosting_of, Matches};
+ghost use Rattle.mono_rt.specs.Refinement.{hosting_of, Matches};
 ghost use Rattle.mono_wait.specs.Runtime.{parts_watcher, parts_same_watcher, parts_same_stirred};
 
 use crate::machines::MachineContext;
@@ -20,8 +20,13 @@ impl<F: Drop, O: Outcome + Drop, P: ThreadPool + Drop, U: Unpark, W: SharedState
     ghost watches_tasks = { λ c u. refl };
 }
 
-impl<F: Drop, O: Outcome + Drop, P: ThreadPool + Drop, U: Unpark, W: SharedState + Drop> MachineContext
-    for Cx<F, O, P, U, W> {
+impl<
+    F: Drop,
+    O: Outcome + Drop,
+    P: ThreadPool + Drop,
+    U: Unpark,
+    W: SharedState + Drop,
+> MachineContext for Cx<F, O, P, U, W> {
     ghost stands = { λ c m. Matches O.output_number hosting_of c.parts m };
 
     ghost leads = { λ a b r. (r.parts.steps, r.parts.leads) };

@@ -3,7 +3,7 @@ ghost use Rattle.std.specs.Prelude.{◌≡◌, ℕ, Option};
 ghost use Rattle.mono_model.specs.Table.{value_at};
 ghost use Rattle.mono_model.specs.declared.poll.Poll.{Poll};
 ghost use Rattle.mono_machine.specs.Watches.{Source, of_sleep, of_task};
-ghost use Rattle.mono_wait.specs.Heard.{Covers, waiter_in, waker_in};
+ghost use Rattle.mono_wait.specs.Sources.{Covers, waiter_in, waker_in};
 
 use mono_task::TaskFuture;
 use mono_time::TimeContext;

@@ -5,16 +5,16 @@ use Rattle.mono_wheel.specs.Start.{start, top_level, taken_list}
 use Rattle.mono_wheel.specs.Lists.{Lists, IsIn, with_list, without, list_at, no_entry}
 use Rattle.mono_wheel.specs.Model.{Timed, Wheel, StandsBehind, CameOut, timed_after}
 use Rattle.mono_wheel.specs.Credit.{takes, credit_of}
-use Rattle.mono_wheel.specs.Onward.{at_tick}
-use Rattle.mono_wheel.specs.Held.{place_of, timed_of, timed_in, Held, IsNextSlot}
+use Rattle.mono_wheel.specs.Skips.{at_tick}
+use Rattle.mono_wheel.specs.Holdings.{place_of, timed_of, timed_in, Held, IsNextSlot}
 use Rattle.mono_wheel.specs.declared.entry.Entry.{Entry}
-use Rattle.mono_wheel.proofs.Starts.{start-le}
-use Rattle.mono_wheel.proofs.Keys.{none_of, timed-here, timed-other, entry-in, entry-below, read-in}
-use Rattle.mono_wheel.proofs.Due.{stands-one, stands-some}
-use Rattle.mono_wheel.proofs.Order.{behind-upper}
-use Rattle.mono_wheel.proofs.Holding.{held-removed, keeps-removed}
-use Rattle.mono_wheel.proofs.Advancing.{no-slots, moved-stays, in-slot, slot-in, in-place, slot-waits, past-slot, begin-above, list-below, later-held}
-use Rattle.mono_wheel.proofs.Crediting.{credit-entry, credit-later, takes-taken, takes-now}
+use Rattle.mono_wheel.proofs.StartLemmas.{start-le}
+use Rattle.mono_wheel.proofs.KeyLemmas.{none_of, timed-here, timed-other, entry-in, entry-below, read-in}
+use Rattle.mono_wheel.proofs.DueLemmas.{stands-one, stands-some}
+use Rattle.mono_wheel.proofs.OrderLemmas.{behind-upper}
+use Rattle.mono_wheel.proofs.HoldingLemmas.{held-removed, keeps-removed}
+use Rattle.mono_wheel.proofs.AdvanceLemmas.{no-slots, moved-stays, in-slot, slot-in, in-place, slot-waits, past-slot, begin-above, list-below, later-held}
+use Rattle.mono_wheel.proofs.CreditLemmas.{credit-entry, credit-later, takes-taken, takes-now}
 
 none-behind : (key other : ℕ) → StandsBehind (key ∷ []) other key → ⊥
 none-behind key other (inl h) = h.1

@@ -8,15 +8,15 @@ use Rattle.mono_wheel.specs.Start.{above, next_turn, far_digit, slot_of, start, 
 use Rattle.mono_wheel.specs.Lists.{Lists, no_entry}
 use Rattle.mono_wheel.specs.Model.{Timed, Wheel, Fits, IsPending, timed_after}
 use Rattle.mono_wheel.specs.Credit.{takes, credit_of}
-use Rattle.mono_wheel.specs.Onward.{at_tick}
-use Rattle.mono_wheel.specs.Held.{place_in, timed_of, timed_in, StandsIn, Held, Advanced}
+use Rattle.mono_wheel.specs.Skips.{at_tick}
+use Rattle.mono_wheel.specs.Holdings.{place_in, timed_of, timed_in, StandsIn, Held, Advanced}
 use Rattle.mono_wheel.specs.Leap.{IsFar, IsDueFrom, IsKnown, Known, Spared}
 use Rattle.mono_wheel.specs.declared.entry.Entry.{Entry}
-use Rattle.mono_wheel.proofs.Starts.{div-le_mono, pow-pos, eqb-no, start-above, above-mono, above-start, next_turn-above, next_turn-near, next_turn-whole}
-use Rattle.mono_wheel.proofs.Places.{place-ahead}
-use Rattle.mono_wheel.proofs.Keys.{timed-read, timed-here, timed-other, none_of}
-use Rattle.mono_wheel.proofs.Advancing.{moved-stays, moved-anew}
-use Rattle.mono_wheel.proofs.Reaching.{takes-next, takes-before}
+use Rattle.mono_wheel.proofs.StartLemmas.{div-le_mono, pow-pos, eqb-no, start-above, above-mono, above-start, next_turn-above, next_turn-near, next_turn-whole}
+use Rattle.mono_wheel.proofs.PlaceLemmas.{place-ahead}
+use Rattle.mono_wheel.proofs.KeyLemmas.{timed-read, timed-here, timed-other, none_of}
+use Rattle.mono_wheel.proofs.AdvanceLemmas.{moved-stays, moved-anew}
+use Rattle.mono_wheel.proofs.SkipLemmas.{takes-next, takes-before}
 
 -- ---- how often a key is taken
 rounds-one : (a n b w : ℕ) → a < n → n ≤ a + 64 → b ≡ n + 64 * w → (b - a - 1) / 64 ≡ w

@@ -3,7 +3,7 @@ use Rattle.std.specs.Prelude.{◌≡◌, ℕ, ◌+◌, ◌<◌, ◌≤◌, ◌�
 use Rattle.mono_wheel.specs.Start.{above, top_level}
 use Rattle.mono_wheel.specs.Model.{Timed}
 use Rattle.mono_wheel.specs.Credit.{takes}
-use Rattle.mono_wheel.specs.Held.{timed_in}
+use Rattle.mono_wheel.specs.Holdings.{timed_in}
 use Rattle.mono_wheel.specs.declared.entry.Entry.{Entry}
 
 -- a key that is in is registered at its true tick, in a later slot of the top level than `to`

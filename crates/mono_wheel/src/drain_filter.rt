@@ -2,7 +2,7 @@
 ghost use Rattle.std.specs.Prelude.{◌≡◌, ◌<◌, length};
 ghost use Rattle.std.specs.Iterator.{at_most};
 ghost use Rattle.mono_wheel.specs.Lists.{list_at};
-ghost use Rattle.mono_wheel.specs.Drained.{left_of, links_of, lender_of, closure_of, CanStep, DrainSteps, Drains};
+ghost use Rattle.mono_wheel.specs.Drains.{left_of, links_of, lender_of, closure_of, CanStep, DrainSteps, Drains};
 
 use crate::Links;
 use std::iter::Iterator;

@@ -2,8 +2,8 @@
 ghost use Rattle.std.specs.Prelude.{◌≡◌, ◌+◌, ◌<◌, ◌≤◌, ℕ, map};
 ghost use Rattle.mono_wheel.specs.Start.{above, top_level};
 ghost use Rattle.mono_wheel.specs.Credit.{takes, credit_of};
-ghost use Rattle.mono_wheel.specs.Onward.{at_tick};
-ghost use Rattle.mono_wheel.specs.Held.{timed_of, timed_in};
+ghost use Rattle.mono_wheel.specs.Skips.{at_tick};
+ghost use Rattle.mono_wheel.specs.Holdings.{timed_of, timed_in};
 ghost use Rattle.mono_wheel.specs.Leap.{IsFar, IsDueFrom, Known, Spared};
 
 use crate::Steps;

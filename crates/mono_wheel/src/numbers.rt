@@ -1,7 +1,7 @@
 //! Slots by numbers: in which list the slot of a tick is, and where it starts.
 ghost use Rattle.std.specs.Prelude.{◌≡◌, ℕ, ◌+◌, ◌<◌, ◌≤◌, ◌^◌};
 ghost use Rattle.mono_wheel.specs.Start.{next_turn, slot_of, start, level_count, top_level};
-ghost use Rattle.mono_wheel.specs.Held.{place_of, place_in};
+ghost use Rattle.mono_wheel.specs.Holdings.{place_of, place_in};
 
 use crate::level::{LEVELS, level_for};
 

@@ -1,6 +1,6 @@
 //! The search for the next slot: that of the key whose slot starts first.
 ghost use Rattle.std.specs.Prelude.{◌≤◌, MatchOption};
-ghost use Rattle.mono_wheel.specs.Held.{Held, IsNextSlot, NoSlots, NoSlotBy};
+ghost use Rattle.mono_wheel.specs.Holdings.{Held, IsNextSlot, NoSlots, NoSlotBy};
 
 use crate::numbers::slot_start;
 use crate::slot_links::SlotLinks;

@@ -2,13 +2,13 @@
 ghost use Rattle.std.specs.Prelude.{◌≡◌, ◌≢◌, ℕ, ◌+◌, ◌<◌, ◌≤◌, true, false, [], ◌∷◌, ◌++◌, List, replicate, IfOk, OnOk, OnErr, IfSome, is_some, if◌then◌else◌, length};
 ghost use Rattle.mono_wheel.specs.Rings.{Distinct};
 ghost use Rattle.mono_wheel.specs.Lists.{list_at, IsIn, IsLoose, is_node, entry_at, no_entry, with_list, with_entry, without, IsLast, PoppedBack, Added, Freed};
-ghost use Rattle.mono_wheel.specs.Held.{IsFirstOccupied, timed_in};
+ghost use Rattle.mono_wheel.specs.Holdings.{IsFirstOccupied, timed_in};
 ghost use Rattle.mono_wheel.specs.Start.{slot_count, taken_list, list_count};
 
 use crate::entry::Entry;
 use crate::level::LEVELS;
 use crate::numbers::{PENDING, SLOTS, slot_at};
-use crate::occupied::Occupied;
+use crate::occupancy::Occupied;
 use crate::{Links, Steps};
 use std::alloc::{AllocError, Global};
 use std::marker::Model;

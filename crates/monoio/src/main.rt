@@ -6,10 +6,9 @@ mod pages;
 
 use help::{VERSION, help_of, is_only};
 use mono_script::{
-    Ended, FollowedCommand, Status, StdClock, StdinSource, StdoutSink, ThreadSpawner, exit_code,
-    explained, follow_command, joins_workers, words_behind,
+    Ended, FollowedCommand, Status, StdClock, StdinSource, StdoutSink, ThreadSpawner, complaint,
+    exit_code, explained, follow_command, joins_workers, line_sentence, words_behind,
 };
-use mono_usage::{complaint, line_sentence};
 use std::alloc::{AllocError, Global};
 use std::io::IsTerminal;
 use std::process::ExitCode;

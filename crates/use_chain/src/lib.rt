@@ -1,10 +1,10 @@
 //! A task that sleeps, counts and sleeps again, written by forms alone, and what it answers.
 #![tactic(auto)]
 
-mod counted;
-mod driven;
-mod looped;
+mod chains;
+mod counts;
+mod loops;
 
-pub use counted::{Slept, sleeps_twice};
-pub use driven::{counts_once, counts_twice, poll_any, poll_up_to};
-pub use looped::sleeps_often;
+pub use chains::{counts_once, counts_twice, poll_any, poll_up_to};
+pub use counts::{Slept, sleeps_twice};
+pub use loops::sleeps_often;

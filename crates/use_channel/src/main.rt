@@ -84,7 +84,9 @@ fn main(rt: HostRuntime) -> io::Result<()> {
     let alloc = rt.alloc();
     for (most, permits) in [(0, 1), (1, 1), (1, 4), (2, 4), (3, 4), (3, 1)] {
         match sum_of(&rt, alloc, most, permits, 5) {
-            Some((sum, left)) => println!(rt; "{most} places, {permits} permits: {sum}, {left} left")?,
+            Some((sum, left)) => println!(rt;
+                "{most} places, {permits} permits: {sum}, {left} left"
+            )?,
             None => println!(rt; "{most} places, {permits} permits: gave up")?,
         }
     }

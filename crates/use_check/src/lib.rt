@@ -18,7 +18,7 @@ pub fn checked_replay(
 ) -> Result<Verdict, AllocError>
     ensures { IfOk result (λ verdict. verdict ≡ Verdict.Yes) }
 {
-    let reports = mono_exec::replay(alloc, limits, blocking, events)?;
+    let reports = mono_replay::replay(alloc, limits, blocking, events)?;
     let verdict = check(alloc, limits, blocking, events, &reports)?;
     Ok(verdict)
 }

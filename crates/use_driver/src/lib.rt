@@ -1,8 +1,8 @@
 //! A runtime on a driver of one's own: one that parks a given number of times, and then fails.
 #![tactic(auto)]
 
-mod bounded;
+mod bounds;
 mod naps;
 
-pub use bounded::Bounded;
+pub use bounds::Bounded;
 pub use naps::{Nap, nap_within};

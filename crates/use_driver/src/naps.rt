@@ -3,9 +3,9 @@ ghost use Rattle.std.specs.Prelude.{◌≡◌, ◌≤◌, ⊤, false, IfOk};
 ghost use Rattle.mono_machine.specs.Machine.{Machine, start_machine};
 ghost use Rattle.mono_machine.specs.Steps.{Run};
 ghost use Rattle.mono_machine.specs.declared.events.Blocking.TheVariants.{Panic};
-ghost use Rattle.mono_parts.specs.Journals.{events_in, reports_in};
+ghost use Rattle.mono_rt.specs.Journals.{events_in, reports_in};
 
-use crate::bounded::Bounded;
+use crate::bounds::Bounded;
 use mono_blocking::{BlockingHandle, BlockingStrategy, ThreadPool};
 use mono_machine::Limits;
 use mono_model::Host;

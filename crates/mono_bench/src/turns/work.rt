@@ -1,6 +1,6 @@
 // What the tasks do, a turn at a time.
 ghost use Rattle.std.specs.Prelude.{◌≡◌, ⊤, false};
-ghost use Rattle.mono_rt.specs.Reached.{Reaches};
+ghost use Rattle.mono_rt.specs.Reaches.{Reaches};
 
 use crate::turns::Idle;
 use mono_blocking::NoPool;

@@ -1,7 +1,7 @@
 // A wheel in which any key may be named.
 ghost use Rattle.std.specs.Prelude.{◌≡◌, ◌≢◌, ◌<◌, ◌^◌, true, None, IfNone};
 ghost use Rattle.mono_wheel.specs.Model.{timed_at};
-ghost use Rattle.mono_bench.specs.Ready.{KeepsAll};
+ghost use Rattle.mono_bench.specs.Bounds.{KeepsAll};
 
 use mono_wheel::{Steps, Wheel};
 use std::alloc::{AllocError, Global};

@@ -1,6 +1,6 @@
 // The workloads, and what one run of them gives.
 ghost use Rattle.std.specs.Prelude.{◌≡◌, ◌+◌, ◌<◌, ◌^◌, true, length};
-ghost use Rattle.mono_bench.specs.Ready.{AllIn, AllLow, IsRow, RowIn};
+ghost use Rattle.mono_bench.specs.Bounds.{AllIn, AllLow, IsRow, RowIn};
 
 use crate::wheel::table::Table;
 use crate::wheel::watch::Watch;

@@ -2,8 +2,8 @@
 ghost use Rattle.std.specs.Prelude.{◌≡◌, ◌∷◌, [], IfSome, IfNone, map, string_bytes};
 ghost use Rattle.mono_script.specs.Words.{AreLimits, SayLimits, strategy_text};
 
-use mono_exec::Blocking;
 use mono_machine::Limits;
+use mono_replay::Blocking;
 use mono_text::whole_number;
 
 fn strategy(word: &[u8]) -> Option<Blocking>

@@ -1,5 +1,5 @@
 use Rattle.mono_machine.specs.Machine.{start_machine}
-use Rattle.mono_trace.proofs.Verdicts.{run_length, runs_are_passed}
+use Rattle.mono_trace.proofs.VerdictLemmas.{run_length, runs_are_passed}
 use Rattle.use_check.proofs.checked_replay.Goals as goal
 
 pub check-requires-clause-same_length : goal.check-requires-clause-same_length

@@ -1,4 +1,4 @@
-use Rattle.mono_actor.proofs.Coming as law
+use Rattle.mono_actor.proofs.TimeoutTickLemmas as law
 use Rattle.mono_actor.proofs.laws.timeouts_have_come.Goals as goal
 
 pub returns : goal.returns

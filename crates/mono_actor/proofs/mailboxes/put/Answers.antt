@@ -1,5 +1,5 @@
 use Rattle.std.proofs.Common.{arith}
-use Rattle.mono_actor.proofs.Linked.{put-linked, known-apart}
+use Rattle.mono_actor.proofs.LinkLemmas.{put-linked, known-apart}
 use Rattle.mono_actor.proofs.mailboxes.put.Goals as goal
 
 pub returns-clause-put : goal.returns-clause-put

@@ -1,6 +1,6 @@
 use Rattle.std.proofs.Common.{◌∙◌, ◌++◌, ap}
-use Rattle.mono_actor_lines.specs.Told.{answer_of}
-use Rattle.mono_actor_lines.proofs.Turning.{one_sent, all_sent, part_put}
+use Rattle.mono_actor_lines.specs.Replies.{answer_of}
+use Rattle.mono_actor_lines.proofs.CallLemmas.{one_sent, all_sent, part_put}
 use Rattle.mono_actor_lines.proofs.turns.send_all.Goals as goal
 
 pub loop-handed-preserved : goal.loop-handed-preserved

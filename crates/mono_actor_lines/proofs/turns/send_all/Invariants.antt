@@ -1,6 +1,6 @@
 use Rattle.std.proofs.Common.{◌≡◌, drop}
 use Rattle.mono_actor.specs.Callers.{actors_of}
-use Rattle.mono_actor_lines.proofs.Turning.{LeadsOn}
+use Rattle.mono_actor_lines.proofs.CallLemmas.{LeadsOn}
 use Rattle.mono_actor_lines.proofs.turns.send_all.Given as goal
 
 abbrev pub invariant-loop-handed : goal.invariant-loop-handed

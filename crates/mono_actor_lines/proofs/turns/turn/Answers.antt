@@ -1,8 +1,8 @@
 use Rattle.std.proofs.Common.{OnOk, subst}
 use Rattle.mono_actor.specs.Callers.{actors_of}
 use Rattle.mono_actor_lines.specs.Turns.{IsAnswered}
-use Rattle.mono_actor_lines.specs.declared.wording.ActorLine.TheVariants as line
-use Rattle.mono_actor_lines.proofs.Turning.{whole_turn, after_ok}
+use Rattle.mono_actor_lines.specs.declared.words.ActorLine.TheVariants as line
+use Rattle.mono_actor_lines.proofs.CallLemmas.{whole_turn, after_ok}
 use Rattle.mono_actor_lines.proofs.turns.turn.Goals as goal
 
 pub returns-in-Ok-clause-answered : goal.returns-in-Ok-clause-answered

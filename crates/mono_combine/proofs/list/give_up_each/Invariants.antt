@@ -1,5 +1,5 @@
 use Rattle.std.proofs.Common.{◌≡◌, ◌++◌, List, length, take, drop}
-use Rattle.mono_combine.specs.Listed.{EachInTurn, GivesUp}
+use Rattle.mono_combine.specs.BranchLists.{EachInTurn, GivesUp}
 use Rattle.mono_combine.proofs.list.give_up_each.Given as goal
 
 -- the turns that are still to come go on from those that were taken

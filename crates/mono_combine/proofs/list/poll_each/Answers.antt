@@ -1,7 +1,7 @@
 use Rattle.std.proofs.Common.{◌≡◌, ◌<◌, ◌∙◌, refl, sym, length, get_or, rules}
 use Rattle.std.proofs.lemmas.List.{length-set}
 use Rattle.mono_combine.specs.Branches.{Advances, is_waiting, MaybeGives}
-use Rattle.mono_combine.proofs.Lists.{turn_more, may_later, may_more, any_after, or_true, or_false, all_turns, polled_again, if_pending}
+use Rattle.mono_combine.proofs.ListLemmas.{turn_more, may_later, may_more, any_after, or_true, or_false, all_turns, polled_again, if_pending}
 use Rattle.mono_combine.proofs.GivesLemmas.{narrows_itself, narrows_set}
 use Rattle.mono_combine.proofs.list.poll_each.Goals as goal
 use Rattle.mono_combine.proofs.list.poll_each.Goals.{then-is_pending, else-is_pending}

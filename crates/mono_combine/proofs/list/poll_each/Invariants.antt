@@ -1,7 +1,7 @@
 use Rattle.std.proofs.Common.{◌≡◌, ◌++◌, List, length, take, drop}
 use Rattle.std.specs.List.{list_any, AllZip}
 use Rattle.mono_combine.specs.Branches.{Advances, is_waiting, MaybeNarrows}
-use Rattle.mono_combine.specs.Listed.{AllMayPoll, EachInTurn}
+use Rattle.mono_combine.specs.BranchLists.{AllMayPoll, EachInTurn}
 use Rattle.mono_combine.proofs.list.poll_each.Given as goal
 
 -- the turns that are still to come go on from those that were taken

@@ -1,6 +1,6 @@
 use Rattle.std.proofs.Common.{◌<◌, length, sym, ◌∙◌, rules}
 use Rattle.mono_combine.specs.Looks.{branch_spent}
-use Rattle.mono_combine.proofs.Scanning.{none_yet, one_found}
+use Rattle.mono_combine.proofs.ScanLemmas.{none_yet, one_found}
 use Rattle.mono_combine.proofs.row.any_branch_spent.Goals as goal
 
 pub loop-branch-preserved : goal.loop-branch-preserved

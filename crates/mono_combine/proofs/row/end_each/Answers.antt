@@ -1,7 +1,7 @@
 use Rattle.std.proofs.Common.{◌≡◌, ◌<◌, ◌∙◌, length, get_or, rules}
 use Rattle.std.proofs.lemmas.List.{length-set}
-use Rattle.mono_combine.specs.ListSelected.{BranchEnds}
-use Rattle.mono_combine.proofs.Lists.{turn_more, all_turns}
+use Rattle.mono_combine.specs.ListSelects.{BranchEnds}
+use Rattle.mono_combine.proofs.ListLemmas.{turn_more, all_turns}
 use Rattle.mono_combine.proofs.row.end_each.Goals as goal
 
 pub loop-i-preserved : goal.loop-i-preserved

@@ -1,6 +1,6 @@
 use Rattle.std.proofs.Common.{◌≡◌, ◌++◌, List, length, take, drop}
-use Rattle.mono_combine.specs.Listed.{EachInTurn}
-use Rattle.mono_combine.specs.ListSelected.{BranchEnds}
+use Rattle.mono_combine.specs.BranchLists.{EachInTurn}
+use Rattle.mono_combine.specs.ListSelects.{BranchEnds}
 use Rattle.mono_combine.proofs.row.end_each.Given as goal
 
 -- the turns that are still to come go on from those that were taken

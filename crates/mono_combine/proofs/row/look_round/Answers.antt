@@ -2,10 +2,10 @@ use Rattle.std.proofs.Common.{◌≡◌, ◌<◌, ◌∙◌, rules, refl, sym, l
 use Rattle.std.proofs.lemmas.List.{length-set}
 use Rattle.std.proofs.lemmas.List.Elements.{All-set}
 use Rattle.mono_combine.specs.Looks.{BranchGives}
-use Rattle.mono_combine.specs.ListSelected.{MayLook}
+use Rattle.mono_combine.specs.ListSelects.{MayLook}
 use Rattle.mono_combine.proofs.GivesLemmas.{narrows_itself, narrows_set, narrows_at}
-use Rattle.mono_combine.proofs.Lists.{or_true, or_false}
-use Rattle.mono_combine.proofs.Rounds.{begins, goes_on_at, passes_at, none_at_end}
+use Rattle.mono_combine.proofs.ListLemmas.{or_true, or_false}
+use Rattle.mono_combine.proofs.RoundLemmas.{begins, goes_on_at, passes_at, none_at_end}
 use Rattle.mono_combine.proofs.row.look_round.Goals as goal
 use Rattle.mono_combine.proofs.row.look_round.Goals.{in-Waits, in-Rests}
 

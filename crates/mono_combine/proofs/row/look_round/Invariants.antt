@@ -1,8 +1,8 @@
 use Rattle.std.proofs.Common.{◌≡◌, length}
 use Rattle.std.specs.List.{All, AllZip}
 use Rattle.mono_combine.specs.Looks.{BranchNarrows}
-use Rattle.mono_combine.specs.ListSelected.{MayLook}
-use Rattle.mono_combine.proofs.Rounds.{SoFar}
+use Rattle.mono_combine.specs.ListSelects.{MayLook}
+use Rattle.mono_combine.proofs.RoundLemmas.{SoFar}
 use Rattle.mono_combine.proofs.row.look_round.Given as goal
 
 -- the turns so far are those of a poll of which none has passed yet

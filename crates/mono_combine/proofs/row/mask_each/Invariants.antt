@@ -1,7 +1,7 @@
 use Rattle.std.proofs.Common.{◌≡◌, ◌≤◌, ◌+◌, ◌++◌}
 use Rattle.std.specs.Prelude.{vec_len, vec_capacity}
 use Rattle.std.specs.Vec.Iter.{into_iter_items, into_iter_len}
-use Rattle.mono_combine.specs.ListSelected.{masked_from}
+use Rattle.mono_combine.specs.ListSelects.{masked_from}
 use Rattle.mono_combine.proofs.row.mask_each.Given as goal
 
 abbrev pub invariant-loop-future : goal.invariant-loop-future

@@ -2,7 +2,7 @@ use Rattle.std.proofs.Common.{◌≡◌, ◌≤◌, ◌+◌, ◌++◌}
 use Rattle.std.specs.List.{filter_map}
 use Rattle.std.specs.Prelude.{vec_len, vec_capacity}
 use Rattle.std.specs.Vec.Iter.{into_iter_items, into_iter_len}
-use Rattle.mono_combine.specs.TryListed.{value_in}
+use Rattle.mono_combine.specs.TryLists.{value_in}
 use Rattle.mono_combine.proofs.try_list.collect_values.Given as goal
 
 abbrev pub invariant-loop-branch : goal.invariant-loop-branch

@@ -1,8 +1,8 @@
 use Rattle.std.proofs.Common.{◌≡◌, ◌<◌, ◌∙◌, length, get_or, rules}
 use Rattle.std.proofs.lemmas.List.{length-set}
-use Rattle.mono_combine.specs.Listed.{GivesUp}
-use Rattle.mono_combine.proofs.Lists.{turn_more, all_turns}
-use Rattle.mono_combine.proofs.Trying.{error_more}
+use Rattle.mono_combine.specs.BranchLists.{GivesUp}
+use Rattle.mono_combine.proofs.ListLemmas.{turn_more, all_turns}
+use Rattle.mono_combine.proofs.TryListLemmas.{error_more}
 use Rattle.mono_combine.proofs.try_list.give_up_failing.Goals as goal
 
 pub loop-i-preserved : goal.loop-i-preserved

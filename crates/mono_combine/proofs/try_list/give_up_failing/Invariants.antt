@@ -1,6 +1,6 @@
 use Rattle.std.proofs.Common.{◌≡◌, ◌++◌, List, length, take, drop}
-use Rattle.mono_combine.specs.Listed.{EachInTurn, GivesUp}
-use Rattle.mono_combine.specs.TryListed.{earlier, first_failure}
+use Rattle.mono_combine.specs.BranchLists.{EachInTurn, GivesUp}
+use Rattle.mono_combine.specs.TryLists.{earlier, first_failure}
 use Rattle.mono_combine.proofs.try_list.give_up_failing.Given as goal
 
 -- the turns that are still to come go on from those that were taken

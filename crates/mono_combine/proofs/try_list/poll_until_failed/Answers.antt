@@ -1,9 +1,9 @@
 use Rattle.std.proofs.Common.{◌≡◌, ◌<◌, ◌∙◌, false, refl, sym, length, get_or, rules}
 use Rattle.std.proofs.lemmas.List.{length-set}
 use Rattle.mono_combine.specs.Branches.{MaybeGives}
-use Rattle.mono_combine.specs.TryListed.{TriesOnce, has_failed}
-use Rattle.mono_combine.proofs.Lists.{turn_more, may_later, may_more, all_turns, polled_again, if_pending}
-use Rattle.mono_combine.proofs.Trying.{tested, none_more, ends_here, all_may, one_now}
+use Rattle.mono_combine.specs.TryLists.{TriesOnce, has_failed}
+use Rattle.mono_combine.proofs.ListLemmas.{turn_more, may_later, may_more, all_turns, polled_again, if_pending}
+use Rattle.mono_combine.proofs.TryListLemmas.{tested, none_more, ends_here, all_may, one_now}
 use Rattle.mono_combine.proofs.GivesLemmas.{narrows_itself, narrows_set}
 use Rattle.mono_combine.proofs.try_list.poll_until_failed.Goals as goal
 

@@ -1,8 +1,8 @@
 use Rattle.std.proofs.Common.{◌≡◌, ◌++◌, false, List, length, take, drop}
 use Rattle.std.specs.List.{list_any, AllZip}
 use Rattle.mono_combine.specs.Branches.{MaybeNarrows}
-use Rattle.mono_combine.specs.Listed.{AllMayPoll, EachInTurn}
-use Rattle.mono_combine.specs.TryListed.{TriesOnce, has_failed}
+use Rattle.mono_combine.specs.BranchLists.{AllMayPoll, EachInTurn}
+use Rattle.mono_combine.specs.TryLists.{TriesOnce, has_failed}
 use Rattle.mono_combine.proofs.try_list.poll_until_failed.Given as goal
 
 -- the turns that are still to come go on from those that were taken, of which none has failed

@@ -1,5 +1,5 @@
 use Rattle.std.proofs.Common.{◌<◌, length, sym, ◌∙◌, rules}
-use Rattle.mono_combine.proofs.Scanning.{none_yet, one_found}
+use Rattle.mono_combine.proofs.ScanLemmas.{none_yet, one_found}
 use Rattle.mono_forms.proofs.race_lists.any_spent.Goals as goal
 
 pub loop-future-preserved : goal.loop-future-preserved

@@ -1,7 +1,7 @@
 use Rattle.std.proofs.Common.{◌≡◌, ◌<◌, ◌∙◌, refl, length, get_or, rules}
 use Rattle.std.proofs.lemmas.List.{length-set}
 use Rattle.std.proofs.lemmas.List.Elements.{All-set}
-use Rattle.mono_combine.proofs.Lists.{turn_more, all_turns}
+use Rattle.mono_combine.proofs.ListLemmas.{turn_more, all_turns}
 use Rattle.mono_forms.specs.Parts.{MayPoll}
 use Rattle.mono_forms.specs.RaceLists.{RacesOnce}
 use Rattle.mono_forms.proofs.RaceListLemmas.{gives_at, gives_set, ends_here}

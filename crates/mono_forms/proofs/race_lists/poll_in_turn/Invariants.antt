@@ -1,6 +1,6 @@
 use Rattle.std.proofs.Common.{◌≡◌, ◌++◌, None, List, length, take, drop}
 use Rattle.std.specs.List.{All}
-use Rattle.mono_combine.specs.Listed.{EachInTurn}
+use Rattle.mono_combine.specs.BranchLists.{EachInTurn}
 use Rattle.mono_forms.specs.Parts.{MayPoll}
 use Rattle.mono_forms.specs.RaceLists.{RacesOnce, OneGives}
 use Rattle.mono_forms.proofs.race_lists.poll_in_turn.Given as goal

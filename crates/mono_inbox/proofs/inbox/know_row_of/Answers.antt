@@ -1,6 +1,6 @@
 use Rattle.std.proofs.Common.{refl, arith}
 use Rattle.mono_inbox.specs.State.{is_known}
-use Rattle.mono_inbox.proofs.Rows.{row_start}
+use Rattle.mono_inbox.proofs.RowLemmas.{row_start}
 use Rattle.mono_inbox.proofs.inbox.know_row_of.Goals as goal
 
 pub loop-next-init : goal.loop-next-init

@@ -2,7 +2,7 @@ use Rattle.std.proofs.Common.{ap, sym, ◌∙◌, arith}
 use Rattle.std.specs.Prelude.{◌&&◌, not}
 use Rattle.mono_model.specs.Inbox.{is_waiting}
 use Rattle.mono_inbox.specs.State.{is_known}
-use Rattle.mono_inbox.proofs.Rows.{forgets_row, none_left}
+use Rattle.mono_inbox.proofs.RowLemmas.{forgets_row, none_left}
 use Rattle.mono_inbox.proofs.inbox.retire_all_of.Goals as goal
 
 pub loop-at-preserved : goal.loop-at-preserved

@@ -1,7 +1,7 @@
 use Rattle.std.proofs.Common.{◌≡◌, ◌+◌, refl, ap, ◌∙◌, arith}
 use Rattle.std.specs.Prelude.{◌&&◌, not}
 use Rattle.mono_inbox.specs.State.{is_known, in_row}
-use Rattle.mono_inbox.proofs.Rows.{row_empty, row_rest}
+use Rattle.mono_inbox.proofs.RowLemmas.{row_empty, row_rest}
 use Rattle.mono_inbox.proofs.inbox.retire_row_of.Goals as goal
 
 pub loop-done-init : goal.loop-done-init

@@ -1,6 +1,6 @@
 use Rattle.std.proofs.Common.{◌≡◌, ◌+◌, ◌-◌, arith}
 use Rattle.std.specs.Prelude.{slice_index_or}
-use Rattle.mono_inbox.proofs.Rows.{row_alone, row_longer}
+use Rattle.mono_inbox.proofs.RowLemmas.{row_alone, row_longer}
 use Rattle.mono_inbox.proofs.inbox.row_length.Goals as goal
 
 pub loop-next-init : goal.loop-next-init

@@ -2,7 +2,7 @@ use Rattle.std.proofs.Common.{◌<◌, ◌+◌, length, get_or, refl, ap, ◌∙
 use Rattle.std.specs.Prelude.{slice_set}
 use Rattle.mono_inbox.specs.declared.standings.Standing.TheVariants.{Unknown}
 use Rattle.mono_inbox.specs.Standings.{without_row}
-use Rattle.mono_inbox.proofs.Forgetting.{length-without, without_more, known_more}
+use Rattle.mono_inbox.proofs.RowRemovalLemmas.{length-without, without_more, known_more}
 use Rattle.mono_inbox.proofs.pages.clear_known.Goals as goal
 
 pub loop-row-init : goal.loop-row-init

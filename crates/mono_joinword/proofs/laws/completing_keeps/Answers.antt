@@ -1,4 +1,4 @@
-use Rattle.mono_joinword.proofs.Follows.{completing}
+use Rattle.mono_joinword.proofs.LawLemmas.{completing}
 use Rattle.mono_joinword.proofs.laws.completing_keeps.Goals as goal
 
 pub returns : goal.returns

@@ -1,4 +1,4 @@
-use Rattle.mono_joinword.proofs.Follows.{peeking, looking, clearing, placing, cancelling, trying}
+use Rattle.mono_joinword.proofs.LawLemmas.{peeking, looking, clearing, placing, cancelling, trying}
 use Rattle.mono_joinword.proofs.laws.joining_keeps.Goals as goal
 
 pub returns-clause-peeking : goal.returns-clause-peeking

@@ -1,4 +1,4 @@
-use Rattle.mono_joinword.proofs.Follows.{making}
+use Rattle.mono_joinword.proofs.LawLemmas.{making}
 use Rattle.mono_joinword.proofs.laws.making_keeps.Goals as goal
 
 pub returns : goal.returns

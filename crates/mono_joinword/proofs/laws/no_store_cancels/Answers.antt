@@ -1,4 +1,4 @@
-use Rattle.mono_joinword.proofs.Follows.{no_store}
+use Rattle.mono_joinword.proofs.LawLemmas.{no_store}
 use Rattle.mono_joinword.proofs.laws.no_store_cancels.Goals as goal
 
 pub returns : goal.returns

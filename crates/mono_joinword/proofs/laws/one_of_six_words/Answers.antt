@@ -1,4 +1,4 @@
-use Rattle.mono_joinword.proofs.Follows.{six_words}
+use Rattle.mono_joinword.proofs.LawLemmas.{six_words}
 use Rattle.mono_joinword.proofs.laws.one_of_six_words.Goals as goal
 
 pub returns : goal.returns

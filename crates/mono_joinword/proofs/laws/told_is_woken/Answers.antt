@@ -1,4 +1,4 @@
-use Rattle.mono_joinword.proofs.Follows.{told_is_woken}
+use Rattle.mono_joinword.proofs.LawLemmas.{told_is_woken}
 use Rattle.mono_joinword.proofs.laws.told_is_woken.Goals as goal
 
 pub returns : goal.returns

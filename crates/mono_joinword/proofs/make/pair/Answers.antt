@@ -1,7 +1,7 @@
 use Rattle.std.proofs.Common.{rules, true, false, [], sym, ap, ◌∙◌}
 use Rattle.mono_joinword.specs.declared.views.View.TheVariants.{Maker}
 use Rattle.mono_joinword.specs.Steps.{number_in}
-use Rattle.mono_joinword.proofs.RunnerSteps.{claim_step, split_as}
+use Rattle.mono_joinword.proofs.RunnerStepLemmas.{claim_step, split_as}
 use Rattle.mono_joinword.proofs.make.pair.Goals as goal
 
 pub load-requires : goal.load-requires

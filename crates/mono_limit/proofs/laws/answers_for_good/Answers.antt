@@ -2,7 +2,7 @@ use Rattle.std.proofs.Common.{refl}
 use Rattle.std.specs.Prelude.{Err}
 use Rattle.mono_model.specs.declared.poll.Poll.TheVariants.{Ready}
 use Rattle.mono_limit.specs.declared.RetryError.TheVariants.{Last}
-use Rattle.mono_limit.proofs.Ended.{is_ended}
+use Rattle.mono_limit.proofs.SpentRetryLemmas.{is_ended}
 use Rattle.mono_limit.proofs.laws.answers_for_good.Goals as goal
 
 pub returns-clause-spent : goal.returns-clause-spent

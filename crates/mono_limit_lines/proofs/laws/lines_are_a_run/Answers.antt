@@ -1,4 +1,4 @@
-use Rattle.mono_limit_lines.proofs.Running.{run_of}
+use Rattle.mono_limit_lines.proofs.RunLemmas.{run_of}
 use Rattle.mono_limit_lines.proofs.laws.lines_are_a_run.Goals as goal
 
 pub returns : goal.returns

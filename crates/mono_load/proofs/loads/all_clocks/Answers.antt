@@ -3,7 +3,7 @@ use Rattle.mono_machine.specs.declared.events.Event.TheVariants as event
 use Rattle.mono_machine.specs.declared.events.Act.TheVariants as act
 use Rattle.mono_combine.specs.Random.{seeded, drawn, after_draw}
 use Rattle.mono_load.specs.Load.{Goes, GoesOn, sleep_turn, sleepers, clocks, endings}
-use Rattle.mono_load.proofs.Going.{first_then, stay, one_less, none_left, summed}
+use Rattle.mono_load.proofs.ProgressLemmas.{first_then, stay, one_less, none_left, summed}
 use Rattle.mono_load.proofs.loads.all_clocks.Goals as goal
 
 pub clocks-preserved : goal.clocks-preserved

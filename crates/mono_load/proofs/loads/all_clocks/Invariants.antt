@@ -1,5 +1,5 @@
 use Rattle.std.proofs.Common.{◌-◌, ◌≤◌}
-use Rattle.mono_exec.specs.declared.executor.Exec.{Exec}
+use Rattle.mono_replay.specs.declared.executor.Exec.{Exec}
 use Rattle.mono_load.specs.Load.{Goes, clocks}
 use Rattle.mono_load.specs.declared.tallies.Tally.{Tally}
 use Rattle.mono_load.proofs.loads.all_clocks.Given as goal

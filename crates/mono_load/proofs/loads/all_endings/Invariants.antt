@@ -1,4 +1,4 @@
-use Rattle.mono_exec.specs.declared.executor.Exec.{Exec}
+use Rattle.mono_replay.specs.declared.executor.Exec.{Exec}
 use Rattle.mono_load.specs.Load.{Goes, endings}
 use Rattle.mono_load.specs.declared.tallies.Tally.{Tally}
 use Rattle.mono_load.proofs.loads.all_endings.Given as goal

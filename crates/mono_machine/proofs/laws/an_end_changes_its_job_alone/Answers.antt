@@ -1,4 +1,4 @@
-use Rattle.mono_machine.proofs.EndingAlone as law
+use Rattle.mono_machine.proofs.JobEndLemmas as law
 use Rattle.mono_machine.proofs.laws.an_end_changes_its_job_alone.Goals as goal
 
 pub returns : goal.returns

@@ -1,4 +1,4 @@
-use Rattle.mono_machine.proofs.Finished.{over_runs}
+use Rattle.mono_machine.proofs.FinishedTaskLemmas.{over_runs}
 use Rattle.mono_machine.proofs.laws.finished_has_no_turn.Goals as goal
 
 pub returns : goal.returns

@@ -1,4 +1,4 @@
-use Rattle.mono_machine.proofs.Causes.{no_turn_without_cause}
+use Rattle.mono_machine.proofs.CauseLemmas.{no_turn_without_cause}
 use Rattle.mono_machine.proofs.laws.no_turn_without_cause.Goals as goal
 
 pub returns : goal.returns

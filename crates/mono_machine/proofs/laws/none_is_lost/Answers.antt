@@ -1,4 +1,4 @@
-use Rattle.mono_machine.proofs.Awaiting.{none_lost}
+use Rattle.mono_machine.proofs.WakeLemmas.{none_lost}
 use Rattle.mono_machine.proofs.laws.none_is_lost.Goals as goal
 
 pub returns : goal.returns

@@ -1,4 +1,4 @@
-use Rattle.mono_machine.proofs.ValidSteps.{step_is_valid}
+use Rattle.mono_machine.proofs.ValidStepLemmas.{step_is_valid}
 use Rattle.mono_machine.proofs.laws.stays_valid.Goals as goal
 
 pub returns : goal.returns

@@ -1,4 +1,4 @@
-use Rattle.mono_machine.proofs.Awaiting.{wake_kept}
+use Rattle.mono_machine.proofs.WakeLemmas.{wake_kept}
 use Rattle.mono_machine.proofs.laws.wakes_are_kept.Goals as goal
 
 pub returns : goal.returns

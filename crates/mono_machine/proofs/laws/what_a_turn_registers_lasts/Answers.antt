@@ -1,4 +1,4 @@
-use Rattle.mono_machine.proofs.Watching.{registered_lasts, rests_watched}
+use Rattle.mono_machine.proofs.WatchLemmas.{registered_lasts, rests_watched}
 use Rattle.mono_machine.proofs.laws.what_a_turn_registers_lasts.Goals as goal
 
 pub returns-clause-lasts : goal.returns-clause-lasts

@@ -1,4 +1,4 @@
-use Rattle.mono_machine.proofs.Watching.{held_stays, held_waits}
+use Rattle.mono_machine.proofs.WatchLemmas.{held_stays, held_waits}
 use Rattle.mono_machine.proofs.laws.what_is_held_stays.Goals as goal
 
 pub returns-clause-stays : goal.returns-clause-stays

@@ -1,6 +1,6 @@
 use Rattle.std.proofs.Common.{ap, ◌∙◌}
 use Rattle.mono_model.specs.Table.{value_at}
-use Rattle.mono_nest.proofs.Nesting.{nest_ends, end_gone}
+use Rattle.mono_nest.proofs.NestPollLemmas.{nest_ends, end_gone}
 use Rattle.mono_nest.proofs.laws.nest_ends.Goals as goal
 
 pub returns : goal.returns

@@ -1,4 +1,4 @@
-use Rattle.mono_nest.proofs.Nesting.{nest_waits}
+use Rattle.mono_nest.proofs.NestPollLemmas.{nest_waits}
 use Rattle.mono_nest.proofs.laws.nest_waits.Goals as goal
 
 pub returns : goal.returns

@@ -1,14 +1,14 @@
 use Rattle.std.proofs.Common.{[], subst}
 use Rattle.std.specs.Prelude.{⊤}
 use Rattle.mono_machine.specs.Machine.{Machine, start_machine}
-use Rattle.mono_jobs.specs.Spawning.{strategy_of}
-use Rattle.mono_parts.specs.Numbered.{answer_numbered}
-use Rattle.mono_parts.specs.Rounds.{Blocked}
-use Rattle.mono_parts.proofs.Going.{goes_of, run_of, registers_of}
-use Rattle.mono_parts.proofs.Doing.{relation_of}
-use Rattle.mono_parts.specs.Telling.{IsTold, telling}
-use Rattle.mono_parts.proofs.Telling.{told_in}
-use Rattle.mono_rt.proofs.Filling.{one_long}
+use Rattle.mono_blocking.specs.JobSpawns.{strategy_of}
+use Rattle.mono_rt.specs.Numbering.{answer_numbered}
+use Rattle.mono_rt.specs.Rounds.{Blocked}
+use Rattle.mono_rt.proofs.JournalLemmas.{goes_of, run_of, registers_of}
+use Rattle.mono_rt.proofs.RoundLemmas.{relation_of}
+use Rattle.mono_rt.specs.DriverReadings.{IsTold, telling}
+use Rattle.mono_rt.proofs.DriverLemmas.{told_in}
+use Rattle.mono_rt.proofs.JournalRoomLemmas.{one_long}
 use Rattle.mono_rt.proofs.alone.run_alone.Goals as goal
 
 pub returns : goal.returns

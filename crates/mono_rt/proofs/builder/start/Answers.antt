@@ -1,7 +1,7 @@
 use Rattle.std.proofs.Common.{refl, ap, subst, ◌∙◌}
 use Rattle.mono_machine.specs.Machine.{start_machine}
-use Rattle.mono_jobs.specs.Spawning.{strategy_of}
-use Rattle.mono_parts.specs.Telling.{telling}
+use Rattle.mono_blocking.specs.JobSpawns.{strategy_of}
+use Rattle.mono_rt.specs.DriverReadings.{telling}
 use Rattle.mono_rt.specs.Starts.{RunsFrom}
 use Rattle.mono_rt.proofs.StartLemmas.{none_made, runs_from}
 use Rattle.mono_rt.proofs.builder.start.Goals as goal

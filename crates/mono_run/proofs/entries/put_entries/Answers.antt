@@ -1,4 +1,4 @@
-use Rattle.mono_run.proofs.Listed.{entry_written}
+use Rattle.mono_run.proofs.JournalTextLemmas.{entry_written}
 use Rattle.mono_run.proofs.entries.put_entries.Goals as goal
 
 pub entries-preserved : goal.entries-preserved

@@ -1,7 +1,7 @@
 use Rattle.std.proofs.Common.{◌≡◌, ◌++◌, flat_map, map}
-use Rattle.mono_scripts.specs.Journal.{entry_line}
-use Rattle.mono_run.specs.Told.{told}
-use Rattle.mono_run.proofs.Listed.{left_of}
+use Rattle.mono_run.specs.Journal.{entry_line}
+use Rattle.mono_run.specs.RunRecord.{told}
+use Rattle.mono_run.proofs.JournalTextLemmas.{left_of}
 use Rattle.mono_run.proofs.entries.put_entries.Given as goal
 
 abbrev pub invariant-entries : goal.invariant-entries

@@ -1,4 +1,4 @@
-use Rattle.mono_run.proofs.Places.{full_at}
+use Rattle.mono_run.proofs.MainPlaceLemmas.{full_at}
 use Rattle.mono_run.proofs.laws.only_a_limit_of_none_has_no_place.Goals as goal
 
 pub returns : goal.returns

@@ -1,18 +1,18 @@
 use Rattle.std.proofs.Common.{◌≡◌, ℕ, false, true, [], length, IfOk, refl, sym, ap, subst, ◌∙◌}
 use Rattle.mono_machine.specs.Machine.{Machine, start_machine}
 use Rattle.mono_machine.specs.declared.events.Blocking.TheVariants as strategy
-use Rattle.mono_parts.specs.Numbered.{answer_numbered}
-use Rattle.mono_parts.specs.Rounds.{Blocked}
-use Rattle.mono_parts.proofs.Doing.{relation_of}
-use Rattle.mono_parts.specs.Telling.{telling, IsTold}
-use Rattle.mono_parts.proofs.Telling.{told_in}
-use Rattle.mono_script_task.specs.Driving.{readings_of, time_of, parks_of}
-use Rattle.mono_rt.specs.Polling.{PollsMain, OnMain}
-use Rattle.mono_rt.proofs.Polling.{on_main}
-use Rattle.mono_scripts.specs.Script.{Script, IsSound}
-use Rattle.mono_script_task.specs.Turning.{no_own}
-use Rattle.mono_run.specs.Told.{Ran, RunsScript, RanBy, told_first}
-use Rattle.mono_run.proofs.Blocking.{told_ran, told_reads, told_driven, driven_does}
+use Rattle.mono_rt.specs.Numbering.{answer_numbered}
+use Rattle.mono_rt.specs.Rounds.{Blocked}
+use Rattle.mono_rt.proofs.RoundLemmas.{relation_of}
+use Rattle.mono_rt.specs.DriverReadings.{telling, IsTold}
+use Rattle.mono_rt.proofs.DriverLemmas.{told_in}
+use Rattle.mono_run.specs.ScriptDrivers.{readings_of, time_of, parks_of}
+use Rattle.mono_rt.specs.FuturePolls.{PollsMain, OnMain}
+use Rattle.mono_rt.proofs.FuturePollLemmas.{on_main}
+use Rattle.mono_run.specs.Script.{Script, IsSound}
+use Rattle.mono_run.specs.TaskPolls.{no_own}
+use Rattle.mono_run.specs.RunRecord.{Ran, RunsScript, RanBy, told_first}
+use Rattle.mono_run.proofs.BlockOnLemmas.{told_ran, told_reads, told_driven, driven_does}
 use Rattle.mono_run.proofs.runs.run_script.Goals as goal
 
 pub returns-clause-ran : goal.returns-clause-ran

@@ -1,13 +1,13 @@
 use Rattle.std.proofs.Common.{subst, sym, ◌∙◌, map, string_bytes}
-use Rattle.mono_text.specs.Outside.{HasRisen}
-use Rattle.mono_script.specs.Ending.{Ends, IsRead, Asks}
+use Rattle.mono_text.specs.Environment.{HasRisen}
+use Rattle.mono_script.specs.Endings.{Ends, IsRead, Asks}
 use Rattle.mono_script.specs.Meanings.{meaning}
 use Rattle.mono_script.specs.declared.command.Command.TheVariants as command
 use Rattle.mono_script.specs.declared.ends.Status.TheVariants as status
-use Rattle.mono_script.proofs.Numbers.{status_once}
-use Rattle.mono_script.proofs.Commands.{command_once}
-use Rattle.mono_script.proofs.Places.{full_where}
-use Rattle.mono_script.proofs.Statuses.{says, sound, done, turns, capacity, not_a_run, bad_line, write_fault, long_where, bad_where, completed, no_usage, rose_in_reading, rose_in_writing}
+use Rattle.mono_script.proofs.NumberLemmas.{status_once}
+use Rattle.mono_script.proofs.CommandLemmas.{command_once}
+use Rattle.mono_script.proofs.MainPlaceLemmas.{full_where}
+use Rattle.mono_script.proofs.StatusLemmas.{says, sound, done, turns, capacity, not_a_run, bad_line, write_fault, long_where, bad_where, completed, no_usage, rose_in_reading, rose_in_writing}
 use Rattle.mono_script.proofs.top.program.Goals as goal
 
 pub returns-in-Some-clause-done : goal.returns-in-Some-clause-done

@@ -1,7 +1,7 @@
 use Rattle.mono_model.specs.Ticks.{up}
 use Rattle.mono_time.specs.Instants.{nanos_of}
 use Rattle.mono_time.specs.Timers.{sleeps_of}
-use Rattle.mono_session.proofs.Timed.{arms}
+use Rattle.mono_session.proofs.SessionSleepLemmas.{arms}
 use Rattle.mono_session.proofs.deadlines.add_armed.Goals as goal
 
 pub returns-clause-armed : goal.returns-clause-armed

@@ -1,4 +1,4 @@
-use Rattle.mono_session.proofs.Told as law
+use Rattle.mono_session.proofs.CallHistoryLemmas as law
 use Rattle.mono_session.proofs.laws.queues_are_told.Goals as goal
 
 pub returns : goal.returns

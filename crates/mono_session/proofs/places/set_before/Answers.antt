@@ -3,7 +3,7 @@ use Rattle.std.specs.Option.{IsSome}
 use Rattle.std.specs.HashMap.{get}
 use Rattle.mono_session.specs.Links.{pair_eq, with_before}
 use Rattle.mono_session.specs.declared.places.Place.{Place}
-use Rattle.mono_session.proofs.Chains.{changed_here}
+use Rattle.mono_session.proofs.ChainLemmas.{changed_here}
 use Rattle.mono_session.proofs.places.set_before.Goals as goal
 
 pub returns-in-Some-clause-places : goal.returns-in-Some-clause-places

@@ -1,4 +1,4 @@
-use Rattle.mono_stream.proofs.Given.{chains}
+use Rattle.mono_stream.proofs.ItemLemmas.{chains}
 use Rattle.mono_stream.proofs.laws.chains_each_item.Goals as goal
 
 pub returns : goal.returns

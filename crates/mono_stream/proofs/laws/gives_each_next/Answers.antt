@@ -1,4 +1,4 @@
-use Rattle.mono_stream.proofs.Given.{nexts}
+use Rattle.mono_stream.proofs.ItemLemmas.{nexts}
 use Rattle.mono_stream.proofs.laws.gives_each_next.Goals as goal
 
 pub returns : goal.returns

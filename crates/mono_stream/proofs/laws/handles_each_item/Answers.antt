@@ -1,4 +1,4 @@
-use Rattle.mono_stream.proofs.Given.{handles}
+use Rattle.mono_stream.proofs.ItemLemmas.{handles}
 use Rattle.mono_stream.proofs.laws.handles_each_item.Goals as goal
 
 pub returns : goal.returns

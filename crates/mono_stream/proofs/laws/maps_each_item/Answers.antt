@@ -1,4 +1,4 @@
-use Rattle.mono_stream.proofs.Given.{maps}
+use Rattle.mono_stream.proofs.ItemLemmas.{maps}
 use Rattle.mono_stream.proofs.laws.maps_each_item.Goals as goal
 
 pub returns : goal.returns

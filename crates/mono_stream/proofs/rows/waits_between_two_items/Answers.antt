@@ -1,4 +1,4 @@
-use Rattle.mono_stream.proofs.Worked.{all, some, nothing_else}
+use Rattle.mono_stream.proofs.ExampleLemmas.{all, some, nothing_else}
 use Rattle.mono_stream.proofs.rows.waits_between_two_items.Goals as goal
 
 pub returns-clause-all : goal.returns-clause-all

@@ -1,5 +1,5 @@
 use Rattle.std.proofs.Common.{rules}
-use Rattle.mono_text.specs.Outside.{HasWritten, HasWrittenPrefix}
+use Rattle.mono_text.specs.Environment.{HasWritten, HasWrittenPrefix}
 use Rattle.mono_text.proofs.FollowLemmas.{from_empty}
 use Rattle.mono_text.proofs.followers.answer_block.Goals as goal
 

@@ -1,5 +1,5 @@
 use Rattle.std.proofs.Common.{sym}
-use Rattle.mono_text.specs.Serving.{StartsWith}
+use Rattle.mono_text.specs.Services.{StartsWith}
 use Rattle.mono_text.proofs.FollowLemmas.{not_advanced, advanced}
 use Rattle.mono_text.proofs.followers.answer_ready.Goals as goal
 

@@ -1,5 +1,5 @@
 use Rattle.std.proofs.Common.{◌≡◌, length}
-use Rattle.mono_text.specs.Following.{Advances}
+use Rattle.mono_text.specs.Follows.{Advances}
 use Rattle.mono_text.proofs.followers.answer_ready.Given as goal
 
 abbrev pub invariant-lines : goal.invariant-lines

@@ -1,5 +1,5 @@
 use Rattle.std.proofs.Common.{◌≡◌, ◌<◌, ◌++◌, None, Some, length, take, rules}
-use Rattle.mono_text.specs.Following.{Answered, end_of}
+use Rattle.mono_text.specs.Follows.{Answered, end_of}
 use Rattle.mono_text.specs.declared.followers.FollowEnd.TheVariants as end
 use Rattle.mono_text.proofs.FollowLemmas.{standing, unread, at_end, after_read, grown, failed, ended_in, goes_on}
 use Rattle.mono_text.proofs.followers.follow_through.Goals as goal

@@ -1,5 +1,5 @@
 use Rattle.std.proofs.Common.{◌<◌, length}
-use Rattle.mono_text.specs.Serving.{HasNoFeed}
+use Rattle.mono_text.specs.Services.{HasNoFeed}
 use Rattle.mono_text.proofs.FollowLemmas.{Standing}
 use Rattle.mono_text.proofs.followers.follow_through.Given as goal
 

@@ -1,4 +1,4 @@
-use Rattle.mono_text.proofs.Lined.{not_both}
+use Rattle.mono_text.proofs.InputLineLemmas.{not_both}
 use Rattle.mono_text.proofs.laws.one_answer.Goals as goal
 
 pub returns : goal.returns

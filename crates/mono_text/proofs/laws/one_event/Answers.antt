@@ -1,4 +1,4 @@
-use Rattle.mono_text.proofs.Spelled.{one_event}
+use Rattle.mono_text.proofs.SpellingLemmas.{one_event}
 use Rattle.mono_text.proofs.laws.one_event.Goals as goal
 
 pub returns : goal.returns

@@ -1,5 +1,5 @@
 use Rattle.std.proofs.Common.{◌+◌, decimal, ◌∙◌, arith}
-use Rattle.mono_text.proofs.Counted.{front_kept}
+use Rattle.mono_text.proofs.DigitCountLemmas.{front_kept}
 use Rattle.mono_text.proofs.printer.front_and_number.Goals as goal
 
 pub returns : goal.returns

@@ -1,5 +1,5 @@
 use Rattle.std.proofs.Common.{arith}
-use Rattle.mono_text.proofs.Counted.{eight_more, twelve_more, sixteen_more}
+use Rattle.mono_text.proofs.DigitCountLemmas.{eight_more, twelve_more, sixteen_more}
 use Rattle.mono_text.proofs.printer.long_count.Goals as goal
 
 pub returns-then-n-lt1000000000000-clause-count : goal.returns-then-n-lt1000000000000-clause-count

@@ -1,6 +1,6 @@
 use Rattle.std.proofs.Common.{◌≡◌, ◌++◌, get_or, rules}
-use Rattle.mono_text.specs.Written.{number_part}
-use Rattle.mono_text.proofs.Listing.{item_written, all_written}
+use Rattle.mono_text.specs.LineText.{number_part}
+use Rattle.mono_text.proofs.ListTextLemmas.{item_written, all_written}
 use Rattle.mono_text.proofs.printer.numbers.Goals as goal
 
 pub loop-item-preserved : goal.loop-item-preserved

@@ -1,5 +1,5 @@
 use Rattle.std.proofs.Common.{◌≡◌, ◌++◌, flat_map, drop}
-use Rattle.mono_text.specs.Written.{number_part}
+use Rattle.mono_text.specs.LineText.{number_part}
 use Rattle.mono_text.proofs.printer.numbers.Given as goal
 
 abbrev pub invariant-loop-item : goal.invariant-loop-item

@@ -1,6 +1,6 @@
 use Rattle.std.proofs.Common.{◌+◌, ◌++◌, ◌∷◌, [], take, ap, ◌∙◌, append_assoc, arith}
-use Rattle.mono_text.specs.Written.{any_number}
-use Rattle.mono_text.proofs.Counted.{front_kept}
+use Rattle.mono_text.specs.LineText.{any_number}
+use Rattle.mono_text.proofs.DigitCountLemmas.{front_kept}
 use Rattle.mono_text.proofs.printer.put_closed.Goals as goal
 
 pub returns : goal.returns

@@ -1,5 +1,5 @@
-use Rattle.mono_text.specs.Written.{reply_part}
-use Rattle.mono_text.proofs.Listing.{item_written, all_written}
+use Rattle.mono_text.specs.LineText.{reply_part}
+use Rattle.mono_text.proofs.ListTextLemmas.{item_written, all_written}
 use Rattle.mono_text.proofs.printer.replies.Goals as goal
 
 pub loop-item-preserved : goal.loop-item-preserved

@@ -1,6 +1,6 @@
 use Rattle.std.proofs.Common.{arith}
 use Rattle.itoa.proofs.Decimal.{length_one, length_two}
-use Rattle.mono_text.proofs.Counted.{three_digits, four_digits}
+use Rattle.mono_text.proofs.DigitCountLemmas.{three_digits, four_digits}
 use Rattle.mono_text.proofs.printer.short_count.Goals as goal
 
 pub returns-then-n-lt10-clause-count : goal.returns-then-n-lt10-clause-count

@@ -1,5 +1,5 @@
 use Rattle.std.proofs.Common.{◌≡◌, ◌+◌, ◌++◌, take, drop, decimal, ap, ◌∙◌, arith}
-use Rattle.mono_text.proofs.Counted.{of_slice, written_over}
+use Rattle.mono_text.proofs.DigitCountLemmas.{of_slice, written_over}
 use Rattle.mono_text.proofs.printer.write_number.Goals as goal
 
 pub returns-clause-written : goal.returns-clause-written

@@ -1,6 +1,6 @@
 use Rattle.std.proofs.Common.{arith, refl, ◌∙◌}
 use Rattle.std.proofs.lemmas.Bool.{ne_eqb}
-use Rattle.mono_text.proofs.Words.{word_short, word_goes_on, word_ends, word_through}
+use Rattle.mono_text.proofs.PrefixLemmas.{word_short, word_goes_on, word_ends, word_through}
 use Rattle.mono_text.proofs.reader.begins_with.Goals as goal
 
 pub returns-then-text-word-clause-cut : goal.returns-then-text-word-clause-cut

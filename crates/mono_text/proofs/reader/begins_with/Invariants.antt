@@ -1,5 +1,5 @@
 use Rattle.std.proofs.Common.{◌≡◌, drop}
-use Rattle.mono_text.specs.Reading.{word_at}
+use Rattle.mono_text.specs.Parser.{word_at}
 use Rattle.mono_text.proofs.reader.begins_with.Given as goal
 
 abbrev pub invariant-bytes : goal.invariant-bytes

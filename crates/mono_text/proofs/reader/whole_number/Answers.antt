@@ -1,6 +1,6 @@
 use Rattle.std.proofs.Common.{◌≡◌, ◌<◌, None, Some, length, rules}
-use Rattle.mono_text.specs.Reading.{number_at}
-use Rattle.mono_text.proofs.Numbers.{if_none, whole, no_number, not_whole}
+use Rattle.mono_text.specs.Parser.{number_at}
+use Rattle.mono_text.proofs.NumberLemmas.{if_none, whole, no_number, not_whole}
 use Rattle.mono_text.proofs.reader.whole_number.Goals as goal
 
 pub returns-in_err-n-clause-none : goal.returns-in_err-n-clause-none

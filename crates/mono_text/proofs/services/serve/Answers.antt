@@ -1,6 +1,6 @@
 use Rattle.std.proofs.Common.{◌<◌, ◌≡◌, length, rules}
-use Rattle.mono_text.specs.Serving.{StartsWith, StartsWithNone}
-use Rattle.mono_text.proofs.Serving.{started, one_more, all_served, first_wrong}
+use Rattle.mono_text.specs.Services.{StartsWith, StartsWithNone}
+use Rattle.mono_text.proofs.ServiceLemmas.{started, one_more, all_served, first_wrong}
 use Rattle.mono_text.proofs.services.serve.Goals as goal
 
 pub lines-init : goal.lines-init

@@ -1,5 +1,5 @@
 use Rattle.std.proofs.Common.{length}
-use Rattle.mono_text.proofs.Serving.{Progress}
+use Rattle.mono_text.proofs.ServiceLemmas.{Progress}
 use Rattle.mono_text.proofs.services.serve.Given as goal
 
 abbrev pub invariant-lines : goal.invariant-lines

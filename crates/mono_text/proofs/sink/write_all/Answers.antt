@@ -1,6 +1,6 @@
 use Rattle.std.proofs.Common.{arith}
 use Rattle.std.proofs.Common.{length-drop, ◌≤◌, ◌∙◌, length, drop}
-use Rattle.mono_text.proofs.Outside.{write_on}
+use Rattle.mono_text.proofs.EnvironmentLemmas.{write_on}
 use Rattle.mono_text.proofs.sink.write_all.Goals as goal
 
 pub loop-done-preserved : goal.loop-done-preserved

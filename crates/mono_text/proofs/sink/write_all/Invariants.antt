@@ -1,5 +1,5 @@
 use Rattle.std.proofs.Common.{◌≡◌, length, take, ◌-◌, ◌≤◌}
-use Rattle.mono_text.specs.Outside.{HasWritten}
+use Rattle.mono_text.specs.Environment.{HasWritten}
 use Rattle.mono_text.proofs.sink.write_all.Given as goal
 
 abbrev pub invariant-loop-done : goal.invariant-loop-done

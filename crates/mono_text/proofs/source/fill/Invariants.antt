@@ -1,5 +1,5 @@
 use Rattle.std.proofs.Common.{◌≡◌, ◌-◌, vec_len}
-use Rattle.mono_text.specs.Outside.{HasRead}
+use Rattle.mono_text.specs.Environment.{HasRead}
 use Rattle.mono_text.proofs.source.fill.Given as goal
 
 abbrev pub invariant-loop-source : goal.invariant-loop-source

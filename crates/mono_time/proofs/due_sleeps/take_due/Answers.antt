@@ -1,15 +1,15 @@
 use Rattle.std.proofs.Common.{◌≡◌, sym, ◌∙◌, ap, subst, ◌++◌, ◌∷◌, [], append_assoc, append-nil, arith}
 use Rattle.mono_model.specs.Sleeps.{Sleeps}
 use Rattle.mono_model.specs.SleepActs as sleep
-use Rattle.mono_model.specs.Firing.{FireInTurn, IsFirstDue, IsNoneDue}
+use Rattle.mono_model.specs.FireOrder.{FireInTurn, IsFirstDue, IsNoneDue}
 use Rattle.mono_time.specs.Instants.{nanos_of}
 use Rattle.mono_time.specs.Sleeps.{IsNoneArmedUpTo}
-use Rattle.mono_time.specs.Stands.{StandsForSleeps}
+use Rattle.mono_time.specs.Refinement.{StandsForSleeps}
 use Rattle.mono_machine.specs.Steps.{all_fired, with_first, wakers_of}
-use Rattle.mono_time.specs.Stands.{Keeps}
+use Rattle.mono_time.specs.Refinement.{Keeps}
 use Rattle.mono_machine.proofs.FireLemmas.{fired-push, wakers-push}
 use Rattle.mono_time.proofs.DueSleepLemmas.{same_clock, keeps_none, keeps_some}
-use Rattle.mono_time.proofs.Passing.{Passed, none-passed, passed-some, passed-none, all-passed}
+use Rattle.mono_time.proofs.ClockMoveLemmas.{Passed, none-passed, passed-some, passed-none, all-passed}
 use Rattle.mono_time.proofs.due_sleeps.take_due.Goals as goal
 
 pub loop-s-init : goal.loop-s-init

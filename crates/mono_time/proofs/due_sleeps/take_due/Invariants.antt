@@ -2,13 +2,13 @@ use Rattle.std.proofs.Common.{◌≡◌, ◌≤◌, ◌++◌, ℕ, List}
 use Rattle.std.specs.Prelude.{◌+◌, vec_len, vec_capacity}
 use Rattle.mono_model.specs.Sleeps.{Sleeps}
 use Rattle.mono_model.specs.SleepActs as sleep
-use Rattle.mono_model.specs.Firing.{FireInTurn}
+use Rattle.mono_model.specs.FireOrder.{FireInTurn}
 use Rattle.mono_time.specs.Instants.{nanos_of}
 use Rattle.mono_time.specs.Sleeps.{armed_count}
 use Rattle.mono_time.specs.Timers.{sleeps_of}
 use Rattle.mono_machine.specs.Steps.{all_fired, wakers_of}
-use Rattle.mono_time.specs.Stands.{Keeps}
-use Rattle.mono_time.proofs.Passing.{Passed}
+use Rattle.mono_time.specs.Refinement.{Keeps}
+use Rattle.mono_time.proofs.ClockMoveLemmas.{Passed}
 use Rattle.mono_time.proofs.due_sleeps.take_due.Given as goal
 
 -- there is room for so many more

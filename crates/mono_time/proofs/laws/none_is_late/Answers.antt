@@ -1,4 +1,4 @@
-use Rattle.mono_time.proofs.Resting.{rests-added, rests-polled, rests-reset, rests-removed}
+use Rattle.mono_time.proofs.RestLemmas.{rests-added, rests-polled, rests-reset, rests-removed}
 use Rattle.mono_time.proofs.laws.none_is_late.Goals as goal
 
 pub returns-clause-added : goal.returns-clause-added

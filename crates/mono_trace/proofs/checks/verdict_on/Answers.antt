@@ -1,8 +1,8 @@
 use Rattle.std.proofs.Common.{◌<◌, ◌≤◌, ℕ, length, subst, arith, Ok}
-use Rattle.mono_machine.proofs.Running.{item_and_rest, nothing_left}
-use Rattle.mono_trace.specs.Stands.{machine_of}
+use Rattle.mono_machine.proofs.RunLemmas.{item_and_rest, nothing_left}
+use Rattle.mono_trace.specs.Refinement.{machine_of}
 use Rattle.mono_trace.specs.Traces.{Checks}
-use Rattle.mono_trace.proofs.Verdicts.{passed_on, fails_here, passed_all}
+use Rattle.mono_trace.proofs.VerdictLemmas.{passed_on, fails_here, passed_all}
 use Rattle.mono_trace.proofs.checks.verdict_on.Goals as goal
 
 pub returns-then-not-branch : goal.returns-then-not-branch

@@ -1,8 +1,8 @@
 use Rattle.std.proofs.Common.{◌≤◌, ◌*◌, drop}
-use Rattle.mono_trace.specs.Stands.{machine_of}
+use Rattle.mono_trace.specs.Refinement.{machine_of}
 use Rattle.mono_trace.specs.Verdicts.{IsVerdict}
 use Rattle.mono_trace.specs.declared.Verdict.{Verdict}
-use Rattle.mono_trace.proofs.Verdicts.{later}
+use Rattle.mono_trace.proofs.VerdictLemmas.{later}
 use Rattle.mono_trace.proofs.checks.verdict_on.Given as goal
 
 -- what the verdict on the pairs that are left says of all

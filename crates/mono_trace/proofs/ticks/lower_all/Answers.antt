@@ -1,6 +1,6 @@
 use Rattle.std.proofs.Common.{subst, [], ◌≡◌, rules}
-use Rattle.mono_trace.specs.Ordered.{AreCounts, all_more, one_more}
-use Rattle.mono_trace.proofs.Counting.{alike, put_last, none_taken}
+use Rattle.mono_trace.specs.TickCounts.{AreCounts, all_more, one_more}
+use Rattle.mono_trace.proofs.TickCountLemmas.{alike, put_last, none_taken}
 use Rattle.mono_trace.proofs.ticks.lower_all.Goals as goal
 
 pub loop-tick-preserved : goal.loop-tick-preserved

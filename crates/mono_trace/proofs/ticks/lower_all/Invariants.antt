@@ -1,5 +1,5 @@
 use Rattle.std.proofs.Common.{ℕ, vec_len}
-use Rattle.mono_trace.specs.Ordered.{all_more, AreCounts}
+use Rattle.mono_trace.specs.TickCounts.{all_more, AreCounts}
 use Rattle.mono_trace.proofs.ticks.lower_all.Given as goal
 
 abbrev pub invariant-loop-tick : goal.invariant-loop-tick

@@ -1,6 +1,6 @@
 use Rattle.std.proofs.Common.{subst, [], ◌≡◌, rules}
-use Rattle.mono_trace.specs.Ordered.{AreCountsBut}
-use Rattle.mono_trace.proofs.Counting.{popped, none_left}
+use Rattle.mono_trace.specs.TickCounts.{AreCountsBut}
+use Rattle.mono_trace.proofs.TickCountLemmas.{popped, none_left}
 use Rattle.mono_trace.proofs.ticks.raise_all.Goals as goal
 
 pub loop-tick-preserved : goal.loop-tick-preserved

@@ -1,5 +1,5 @@
 use Rattle.std.proofs.Common.{ℕ, vec_len}
-use Rattle.mono_trace.specs.Ordered.{AreCountsBut}
+use Rattle.mono_trace.specs.TickCounts.{AreCountsBut}
 use Rattle.mono_trace.proofs.ticks.raise_all.Given as goal
 
 abbrev pub invariant-loop-tick : goal.invariant-loop-tick

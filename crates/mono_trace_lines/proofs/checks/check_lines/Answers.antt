@@ -1,8 +1,8 @@
 use Rattle.std.proofs.Common.{◌≡◌, ◌<◌, length, rules, arith, subst, sym}
 use Rattle.mono_machine.specs.Machine.{start_machine}
-use Rattle.mono_trace.specs.Stands.{machine_of}
-use Rattle.mono_trace_lines.specs.Taking.{HasFewArms}
-use Rattle.mono_trace_lines.proofs.Checking.{Progress, started, one_more, all_passed, one_failed, first_bad}
+use Rattle.mono_trace.specs.Refinement.{machine_of}
+use Rattle.mono_trace_lines.specs.CheckProgress.{HasFewArms}
+use Rattle.mono_trace_lines.proofs.CheckLemmas.{Progress, started, one_more, all_passed, one_failed, first_bad}
 use Rattle.mono_trace_lines.proofs.checks.check_lines.Goals as goal
 
 pub lines-preserved : goal.lines-preserved

@@ -1,7 +1,7 @@
 use Rattle.std.proofs.Common.{length}
-use Rattle.mono_trace.specs.Stands.{machine_of}
-use Rattle.mono_trace_lines.specs.Taking.{HasFewArms}
-use Rattle.mono_trace_lines.proofs.Checking.{Progress}
+use Rattle.mono_trace.specs.Refinement.{machine_of}
+use Rattle.mono_trace_lines.specs.CheckProgress.{HasFewArms}
+use Rattle.mono_trace_lines.proofs.CheckLemmas.{Progress}
 use Rattle.mono_trace_lines.proofs.checks.check_lines.Given as goal
 
 abbrev pub invariant-lines : goal.invariant-lines

@@ -1,7 +1,7 @@
 use Rattle.std.proofs.Common.{sym, subst}
-use Rattle.mono_trace.specs.Stands.{machine_of}
-use Rattle.mono_trace_lines.specs.Taking.{LeadsOn}
-use Rattle.mono_trace_lines.proofs.Checking.{passes_now, passes_park, passes_main}
+use Rattle.mono_trace.specs.Refinement.{machine_of}
+use Rattle.mono_trace_lines.specs.CheckProgress.{LeadsOn}
+use Rattle.mono_trace_lines.proofs.CheckLemmas.{passes_now, passes_park, passes_main}
 use Rattle.mono_trace_lines.proofs.checks.take_line.Goals as goal
 
 pub returns-in-Now-clause-leads : goal.returns-in-Now-clause-leads

@@ -1,9 +1,9 @@
 use Rattle.std.proofs.Common.{◌≡◌, ℕ, Ok, None, subst, sym, rules, arith}
-use Rattle.mono_trace.specs.Stands.{machine_of}
+use Rattle.mono_trace.specs.Refinement.{machine_of}
 use Rattle.mono_trace.specs.Traces.{Checks}
-use Rattle.mono_trace_lines.specs.Taking.{LeadsOn}
+use Rattle.mono_trace_lines.specs.CheckProgress.{LeadsOn}
 use Rattle.mono_trace_lines.specs.declared.journal.JournalLine.TheVariants.{Ran}
-use Rattle.mono_trace_lines.proofs.Checking.{steps_on, stays_failed}
+use Rattle.mono_trace_lines.proofs.CheckLemmas.{steps_on, stays_failed}
 use Rattle.mono_trace_lines.proofs.checks.take_pair.Goals as goal
 
 pub returns-then-is_some-clause-leads : goal.returns-then-is_some-clause-leads

@@ -1,4 +1,4 @@
-use Rattle.mono_trace_lines.proofs.Lines.{found_line, no_line}
+use Rattle.mono_trace_lines.proofs.JournalLineLemmas.{found_line, no_line}
 use Rattle.mono_trace_lines.proofs.journal.read_line.Goals as goal
 
 pub returns-clause-found : goal.returns-clause-found

@@ -1,4 +1,4 @@
-use Rattle.mono_trace_lines.proofs.Lines.{one_line}
+use Rattle.mono_trace_lines.proofs.JournalLineLemmas.{one_line}
 use Rattle.mono_trace_lines.proofs.laws.one_line.Goals as goal
 
 pub returns : goal.returns

@@ -1,4 +1,4 @@
-use Rattle.mono_trace_lines.proofs.Lines.{one_report}
+use Rattle.mono_trace_lines.proofs.JournalLineLemmas.{one_report}
 use Rattle.mono_trace_lines.proofs.laws.one_report.Goals as goal
 
 pub returns : goal.returns

@@ -1,6 +1,6 @@
 use Rattle.std.proofs.Common.{rules, ◌≡◌, Some, None, codes, ◌∙◌, arith}
-use Rattle.mono_text.specs.Reading.{word_at, number_at}
-use Rattle.mono_trace_lines.proofs.Listed.{numbers-none_left, numbers-no_break, numbers-no_number, numbers-next}
+use Rattle.mono_text.specs.Parser.{word_at, number_at}
+use Rattle.mono_trace_lines.proofs.TurnPartLemmas.{numbers-none_left, numbers-no_break, numbers-no_number, numbers-next}
 use Rattle.mono_trace_lines.proofs.reports.numbers.Goals as goal
 
 pub returns-then-not-take : goal.returns-then-not-take

@@ -1,5 +1,5 @@
 use Rattle.std.proofs.Common.{◌≡◌, ◌-◌, [], length}
-use Rattle.mono_trace_lines.specs.Reading.{numbers_at}
+use Rattle.mono_trace_lines.specs.Parser.{numbers_at}
 use Rattle.mono_trace_lines.proofs.reports.numbers.Given as goal
 
 abbrev pub invariant-numbers : goal.invariant-numbers

@@ -1,7 +1,7 @@
 use Rattle.std.proofs.Common.{rules, ◌≡◌, Some, None, codes, ◌∙◌, arith}
-use Rattle.mono_text.specs.Reading.{word_at}
-use Rattle.mono_trace_lines.specs.Reading.{reply_at, ended_at}
-use Rattle.mono_trace_lines.proofs.Listed.{replies-none_left, replies-no_break, replies-end, replies-no_reply, replies-next}
+use Rattle.mono_text.specs.Parser.{word_at}
+use Rattle.mono_trace_lines.specs.Parser.{reply_at, ended_at}
+use Rattle.mono_trace_lines.proofs.TurnPartLemmas.{replies-none_left, replies-no_break, replies-end, replies-no_reply, replies-next}
 use Rattle.mono_trace_lines.proofs.reports.replies.Goals as goal
 
 pub returns-then-not-take : goal.returns-then-not-take

@@ -1,5 +1,5 @@
 use Rattle.std.proofs.Common.{◌≡◌, ◌-◌, [], length}
-use Rattle.mono_trace_lines.specs.Reading.{replies_at}
+use Rattle.mono_trace_lines.specs.Parser.{replies_at}
 use Rattle.mono_trace_lines.proofs.reports.replies.Given as goal
 
 abbrev pub invariant-parts : goal.invariant-parts

@@ -1,4 +1,4 @@
-use Rattle.mono_wait.proofs.Registering.{registers}
+use Rattle.mono_wait.proofs.RegistrationLemmas.{registers}
 use Rattle.mono_wait.proofs.laws.a_pending_poll_registers.Goals as goal
 
 pub returns : goal.returns

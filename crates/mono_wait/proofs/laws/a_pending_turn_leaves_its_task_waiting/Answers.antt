@@ -1,4 +1,4 @@
-use Rattle.mono_wait.proofs.Turning.{leaves_waiting}
+use Rattle.mono_wait.proofs.TurnLemmas.{leaves_waiting}
 use Rattle.mono_wait.proofs.laws.a_pending_turn_leaves_its_task_waiting.Goals as goal
 
 pub returns : goal.returns

@@ -1,5 +1,5 @@
-use Rattle.mono_wait.proofs.Turning.{leaves_waiting}
-use Rattle.mono_wait.proofs.Parking.{waiting}
+use Rattle.mono_wait.proofs.TurnLemmas.{leaves_waiting}
+use Rattle.mono_wait.proofs.ParkLemmas.{waiting}
 use Rattle.mono_wait.proofs.laws.each_park_finds_its_tasks_waiting.Goals as goal
 
 pub returns : goal.returns

@@ -1,5 +1,5 @@
 use Rattle.std.proofs.Common.{arith, ◌*◌, ◌^◌, refl, ◌∙◌}
-use Rattle.mono_wheel.proofs.Runs.{out, one-step}
+use Rattle.mono_wheel.proofs.RunLemmas.{out, one-step}
 use Rattle.mono_wheel.proofs.laws.far_key.Goals as goal
 
 pub returns-clause-one_step : goal.returns-clause-one_step

@@ -1,6 +1,6 @@
 use Rattle.std.proofs.Common.{arith, refl, sym, subst}
 use Rattle.mono_wheel.specs.Calls.{Stopped}
-use Rattle.mono_wheel.proofs.Runs.{all-then, stopped-at}
+use Rattle.mono_wheel.proofs.RunLemmas.{all-then, stopped-at}
 use Rattle.mono_wheel.proofs.laws.run_calls.Goals as goal
 
 pub returns-then-not-run_call-clause-stopped : goal.returns-then-not-run_call-clause-stopped

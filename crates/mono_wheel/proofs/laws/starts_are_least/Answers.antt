@@ -1,4 +1,4 @@
-use Rattle.mono_wheel.proofs.Starts.{start_at-whole, start_at-digit, start_at-least}
+use Rattle.mono_wheel.proofs.StartLemmas.{start_at-whole, start_at-digit, start_at-least}
 use Rattle.mono_wheel.proofs.laws.starts_are_least.Goals as goal
 
 pub returns-clause-whole : goal.returns-clause-whole

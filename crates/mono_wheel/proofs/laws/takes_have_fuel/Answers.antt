@@ -1,4 +1,4 @@
-use Rattle.mono_wheel.proofs.Starts.{takes-fuel, takes-once}
+use Rattle.mono_wheel.proofs.StartLemmas.{takes-fuel, takes-once}
 use Rattle.mono_wheel.proofs.laws.takes_have_fuel.Goals as goal
 
 pub returns-clause-enough : goal.returns-clause-enough

@@ -1,5 +1,5 @@
 use Rattle.std.proofs.Common.{ℕ, ◌<◌, ◌≤◌, get_or}
-use Rattle.mono_wheel.specs.Held.{timed_in}
+use Rattle.mono_wheel.specs.Holdings.{timed_in}
 use Rattle.mono_wheel.proofs.LeapLemmas.{IsBelow}
 use Rattle.mono_wheel.proofs.leap.least_near.Given as goal
 

@@ -1,4 +1,4 @@
-use Rattle.mono_wheel.proofs.Differing.{rule-near, rule-far, rule-digit}
+use Rattle.mono_wheel.proofs.LevelBitsLemmas.{rule-near, rule-far, rule-digit}
 use Rattle.mono_wheel.proofs.level.level_for.Goals as goal
 use Rattle.mono_wheel.specs.Start.{top_level}
 

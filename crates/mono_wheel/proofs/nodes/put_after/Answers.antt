@@ -1,7 +1,7 @@
 use Rattle.std.proofs.Common.{None, get_or, subst}
 use Rattle.std.specs.Prelude.{IsSome}
 use Rattle.mono_wheel.specs.Rings.{next_of}
-use Rattle.mono_wheel.proofs.Putting.{put, some-kept, count-put}
+use Rattle.mono_wheel.proofs.InsertLemmas.{put, some-kept, count-put}
 use Rattle.mono_wheel.proofs.nodes.put_after.Goals as goal
 
 pub returns-clause-put : goal.returns-clause-put

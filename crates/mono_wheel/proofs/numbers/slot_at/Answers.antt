@@ -1,4 +1,4 @@
-use Rattle.mono_wheel.proofs.Shifting.{shift-slot}
+use Rattle.mono_wheel.proofs.ShiftLemmas.{shift-slot}
 use Rattle.mono_wheel.proofs.numbers.slot_at.Goals as goal
 
 pub returns-clause-value : goal.returns-clause-value

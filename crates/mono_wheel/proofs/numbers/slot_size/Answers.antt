@@ -1,4 +1,4 @@
-use Rattle.mono_wheel.proofs.Shifting.{shift-size}
+use Rattle.mono_wheel.proofs.ShiftLemmas.{shift-size}
 use Rattle.mono_wheel.proofs.numbers.slot_size.Goals as goal
 
 pub returns-clause-value : goal.returns-clause-value

@@ -1,6 +1,6 @@
 use Rattle.mono_wheel.specs.Lists.{no_entry}
-use Rattle.mono_wheel.proofs.Keys.{read-in}
-use Rattle.mono_wheel.proofs.Searching.{slots-none, found-below, found-entry, found-ahead, found-next}
+use Rattle.mono_wheel.proofs.KeyLemmas.{read-in}
+use Rattle.mono_wheel.proofs.SearchLemmas.{slots-none, found-below, found-entry, found-ahead, found-next}
 use Rattle.mono_wheel.proofs.search.next_slot.Goals as goal
 
 pub slot_start-start-requires : goal.slot_start-start-requires

@@ -1,10 +1,10 @@
 use Rattle.std.proofs.Common.{ap, Some}
 use Rattle.mono_actor.specs.Actors.{Actor, running, in_mode}
 use Rattle.mono_actor.specs.Places.{unread}
-use Rattle.mono_actor.specs.Stored.{places_of}
+use Rattle.mono_actor.specs.Store.{places_of}
 use Rattle.mono_actor.specs.declared.places.Mode.TheVariants as place
-use Rattle.mono_actor.proofs.Changing.{both}
-use Rattle.mono_actor.proofs.Storing.{changed-there, changed-inside, is-there, read-value, in-mode-sound, in-mode-changes}
+use Rattle.mono_actor.proofs.StoreChangeLemmas.{both}
+use Rattle.mono_actor.proofs.StoreLemmas.{changed-there, changed-inside, is-there, read-value, in-mode-sound, in-mode-changes}
 use Rattle.mono_actor.proofs.store.Store.begin_turn.Goals as goal
 
 pub value_mut-requires : goal.value_mut-requires

@@ -1,5 +1,5 @@
 use Rattle.std.proofs.Common.{ap, Some}
-use Rattle.mono_actor.proofs.Storing.{is-there, read-value, rested-sound, rested-changes, rests}
+use Rattle.mono_actor.proofs.StoreLemmas.{is-there, read-value, rested-sound, rested-changes, rests}
 use Rattle.mono_actor.proofs.store.Store.end_turn.Goals as goal
 
 pub value_mut-requires : goal.value_mut-requires

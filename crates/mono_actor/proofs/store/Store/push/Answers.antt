@@ -1,6 +1,6 @@
 use Rattle.std.proofs.Common.{ap}
 use Rattle.mono_actor.specs.declared.places.Entry.{Entry}
-use Rattle.mono_actor.proofs.Storing.{pushed-either}
+use Rattle.mono_actor.proofs.StoreLemmas.{pushed-either}
 use Rattle.mono_actor.proofs.store.Store.push.Goals as goal
 
 pub invariant_of-self : goal.invariant_of-self

@@ -2,7 +2,7 @@ use Rattle.std.proofs.Common.{rules, ap, ◌≡◌, Some}
 use Rattle.std.specs.Prelude.{Result, Ok, Err, IfErr}
 use Rattle.mono_model.specs.Table.{value_at}
 use Rattle.mono_actor.specs.Mailboxes.{places_in}
-use Rattle.mono_actor.proofs.Storing.{is-there, read-here, read-value, last-known, few-letters, put-sound, put-changes, receives}
+use Rattle.mono_actor.proofs.StoreLemmas.{is-there, read-here, read-value, last-known, few-letters, put-sound, put-changes, receives}
 use Rattle.mono_actor.proofs.store.Store.receive.Goals as goal
 
 pub mailbox-mailbox-requires : goal.mailbox-mailbox-requires

@@ -1,6 +1,6 @@
 use Rattle.std.proofs.Common.{ap, Some}
 use Rattle.mono_actor.specs.declared.places.Mode.TheVariants as place
-use Rattle.mono_actor.proofs.Storing.{is-there, read-value, in-mode-sound, in-mode-changes}
+use Rattle.mono_actor.proofs.StoreLemmas.{is-there, read-value, in-mode-sound, in-mode-changes}
 use Rattle.mono_actor.proofs.store.Store.ring.Goals as goal
 
 pub value_mut-requires : goal.value_mut-requires

@@ -1,6 +1,6 @@
 use Rattle.std.proofs.Common.{ap, Some}
 use Rattle.mono_model.specs.Table.{value_at}
-use Rattle.mono_actor.proofs.Storing.{is-there, read-here, read-value, first-known, take-sound, take-changes, take-first, none-changes}
+use Rattle.mono_actor.proofs.StoreLemmas.{is-there, read-here, read-value, first-known, take-sound, take-changes, take-first, none-changes}
 use Rattle.mono_actor.proofs.store.Store.take.Goals as goal
 
 pub mailbox-mailbox-requires : goal.mailbox-mailbox-requires

@@ -1,9 +1,9 @@
 use Rattle.std.proofs.Common.{ap, ◌∙◌}
 use Rattle.mono_model.specs.Table.{value_at}
 use Rattle.mono_actor.specs.Places.{unread}
-use Rattle.mono_actor.specs.Stored.{places_of}
+use Rattle.mono_actor.specs.Store.{places_of}
 use Rattle.mono_actor.specs.Mailboxes.{places_in}
-use Rattle.mono_actor.proofs.Storing.{changed-there, changed-gone, still-empty, is-there, read-here, gone-sound, gone-places, left-alarm, left-letters}
+use Rattle.mono_actor.proofs.StoreLemmas.{changed-there, changed-gone, still-empty, is-there, read-here, gone-sound, gone-places, left-timer, left-letters}
 use Rattle.mono_actor.proofs.store.Store.take_away.Goals as goal
 
 pub loop-preserved-in-Some : goal.loop-preserved-in-Some
@@ -34,10 +34,10 @@ returns-clause-letters g c =
     let s = c.args.self.now in
     left-letters s.links.slots _ s.entries s.sound c.args.actor c.requires (value_at s.entries c.args.actor) c.left-left.result.letters (read-here s.links.slots _ s.entries s.sound c.args.actor c.requires) c.left-left.ensures.letters
 
-pub returns-clause-alarm : goal.returns-clause-alarm
-returns-clause-alarm g c =
+pub returns-clause-timer : goal.returns-clause-timer
+returns-clause-timer g c =
     let s = c.args.self.now in
-    left-alarm s.links.slots _ s.entries s.sound c.args.actor c.requires (value_at s.entries c.args.actor) c.left-left.result.alarm (read-here s.links.slots _ s.entries s.sound c.args.actor c.requires) c.left-left.ensures.alarm
+    left-timer s.links.slots _ s.entries s.sound c.args.actor c.requires (value_at s.entries c.args.actor) c.left-left.result.timer (read-here s.links.slots _ s.entries s.sound c.args.actor c.requires) c.left-left.ensures.timer
 
 pub left-left-requires : goal.left-left-requires
 left-left-requires g c = let s = c.args.self.now in is-there s.links.slots _ s.entries s.sound c.args.actor c.requires

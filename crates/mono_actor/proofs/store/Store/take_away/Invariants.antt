@@ -1,7 +1,7 @@
 use Rattle.std.proofs.Common.{◌≡◌, true, None, is_some, set}
 use Rattle.mono_model.specs.Table.{value_at}
-use Rattle.mono_actor.specs.Stored.{places_of}
-use Rattle.mono_actor.proofs.Storing.{letters_left}
+use Rattle.mono_actor.specs.Store.{places_of}
+use Rattle.mono_actor.proofs.StoreLemmas.{letters_left}
 use Rattle.mono_actor.proofs.store.Store.take_away.Given as goal
 
 -- without the actor, what is kept is as it was

@@ -1,6 +1,6 @@
 use Rattle.std.proofs.Common.{arith}
 use Rattle.mono_actor.specs.Callers.{actors_of}
-use Rattle.mono_actor.proofs.Ringing.{waiting-live}
+use Rattle.mono_actor.proofs.ClockStepLemmas.{waiting-live}
 use Rattle.mono_actor.proofs.table.Actors.clock.Goals as goal
 
 pub ring_all-requires-clause-room : goal.ring_all-requires-clause-room

@@ -1,7 +1,7 @@
 use Rattle.std.proofs.Common.{subst, ◌∙◌, arith}
-use Rattle.mono_actor.specs.Clocking.{RingsAll}
+use Rattle.mono_actor.specs.ClockSteps.{RingsAll}
 use Rattle.mono_actor.specs.Callers.{actors_of}
-use Rattle.mono_actor.proofs.Ringing.{ring-follows, rings-step, rings-done}
+use Rattle.mono_actor.proofs.ClockStepLemmas.{ring-follows, rings-step, rings-done}
 use Rattle.mono_actor.proofs.table.Actors.ring_all.Goals as goal
 
 pub loop-actor-preserved : goal.loop-actor-preserved

@@ -1,6 +1,6 @@
 use Rattle.std.proofs.Common.{◌≡◌, ◌≤◌, ◌+◌, ℕ, List, None, vec_len, vec_capacity}
 use Rattle.mono_actor.specs.Actors.{Actors}
-use Rattle.mono_actor.specs.Clocking.{RingsAll, waiting_count}
+use Rattle.mono_actor.specs.ClockSteps.{RingsAll, waiting_count}
 use Rattle.mono_actor.specs.Callers.{actors_of, credit_left}
 use Rattle.mono_actor.proofs.table.Actors.ring_all.Given as goal
 

@@ -1,48 +1,48 @@
 use Rattle.mono_model.specs.Table.{value_at}
-use Rattle.mono_actor.specs.Stored.{places_of}
+use Rattle.mono_actor.specs.Store.{places_of}
 use Rattle.std.proofs.Common.{◌≡◌, None, refl, length, subst, arith}
 use Rattle.std.specs.Prelude.{IfSome}
-use Rattle.mono_actor.specs.Alarms.{Freed}
-use Rattle.mono_actor.proofs.Ending.{some-of, runs-there, gone-frees, gone-after, gone-holds}
+use Rattle.mono_actor.specs.Timers.{Freed}
+use Rattle.mono_actor.proofs.EndLemmas.{some-of, runs-there, gone-frees, gone-after, gone-holds}
 use Rattle.mono_actor.proofs.table.Actors.stop.Goals as goal
 
 pub free-requires-clause-known : goal.free-requires-clause-known
 free-requires-clause-known g c =
     let t = c.args.self.now in
-    let there = runs-there (places_of t.places) t.alarms t.queue.items t.turn t.greatest t.live t.letters _ t.holds t.most_actors t.most_messages c.args.me c.requires.runs c.requires.over in
+    let there = runs-there (places_of t.places) t.timers t.queue.items t.turn t.greatest t.live t.letters _ t.holds t.most_actors t.most_messages c.args.me c.requires.runs c.requires.over in
     let p = some-of (value_at (places_of t.places) c.args.me) there in
-    let alarm = subst (λ v. IfSome v (λ x. c.take_away-gone.result.alarm ≡ x.alarm)) p.1 c.take_away-gone.ensures.alarm in
-    rw alarm ((gone-frees (places_of t.places) t.alarms t.queue.items t.turn t.greatest t.live t.letters _ t.holds t.most_actors t.most_messages c.args.me c.requires.runs c.requires.over p.0 p.1).0)
+    let timer = subst (λ v. IfSome v (λ x. c.take_away-gone.result.timer ≡ x.timer)) p.1 c.take_away-gone.ensures.timer in
+    rw timer ((gone-frees (places_of t.places) t.timers t.queue.items t.turn t.greatest t.live t.letters _ t.holds t.most_actors t.most_messages c.args.me c.requires.runs c.requires.over p.0 p.1).0)
 
 pub free-requires-clause-out : goal.free-requires-clause-out
 free-requires-clause-out g c =
     let t = c.args.self.now in
-    let there = runs-there (places_of t.places) t.alarms t.queue.items t.turn t.greatest t.live t.letters _ t.holds t.most_actors t.most_messages c.args.me c.requires.runs c.requires.over in
+    let there = runs-there (places_of t.places) t.timers t.queue.items t.turn t.greatest t.live t.letters _ t.holds t.most_actors t.most_messages c.args.me c.requires.runs c.requires.over in
     let p = some-of (value_at (places_of t.places) c.args.me) there in
-    let alarm = subst (λ v. IfSome v (λ x. c.take_away-gone.result.alarm ≡ x.alarm)) p.1 c.take_away-gone.ensures.alarm in
-    rw alarm ((gone-frees (places_of t.places) t.alarms t.queue.items t.turn t.greatest t.live t.letters _ t.holds t.most_actors t.most_messages c.args.me c.requires.runs c.requires.over p.0 p.1).1)
+    let timer = subst (λ v. IfSome v (λ x. c.take_away-gone.result.timer ≡ x.timer)) p.1 c.take_away-gone.ensures.timer in
+    rw timer ((gone-frees (places_of t.places) t.timers t.queue.items t.turn t.greatest t.live t.letters _ t.holds t.most_actors t.most_messages c.args.me c.requires.runs c.requires.over p.0 p.1).1)
 
 pub invariant_of-self : goal.invariant_of-self
 invariant_of-self g c =
     let t = c.args.self.now in
-    let there = runs-there (places_of t.places) t.alarms t.queue.items t.turn t.greatest t.live t.letters _ t.holds t.most_actors t.most_messages c.args.me c.requires.runs c.requires.over in
+    let there = runs-there (places_of t.places) t.timers t.queue.items t.turn t.greatest t.live t.letters _ t.holds t.most_actors t.most_messages c.args.me c.requires.runs c.requires.over in
     let p = some-of (value_at (places_of t.places) c.args.me) there in
-    let alarm = subst (λ v. IfSome v (λ x. c.take_away-gone.result.alarm ≡ x.alarm)) p.1 c.take_away-gone.ensures.alarm in
+    let timer = subst (λ v. IfSome v (λ x. c.take_away-gone.result.timer ≡ x.timer)) p.1 c.take_away-gone.ensures.timer in
     let letters = subst (λ v. IfSome v (λ x. c.take_away-gone.result.letters ≡ length x.mailbox)) p.1 c.take_away-gone.ensures.letters in
-    let frees = gone-frees (places_of t.places) t.alarms t.queue.items t.turn t.greatest t.live t.letters _ t.holds t.most_actors t.most_messages c.args.me c.requires.runs c.requires.over p.0 p.1 in
-    let freed : Freed t.alarms c.free.new.self p.0.alarm = subst (λ k. Freed t.alarms c.free.new.self k) alarm c.free.ensures in
+    let frees = gone-frees (places_of t.places) t.timers t.queue.items t.turn t.greatest t.live t.letters _ t.holds t.most_actors t.most_messages c.args.me c.requires.runs c.requires.over p.0 p.1 in
+    let freed : Freed t.timers c.free.new.self p.0.timer = subst (λ k. Freed t.timers c.free.new.self k) timer c.free.ensures in
     record {
-      holds = rw c.take_away-gone.ensures.gone (gone-holds (places_of t.places) t.alarms t.queue.items t.turn t.greatest t.live t.letters _ t.holds t.most_actors t.most_messages c.args.me c.requires.runs c.requires.over p.0 p.1 None c.free.new.self _ _ refl freed (omega (arith, frees.3)) (omega (arith, frees.2, letters)));
+      holds = rw c.take_away-gone.ensures.gone (gone-holds (places_of t.places) t.timers t.queue.items t.turn t.greatest t.live t.letters _ t.holds t.most_actors t.most_messages c.args.me c.requires.runs c.requires.over p.0 p.1 None c.free.new.self _ _ refl freed (omega (arith, frees.3)) (omega (arith, frees.2, letters)));
     }
 
 pub returns : goal.returns
 returns g c =
     let t = c.args.self.now in
-    let there = runs-there (places_of t.places) t.alarms t.queue.items t.turn t.greatest t.live t.letters _ t.holds t.most_actors t.most_messages c.args.me c.requires.runs c.requires.over in
+    let there = runs-there (places_of t.places) t.timers t.queue.items t.turn t.greatest t.live t.letters _ t.holds t.most_actors t.most_messages c.args.me c.requires.runs c.requires.over in
     let p = some-of (value_at (places_of t.places) c.args.me) there in
-    rw c.take_away-gone.ensures.gone (gone-after (places_of t.places) t.alarms t.queue.items t.turn t.greatest t.live t.letters _ t.holds t.most_actors t.most_messages c.args.me c.requires.runs c.requires.over p.0 p.1 None refl)
+    rw c.take_away-gone.ensures.gone (gone-after (places_of t.places) t.timers t.queue.items t.turn t.greatest t.live t.letters _ t.holds t.most_actors t.most_messages c.args.me c.requires.runs c.requires.over p.0 p.1 None refl)
 
 pub take_away-gone-requires : goal.take_away-gone-requires
 take_away-gone-requires g c =
     let t = c.args.self.now in
-    runs-there (places_of t.places) t.alarms t.queue.items t.turn t.greatest t.live t.letters _ t.holds t.most_actors t.most_messages c.args.me c.requires.runs c.requires.over
+    runs-there (places_of t.places) t.timers t.queue.items t.turn t.greatest t.live t.letters _ t.holds t.most_actors t.most_messages c.args.me c.requires.runs c.requires.over

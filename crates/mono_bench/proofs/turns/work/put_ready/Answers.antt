@@ -1,4 +1,4 @@
-use Rattle.mono_rt.specs.Reached.{reaches_itself, reaches_on}
+use Rattle.mono_rt.specs.Reaches.{reaches_itself, reaches_on}
 use Rattle.mono_bench.proofs.turns.work.put_ready.Goals as goal
 
 pub loop-init : goal.loop-init

@@ -1,4 +1,4 @@
-use Rattle.mono_rt.specs.Reached.{Reaches}
+use Rattle.mono_rt.specs.Reaches.{Reaches}
 use Rattle.mono_bench.proofs.turns.work.put_sleeping.Given as goal
 
 abbrev pub invariant-loop : goal.invariant-loop

@@ -1,4 +1,4 @@
-use Rattle.mono_rt.specs.Reached.{reaches_on}
+use Rattle.mono_rt.specs.Reaches.{reaches_on}
 use Rattle.mono_bench.proofs.turns.work.spawn_all.Goals as goal
 
 pub returns : goal.returns

@@ -1,5 +1,5 @@
 use Rattle.std.specs.Prelude.{length}
-use Rattle.mono_bench.specs.Ready.{RowIn}
+use Rattle.mono_bench.specs.Bounds.{RowIn}
 use Rattle.mono_bench.proofs.wheel.work.keep_alive.Given as goal
 
 abbrev pub invariant-loop-round : goal.invariant-loop-round

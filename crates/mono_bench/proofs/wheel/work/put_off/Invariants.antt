@@ -1,5 +1,5 @@
 use Rattle.std.specs.Prelude.{length}
-use Rattle.mono_bench.specs.Ready.{RowIn}
+use Rattle.mono_bench.specs.Bounds.{RowIn}
 use Rattle.mono_bench.proofs.wheel.work.put_off.Given as goal
 
 abbrev pub invariant-loop-place : goal.invariant-loop-place

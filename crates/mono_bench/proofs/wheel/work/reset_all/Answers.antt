@@ -1,6 +1,6 @@
 use Rattle.std.proofs.Common.{rules, ◌≡◌, length}
-use Rattle.mono_bench.specs.Ready.{AllIn, IsRow}
-use Rattle.mono_bench.proofs.Rows.{row_in}
+use Rattle.mono_bench.specs.Bounds.{AllIn, IsRow}
+use Rattle.mono_bench.proofs.RowLemmas.{row_in}
 use Rattle.mono_bench.proofs.wheel.work.reset_all.Goals as goal
 
 pub keep_alive-requires-clause-within : goal.keep_alive-requires-clause-within

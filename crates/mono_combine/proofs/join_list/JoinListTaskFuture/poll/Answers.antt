@@ -1,7 +1,7 @@
 use Rattle.std.proofs.Common.{◌≡◌, false, refl, sym, ap, ◌∙◌, arith, length}
 use Rattle.std.specs.Prelude.{vec_len}
 use Rattle.mono_model.specs.declared.poll.Poll.TheVariants.{Ready}
-use Rattle.mono_combine.proofs.Lists.{neither, may_from, can_from, unspent_from, joins_waiting, joins_all}
+use Rattle.mono_combine.proofs.ListLemmas.{neither, may_from, can_from, unspent_from, joins_waiting, joins_all}
 use Rattle.std.specs.List.{filter_map}
 use Rattle.mono_combine.specs.Branches.{MaybeGives, output_of}
 use Rattle.mono_combine.proofs.GivesLemmas.{narrows_each, all_given}

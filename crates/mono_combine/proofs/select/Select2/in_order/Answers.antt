@@ -1,5 +1,5 @@
 use Rattle.std.proofs.Common.{true, false, refl}
-use Rattle.mono_combine.proofs.Selecting.{first_passes, first_then_second}
+use Rattle.mono_combine.proofs.SelectLemmas.{first_passes, first_then_second}
 use Rattle.mono_combine.proofs.GivesLemmas.{second_given}
 use Rattle.mono_combine.proofs.select.Select2.in_order.Goals as goal
 

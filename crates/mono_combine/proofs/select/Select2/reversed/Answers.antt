@@ -1,5 +1,5 @@
 use Rattle.std.proofs.Common.{true, false, refl}
-use Rattle.mono_combine.proofs.Selecting.{second_passes, second_then_first}
+use Rattle.mono_combine.proofs.SelectLemmas.{second_passes, second_then_first}
 use Rattle.mono_combine.proofs.GivesLemmas.{first_given}
 use Rattle.mono_combine.proofs.select.Select2.reversed.Goals as goal
 

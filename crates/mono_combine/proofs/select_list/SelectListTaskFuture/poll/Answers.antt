@@ -1,7 +1,7 @@
 use Rattle.std.proofs.Common.{◌≡◌, ◌∙◌, false, refl, sym, ap}
 use Rattle.mono_model.specs.declared.poll.Poll.TheVariants.{Ready, Pending}
-use Rattle.mono_combine.proofs.Lists.{neither}
-use Rattle.mono_combine.proofs.Ending.{may_look, unspent_of, can_of, ended_can}
+use Rattle.mono_combine.proofs.ListLemmas.{neither}
+use Rattle.mono_combine.proofs.ListEndLemmas.{may_look, unspent_of, can_of, ended_can}
 use Rattle.mono_combine.proofs.GivesLemmas.{out_given, row_before}
 use Rattle.mono_combine.proofs.select_list.SelectListTaskFuture.poll.Goals as goal
 

@@ -1,11 +1,11 @@
 use Rattle.std.proofs.Common.{◌≡◌, true, false, Ok, refl, sym, ap, ◌∙◌, arith, length}
 use Rattle.std.specs.Prelude.{vec_len}
 use Rattle.mono_model.specs.declared.poll.Poll.TheVariants.{Ready}
-use Rattle.mono_combine.proofs.Lists.{neither, may_from, can_from, unspent_from}
-use Rattle.mono_combine.proofs.Trying.{tries_waiting, tries_all, tries_failed, one_fails, nothing_left, all_gone, gone_can_poll}
+use Rattle.mono_combine.proofs.ListLemmas.{neither, may_from, can_from, unspent_from}
+use Rattle.mono_combine.proofs.TryListLemmas.{tries_waiting, tries_all, tries_failed, one_fails, nothing_left, all_gone, gone_can_poll}
 use Rattle.std.specs.List.{filter_map}
 use Rattle.mono_combine.specs.Branches.{MaybeGives}
-use Rattle.mono_combine.specs.TryListed.{GivesValue, value_in, result_as}
+use Rattle.mono_combine.specs.TryLists.{GivesValue, value_in, result_as}
 use Rattle.mono_combine.proofs.GivesLemmas.{narrows_each, values_given, error_given, error_before, result_before}
 use Rattle.mono_combine.proofs.try_join_list.TryJoinListTaskFuture.poll.Goals as goal
 

@@ -1,6 +1,6 @@
 use Rattle.std.proofs.Common.{◌≡◌, None, Ok, refl, inl, inr, sym, ◌∙◌, rules}
-use Rattle.mono_combine.proofs.Failing.{first_failed, second_failed, kept}
-use Rattle.mono_combine.proofs.Succeeding.{both_there, can_without}
+use Rattle.mono_combine.proofs.FailureLemmas.{first_failed, second_failed, kept}
+use Rattle.mono_combine.proofs.SuccessLemmas.{both_there, can_without}
 use Rattle.mono_combine.proofs.GivesLemmas.{failure_given}
 use Rattle.mono_combine.proofs.try_joins.TryJoin2TaskFuture.poll.Goals as goal
 

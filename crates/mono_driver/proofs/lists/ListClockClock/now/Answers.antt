@@ -1,6 +1,6 @@
 use Rattle.std.proofs.Common.{ℕ, ◌+◌, ◌<◌, length, subst, ◌∙◌}
 use Rattle.mono_time.specs.Instants.{nanos_of}
-use Rattle.mono_driver.proofs.Readings.{reads_one}
+use Rattle.mono_driver.proofs.ReadingLemmas.{reads_one}
 use Rattle.mono_driver.proofs.lists.ListClockClock.now.Goals as goal
 
 pub returns-then-self-len-clause-reads : goal.returns-then-self-len-clause-reads

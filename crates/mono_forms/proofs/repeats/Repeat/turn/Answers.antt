@@ -1,6 +1,6 @@
 use Rattle.std.proofs.Common.{subst}
 use Rattle.mono_forms.specs.Repeats.{CanLoop, CanLoopFrom}
-use Rattle.mono_forms.proofs.Looping.{well_here, next_goes_on}
+use Rattle.mono_forms.proofs.LoopLemmas.{well_here, next_goes_on}
 use Rattle.mono_forms.proofs.repeats.Repeat.turn.Goals as goal
 
 pub func-next-requires : goal.func-next-requires

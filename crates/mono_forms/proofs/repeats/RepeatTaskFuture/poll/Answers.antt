@@ -1,7 +1,7 @@
 use Rattle.std.proofs.Common.{◌≡◌, ◌<◌, Some, None, refl, rules}
 use Rattle.mono_model.specs.declared.poll.Poll.TheVariants.{Pending}
 use Rattle.mono_forms.specs.Yields.{WakesItself}
-use Rattle.mono_forms.proofs.Looping.{takes_more, takes_none}
+use Rattle.mono_forms.proofs.LoopLemmas.{takes_more, takes_none}
 use Rattle.mono_forms.proofs.repeats.RepeatTaskFuture.poll.Goals as goal
 
 pub returns-in-Some-clause-polled : goal.returns-in-Some-clause-polled

@@ -30,7 +30,7 @@ use denote.Triple.Spec.{Meets, triple_of}
 use denote.Triple.Table.{entered}
 use denote.Triple.Walked.{says, Stays, stay_dropped, walk_of, ends_at, walk_Meets, Goes-dropped}
 use Rattle.std.specs.contracts.marker.PhantomData as Mark
-use Rattle.mono_history.proofs.Walks.{none, one, one_made}
+use Rattle.mono_history.proofs.WalksLemmas.{none, one, one_made}
 use Rattle.mono_history.specs.contracts.histories.History as History
 use Rattle.mono_history.specs.contracts.histories.History.and as F
 use Rattle.mono_history.specs.contracts.histories.History.and.Key.{name as #self}

@@ -1,7 +1,7 @@
 use Rattle.std.proofs.Common.{refl, ap, ◌∙◌, arith}
 use Rattle.std.specs.Prelude.{slice_set}
 use Rattle.mono_inbox.specs.Standings.{has_place, standing_at}
-use Rattle.mono_inbox.proofs.Laying.{at_child, placed_in_read, changing_is, changing_laid}
+use Rattle.mono_inbox.proofs.LayoutLemmas.{at_child, placed_in_read, changing_is, changing_laid}
 use Rattle.mono_inbox.proofs.marks.Marks.change.Goals as goal
 
 pub index_mut-requires : goal.index_mut-requires

@@ -1,6 +1,6 @@
 use Rattle.std.proofs.Common.{◌≡◌, ◌<◌, ◌≤◌, ◌+◌, ◌/◌, ◌%◌, length, ap, sym, ◌∙◌, arith}
-use Rattle.mono_inbox.proofs.Laying.{child_is}
-use Rattle.mono_inbox.proofs.Extending.{with_row, extending_is, extending_laid}
+use Rattle.mono_inbox.proofs.LayoutLemmas.{child_is}
+use Rattle.mono_inbox.proofs.RowGrowthLemmas.{with_row, extending_is, extending_laid}
 use Rattle.mono_inbox.proofs.marks.Marks.extend.Goals as goal
 
 pub invariant_of-self : goal.invariant_of-self

@@ -1,8 +1,8 @@
 use Rattle.std.proofs.Common.{◌≤◌, ◌+◌, ◌%◌, List, refl, ap, subst, ◌∙◌, arith}
 use Rattle.mono_inbox.specs.declared.standings.Standing.{Standing}
 use Rattle.mono_inbox.specs.Standings.{has_place, standing_at, AreKnown, without_row}
-use Rattle.mono_inbox.proofs.Laying.{at_child, given, placed_in_read}
-use Rattle.mono_inbox.proofs.Forgetting.{forgetting_known, forgetting_is, forgetting_laid}
+use Rattle.mono_inbox.proofs.LayoutLemmas.{at_child, given, placed_in_read}
+use Rattle.mono_inbox.proofs.RowRemovalLemmas.{forgetting_known, forgetting_is, forgetting_laid}
 use Rattle.mono_inbox.proofs.marks.Marks.forget.Goals as goal
 
 pub index_mut-requires : goal.index_mut-requires

@@ -3,7 +3,7 @@ use Rattle.std.specs.Prelude.{slice_set, Result, Ok, Err, OnErr}
 use Rattle.mono_inbox.specs.declared.standings.Standing.TheVariants.{Unknown}
 use Rattle.mono_inbox.specs.Standings.{standing_at}
 use Rattle.mono_inbox.specs.Pages.{child_at, with_mark, laid_standings}
-use Rattle.mono_inbox.proofs.Laying.{closing_laid, closing_same, reading_unknown, marking_is, marking_laid, put_back}
+use Rattle.mono_inbox.proofs.LayoutLemmas.{closing_laid, closing_same, reading_unknown, marking_is, marking_laid, put_back}
 use Rattle.mono_inbox.proofs.marks.Marks.mark.Goals as goal
 
 on_err : {A E : Type 0} (r : Result A E) (P : Type 0) → P → OnErr r P

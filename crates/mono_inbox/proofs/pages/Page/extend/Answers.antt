@@ -1,7 +1,7 @@
 use Rattle.std.proofs.Common.{◌≡◌, length, ap, ◌∙◌, arith}
 use Rattle.mono_inbox.specs.Standings.{has_place, count_where}
-use Rattle.mono_inbox.proofs.Laying.{count_within}
-use Rattle.mono_inbox.proofs.Extending.{with_row, length-row, count-row}
+use Rattle.mono_inbox.proofs.LayoutLemmas.{count_within}
+use Rattle.mono_inbox.proofs.RowGrowthLemmas.{with_row, length-row, count-row}
 use Rattle.mono_inbox.proofs.pages.Page.extend.Goals as goal
 
 pub overflow_add-self : goal.overflow_add-self

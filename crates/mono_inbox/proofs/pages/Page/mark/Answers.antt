@@ -3,7 +3,7 @@ use Rattle.std.proofs.lemmas.List.{length-set}
 use Rattle.mono_inbox.specs.declared.standings.Standing.TheVariants.{Unknown}
 use Rattle.mono_inbox.specs.Standings.{standing_at}
 use Rattle.mono_inbox.specs.Pages.{grown}
-use Rattle.mono_inbox.proofs.Laying.{mark-count, count_within, length-grown}
+use Rattle.mono_inbox.proofs.LayoutLemmas.{mark-count, count_within, length-grown}
 use Rattle.mono_inbox.proofs.pages.Page.mark.Goals as goal
 
 pub overflow_add-self : goal.overflow_add-self

@@ -1,7 +1,7 @@
 use Rattle.std.proofs.Common.{◌≡◌, true, ap, sym, ◌∙◌, arith}
 use Rattle.std.proofs.lemmas.List.{length-set}
 use Rattle.mono_inbox.specs.Standings.{has_place, standing_at}
-use Rattle.mono_inbox.proofs.Laying.{change-count, change-some}
+use Rattle.mono_inbox.proofs.LayoutLemmas.{change-count, change-some}
 use Rattle.mono_inbox.proofs.pages.Page.write.Goals as goal
 
 pub overflow_sub-self : goal.overflow_sub-self

@@ -1,6 +1,6 @@
 use Rattle.std.proofs.Common.{length, ap, sym, ◌∙◌, arith}
 use Rattle.mono_inbox.specs.Standings.{has_place, count_where}
-use Rattle.mono_inbox.proofs.Forgetting.{length-without, count-without}
+use Rattle.mono_inbox.proofs.RowRemovalLemmas.{length-without, count-without}
 use Rattle.mono_inbox.proofs.pages.Page.write_row.Goals as goal
 
 pub overflow_sub-self : goal.overflow_sub-self

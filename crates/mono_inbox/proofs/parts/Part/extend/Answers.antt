@@ -2,8 +2,8 @@ use Rattle.std.proofs.Common.{◌≡◌, ◌<◌, ◌≤◌, ◌+◌, ◌/◌, �
 use Rattle.std.proofs.lemmas.List.{length-set}
 use Rattle.mono_inbox.specs.Standings.{has_place, count_where}
 use Rattle.mono_inbox.specs.Pages.{look_in, laid_standings}
-use Rattle.mono_inbox.proofs.Laying.{child_is, count_within, length-standings_of}
-use Rattle.mono_inbox.proofs.Extending.{with_row, count-row, extending_is, extending_laid}
+use Rattle.mono_inbox.proofs.LayoutLemmas.{child_is, count_within, length-standings_of}
+use Rattle.mono_inbox.proofs.RowGrowthLemmas.{with_row, count-row, extending_is, extending_laid}
 use Rattle.mono_inbox.proofs.parts.Part.extend.Goals as goal
 
 pub overflow_add-self-in-Ok : goal.overflow_add-self-in-Ok

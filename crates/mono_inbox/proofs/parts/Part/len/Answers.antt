@@ -1,6 +1,6 @@
 use Rattle.std.proofs.Common.{length, ap, sym, ◌∙◌}
 use Rattle.mono_inbox.specs.Pages.{look_in}
-use Rattle.mono_inbox.proofs.Laying.{length-standings_of}
+use Rattle.mono_inbox.proofs.LayoutLemmas.{length-standings_of}
 use Rattle.mono_inbox.proofs.parts.Part.len.Goals as goal
 
 pub returns : goal.returns

@@ -4,7 +4,7 @@ use Rattle.std.proofs.lemmas.List.{length-set}
 use Rattle.mono_inbox.specs.declared.standings.Standing.TheVariants.{Unknown}
 use Rattle.mono_inbox.specs.Standings.{standing_at, has_place, count_where}
 use Rattle.mono_inbox.specs.Pages.{child_at, with_mark, laid_standings}
-use Rattle.mono_inbox.proofs.Laying.{closing_laid, closing_same, reading_unknown, marking_is, marking_laid, put_back, mark-count, count_within, length-closed, length-standings_of}
+use Rattle.mono_inbox.proofs.LayoutLemmas.{closing_laid, closing_same, reading_unknown, marking_is, marking_laid, put_back, mark-count, count_within, length-closed, length-standings_of}
 use Rattle.mono_inbox.specs.Pages.{look_in}
 use Rattle.mono_inbox.proofs.parts.Part.mark.Goals as goal
 

@@ -1,6 +1,6 @@
 use Rattle.std.proofs.Common.{ap, ◌∙◌, arith}
 use Rattle.mono_inbox.specs.Standings.{standing_at}
-use Rattle.mono_inbox.proofs.Laying.{standing_past, standing_read}
+use Rattle.mono_inbox.proofs.LayoutLemmas.{standing_past, standing_read}
 use Rattle.mono_inbox.proofs.parts.Part.standing.Goals as goal
 
 pub returns-then-at-len : goal.returns-then-at-len

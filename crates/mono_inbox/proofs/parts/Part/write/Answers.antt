@@ -3,7 +3,7 @@ use Rattle.std.specs.Prelude.{slice_set}
 use Rattle.std.proofs.lemmas.List.{length-set}
 use Rattle.mono_inbox.specs.Standings.{has_place, standing_at, count_where}
 use Rattle.mono_inbox.specs.Pages.{laid_standings}
-use Rattle.mono_inbox.proofs.Laying.{at_child, placed_in_read, changing_is, changing_laid, change-count, change-some}
+use Rattle.mono_inbox.proofs.LayoutLemmas.{at_child, placed_in_read, changing_is, changing_laid, change-count, change-some}
 use Rattle.mono_inbox.proofs.parts.Part.write.Goals as goal
 
 pub index_mut-requires : goal.index_mut-requires

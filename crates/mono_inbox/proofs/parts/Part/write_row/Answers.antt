@@ -3,8 +3,8 @@ use Rattle.std.proofs.lemmas.List.{length-set}
 use Rattle.mono_inbox.specs.declared.standings.Standing.{Standing}
 use Rattle.mono_inbox.specs.Standings.{has_place, standing_at, count_where, AreKnown, without_row}
 use Rattle.mono_inbox.specs.Pages.{laid_standings}
-use Rattle.mono_inbox.proofs.Laying.{at_child, given}
-use Rattle.mono_inbox.proofs.Forgetting.{count-without, forgetting_known, forgetting_is, forgetting_laid}
+use Rattle.mono_inbox.proofs.LayoutLemmas.{at_child, given}
+use Rattle.mono_inbox.proofs.RowRemovalLemmas.{count-without, forgetting_known, forgetting_is, forgetting_laid}
 use Rattle.mono_inbox.proofs.parts.Part.write_row.Goals as goal
 
 pub index_mut-requires : goal.index_mut-requires

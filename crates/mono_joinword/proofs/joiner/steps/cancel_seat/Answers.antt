@@ -1,6 +1,6 @@
 use Rattle.std.proofs.Common.{rules}
 use Rattle.mono_joinword.specs.Views.{joiner_of}
-use Rattle.mono_joinword.proofs.JoinerForms.{cancel_at}
+use Rattle.mono_joinword.proofs.JoinerSeatLemmas.{cancel_at}
 use Rattle.mono_joinword.proofs.joiner.steps.cancel_seat.Goals as goal
 
 pub compare_exchange-was-requires : goal.compare_exchange-was-requires

@@ -1,5 +1,5 @@
 use Rattle.std.proofs.Common.{rules}
-use Rattle.mono_joinword.proofs.JoinerForms.{peek_at}
+use Rattle.mono_joinword.proofs.JoinerSeatLemmas.{peek_at}
 use Rattle.mono_joinword.proofs.joiner.steps.peek_seat.Goals as goal
 
 pub load-found-requires : goal.load-found-requires

@@ -2,7 +2,7 @@ use Rattle.std.proofs.Common.{rules, ◌∷◌, Some, sym, ap, ◌∙◌}
 use Rattle.atomic_table.specs.Table.{rest, turned}
 use Rattle.mono_joinword.specs.declared.views.Kept.TheVariants.{Output, Waker}
 use Rattle.mono_joinword.specs.Views.{joiner_of}
-use Rattle.mono_joinword.proofs.JoinerForms.{place_at, place_missed}
+use Rattle.mono_joinword.proofs.JoinerSeatLemmas.{place_at, place_missed}
 use Rattle.mono_joinword.proofs.joiner.steps.place.Goals as goal
 
 pub compare_exchange-found-requires : goal.compare_exchange-found-requires

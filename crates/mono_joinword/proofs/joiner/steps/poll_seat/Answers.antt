@@ -1,6 +1,6 @@
 use Rattle.std.proofs.Common.{rules}
 use Rattle.mono_joinword.specs.Views.{joiner_of}
-use Rattle.mono_joinword.proofs.JoinerForms.{look_at}
+use Rattle.mono_joinword.proofs.JoinerSeatLemmas.{look_at}
 use Rattle.mono_joinword.proofs.joiner.steps.poll_seat.Goals as goal
 
 pub load-found-requires : goal.load-found-requires

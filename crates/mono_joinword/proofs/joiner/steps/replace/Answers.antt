@@ -1,6 +1,6 @@
 use Rattle.std.proofs.Common.{rules}
 use Rattle.mono_joinword.specs.Views.{joiner_of}
-use Rattle.mono_joinword.proofs.JoinerForms.{clear_at}
+use Rattle.mono_joinword.proofs.JoinerSeatLemmas.{clear_at}
 use Rattle.mono_joinword.proofs.joiner.steps.replace.Goals as goal
 
 pub compare_exchange-cleared-requires : goal.compare_exchange-cleared-requires

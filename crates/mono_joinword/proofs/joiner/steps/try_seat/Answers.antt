@@ -1,6 +1,6 @@
 use Rattle.std.proofs.Common.{rules}
 use Rattle.mono_joinword.specs.Views.{has_waker}
-use Rattle.mono_joinword.proofs.JoinerForms.{try_at}
+use Rattle.mono_joinword.proofs.JoinerSeatLemmas.{try_at}
 use Rattle.mono_joinword.proofs.joiner.steps.try_seat.Goals as goal
 
 pub compare_exchange-requires : goal.compare_exchange-requires

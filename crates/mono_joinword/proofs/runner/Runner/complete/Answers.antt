@@ -4,8 +4,8 @@ use Rattle.mono_joinword.specs.declared.views.Stage.TheVariants.{Working}
 use Rattle.mono_joinword.specs.declared.views.Kept.TheVariants.{Output, Waker}
 use Rattle.mono_joinword.specs.Ends.{runner_of}
 use Rattle.mono_joinword.specs.Views.{runner_at}
-use Rattle.mono_joinword.proofs.RunnerSteps.{complete_step}
-use Rattle.mono_joinword.proofs.RunnerTells.{if_none, if_waker}
+use Rattle.mono_joinword.proofs.RunnerStepLemmas.{complete_step}
+use Rattle.mono_joinword.proofs.CompletionLemmas.{if_none, if_waker}
 use Rattle.mono_joinword.proofs.runner.Runner.complete.Goals as goal
 
 pub fetch_or-found-requires : goal.fetch_or-found-requires

@@ -1,7 +1,7 @@
 use Rattle.std.proofs.Common.{◌+◌, refl, sym, subst, ◌∙◌, arith}
-use Rattle.mono_limit.specs.Retrying.{Makes, Tries, at_stage}
+use Rattle.mono_limit.specs.RetryPolls.{Makes, Tries, at_stage}
 use Rattle.mono_limit.specs.declared.attempts.Stage.TheVariants as stage
-use Rattle.mono_limit.proofs.Stepping.{stays, due_stays, some_left}
+use Rattle.mono_limit.proofs.RetryStepLemmas.{stays, due_stays, some_left}
 use Rattle.mono_limit.proofs.attempts.Retry.step.Goals as goal
 
 pub begin-requires-clause-callable : goal.begin-requires-clause-callable

@@ -1,6 +1,6 @@
 use Rattle.std.proofs.Common.{◌≡◌, false}
 use Rattle.mono_limit.specs.Stages.{is_over}
-use Rattle.mono_limit.specs.Retrying.{MayGoOn, RetryPolls, rounds_left}
+use Rattle.mono_limit.specs.RetryPolls.{MayGoOn, RetryPolls, rounds_left}
 use Rattle.mono_limit.proofs.attempts.RetryTaskFuture.poll.Given as goal
 
 -- a poll from here on is one from the start

@@ -1,9 +1,9 @@
 use Rattle.std.proofs.Common.{subst, sym, ap, arith}
 use Rattle.std.specs.Prelude.{Ok}
 use Rattle.mono_limit.specs.Buckets.{Bucket}
-use Rattle.mono_limit.specs.Stored.{bucket_at, TakesOf}
+use Rattle.mono_limit.specs.BucketTable.{bucket_at, TakesOf}
 use Rattle.mono_limit.specs.declared.Take.TheVariants.{Short}
-use Rattle.mono_limit.proofs.Taking.{too_few}
+use Rattle.mono_limit.proofs.TakeLemmas.{too_few}
 use Rattle.mono_limit.proofs.buckets.StoredBucket.take.Goals as goal
 
 pub returns-then-n-from-2-clause-takes : goal.returns-then-n-from-2-clause-takes

@@ -1,7 +1,7 @@
 use Rattle.std.proofs.Common.{inl, refl, sym, ◌∙◌, arith}
 use Rattle.mono_limit.specs.Limits.{limits_of}
 use Rattle.mono_limit.specs.Retries.{greatest_of}
-use Rattle.mono_limit.proofs.Stores.{full_up, stored-further}
+use Rattle.mono_limit.proofs.BucketStoreLemmas.{full_up, stored-further}
 use Rattle.mono_limit.proofs.limiter.Limiter.bucket.Goals as goal
 
 pub returns-then-number-self : goal.returns-then-number-self

@@ -2,7 +2,7 @@ use Rattle.std.proofs.Common.{refl}
 use Rattle.mono_time.specs.Instants.{nanos_of}
 use Rattle.mono_limit.specs.Limits.{limits_of}
 use Rattle.mono_limit.specs.Retries.{greatest_of}
-use Rattle.mono_limit.proofs.Stores.{clocked}
+use Rattle.mono_limit.proofs.BucketStoreLemmas.{clocked}
 use Rattle.mono_limit.proofs.limiter.Limiter.clock.Goals as goal
 
 pub returns-clause-due : goal.returns-clause-due

@@ -1,6 +1,6 @@
 use Rattle.std.proofs.Common.{subst, sym, ◌∙◌, ◌<◌, ap, arith}
 use Rattle.std.specs.Prelude.{Ok}
-use Rattle.mono_limit.proofs.Validity.{again_later}
+use Rattle.mono_limit.proofs.ValidityLemmas.{again_later}
 use Rattle.mono_limit.proofs.limiter.Limiter.fail.Goals as goal
 
 pub wait-requires-clause-later : goal.wait-requires-clause-later

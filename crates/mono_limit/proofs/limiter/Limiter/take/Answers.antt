@@ -2,10 +2,10 @@ use Rattle.std.proofs.Common.{subst, sym, refl, arith}
 use Rattle.std.specs.Prelude.{Err}
 use Rattle.mono_limit.specs.Limiter.{TakesFrom}
 use Rattle.mono_limit.specs.Retries.{greatest_of}
-use Rattle.mono_limit.specs.Stored.{IsStored, TakesOf, bucket_at}
+use Rattle.mono_limit.specs.BucketTable.{IsStored, TakesOf, bucket_at}
 use Rattle.mono_limit.specs.declared.LimitError.TheVariants.{NoBucket}
 use Rattle.mono_limit.specs.Limits.{limits_of}
-use Rattle.mono_limit.proofs.Stores.{takes, stored-set, no_bucket}
+use Rattle.mono_limit.proofs.BucketStoreLemmas.{takes, stored-set, no_bucket}
 use Rattle.mono_limit.proofs.limiter.Limiter.take.Goals as goal
 
 pub returns : goal.returns

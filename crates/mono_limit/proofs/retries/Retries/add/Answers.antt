@@ -3,8 +3,8 @@ use Rattle.mono_time.specs.Instants.{nanos_of}
 use Rattle.mono_model.specs.Ticks.{up}
 use Rattle.mono_time.specs.Sleeps.{SleepTable, with_added_sleep}
 use Rattle.mono_time.specs.Timers.{sleeps_of}
-use Rattle.mono_limit.specs.Holding.{Holds}
-use Rattle.mono_limit.proofs.Sleeping.{same_next, added_holds, refused_same}
+use Rattle.mono_limit.specs.RetryTable.{Holds}
+use Rattle.mono_limit.proofs.RetrySleepLemmas.{same_next, added_holds, refused_same}
 use Rattle.mono_limit.proofs.retries.Retries.add.Goals as goal
 
 pub invariant_of-self-in-Ok : goal.invariant_of-self-in-Ok

@@ -4,8 +4,8 @@ use Rattle.mono_model.specs.Ticks.{down}
 use Rattle.mono_time.specs.Instants.{nanos_of}
 use Rattle.mono_time.specs.Sleeps.{SleepTable}
 use Rattle.mono_time.specs.Timers.{sleeps_of}
-use Rattle.mono_limit.proofs.Ending.{EndsFirst, NoneEnds, waiting_count, fewer_wait, waiting-le-live}
-use Rattle.mono_limit.proofs.Clocking.{ends_first, ends_none, holds_on, none_yet, one_more, all_listed}
+use Rattle.mono_limit.proofs.WaitEndLemmas.{EndsFirst, NoneEnds, waiting_count, fewer_wait, waiting-le-live}
+use Rattle.mono_limit.proofs.ClockStepLemmas.{ends_first, ends_none, holds_on, none_yet, one_more, all_listed}
 use Rattle.mono_limit.proofs.retries.Retries.clock.Goals as goal
 
 pub loop-retry-init : goal.loop-retry-init

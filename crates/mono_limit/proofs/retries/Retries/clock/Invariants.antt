@@ -4,9 +4,9 @@ use Rattle.mono_model.specs.Ticks.{down}
 use Rattle.mono_time.specs.Instants.{nanos_of}
 use Rattle.mono_time.specs.Sleeps.{armed_count}
 use Rattle.mono_time.specs.Timers.{sleeps_of, credit_left}
-use Rattle.mono_limit.specs.Holding.{Holds}
-use Rattle.mono_limit.proofs.Ending.{waiting_count}
-use Rattle.mono_limit.proofs.Clocking.{IsListed}
+use Rattle.mono_limit.specs.RetryTable.{Holds}
+use Rattle.mono_limit.proofs.WaitEndLemmas.{waiting_count}
+use Rattle.mono_limit.proofs.ClockStepLemmas.{IsListed}
 use Rattle.mono_limit.proofs.retries.Retries.clock.Given as goal
 
 -- what is due from here on is due behind those that are listed

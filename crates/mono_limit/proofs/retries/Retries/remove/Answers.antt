@@ -1,8 +1,8 @@
 use Rattle.std.proofs.Common.{sym, subst, ◌-◌}
 use Rattle.mono_model.specs.Table.{without}
 use Rattle.mono_time.specs.Timers.{sleeps_of}
-use Rattle.mono_limit.specs.Holding.{Holds}
-use Rattle.mono_limit.proofs.Sleeping.{without_holds}
+use Rattle.mono_limit.specs.RetryTable.{Holds}
+use Rattle.mono_limit.proofs.RetrySleepLemmas.{without_holds}
 use Rattle.mono_limit.proofs.retries.Retries.remove.Goals as goal
 
 pub invariant_of-self : goal.invariant_of-self

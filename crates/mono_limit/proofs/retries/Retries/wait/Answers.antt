@@ -4,8 +4,8 @@ use Rattle.mono_model.specs.Table.{with_value}
 use Rattle.mono_time.specs.Sleeps.{with_reset_sleep}
 use Rattle.mono_time.specs.Timers.{sleeps_of}
 use Rattle.mono_limit.specs.Schedules.{failed_until}
-use Rattle.mono_limit.specs.Holding.{Holds}
-use Rattle.mono_limit.proofs.Sleeping.{waiting_holds}
+use Rattle.mono_limit.specs.RetryTable.{Holds}
+use Rattle.mono_limit.proofs.RetrySleepLemmas.{waiting_holds}
 use Rattle.mono_limit.proofs.retries.Retries.wait.Goals as goal
 
 pub invariant_of-self : goal.invariant_of-self

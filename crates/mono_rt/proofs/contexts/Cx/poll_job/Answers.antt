@@ -1,6 +1,6 @@
 use Rattle.std.proofs.Common.{true, refl}
-use Rattle.mono_rt.specs.Reached.{by_parts}
-use Rattle.mono_parts.proofs.JobActs.{by_no_job}
+use Rattle.mono_rt.specs.Reaches.{by_parts}
+use Rattle.mono_rt.proofs.JobActLemmas.{by_no_job}
 use Rattle.mono_rt.proofs.contexts.Cx.poll_job.Goals as goal
 
 pub returns-in-Err-clause-reached : goal.returns-in-Err-clause-reached

@@ -1,6 +1,6 @@
 use Rattle.std.proofs.Common.{sym, ◌∙◌, subst}
-use Rattle.mono_rt.proofs.Turning.{turn_is, rests_after, same_has_timers, turn_led}
-use Rattle.mono_parts.proofs.Turning.{begun_turn}
+use Rattle.mono_rt.proofs.TurnLemmas.{turn_is, rests_after, same_has_timers, turn_led}
+use Rattle.mono_rt.proofs.PartTurnLemmas.{begun_turn}
 use Rattle.mono_rt.proofs.contexts.Cx.turn.Goals as goal
 
 pub returns-clause-turn : goal.returns-clause-turn

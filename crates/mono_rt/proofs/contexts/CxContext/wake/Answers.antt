@@ -1,6 +1,6 @@
 use Rattle.std.proofs.Common.{ap, ◌∙◌}
 use Rattle.mono_task.specs.Work.{without_outputs}
-use Rattle.mono_task.proofs.Forgotten.{without_outputs-woken}
+use Rattle.mono_task.proofs.ForgottenOutputLemmas.{without_outputs-woken}
 use Rattle.mono_rt.proofs.contexts.CxContext.wake.Goals as goal
 
 pub returns-clause-work : goal.returns-clause-work

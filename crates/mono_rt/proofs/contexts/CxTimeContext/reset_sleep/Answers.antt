@@ -1,6 +1,6 @@
 use Rattle.std.proofs.Common.{ap, ◌∙◌}
 use Rattle.mono_task.specs.Work.{without_outputs}
-use Rattle.mono_rt.proofs.Forgetting.{forgotten_if_any}
+use Rattle.mono_rt.proofs.ForgottenOutputLemmas.{forgotten_if_any}
 use Rattle.mono_rt.proofs.contexts.CxTimeContext.reset_sleep.Goals as goal
 
 pub returns-clause-work : goal.returns-clause-work

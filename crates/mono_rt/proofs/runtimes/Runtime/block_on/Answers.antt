@@ -1,15 +1,15 @@
 use Rattle.std.proofs.Common.{◌≡◌, Option, Some, None, refl, ap, ◌∙◌, sym, Ok}
 use Rattle.std.specs.Prelude.{⊤}
 use Rattle.std.specs.Option.{option_map}
-use Rattle.mono_parts.proofs.Doing.{blocks_by, blocks_done, blocks_refused}
-use Rattle.mono_parts.specs.Telling.{going}
-use Rattle.mono_parts.proofs.Telling.{telling_on, telling_past, telling_more, capacity_ends}
+use Rattle.mono_rt.proofs.RoundLemmas.{blocks_by, blocks_done, blocks_refused}
+use Rattle.mono_rt.specs.DriverReadings.{going}
+use Rattle.mono_rt.proofs.DriverLemmas.{telling_on, telling_past, telling_more, capacity_ends}
 use Rattle.std.proofs.Common.{Err, subst}
-use Rattle.mono_parts.specs.Journals.{Does}
-use Rattle.mono_rt.specs.Polling.{Polling}
-use Rattle.mono_rt.proofs.Polling.{polls_on, polls_drop, polls_main, same_error, on_main, none_made}
-use Rattle.mono_rt.proofs.Filling.{fills_on, fills_not, fills_still}
-use Rattle.mono_parts.proofs.FaultLemmas.{capacity_faults, faults_after}
+use Rattle.mono_rt.specs.Journals.{Does}
+use Rattle.mono_rt.specs.FuturePolls.{Polling}
+use Rattle.mono_rt.proofs.FuturePollLemmas.{polls_on, polls_drop, polls_main, same_error, on_main, none_made}
+use Rattle.mono_rt.proofs.JournalRoomLemmas.{fills_on, fills_not, fills_still}
+use Rattle.mono_rt.proofs.FaultLemmas.{capacity_faults, faults_after}
 use Rattle.mono_rt.proofs.runtimes.Runtime.block_on.Goals as goal
 
 -- where the main task has its output, the drop of its handle gives it

@@ -1,6 +1,6 @@
 use Rattle.std.proofs.Common.{refl, sym}
-use Rattle.mono_parts.proofs.Going.{goes_nowhere}
-use Rattle.mono_parts.proofs.Telling.{tells_nothing}
+use Rattle.mono_rt.proofs.JournalLemmas.{goes_nowhere}
+use Rattle.mono_rt.proofs.DriverLemmas.{tells_nothing}
 use Rattle.mono_rt.proofs.runtimes.Runtime.drain.Goals as goal
 
 pub returns-in-Err-clause-goes : goal.returns-in-Err-clause-goes

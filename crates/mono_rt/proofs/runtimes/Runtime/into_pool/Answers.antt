@@ -1,7 +1,7 @@
 use Rattle.std.proofs.Common.{subst}
 use Rattle.std.specs.Prelude.{IfSome, IfNone}
 use Rattle.mono_blocking.specs.declared.strategy.BlockingHandle.TheVariants.{Attached}
-use Rattle.mono_jobs.specs.Spawning.{IsApart}
+use Rattle.mono_blocking.specs.JobSpawns.{IsApart}
 use Rattle.std.specs.Prelude.{◌≡◌}
 use Rattle.mono_rt.proofs.runtimes.Runtime.into_pool.Goals as goal
 

@@ -1,15 +1,15 @@
 use Rattle.std.proofs.Common.{◌≡◌, cond, ℕ, ◌-◌, ◌<◌, arith, refl, ap, ◌∙◌, sym, subst}
-use Rattle.mono_parts.specs.Rounds.{Pause, PauseEnds}
-use Rattle.mono_parts.proofs.Going.{goes_of, goes_on, does_led}
-use Rattle.mono_parts.proofs.Doing.{does_pass, pass_breaks}
-use Rattle.mono_parts.specs.Telling.{going}
-use Rattle.mono_parts.proofs.Telling.{telling_on, telling_more}
+use Rattle.mono_rt.specs.Rounds.{Pause, PauseEnds}
+use Rattle.mono_rt.proofs.JournalLemmas.{goes_of, goes_on, does_led}
+use Rattle.mono_rt.proofs.RoundLemmas.{does_pass, pass_breaks}
+use Rattle.mono_rt.specs.DriverReadings.{going}
+use Rattle.mono_rt.proofs.DriverLemmas.{telling_on, telling_more}
 use Rattle.std.proofs.Common.{true, false}
 use Rattle.std.specs.Prelude.{⊤, Ok, Err}
-use Rattle.mono_parts.specs.Journals.{Does}
-use Rattle.mono_rt.specs.Polling.{Polling}
-use Rattle.mono_rt.proofs.Polling.{polls_on, polls_pause, same_error}
-use Rattle.mono_rt.proofs.Filling.{fills_on, fills_not}
+use Rattle.mono_rt.specs.Journals.{Does}
+use Rattle.mono_rt.specs.FuturePolls.{Polling}
+use Rattle.mono_rt.proofs.FuturePollLemmas.{polls_on, polls_pause, same_error}
+use Rattle.mono_rt.proofs.JournalRoomLemmas.{fills_on, fills_not}
 use Rattle.mono_rt.proofs.runtimes.Runtime.pass.Goals as goal
 
 no_cost : (u k : ℕ) → 0 ≡ k → u ≡ u - k

@@ -1,10 +1,10 @@
 use Rattle.std.proofs.Common.{arith, refl, inl, inr, ap, subst, ◌∙◌}
-use Rattle.mono_parts.proofs.Going.{does_led}
-use Rattle.mono_parts.proofs.Doing.{pause_some, pause_none, no_queue}
-use Rattle.mono_parts.specs.Telling.{going, failed, after_wait}
-use Rattle.mono_parts.proofs.Telling.{tells_nothing, telling_on, telling_more, same_telling}
-use Rattle.mono_parts.specs.Faults.{RisesIf}
-use Rattle.mono_parts.proofs.FaultLemmas.{risen_before}
+use Rattle.mono_rt.proofs.JournalLemmas.{does_led}
+use Rattle.mono_rt.proofs.RoundLemmas.{pause_some, pause_none, no_queue}
+use Rattle.mono_rt.specs.DriverReadings.{going, failed, after_wait}
+use Rattle.mono_rt.proofs.DriverLemmas.{tells_nothing, telling_on, telling_more, same_telling}
+use Rattle.mono_rt.specs.Faults.{RisesIf}
+use Rattle.mono_rt.proofs.FaultLemmas.{risen_before}
 use Rattle.mono_rt.proofs.runtimes.Runtime.pause.Goals as goal
 
 pub returns-in-Ok-handed-clause-pauses : goal.returns-in-Ok-handed-clause-pauses

@@ -1,11 +1,11 @@
 use Rattle.std.proofs.Common.{inl, inr, ◌≡◌, ◌+◌, ◌-◌, ℕ, arith, refl, ap, sym, subst, ◌∙◌}
-use Rattle.mono_parts.proofs.Going.{goes_on, goes_nowhere}
-use Rattle.mono_parts.proofs.Doing.{turns_more, no_turns, does_round, most_is, no_queue}
-use Rattle.mono_parts.proofs.Telling.{telling_on, tells_nothing}
-use Rattle.mono_parts.specs.Journals.{Does}
-use Rattle.mono_rt.specs.Polling.{Polling}
-use Rattle.mono_rt.proofs.Polling.{polls_on, polls_nothing}
-use Rattle.mono_rt.proofs.Filling.{fills_on, fills_not}
+use Rattle.mono_rt.proofs.JournalLemmas.{goes_on, goes_nowhere}
+use Rattle.mono_rt.proofs.RoundLemmas.{turns_more, no_turns, does_round, most_is, no_queue}
+use Rattle.mono_rt.proofs.DriverLemmas.{telling_on, tells_nothing}
+use Rattle.mono_rt.specs.Journals.{Does}
+use Rattle.mono_rt.specs.FuturePolls.{Polling}
+use Rattle.mono_rt.proofs.FuturePollLemmas.{polls_on, polls_nothing}
+use Rattle.mono_rt.proofs.JournalRoomLemmas.{fills_on, fills_not}
 use Rattle.mono_rt.proofs.runtimes.Runtime.round.Goals as goal
 
 never : (n : ℕ) → n + 1 ≡ 0 → ⊥

@@ -1,16 +1,16 @@
 use Rattle.std.proofs.Common.{◌≡◌, refl, true, false, Bool, arith, ap, ◌∙◌, sym, subst}
-use Rattle.mono_parts.specs.Rounds.{Rounds}
-use Rattle.mono_parts.proofs.Going.{does_led, goes_of}
-use Rattle.mono_parts.proofs.Doing.{does_first, passes_more, ends_done, ends_turns, ends_by}
+use Rattle.mono_rt.specs.Rounds.{Rounds}
+use Rattle.mono_rt.proofs.JournalLemmas.{does_led, goes_of}
+use Rattle.mono_rt.proofs.RoundLemmas.{does_first, passes_more, ends_done, ends_turns, ends_by}
 use Rattle.mono_rt.proofs.runtimes.Runtime.run.Goals.{then-loop-units-test+else-not-has_output, else-loop-units-test}
-use Rattle.mono_parts.specs.Telling.{going}
-use Rattle.mono_parts.proofs.Telling.{telling_on, telling_more}
+use Rattle.mono_rt.specs.DriverReadings.{going}
+use Rattle.mono_rt.proofs.DriverLemmas.{telling_on, telling_more}
 use Rattle.std.specs.Prelude.{⊤, Err}
-use Rattle.mono_parts.specs.Journals.{Does}
-use Rattle.mono_rt.specs.Polling.{Polling}
-use Rattle.mono_rt.proofs.Polling.{polls_on, same_error, on_main}
-use Rattle.mono_rt.proofs.Filling.{fills_on}
-use Rattle.mono_parts.proofs.FaultLemmas.{faults_after}
+use Rattle.mono_rt.specs.Journals.{Does}
+use Rattle.mono_rt.specs.FuturePolls.{Polling}
+use Rattle.mono_rt.proofs.FuturePollLemmas.{polls_on, same_error, on_main}
+use Rattle.mono_rt.proofs.JournalRoomLemmas.{fills_on}
+use Rattle.mono_rt.proofs.FaultLemmas.{faults_after}
 use Rattle.mono_rt.proofs.runtimes.Runtime.run.Goals as goal
 
 both : (b : Bool) → true ≡ b → false ≡ b → ⊥

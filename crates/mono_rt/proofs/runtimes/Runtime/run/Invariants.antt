@@ -1,9 +1,9 @@
 use Rattle.std.proofs.Common.{◌≡◌, ◌<◌, ◌≤◌, ℕ, None, length}
-use Rattle.mono_parts.specs.Journals.{Does}
-use Rattle.mono_parts.specs.Rounds.{Rounds}
-use Rattle.mono_rt.specs.Polling.{Polling}
-use Rattle.mono_rt.specs.Filling.{Fills}
-use Rattle.mono_parts.specs.Telling.{telling, Telling, Still, going}
+use Rattle.mono_rt.specs.Journals.{Does}
+use Rattle.mono_rt.specs.Rounds.{Rounds}
+use Rattle.mono_rt.specs.FuturePolls.{Polling}
+use Rattle.mono_rt.specs.JournalRoom.{Fills}
+use Rattle.mono_rt.specs.DriverReadings.{telling, Telling, Still, going}
 use Rattle.mono_rt.proofs.runtimes.Runtime.run.Given as goal
 
 -- what was done so far are rounds

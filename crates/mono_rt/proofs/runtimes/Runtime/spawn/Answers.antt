@@ -2,9 +2,9 @@ use Rattle.std.proofs.Common.{ℕ, refl, ap, sym, ◌∙◌, Err}
 use Rattle.std.specs.Prelude.{Result}
 use Rattle.mono_task.specs.declared.error.SpawnTask.{SpawnTask}
 use Rattle.mono_machine.specs.declared.events.Reply.TheVariants as reply
-use Rattle.mono_parts.specs.Stands.{hosting_of}
-use Rattle.mono_parts.proofs.Calling.{had_room, with_all}
-use Rattle.mono_parts.proofs.Spawned.{spawn_stands, full_stands}
+use Rattle.mono_rt.specs.Refinement.{hosting_of}
+use Rattle.mono_rt.proofs.CallLemmas.{had_room, with_all}
+use Rattle.mono_rt.proofs.SpawnOutcomeLemmas.{spawn_stands, full_stands}
 use Rattle.mono_rt.proofs.runtimes.Runtime.spawn.Goals as goal
 
 abbrev failed : SpawnTask → Result ℕ SpawnTask

@@ -1,6 +1,6 @@
 use Rattle.std.proofs.Common.{refl}
-use Rattle.mono_parts.proofs.Going.{goes_nowhere, does_stay}
-use Rattle.mono_parts.proofs.Telling.{tells_nothing}
+use Rattle.mono_rt.proofs.JournalLemmas.{goes_nowhere, does_stay}
+use Rattle.mono_rt.proofs.DriverLemmas.{tells_nothing}
 use Rattle.mono_rt.proofs.runtimes.Runtime.start_main.Goals as goal
 
 pub returns-in-Err-clause-goes : goal.returns-in-Err-clause-goes

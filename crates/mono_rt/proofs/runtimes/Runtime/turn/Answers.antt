@@ -1,14 +1,14 @@
-use Rattle.mono_parts.specs.Stands.{hosting_of}
-use Rattle.mono_parts.specs.Rounds.{OneTurn}
-use Rattle.mono_parts.proofs.Calling.{same_machine}
-use Rattle.mono_parts.proofs.Going.{goes_of, goes_on, does_turn}
-use Rattle.mono_parts.proofs.Doing.{does_one}
-use Rattle.mono_parts.proofs.Telling.{telling_on, tells_kept}
+use Rattle.mono_rt.specs.Refinement.{hosting_of}
+use Rattle.mono_rt.specs.Rounds.{OneTurn}
+use Rattle.mono_rt.proofs.CallLemmas.{same_machine}
+use Rattle.mono_rt.proofs.JournalLemmas.{goes_of, goes_on, does_turn}
+use Rattle.mono_rt.proofs.RoundLemmas.{does_one}
+use Rattle.mono_rt.proofs.DriverLemmas.{telling_on, tells_kept}
 use Rattle.std.proofs.Common.{refl, ap, sym, subst, ◌∙◌}
-use Rattle.mono_parts.specs.Record.{no_acts}
+use Rattle.mono_rt.specs.Record.{no_acts}
 use Rattle.mono_rt.specs.Turns.{Turn}
-use Rattle.mono_rt.proofs.Polling.{polls_turn}
-use Rattle.mono_rt.proofs.Filling.{fills_turn}
+use Rattle.mono_rt.proofs.FuturePollLemmas.{polls_turn}
+use Rattle.mono_rt.proofs.JournalRoomLemmas.{fills_turn}
 use Rattle.mono_rt.proofs.runtimes.Runtime.turn.Goals as goal
 
 pub returns-then-self-clause-goes : goal.returns-then-self-clause-goes

@@ -1,12 +1,12 @@
 use Rattle.std.proofs.Common.{◌≡◌, true, false, ◌∙◌, sym, subst, refl}
-use Rattle.mono_parts.specs.Journals.{Does}
-use Rattle.mono_parts.specs.Rounds.{Parks}
-use Rattle.mono_parts.proofs.Doing.{does_parks, does_clocked}
-use Rattle.mono_parts.specs.Rounds.{IsPark}
-use Rattle.mono_parts.proofs.Going.{goes_on, does_led}
-use Rattle.mono_parts.specs.Telling.{Telling, Still, after_park, after_wait}
-use Rattle.mono_parts.proofs.Telling.{telling_on, telling_more, drained_wait}
-use Rattle.mono_parts.proofs.FaultLemmas.{rises_before}
+use Rattle.mono_rt.specs.Journals.{Does}
+use Rattle.mono_rt.specs.Rounds.{Parks}
+use Rattle.mono_rt.proofs.RoundLemmas.{does_parks, does_clocked}
+use Rattle.mono_rt.specs.Rounds.{IsPark}
+use Rattle.mono_rt.proofs.JournalLemmas.{goes_on, does_led}
+use Rattle.mono_rt.specs.DriverReadings.{Telling, Still, after_park, after_wait}
+use Rattle.mono_rt.proofs.DriverLemmas.{telling_on, telling_more, drained_wait}
+use Rattle.mono_rt.proofs.FaultLemmas.{rises_before}
 use Rattle.mono_rt.proofs.runtimes.Runtime.wait.Goals as goal
 
 pub returns-else-self-clause-parks : goal.returns-else-self-clause-parks

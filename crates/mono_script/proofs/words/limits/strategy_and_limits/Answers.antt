@@ -1,5 +1,5 @@
 use Rattle.std.proofs.Common.{◌≡◌, ◌∷◌, [], map, string_bytes, sym, ap, ◌∙◌}
-use Rattle.mono_script.proofs.Commands.{five}
+use Rattle.mono_script.proofs.CommandLemmas.{five}
 use Rattle.mono_script.proofs.words.limits.strategy_and_limits.Goals as goal
 
 pub returns-clause-none : goal.returns-clause-none

@@ -1,5 +1,5 @@
 use Rattle.std.proofs.Common.{codes, arith}
-use Rattle.mono_script.proofs.Commands.{second_once}
+use Rattle.mono_script.proofs.CommandLemmas.{second_once}
 use Rattle.mono_script.proofs.words.load.read_load.Goals as goal
 
 pub returns-then-count-gt100000-clause-none : goal.returns-then-count-gt100000-clause-none

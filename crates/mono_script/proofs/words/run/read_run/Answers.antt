@@ -1,5 +1,5 @@
 use Rattle.std.proofs.Common.{codes, arith}
-use Rattle.mono_script.proofs.Commands.{first_once, second_once}
+use Rattle.mono_script.proofs.CommandLemmas.{first_once, second_once}
 use Rattle.mono_script.proofs.words.run.read_run.Goals as goal
 
 pub returns-then-workers-gt64-clause-none : goal.returns-then-workers-gt64-clause-none

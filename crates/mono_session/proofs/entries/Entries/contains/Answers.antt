@@ -1,6 +1,6 @@
 use Rattle.std.proofs.Common.{sym, ◌∙◌}
 use Rattle.mono_session.specs.Keeper.{queue_in}
-use Rattle.mono_session.proofs.Entering.{stands-queue}
+use Rattle.mono_session.proofs.EntryLemmas.{stands-queue}
 use Rattle.mono_session.proofs.entries.Entries.contains.Goals as goal
 
 pub returns : goal.returns

@@ -1,4 +1,4 @@
-use Rattle.mono_session.proofs.Entering.{entered_last}
+use Rattle.mono_session.proofs.EntryLemmas.{entered_last}
 use Rattle.mono_session.proofs.entries.Entries.enter.Goals as goal
 
 pub returns : goal.returns

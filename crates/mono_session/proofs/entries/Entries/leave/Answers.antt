@@ -1,8 +1,8 @@
 use Rattle.std.proofs.Common.{subst, cond, ◌+◌, ◌≡◌, Bool}
 use Rattle.mono_session.specs.Keeper.{queue_in}
-use Rattle.mono_session.specs.Entered.{keys_in}
+use Rattle.mono_session.specs.Entries.{keys_in}
 use Rattle.mono_session.specs.Queues.{member_count}
-use Rattle.mono_session.proofs.Entering.{entered_left}
+use Rattle.mono_session.proofs.EntryLemmas.{entered_left}
 use Rattle.mono_session.proofs.entries.Entries.leave.Goals as goal
 
 pub returns : goal.returns

@@ -1,10 +1,10 @@
 use Rattle.std.proofs.Common.{◌≡◌, ◌+◌, ◌∙◌, Bool, Some, None, List, cond, sym, subst}
 use Rattle.std.specs.Prelude.{not, filter}
 use Rattle.mono_session.specs.Keeper.{Entry, queue_in, is_entry, first_of}
-use Rattle.mono_session.specs.Entered.{Entered, keys_in}
+use Rattle.mono_session.specs.Entries.{Entered, keys_in}
 use Rattle.mono_session.specs.Queues.{member_count}
 use Rattle.mono_session.specs.declared.entries.Entries.{Entries}
-use Rattle.mono_session.proofs.Entering.{entered_left, key_stands, others_stay, all_stay}
+use Rattle.mono_session.proofs.EntryLemmas.{entered_left, key_stands, others_stay, all_stay}
 use Rattle.mono_session.proofs.entries.Entries.leave_all.Goals as goal
 
 pub loop-key-preserved : goal.loop-key-preserved

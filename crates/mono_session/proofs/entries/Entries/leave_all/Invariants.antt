@@ -1,7 +1,7 @@
 use Rattle.std.proofs.Common.{◌≡◌, List}
 use Rattle.std.specs.Prelude.{◌==◌, not, filter}
 use Rattle.mono_session.specs.Keeper.{Entry}
-use Rattle.mono_session.specs.Entered.{Entered}
+use Rattle.mono_session.specs.Entries.{Entered}
 use Rattle.mono_session.specs.Queues.{member_count}
 use Rattle.mono_session.proofs.entries.Entries.leave_all.Given as goal
 

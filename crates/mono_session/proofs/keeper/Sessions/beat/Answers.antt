@@ -6,9 +6,9 @@ use Rattle.mono_time.specs.Instants.{nanos_of}
 use Rattle.mono_session.specs.Keeper.{last_tick}
 use Rattle.mono_time.specs.Timers.{elapsed_tick, credit_left}
 use Rattle.mono_wheel.specs.Credit.{most_takes}
-use Rattle.mono_session.specs.Stands.{limit_in}
+use Rattle.mono_session.specs.Refinement.{limit_in}
 use Rattle.mono_session.specs.declared.keeper.Sessions.{Sessions}
-use Rattle.mono_session.proofs.Timed.{beats, in_time, greatest_told}
+use Rattle.mono_session.proofs.SessionSleepLemmas.{beats, in_time, greatest_told}
 use Rattle.mono_session.proofs.keeper.Sessions.beat.Goals as goal
 
 pub returns-clause-step : goal.returns-clause-step

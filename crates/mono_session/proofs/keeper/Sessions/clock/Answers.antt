@@ -5,11 +5,11 @@ use Rattle.mono_time.specs.Timers.{sleeps_of}
 use Rattle.mono_session.specs.Keeper.{Keeper, with_greatest, without_session}
 use Rattle.mono_session.specs.Answers as answer
 use Rattle.mono_session.specs.Steps.{greatest_at, without_all}
-use Rattle.mono_session.specs.Stands.{Matches, Beside}
+use Rattle.mono_session.specs.Refinement.{Matches, Beside}
 use Rattle.mono_session.specs.declared.keeper.Sessions.{Sessions}
-use Rattle.mono_session.proofs.Closing.{all_greatest, clock_timely}
-use Rattle.mono_session.proofs.Timed.{sleep_closed}
-use Rattle.mono_session.proofs.Turns.{CloseInTurn, IsFirst, first_due, none_due, due_inside, due_open, all-push, clock-again, beside_clock, lists_due}
+use Rattle.mono_session.proofs.CloseLemmas.{all_greatest, clock_timely}
+use Rattle.mono_session.proofs.SessionSleepLemmas.{sleep_closed}
+use Rattle.mono_session.proofs.CloseListLemmas.{CloseInTurn, IsFirst, first_due, none_due, due_inside, due_open, all-push, clock-again, beside_clock, lists_due}
 use Rattle.mono_session.proofs.keeper.Sessions.clock.Goals as goal
 
 pub loop-session-init : goal.loop-session-init

@@ -5,8 +5,8 @@ use Rattle.mono_time.specs.Sleeps.{armed_count}
 use Rattle.mono_time.specs.Timers.{sleeps_of}
 use Rattle.mono_session.specs.Keeper.{Keeper, with_greatest}
 use Rattle.mono_session.specs.Steps.{greatest_at, without_all}
-use Rattle.mono_session.specs.Stands.{Matches, StandsFor, open_count, steps_left}
-use Rattle.mono_session.proofs.Turns.{CloseInTurn}
+use Rattle.mono_session.specs.Refinement.{Matches, StandsFor, open_count, steps_left}
+use Rattle.mono_session.proofs.CloseListLemmas.{CloseInTurn}
 use Rattle.mono_session.proofs.keeper.Sessions.clock.Given as goal
 
 -- There is room for the open sessions. What is closed in turn from here on, is closed in turn behind those that were closed.

@@ -1,5 +1,5 @@
 use Rattle.std.proofs.Common.{sym, ◌∙◌}
-use Rattle.mono_session.proofs.Timed.{closes}
+use Rattle.mono_session.proofs.SessionSleepLemmas.{closes}
 use Rattle.mono_session.proofs.keeper.Sessions.close.Goals as goal
 
 pub returns-clause-step : goal.returns-clause-step

@@ -7,10 +7,10 @@ use Rattle.mono_time.specs.Timers.{sleeps_of, elapsed_tick, credit_left}
 use Rattle.mono_wheel.specs.Credit.{most_takes}
 use Rattle.mono_session.specs.Keeper.{open_answer, opened}
 use Rattle.mono_model.specs.Memory.{OrLacksMemory}
-use Rattle.mono_session.specs.Stands.{StandsFor}
+use Rattle.mono_session.specs.Refinement.{StandsFor}
 use Rattle.mono_session.specs.declared.keeper.Sessions.{Sessions}
 use Rattle.mono_session.specs.declared.error.SessionError.TheVariants.{Memory, AtCapacity, Invalid, ZeroLimit}
-use Rattle.mono_session.proofs.Timed.{opens, open_refused, open_lacks, open-full, open-late, open-none, open-ok, in_time, too_late, greatest_told, full_told, zero-tells, nonzero-tells, stands_alike, unchanged_by}
+use Rattle.mono_session.proofs.SessionSleepLemmas.{opens, open_refused, open_lacks, open-full, open-late, open-none, open-ok, in_time, too_late, greatest_told, full_told, zero-tells, nonzero-tells, stands_alike, unchanged_by}
 use Rattle.mono_session.proofs.keeper.Sessions.open.Goals as goal
 
 pub returns-then-is_full-clause-step : goal.returns-then-is_full-clause-step

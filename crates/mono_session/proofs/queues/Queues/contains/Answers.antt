@@ -1,5 +1,5 @@
 use Rattle.std.proofs.Common.{◌∙◌}
-use Rattle.mono_session.proofs.Keeping.{contains-keeps}
+use Rattle.mono_session.proofs.QueueLemmas.{contains-keeps}
 use Rattle.mono_session.proofs.queues.Queues.contains.Goals as goal
 
 pub returns : goal.returns

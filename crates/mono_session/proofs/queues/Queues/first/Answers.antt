@@ -1,4 +1,4 @@
-use Rattle.mono_session.proofs.Keeping.{first_is_none}
+use Rattle.mono_session.proofs.QueueLemmas.{first_is_none}
 use Rattle.mono_session.proofs.queues.Queues.first.Goals as goal
 
 pub returns-in-None : goal.returns-in-None

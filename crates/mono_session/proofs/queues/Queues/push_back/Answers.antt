@@ -1,7 +1,7 @@
 use Rattle.std.proofs.Common.{◌∙◌, Some, cond, ap}
 use Rattle.std.specs.Prelude.{nat_eq}
 use Rattle.mono_session.specs.Links.{linked_after}
-use Rattle.mono_session.proofs.Keeping.{pushed, on_ok}
+use Rattle.mono_session.proofs.QueueLemmas.{pushed, on_ok}
 use Rattle.mono_session.proofs.queues.Queues.push_back.Goals as goal
 
 pub returns-clause-kept : goal.returns-clause-kept

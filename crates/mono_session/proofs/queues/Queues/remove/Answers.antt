@@ -4,7 +4,7 @@ use Rattle.std.specs.HashMap.{get}
 use Rattle.std.specs.Map.{lookup}
 use Rattle.mono_session.specs.Links.{pair_eq}
 use Rattle.mono_session.specs.Queues.{place_at, without_member}
-use Rattle.mono_session.proofs.Keeping.{left_place, none_left, keeps_alike, in_turn}
+use Rattle.mono_session.proofs.QueueLemmas.{left_place, none_left, keeps_alike, in_turn}
 use Rattle.mono_session.proofs.queues.Queues.remove.Goals as goal
 
 pub returns-in_default-clause-kept : goal.returns-in_default-clause-kept

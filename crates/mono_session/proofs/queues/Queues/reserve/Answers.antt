@@ -1,4 +1,4 @@
-use Rattle.mono_session.proofs.Keeping.{keeps_alike}
+use Rattle.mono_session.proofs.QueueLemmas.{keeps_alike}
 use Rattle.mono_session.proofs.queues.Queues.reserve.Goals as goal
 
 pub returns-clause-kept : goal.returns-clause-kept

@@ -1,5 +1,5 @@
 use Rattle.std.proofs.Common.{length, ap, ◌∙◌, arith}
-use Rattle.mono_table.proofs.Laying.{length_is}
+use Rattle.mono_table.proofs.LayoutLemmas.{length_is}
 use Rattle.mono_table.proofs.directory.Table.len.Goals as goal
 
 pub returns : goal.returns

@@ -1,7 +1,7 @@
 use Rattle.std.proofs.Common.{◌/◌, ap, ◌∙◌, arith}
 use Rattle.std.specs.Prelude.{is_some}
 use Rattle.mono_model.specs.Table.{value_at, without}
-use Rattle.mono_table.proofs.Laying.{at_child, read_value, removes, some_live, below_is}
+use Rattle.mono_table.proofs.LayoutLemmas.{at_child, read_value, removes, some_live, below_is}
 use Rattle.mono_table.proofs.directory.Table.remove.Goals as goal
 
 pub index_mut-requires : goal.index_mut-requires

@@ -1,7 +1,7 @@
 use Rattle.std.proofs.Common.{refl, sym, ap, ◌∙◌, arith}
 use Rattle.std.specs.Prelude.{is_some}
 use Rattle.mono_model.specs.Table.{value_at, with_value}
-use Rattle.mono_table.proofs.Laying.{at_child, read_value, read_number, sets}
+use Rattle.mono_table.proofs.LayoutLemmas.{at_child, read_value, read_number, sets}
 use Rattle.mono_table.proofs.directory.Table.value_mut.Goals as goal
 
 pub index_mut-requires : goal.index_mut-requires

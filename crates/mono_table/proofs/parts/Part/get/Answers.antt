@@ -1,6 +1,6 @@
 use Rattle.std.proofs.Common.{ap, ◌∙◌, arith}
 use Rattle.mono_model.specs.Table.{value_at}
-use Rattle.mono_table.proofs.Laying.{get_reads, look_past}
+use Rattle.mono_table.proofs.LayoutLemmas.{get_reads, look_past}
 use Rattle.mono_table.proofs.parts.Part.get.Goals as goal
 
 pub returns-then-number-self : goal.returns-then-number-self

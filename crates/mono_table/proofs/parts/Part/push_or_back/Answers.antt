@@ -1,6 +1,6 @@
 use Rattle.std.proofs.Common.{ap, ◌∙◌, arith, length}
 use Rattle.mono_model.specs.Table.{with_next}
-use Rattle.mono_table.proofs.Laying.{length_is, on_ok, pushes}
+use Rattle.mono_table.proofs.LayoutLemmas.{length_is, on_ok, pushes}
 use Rattle.mono_table.proofs.parts.Part.push_or_back.Goals as goal
 
 pub overflow_add-self : goal.overflow_add-self

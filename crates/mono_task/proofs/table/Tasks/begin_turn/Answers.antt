@@ -3,9 +3,9 @@ use Rattle.std.specs.Prelude.{is_some}
 use Rattle.mono_model.specs.Table.{count_of}
 use Rattle.mono_task.specs.Entries.{is_queued}
 use Rattle.mono_task.specs.Schedule.{one_more_turn}
-use Rattle.mono_task.specs.Standing.{entries_of}
-use Rattle.mono_task.proofs.Tabled.{some_of, found, inside, written, as_many}
-use Rattle.mono_task.proofs.Begins.{begin_queued, begins}
+use Rattle.mono_task.specs.Invariants.{entries_of}
+use Rattle.mono_task.proofs.PlaceTableLemmas.{some_of, found, inside, written, as_many}
+use Rattle.mono_task.proofs.TurnStartLemmas.{begin_queued, begins}
 use Rattle.mono_task.proofs.table.Tasks.begin_turn.Goals as goal
 
 pub value_mut-requires : goal.value_mut-requires

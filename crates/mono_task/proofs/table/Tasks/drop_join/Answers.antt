@@ -3,10 +3,10 @@ use Rattle.std.specs.Prelude.{is_some}
 use Rattle.mono_model.specs.Table.{value_at, count_of}
 use Rattle.mono_model.specs.Joins.{drop_value, kept_value}
 use Rattle.mono_task.specs.Entries.{task_of}
-use Rattle.mono_task.specs.Standing.{entries_of}
-use Rattle.mono_task.proofs.Tabled.{length_of, found, absent, inside, written, still_there, as_many, erased, one_less}
-use Rattle.mono_task.proofs.Places.{kept_at}
-use Rattle.mono_task.proofs.Handles.{drops, over_gone, over_keeps, lasting_keeps, dropped_gone}
+use Rattle.mono_task.specs.Invariants.{entries_of}
+use Rattle.mono_task.proofs.PlaceTableLemmas.{length_of, found, absent, inside, written, still_there, as_many, erased, one_less}
+use Rattle.mono_task.proofs.PlaceLemmas.{kept_at}
+use Rattle.mono_task.proofs.HandleLemmas.{drops, over_gone, over_keeps, lasting_keeps, dropped_gone}
 use Rattle.mono_task.proofs.table.Tasks.drop_join.Goals as goal
 
 pub remove-requires : goal.remove-requires

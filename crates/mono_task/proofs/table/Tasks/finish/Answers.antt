@@ -2,11 +2,11 @@ use Rattle.std.proofs.Common.{Some, refl, ap, sym, ◌∙◌}
 use Rattle.std.specs.Prelude.{is_some}
 use Rattle.mono_model.specs.Table.{count_of}
 use Rattle.mono_task.specs.Entries.{is_running}
-use Rattle.mono_task.specs.Standing.{entries_of}
+use Rattle.mono_task.specs.Invariants.{entries_of}
 use Rattle.mono_task.specs.declared.entries.Handle.TheVariants.{Dropped, Kept, Awaited}
-use Rattle.mono_task.proofs.Tabled.{some_of, found, inside, written, still_there, as_many, erased, one_less}
-use Rattle.mono_task.proofs.Places.{running_at}
-use Rattle.mono_task.proofs.Finishes.{handle_is_there, one_unfinished, is_gone, gone_keeps, done_keeps, finishes}
+use Rattle.mono_task.proofs.PlaceTableLemmas.{some_of, found, inside, written, still_there, as_many, erased, one_less}
+use Rattle.mono_task.proofs.PlaceLemmas.{running_at}
+use Rattle.mono_task.proofs.TaskEndLemmas.{handle_is_there, one_unfinished, is_gone, gone_keeps, done_keeps, finishes}
 use Rattle.mono_task.proofs.table.Tasks.finish.Goals as goal
 
 pub value_mut-requires : goal.value_mut-requires

@@ -1,9 +1,9 @@
 use Rattle.std.proofs.Common.{Ok, ap, sym, ◌∙◌, arith}
 use Rattle.mono_task.specs.Entries.{task_of}
-use Rattle.mono_task.specs.Standing.{entries_of}
+use Rattle.mono_task.specs.Invariants.{entries_of}
 use Rattle.mono_task.specs.Work.{has_finished}
-use Rattle.mono_task.proofs.Places.{over_at}
-use Rattle.mono_task.proofs.Tabled.{found, absent, length_of}
+use Rattle.mono_task.proofs.PlaceLemmas.{over_at}
+use Rattle.mono_task.proofs.PlaceTableLemmas.{found, absent, length_of}
 use Rattle.mono_task.proofs.table.Tasks.has_finished.Goals as goal
 
 pub returns-in-None : goal.returns-in-None

@@ -1,11 +1,11 @@
 use Rattle.std.proofs.Common.{ap, sym, ◌∙◌}
 use Rattle.std.specs.Prelude.{is_some}
 use Rattle.mono_task.specs.Entries.{task_of}
-use Rattle.mono_task.specs.Standing.{entries_of}
+use Rattle.mono_task.specs.Invariants.{entries_of}
 use Rattle.mono_task.specs.Work.{has_output}
-use Rattle.mono_task.proofs.Counted.{value_at-entries}
-use Rattle.mono_task.proofs.Handles.{gives_output}
-use Rattle.mono_task.proofs.Tabled.{found, absent, inside}
+use Rattle.mono_task.proofs.TableWriteLemmas.{value_at-entries}
+use Rattle.mono_task.proofs.HandleLemmas.{gives_output}
+use Rattle.mono_task.proofs.PlaceTableLemmas.{found, absent, inside}
 use Rattle.mono_task.proofs.table.Tasks.has_output.Goals as goal
 
 pub returns-in-None-clause-answer : goal.returns-in-None-clause-answer

@@ -3,10 +3,10 @@ use Rattle.std.specs.Prelude.{is_some}
 use Rattle.std.specs.VecDeque.{deque_len}
 use Rattle.mono_model.specs.Table.{count_of}
 use Rattle.mono_task.specs.Entries.{is_running}
-use Rattle.mono_task.specs.Standing.{entries_of}
-use Rattle.mono_task.proofs.Tabled.{some_of, found, inside, written, as_many}
-use Rattle.mono_task.proofs.Places.{running_at}
-use Rattle.mono_task.proofs.Ends.{noted_room, noted_queues, running_rests}
+use Rattle.mono_task.specs.Invariants.{entries_of}
+use Rattle.mono_task.proofs.PlaceTableLemmas.{some_of, found, inside, written, as_many}
+use Rattle.mono_task.proofs.PlaceLemmas.{running_at}
+use Rattle.mono_task.proofs.TurnEndLemmas.{noted_room, noted_queues, running_rests}
 use Rattle.mono_task.proofs.table.Tasks.pause.Goals as goal
 
 pub value_mut-requires : goal.value_mut-requires

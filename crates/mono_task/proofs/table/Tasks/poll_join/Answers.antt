@@ -3,10 +3,10 @@ use Rattle.std.specs.Prelude.{is_some}
 use Rattle.mono_model.specs.Table.{value_at, count_of}
 use Rattle.mono_model.specs.Joins.{join_value, kept_value}
 use Rattle.mono_task.specs.Entries.{task_of}
-use Rattle.mono_task.specs.Standing.{entries_of}
-use Rattle.mono_task.proofs.Tabled.{length_of, found, absent, inside, written, as_many}
-use Rattle.mono_task.proofs.Places.{kept_at}
-use Rattle.mono_task.proofs.Handles.{joins, joined_gone}
+use Rattle.mono_task.specs.Invariants.{entries_of}
+use Rattle.mono_task.proofs.PlaceTableLemmas.{length_of, found, absent, inside, written, as_many}
+use Rattle.mono_task.proofs.PlaceLemmas.{kept_at}
+use Rattle.mono_task.proofs.HandleLemmas.{joins, joined_gone}
 use Rattle.mono_task.proofs.table.Tasks.poll_join.Goals as goal
 
 pub invariant_of-self : goal.invariant_of-self

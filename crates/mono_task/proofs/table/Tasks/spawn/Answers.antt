@@ -1,10 +1,10 @@
 use Rattle.std.proofs.Common.{rules, ◌≡◌, length, ap, sym, ◌∙◌, arith}
 use Rattle.std.specs.VecDeque.{deque_len}
 use Rattle.mono_model.specs.Table.{count_of}
-use Rattle.mono_task.specs.Standing.{entries_of}
-use Rattle.mono_task.proofs.Tabled.{length_of, entered, one_more}
-use Rattle.mono_task.proofs.Stays.{queue_fits}
-use Rattle.mono_task.proofs.Spawns.{spawn_keeps, spawns_as}
+use Rattle.mono_task.specs.Invariants.{entries_of}
+use Rattle.mono_task.proofs.PlaceTableLemmas.{length_of, entered, one_more}
+use Rattle.mono_task.proofs.InvariantLemmas.{queue_fits}
+use Rattle.mono_task.proofs.SpawnLemmas.{spawn_keeps, spawns_as}
 use Rattle.mono_task.proofs.table.Tasks.spawn.Goals as goal
 
 pub enter-requires-clause-few : goal.enter-requires-clause-few

@@ -4,9 +4,9 @@ use Rattle.std.specs.VecDeque.{deque_len}
 use Rattle.mono_model.specs.Table.{value_at, count_of}
 use Rattle.mono_model.specs.Tasks as model
 use Rattle.mono_task.specs.Entries.{task_of}
-use Rattle.mono_task.specs.Standing.{entries_of}
-use Rattle.mono_task.proofs.Tabled.{length_of, found, absent, inside, written, as_many}
-use Rattle.mono_task.proofs.Wakes.{idle_room, idle_queues, running_notes, nothing_stays, gone_stays, wake_at, woke_queued, woke_noted, woke_nothing}
+use Rattle.mono_task.specs.Invariants.{entries_of}
+use Rattle.mono_task.proofs.PlaceTableLemmas.{length_of, found, absent, inside, written, as_many}
+use Rattle.mono_task.proofs.WakeLemmas.{idle_room, idle_queues, running_notes, nothing_stays, gone_stays, wake_at, woke_queued, woke_noted, woke_nothing}
 use Rattle.mono_task.proofs.table.Tasks.wake.Goals as goal
 
 pub push_back_reserved-requires : goal.push_back_reserved-requires

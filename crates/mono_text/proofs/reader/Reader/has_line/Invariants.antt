@@ -1,5 +1,5 @@
 use Rattle.std.proofs.Common.{length}
-use Rattle.mono_text.specs.Serving.{HasNoFeed}
+use Rattle.mono_text.specs.Services.{HasNoFeed}
 use Rattle.mono_text.proofs.reader.Reader.has_line.Given as goal
 
 abbrev pub invariant-bytes : goal.invariant-bytes

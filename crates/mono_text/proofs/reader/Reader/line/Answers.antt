@@ -1,4 +1,4 @@
-use Rattle.mono_text.proofs.Spelled.{found_line, no_line}
+use Rattle.mono_text.proofs.SpellingLemmas.{found_line, no_line}
 use Rattle.mono_text.proofs.reader.Reader.line.Goals as goal
 
 pub returns-clause-found : goal.returns-clause-found

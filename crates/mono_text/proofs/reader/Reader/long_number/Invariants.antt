@@ -1,5 +1,5 @@
 use Rattle.std.proofs.Common.{◌≡◌, ◌^◌, drop}
-use Rattle.mono_text.specs.Reading.{digits_from}
+use Rattle.mono_text.specs.Parser.{digits_from}
 use Rattle.mono_text.proofs.reader.Reader.long_number.Given as goal
 
 abbrev pub invariant-digits : goal.invariant-digits

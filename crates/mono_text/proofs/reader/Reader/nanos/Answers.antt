@@ -1,6 +1,6 @@
 use Rattle.std.proofs.Common.{◌≡◌, ◌^◌, ◌+◌, ◌*◌, ◌<◌, ◌≤◌, true, false, Some, None, rules, arith, nat_lt, if◌then◌else◌, slice_index, sym, ap, ◌∙◌, length}
 use Rattle.std.specs.Char.{is_ascii_digit}
-use Rattle.mono_text.proofs.Digits.{digits-next, digits-stop, plain_digit, more_digit, ends_give, ends_all}
+use Rattle.mono_text.proofs.DigitLemmas.{digits-next, digits-stop, plain_digit, more_digit, ends_give, ends_all}
 use Rattle.mono_text.proofs.reader.Reader.nanos.Goals as goal
 
 pub returns-then-not-is_ascii_digit : goal.returns-then-not-is_ascii_digit

@@ -1,6 +1,6 @@
 use Rattle.std.proofs.Common.{◌≡◌, ◌^◌, ◌+◌, ◌*◌, ◌<◌, ◌≤◌, true, false, rules, arith, slice_index, sym, ◌∙◌, length}
 use Rattle.std.specs.Char.{is_ascii_digit}
-use Rattle.mono_text.proofs.Digits.{digits-next, digits-stop, plain_digit, more_digit, ends_give, ends_all}
+use Rattle.mono_text.proofs.DigitLemmas.{digits-next, digits-stop, plain_digit, more_digit, ends_give, ends_all}
 use Rattle.mono_text.proofs.reader.Reader.number.Goals as goal
 
 pub returns-then-not-is_ascii_digit : goal.returns-then-not-is_ascii_digit

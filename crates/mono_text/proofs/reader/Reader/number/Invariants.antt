@@ -1,5 +1,5 @@
 use Rattle.std.proofs.Common.{◌≡◌, ◌^◌, ◌<◌, drop}
-use Rattle.mono_text.specs.Reading.{digits_from}
+use Rattle.mono_text.specs.Parser.{digits_from}
 use Rattle.mono_text.proofs.reader.Reader.number.Given as goal
 
 -- no digit is lost, and only the first of all could be a zero that leads

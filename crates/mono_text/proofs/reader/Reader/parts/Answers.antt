@@ -1,6 +1,6 @@
 use Rattle.std.proofs.Common.{rules, ◌≡◌, Some, None, codes, ◌∙◌, arith, sym}
-use Rattle.mono_text.specs.Reading.{word_at, step_at}
-use Rattle.mono_text.proofs.Parts.{parts-none_left, parts-no_break, parts-end, parts-bad_end, parts-no_step, parts-next}
+use Rattle.mono_text.specs.Parser.{word_at, step_at}
+use Rattle.mono_text.proofs.TurnPartLemmas.{parts-none_left, parts-no_break, parts-end, parts-bad_end, parts-no_step, parts-next}
 use Rattle.mono_text.proofs.reader.Reader.parts.Goals as goal
 
 pub returns-then-not-take : goal.returns-then-not-take

@@ -1,5 +1,5 @@
 use Rattle.std.proofs.Common.{◌≡◌, ◌-◌, [], length}
-use Rattle.mono_text.specs.Reading.{parts_at}
+use Rattle.mono_text.specs.Parser.{parts_at}
 use Rattle.mono_text.proofs.reader.Reader.parts.Given as goal
 
 abbrev pub invariant-parts : goal.invariant-parts

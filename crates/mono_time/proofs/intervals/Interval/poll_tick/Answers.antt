@@ -4,10 +4,10 @@ use Rattle.std.specs.Duration.{as_nanos}
 use Rattle.mono_model.specs.Ticks.{max_nanos}
 use Rattle.mono_model.specs.declared.poll.Poll.TheVariants.{Ready}
 use Rattle.mono_time.specs.Instants.{nanos_of}
-use Rattle.mono_time.specs.Missed.{next_deadline}
+use Rattle.mono_time.specs.MissedTicks.{next_deadline}
 use Rattle.mono_time.specs.Sleeps.{sleep_poll_answer}
-use Rattle.mono_time.specs.Ticking.{next_of}
-use Rattle.mono_time.proofs.Ticking.{ticks-waits, ticks-invalid, never-refused, tick-fits, tick-sleeps, tick-work}
+use Rattle.mono_time.specs.IntervalTicks.{next_of}
+use Rattle.mono_time.proofs.IntervalLemmas.{ticks-waits, ticks-invalid, never-refused, tick-fits, tick-sleeps, tick-work}
 use Rattle.mono_time.proofs.intervals.Interval.poll_tick.Goals as goal
 
 pub returns-in-Pending-clause-ticks : goal.returns-in-Pending-clause-ticks

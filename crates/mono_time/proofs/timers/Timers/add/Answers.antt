@@ -1,19 +1,19 @@
 use Rattle.std.proofs.Common.{rules, ◌≡◌, ◌^◌, ◌+◌, true, false, refl, ap, sym, subst, ◌∙◌, length, set}
 use Rattle.std.specs.Prelude.{nat_le, ◌==◌, ◌||◌, ◌-◌}
 use Rattle.mono_model.specs.Table.{with_next}
-use Rattle.mono_model.proofs.TableOf.{length-table_of}
+use Rattle.mono_model.proofs.TableOfLemmas.{length-table_of}
 use Rattle.mono_time.specs.Instants.{nanos_of}
 use Rattle.mono_time.specs.Sleeps.{with_table, with_added_sleep, fresh}
-use Rattle.mono_time.specs.Keeping.{Holds, kept_at}
+use Rattle.mono_time.specs.Representation.{Holds, kept_at}
 use Rattle.mono_model.specs.SleepActs as machine
-use Rattle.mono_time.specs.Stands.{Standing}
+use Rattle.mono_time.specs.Refinement.{Standing}
 use Rattle.mono_time.specs.Timers.{sleeps_of}
 use Rattle.mono_time.specs.declared.entry.State.TheVariants.{Fresh}
-use Rattle.mono_time.specs.Registered.{registered_at}
-use Rattle.mono_time.proofs.Registering.{registered-added}
-use Rattle.mono_time.proofs.Standing.{same_length}
-use Rattle.mono_time.proofs.Writing.{table_kept}
-use Rattle.mono_time.proofs.Adding.{full-kept, full-machine, holds-added, table-added, standing-added, holds-same, table-same, standing-same, made_at, none_at, at_next}
+use Rattle.mono_time.specs.SlotRegistration.{registered_at}
+use Rattle.mono_time.proofs.SlotRegistrationLemmas.{registered-added}
+use Rattle.mono_time.proofs.RefinementLemmas.{same_length}
+use Rattle.mono_time.proofs.TimersWriteLemmas.{table_kept}
+use Rattle.mono_time.proofs.NewSleepLemmas.{full-kept, full-machine, holds-added, table-added, standing-added, holds-same, table-same, standing-same, made_at, none_at, at_next}
 use Rattle.mono_time.proofs.timers.Timers.add.Goals as goal
 
 pub invariant_of-self : goal.invariant_of-self

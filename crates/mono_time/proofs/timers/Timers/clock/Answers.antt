@@ -3,19 +3,19 @@ use Rattle.std.specs.Prelude.{slice_get, Option, count_by}
 use Rattle.std.proofs.lemmas.Option.{slice_get_read}
 use Rattle.mono_model.specs.Ticks.{down}
 use Rattle.mono_model.specs.Table.{value_at, with_value}
-use Rattle.mono_model.specs.Firing.{IsFirstDue}
+use Rattle.mono_model.specs.FireOrder.{IsFirstDue}
 use Rattle.mono_wheel.specs.Model.{CameOut, NothingDue}
 use Rattle.mono_time.specs.Instants.{nanos_of}
 use Rattle.mono_time.specs.Sleeps.{armed, elapsed, Kept, is_armed, IsFiredFirst, with_fired_sleep, at_clock_tick}
 use Rattle.mono_time.specs.Timers.{sleeps_of}
 use Rattle.mono_model.specs.SleepActs as machine
-use Rattle.mono_time.specs.Stands.{Standing}
-use Rattle.mono_time.specs.Keeping.{kept_at}
-use Rattle.mono_time.specs.Registered.{registered_at, moved_registered}
-use Rattle.mono_time.proofs.Counting.{fewer_armed}
-use Rattle.mono_time.proofs.Registering.{registered-moved, registered-gone, after-out}
-use Rattle.mono_time.proofs.Writing.{key_inside, table_kept, value-table}
-use Rattle.mono_time.proofs.Clocking.{max-later, max-below, max-over, out-later, holds-none, came-owner, holds-fired, table-fired, table-armed, fired-value, table-least, fired-number, machine-fired, table-none, none-armed, machine-none}
+use Rattle.mono_time.specs.Refinement.{Standing}
+use Rattle.mono_time.specs.Representation.{kept_at}
+use Rattle.mono_time.specs.SlotRegistration.{registered_at, moved_registered}
+use Rattle.mono_time.proofs.CountLemmas.{fewer_armed}
+use Rattle.mono_time.proofs.SlotRegistrationLemmas.{registered-moved, registered-gone, after-out}
+use Rattle.mono_time.proofs.TimersWriteLemmas.{key_inside, table_kept, value-table}
+use Rattle.mono_time.proofs.ClockCallLemmas.{max-later, max-below, max-over, out-later, holds-none, came-owner, holds-fired, table-fired, table-armed, fired-value, table-least, fired-number, machine-fired, table-none, none-armed, machine-none}
 use Rattle.mono_time.proofs.timers.Timers.clock.Goals as goal
 
 pub invariant_of-self-in-Some : goal.invariant_of-self-in-Some

@@ -3,9 +3,9 @@ use Rattle.std.specs.Prelude.{slice_get}
 use Rattle.std.proofs.lemmas.Option.{slice_get_read}
 use Rattle.mono_model.specs.Table.{value_at}
 use Rattle.mono_wheel.specs.Model.{timed_at}
-use Rattle.mono_time.proofs.Standing.{none_there}
-use Rattle.mono_time.proofs.Writing.{key_inside, table-there, none-there}
-use Rattle.mono_time.proofs.Asking.{elapsed-kept, machine-elapsed, answered}
+use Rattle.mono_time.proofs.RefinementLemmas.{none_there}
+use Rattle.mono_time.proofs.TimersWriteLemmas.{key_inside, table-there, none-there}
+use Rattle.mono_time.proofs.ElapsedLemmas.{elapsed-kept, machine-elapsed, answered}
 use Rattle.mono_time.proofs.timers.Timers.is_elapsed.Goals as goal
 
 pub index-requires : goal.index-requires

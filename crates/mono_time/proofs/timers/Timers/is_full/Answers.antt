@@ -1,6 +1,6 @@
 use Rattle.std.proofs.Common.{◌≡◌, ◌-◌, ◌^◌, sym, ◌∙◌, ap, length}
 use Rattle.std.specs.Prelude.{nat_le, ◌==◌, ◌||◌}
-use Rattle.mono_time.proofs.Adding.{full-kept, full-machine}
+use Rattle.mono_time.proofs.NewSleepLemmas.{full-kept, full-machine}
 use Rattle.mono_time.proofs.timers.Timers.is_full.Goals as goal
 
 pub returns-clause-full : goal.returns-clause-full

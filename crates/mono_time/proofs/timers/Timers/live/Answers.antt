@@ -1,8 +1,8 @@
 use Rattle.std.proofs.Common.{sym, subst, ◌≤◌}
 use Rattle.mono_time.specs.Sleeps.{armed_count}
 use Rattle.mono_time.specs.Timers.{sleeps_of}
-use Rattle.mono_time.proofs.Adding.{live-kept}
-use Rattle.mono_time.proofs.Counting.{armed_live}
+use Rattle.mono_time.proofs.NewSleepLemmas.{live-kept}
+use Rattle.mono_time.proofs.CountLemmas.{armed_live}
 use Rattle.mono_time.proofs.timers.Timers.live.Goals as goal
 
 pub returns-clause-live : goal.returns-clause-live

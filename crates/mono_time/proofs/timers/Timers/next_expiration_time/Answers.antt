@@ -1,4 +1,4 @@
-use Rattle.mono_time.proofs.Waiting.{next-expiration, next-armed, next-ahead}
+use Rattle.mono_time.proofs.ExpirationLemmas.{next-expiration, next-armed, next-ahead}
 use Rattle.mono_time.proofs.timers.Timers.next_expiration_time.Goals as goal
 
 pub returns-clause-next : goal.returns-clause-next

@@ -4,14 +4,14 @@ use Rattle.std.proofs.lemmas.Option.{slice_get_read}
 use Rattle.mono_model.specs.Table.{value_at}
 use Rattle.mono_model.specs.SleepAnswers.{poll_of}
 use Rattle.mono_wheel.specs.Model.{timed_at}
-use Rattle.mono_time.specs.Registered.{registered_in, registered_under, registered_at, polled_registered}
-use Rattle.mono_time.proofs.Registering.{registers, polled-at}
-use Rattle.mono_time.proofs.Standing.{none_there}
-use Rattle.mono_time.proofs.Turned.{turned-polled}
-use Rattle.mono_time.proofs.Writing.{key_inside, is_in-entry, fresh_below-entry, holds-turned, table-turned, table-there, none-there, table_kept}
+use Rattle.mono_time.specs.SlotRegistration.{registered_in, registered_under, registered_at, polled_registered}
+use Rattle.mono_time.proofs.SlotRegistrationLemmas.{registers, polled-at}
+use Rattle.mono_time.proofs.RefinementLemmas.{none_there}
+use Rattle.mono_time.proofs.KeyCallLemmas.{turned-polled}
+use Rattle.mono_time.proofs.TimersWriteLemmas.{key_inside, is_in-entry, fresh_below-entry, holds-turned, table-turned, table-there, none-there, table_kept}
 use Rattle.mono_time.specs.Timers.{poll_raise}
-use Rattle.mono_time.specs.Turning.{entry_raise}
-use Rattle.mono_time.proofs.Polling.{machine-polled, answered, poll-raise}
+use Rattle.mono_time.specs.KeyCalls.{entry_raise}
+use Rattle.mono_time.proofs.SleepPollLemmas.{machine-polled, answered, poll-raise}
 use Rattle.mono_time.proofs.timers.Timers.poll.Goals as goal
 
 pub index_mut-entry-requires : goal.index_mut-entry-requires

@@ -1,7 +1,7 @@
 use Rattle.std.proofs.Common.{sym, subst}
-use Rattle.mono_time.specs.Registered.{IsRegistered, registered_at}
-use Rattle.mono_time.proofs.Writing.{value-table}
-use Rattle.mono_time.proofs.Passing.{is-registered}
+use Rattle.mono_time.specs.SlotRegistration.{IsRegistered, registered_at}
+use Rattle.mono_time.proofs.TimersWriteLemmas.{value-table}
+use Rattle.mono_time.proofs.ClockMoveLemmas.{is-registered}
 use Rattle.mono_time.proofs.timers.Timers.registers_armed.Goals as goal
 
 pub returns-clause-registered : goal.returns-clause-registered

@@ -2,11 +2,11 @@ use Rattle.std.proofs.Common.{rules, ◌≡◌, ◌<◌, ◌+◌, ◌-◌, Some,
 use Rattle.std.specs.Prelude.{slice_get}
 use Rattle.std.proofs.lemmas.Option.{slice_get_read}
 use Rattle.mono_model.specs.Table.{value_at}
-use Rattle.mono_time.specs.Keeping.{Holds}
-use Rattle.mono_time.proofs.Counting.{count_of-gone}
-use Rattle.mono_time.proofs.Standing.{none_there}
-use Rattle.mono_time.proofs.Writing.{key_inside, is_in-entry, table-there, none-there}
-use Rattle.mono_time.proofs.Removing.{holds-removed, table-removed, machine-removed}
+use Rattle.mono_time.specs.Representation.{Holds}
+use Rattle.mono_time.proofs.CountLemmas.{count_of-gone}
+use Rattle.mono_time.proofs.RefinementLemmas.{none_there}
+use Rattle.mono_time.proofs.TimersWriteLemmas.{key_inside, is_in-entry, table-there, none-there}
+use Rattle.mono_time.proofs.RemovalLemmas.{holds-removed, table-removed, machine-removed}
 use Rattle.mono_time.proofs.timers.Timers.remove.Goals as goal
 
 pub index-requires : goal.index-requires

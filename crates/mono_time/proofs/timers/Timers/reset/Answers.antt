@@ -7,12 +7,12 @@ use Rattle.mono_time.specs.Instants.{nanos_of}
 use Rattle.mono_time.specs.Sleeps.{woken_by_reset}
 use Rattle.mono_time.specs.Entries.{kept_in}
 use Rattle.mono_model.specs.Ticks.{up}
-use Rattle.mono_time.specs.Registered.{registered_in, registered_under, registered_at, reset_registered}
-use Rattle.mono_time.proofs.Registering.{registers, reset-at, above-armed}
-use Rattle.mono_time.proofs.Standing.{none_there}
-use Rattle.mono_time.proofs.Turned.{turned-reset}
-use Rattle.mono_time.proofs.Writing.{key_inside, is_in-entry, holds-turned, table-turned, table-there, none-there, table_kept}
-use Rattle.mono_time.proofs.Resetting.{machine-reset, answered}
+use Rattle.mono_time.specs.SlotRegistration.{registered_in, registered_under, registered_at, reset_registered}
+use Rattle.mono_time.proofs.SlotRegistrationLemmas.{registers, reset-at, above-armed}
+use Rattle.mono_time.proofs.RefinementLemmas.{none_there}
+use Rattle.mono_time.proofs.KeyCallLemmas.{turned-reset}
+use Rattle.mono_time.proofs.TimersWriteLemmas.{key_inside, is_in-entry, holds-turned, table-turned, table-there, none-there, table_kept}
+use Rattle.mono_time.proofs.ResetLemmas.{machine-reset, answered}
 use Rattle.mono_time.proofs.timers.Timers.reset.Goals as goal
 
 pub index_mut-entry-requires : goal.index_mut-entry-requires

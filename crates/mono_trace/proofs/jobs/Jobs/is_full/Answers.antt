@@ -2,7 +2,7 @@ use Rattle.std.proofs.Common.{ap, ◌∙◌, ◌-◌, ◌^◌}
 use Rattle.std.specs.Prelude.{◌==◌}
 use Rattle.mono_model.specs.Table.{is_full}
 use Rattle.mono_trace.specs.Tables.{job_of}
-use Rattle.mono_trace.proofs.Limiting.{full_at_limit, full_at_last}
+use Rattle.mono_trace.proofs.LimitLemmas.{full_at_limit, full_at_last}
 use Rattle.mono_trace.proofs.jobs.Jobs.is_full.Goals as goal
 
 pub returns-then-live-self : goal.returns-then-live-self

@@ -1,8 +1,8 @@
 use Rattle.std.proofs.Common.{◌≡◌, ℕ, List, [], ◌∷◌, ap, sym, ◌∙◌}
 use Rattle.mono_model.specs.Tasks.{begun}
 use Rattle.mono_trace.specs.Versions.{changed}
-use Rattle.mono_trace.specs.Told.{machine_in}
-use Rattle.mono_trace.proofs.Passing.{passed_on, either_way}
+use Rattle.mono_trace.specs.Trials.{machine_in}
+use Rattle.mono_trace.proofs.AnswerLemmas.{passed_on, either_way}
 use Rattle.mono_trace.proofs.parts.Parts.begin.Goals as goal
 
 pub returns : goal.returns

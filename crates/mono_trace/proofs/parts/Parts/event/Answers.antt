@@ -1,5 +1,5 @@
 use Rattle.std.proofs.Common.{arith}
-use Rattle.mono_trace.proofs.Arms.{if_ok, told_arms, tried_arms}
+use Rattle.mono_trace.proofs.ArmCountLemmas.{if_ok, told_arms, tried_arms}
 use Rattle.mono_trace.proofs.parts.Parts.event.Goals as goal
 
 pub returns-in-Turn-clause-arms : goal.returns-in-Turn-clause-arms

@@ -1,4 +1,4 @@
-use Rattle.mono_trace.proofs.Passing.{on_ok}
+use Rattle.mono_trace.proofs.AnswerLemmas.{on_ok}
 use Rattle.mono_trace.proofs.parts.Parts.fire.Goals as goal
 
 pub returns : goal.returns

@@ -1,6 +1,6 @@
 use Rattle.std.proofs.Common.{◌≡◌, drop}
 use Rattle.mono_machine.specs.Steps.{after_fires}
-use Rattle.mono_trace.specs.Told.{are_in_turn, least_after}
+use Rattle.mono_trace.specs.Trials.{are_in_turn, least_after}
 use Rattle.mono_trace.proofs.parts.Parts.fire_all.Given as goal
 
 abbrev pub invariant-loop-s : goal.invariant-loop-s

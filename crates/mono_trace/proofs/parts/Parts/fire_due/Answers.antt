@@ -1,7 +1,7 @@
 use Rattle.std.proofs.Common.{ap, sym, ◌∙◌}
 use Rattle.mono_machine.specs.Steps.{after_fires}
-use Rattle.mono_trace.specs.Told.{are_in_turn}
-use Rattle.mono_trace.proofs.Firings.{not_told, told_if}
+use Rattle.mono_trace.specs.Trials.{are_in_turn}
+use Rattle.mono_trace.proofs.FireListLemmas.{not_told, told_if}
 use Rattle.mono_trace.proofs.parts.Parts.fire_due.Goals as goal
 
 pub returns-then-not-branch : goal.returns-then-not-branch

@@ -1,6 +1,6 @@
 use Rattle.std.proofs.Common.{subst}
 use Rattle.std.specs.Prelude.{MatchBool}
-use Rattle.mono_model.specs.Firing.{IsNoneDue}
+use Rattle.mono_model.specs.FireOrder.{IsNoneDue}
 use Rattle.mono_trace.proofs.parts.Parts.is_none_due.Goals as goal
 
 pub returns : goal.returns

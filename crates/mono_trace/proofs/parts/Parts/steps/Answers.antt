@@ -1,9 +1,9 @@
 use Rattle.std.proofs.Common.{◌≡◌, ◌<◌, ◌+◌, length, drop, ap, sym, subst, ◌∙◌, arith}
 use Rattle.std.specs.Prelude.{◌↔◌}
 use Rattle.mono_machine.specs.Turns.{replies_of, after_steps}
-use Rattle.mono_machine.proofs.Running.{first_and_rest, after_more}
-use Rattle.mono_trace.proofs.Arms.{stepped}
-use Rattle.mono_trace.proofs.Turning.{told_next}
+use Rattle.mono_machine.proofs.RunLemmas.{first_and_rest, after_more}
+use Rattle.mono_trace.proofs.ArmCountLemmas.{stepped}
+use Rattle.mono_trace.proofs.TurnLemmas.{told_next}
 use Rattle.mono_trace.proofs.parts.Parts.steps.Goals as goal
 
 pub loop-i-preserved : goal.loop-i-preserved

@@ -1,5 +1,5 @@
 use Rattle.std.proofs.Common.{ap, ◌∙◌, length}
-use Rattle.mono_trace.proofs.Turning.{replies_len}
+use Rattle.mono_trace.proofs.TurnLemmas.{replies_len}
 use Rattle.mono_trace.proofs.parts.Parts.turn_of.Goals as goal
 
 pub returns-then-told-steps-clause-told : goal.returns-then-told-steps-clause-told

@@ -1,5 +1,5 @@
 use Rattle.std.proofs.Common.{◌∙◌}
-use Rattle.mono_trace.proofs.Placing.{pushed, pushed_counts, taken_back, taken_counts}
+use Rattle.mono_trace.proofs.TableCallLemmas.{pushed, pushed_counts, taken_back, taken_counts}
 use Rattle.mono_trace.proofs.places.Places.push.Goals as goal
 
 pub invariant_of-self-in-Ok : goal.invariant_of-self-in-Ok

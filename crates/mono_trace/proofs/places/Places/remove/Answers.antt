@@ -1,7 +1,7 @@
 use Rattle.std.proofs.Common.{arith, None, ap, sym, ◌∙◌}
 use Rattle.mono_model.specs.Table.{value_at}
-use Rattle.mono_trace.proofs.Undoing.{one_there}
-use Rattle.mono_trace.proofs.Placing.{given, written, removed_counts}
+use Rattle.mono_trace.proofs.UndoLemmas.{one_there}
+use Rattle.mono_trace.proofs.TableCallLemmas.{given, written, removed_counts}
 use Rattle.mono_trace.proofs.places.Places.remove.Goals as goal
 
 pub index_mut-requires : goal.index_mut-requires

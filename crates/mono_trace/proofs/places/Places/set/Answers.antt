@@ -1,6 +1,6 @@
 use Rattle.std.proofs.Common.{Some, ap, sym, ◌∙◌}
 use Rattle.mono_model.specs.Table.{value_at}
-use Rattle.mono_trace.proofs.Placing.{given, written, set_counts}
+use Rattle.mono_trace.proofs.TableCallLemmas.{given, written, set_counts}
 use Rattle.mono_trace.proofs.places.Places.set.Goals as goal
 
 pub index_mut-requires : goal.index_mut-requires

@@ -1,6 +1,6 @@
 use Rattle.std.proofs.Common.{ℕ, List, ap, ◌∙◌}
 use Rattle.mono_trace.specs.Queues.{unmoved}
-use Rattle.mono_trace.proofs.Placing.{put_last}
+use Rattle.mono_trace.proofs.TableCallLemmas.{put_last}
 use Rattle.mono_trace.proofs.queues.Queue.put.Goals as goal
 
 pub returns : goal.returns

@@ -1,6 +1,6 @@
 use Rattle.std.proofs.Common.{ap, sym, ◌∙◌}
 use Rattle.mono_trace.specs.Queues.{unmoved}
-use Rattle.mono_trace.proofs.Undoing.{unmoved_took}
+use Rattle.mono_trace.proofs.UndoLemmas.{unmoved_took}
 use Rattle.mono_trace.proofs.queues.Queue.take.Goals as goal
 
 pub returns-in_ok-push-in-Some : goal.returns-in_ok-push-in-Some

@@ -1,4 +1,4 @@
-use Rattle.mono_trace.proofs.Passing.{on_ok}
+use Rattle.mono_trace.proofs.AnswerLemmas.{on_ok}
 use Rattle.mono_trace.proofs.sleeps.Sleeps.arm.Goals as goal
 
 pub returns : goal.returns

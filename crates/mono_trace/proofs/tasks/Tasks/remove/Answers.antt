@@ -1,7 +1,7 @@
 use Rattle.std.proofs.Common.{None}
 use Rattle.std.proofs.lemmas.List.{map-set}
 use Rattle.mono_trace.specs.Tables.{task_place}
-use Rattle.mono_trace.proofs.Passing.{on_ok}
+use Rattle.mono_trace.proofs.AnswerLemmas.{on_ok}
 use Rattle.mono_trace.proofs.tasks.Tasks.remove.Goals as goal
 
 pub returns : goal.returns

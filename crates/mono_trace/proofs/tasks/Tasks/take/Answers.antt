@@ -1,6 +1,6 @@
 use Rattle.std.proofs.Common.{◌≡◌, ℕ, [], ◌∷◌, ap, sym, ◌∙◌}
 use Rattle.mono_trace.specs.Tables.{tasks_of}
-use Rattle.mono_trace.proofs.Passing.{passed_on, either_way}
+use Rattle.mono_trace.proofs.AnswerLemmas.{passed_on, either_way}
 use Rattle.mono_trace.proofs.tasks.Tasks.take.Goals as goal
 
 pub returns : goal.returns

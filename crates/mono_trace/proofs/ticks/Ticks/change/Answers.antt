@@ -1,6 +1,6 @@
-use Rattle.mono_trace.specs.Ordered.{more_at}
-use Rattle.mono_trace.proofs.Counting.{recounted}
-use Rattle.mono_trace.proofs.Passing.{on_ok}
+use Rattle.mono_trace.specs.TickCounts.{more_at}
+use Rattle.mono_trace.proofs.TickCountLemmas.{recounted}
+use Rattle.mono_trace.proofs.AnswerLemmas.{on_ok}
 use Rattle.mono_trace.proofs.ticks.Ticks.change.Goals as goal
 
 pub returns : goal.returns

@@ -1,6 +1,6 @@
 use Rattle.std.proofs.Common.{ap, sym, ◌∙◌}
-use Rattle.mono_trace.specs.Ordered.{all_more, none_at}
-use Rattle.mono_trace.proofs.Counting.{nothing}
+use Rattle.mono_trace.specs.TickCounts.{all_more, none_at}
+use Rattle.mono_trace.proofs.TickCountLemmas.{nothing}
 use Rattle.mono_trace.proofs.ticks.Ticks.clear.Goals as goal
 
 pub returns : goal.returns

@@ -1,5 +1,5 @@
 use Rattle.std.proofs.Common.{ap, sym, ◌∙◌}
-use Rattle.mono_trace.specs.Ordered.{all_more}
+use Rattle.mono_trace.specs.TickCounts.{all_more}
 use Rattle.mono_trace.proofs.ticks.Ticks.take_back.Goals as goal
 
 pub returns : goal.returns

@@ -1,7 +1,7 @@
 use Rattle.std.proofs.Common.{of_calls, refl, subst}
 use denote.Param.Members.{Called}
 use denote.Param.Always.{always_mut}
-use Rattle.mono_wheel.proofs.Draining.{gives, ready_left, falls_left, goes_on, falls_on}
+use Rattle.mono_wheel.proofs.DrainLemmas.{gives, ready_left, falls_left, goes_on, falls_on}
 use Rattle.mono_wheel.proofs.drain_filter.DrainFilterIterator.next.Goals as goal
 
 pub returns-then-choose-clause-steps : goal.returns-then-choose-clause-steps

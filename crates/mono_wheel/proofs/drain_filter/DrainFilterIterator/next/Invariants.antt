@@ -1,7 +1,7 @@
 -- What the loop of `next` keeps, and why it ends.
 use Rattle.std.proofs.Common.{length}
-use Rattle.mono_wheel.specs.Drained.{left_of}
-use Rattle.mono_wheel.proofs.Draining.{Going}
+use Rattle.mono_wheel.specs.Drains.{left_of}
+use Rattle.mono_wheel.proofs.DrainLemmas.{Going}
 use Rattle.mono_wheel.proofs.drain_filter.DrainFilterIterator.next.Given as goal
 
 abbrev pub invariant-loop-self : goal.invariant-loop-self

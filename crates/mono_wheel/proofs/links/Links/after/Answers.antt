@@ -1,7 +1,7 @@
 use Rattle.std.proofs.Common.{◌≡◌, ◌<◌, length}
 use Rattle.mono_wheel.specs.Rings.{head_at}
-use Rattle.mono_wheel.proofs.Calls.{seen-below, head-read}
-use Rattle.mono_wheel.proofs.Draining.{seen-after}
+use Rattle.mono_wheel.proofs.CallLemmas.{seen-below, head-read}
+use Rattle.mono_wheel.proofs.DrainLemmas.{seen-after}
 use Rattle.mono_wheel.proofs.links.Links.after.Goals as goal
 
 pub returns-then-next-head : goal.returns-then-next-head

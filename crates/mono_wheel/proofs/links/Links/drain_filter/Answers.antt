@@ -1,6 +1,6 @@
 use Rattle.std.proofs.Common.{refl, []}
 use Rattle.mono_wheel.specs.Lists.{list_at}
-use Rattle.mono_wheel.proofs.Draining.{cut-after, drains}
+use Rattle.mono_wheel.proofs.DrainLemmas.{cut-after, drains}
 use Rattle.mono_wheel.proofs.links.Links.drain_filter.Goals as goal
 
 pub returns-clause-drains : goal.returns-clause-drains

@@ -1,5 +1,5 @@
 use Rattle.std.proofs.Common.{inl}
-use Rattle.mono_wheel.proofs.Calls.{kept-some, seen-known}
+use Rattle.mono_wheel.proofs.CallLemmas.{kept-some, seen-known}
 use Rattle.mono_wheel.proofs.links.Links.known_entry.Goals as goal
 
 pub carried-requires : goal.carried-requires

@@ -1,4 +1,4 @@
-use Rattle.mono_wheel.proofs.Taking.{seen-once, seen-apart, seen-in, seen-room}
+use Rattle.mono_wheel.proofs.ExchangeLemmas.{seen-once, seen-apart, seen-in, seen-room}
 use Rattle.mono_wheel.proofs.links.Links.lists_are_disjoint.Goals as goal
 
 pub returns-clause-once : goal.returns-clause-once

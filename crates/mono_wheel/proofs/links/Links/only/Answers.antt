@@ -1,6 +1,6 @@
 use Rattle.std.proofs.Common.{◌∷◌, ◌++◌, [], ap, sym, ◌∙◌}
 use Rattle.mono_wheel.specs.Lists.{list_at}
-use Rattle.mono_wheel.proofs.Reaching.{one-alone}
+use Rattle.mono_wheel.proofs.SkipLemmas.{one-alone}
 use Rattle.mono_wheel.proofs.links.Links.only.Goals as goal
 
 pub returns-then-first-last : goal.returns-then-first-last

@@ -1,8 +1,8 @@
 use Rattle.std.proofs.Common.{◌-◌, ◌≡◌, ◌<◌, length, true, ap, subst, sym, ◌∙◌}
 use Rattle.mono_wheel.specs.Rings.{head_at, next_in, is_outer_at}
-use Rattle.mono_wheel.proofs.Calls.{kept-some, kept-equal, first_kept, seen-below, seen-known, head-read}
-use Rattle.mono_wheel.proofs.Standing.{inner_not_outer}
-use Rattle.mono_wheel.proofs.Putting.{after-put}
+use Rattle.mono_wheel.proofs.CallLemmas.{kept-some, kept-equal, first_kept, seen-below, seen-known, head-read}
+use Rattle.mono_wheel.proofs.RingLemmas.{inner_not_outer}
+use Rattle.mono_wheel.proofs.InsertLemmas.{after-put}
 use Rattle.mono_wheel.proofs.links.Links.put_front.Goals as goal
 
 pub put_after-requires-clause-after : goal.put_after-requires-clause-after

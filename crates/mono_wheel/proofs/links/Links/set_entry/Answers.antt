@@ -2,8 +2,8 @@ use Rattle.std.proofs.Common.{◌-◌, ◌≡◌, inl, map, ap, subst, sym}
 use Rattle.slab.specs.Slab.{slab_len}
 use Rattle.mono_wheel.specs.Lists.{with_entry}
 use Rattle.mono_wheel.specs.Rings.{ring_of, seen, Stand}
-use Rattle.mono_wheel.proofs.Calls.{kept-some, seen-known}
-use Rattle.mono_wheel.proofs.Taking.{after-entry}
+use Rattle.mono_wheel.proofs.CallLemmas.{kept-some, seen-known}
+use Rattle.mono_wheel.proofs.ExchangeLemmas.{after-entry}
 use Rattle.mono_wheel.proofs.links.Links.set_entry.Goals as goal
 
 pub carry-requires : goal.carry-requires

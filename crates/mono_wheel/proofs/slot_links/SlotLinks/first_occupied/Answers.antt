@@ -1,7 +1,7 @@
 use Rattle.std.proofs.Common.{◌≡◌, ℕ, ◌*◌, ◌+◌, ◌<◌, [], Some, subst, sym}
 use Rattle.mono_wheel.specs.Lists.{list_at}
-use Rattle.mono_wheel.specs.Held.{ranked, IsFirstOccupied}
-use Rattle.mono_wheel.proofs.Marking.{level-first}
+use Rattle.mono_wheel.specs.Holdings.{ranked, IsFirstOccupied}
+use Rattle.mono_wheel.proofs.OccupancyLemmas.{level-first}
 use Rattle.mono_wheel.proofs.slot_links.SlotLinks.first_occupied.Goals as goal
 
 pub returns-in-Some : goal.returns-in-Some

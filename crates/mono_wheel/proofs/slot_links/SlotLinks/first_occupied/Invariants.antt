@@ -1,6 +1,6 @@
 use Rattle.std.proofs.Common.{◌≡◌, ℕ, ◌*◌, ◌<◌, []}
 use Rattle.mono_wheel.specs.Lists.{list_at}
-use Rattle.mono_wheel.specs.Held.{ranked}
+use Rattle.mono_wheel.specs.Holdings.{ranked}
 use Rattle.mono_wheel.proofs.slot_links.SlotLinks.first_occupied.Given as goal
 
 abbrev pub invariant-loop-level : goal.invariant-loop-level

@@ -1,6 +1,6 @@
 use Rattle.std.proofs.Common.{is_some, ap, ◌∙◌}
-use Rattle.mono_wheel.specs.Held.{timed_in}
-use Rattle.mono_wheel.proofs.Keys.{is-read}
+use Rattle.mono_wheel.specs.Holdings.{timed_in}
+use Rattle.mono_wheel.proofs.KeyLemmas.{is-read}
 use Rattle.mono_wheel.proofs.slot_links.SlotLinks.is_in.Goals as goal
 
 pub returns : goal.returns

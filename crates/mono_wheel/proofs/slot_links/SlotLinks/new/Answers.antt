@@ -1,4 +1,4 @@
-use Rattle.mono_wheel.proofs.Marking.{marks-new}
+use Rattle.mono_wheel.proofs.OccupancyLemmas.{marks-new}
 use Rattle.mono_wheel.proofs.slot_links.SlotLinks.new.Goals as goal
 
 pub invariant_of-result : goal.invariant_of-result

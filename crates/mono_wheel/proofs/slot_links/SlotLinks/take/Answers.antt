@@ -1,7 +1,7 @@
 use Rattle.std.proofs.Common.{arith, refl, sym, subst, ◌≡◌, ◌<◌, []}
 use Rattle.mono_wheel.specs.Lists.{list_at, with_list}
 use Rattle.mono_wheel.specs.Start.{taken_list, list_count}
-use Rattle.mono_wheel.proofs.Marking.{marks-beyond, marks-emptied}
+use Rattle.mono_wheel.proofs.OccupancyLemmas.{marks-beyond, marks-emptied}
 use Rattle.mono_wheel.proofs.slot_links.SlotLinks.take.Goals as goal
 
 pub take-requires-clause-from : goal.take-requires-clause-from

@@ -1,12 +1,12 @@
 use Rattle.std.proofs.Common.{arith, ◌≡◌, ◌+◌, ◌/◌, ◌<◌, ◌≤◌, length, map, subst, sym, ap, refl}
 use Rattle.mono_wheel.specs.Lists.{list_at}
 use Rattle.mono_wheel.specs.Credit.{credit_of}
-use Rattle.mono_wheel.specs.Held.{timed_of, Settling, Settled}
-use Rattle.mono_wheel.specs.Onward.{ComesTo}
-use Rattle.mono_wheel.proofs.Crediting.{credit-later}
-use Rattle.mono_wheel.proofs.Reaching.{goes-later, goes-by, goes-clear, goes-waits, goes-credit}
-use Rattle.mono_wheel.proofs.Advancing.{at_taken, taken-empty, slot-settling, slot-advanced, slot-waits, not-slot, list-below, begin-above, later-held, later-advanced, later-passed}
-use Rattle.mono_wheel.proofs.Polling.{none-pending}
+use Rattle.mono_wheel.specs.Holdings.{timed_of, Cascading, Cascaded}
+use Rattle.mono_wheel.specs.Skips.{ComesTo}
+use Rattle.mono_wheel.proofs.CreditLemmas.{credit-later}
+use Rattle.mono_wheel.proofs.SkipLemmas.{goes-later, goes-by, goes-clear, goes-waits, goes-credit}
+use Rattle.mono_wheel.proofs.AdvanceLemmas.{at_taken, taken-empty, slot-cascading, slot-advanced, slot-waits, not-slot, list-below, begin-above, later-held, later-advanced, later-passed}
+use Rattle.mono_wheel.proofs.PollLemmas.{none-pending}
 use Rattle.mono_wheel.proofs.LeapLemmas.{known-after}
 use Rattle.mono_wheel.proofs.wheel.Wheel.advance.Goals as goal
 use Rattle.mono_wheel.specs.Start.{taken_list}
@@ -14,41 +14,41 @@ use Rattle.mono_wheel.specs.Start.{taken_list}
 pub take-requires-clause-empty : goal.take-requires-clause-empty
 take-requires-clause-empty g c = taken-empty c.self.inside.elapsed c.self.inside.links.entries c.self.inside.links c.self.invariant.0
 
-pub goes_to-goal-requires-clause-settling : goal.goes_to-goal-requires-clause-settling
-goes_to-goal-requires-clause-settling g c =
-    subst (λ es. Settling c.in-Some.slot.start es c.take.new.self) (sym (ap (λ w. w.entries) c.take.ensures))
-    (slot-settling c.self.inside.elapsed c.in-Some.slot.start c.in-Some.slot.list c.self.inside.links.entries c.self.inside.links c.take.new.self c.self.invariant.0 c.in-Some.ensures.0
+pub skip_to-goal-requires-clause-cascading : goal.skip_to-goal-requires-clause-cascading
+skip_to-goal-requires-clause-cascading g c =
+    subst (λ es. Cascading c.in-Some.slot.start es c.take.new.self) (sym (ap (λ w. w.entries) c.take.ensures))
+    (slot-cascading c.self.inside.elapsed c.in-Some.slot.start c.in-Some.slot.list c.self.inside.links.entries c.self.inside.links c.take.new.self c.self.invariant.0 c.in-Some.ensures.0
     (none-pending c.self.inside.elapsed c.self.inside.links.entries c.self.inside.links.nodes c.self.inside.links.lists c.args.self.now c.self.view_is c.requires.none) c.take.ensures
     c.in-Some.slot.start (omega arith)
     (not-slot c.self.inside.elapsed c.in-Some.slot.start c.in-Some.slot.list c.self.inside.links.entries c.self.inside.links c.take.new.self c.self.invariant.0 c.in-Some.ensures.0 (none-pending c.self.inside.elapsed c.self.inside.links.entries c.self.inside.links.nodes c.self.inside.links.lists c.args.self.now c.self.view_is c.requires.none) c.take.ensures)
     (slot-waits c.self.inside.elapsed c.in-Some.slot.start c.in-Some.slot.list c.self.inside.links.entries c.self.inside.links c.take.new.self c.self.invariant.0 c.in-Some.ensures.0 (none-pending c.self.inside.elapsed c.self.inside.links.entries c.self.inside.links.nodes c.self.inside.links.lists c.args.self.now c.self.view_is c.requires.none) c.take.ensures))
 
-pub goes_to-goal-requires-clause-list : goal.goes_to-goal-requires-clause-list
-goes_to-goal-requires-clause-list g c = list-below c.self.inside.elapsed c.in-Some.slot.start c.in-Some.slot.list c.self.inside.links.entries c.self.inside.links c.take.new.self c.self.invariant.0 c.in-Some.ensures.0 (none-pending c.self.inside.elapsed c.self.inside.links.entries c.self.inside.links.nodes c.self.inside.links.lists c.args.self.now c.self.view_is c.requires.none) c.take.ensures
+pub skip_to-goal-requires-clause-list : goal.skip_to-goal-requires-clause-list
+skip_to-goal-requires-clause-list g c = list-below c.self.inside.elapsed c.in-Some.slot.start c.in-Some.slot.list c.self.inside.links.entries c.self.inside.links c.take.new.self c.self.invariant.0 c.in-Some.ensures.0 (none-pending c.self.inside.elapsed c.self.inside.links.entries c.self.inside.links.nodes c.self.inside.links.lists c.args.self.now c.self.view_is c.requires.none) c.take.ensures
 
-pub settle-requires : goal.settle-requires
-settle-requires g c =
-    subst (λ es. Settling c.goes_to-goal.result es c.take.new.self) (sym (ap (λ w. w.entries) c.take.ensures))
-    (slot-settling c.self.inside.elapsed c.in-Some.slot.start c.in-Some.slot.list c.self.inside.links.entries c.self.inside.links c.take.new.self c.self.invariant.0 c.in-Some.ensures.0
+pub cascade-requires : goal.cascade-requires
+cascade-requires g c =
+    subst (λ es. Cascading c.skip_to-goal.result es c.take.new.self) (sym (ap (λ w. w.entries) c.take.ensures))
+    (slot-cascading c.self.inside.elapsed c.in-Some.slot.start c.in-Some.slot.list c.self.inside.links.entries c.self.inside.links c.take.new.self c.self.invariant.0 c.in-Some.ensures.0
     (none-pending c.self.inside.elapsed c.self.inside.links.entries c.self.inside.links.nodes c.self.inside.links.lists c.args.self.now c.self.view_is c.requires.none) c.take.ensures
-    c.goes_to-goal.result
-    (goes-later c.self.inside.elapsed c.in-Some.slot.start c.in-Some.slot.list c.self.inside.links.entries c.self.inside.links c.take.new.self c.self.invariant.0 c.in-Some.ensures.0 (none-pending c.self.inside.elapsed c.self.inside.links.entries c.self.inside.links.nodes c.self.inside.links.lists c.args.self.now c.self.view_is c.requires.none) c.take.ensures c.args.now c.args.steps.now c.goes_to-goal.new.steps c.goes_to-goal.result (subst (λ es. ComesTo c.in-Some.slot.start c.args.now (c.in-Some.slot.list / 64) es c.take.new.self c.args.steps.now c.goes_to-goal.new.steps c.goes_to-goal.result) (ap (λ w. w.entries) c.take.ensures) c.goes_to-goal.ensures)) (goes-clear c.self.inside.elapsed c.in-Some.slot.start c.in-Some.slot.list c.self.inside.links.entries c.self.inside.links c.take.new.self c.self.invariant.0 c.in-Some.ensures.0 (none-pending c.self.inside.elapsed c.self.inside.links.entries c.self.inside.links.nodes c.self.inside.links.lists c.args.self.now c.self.view_is c.requires.none) c.take.ensures c.args.now c.args.steps.now c.goes_to-goal.new.steps c.goes_to-goal.result (subst (λ es. ComesTo c.in-Some.slot.start c.args.now (c.in-Some.slot.list / 64) es c.take.new.self c.args.steps.now c.goes_to-goal.new.steps c.goes_to-goal.result) (ap (λ w. w.entries) c.take.ensures) c.goes_to-goal.ensures)) (goes-waits c.self.inside.elapsed c.in-Some.slot.start c.in-Some.slot.list c.self.inside.links.entries c.self.inside.links c.take.new.self c.self.invariant.0 c.in-Some.ensures.0 (none-pending c.self.inside.elapsed c.self.inside.links.entries c.self.inside.links.nodes c.self.inside.links.lists c.args.self.now c.self.view_is c.requires.none) c.take.ensures c.args.now c.args.steps.now c.goes_to-goal.new.steps c.goes_to-goal.result (subst (λ es. ComesTo c.in-Some.slot.start c.args.now (c.in-Some.slot.list / 64) es c.take.new.self c.args.steps.now c.goes_to-goal.new.steps c.goes_to-goal.result) (ap (λ w. w.entries) c.take.ensures) c.goes_to-goal.ensures)))
+    c.skip_to-goal.result
+    (goes-later c.self.inside.elapsed c.in-Some.slot.start c.in-Some.slot.list c.self.inside.links.entries c.self.inside.links c.take.new.self c.self.invariant.0 c.in-Some.ensures.0 (none-pending c.self.inside.elapsed c.self.inside.links.entries c.self.inside.links.nodes c.self.inside.links.lists c.args.self.now c.self.view_is c.requires.none) c.take.ensures c.args.now c.args.steps.now c.skip_to-goal.new.steps c.skip_to-goal.result (subst (λ es. ComesTo c.in-Some.slot.start c.args.now (c.in-Some.slot.list / 64) es c.take.new.self c.args.steps.now c.skip_to-goal.new.steps c.skip_to-goal.result) (ap (λ w. w.entries) c.take.ensures) c.skip_to-goal.ensures)) (goes-clear c.self.inside.elapsed c.in-Some.slot.start c.in-Some.slot.list c.self.inside.links.entries c.self.inside.links c.take.new.self c.self.invariant.0 c.in-Some.ensures.0 (none-pending c.self.inside.elapsed c.self.inside.links.entries c.self.inside.links.nodes c.self.inside.links.lists c.args.self.now c.self.view_is c.requires.none) c.take.ensures c.args.now c.args.steps.now c.skip_to-goal.new.steps c.skip_to-goal.result (subst (λ es. ComesTo c.in-Some.slot.start c.args.now (c.in-Some.slot.list / 64) es c.take.new.self c.args.steps.now c.skip_to-goal.new.steps c.skip_to-goal.result) (ap (λ w. w.entries) c.take.ensures) c.skip_to-goal.ensures)) (goes-waits c.self.inside.elapsed c.in-Some.slot.start c.in-Some.slot.list c.self.inside.links.entries c.self.inside.links c.take.new.self c.self.invariant.0 c.in-Some.ensures.0 (none-pending c.self.inside.elapsed c.self.inside.links.entries c.self.inside.links.nodes c.self.inside.links.lists c.args.self.now c.self.view_is c.requires.none) c.take.ensures c.args.now c.args.steps.now c.skip_to-goal.new.steps c.skip_to-goal.result (subst (λ es. ComesTo c.in-Some.slot.start c.args.now (c.in-Some.slot.list / 64) es c.take.new.self c.args.steps.now c.skip_to-goal.new.steps c.skip_to-goal.result) (ap (λ w. w.entries) c.take.ensures) c.skip_to-goal.ensures)))
 
 pub returns-in-Some-clause-advanced : goal.returns-in-Some-clause-advanced
 returns-in-Some-clause-advanced g c =
     slot-advanced c.self.inside.elapsed c.in-Some.slot.start c.in-Some.slot.list c.self.inside.links.entries c.self.inside.links c.take.new.self c.self.invariant.0 c.in-Some.ensures.0
     (none-pending c.self.inside.elapsed c.self.inside.links.entries c.self.inside.links.nodes c.self.inside.links.lists c.args.self.now c.self.view_is c.requires.none) c.take.ensures
-    c.goes_to-goal.result
-    (goes-later c.self.inside.elapsed c.in-Some.slot.start c.in-Some.slot.list c.self.inside.links.entries c.self.inside.links c.take.new.self c.self.invariant.0 c.in-Some.ensures.0 (none-pending c.self.inside.elapsed c.self.inside.links.entries c.self.inside.links.nodes c.self.inside.links.lists c.args.self.now c.self.view_is c.requires.none) c.take.ensures c.args.now c.args.steps.now c.goes_to-goal.new.steps c.goes_to-goal.result (subst (λ es. ComesTo c.in-Some.slot.start c.args.now (c.in-Some.slot.list / 64) es c.take.new.self c.args.steps.now c.goes_to-goal.new.steps c.goes_to-goal.result) (ap (λ w. w.entries) c.take.ensures) c.goes_to-goal.ensures)) (goes-clear c.self.inside.elapsed c.in-Some.slot.start c.in-Some.slot.list c.self.inside.links.entries c.self.inside.links c.take.new.self c.self.invariant.0 c.in-Some.ensures.0 (none-pending c.self.inside.elapsed c.self.inside.links.entries c.self.inside.links.nodes c.self.inside.links.lists c.args.self.now c.self.view_is c.requires.none) c.take.ensures c.args.now c.args.steps.now c.goes_to-goal.new.steps c.goes_to-goal.result (subst (λ es. ComesTo c.in-Some.slot.start c.args.now (c.in-Some.slot.list / 64) es c.take.new.self c.args.steps.now c.goes_to-goal.new.steps c.goes_to-goal.result) (ap (λ w. w.entries) c.take.ensures) c.goes_to-goal.ensures)) (goes-waits c.self.inside.elapsed c.in-Some.slot.start c.in-Some.slot.list c.self.inside.links.entries c.self.inside.links c.take.new.self c.self.invariant.0 c.in-Some.ensures.0 (none-pending c.self.inside.elapsed c.self.inside.links.entries c.self.inside.links.nodes c.self.inside.links.lists c.args.self.now c.self.view_is c.requires.none) c.take.ensures c.args.now c.args.steps.now c.goes_to-goal.new.steps c.goes_to-goal.result (subst (λ es. ComesTo c.in-Some.slot.start c.args.now (c.in-Some.slot.list / 64) es c.take.new.self c.args.steps.now c.goes_to-goal.new.steps c.goes_to-goal.result) (ap (λ w. w.entries) c.take.ensures) c.goes_to-goal.ensures))
-    c.settle.new.links.entries c.settle.new.links c.settle.ensures.held (subst (λ es. Settled es c.settle.new.links.entries c.take.new.self c.settle.new.links) (ap (λ w. w.entries) c.take.ensures) c.settle.ensures.settled) c.args.self.now c.self.view_is
+    c.skip_to-goal.result
+    (goes-later c.self.inside.elapsed c.in-Some.slot.start c.in-Some.slot.list c.self.inside.links.entries c.self.inside.links c.take.new.self c.self.invariant.0 c.in-Some.ensures.0 (none-pending c.self.inside.elapsed c.self.inside.links.entries c.self.inside.links.nodes c.self.inside.links.lists c.args.self.now c.self.view_is c.requires.none) c.take.ensures c.args.now c.args.steps.now c.skip_to-goal.new.steps c.skip_to-goal.result (subst (λ es. ComesTo c.in-Some.slot.start c.args.now (c.in-Some.slot.list / 64) es c.take.new.self c.args.steps.now c.skip_to-goal.new.steps c.skip_to-goal.result) (ap (λ w. w.entries) c.take.ensures) c.skip_to-goal.ensures)) (goes-clear c.self.inside.elapsed c.in-Some.slot.start c.in-Some.slot.list c.self.inside.links.entries c.self.inside.links c.take.new.self c.self.invariant.0 c.in-Some.ensures.0 (none-pending c.self.inside.elapsed c.self.inside.links.entries c.self.inside.links.nodes c.self.inside.links.lists c.args.self.now c.self.view_is c.requires.none) c.take.ensures c.args.now c.args.steps.now c.skip_to-goal.new.steps c.skip_to-goal.result (subst (λ es. ComesTo c.in-Some.slot.start c.args.now (c.in-Some.slot.list / 64) es c.take.new.self c.args.steps.now c.skip_to-goal.new.steps c.skip_to-goal.result) (ap (λ w. w.entries) c.take.ensures) c.skip_to-goal.ensures)) (goes-waits c.self.inside.elapsed c.in-Some.slot.start c.in-Some.slot.list c.self.inside.links.entries c.self.inside.links c.take.new.self c.self.invariant.0 c.in-Some.ensures.0 (none-pending c.self.inside.elapsed c.self.inside.links.entries c.self.inside.links.nodes c.self.inside.links.lists c.args.self.now c.self.view_is c.requires.none) c.take.ensures c.args.now c.args.steps.now c.skip_to-goal.new.steps c.skip_to-goal.result (subst (λ es. ComesTo c.in-Some.slot.start c.args.now (c.in-Some.slot.list / 64) es c.take.new.self c.args.steps.now c.skip_to-goal.new.steps c.skip_to-goal.result) (ap (λ w. w.entries) c.take.ensures) c.skip_to-goal.ensures))
+    c.cascade.new.links.entries c.cascade.new.links c.cascade.ensures.held (subst (λ es. Cascaded es c.cascade.new.links.entries c.take.new.self c.cascade.new.links) (ap (λ w. w.entries) c.take.ensures) c.cascade.ensures.cascaded) c.args.self.now c.self.view_is
 
 pub returns-in-Some-clause-reached : goal.returns-in-Some-clause-reached
 returns-in-Some-clause-reached g c _ =
     let begins : c.self.inside.elapsed < c.in-Some.slot.start = begin-above c.self.inside.elapsed c.in-Some.slot.start c.in-Some.slot.list c.self.inside.links.entries c.self.inside.links c.take.new.self c.self.invariant.0 c.in-Some.ensures.0
     (none-pending c.self.inside.elapsed c.self.inside.links.entries c.self.inside.links.nodes c.self.inside.links.lists c.args.self.now c.self.view_is c.requires.none) c.take.ensures in
-    let later = goes-later c.self.inside.elapsed c.in-Some.slot.start c.in-Some.slot.list c.self.inside.links.entries c.self.inside.links c.take.new.self c.self.invariant.0 c.in-Some.ensures.0 (none-pending c.self.inside.elapsed c.self.inside.links.entries c.self.inside.links.nodes c.self.inside.links.lists c.args.self.now c.self.view_is c.requires.none) c.take.ensures c.args.now c.args.steps.now c.goes_to-goal.new.steps c.goes_to-goal.result (subst (λ es. ComesTo c.in-Some.slot.start c.args.now (c.in-Some.slot.list / 64) es c.take.new.self c.args.steps.now c.goes_to-goal.new.steps c.goes_to-goal.result) (ap (λ w. w.entries) c.take.ensures) c.goes_to-goal.ensures) in
-    let above : c.self.inside.elapsed < c.goes_to-goal.result = omega (arith, begins, later) in
-    (subst (λ w. w.elapsed < c.goes_to-goal.result) c.self.view_is above, goes-by c.self.inside.elapsed c.in-Some.slot.start c.in-Some.slot.list c.self.inside.links.entries c.self.inside.links c.take.new.self c.self.invariant.0 c.in-Some.ensures.0 (none-pending c.self.inside.elapsed c.self.inside.links.entries c.self.inside.links.nodes c.self.inside.links.lists c.args.self.now c.self.view_is c.requires.none) c.take.ensures c.args.now c.args.steps.now c.goes_to-goal.new.steps c.goes_to-goal.result (subst (λ es. ComesTo c.in-Some.slot.start c.args.now (c.in-Some.slot.list / 64) es c.take.new.self c.args.steps.now c.goes_to-goal.new.steps c.goes_to-goal.result) (ap (λ w. w.entries) c.take.ensures) c.goes_to-goal.ensures) c.in-Some.ensures.1)
+    let later = goes-later c.self.inside.elapsed c.in-Some.slot.start c.in-Some.slot.list c.self.inside.links.entries c.self.inside.links c.take.new.self c.self.invariant.0 c.in-Some.ensures.0 (none-pending c.self.inside.elapsed c.self.inside.links.entries c.self.inside.links.nodes c.self.inside.links.lists c.args.self.now c.self.view_is c.requires.none) c.take.ensures c.args.now c.args.steps.now c.skip_to-goal.new.steps c.skip_to-goal.result (subst (λ es. ComesTo c.in-Some.slot.start c.args.now (c.in-Some.slot.list / 64) es c.take.new.self c.args.steps.now c.skip_to-goal.new.steps c.skip_to-goal.result) (ap (λ w. w.entries) c.take.ensures) c.skip_to-goal.ensures) in
+    let above : c.self.inside.elapsed < c.skip_to-goal.result = omega (arith, begins, later) in
+    (subst (λ w. w.elapsed < c.skip_to-goal.result) c.self.view_is above, goes-by c.self.inside.elapsed c.in-Some.slot.start c.in-Some.slot.list c.self.inside.links.entries c.self.inside.links c.take.new.self c.self.invariant.0 c.in-Some.ensures.0 (none-pending c.self.inside.elapsed c.self.inside.links.entries c.self.inside.links.nodes c.self.inside.links.lists c.args.self.now c.self.view_is c.requires.none) c.take.ensures c.args.now c.args.steps.now c.skip_to-goal.new.steps c.skip_to-goal.result (subst (λ es. ComesTo c.in-Some.slot.start c.args.now (c.in-Some.slot.list / 64) es c.take.new.self c.args.steps.now c.skip_to-goal.new.steps c.skip_to-goal.result) (ap (λ w. w.entries) c.take.ensures) c.skip_to-goal.ensures) c.in-Some.ensures.1)
 
 pub invariant_of-self : goal.invariant_of-self
 invariant_of-self g c = (
@@ -78,12 +78,12 @@ pub returns-in-Some-clause-steps : goal.returns-in-Some-clause-steps
 returns-in-Some-clause-steps g c =
     let fall = goes-credit c.self.inside.elapsed c.in-Some.slot.start c.in-Some.slot.list c.self.inside.links.entries c.self.inside.links c.take.new.self c.self.invariant.0 c.in-Some.ensures.0
     (none-pending c.self.inside.elapsed c.self.inside.links.entries c.self.inside.links.nodes c.self.inside.links.lists c.args.self.now c.self.view_is c.requires.none) c.take.ensures
-    c.args.now c.args.steps.now c.goes_to-goal.new.steps c.goes_to-goal.result (subst (λ es. ComesTo c.in-Some.slot.start c.args.now (c.in-Some.slot.list / 64) es c.take.new.self c.args.steps.now c.goes_to-goal.new.steps c.goes_to-goal.result) (ap (λ w. w.entries) c.take.ensures) c.goes_to-goal.ensures)
-    c.settle.new.links.entries c.settle.new.links c.settle.ensures.held (subst (λ es. Settled es c.settle.new.links.entries c.take.new.self c.settle.new.links) (ap (λ w. w.entries) c.take.ensures) c.settle.ensures.settled) (c.lists_are_disjoint.ensures.once c.in-Some.slot.list) in
+    c.args.now c.args.steps.now c.skip_to-goal.new.steps c.skip_to-goal.result (subst (λ es. ComesTo c.in-Some.slot.start c.args.now (c.in-Some.slot.list / 64) es c.take.new.self c.args.steps.now c.skip_to-goal.new.steps c.skip_to-goal.result) (ap (λ w. w.entries) c.take.ensures) c.skip_to-goal.ensures)
+    c.cascade.new.links.entries c.cascade.new.links c.cascade.ensures.held (subst (λ es. Cascaded es c.cascade.new.links.entries c.take.new.self c.cascade.new.links) (ap (λ w. w.entries) c.take.ensures) c.cascade.ensures.cascaded) (c.lists_are_disjoint.ensures.once c.in-Some.slot.list) in
     let taken : length (list_at c.take.new.self taken_list) ≡ length (list_at c.self.inside.links c.in-Some.slot.list) =
     ap length (at_taken c.self.inside.elapsed c.in-Some.slot.start c.in-Some.slot.list c.self.inside.links.entries c.self.inside.links c.take.new.self c.self.invariant.0 c.in-Some.ensures.0 (none-pending c.self.inside.elapsed c.self.inside.links.entries c.self.inside.links.nodes c.self.inside.links.lists c.args.self.now c.self.view_is c.requires.none) c.take.ensures) in
-    let steps = c.settle.ensures.steps in
-    subst (λ w. c.settle.new.steps + credit_of c.goes_to-goal.result (map timed_of c.settle.new.links.entries) ≡ c.args.steps.now + credit_of w.elapsed w.entries) c.self.view_is (omega (arith, fall, taken, steps))
+    let steps = c.cascade.ensures.steps in
+    subst (λ w. c.cascade.new.steps + credit_of c.skip_to-goal.result (map timed_of c.cascade.new.links.entries) ≡ c.args.steps.now + credit_of w.elapsed w.entries) c.self.view_is (omega (arith, fall, taken, steps))
 
 pub returns-in-None-clause-steps : goal.returns-in-None-clause-steps
 returns-in-None-clause-steps g c =
@@ -96,9 +96,9 @@ invariant_of-self-in-Some g c =
     let went =
     slot-advanced c.self.inside.elapsed c.in-Some.slot.start c.in-Some.slot.list c.self.inside.links.entries c.self.inside.links c.take.new.self c.self.invariant.0 c.in-Some.ensures.0
     (none-pending c.self.inside.elapsed c.self.inside.links.entries c.self.inside.links.nodes c.self.inside.links.lists c.args.self.now c.self.view_is c.requires.none) c.take.ensures
-    c.goes_to-goal.result
-    (goes-later c.self.inside.elapsed c.in-Some.slot.start c.in-Some.slot.list c.self.inside.links.entries c.self.inside.links c.take.new.self c.self.invariant.0 c.in-Some.ensures.0 (none-pending c.self.inside.elapsed c.self.inside.links.entries c.self.inside.links.nodes c.self.inside.links.lists c.args.self.now c.self.view_is c.requires.none) c.take.ensures c.args.now c.args.steps.now c.goes_to-goal.new.steps c.goes_to-goal.result (subst (λ es. ComesTo c.in-Some.slot.start c.args.now (c.in-Some.slot.list / 64) es c.take.new.self c.args.steps.now c.goes_to-goal.new.steps c.goes_to-goal.result) (ap (λ w. w.entries) c.take.ensures) c.goes_to-goal.ensures)) (goes-clear c.self.inside.elapsed c.in-Some.slot.start c.in-Some.slot.list c.self.inside.links.entries c.self.inside.links c.take.new.self c.self.invariant.0 c.in-Some.ensures.0 (none-pending c.self.inside.elapsed c.self.inside.links.entries c.self.inside.links.nodes c.self.inside.links.lists c.args.self.now c.self.view_is c.requires.none) c.take.ensures c.args.now c.args.steps.now c.goes_to-goal.new.steps c.goes_to-goal.result (subst (λ es. ComesTo c.in-Some.slot.start c.args.now (c.in-Some.slot.list / 64) es c.take.new.self c.args.steps.now c.goes_to-goal.new.steps c.goes_to-goal.result) (ap (λ w. w.entries) c.take.ensures) c.goes_to-goal.ensures)) (goes-waits c.self.inside.elapsed c.in-Some.slot.start c.in-Some.slot.list c.self.inside.links.entries c.self.inside.links c.take.new.self c.self.invariant.0 c.in-Some.ensures.0 (none-pending c.self.inside.elapsed c.self.inside.links.entries c.self.inside.links.nodes c.self.inside.links.lists c.args.self.now c.self.view_is c.requires.none) c.take.ensures c.args.now c.args.steps.now c.goes_to-goal.new.steps c.goes_to-goal.result (subst (λ es. ComesTo c.in-Some.slot.start c.args.now (c.in-Some.slot.list / 64) es c.take.new.self c.args.steps.now c.goes_to-goal.new.steps c.goes_to-goal.result) (ap (λ w. w.entries) c.take.ensures) c.goes_to-goal.ensures))
-    c.settle.new.links.entries c.settle.new.links c.settle.ensures.held (subst (λ es. Settled es c.settle.new.links.entries c.take.new.self c.settle.new.links) (ap (λ w. w.entries) c.take.ensures) c.settle.ensures.settled) _ refl in (
-      c.settle.ensures.held,
-      known-after c.self.inside.elapsed c.goes_to-goal.result c.self.inside.limit c.self.inside.near c.self.inside.links.entries c.settle.new.links.entries went.ticks c.self.invariant.1,
+    c.skip_to-goal.result
+    (goes-later c.self.inside.elapsed c.in-Some.slot.start c.in-Some.slot.list c.self.inside.links.entries c.self.inside.links c.take.new.self c.self.invariant.0 c.in-Some.ensures.0 (none-pending c.self.inside.elapsed c.self.inside.links.entries c.self.inside.links.nodes c.self.inside.links.lists c.args.self.now c.self.view_is c.requires.none) c.take.ensures c.args.now c.args.steps.now c.skip_to-goal.new.steps c.skip_to-goal.result (subst (λ es. ComesTo c.in-Some.slot.start c.args.now (c.in-Some.slot.list / 64) es c.take.new.self c.args.steps.now c.skip_to-goal.new.steps c.skip_to-goal.result) (ap (λ w. w.entries) c.take.ensures) c.skip_to-goal.ensures)) (goes-clear c.self.inside.elapsed c.in-Some.slot.start c.in-Some.slot.list c.self.inside.links.entries c.self.inside.links c.take.new.self c.self.invariant.0 c.in-Some.ensures.0 (none-pending c.self.inside.elapsed c.self.inside.links.entries c.self.inside.links.nodes c.self.inside.links.lists c.args.self.now c.self.view_is c.requires.none) c.take.ensures c.args.now c.args.steps.now c.skip_to-goal.new.steps c.skip_to-goal.result (subst (λ es. ComesTo c.in-Some.slot.start c.args.now (c.in-Some.slot.list / 64) es c.take.new.self c.args.steps.now c.skip_to-goal.new.steps c.skip_to-goal.result) (ap (λ w. w.entries) c.take.ensures) c.skip_to-goal.ensures)) (goes-waits c.self.inside.elapsed c.in-Some.slot.start c.in-Some.slot.list c.self.inside.links.entries c.self.inside.links c.take.new.self c.self.invariant.0 c.in-Some.ensures.0 (none-pending c.self.inside.elapsed c.self.inside.links.entries c.self.inside.links.nodes c.self.inside.links.lists c.args.self.now c.self.view_is c.requires.none) c.take.ensures c.args.now c.args.steps.now c.skip_to-goal.new.steps c.skip_to-goal.result (subst (λ es. ComesTo c.in-Some.slot.start c.args.now (c.in-Some.slot.list / 64) es c.take.new.self c.args.steps.now c.skip_to-goal.new.steps c.skip_to-goal.result) (ap (λ w. w.entries) c.take.ensures) c.skip_to-goal.ensures))
+    c.cascade.new.links.entries c.cascade.new.links c.cascade.ensures.held (subst (λ es. Cascaded es c.cascade.new.links.entries c.take.new.self c.cascade.new.links) (ap (λ w. w.entries) c.take.ensures) c.cascade.ensures.cascaded) _ refl in (
+      c.cascade.ensures.held,
+      known-after c.self.inside.elapsed c.skip_to-goal.result c.self.inside.limit c.self.inside.near c.self.inside.links.entries c.cascade.new.links.entries went.ticks c.self.invariant.1,
     )

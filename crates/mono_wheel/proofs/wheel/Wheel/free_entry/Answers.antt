@@ -1,12 +1,12 @@
 use Rattle.std.proofs.Common.{arith, ◌≡◌, ◌<◌, length, map, None, get_or, ap, inl, inr, subst, sym, ◌∙◌, length-set}
 use Rattle.std.proofs.lemmas.Bool.Decides.{eqb_tells}
 use Rattle.mono_wheel.specs.Lists.{is_node, no_entry}
-use Rattle.mono_wheel.specs.Held.{timed_of}
+use Rattle.mono_wheel.specs.Holdings.{timed_of}
 use Rattle.mono_wheel.specs.Model.{timed_at}
 use Rattle.mono_wheel.specs.Credit.{credit, credit_of}
-use Rattle.mono_wheel.proofs.Holding.{held-grown}
-use Rattle.mono_wheel.proofs.Standing.{false-true}
-use Rattle.mono_wheel.proofs.Carrying.{timed-freed, order-kept}
+use Rattle.mono_wheel.proofs.HoldingLemmas.{held-grown}
+use Rattle.mono_wheel.proofs.RingLemmas.{false-true}
+use Rattle.mono_wheel.proofs.TickChangeLemmas.{timed-freed, order-kept}
 use Rattle.mono_wheel.proofs.wheel.Wheel.free_entry.Goals as goal
 
 pub invariant_of-self : goal.invariant_of-self

@@ -1,6 +1,6 @@
 use Rattle.std.proofs.Common.{arith}
 use Rattle.mono_wheel.specs.Model.{timed_at}
-use Rattle.mono_wheel.proofs.Polling.{advanced-twice, tick-after}
+use Rattle.mono_wheel.proofs.PollLemmas.{advanced-twice, tick-after}
 use Rattle.mono_wheel.proofs.wheel.Wheel.go_on.Goals as goal
 
 pub returns-clause-advanced : goal.returns-clause-advanced

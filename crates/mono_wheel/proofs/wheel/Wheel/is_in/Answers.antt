@@ -1,6 +1,6 @@
 use Rattle.std.proofs.Common.{◌≡◌, true, subst, sym, ◌∙◌}
 use Rattle.mono_wheel.specs.Model.{is_reserved}
-use Rattle.mono_wheel.proofs.Holding.{in-known}
+use Rattle.mono_wheel.proofs.HoldingLemmas.{in-known}
 use Rattle.mono_wheel.proofs.wheel.Wheel.is_in.Goals as goal
 
 pub returns-clause-reserved : goal.returns-clause-reserved

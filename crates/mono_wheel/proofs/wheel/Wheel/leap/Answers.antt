@@ -1,6 +1,6 @@
 use Rattle.std.proofs.Common.{arith, ℕ, sym, ◌∙◌, subst}
 use Rattle.mono_wheel.specs.Model.{IsPending, timed_at}
-use Rattle.mono_wheel.specs.Held.{timed_in}
+use Rattle.mono_wheel.specs.Holdings.{timed_in}
 use Rattle.mono_wheel.specs.Leap.{IsFar, IsDueFrom}
 use Rattle.mono_wheel.proofs.LeapLemmas.{far-from, leap-held, leap-advanced}
 use Rattle.mono_wheel.proofs.wheel.Wheel.leap.Goals as goal

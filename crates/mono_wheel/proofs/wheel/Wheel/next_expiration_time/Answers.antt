@@ -1,5 +1,5 @@
 use Rattle.std.proofs.Common.{inl, inr}
-use Rattle.mono_wheel.proofs.Polling.{some-pending, next-start}
+use Rattle.mono_wheel.proofs.PollLemmas.{some-pending, next-start}
 use Rattle.mono_wheel.proofs.wheel.Wheel.next_expiration_time.Goals as goal
 
 pub returns-in-Some-clause-next : goal.returns-in-Some-clause-next

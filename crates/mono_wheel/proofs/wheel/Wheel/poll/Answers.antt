@@ -1,6 +1,6 @@
 use Rattle.std.proofs.Common.{arith, subst, sym, refl, inr, ◌∙◌}
 use Rattle.mono_wheel.specs.Model.{IsPending}
-use Rattle.mono_wheel.proofs.Polling.{Since, since-advanced, since-twice, came-out, came-later, nothing-due}
+use Rattle.mono_wheel.proofs.PollLemmas.{Since, since-advanced, since-twice, came-out, came-later, nothing-due}
 use Rattle.mono_wheel.proofs.wheel.Wheel.poll.Goals as goal
 
 pub returns-in-Some-clause-polled : goal.returns-in-Some-clause-polled

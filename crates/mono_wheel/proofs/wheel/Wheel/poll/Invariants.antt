@@ -1,6 +1,6 @@
 use Rattle.std.proofs.Common.{◌≡◌, ◌+◌, ◌≤◌, ◌-◌}
 use Rattle.mono_wheel.specs.Credit.{credit_of}
-use Rattle.mono_wheel.proofs.Polling.{Since}
+use Rattle.mono_wheel.proofs.PollLemmas.{Since}
 use Rattle.mono_wheel.proofs.wheel.Wheel.poll.Given as goal
 
 abbrev pub invariant-loop-key : goal.invariant-loop-key

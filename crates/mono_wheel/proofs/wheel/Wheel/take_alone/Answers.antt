@@ -1,12 +1,12 @@
 use Rattle.std.proofs.Common.{arith, ◌≡◌, ℕ, ◌+◌, map, set, ap, refl, sym, subst}
 use Rattle.mono_wheel.specs.Model.{Fits, CameOut, timed_at}
 use Rattle.mono_wheel.specs.Credit.{credit, credit_of}
-use Rattle.mono_wheel.specs.Held.{timed_of, wheel_of}
+use Rattle.mono_wheel.specs.Holdings.{timed_of, wheel_of}
 use Rattle.mono_wheel.specs.Leap.{Known}
 use Rattle.mono_wheel.proofs.AloneLemmas.{alone-waits, alone-below, alone-held, alone-came, alone-credit}
 use Rattle.mono_wheel.proofs.LeapLemmas.{known-out}
-use Rattle.mono_wheel.proofs.Polling.{none-pending}
-use Rattle.mono_wheel.proofs.Carrying.{written, held-written}
+use Rattle.mono_wheel.proofs.PollLemmas.{none-pending}
+use Rattle.mono_wheel.proofs.TickChangeLemmas.{written, held-written}
 use Rattle.mono_wheel.proofs.wheel.Wheel.take_alone.Goals as goal
 
 pub overflow_sub-tick : goal.overflow_sub-tick

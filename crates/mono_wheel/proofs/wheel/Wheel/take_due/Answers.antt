@@ -1,13 +1,13 @@
 use Rattle.std.proofs.Common.{◌≡◌, map, set, subst, sym, ap, refl, [], Some}
 use Rattle.mono_wheel.specs.Credit.{credit, credit_of}
-use Rattle.mono_wheel.specs.Held.{timed_of, wheel_of, DueTaken}
-use Rattle.mono_wheel.proofs.Crediting.{due-credit}
+use Rattle.mono_wheel.specs.Holdings.{timed_of, wheel_of, DueTaken}
+use Rattle.mono_wheel.proofs.CreditLemmas.{due-credit}
 use Rattle.mono_wheel.specs.Lists.{list_at}
-use Rattle.mono_wheel.proofs.Calls.{last-in}
-use Rattle.mono_wheel.proofs.Due.{due-held, due-taken, due-below}
+use Rattle.mono_wheel.proofs.CallLemmas.{last-in}
+use Rattle.mono_wheel.proofs.DueLemmas.{due-held, due-taken, due-below}
 use Rattle.mono_wheel.specs.Leap.{Known}
 use Rattle.mono_wheel.proofs.LeapLemmas.{known-out}
-use Rattle.mono_wheel.proofs.Carrying.{written, held-written}
+use Rattle.mono_wheel.proofs.TickChangeLemmas.{written, held-written}
 use Rattle.mono_wheel.proofs.wheel.Wheel.take_due.Goals as goal
 use Rattle.mono_wheel.specs.Start.{pending_list}
 

@@ -1,4 +1,4 @@
-use Rattle.mono_rt.specs.Reached.{reaches_itself}
+use Rattle.mono_rt.specs.Reaches.{reaches_itself}
 use Rattle.mono_bench.proofs.turns.work.WorkTaskFutureOwn.cancel.Goals as goal
 
 pub returns-clause-reached : goal.returns-clause-reached

@@ -1,3 +1,0 @@
-pub mod Timing
-pub mod Firing
-pub mod Matching

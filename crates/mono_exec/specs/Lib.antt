@@ -1,4 +1,0 @@
-pub mod JobTable
-pub mod Matches
-pub mod Stands
-pub mod Worked

@@ -1,5 +1,0 @@
-use Rattle.std.proofs.Common.{◌≡◌, false}
-use Rattle.mono_future_tests.proofs.boards.first_answer.Given as goal
-
-abbrev pub invariant-loop-poll : goal.invariant-loop-poll
-invariant-loop-poll g l = (g.F.TaskFuture.is_spent l.form ≡ false) × g.F.TaskFuture.can_poll l.form

@@ -1,4 +1,0 @@
-use Rattle.mono_future_tests.proofs.desks.fires.Given as goal
-
-abbrev pub ghosts-fired : goal.ghosts-fired
-ghosts-fired a = record { name = a.blank.name; parts = a.blank.parts }

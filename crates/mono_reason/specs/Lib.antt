@@ -1,4 +1,0 @@
-pub mod Words
-pub mod Reasons
-pub mod Scripts
-pub mod Told

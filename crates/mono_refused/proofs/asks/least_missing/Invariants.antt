@@ -1,4 +1,0 @@
-use Rattle.mono_refused.proofs.asks.least_missing.Given as goal
-
-abbrev pub invariant-loop-number : goal.invariant-loop-number
-invariant-loop-number g l = g.C.Context.reaches l.fn.cx l.cx

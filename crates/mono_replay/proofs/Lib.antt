@@ -1,0 +1,3 @@
+pub mod TimersLemmas
+pub mod FireLemmas
+pub mod MatchLemmas

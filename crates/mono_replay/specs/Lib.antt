@@ -1,0 +1,4 @@
+pub mod JobTable
+pub mod PartRefinement
+pub mod Refinement
+pub mod Examples

@@ -1,0 +1,139 @@
+-- What the driver tells, piece by piece.
+use Rattle.std.proofs.Common.{◌≡◌, ◌*◌, ℕ, true, false, Bool, List, [], ◌∷◌, ◌++◌, Some, None, Option, Ok, Err, refl, ap, sym, subst, ◌∙◌, append_assoc, append-nil}
+use Rattle.std.specs.Prelude.{⊤, Result, is_err}
+use Rattle.mono_driver.specs.Drivers.{moved}
+use Rattle.mono_driver.specs.declared.driver.DriverFault.{DriverFault}
+use Rattle.mono_model.specs.Tasks.{Tasks}
+use Rattle.mono_machine.specs.declared.events.TurnStep.{TurnStep}
+use Rattle.mono_machine.specs.declared.events.End.{End}
+use Rattle.mono_machine.specs.declared.events.Event.TheVariants as event
+use Rattle.mono_machine.specs.declared.events.Report.{Report}
+use Rattle.mono_rt.specs.SpawnErrors.{OnCapacity}
+use Rattle.mono_rt.specs.Drains.{remotes}
+use Rattle.mono_rt.specs.DriverReadings.{Told, telling, Course, going, IsRead, IsDrained, Tells, Telling, IsTold, Still, EndsBy, EndsSo, after_park, after_wait, parked_time}
+use Rattle.mono_rt.specs.declared.parts.errors.RunError.{RunError}
+use Rattle.mono_rt.specs.declared.parts.errors.RunError.TheVariants as error
+use Rattle.mono_rt.specs.declared.parts.journals.Entry.{Entry}
+use Rattle.mono_rt.specs.declared.parts.journals.Entry.TheVariants.{Ran, Now, Park}
+use Rattle.mono_rt.specs.declared.parts.journals.Journal.{Journal}
+
+pub tells_on : (a b c : Told) (p q r : Course) (xs ys : List Entry) → Tells a p xs b q → Tells b q ys c r → Tells a p (xs ++ ys) c r
+tells_on a b c p q r [] ys (is, same) more = subst (λ x. Tells x p ys c r) is (subst (λ x. Tells b x ys c r) same more)
+tells_on a b c p q r (Ran e t ∷ xs) ys (mid, (next, (met, rest))) more = (mid, (next, (met, tells_on mid b c next q r xs ys rest more)))
+tells_on a b c p q r (Now n ∷ xs) ys (at, (mid, (read, rest))) more = (at, (mid, (read, tells_on mid b c going q r xs ys rest more)))
+tells_on a b c p q r (Park w ∷ xs) ys (at, (mid, (f, (is, rest)))) more = (at, (mid, (f, (is, tells_on mid b c (after_park f) q r xs ys rest more))))
+
+-- nothing was done
+pub tells_nothing : {Ends : Course → Type 0} {a b : Told} {p : Course} {j k : Journal} → Ends p → b ≡ a → k.history.entries ≡ j.history.entries → Telling Ends a p j k b
+tells_nothing {Ends} {a} {b} {p} {j} {k} ends same entries = record {
+  tells = ([], (p, (entries ∙ sym (append-nil j.history.entries), (ends, (same, refl)))));
+}
+
+-- these entries
+pub tells_by : {Ends : Course → Type 0} {a b : Told} {p : Course} {j k : Journal} (q : Course) (part : List Entry) → Ends q → Tells a p part b q → k.history.entries ≡ j.history.entries ++ part → Telling Ends a p j k b
+tells_by {Ends} {a} {b} {p} {j} {k} q part ends tells grew = record {
+  tells = (part, (q, (grew, (ends, tells))));
+}
+
+-- one entry
+pub tells_one : {Ends : Course → Type 0} {a b : Told} {p : Course} {j k : Journal} (q : Course) (entry : Entry) → Ends q → Tells a p (entry ∷ []) b q → k.history.entries ≡ j.history.entries ++ entry ∷ [] → Telling Ends a p j k b
+tells_one {Ends} {a} {b} {p} {j} {k} q entry ends tells grew = tells_by q (entry ∷ []) ends tells grew
+
+-- one after the other
+pub telling_on : {Ends : Course → Type 0} {a b c : Told} {p q : Course} {i j k : Journal} → Telling (Still q) a p i j b → Telling Ends b q j k c → Telling Ends a p i k c
+telling_on {Ends} {a} {b} {c} {p} {q} {i} {j} {k} f g = record {
+  tells =
+      let first = f.tells in
+      let second = g.tells in
+      let xs : List Entry = first.0 in
+      let ys : List Entry = second.0 in (
+        xs ++ ys,
+        (
+          second.1.0,
+          (
+            second.1.1.0 ∙ ap (λ zs. zs ++ ys) first.1.1.0 ∙ append_assoc i.history.entries xs ys,
+            (second.1.1.1.0, tells_on a b c p q second.1.0 xs ys (subst (λ x. Tells a p xs b x) first.1.1.1.0 first.1.1.1.1) second.1.1.1.1),
+          ),
+        ),
+      );
+}
+
+-- what follows of how it ended
+pub telling_more : {P Q : Course → Type 0} {a b : Told} {p : Course} {j k : Journal} → ((x : Course) → P x → Q x) → Telling P a p j k b → Telling Q a p j k b
+telling_more {P} {Q} {a} {b} {p} {j} {k} law f = record {
+  tells =
+      let first = f.tells in
+      (first.0, (first.1.0, (first.1.1.0, (law first.1.0 first.1.1.1.0, first.1.1.1.1))));
+}
+
+-- then something that goes on in any way, and that it does not touch
+pub telling_past : {P : Course → Type 0} {a b c : Told} {p : Course} {i j k : Journal} → Telling P a p i j b → ((q : Course) → Telling (Still q) b q j k c) → Telling P a p i k c
+telling_past {P} {a} {b} {c} {p} {i} {j} {k} f g = record {
+  tells =
+      let first = f.tells in
+      let q : Course = first.1.0 in
+      let second = (g q).tells in
+      let xs : List Entry = first.0 in
+      let ys : List Entry = second.0 in (
+        xs ++ ys,
+        (
+          second.1.0,
+          (
+            second.1.1.0 ∙ ap (λ zs. zs ++ ys) first.1.1.0 ∙ append_assoc i.history.entries xs ys,
+            (subst P (sym second.1.1.1.0) first.1.1.1.0, tells_on a b c p q second.1.0 xs ys first.1.1.1.1 second.1.1.1.1),
+          ),
+        ),
+      );
+}
+
+-- wakes from outside tell nothing of it
+pub remotes_tell : {O : Type 0} (tasks : Tasks O) (ts : List ℕ) (a : Told) (p : Course) → Tells a p (remotes tasks ts) a p
+remotes_tell tasks [] a p = (refl, refl)
+remotes_tell tasks (t ∷ ts) a p = (a, (p, ((refl, refl), remotes_tell tasks ts a p)))
+
+-- the time after a park with an end is the one that the driver tells
+pub parked_is : (r : Result ⊤ DriverFault) (time : Option ℕ) (v nanos : ℕ) (has_failed : Bool) → has_failed ≡ is_err r → nanos ≡ v * 1000000 → moved time nanos r ≡ parked_time has_failed (Some v) time
+parked_is r None v nanos has_failed is at = refl
+parked_is (Ok x) (Some t) v nanos has_failed is at = ap (λ d. moved (Some t) d (Ok x)) at ∙ ap (λ f. parked_time f (Some v) (Some t)) (sym is)
+parked_is (Err e) (Some t) v nanos has_failed is at = ap (λ f. parked_time f (Some v) (Some t)) (sym is)
+
+pub parked_still : (time : Option ℕ) (has_failed : Bool) → time ≡ parked_time has_failed None time
+parked_still None has_failed = refl
+parked_still (Some t) true = refl
+parked_still (Some t) false = refl
+
+-- a main task that was not made
+pub capacity_ends : (P : Type 0) (e : RunError) (x : Course) → OnCapacity e P → x ≡ going → EndsBy e x
+capacity_ends P error.Memory x is at = tt
+capacity_ends P error.AtCapacity x is at = at
+capacity_ends P error.Driver x is at = absurd is
+capacity_ends P error.Turns x is at = absurd is
+
+-- a drain after a park
+pub drained_wait : (has_failed : Bool) → IsDrained (after_park has_failed) (after_wait has_failed)
+drained_wait true = refl
+drained_wait false = refl
+
+-- the same driver tells the same
+pub same_told : {D : Type 0} (r : D → Option (List ℕ)) (t : D → Option ℕ) (p : D → ℕ) {x y : D} → x ≡ y → telling (r x) (t x) (p x) ≡ telling (r y) (t y) (p y)
+same_told r t p same = ap (λ d. telling (r d) (t d) (p d)) same
+
+pub same_telling : {q r : Option (List ℕ)} {s t : Option ℕ} {m n : ℕ} → q ≡ r → s ≡ t → m ≡ n → telling q s m ≡ telling r t n
+same_telling {q} {r} {s} {t} {m} {n} readings time parks = ap (λ x. telling x s m) readings ∙ ap (λ x. telling r x m) time ∙ ap (λ x. telling r t x) parks
+
+-- the clock was read so
+pub read_at : {a b : Told} (n m : ℕ) → n ≡ m → IsRead m a b → IsRead n a b
+read_at {a} {b} n m is read = subst (λ x. IsRead x a b) (sym is) read
+
+-- the turn that was kept
+pub tells_kept : {a b : Told} {j k : Journal} (steps : List TurnStep) (e : End) (r : Report) → b ≡ a → k.history.entries ≡ j.history.entries ++ Ran (event.Turn steps e) r ∷ [] → Telling (Still going) a going j k b
+tells_kept {a} {b} {j} {k} steps e r same kept = record {
+  tells = (Ran (event.Turn steps e) r ∷ [], (going, (kept, (refl, (b, (going, ((same, refl), (refl, refl))))))));
+}
+
+-- from an empty history, what it then has
+pub told_in : {A : Type 0} {answer : Result A RunError} {a b : Told} {j k : Journal} (l : Journal) → j.history.entries ≡ [] → l ≡ k → Telling (EndsSo answer) a going j k b → IsTold answer a l.history.entries
+told_in {A} {answer} {a} {b} {j} {k} l empty same f =
+    let first = f.tells in
+    let part : first.0 ≡ l.history.entries = sym (ap (λ x. x.history.entries) same ∙ first.1.1.0 ∙ ap (λ xs. xs ++ first.0) empty) in
+    record { new = b; after = first.1.0; ends = first.1.1.1.0; tells = subst (λ xs. Tells a going xs b first.1.0) part first.1.1.1.1 }

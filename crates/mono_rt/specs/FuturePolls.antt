@@ -1,0 +1,80 @@
+-- The futures go along the entries of a history: each turn is one poll of its task's own future, at the reading before it,
+-- from the futures that the turns before it left.
+use Rattle.std.specs.Prelude.{⊤, ◌≡◌, ℕ, Bool, false, List, [], ◌∷◌, ◌++◌, Option, Some, Result, Ok, Err}
+use Rattle.mono_task.specs.Members.{FutureOf}
+use Rattle.mono_time.specs.declared.instant.Instant.{Instant}
+use Rattle.mono_time.specs.Instants.{nanos_of}
+use Rattle.mono_machine.specs.Machine.{Machine}
+use Rattle.mono_machine.specs.Steps.{Step}
+use Rattle.mono_machine.specs.declared.events.Act.{Act}
+use Rattle.mono_machine.specs.declared.events.Act.TheVariants as act
+use Rattle.mono_machine.specs.declared.events.Event.TheVariants as event
+use Rattle.mono_machine.specs.declared.events.TurnStep.{TurnStep}
+use Rattle.mono_machine.specs.declared.events.End.{End}
+use Rattle.mono_machine.specs.declared.events.Report.{Report}
+use Rattle.mono_machine.specs.declared.events.Report.TheVariants as report
+use Rattle.mono_model.specs.declared.Ended.{Ended}
+use Rattle.mono_rt.specs.Record.{no_acts}
+use Rattle.mono_rt.specs.Rounds.{IsSpawn}
+use Rattle.mono_rt.specs.Refinement.{hosting_of, Matches}
+use Rattle.mono_rt.specs.Turns.{Turn}
+use Rattle.mono_rt.specs.declared.contexts.Cx.{Cx}
+use Rattle.mono_rt.specs.declared.parts.errors.RunError.{RunError}
+use Rattle.mono_rt.specs.declared.parts.errors.RunError.TheVariants as error
+use Rattle.mono_rt.specs.declared.parts.journals.Entry.{Entry}
+use Rattle.mono_rt.specs.declared.parts.journals.Entry.TheVariants.{Ran, Now, Park}
+
+-- the act makes no task
+abbrev pub MakesNoTask : Act → Type 0
+MakesNoTask act.Spawn = ⊥
+MakesNoTask other = ⊤
+
+module _ {F O P U W J A V : Type 0} (number : O → ℕ) (leads : W → W → Type 0) (future : FutureOf F (Cx F O P U W J A V) O) (has_timers : Bool) where
+  -- A turn of the history, at this reading of the clock: the context before it stands for the machine and has these futures,
+  -- that after it has those that are left. The entry has each of its acts, and each of its calls found memory.
+  pub record TellsTurn (m : Machine) (futures : List (Option F)) (reading : ℕ) (steps : List TurnStep) (e : End) (answer : Report) (left : List (Option F)) : Type 0 where
+    pub task : ℕ
+    pub now : Instant
+    pub ended : Ended
+    pub before : Cx F O P U W J A V
+    pub after : Cx F O P U W J A V
+    pub is_unread : Bool
+    pub turn : Turn number leads future task now (no_acts is_unread) e ended before after
+    pub reads : nanos_of now ≡ reading
+    pub stands : Matches number hosting_of before.parts m
+    pub timers : before.parts.has_timers ≡ has_timers
+    pub had : before.futures.items ≡ futures
+    pub has : after.futures.items ≡ left
+    pub memory : after.parts.is_out_of_memory ≡ false
+    pub acts : after.parts.acts.steps ≡ steps
+    pub told : answer ≡ report.Turn task after.parts.acts.replies ended
+
+  -- Each turn among these entries is one poll of its task's own future, from these futures and this reading on. What else is
+  -- done leaves the futures, and makes no task.
+  abbrev pub Polled : Machine → List (Option F) → ℕ → List Entry → Type 0
+  Polled m futures reading [] = ⊤
+  Polled m futures reading (Now n ∷ part) = Polled m futures n part
+  Polled m futures reading (Park wait ∷ part) = Polled m futures reading part
+  Polled m futures reading (Ran (event.Turn steps e) answer ∷ part) =
+      (mid : Machine) × ((left : List (Option F)) × (Step m (event.Turn steps e) answer mid × TellsTurn m futures reading steps e answer left × Polled mid left reading part))
+  Polled m futures reading (Ran (event.Act a) answer ∷ part) = (mid : Machine) × (MakesNoTask a × Step m (event.Act a) answer mid × Polled mid futures reading part)
+  Polled m futures reading (Ran (event.Clock n) answer ∷ part) = (mid : Machine) × (Step m (event.Clock n) answer mid × Polled mid futures reading part)
+  Polled m futures reading (Ran (event.Remote t) answer ∷ part) = (mid : Machine) × (Step m (event.Remote t) answer mid × Polled mid futures reading part)
+  Polled m futures reading (Ran event.Drain answer ∷ part) = (mid : Machine) × (Step m event.Drain answer mid × Polled mid futures reading part)
+
+  -- The same of a part of a history, which leaves these futures: where what follows it is polled, so is the whole.
+  abbrev pub Polling : List (Option F) → List (Option F) → Machine → List Entry → Machine → List Entry → Type 0
+  Polling futures left old part new rest = ((reading : ℕ) → Polled new left reading rest) → (reading : ℕ) → Polled old futures reading part
+
+  -- the main task is made, and its future stands last; what follows leaves these futures
+  abbrev pub PollsMain : F → List (Option F) → List (Option F) → Machine → List Entry → Machine → List Entry → Type 0
+  PollsMain main futures left old part new rest =
+      (t : ℕ) × ((mid : Machine) × ((more : List Entry) × (IsSpawn t old part mid more × Polling (futures ++ Some main ∷ []) left mid more new rest)))
+
+-- By the answer, a fact of a call that made its main task, unless it found no memory.
+abbrev pub OnMain : {A : Type 0} → Result A RunError → Type 0 → Type 0
+OnMain (Ok x) P = P
+OnMain (Err error.Turns) P = P
+OnMain (Err error.Driver) P = P
+OnMain (Err error.AtCapacity) P = ⊤
+OnMain (Err error.Memory) P = ⊤

@@ -1,0 +1,95 @@
+-- What a call on a job changes of a runtime's parts, and what it keeps in the record of the turn.
+use Rattle.std.specs.Prelude.{◌≡◌, ℕ, Bool, true, Option, Some, None, Result, Ok, Err}
+use Rattle.mono_model.specs.Jobs.{Jobs}
+use Rattle.mono_model.specs.declared.poll.Poll.{Poll}
+use Rattle.mono_joinword.specs.declared.outcome.JoinError.{JoinError}
+use Rattle.mono_joinword.specs.declared.views.JoinerView.{JoinerView}
+use Rattle.mono_machine.specs.Acts.{reply_of}
+use Rattle.mono_machine.specs.JobCalls.{poll_answer, job_polled, drop_answer, job_dropped}
+use Rattle.mono_machine.specs.declared.events.Act.TheVariants as act
+use Rattle.mono_machine.specs.declared.events.Query.TheVariants as query
+use Rattle.mono_machine.specs.declared.events.TurnStep.{TurnStep}
+use Rattle.mono_machine.specs.declared.events.TurnStep.TheVariants as step
+use Rattle.mono_machine.specs.declared.events.Reply.{Reply}
+use Rattle.mono_machine.specs.declared.events.Reply.TheVariants as reply
+use Rattle.mono_machine.specs.declared.events.Refusal.{Refusal}
+use Rattle.mono_machine.specs.declared.events.Refusal.TheVariants as refusal
+use Rattle.mono_blocking.specs.JobAnswers.{IsEnd, after_end, polled_reply, dropped_reply, PollShown, DropShown, FinishShown}
+use Rattle.mono_blocking.specs.JobSpawns.{Seen, Spawned, strategy_of, refusals_of}
+use Rattle.mono_blocking.specs.declared.jobs.ends.End.{End}
+use Rattle.mono_blocking.specs.declared.jobs.handles.JobHandle.{JobHandle}
+use Rattle.mono_blocking.specs.declared.jobs.refusals.SpawnError.{SpawnError}
+use Rattle.mono_blocking.specs.declared.jobs.refusals.SpawnError.TheVariants as error
+use Rattle.mono_blocking.specs.declared.jobs.refusals.PollJob.{PollJob}
+use Rattle.mono_blocking.specs.declared.jobs.refusals.PollJob.TheVariants as polling
+use Rattle.mono_rt.specs.Record.{Record, noted}
+use Rattle.mono_rt.specs.declared.parts.state.Parts.{Parts}
+
+-- The end of job j that a call saw as the first stands right before that call's own act, with the task that waited for it.
+abbrev pub noted_end : Record → ℕ → Option End → Record
+noted_end acts j None = acts
+noted_end acts j (Some e) = noted acts (step.Act (act.JobEnd j e.how)) (reply.Ended e.waiter)
+
+-- A job that was asked for is an act, made or refused. Want of memory and a fault of the pool are none.
+abbrev pub noted_block : {J : Type 0} → Record → ℕ → Result JobHandle (SpawnError J) → Record
+noted_block acts n (Ok handle) = noted acts (step.Act (act.Block n)) (reply.Job handle.job)
+noted_block acts n (Err (error.AtCapacity back)) = noted acts (step.Act (act.Block n)) (reply.Refused refusal.AtCapacity)
+noted_block acts n (Err (error.NoPool back)) = noted acts (step.Act (act.Block n)) (reply.Refused refusal.NoPool)
+noted_block acts n (Err (error.Memory back)) = acts
+noted_block acts n (Err error.PoolFault) = acts
+
+-- want of memory is noted by its flag
+abbrev pub lacks_after : {J : Type 0} → Bool → Result JobHandle (SpawnError J) → Bool
+lacks_after before (Ok handle) = before
+lacks_after before (Err (error.AtCapacity back)) = before
+lacks_after before (Err (error.NoPool back)) = before
+lacks_after before (Err (error.Memory back)) = true
+lacks_after before (Err error.PoolFault) = before
+
+-- with these jobs and this record, and else as before
+abbrev pub with_blocking : {O B : Type 0} → Parts O B → B → Record → Bool → Parts O B
+with_blocking c blocking acts lacks = record { tasks = c.tasks; timers = c.timers; has_timers = c.has_timers; blocking = blocking; acts = acts; me = c.me; now = c.now; is_out_of_memory = lacks }
+
+-- A job is made, or is refused, as `Spawned` says. The strategy stays, the act is kept with its reply, and nothing else changes.
+pub record SpawnsJob {O P J : Type 0} (number : J → ℕ) (refusals : P → ℕ) (job : J) (answer : Result JobHandle (SpawnError J)) (c d : Parts O (Seen P)) : Type 0 where
+  pub spawned : Spawned number job answer (strategy_of c.blocking.pool) (refusals_of refusals c.blocking.pool) (refusals_of refusals d.blocking.pool) c.blocking.table.jobs d.blocking.table.jobs
+  pub same_strategy : strategy_of d.blocking.pool ≡ strategy_of c.blocking.pool
+  pub parts : d ≡ with_blocking c d.blocking (noted_block c.acts (number job) answer) (lacks_after c.is_out_of_memory answer)
+
+-- One call on job j, with the machine's answer to it: where the call saw the end of the job as the first, that stands right before it. The pool and all else stay.
+pub record AsksJob {O P : Type 0} (answer_of : Jobs → ℕ → Result Reply Refusal) (after : Jobs → ℕ → Jobs) (asked : TurnStep) (j : ℕ) (answer : Result Reply Refusal) (c d : Parts O (Seen P)) : Type 0 where
+  pub end : Option End
+  pub is_end : IsEnd end c.blocking.table.jobs j
+  pub is_answer : answer ≡ answer_of (after_end end c.blocking.table.jobs j) j
+  pub jobs : d.blocking.table.jobs ≡ after (after_end end c.blocking.table.jobs j) j
+  pub pool : d.blocking.pool ≡ c.blocking.pool
+  pub parts : d ≡ with_blocking c d.blocking (noted (noted_end c.acts j end) asked (reply_of answer)) c.is_out_of_memory
+
+-- a poll by the running task, which waits for the job from then on where that runs
+abbrev pub polled_by : ℕ → Jobs → ℕ → Jobs
+polled_by me jobs j = job_polled jobs j me
+
+pub record AsksOutput {O P A : Type 0} (number : A → ℕ) (j : ℕ) (answer : Result (Poll (Result A JoinError)) Refusal) (c d : Parts O (Seen P)) : Type 0 where
+  pub asks : AsksJob poll_answer (polled_by c.me) (step.Query (query.Job j)) j (polled_reply number answer) c d
+  -- what the job's joiner knew at last, where it gave the output
+  pub last : Option JoinerView
+  pub shown : PollShown number c.blocking.table j c.me answer last d.blocking.table
+
+-- where the waker could not be cloned nothing was asked
+abbrev pub PollsJob : {O P A : Type 0} → (A → ℕ) → ℕ → Result (Poll (Result A JoinError)) PollJob → Parts O (Seen P) → Parts O (Seen P) → Type 0
+PollsJob number j (Ok answer) c d = AsksOutput number j (Ok answer) c d
+PollsJob number j (Err (polling.Refused r)) c d = AsksOutput number j (Err r) c d
+PollsJob number j (Err polling.Memory) c d = d ≡ with_blocking c c.blocking c.acts true
+
+pub record DropsJob {O P A : Type 0} (number : A → ℕ) (j : ℕ) (answer : Result (Option (Result A JoinError)) Refusal) (c d : Parts O (Seen P)) : Type 0 where
+  pub asks : AsksJob drop_answer job_dropped (step.Act (act.DropJob j)) j (dropped_reply number answer) c d
+  -- what the job's joiner knew at last
+  pub last : Option JoinerView
+  pub shown : DropShown number c.blocking.table j answer last
+
+-- A question: nothing is kept of it, and the machine's jobs stay.
+pub record AsksWhetherEnded {O P : Type 0} (j : ℕ) (answer : Result Bool Refusal) (c d : Parts O (Seen P)) : Type 0 where
+  pub shown : FinishShown c.blocking.table j answer d.blocking.table
+  pub jobs : d.blocking.table.jobs ≡ c.blocking.table.jobs
+  pub pool : d.blocking.pool ≡ c.blocking.pool
+  pub parts : d ≡ with_blocking c d.blocking c.acts c.is_out_of_memory

@@ -1,0 +1,43 @@
+-- When a journal becomes full.
+use Rattle.std.specs.Prelude.{◌≡◌, ◌<◌, ◌⊎◌, ℕ, true, false, length}
+use Rattle.mono_model.specs.declared.Ended.{Ended}
+use Rattle.mono_task.specs.Members.{FutureOf}
+use Rattle.mono_time.specs.declared.instant.Instant.{Instant}
+use Rattle.mono_machine.specs.Machine.{Machine}
+use Rattle.mono_machine.specs.declared.events.End.{End}
+use Rattle.mono_rt.specs.Record.{no_acts, room}
+use Rattle.mono_rt.specs.Refinement.{hosting_of, Matches}
+use Rattle.mono_rt.specs.Turns.{Turn}
+use Rattle.mono_rt.specs.PartTurns.{IsTurnOf}
+use Rattle.mono_rt.specs.Journals.{Goes}
+use Rattle.mono_rt.specs.declared.contexts.Cx.{Cx}
+use Rattle.mono_rt.specs.declared.parts.journals.Journal.{Journal}
+
+module _ {F O P U W J A V : Type 0} (number : O → ℕ) (leads : W → W → Type 0) (future : FutureOf F (Cx F O P U W J A V) O) where
+  -- A turn in which the task's own future, polled once, made more calls than the record of a turn has room for: it began
+  -- with an empty record and ended with a full one, and for each machine it is a turn of more than 512 acts.
+  pub record LongTurn (c d : Cx F O P U W J A V) : Type 0 where
+    pub task : ℕ
+    pub now : Instant
+    pub ending : End
+    pub ended : Ended
+    pub turn : Turn number leads future task now (no_acts false) ending ended c d
+    pub is_full : d.parts.acts.is_full ≡ true
+    pub acts : (m : Machine) → Matches number hosting_of c.parts m → (is : IsTurnOf number task ending ended c.parts d.parts m) × (room < length is.steps)
+
+  -- there is such a turn
+  abbrev pub IsOneLong : Type 0
+  IsOneLong = (c : Cx F O P U W J A V) × ((d : Cx F O P U W J A V) × LongTurn c d)
+
+  -- Such a turn came. Until it began the journal was not full, so it kept all that was done.
+  pub record FilledBy (c : Cx F O P U W J A V) (j : Journal) : Type 0 where
+    pub before : Cx F O P U W J A V
+    pub after : Cx F O P U W J A V
+    pub so_far : Journal
+    pub went : Goes number c.parts before.parts j so_far
+    pub unfull : so_far.is_full ≡ false
+    pub long : LongTurn before after
+
+  -- The journal is full afterwards only where it was full before, or a turn made more acts than its record has room for.
+  abbrev pub Fills : Cx F O P U W J A V → Journal → Journal → Type 0
+  Fills c j k = k.is_full ≡ true → (j.is_full ≡ true) ⊎ FilledBy c j

@@ -1,0 +1,83 @@
+-- A context that was reached from another by calls of the running task.
+use Rattle.std.specs.Prelude.{⊤, ◌≡◌, ℕ, Bool, true, false, List, [], ◌∷◌, ◌++◌, length, Option, Some, ◌≤◌, slice_index_or, zero, suc, refl}
+use Rattle.std.proofs.Common.{sym, ◌∙◌, ap, arith}
+use Rattle.std.proofs.Math.Nat.{le_refl}
+use Rattle.mono_model.specs.Table.{value_at}
+use Rattle.mono_rt.specs.Leads.{Leads, leads_itself, leads_on}
+use Rattle.mono_rt.specs.Refinement.{hosting_of}
+use Rattle.mono_rt.specs.declared.contexts.Cx.{Cx}
+
+-- Each future in the table stays. Nothing else is said of the futures.
+abbrev pub KeepsFutures : {F : Type 0} → List (Option F) → List (Option F) → Type 0
+KeepsFutures {F} old new = (t : ℕ) (f : F) → value_at old t ≡ Some f → value_at new t ≡ Some f
+
+-- each number that was lent still is
+abbrev pub KeepsLent : List Bool → List Bool → Type 0
+KeepsLent old new = (t : ℕ) → slice_index_or old t false ≡ true → slice_index_or new t false ≡ true
+
+true-false : true ≡ false → ⊥
+true-false e = cc
+
+-- one more number, whose value is there
+pub lent_with_next : (old : List Bool) → KeepsLent old (old ++ false ∷ [])
+lent_with_next [] t is = absurd (true-false (sym is))
+lent_with_next (x ∷ old) zero is = is
+lent_with_next (x ∷ old) (suc t) is = lent_with_next old t is
+
+module _ {F O P U W J A V : Type 0} (number : O → ℕ) (leads : W → W → Type 0) where
+  -- calls of the running task lead from the one context to the other
+  pub record ReachesSharing (c d : Cx F O P U W J A V) : Type 0 where
+    pub parts : Leads number hosting_of c.parts d.parts
+    pub keeps : KeepsFutures c.futures.items d.futures.items
+    pub grows : length c.futures.items ≤ length d.futures.items
+    -- what runs finds its own place again
+    pub lent : KeepsLent c.futures.lent d.futures.lent
+    pub same_waker : d.waker ≡ c.waker
+    -- what the tasks share was led
+    pub shared : leads c.shared d.shared
+
+  pub sharing_itself : ((w : W) → leads w w) → (c : Cx F O P U W J A V) → ReachesSharing c c
+  sharing_itself itself c = record { parts = leads_itself number hosting_of c.parts; keeps = λ t f h. h; grows = le_refl _; lent = λ t h. h; same_waker = refl; shared = itself c.shared }
+
+  pub sharing_on : ((u v w : W) → leads u v → leads v w → leads u w) → (a b c : Cx F O P U W J A V) → ReachesSharing a b → ReachesSharing b c → ReachesSharing a c
+  sharing_on on a b c p q = record {
+    parts = leads_on number hosting_of a.parts b.parts c.parts p.parts q.parts;
+    keeps = λ t f h. q.keeps t f (p.keeps t f h);
+    grows = omega (arith, p.grows, q.grows);
+    lent = λ t h. q.lent t (p.lent t h);
+    same_waker = q.same_waker ∙ p.same_waker;
+    shared = on a.shared b.shared c.shared p.shared q.shared;
+  }
+
+  -- a call on the parts alone
+  pub by_parts : (c d : Cx F O P U W J A V) → Leads number hosting_of c.parts d.parts → d.futures.items ≡ c.futures.items → d.futures.lent ≡ c.futures.lent → d.waker ≡ c.waker → leads c.shared d.shared → ReachesSharing c d
+  by_parts c d parts same lent waker shared = record {
+    parts = parts;
+    keeps = λ t f h. ap (λ v. value_at v t) same ∙ h;
+    grows = rw same (le_refl _);
+    lent = λ t h. ap (λ xs. slice_index_or xs t false) lent ∙ h;
+    same_waker = waker;
+    shared = shared;
+  }
+
+  -- what the tasks share was changed, and nothing else
+  pub by_shared : (c : Cx F O P U W J A V) (w : W) → leads c.shared w → ReachesSharing c (record c { shared = w })
+  by_shared c w shared = record {
+    parts = leads_itself number hosting_of c.parts;
+    keeps = λ t f h. h;
+    grows = le_refl _;
+    lent = λ t h. h;
+    same_waker = refl;
+    shared = shared;
+  }
+
+-- the same where nothing is shared
+module _ {F O P U J A V : Type 0} (number : O → ℕ) where
+  abbrev pub Reaches : Cx F O P U ⊤ J A V → Cx F O P U ⊤ J A V → Type 0
+  Reaches = ReachesSharing number (λ a b. ⊤)
+
+  pub reaches_itself : (c : Cx F O P U ⊤ J A V) → Reaches c c
+  reaches_itself c = sharing_itself number (λ a b. ⊤) (λ a. tt) c
+
+  pub reaches_on : (a b c : Cx F O P U ⊤ J A V) → Reaches a b → Reaches b c → Reaches a c
+  reaches_on a b c p q = sharing_on number (λ x y. ⊤) (λ x y z r s. tt) a b c p q

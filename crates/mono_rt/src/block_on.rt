@@ -1,0 +1,271 @@
+// Rounds of turns, waits on the driver, and the main task.
+ghost use Rattle.std.specs.Prelude.{◌≡◌, ◌<◌, ◌≤◌, ◌+◌, ◌++◌, ◌∷◌, [], None, false, length, Some, IfOk, OnOk, IfErr, OnErr, if◌then◌else◌};
+ghost use Rattle.mono_task.specs.Work.{GivesOutput};
+ghost use Rattle.mono_rt.specs.Numbering.{answer_numbered};
+ghost use Rattle.mono_rt.specs.Journals.{Goes, Does, Stays};
+ghost use Rattle.mono_rt.specs.Rounds.{Parks, OrLed, PauseEnds, Round, PassEnds, Ends, IsSpawn, IsRefused, Blocked, cost};
+ghost use Rattle.mono_rt.specs.SpawnErrors.{OnCapacity, OnMemory};
+ghost use Rattle.mono_rt.specs.Faults.{FaultsBy, FaultsParked};
+ghost use Rattle.mono_rt.specs.FuturePolls.{Polling, PollsMain, OnMain};
+ghost use Rattle.mono_rt.specs.JournalRoom.{Fills};
+ghost use Rattle.mono_rt.specs.DriverReadings.{telling, going, Telling, Still, EndsSo, EndsWaited};
+
+use crate::contexts::Cx;
+use crate::parts::RunError;
+use crate::runtimes::Runtime;
+use mono_blocking::ThreadPool;
+use mono_driver::Driver;
+use mono_joinword::Outcome;
+use mono_model::Host;
+use mono_shared::SharedState;
+use mono_task::TaskFuture;
+use std::alloc::Global;
+
+impl<F: Drop, O: Outcome + Drop, D: Driver, P: ThreadPool + Drop, W: SharedState + Drop> Runtime<
+    F,
+    O,
+    D,
+    P,
+    W,
+> {
+    /// The queue is empty: the driver is parked, the inbox is drained, and with timers a clock step is done. The answer tells
+    /// whether the park failed.
+    fn wait<R: Host>(&mut self, rt: &R, alloc: Global) -> Result<bool, RunError>
+        ensures parks { Does O.output_number (OrLed result (Parks self.old.cx.parts.has_timers)) self.old.cx.parts self.new.cx.parts self.old.journal self.new.journal }
+        ensures has_timers { self.new.cx.parts.has_timers ≡ self.old.cx.parts.has_timers }
+        ensures turn { self.new.cx.parts.tasks.turn ≡ self.old.cx.parts.tasks.turn }
+        ensures futures { self.new.cx.futures ≡ self.old.cx.futures }
+        ensures shared { self.new.cx.shared ≡ self.old.cx.shared }
+        ensures faults { FaultsParked result (D.faults self.old.driver) (D.faults self.new.driver) }
+        ensures told { Telling (EndsWaited result) (telling (D.readings self.old.driver) (D.time self.old.driver) (D.parks self.old.driver)) going self.old.journal self.new.journal (telling (D.readings self.new.driver) (D.time self.new.driver) (D.parks self.new.driver)) }
+        ensures full { self.new.journal.is_full ≡ self.old.journal.is_full }
+        ensures held { self.new.journal.entries.held ≡ self.old.journal.entries.held }
+    {
+        match self.cx.parts.park(rt, &mut self.driver, &mut self.journal) {
+            Err(_) => Err(RunError::Memory),
+            Ok(failed) => match self.drain(rt, alloc) {
+                Err(_) => Err(RunError::Memory),
+                Ok(()) => {
+                    if self.cx.parts.has_timers {
+                        match self
+                            .cx
+                            .parts
+                            .clock_step(alloc, &mut self.driver, &mut self.journal)
+                        {
+                            Err(_) => Err(RunError::Memory),
+                            Ok(()) => Ok(failed),
+                        }
+                    } else {
+                        Ok(failed)
+                    }
+                }
+            },
+        }
+    }
+
+    /// Between two rounds. The answer tells whether a unit is spent: the queue was empty and still is.
+    fn pause<R: Host>(&mut self, rt: &R, alloc: Global) -> Result<bool, RunError>
+        ensures pauses { Does O.output_number (PauseEnds self.old.cx.parts.has_timers result) self.old.cx.parts self.new.cx.parts self.old.journal self.new.journal }
+        ensures spent { IfOk result (λ spent. (if spent then 1 else 0) ≡ cost self.old.cx.parts.tasks.tasks.queue self.new.cx.parts.tasks.tasks.queue) }
+        ensures has_timers { self.new.cx.parts.has_timers ≡ self.old.cx.parts.has_timers }
+        ensures queued { IfOk result (λ spent. spent ≡ false → 0 < length self.new.cx.parts.tasks.tasks.queue) }
+        ensures turn { self.new.cx.parts.tasks.turn ≡ self.old.cx.parts.tasks.turn }
+        ensures futures { self.new.cx.futures ≡ self.old.cx.futures }
+        ensures shared { self.new.cx.shared ≡ self.old.cx.shared }
+        ensures faults { FaultsBy result (D.faults self.old.driver) (D.faults self.new.driver) }
+        ensures told { Telling (EndsSo result) (telling (D.readings self.old.driver) (D.time self.old.driver) (D.parks self.old.driver)) going self.old.journal self.new.journal (telling (D.readings self.new.driver) (D.time self.new.driver) (D.parks self.new.driver)) }
+        ensures full { self.new.journal.is_full ≡ self.old.journal.is_full }
+        ensures held { self.new.journal.entries.held ≡ self.old.journal.entries.held }
+    {
+        if self.cx.parts.tasks.queue_len() > 0 {
+            let handed = self.driver.submit(rt);
+            return match self.drain(rt, alloc) {
+                Err(_) => Err(RunError::Memory),
+                Ok(()) => match handed {
+                    Ok(()) => Ok(false),
+                    Err(_) => Err(RunError::Driver),
+                },
+            };
+        }
+        match self.wait(rt, alloc) {
+            Err(_) => Err(RunError::Memory),
+            Ok(true) => Err(RunError::Driver),
+            Ok(false) => Ok(self.cx.parts.tasks.queue_len() == 0),
+        }
+    }
+
+    /// The main task is made, and room is held for the entry of its handle's drop.
+    fn start_main(&mut self, alloc: Global, future: F) -> Result<u64, RunError>
+        ensures goes { Goes O.output_number self.old.cx.parts self.new.cx.parts self.old.journal self.new.journal }
+        ensures spawned { IfOk result (λ t. Does O.output_number (IsSpawn t) self.old.cx.parts self.new.cx.parts self.old.journal self.new.journal) }
+        ensures refused { IfErr result (λ error. OnCapacity error (Does O.output_number IsRefused self.old.cx.parts self.new.cx.parts self.old.journal self.new.journal)) }
+        ensures has_timers { self.new.cx.parts.has_timers ≡ self.old.cx.parts.has_timers }
+        ensures turn { self.new.cx.parts.tasks.turn ≡ self.old.cx.parts.tasks.turn }
+        ensures shared { self.new.cx.shared ≡ self.old.cx.shared }
+        ensures made { OnOk result (self.new.cx.futures.items ≡ self.old.cx.futures.items ++ Some future ∷ []) }
+        ensures faults { D.faults self.new.driver ≡ D.faults self.old.driver }
+        ensures told { Telling (Still going) (telling (D.readings self.old.driver) (D.time self.old.driver) (D.parks self.old.driver)) going self.old.journal self.new.journal (telling (D.readings self.new.driver) (D.time self.new.driver) (D.parks self.new.driver)) }
+        ensures full { self.new.journal.is_full ≡ self.old.journal.is_full }
+        ensures unmade { IfErr result (λ error. OnMemory error (Does O.output_number Stays self.old.cx.parts self.new.cx.parts self.old.journal self.new.journal)) }
+        ensures held { IfOk result (λ t. self.new.journal.entries.held ≡ self.old.journal.entries.held + 1) }
+        ensures unheld { OnErr result (self.new.journal.entries.held ≡ self.old.journal.entries.held) }
+    {
+        match self.cx.futures.reserve_value(alloc, future) {
+            Err(_future) => Err(RunError::Memory),
+            Ok(()) => match self.cx.parts.start_main(alloc, &mut self.journal) {
+                Err(error) => {
+                    drop(self.cx.futures.abort());
+                    Err(error)
+                }
+                Ok(main) => {
+                    self.cx.futures.commit();
+                    Ok(main)
+                }
+            },
+        }
+    }
+}
+
+impl<F, O, D, P, W> Runtime<F, O, D, P, W>
+where
+    F: TaskFuture<Cx<F, O, P, D::Unpark, W>, Output = O> + Drop,
+    O: Outcome + Drop,
+    D: Driver,
+    P: ThreadPool + Drop,
+    W: SharedState + Drop,
+{
+    /// At most 2q + 1 turns of queued tasks, q being the queue's length now, while units are left. Answers the units that
+    /// are left.
+    fn round<R: Host>(&mut self, rt: &R, alloc: Global, units: u64) -> Result<u64, RunError>
+        requires callable { (f : F) → F.can_poll f }
+        requires rests { self.old.cx.parts.tasks.turn ≡ None }
+        ensures goes { Goes O.output_number self.old.cx.parts self.new.cx.parts self.old.journal self.new.journal }
+        ensures has_timers { self.new.cx.parts.has_timers ≡ self.old.cx.parts.has_timers }
+        ensures shared { W.leads self.old.cx.shared self.new.cx.shared }
+        ensures rests { self.new.cx.parts.tasks.turn ≡ None }
+        ensures left { IfOk result (λ left. left ≤ units) }
+        ensures round { IfOk result (λ left. Does O.output_number (Round units left) self.old.cx.parts self.new.cx.parts self.old.journal self.new.journal) }
+        ensures fewer { IfOk result (λ left. 0 < length self.old.cx.parts.tasks.tasks.queue → 0 < units → left < units) }
+        ensures polled { OnOk result (Does O.output_number (Polling O.output_number W.leads F.TaskFuture self.old.cx.parts.has_timers self.old.cx.futures.items self.new.cx.futures.items) self.old.cx.parts self.new.cx.parts self.old.journal self.new.journal) }
+        ensures faults { D.faults self.new.driver ≡ D.faults self.old.driver }
+        ensures told { Telling (Still going) (telling (D.readings self.old.driver) (D.time self.old.driver) (D.parks self.old.driver)) going self.old.journal self.new.journal (telling (D.readings self.new.driver) (D.time self.new.driver) (D.parks self.new.driver)) }
+        ensures full { Fills O.output_number W.leads F.TaskFuture self.old.cx self.old.journal self.new.journal }
+        ensures held { self.new.journal.entries.held ≡ self.old.journal.entries.held }
+    {
+        let queued = self.cx.parts.tasks.queue_len() as u64;
+        let most = queued.saturating_mul(2).saturating_add(1).min(units);
+        for done in 0..most {
+            if self.cx.parts.tasks.queue_len() == 0 {
+                return Ok(units - done);
+            }
+            self.turn(rt, alloc)?;
+        }
+        Ok(units - most)
+    }
+
+    /// A pause and a round. Answers the units that are left, which are fewer.
+    fn pass<R: Host>(&mut self, rt: &R, alloc: Global, units: u64) -> Result<u64, RunError>
+        requires callable { (f : F) → F.can_poll f }
+        requires rests { self.old.cx.parts.tasks.turn ≡ None }
+        requires some_left { 0 < units }
+        ensures passes { Does O.output_number (PassEnds self.old.cx.parts.has_timers units result) self.old.cx.parts self.new.cx.parts self.old.journal self.new.journal }
+        ensures has_timers { self.new.cx.parts.has_timers ≡ self.old.cx.parts.has_timers }
+        ensures shared { W.leads self.old.cx.shared self.new.cx.shared }
+        ensures rests { self.new.cx.parts.tasks.turn ≡ None }
+        ensures fewer { IfOk result (λ left. left < units) }
+        ensures polled { OnMain result (Does O.output_number (Polling O.output_number W.leads F.TaskFuture self.old.cx.parts.has_timers self.old.cx.futures.items self.new.cx.futures.items) self.old.cx.parts self.new.cx.parts self.old.journal self.new.journal) }
+        ensures faults { FaultsBy result (D.faults self.old.driver) (D.faults self.new.driver) }
+        ensures told { Telling (EndsSo result) (telling (D.readings self.old.driver) (D.time self.old.driver) (D.parks self.old.driver)) going self.old.journal self.new.journal (telling (D.readings self.new.driver) (D.time self.new.driver) (D.parks self.new.driver)) }
+        ensures full { Fills O.output_number W.leads F.TaskFuture self.old.cx self.old.journal self.new.journal }
+        ensures held { self.new.journal.entries.held ≡ self.old.journal.entries.held }
+    {
+        match self.pause(rt, alloc) {
+            Err(error) => Err(error),
+            Ok(true) => match self.round(rt, alloc, units - 1) {
+                Err(_) => Err(RunError::Memory),
+                Ok(left) => Ok(left),
+            },
+            Ok(false) => match self.round(rt, alloc, units) {
+                Err(_) => Err(RunError::Memory),
+                Ok(left) => Ok(left),
+            },
+        }
+    }
+
+    /// Rounds and waits until the main task has its output. It ends since each pass spends a unit.
+    fn run<R: Host>(&mut self, rt: &R, alloc: Global, main: u64, turns: u64) -> Result<(), RunError>
+        requires callable { (f : F) → F.can_poll f }
+        requires rests { self.old.cx.parts.tasks.turn ≡ None }
+        ensures given { OnOk result (GivesOutput self.new.cx.parts.tasks.tasks main) }
+        ensures ends { Does O.output_number (Ends self.old.cx.parts.has_timers main turns result) self.old.cx.parts self.new.cx.parts self.old.journal self.new.journal }
+        ensures has_timers { self.new.cx.parts.has_timers ≡ self.old.cx.parts.has_timers }
+        ensures shared { W.leads self.old.cx.shared self.new.cx.shared }
+        ensures rests { self.new.cx.parts.tasks.turn ≡ None }
+        ensures polled { OnMain result (Does O.output_number (Polling O.output_number W.leads F.TaskFuture self.old.cx.parts.has_timers self.old.cx.futures.items self.new.cx.futures.items) self.old.cx.parts self.new.cx.parts self.old.journal self.new.journal) }
+        ensures faults { FaultsBy result (D.faults self.old.driver) (D.faults self.new.driver) }
+        ensures told { Telling (EndsSo result) (telling (D.readings self.old.driver) (D.time self.old.driver) (D.parks self.old.driver)) going self.old.journal self.new.journal (telling (D.readings self.new.driver) (D.time self.new.driver) (D.parks self.new.driver)) }
+        ensures full { Fills O.output_number W.leads F.TaskFuture self.old.cx self.old.journal self.new.journal }
+        ensures held { self.new.journal.entries.held ≡ self.old.journal.entries.held }
+    {
+        let mut units = match self.round(rt, alloc, turns) {
+            Ok(left) => left,
+            Err(_) => return Err(RunError::Memory),
+        };
+        while units > 0 && !self.cx.parts.tasks.has_output(main) {
+            match self.pass(rt, alloc, units) {
+                Ok(left) => units = left,
+                Err(error) => return Err(error),
+            }
+        }
+        if self.cx.parts.tasks.has_output(main) {
+            Ok(())
+        } else {
+            Err(RunError::Turns)
+        }
+    }
+
+    /// Runs the future as the main task until it is ready, with so many units: each turn costs one, and each wait after
+    /// which no task is queued.
+    ///
+    /// From each machine for which the parts stood, the history grew by what `Blocked` says of the answer, which is a run of
+    /// the machine (`blocked`). The history is there whether or not a journal is kept; a journal that is not full equals it
+    /// (`Journal::kept`). If the answer is Memory, nothing was done, or the main task was made, what follows is a run, and the
+    /// last entry is the drop of the main task's handle, which takes no memory: room for it is made before the main task. Each
+    /// turn of the history is one poll of its task's own future, from the futures that the turns before it left, unless the
+    /// answer is Memory (`polled`). The answer is Driver only if the driver's count of faults rose in this call, and if it
+    /// rose the answer is Driver or Memory (`faults`).
+    pub fn block_on<R: Host>(
+        &mut self,
+        rt: &R,
+        alloc: Global,
+        future: F,
+        turns: u64,
+    ) -> Result<O, RunError>
+        requires callable { (f : F) → F.can_poll f }
+        requires rests { self.old.cx.parts.tasks.turn ≡ None }
+        ensures blocked { Does O.output_number (Blocked self.old.cx.parts.has_timers turns (answer_numbered O.output_number result)) self.old.cx.parts self.new.cx.parts self.old.journal self.new.journal }
+        ensures shared { W.leads self.old.cx.shared self.new.cx.shared }
+        ensures rests { self.new.cx.parts.tasks.turn ≡ None }
+        ensures polled { OnMain result (Does O.output_number (PollsMain O.output_number W.leads F.TaskFuture self.old.cx.parts.has_timers future self.old.cx.futures.items self.new.cx.futures.items) self.old.cx.parts self.new.cx.parts self.old.journal self.new.journal) }
+        ensures faults { FaultsBy result (D.faults self.old.driver) (D.faults self.new.driver) }
+        ensures told { Telling (EndsSo result) (telling (D.readings self.old.driver) (D.time self.old.driver) (D.parks self.old.driver)) going self.old.journal self.new.journal (telling (D.readings self.new.driver) (D.time self.new.driver) (D.parks self.new.driver)) }
+        ensures full { Fills O.output_number W.leads F.TaskFuture self.old.cx self.old.journal self.new.journal }
+        ensures held { self.new.journal.entries.held ≡ self.old.journal.entries.held }
+    {
+        match self.start_main(alloc, future) {
+            Err(error) => Err(error),
+            Ok(main) => {
+                let answer = self.run(rt, alloc, main, turns);
+                self.cx.wakers.retire_ended(rt);
+                let output = self.cx.parts.end_main(&mut self.journal, main);
+                match answer {
+                    Err(error) => Err(error),
+                    Ok(()) => match output {
+                        Some(output) => Ok(output),
+                        None => unreachable!(),
+                    },
+                }
+            }
+        }
+    }
+}

@@ -1,0 +1,79 @@
+// How a runtime is made.
+ghost use Rattle.std.specs.Prelude.{◌≡◌, ℕ, IfOk, None, false, []};
+ghost use Rattle.mono_machine.specs.Machine.{start_machine};
+ghost use Rattle.mono_blocking.specs.JobSpawns.{strategy_of};
+ghost use Rattle.mono_time.specs.Timers.{registered_of};
+ghost use Rattle.mono_rt.specs.Refinement.{hosting_of, Matches};
+
+use crate::builder::{ENTRIES, RuntimeBuilder};
+use crate::parts::Journal;
+use crate::runtimes::Runtime;
+use mono_blocking::{BlockingHandle, ThreadPool};
+use mono_driver::Driver;
+use mono_joinword::Outcome;
+use mono_machine::Limits;
+use mono_shared::SharedState;
+use mono_time::Instant;
+use std::alloc::{AllocError, Global};
+
+impl<F: Drop, O: Outcome + Drop, D: Driver, P: ThreadPool + Drop, W: SharedState + Drop> Runtime<
+    F,
+    O,
+    D,
+    P,
+    W,
+> {
+    /// A runtime with a journal, whose tasks share this value. It stands for the start machine, with the pool's strategy.
+    pub fn new(
+        alloc: Global,
+        driver: D,
+        pool: BlockingHandle<P>,
+        limits: Limits,
+        has_timers: bool,
+        start: Instant,
+        shared: W,
+    ) -> Result<Runtime<F, O, D, P, W>, AllocError>
+        ensures shared { IfOk result (λ runtime. runtime.cx.shared ≡ shared) }
+        ensures stands { IfOk result (λ runtime. Matches O.output_number hosting_of runtime.cx.parts (start_machine limits (strategy_of pool))) }
+        ensures pool { IfOk result (λ runtime. runtime.cx.parts.blocking.pool ≡ pool) }
+        ensures timers { IfOk result (λ runtime. runtime.cx.parts.has_timers ≡ has_timers) }
+        ensures driver { IfOk result (λ runtime. runtime.driver ≡ driver) }
+        ensures rests { IfOk result (λ runtime. runtime.cx.parts.tasks.turn ≡ None) }
+        ensures journal { IfOk result (λ runtime. runtime.journal.entries.items ≡ []) }
+        ensures history { IfOk result (λ runtime. runtime.journal.history.entries ≡ []) }
+        ensures futures { IfOk result (λ runtime. runtime.cx.futures.items ≡ []) }
+        ensures unfull { IfOk result (λ runtime. runtime.journal.is_full ≡ false) }
+        ensures registered { IfOk result (λ runtime. (s : ℕ) → registered_of runtime.cx.parts.timers s ≡ None) }
+    {
+        let builder = RuntimeBuilder {
+            driver,
+            pool,
+            entries: ENTRIES,
+            limits,
+            keeps_journal: true,
+        };
+        builder.make(alloc, has_timers, start, shared)
+    }
+
+    /// What it did.
+    pub fn journal(&self) -> &Journal
+        ensures { result.now ≡ self.now.journal }
+    {
+        &self.journal
+    }
+
+    /// What the tasks share, between two calls of `block_on`.
+    pub fn shared(&self) -> &W
+        ensures { result.now ≡ self.now.cx.shared }
+    {
+        &self.cx.shared
+    }
+
+    /// Gives the runtime up, and keeps what it did.
+    pub(crate) fn into_journal(self) -> Journal
+        ensures { result ≡ self.journal }
+    {
+        let (_jobs, journal) = self.apart();
+        journal
+    }
+}

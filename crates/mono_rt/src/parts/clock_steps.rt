@@ -1,0 +1,78 @@
+// A clock step: the clock is read, and what is due fires.
+ghost use Rattle.std.specs.Prelude.{◌≡◌, ◌≤◌, ◌+◌, [], true, vec_len, vec_capacity, OnOk, OnErr, IfSome, IfNone};
+ghost use Rattle.mono_time.specs.Instants.{nanos_of};
+ghost use Rattle.mono_time.specs.Sleeps.{armed_count};
+ghost use Rattle.mono_time.specs.Timers.{sleeps_of};
+ghost use Rattle.mono_rt.specs.Journals.{Goes, Does, HasPlaces};
+ghost use Rattle.mono_rt.specs.Rounds.{IsClock};
+ghost use Rattle.mono_rt.specs.DriverReadings.{telling, Course, Telling, IsRead, Still};
+
+use crate::parts::errors::RunError;
+use crate::parts::journals::{Entry, Journal};
+use crate::parts::state::Parts;
+use mono_blocking::{Blockings, ThreadPool};
+use mono_driver::Driver;
+use mono_joinword::Outcome;
+use mono_machine::{Event, Report};
+use mono_task::wake_all;
+use mono_time::{Due, Instant, Timers, take_due};
+use std::alloc::Global;
+use std::marker::Brand;
+use std::sync::ledger::Blank;
+
+// Room for a clock step, and the reading of the clock.
+fn open_clock<D: Driver>(
+    alloc: Global,
+    timers: &Timers,
+    driver: &mut D,
+    journal: &mut Journal,
+) -> Option<(Instant, Due)>
+    ensures place { IfSome result (λ x. HasPlaces journal.new 1) }
+    ensures fired { IfSome result (λ x. (x.1.fired.items ≡ []) × (armed_count (sleeps_of timers.now) + vec_len x.1.fired ≤ vec_capacity x.1.fired)) }
+    ensures wakers { IfSome result (λ x. (x.1.wakers.items ≡ []) × (armed_count (sleeps_of timers.now) + vec_len x.1.wakers ≤ vec_capacity x.1.wakers)) }
+    ensures history { journal.new.history.entries ≡ journal.old.history.entries }
+    ensures full { journal.new.is_full ≡ journal.old.is_full }
+    ensures read { IfSome result (λ x. IsRead (nanos_of x.0) (telling (D.readings driver.old) (D.time driver.old) (D.parks driver.old)) (telling (D.readings driver.new) (D.time driver.new) (D.parks driver.new))) }
+    ensures unread { IfNone result (driver.new ≡ driver.old) }
+    ensures faults { D.faults driver.new ≡ D.faults driver.old }
+    ensures held { journal.new.entries.held ≡ journal.old.entries.held }
+{
+    match journal.reserve(1) {
+        Err(_) => None,
+        Ok(()) => match Due::with_room(alloc, timers) {
+            Err(_) => None,
+            Ok(room) => Some((driver.now(), room)),
+        },
+    }
+}
+
+impl<O: Outcome + Drop, P: ThreadPool + Drop> Parts<O, Blockings<P>> {
+    /// The clock is read, and the sleeps that are due fire. Where memory is refused nothing changes, since the room for all
+    /// that may fire is made first.
+    pub fn clock_step<D: Driver>(
+        &mut self,
+        alloc: Global,
+        driver: &mut D,
+        journal: &mut Journal,
+    ) -> Result<(), RunError>
+        requires { self.old.has_timers ≡ true }
+        ensures goes { Goes O.output_number self.old self.new journal.old journal.new }
+        ensures clocked { OnOk result (Does O.output_number IsClock self.old self.new journal.old journal.new) }
+        ensures refused { OnErr result (self.new ≡ self.old) }
+        ensures has_timers { self.new.has_timers ≡ self.old.has_timers }
+        ensures turn { self.new.tasks.turn ≡ self.old.tasks.turn }
+        ensures faults { D.faults driver.new ≡ D.faults driver.old }
+        ensures told { (course : Course) → Telling (Still course) (telling (D.readings driver.old) (D.time driver.old) (D.parks driver.old)) course journal.old journal.new (telling (D.readings driver.new) (D.time driver.new) (D.parks driver.new)) }
+        ensures full { journal.new.is_full ≡ journal.old.is_full }
+        ensures held { journal.new.entries.held ≡ journal.old.entries.held }
+    {
+        let Some((now, room)) = open_clock(alloc, &self.timers, driver, journal) else {
+            return Err(RunError::Memory);
+        };
+        let nanos = now.as_nanos();
+        let due = take_due::<Brand>(&mut self.timers, now, Blank::new(1), room);
+        wake_all(&mut self.tasks, &due.wakers);
+        journal.push(Entry::Ran(Event::Clock(nanos), Report::Fired(due.into_fired())));
+        Ok(())
+    }
+}

@@ -1,0 +1,106 @@
+// What other threads woke, once it was taken: it is told in the journal, and woken.
+ghost use Rattle.std.specs.Prelude.{◌≡◌, ◌≤◌, ◌<◌, ◌+◌, ◌++◌, ◌∷◌, ℕ, [], length, vec_len, vec_capacity, IfSome, OnOk};
+ghost use Rattle.mono_inbox.specs.State.{HasNoDoubles};
+ghost use Rattle.mono_task.specs.Work.{over_answer};
+ghost use Rattle.mono_machine.specs.declared.events.Event.TheVariants as event;
+ghost use Rattle.mono_rt.specs.declared.parts.journals.Entry.TheVariants.{Ran};
+ghost use Rattle.mono_rt.specs.Drains.{told_by, listed_by, remotes, listed};
+ghost use Rattle.mono_rt.specs.Journals.{Goes, Does, HasPlaces};
+ghost use Rattle.mono_rt.specs.Rounds.{Drained};
+ghost use Rattle.mono_rt.specs.DriverReadings.{Told, Course, Telling, Still, EndsDrained};
+
+use crate::parts::errors::RunError;
+use crate::parts::journals::{Entry, Journal};
+use crate::parts::state::Parts;
+use mono_blocking::{Blockings, ThreadPool};
+use mono_joinword::Outcome;
+use mono_machine::{Event, List, Refusal, Reply, Report};
+use mono_task::wake_all;
+use std::alloc::Global;
+
+// Room for the entries, and for the list of those that are woken.
+fn open_drain(alloc: Global, journal: &mut Journal, taken: &[u64]) -> Option<Vec<u64>>
+    ensures places { IfSome result (λ list. HasPlaces journal.new (length taken.now + 1)) }
+    ensures room { IfSome result (λ list. vec_len list + length taken.now ≤ vec_capacity list) }
+    ensures empty { IfSome result (λ list. list.items ≡ []) }
+    ensures history { journal.new.history.entries ≡ journal.old.history.entries }
+    ensures full { journal.new.is_full ≡ journal.old.is_full }
+    ensures held { journal.new.entries.held ≡ journal.old.entries.held }
+{
+    match journal.reserve(taken.len() + 1) {
+        Err(_) => None,
+        Ok(()) => match Vec::with_capacity(alloc, taken.len()) {
+            Err(_) => None,
+            Ok(list) => Some(list),
+        },
+    }
+}
+
+impl<O: Outcome + Drop, P: ThreadPool + Drop> Parts<O, Blockings<P>> {
+    /// Tells and wakes those that were taken.
+    pub fn wake_taken(
+        &mut self,
+        alloc: Global,
+        journal: &mut Journal,
+        taken: &[u64],
+    ) -> Result<(), RunError>
+        requires { HasNoDoubles taken.now }
+        ensures goes { Goes O.output_number self.old self.new journal.old journal.new }
+        ensures drained { OnOk result (Does O.output_number Drained self.old self.new journal.old journal.new) }
+        ensures turn { self.new.tasks.turn ≡ self.old.tasks.turn }
+        ensures longer { length self.old.tasks.tasks.queue ≤ length self.new.tasks.tasks.queue }
+        ensures has_timers { self.new.has_timers ≡ self.old.has_timers }
+        ensures told { (told : Told) (before after : Course) → EndsDrained result before after → Telling (Still after) told before journal.old journal.new told }
+        ensures full { journal.new.is_full ≡ journal.old.is_full }
+        ensures held { journal.new.entries.held ≡ journal.old.entries.held }
+    {
+        match open_drain(alloc, journal, taken) {
+            None => Err(RunError::Memory),
+            Some(mut listed) => {
+                self.tell_remotes(journal, taken, &mut listed);
+                wake_all(&mut self.tasks, &listed);
+                journal.push(Entry::Ran(Event::Drain, Report::Drained(List::from(listed))));
+                Ok(())
+            }
+        }
+    }
+
+    /// One entry for each task, and the list of those that are to be woken.
+    fn tell_remotes(&self, journal: &mut Journal, taken: &[u64], into: &mut Vec<u64>)
+        requires places { HasPlaces journal.old (length taken.now + 1) }
+        requires room { vec_len into.old + length taken.now ≤ vec_capacity into.old }
+        ensures history { journal.new.history.entries ≡ journal.old.history.entries ++ remotes self.entry.now.tasks.tasks taken.now }
+        ensures full { journal.new.is_full ≡ journal.old.is_full }
+        ensures place { HasPlaces journal.new 1 }
+        ensures listed { into.new.items ≡ into.old.items ++ listed self.entry.now.tasks.tasks taken.now }
+        ensures held { journal.new.entries.held ≡ journal.old.entries.held }
+    {
+        for t in taken {
+            self.tell_remote(journal, *t, into);
+        }
+    }
+
+    fn tell_remote(&self, journal: &mut Journal, t: u64, into: &mut Vec<u64>)
+        requires place { HasPlaces journal.old 1 }
+        requires room { vec_len into.old < vec_capacity into.old }
+        ensures history { journal.new.history.entries ≡ journal.old.history.entries ++ Ran (event.Remote t) (told_by (over_answer self.entry.now.tasks.tasks t)) ∷ [] }
+        ensures full { journal.new.is_full ≡ journal.old.is_full }
+        ensures places { (n : ℕ) → HasPlaces journal.old (n + 1) → HasPlaces journal.new n }
+        ensures listed { into.new.items ≡ into.old.items ++ listed_by (over_answer self.entry.now.tasks.tasks t) t }
+        ensures len { vec_len into.new ≤ vec_len into.old + 1 }
+        ensures capacity { vec_capacity into.new ≡ vec_capacity into.old }
+        ensures held { journal.new.entries.held ≡ journal.old.entries.held }
+    {
+        match self.tasks.has_finished(t) {
+            Err(_) => journal.push(Entry::Ran(
+                Event::Remote(t),
+                Report::Reply(Reply::Refused(Refusal::NoTask)),
+            )),
+            Ok(true) => journal.push(Entry::Ran(Event::Remote(t), Report::Unlisted)),
+            Ok(false) => {
+                into.push_reserved(t);
+                journal.push(Entry::Ran(Event::Remote(t), Report::Listed));
+            }
+        }
+    }
+}

@@ -1,0 +1,117 @@
+// The calls of a running task on blocking jobs, on the parts of a runtime. Each is an act of the machine, and is kept in the
+// record. The end of a job that a call sees as the first is kept as an act right before it.
+ghost use Rattle.std.specs.Prelude.{◌≡◌};
+ghost use Rattle.mono_rt.specs.JobActs.{noted_end, SpawnsJob, AsksOutput, DropsJob, AsksWhetherEnded};
+ghost use Rattle.mono_rt.specs.Leads.{Leads};
+ghost use Rattle.mono_rt.specs.Refinement.{hosting_of};
+ghost use Rattle.mono_machine.specs.Acts.{reply_of};
+ghost use Rattle.mono_blocking.specs.JobAnswers.{polled_reply, dropped_reply};
+
+use crate::parts::acts::Acts;
+use crate::parts::state::Parts;
+use mono_blocking::{Blockings, End, Job, JobHandle, JobWaker, OutputOf, SpawnError, ThreadPool};
+use mono_joinword::{JoinError, Outcome};
+use mono_machine::{Act, Query, Refusal, Reply, TurnStep};
+use mono_model::{Host, Poll};
+use std::alloc::Global;
+
+/// The reply to a poll of a job's handle.
+fn polled_reply<A: Outcome>(answer: &Result<Poll<Result<A, JoinError>>, Refusal>) -> Reply
+    ensures { result ≡ reply_of (polled_reply A.output_number answer.now) }
+{
+    match answer {
+        Ok(Poll::Ready(Ok(output))) => Reply::Output(output.number()),
+        Ok(Poll::Ready(Err(_))) => Reply::Canceled,
+        Ok(Poll::Pending) => Reply::Pending,
+        Err(refusal) => Reply::Refused(*refusal),
+    }
+}
+
+/// The reply to the drop of a job's handle.
+fn dropped_reply<A: Outcome>(answer: &Result<Option<Result<A, JoinError>>, Refusal>) -> Reply
+    ensures { result ≡ reply_of (dropped_reply A.output_number answer.now) }
+{
+    match answer {
+        Ok(Some(Ok(output))) => Reply::Dropped(Some(output.number())),
+        Ok(Some(Err(_))) => Reply::Dropped(None),
+        Ok(None) => Reply::Dropped(None),
+        Err(refusal) => Reply::Refused(*refusal),
+    }
+}
+
+impl Acts {
+    /// The end of a job, where a call saw it as the first.
+    fn note_end(&mut self, job: u64, end: Option<End>)
+        ensures { self.new ≡ noted_end self.old job end }
+    {
+        if let Some(end) = end {
+            self.note(
+                TurnStep::Act(Act::JobEnd(job, end.how)),
+                Reply::Ended(end.waiter),
+            );
+        }
+    }
+}
+
+impl<O: Outcome + Drop, P: ThreadPool + Drop> Parts<O, Blockings<P>> {
+    /// Makes a job.
+    pub fn spawn_blocking<R: Host>(
+        &mut self,
+        rt: &R,
+        alloc: Global,
+        job: P::Job,
+    ) -> Result<JobHandle, SpawnError<P::Job>>
+        ensures spawns { SpawnsJob P.Job.output_number P.refusals job result self.old self.new }
+        ensures leads { Leads O.output_number hosting_of self.old self.new }
+    {
+        let step = TurnStep::Act(Act::Block(job.number()));
+        let answer = self.blocking.spawn(rt, alloc, job);
+        match &answer {
+            Ok(handle) => self.acts.note(step, Reply::Job(handle.job())),
+            Err(SpawnError::AtCapacity(_)) => self
+                .acts
+                .note(step, Reply::Refused(Refusal::AtCapacity)),
+            Err(SpawnError::NoPool(_)) => self.acts.note(step, Reply::Refused(Refusal::NoPool)),
+            Err(SpawnError::Memory(_)) => self.is_out_of_memory = true,
+            Err(SpawnError::PoolFault) => {}
+        }
+        answer
+    }
+
+    /// Polls the handle of a job with a waker of the running task.
+    pub fn poll_job(
+        &mut self,
+        job: u64,
+        waker: JobWaker<<P::Job as Job>::Unpark>,
+    ) -> Result<Poll<Result<OutputOf<P>, JoinError>>, Refusal>
+        requires mine { waker ≡ self.old.me }
+        ensures asks { AsksOutput P.Job.Output.output_number job result self.old self.new }
+        ensures leads { Leads O.output_number hosting_of self.old self.new }
+    {
+        let polled = self.blocking.poll(job, waker);
+        self.acts.note_end(job, polled.end);
+        let reply = polled_reply(&polled.answer);
+        self.acts.note(TurnStep::Query(Query::Job(job)), reply);
+        polled.answer
+    }
+
+    /// Drops the handle of a job.
+    pub fn drop_job(&mut self, job: u64) -> Result<Option<Result<OutputOf<P>, JoinError>>, Refusal>
+        ensures drops { DropsJob P.Job.Output.output_number job result self.old self.new }
+        ensures leads { Leads O.output_number hosting_of self.old self.new }
+    {
+        let dropped = self.blocking.drop_handle(job);
+        self.acts.note_end(job, dropped.end);
+        let reply = dropped_reply(&dropped.answer);
+        self.acts.note(TurnStep::Act(Act::DropJob(job)), reply);
+        dropped.answer
+    }
+
+    /// Whether a job has ended. Nothing is kept of the question.
+    pub fn has_job_ended(&mut self, job: u64) -> Result<bool, Refusal>
+        ensures asks { AsksWhetherEnded job result self.old self.new }
+        ensures leads { Leads O.output_number hosting_of self.old self.new }
+    {
+        self.blocking.has_ended(job)
+    }
+}

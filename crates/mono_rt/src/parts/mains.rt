@@ -1,0 +1,76 @@
+// How a main task is made, and how its handle is dropped.
+ghost use Rattle.std.specs.Prelude.{◌≡◌, ◌<◌, ◌+◌, Some, Ok, IfOk, IfErr, OnErr};
+ghost use Rattle.std.specs.Option.{option_map};
+ghost use Rattle.mono_model.specs.Joins.{drop_answer};
+ghost use Rattle.mono_rt.specs.Journals.{Goes, Does, Stays};
+ghost use Rattle.mono_rt.specs.Rounds.{IsSpawn, IsRefused, DropsFor};
+ghost use Rattle.mono_rt.specs.SpawnErrors.{OnCapacity, OnMemory};
+ghost use Rattle.mono_rt.specs.DriverReadings.{Told, Course, going, Telling, Still};
+
+use crate::parts::calls::drop_reply_of;
+use crate::parts::errors::RunError;
+use crate::parts::journals::{Entry, Journal};
+use crate::parts::state::Parts;
+use mono_blocking::{Blockings, ThreadPool};
+use mono_joinword::Outcome;
+use mono_machine::{Act, Event, Refusal, Reply, Report};
+use mono_task::SpawnTask;
+use std::alloc::Global;
+
+impl<O: Outcome + Drop, P: ThreadPool + Drop> Parts<O, Blockings<P>> {
+    /// The main task is made, and room is held for the entry of its handle's drop.
+    pub fn start_main(&mut self, alloc: Global, journal: &mut Journal) -> Result<u64, RunError>
+        ensures goes { Goes O.output_number self.old self.new journal.old journal.new }
+        ensures spawned { IfOk result (λ t. Does O.output_number (IsSpawn t) self.old self.new journal.old journal.new) }
+        ensures refused { IfErr result (λ error. OnCapacity error (Does O.output_number IsRefused self.old self.new journal.old journal.new)) }
+        ensures has_timers { self.new.has_timers ≡ self.old.has_timers }
+        ensures turn { self.new.tasks.turn ≡ self.old.tasks.turn }
+        ensures told { (told : Told) → Telling (Still going) told going journal.old journal.new told }
+        ensures full { journal.new.is_full ≡ journal.old.is_full }
+        ensures unmade { IfErr result (λ error. OnMemory error (Does O.output_number Stays self.old self.new journal.old journal.new)) }
+        ensures held { IfOk result (λ t. journal.new.entries.held ≡ journal.old.entries.held + 1) }
+        ensures unheld { OnErr result (journal.new.entries.held ≡ journal.old.entries.held) }
+    {
+        match journal.reserve(2) {
+            Err(_) => Err(RunError::Memory),
+            Ok(()) => match self.tasks.spawn(alloc) {
+                Ok(t) => {
+                    journal.push_and_hold(Entry::Ran(
+                        Event::Act(Act::Spawn),
+                        Report::Reply(Reply::Task(t)),
+                    ));
+                    Ok(t)
+                }
+                Err(SpawnTask::AtCapacity) => {
+                    journal.push(Entry::Ran(
+                        Event::Act(Act::Spawn),
+                        Report::Reply(Reply::Refused(Refusal::AtCapacity)),
+                    ));
+                    Err(RunError::AtCapacity)
+                }
+                Err(SpawnTask::Memory) => Err(RunError::Memory),
+            },
+        }
+    }
+
+    /// The handle of the main task is dropped. The answer is the output that it gave, whose number stands in the journal. The
+    /// entry has the room that was held for it, so no memory is asked for.
+    pub fn end_main(&mut self, journal: &mut Journal, main: u64) -> Option<O>
+        requires { 0 < journal.old.entries.held }
+        ensures output { (output : O) → drop_answer self.old.tasks.tasks main ≡ Ok (Some output) → result ≡ Some output }
+        ensures dropped { Does O.output_number (DropsFor main (option_map O.output_number result)) self.old self.new journal.old journal.new }
+        ensures turn { self.new.tasks.turn ≡ self.old.tasks.turn }
+        ensures told { (told : Told) (course : Course) → Telling (Still course) told course journal.old journal.new told }
+        ensures full { journal.new.is_full ≡ journal.old.is_full }
+        ensures held { journal.new.entries.held + 1 ≡ journal.old.entries.held }
+    {
+        journal.release();
+        let answer = self.tasks.drop_join(main);
+        let reply = drop_reply_of(&answer);
+        journal.push(Entry::Ran(Event::Act(Act::DropJoin(main)), Report::Reply(reply)));
+        match answer {
+            Ok(output) => output,
+            Err(_) => None,
+        }
+    }
+}

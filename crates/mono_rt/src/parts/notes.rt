@@ -1,0 +1,162 @@
+// How a journal notes what was done. What it keeps in memory is beside its history, which has every entry.
+ghost use Rattle.std.specs.Prelude.{◌≡◌, ◌≤◌, ◌<◌, ◌||◌, ◌++◌, ◌∷◌, [], OnOk, IfSome, IfNone, length, slice_get, ℕ, ◌+◌, Some};
+ghost use Rattle.mono_machine.specs.declared.events.Event.TheVariants as event;
+ghost use Rattle.mono_machine.specs.declared.events.Report.TheVariants as report;
+ghost use Rattle.mono_rt.specs.declared.parts.journals.Entry.TheVariants.{Ran};
+ghost use Rattle.mono_rt.specs.Journals.{HasPlaces, IsKept};
+ghost use Rattle.mono_rt.specs.HeldRoom.{HasRoomFor};
+
+use crate::parts::acts::Acts;
+use crate::parts::held_room::RoomList;
+use crate::parts::journals::{Entry, Journal};
+use mono_history::Tells;
+use mono_machine::{End, Ended, Event, Report};
+use std::alloc::AllocError;
+
+/// A turn that ended, with all its acts, of which memory may not hold each.
+#[derive(Drop)]
+pub struct Turned {
+    task: u64,
+    acts: Acts,
+    end: End,
+    ended: Ended,
+}
+
+/// The entry of a turn that ended.
+pub struct TurnEntry;
+
+impl Tells<Turned, Entry> for TurnEntry {
+    ghost use Rattle.mono_machine.specs.declared.events.Event.TheVariants as event;
+    ghost use Rattle.mono_machine.specs.declared.events.Report.TheVariants as report;
+    ghost use Rattle.mono_rt.specs.declared.parts.journals.Entry.TheVariants.{Ran};
+
+    ghost entry = { λ t. Ran (event.Turn t.acts.steps t.end) (report.Turn t.task t.acts.replies t.ended) };
+}
+
+// Keeps one more entry, unless the journal is full.
+#[inline(always)]
+fn keep(entries: &mut RoomList<Entry>, is_full: bool, entry: Entry)
+    requires { HasRoomFor entries.old 1 }
+    ensures kept { IsKept is_full entries.old.items is_full entries.new.items entry }
+    ensures room { (n : ℕ) → HasRoomFor entries.old (n + 1) → HasRoomFor entries.new n }
+    ensures held { entries.new.held ≡ entries.old.held }
+{
+    if !is_full {
+        entries.push(entry);
+    }
+}
+
+// Keeps one more turn, unless the journal is full or memory lost an act. Returns whether the journal is full now.
+fn keep_turn(entries: &mut RoomList<Entry>, is_full: bool, turned: Turned) -> bool
+    requires { HasRoomFor entries.old 1 }
+    ensures kept { IsKept is_full entries.old.items result entries.new.items (Ran (event.Turn turned.acts.steps turned.end) (report.Turn turned.task turned.acts.replies turned.ended)) }
+    ensures full { result ≡ (is_full || turned.acts.is_full) }
+    ensures held { entries.new.held ≡ entries.old.held }
+{
+    if is_full {
+        return true;
+    }
+    let Turned {
+        task,
+        acts,
+        end,
+        ended,
+    } = turned;
+    match acts.take() {
+        None => true,
+        Some((steps, replies)) => {
+            entries.push(Entry::Ran(Event::Turn(steps, end), Report::Turn(task, replies, ended)));
+            false
+        }
+    }
+}
+
+impl Journal {
+    /// Whether the journal is full.
+    pub fn is_full(&self) -> bool
+        ensures { result ≡ self.now.is_full }
+    {
+        self.is_full
+    }
+
+    /// How many entries there are.
+    pub fn len(&self) -> usize
+        ensures { result ≡ length self.now.entries.items }
+    {
+        self.entries.len()
+    }
+
+    /// The entry at a place, or none from the length on.
+    pub fn get(&self, place: usize) -> Option<&Entry>
+        ensures some { IfSome result (λ entry. slice_get self.now.entries.items place ≡ Some entry.now) }
+        ensures none { IfNone result (length self.now.entries.items ≤ place) }
+    {
+        self.entries.get(place)
+    }
+
+    /// Makes room for so many entries, beside those for which it is held.
+    pub(crate) fn reserve(&mut self, more: usize) -> Result<(), AllocError>
+        ensures room { OnOk result (HasPlaces self.new more) }
+        ensures entries { self.new.entries.items ≡ self.old.entries.items }
+        ensures history { self.new.history.entries ≡ self.old.history.entries }
+        ensures full { self.new.is_full ≡ self.old.is_full }
+        ensures held { self.new.entries.held ≡ self.old.entries.held }
+    {
+        self.entries.reserve(more)
+    }
+
+    /// The room that was held for an entry is there for it now.
+    pub(crate) fn release(&mut self)
+        requires { 0 < self.old.entries.held }
+        ensures room { HasPlaces self.new 1 }
+        ensures entries { self.new.entries.items ≡ self.old.entries.items }
+        ensures history { self.new.history.entries ≡ self.old.history.entries }
+        ensures full { self.new.is_full ≡ self.old.is_full }
+        ensures held { self.new.entries.held + 1 ≡ self.old.entries.held }
+    {
+        self.entries.release();
+    }
+
+    /// Notes the turn of a task, for which there is room. If memory lost an act, the journal is full from then on.
+    pub(crate) fn push_turn(&mut self, task: u64, acts: Acts, end: End, ended: Ended)
+        requires { HasPlaces self.old 1 }
+        ensures history { self.new.history.entries ≡ self.old.history.entries ++ Ran (event.Turn acts.steps end) (report.Turn task acts.replies ended) ∷ [] }
+        ensures full { self.new.is_full ≡ (self.old.is_full || acts.is_full) }
+        ensures held { self.new.entries.held ≡ self.old.entries.held }
+    {
+        let turned = Turned {
+            task,
+            acts,
+            end,
+            ended,
+        };
+        let history = self.history.told::<Turned, TurnEntry>(&turned);
+        self.is_full = keep_turn(&mut self.entries, self.is_full, turned);
+        self.history = history;
+    }
+
+    /// One more entry, for which there is room.
+    #[inline(always)]
+    pub(crate) fn push(&mut self, entry: Entry)
+        requires { HasPlaces self.old 1 }
+        ensures history { self.new.history.entries ≡ self.old.history.entries ++ entry ∷ [] }
+        ensures full { self.new.is_full ≡ self.old.is_full }
+        ensures room { (n : ℕ) → HasPlaces self.old (n + 1) → HasPlaces self.new n }
+        ensures held { self.new.entries.held ≡ self.old.entries.held }
+    {
+        let history = self.history.and(&entry);
+        keep(&mut self.entries, self.is_full, entry);
+        self.history = history;
+    }
+
+    /// One more entry, for which there is room, and room for another one is held.
+    pub(crate) fn push_and_hold(&mut self, entry: Entry)
+        requires { HasPlaces self.old 2 }
+        ensures history { self.new.history.entries ≡ self.old.history.entries ++ entry ∷ [] }
+        ensures full { self.new.is_full ≡ self.old.is_full }
+        ensures held { self.new.entries.held ≡ self.old.entries.held + 1 }
+    {
+        self.push(entry);
+        self.entries.hold();
+    }
+}

@@ -1,0 +1,19 @@
+// What a runtime is made of beside its futures.
+use crate::parts::acts::Acts;
+use mono_task::Tasks;
+use mono_time::{Instant, Timers};
+
+/// The tasks, the sleeps, the jobs with who runs them, and the record of the turn that runs. Nothing here depends on the
+/// type of the futures, so the acts of a turn are proved here. The calls of the context's traits leave the jobs alone, and
+/// ask nothing of their type.
+#[derive(Drop)]
+pub struct Parts<O, B> {
+    pub tasks: Tasks<O>,
+    pub timers: Timers,
+    pub has_timers: bool,
+    pub blocking: B,
+    pub acts: Acts,
+    pub me: u64,
+    pub now: Instant,
+    pub is_out_of_memory: bool,
+}

@@ -1,0 +1,78 @@
+// What stands in the journal before a turn and after it.
+ghost use Rattle.std.specs.Prelude.{◌≡◌, ◌++◌, ◌∷◌, ◌||◌, [], IfSome};
+ghost use Rattle.mono_time.specs.Instants.{nanos_of};
+ghost use Rattle.mono_machine.specs.declared.events.Event.TheVariants as event;
+ghost use Rattle.mono_machine.specs.declared.events.Report.TheVariants as report;
+ghost use Rattle.mono_rt.specs.declared.parts.journals.Entry.TheVariants.{Ran};
+ghost use Rattle.mono_rt.specs.Record.{no_acts};
+ghost use Rattle.mono_rt.specs.Journals.{Goes, Does, IsReading, ReadsAt, HasPlaces};
+ghost use Rattle.mono_rt.specs.DriverReadings.{telling, going, Telling, Still};
+
+use crate::parts::acts::Acts;
+use crate::parts::journals::{Entry, Journal};
+use crate::parts::state::Parts;
+use mono_blocking::{Blockings, ThreadPool};
+use mono_driver::Driver;
+use mono_joinword::Outcome;
+use mono_machine::{End, Ended};
+use mono_time::Instant;
+use std::alloc::Global;
+use std::mem;
+
+impl<O: Outcome + Drop, P: ThreadPool + Drop> Parts<O, Blockings<P>> {
+    /// Notes the turn that ended.
+    pub fn keep_turn(
+        &mut self,
+        alloc: Global,
+        journal: &mut Journal,
+        task: u64,
+        end: End,
+        ended: Ended,
+    )
+        requires { HasPlaces journal.old 1 }
+        ensures history { journal.new.history.entries ≡ journal.old.history.entries ++ Ran (event.Turn self.old.acts.steps end) (report.Turn task self.old.acts.replies ended) ∷ [] }
+        ensures tasks { self.new.tasks ≡ self.old.tasks }
+        ensures timers { self.new.timers ≡ self.old.timers }
+        ensures has_timers { self.new.has_timers ≡ self.old.has_timers }
+        ensures blocking { self.new.blocking ≡ self.old.blocking }
+        ensures memory { self.new.is_out_of_memory ≡ self.old.is_out_of_memory }
+        ensures full { journal.new.is_full ≡ (journal.old.is_full || self.old.acts.is_full) }
+        ensures held { journal.new.entries.held ≡ journal.old.entries.held }
+    {
+        let acts = mem::replace(&mut self.acts, Acts::keeping_none(alloc));
+        journal.push_turn(task, acts, end, ended);
+    }
+
+    /// Room for a turn, and the reading of the clock, which stands in the journal.
+    pub fn open_turn<D: Driver>(
+        &mut self,
+        alloc: Global,
+        driver: &mut D,
+        journal: &mut Journal,
+    ) -> Option<Instant>
+        ensures acts { IfSome result (λ now. self.new.acts ≡ no_acts journal.old.is_full) }
+        ensures place { IfSome result (λ x. HasPlaces journal.new 1) }
+        ensures reading { IfSome result (λ x. Does O.output_number IsReading self.old self.new journal.old journal.new) }
+        ensures at { IfSome result (λ x. Does O.output_number (ReadsAt (nanos_of x)) self.old self.new journal.old journal.new) }
+        ensures goes { Goes O.output_number self.old self.new journal.old journal.new }
+        ensures same { self.new ≡ record self.old { acts = self.new.acts } }
+        ensures tasks { self.new.tasks ≡ self.old.tasks }
+        ensures has_timers { self.new.has_timers ≡ self.old.has_timers }
+        ensures faults { D.faults driver.new ≡ D.faults driver.old }
+        ensures told { Telling (Still going) (telling (D.readings driver.old) (D.time driver.old) (D.parks driver.old)) going journal.old journal.new (telling (D.readings driver.new) (D.time driver.new) (D.parks driver.new)) }
+        ensures full { journal.new.is_full ≡ journal.old.is_full }
+        ensures held { journal.new.entries.held ≡ journal.old.entries.held }
+    {
+        match journal.reserve(2) {
+            Err(_) => None,
+            Ok(()) => match self.acts.begin(alloc, journal.is_full()) {
+                Err(_) => None,
+                Ok(()) => {
+                    let now = driver.now();
+                    journal.push(Entry::Now(now.as_nanos()));
+                    Some(now)
+                }
+            },
+        }
+    }
+}

@@ -1,0 +1,62 @@
+// Tasks that are made outside of a turn, and the context between two turns.
+ghost use Rattle.std.specs.Prelude.{◌≡◌, ◌++◌, ◌∷◌, [], Some, IfOk, IfErr, OnOk, OnErr};
+ghost use Rattle.mono_model.specs.Table.{next_number};
+ghost use Rattle.mono_model.specs.Tasks.{spawned};
+ghost use Rattle.mono_machine.specs.Machine.{Machine};
+ghost use Rattle.mono_rt.specs.Spawns.{SpawnsTask, refused_future};
+ghost use Rattle.mono_rt.specs.Refinement.{hosting_of, Matches};
+
+use crate::contexts::{Cx, SpawnRefused};
+use crate::runtimes::Runtime;
+use mono_blocking::ThreadPool;
+use mono_driver::Driver;
+use mono_joinword::Outcome;
+use mono_shared::SharedState;
+use mono_task::{JoinHandle, SpawnTask};
+use std::alloc::Global;
+
+impl<F: Drop, O: Outcome + Drop, D: Driver, P: ThreadPool + Drop, W: SharedState + Drop> Runtime<
+    F,
+    O,
+    D,
+    P,
+    W,
+> {
+    /// Makes a task of this future, which is queued last and has its turns in calls of `block_on`. The future is put into the
+    /// table under the task's number (`number`, `futures`).
+    ///
+    /// For each machine for which the context stood, the spawn is the machine's, with its reply (`machine`): where it is
+    /// refused as at capacity the machine refuses it, too. A refused future comes back (`back`), and all tasks, sleeps and
+    /// futures are as before (`refused`). The journal, which keeps what `block_on` did, does not tell of it (`journal`).
+    pub fn spawn(&mut self, alloc: Global, future: F) -> Result<JoinHandle<O>, SpawnRefused<F>>
+        ensures number { IfOk result (λ handle. handle ≡ next_number self.old.cx.parts.tasks.tasks.table) }
+        ensures tasks { OnOk result (self.new.cx.parts.tasks.tasks ≡ spawned self.old.cx.parts.tasks.tasks) }
+        ensures futures { OnOk result (self.new.cx.futures.items ≡ self.old.cx.futures.items ++ Some future ∷ []) }
+        ensures machine { (m : Machine) → Matches O.output_number hosting_of self.old.cx.parts m → SpawnsTask m result (Matches O.output_number hosting_of self.new.cx.parts) }
+        ensures back { IfErr result (λ refusal. refused_future refusal ≡ future) }
+        ensures refused { OnErr result ((self.new.cx.parts ≡ self.old.cx.parts) × (self.new.cx.futures.items ≡ self.old.cx.futures.items)) }
+        ensures has_timers { self.new.cx.parts.has_timers ≡ self.old.cx.parts.has_timers }
+        ensures turn { self.new.cx.parts.tasks.turn ≡ self.old.cx.parts.tasks.turn }
+        ensures shared { self.new.cx.shared ≡ self.old.cx.shared }
+        ensures journal { self.new.journal ≡ self.old.journal }
+    {
+        if let Err(future) = self.cx.futures.reserve_value(alloc, future) {
+            return Err(SpawnRefused::Memory(future));
+        }
+        match self.cx.parts.tasks.spawn(alloc) {
+            Ok(t) => {
+                self.cx.futures.commit();
+                Ok(JoinHandle::of_task(t))
+            }
+            Err(SpawnTask::AtCapacity) => Err(SpawnRefused::AtCapacity(self.cx.futures.abort())),
+            Err(SpawnTask::Memory) => Err(SpawnRefused::Memory(self.cx.futures.abort())),
+        }
+    }
+
+    /// Its tasks, sleeps and futures, as they stand between two calls.
+    pub fn context(&self) -> &Cx<F, O, P, D::Unpark, W>
+        ensures { result.now ≡ self.now.cx }
+    {
+        &self.cx
+    }
+}

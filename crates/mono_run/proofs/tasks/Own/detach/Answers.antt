@@ -1,0 +1,20 @@
+use Rattle.std.proofs.Common.{ap, sym, ◌∙◌, refl, None}
+use Rattle.std.specs.Prelude.{slice_index_or}
+use Rattle.mono_machine.specs.declared.events.Act.TheVariants as act
+use Rattle.mono_machine.specs.declared.events.TurnStep.TheVariants as step
+use Rattle.mono_run.specs.ScriptTurns.{acted}
+use Rattle.mono_run.proofs.SegmentLemmas.{handled, unhandled}
+use Rattle.mono_run.proofs.TaskCallLemmas.{join_dropped}
+use Rattle.mono_run.proofs.tasks.Own.detach.Goals as goal
+
+pub returns-in-Some-clause-goes : goal.returns-in-Some-clause-goes
+returns-in-Some-clause-goes c = λ task f had.
+    let old = c.args.cx.now in
+    let new = c.drop_join.new.self in
+    let kept = c.drop_join.ensures.kept in
+    handled task (slice_index_or c.args.self.now.tasks c.args.i None) c.in-Some.number (λ h q. acted (step.Act (act.DropJoin h)) f q) f f old new (sym c.get.ensures ∙ c.in-Some.is)
+    (join_dropped task old new had f c.in-Some.number c.drop_join.result (ap (λ x. x.parts.acts) kept) (ap (λ x. x.futures.items) kept))
+
+pub returns-in-None-clause-goes : goal.returns-in-None-clause-goes
+returns-in-None-clause-goes c = λ task f had.
+    unhandled task (slice_index_or c.args.self.now.tasks c.args.i None) (λ h q. acted (step.Act (act.DropJoin h)) f q) f c.args.cx.now c.args.cx.now (sym c.get.ensures ∙ c.in-None.is) refl refl

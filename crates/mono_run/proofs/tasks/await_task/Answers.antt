@@ -1,0 +1,27 @@
+use Rattle.std.proofs.Common.{ap, sym, ◌∙◌}
+use Rattle.mono_machine.specs.declared.events.Act.TheVariants as act
+use Rattle.mono_machine.specs.declared.events.TurnStep.TheVariants as step
+use Rattle.mono_rt.specs.Reaches.{reaches_on}
+use Rattle.mono_run.specs.ScriptTurns.{acted}
+use Rattle.mono_run.proofs.SegmentLemmas.{kept_before, goes_on}
+use Rattle.mono_run.proofs.TaskCallLemmas.{join_pending, join_ready, join_dropped}
+use Rattle.mono_run.proofs.tasks.await_task.Goals as goal
+
+pub returns-then-waits-clause-goes : goal.returns-then-waits-clause-goes
+returns-then-waits-clause-goes c = λ task here f had.
+    let kept = c.poll_join-answer.ensures.kept in
+    join_pending task c.args.cx.now c.poll_join-answer.new.self had f here c.args.number c.poll_join-answer.result (ap (λ x. x.parts.acts) kept) (ap (λ x. x.futures.items) kept) (sym c.waits.ensures ∙ c.if-waits.true)
+
+pub returns-clause-reached : goal.returns-clause-reached
+returns-clause-reached c = reaches_on (λ n. n) c.args.cx.now c.poll_join-answer.new.self c.drop_join.new.self c.poll_join-answer.ensures.reached c.drop_join.ensures.reached
+
+pub returns-clause-goes : goal.returns-clause-goes
+returns-clause-goes c = λ task here f had.
+    let mid = c.poll_join-answer.new.self in
+    let last = c.drop_join.new.self in
+    let polled = c.poll_join-answer.ensures.kept in
+    let dropped = c.drop_join.ensures.kept in
+    let before = kept_before mid last c.drop_join.ensures.reached had in
+    goes_on task _ (acted (step.Act (act.DropJoin c.args.number)) f) f c.args.cx.now mid last
+    (join_ready task c.args.cx.now mid before f here c.args.number c.poll_join-answer.result (ap (λ x. x.parts.acts) polled) (ap (λ x. x.futures.items) polled) (sym c.waits.ensures ∙ c.if-waits.false))
+    (join_dropped task mid last had f c.args.number c.drop_join.result (ap (λ x. x.parts.acts) dropped) (ap (λ x. x.futures.items) dropped))

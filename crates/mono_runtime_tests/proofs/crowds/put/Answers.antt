@@ -1,5 +1,0 @@
-use Rattle.mono_rt.specs.Reached.{reaches_itself}
-use Rattle.mono_runtime_tests.proofs.crowds.put.Goals as goal
-
-pub returns-in_default : goal.returns-in_default
-returns-in_default c = reaches_itself (λ n. n) c.args.cx.now

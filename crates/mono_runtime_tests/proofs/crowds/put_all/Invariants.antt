@@ -1,5 +1,0 @@
-use Rattle.mono_rt.specs.Reached.{Reaches}
-use Rattle.mono_runtime_tests.proofs.crowds.put_all.Given as goal
-
-abbrev pub invariant-loop : goal.invariant-loop
-invariant-loop l = Reaches (λ n. n) l.fn.cx l.cx

@@ -1,0 +1,38 @@
+-- A check of a journal: whether its reports are those of a run of its events.
+use Rattle.std.specs.Prelude.{◌≡◌, ℕ, true, List, [], ◌∷◌, ◌++◌, None, codes, decimal}
+use Rattle.mono_machine.specs.declared.events.Limits.{Limits}
+use Rattle.mono_machine.specs.declared.events.Blocking.{Blocking}
+use Rattle.mono_text.specs.Lines.{lines}
+use Rattle.mono_trace_lines.specs.Journal.{AreJournalLines, IsFirstBad, IsPassed, FailsAtLine}
+use Rattle.mono_trace_lines.specs.declared.journal.JournalLine.{JournalLine}
+use Rattle.mono_script.specs.declared.ends.Status.{Status}
+use Rattle.mono_script.specs.declared.ends.Status.TheVariants as status
+use Rattle.mono_script.specs.Endings.{Meaning}
+
+abbrev pub yes_line : List ℕ
+yes_line = codes "yes" ++ 10 ∷ []
+
+abbrev pub no_line : ℕ → List ℕ
+no_line n = codes "no " ++ decimal n ++ 10 ∷ []
+
+-- A run is answered by yes, and another journal by no and the line of the first pair that no step allows.
+abbrev pub IsChecked : Limits → Blocking → List ℕ → Status → List ℕ → Type 0
+IsChecked limits strategy input status.Done output = IsPassed limits strategy input × (output ≡ yes_line)
+IsChecked limits strategy input status.NotARun output = (n : ℕ) × FailsAtLine limits strategy input n × (output ≡ no_line n)
+IsChecked limits strategy input status.Usage output = ⊥
+IsChecked limits strategy input status.BadLine output = ⊥
+IsChecked limits strategy input status.ReadFault output = ⊥
+IsChecked limits strategy input status.WriteFault output = ⊥
+IsChecked limits strategy input status.OutOfMemory output = ⊥
+IsChecked limits strategy input status.TooLong output = ⊥
+IsChecked limits strategy input status.Turns output = ⊥
+IsChecked limits strategy input status.Capacity output = ⊥
+
+abbrev pub checking : Limits → Blocking → Meaning
+checking limits strategy = record {
+  reads = true;
+  workers = None;
+  IsGood = λ input. (said : List JournalLine) × AreJournalLines said (lines input);
+  IsFirstBad = λ input n. IsFirstBad (lines input) n;
+  Answers = λ input s output. IsChecked limits strategy input s output;
+}

@@ -1,0 +1,88 @@
+// What is wrong with words that are no command.
+use crate::forms::{COMMANDS, Place, fits, is_command, place_at};
+use crate::word_texts::shown;
+use std::alloc::{AllocError, Global};
+use std::format;
+
+// What was expected at a place.
+fn expected(alloc: Global, place: Place) -> Result<String, AllocError> {
+    match place {
+        Place::Strategy => String::from_str(alloc, "STRATEGY is attached, local or panic"),
+        Place::Number(name, most) => {
+            if most == u64::MAX {
+                format!(in alloc; "{name} is a number below 2^64")
+            } else {
+                format!(in alloc; "{name} is a number, at most {most}")
+            }
+        }
+    }
+}
+
+// Where the input comes from, behind a colon, if the command reads one.
+fn hint_of(command: &str) -> &'static str {
+    if command == "load" {
+        ""
+    } else {
+        ": the input is standard input, as in < FILE"
+    }
+}
+
+// What is wrong at a place, where something is.
+fn complaint_at(
+    alloc: Global,
+    command: &str,
+    place: Option<Place>,
+    word: Option<&String>,
+) -> Result<Option<String>, AllocError> {
+    let hint = hint_of(command);
+    match (place, word) {
+        (Some(place), Some(word)) => {
+            if fits(place, word.as_str()) {
+                return Ok(None);
+            }
+            let expected = expected(alloc, place)?;
+            let word = shown(alloc, word.as_bytes())?;
+            Ok(Some(format!(in alloc; "{command}: \"{word}\": {expected}")?))
+        }
+        (Some(place), None) => {
+            let expected = expected(alloc, place)?;
+            Ok(Some(format!(in alloc; "{command}: a word is missing: {expected}")?))
+        }
+        (None, Some(word)) => {
+            let word = shown(alloc, word.as_bytes())?;
+            Ok(Some(format!(in alloc; "{command}: \"{word}\" is a word too many{hint}")?))
+        }
+        (None, None) => Ok(None),
+    }
+}
+
+// The command that the words are about: behind `help` the second word.
+fn asked_of<'a>(words: &'a Vec<String>, first: &'a str) -> &'a str {
+    match words.get(1) {
+        Some(second) if first == "help" => second.as_str(),
+        _ => first,
+    }
+}
+
+/// What is wrong with words that are no command, in one sentence: which word, and what was expected there. Of words that
+/// are one it says that nothing is wrong.
+pub fn complaint(alloc: Global, words: &Vec<String>) -> Result<String, AllocError> {
+    let Some(command) = words.first() else {
+        return format!(in alloc;
+            "usage: monoio COMMAND WORD .. < INPUT; COMMAND is {COMMANDS}; monoio --help says more"
+        );
+    };
+    let command = asked_of(words, command.as_str());
+    if !is_command(command) {
+        let command = shown(alloc, command.as_bytes())?;
+        return format!(in alloc;
+            "\"{command}\" is no command: {COMMANDS}; monoio --help says more"
+        );
+    }
+    for at in 1..6usize {
+        if let Some(text) = complaint_at(alloc, command, place_at(command, at), words.get(at))? {
+            return Ok(text);
+        }
+    }
+    String::from_str(alloc, "nothing is wrong")
+}

@@ -1,0 +1,131 @@
+// What is wrong with a line, in a sentence.
+use crate::line_forms::form_of;
+use crate::word_texts::shown;
+use mono_text::{Fault, Reason};
+use std::alloc::{AllocError, Global};
+use std::format;
+
+// What was expected, behind a semicolon, if the word has a form.
+fn expected(alloc: Global, command: &str, fault: &Fault) -> Result<String, AllocError> {
+    match form_of(command, fault.head) {
+        Some(form) => format!(in alloc; "; expected: {form}"),
+        None => Ok(String::new(alloc)),
+    }
+}
+
+// The word, and what is wrong with it, and what was expected.
+fn about_word(
+    alloc: Global,
+    command: &str,
+    fault: &Fault,
+    what: &str,
+) -> Result<String, AllocError> {
+    let word = shown(alloc, fault.word)?;
+    let expected = expected(alloc, command, fault)?;
+    format!(in alloc; "\"{word}\" {what}{expected}")
+}
+
+// What is missing in a script that ends before this line.
+fn missing_text(alloc: Global, line: usize) -> Result<String, AllocError> {
+    let text = match line {
+        1 => "the script is empty: limits TASKS JOBS SLEEPS is missing",
+        2 => "the script ends too early: task is missing",
+        _ => "the script ends too early: done OUTPUT is missing",
+    };
+    String::from_str(alloc, text)
+}
+
+// What is wrong with a number of a script.
+fn script_number_text(alloc: Global, fault: &Fault) -> Result<String, AllocError> {
+    let word = shown(alloc, fault.word)?;
+    match fault.reason {
+        Reason::NoKind => format!(in alloc;
+            "there is no kind {word}: the first `task` line is kind 0"
+        ),
+        Reason::NoOwnTask => format!(in alloc;
+            "no own task {word} was made before: the first `spawn` of a kind makes task 0"
+        ),
+        Reason::NoOwnJob => format!(in alloc;
+            "no own job {word} was made before: the first `block` of a kind makes job 0"
+        ),
+        _ => format!(in alloc; "the handle {word} was used by an earlier line"),
+    }
+}
+
+// What is wrong with a whole line.
+fn line_text(command: &str, reason: Reason) -> &'static str {
+    match reason {
+        Reason::NoLineFeed => "no line feed at the end",
+        Reason::CarriageReturn => "a carriage return before the line feed",
+        Reason::NoReport => "an event without \" -> \" and its report",
+        Reason::OtherReport => {
+            if command == "check" {
+                "no report behind \" -> \""
+            } else {
+                "\" -> \" and a report stand in a journal alone, which check reads"
+            }
+        }
+        Reason::NoLimits => "the first line of a script is limits TASKS JOBS SLEEPS",
+        Reason::NoTask => "a kind begins with task",
+        Reason::NoDone => "the kind before has no done OUTPUT",
+        Reason::ManyKinds => "more than 64 kinds",
+        Reason::LongBody => "more than 127 lines before done OUTPUT",
+        _ => "not in the form of its first word",
+    }
+}
+
+// Why the line says nothing of the command.
+fn reason_text(
+    alloc: Global,
+    command: &str,
+    line: usize,
+    fault: &Fault,
+) -> Result<String, AllocError> {
+    match fault.reason {
+        Reason::UnknownWord => {
+            if fault.word.is_empty() {
+                return String::from_str(alloc, "the line begins with no word");
+            }
+            let word = shown(alloc, fault.word)?;
+            format!(in alloc; "unknown word \"{word}\"")
+        }
+        Reason::UnknownPart => {
+            let word = shown(alloc, fault.word)?;
+            format!(in alloc; "unknown word \"{word}\" behind \"; \"")
+        }
+        Reason::NoNumber => about_word(alloc, command, fault, "is no plain decimal number"),
+        Reason::GreatNumber => {
+            about_word(alloc, command, fault, "is above 18446744073709551615")
+        }
+        Reason::GreatNanos => about_word(
+            alloc,
+            command,
+            fault,
+            "is above 340282366920938463463374607431768211455",
+        ),
+        Reason::EndsEarly => missing_text(alloc, line),
+        Reason::NoKind | Reason::NoOwnTask | Reason::NoOwnJob | Reason::HandleGone => {
+            script_number_text(alloc, fault)
+        }
+        Reason::OtherForm => {
+            let expected = expected(alloc, command, fault)?;
+            format!(in alloc; "not in the form of its first word{expected}")
+        }
+        reason => String::from_str(alloc, line_text(command, reason)),
+    }
+}
+
+/// Returns what is wrong with a command's first bad line, in one sentence. Of a line that a script lacks it names what is
+/// missing, and no number.
+pub fn line_sentence(
+    alloc: Global,
+    command: &str,
+    line: usize,
+    fault: &Fault,
+) -> Result<String, AllocError> {
+    let reason = reason_text(alloc, command, line, fault)?;
+    match fault.reason {
+        Reason::EndsEarly => Ok(reason),
+        _ => format!(in alloc; "line {line}: {reason}"),
+    }
+}

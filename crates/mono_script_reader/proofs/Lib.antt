@@ -1,4 +1,0 @@
-pub mod Counts
-pub mod Cutting
-pub mod Going
-pub mod Spelled

@@ -1,9 +1,0 @@
-use Rattle.std.proofs.Common.{length}
-use Rattle.mono_script_reader.proofs.Cutting.{Counted}
-use Rattle.mono_script_reader.proofs.pieces.count_tasks.Given as goal
-
-abbrev pub invariant-lines : goal.invariant-lines
-invariant-lines l = Counted l.input l.count l.pieces.rest.now
-
-abbrev pub decreases-lines : goal.decreases-lines
-decreases-lines l = length l.pieces.rest.now

@@ -1,9 +1,0 @@
-use Rattle.std.proofs.Common.{length}
-use Rattle.mono_script_reader.proofs.Going.{Progress}
-use Rattle.mono_script_reader.proofs.reading.read_script.Given as goal
-
-abbrev pub invariant-lines : goal.invariant-lines
-invariant-lines l = Progress l.input l.kinds l.front l.count l.pieces.rest.now
-
-abbrev pub decreases-lines : goal.decreases-lines
-decreases-lines l = length l.pieces.rest.now

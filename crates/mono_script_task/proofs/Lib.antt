@@ -1,4 +1,0 @@
-pub mod Going
-pub mod Calls
-pub mod Lines
-pub mod Looping

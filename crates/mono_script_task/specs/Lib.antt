@@ -1,4 +1,0 @@
-pub mod Driving
-pub mod Standing
-pub mod Turning
-pub mod Segments

@@ -1,4 +1,0 @@
-pub mod Beginnings
-pub mod Fronts
-pub mod FirstBad
-pub mod Worked

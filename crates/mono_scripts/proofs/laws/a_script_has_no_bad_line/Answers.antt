@@ -1,7 +1,0 @@
-use Rattle.mono_text.specs.Lines.{lines}
-use Rattle.mono_scripts.specs.Written.{IsScript, task_lines}
-use Rattle.mono_scripts.proofs.Beginnings.{not_out}
-use Rattle.mono_scripts.proofs.laws.a_script_has_no_bad_line.Goals as goal
-
-pub returns : goal.returns
-returns c = λ input s n spells bad. not_out (IsScript (task_lines (lines input))) (lines input) n (s, spells.sound, spells.text) bad

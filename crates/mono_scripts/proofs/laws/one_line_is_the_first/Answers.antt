@@ -1,7 +1,0 @@
-use Rattle.mono_text.specs.Lines.{lines}
-use Rattle.mono_scripts.specs.Written.{IsScript, task_lines}
-use Rattle.mono_scripts.proofs.Beginnings.{once}
-use Rattle.mono_scripts.proofs.laws.one_line_is_the_first.Goals as goal
-
-pub returns : goal.returns
-returns c = λ input m n a b. once (IsScript (task_lines (lines input))) (lines input) m n a b

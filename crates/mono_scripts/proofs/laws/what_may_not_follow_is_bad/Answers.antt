@@ -1,5 +1,0 @@
-use Rattle.mono_scripts.proofs.FirstBad.{bad_in_kind}
-use Rattle.mono_scripts.proofs.laws.what_may_not_follow_is_bad.Goals as goal
-
-pub returns : goal.returns
-returns c = λ input x ks bs l rest fit sound may few short split none. bad_in_kind input x ks bs l rest fit sound may few short split none

@@ -1,0 +1,92 @@
+// A stream of the outputs of the futures that a closure makes of the items.
+ghost use Rattle.std.specs.Prelude.{◌≡◌, None};
+ghost use Rattle.mono_stream.specs.Chains.{ThenPolls, ThenCancels, HeldIsLive, IsLive, MakesLive, Finishes};
+
+use crate::streams::Stream;
+use mono_model::{Host, Poll};
+use mono_task::{Context, TaskFuture};
+use std::alloc::Global;
+
+/// A stream of the outputs of the futures that a closure makes of the items of another, in order.
+///
+/// Each poll polls the future that was made. Once that is ready it is given up, and only then the next item is taken. A
+/// poll requires (`can_poll`) that the closure may be called at every state and item, and makes no future that is spent.
+#[derive(Drop)]
+pub struct Then<S, F, Fut> {
+    pub(crate) stream: S,
+    pub(crate) f: F,
+    pub(crate) made: Option<Fut>,
+}
+
+// Polls a future that was made, and keeps it where it is not ready.
+fn finish<R: Host, C: Context, Fut: TaskFuture<C>>(
+    rt: &R,
+    alloc: Global,
+    cx: &mut C,
+    mut future: Fut,
+) -> (Poll<Option<Fut::Output>>, Option<Fut>)
+    requires { IsLive Fut.TaskFuture future }
+    ensures finishes { Finishes Fut.TaskFuture future cx.old result.0 result.1 cx.new }
+    ensures live { HeldIsLive Fut.TaskFuture result.1 }
+    ensures reached { C.reaches cx.old cx.new }
+{
+    match future.poll(rt, alloc, cx) {
+        Poll::Ready(output) => {
+            future.cancel(cx);
+            (Poll::Ready(Some(output)), None)
+        }
+        Poll::Pending => (Poll::Pending, Some(future)),
+    }
+}
+
+impl<C, S, F, Fut> Stream<C> for Then<S, F, Fut>
+where
+    C: Context,
+    S: Stream<C>,
+    Fut: TaskFuture<C>,
+    F: FnMut(S::Item) -> Fut + Drop,
+{
+    type Item = Fut::Output;
+
+    ghost can_poll = { λ t. S.can_poll t.stream × HeldIsLive Fut.TaskFuture t.made × MakesLive Fut.TaskFuture F.FnMut };
+
+    ghost polls = { ThenPolls S.Stream Fut.TaskFuture F.FnMut };
+
+    ghost cancels = { ThenCancels S.Stream Fut.TaskFuture F.FnMut };
+
+    fn poll_next<R: Host>(
+        &mut self,
+        rt: &R,
+        alloc: Global,
+        cx: &mut C,
+    ) -> Poll<Option<Fut::Output>> {
+        if let Some(future) = self.made.take() {
+            let (answer, made) = finish(rt, alloc, cx, future);
+            self.made = made;
+            return answer;
+        }
+        match self.stream.poll_next(rt, alloc, cx) {
+            Poll::Ready(Some(item)) => {
+                let future = (self.f)(item);
+                let (answer, made) = finish(rt, alloc, cx, future);
+                self.made = made;
+                answer
+            }
+            Poll::Ready(None) => Poll::Ready(None),
+            Poll::Pending => Poll::Pending,
+        }
+    }
+
+    fn size_hint(&self) -> (usize, Option<usize>) {
+        (0, None)
+    }
+
+    // The future that was made is given up first, and then the stream.
+    fn cancel(self, cx: &mut C) {
+        let Then { stream, f: _, made } = self;
+        if let Some(future) = made {
+            future.cancel(cx);
+        }
+        stream.cancel(cx);
+    }
+}

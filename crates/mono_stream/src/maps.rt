@@ -1,0 +1,49 @@
+// A stream of what a closure answers for each item.
+ghost use Rattle.std.specs.Prelude.{◌≡◌, None};
+ghost use Rattle.mono_stream.specs.Maps.{MapPolls};
+
+use crate::streams::Stream;
+use mono_model::{Host, Poll};
+use mono_task::Context;
+use std::alloc::Global;
+
+/// A stream of what a closure answers for each item of another, in order.
+///
+/// A poll requires (`can_poll`) that the closure may be called at every state and item.
+#[derive(Drop)]
+pub struct Map<S, F> {
+    pub(crate) stream: S,
+    pub(crate) f: F,
+}
+
+impl<T, C, S, F> Stream<C> for Map<S, F>
+where
+    C: Context,
+    S: Stream<C>,
+    F: FnMut(S::Item) -> T + Drop,
+{
+    type Item = T;
+
+    ghost can_poll = { λ m. S.can_poll m.stream × ((state : F) (x : _) → F.pre state x) };
+
+    ghost polls = { MapPolls S.Stream F.FnMut };
+
+    ghost cancels = { λ m c d. S.cancels m.stream c d };
+
+    fn poll_next<R: Host>(&mut self, rt: &R, alloc: Global, cx: &mut C) -> Poll<Option<T>> {
+        match self.stream.poll_next(rt, alloc, cx) {
+            Poll::Ready(Some(item)) => Poll::Ready(Some((self.f)(item))),
+            Poll::Ready(None) => Poll::Ready(None),
+            Poll::Pending => Poll::Pending,
+        }
+    }
+
+    fn size_hint(&self) -> (usize, Option<usize>) {
+        (0, None)
+    }
+
+    fn cancel(self, cx: &mut C) {
+        let Map { stream, f: _ } = self;
+        stream.cancel(cx);
+    }
+}

@@ -1,0 +1,45 @@
+-- Values by number that may be lent.
+use Rattle.std.specs.Prelude.{◌≡◌, ℕ, Bool, true, false, List, map, slice_index_or, Option, Some, None}
+use Rattle.mono_model.specs.Table.{Table}
+use Rattle.mono_table.specs.declared.slots.Slot.{Slot}
+use Rattle.mono_table.specs.declared.slots.Slot.TheVariants.{Kept, Lent}
+
+-- for each number that was given out its value, or none while it is lent and once it is gone; whether it is lent; and the
+-- value that is reserved for the next number
+pub record Seen (V : Type 0) : Type 0 where
+  pub items : List (Option V)
+  pub lent : List Bool
+  pub reserved : Option V
+
+module _ {V : Type 0} where
+  -- the number was given out, and whoever took its value has it
+  abbrev pub lent_at : Seen V → ℕ → Bool
+  lent_at seen number = slice_index_or seen.lent number false
+
+  -- the same values, and the same numbers lent
+  pub record SameSlots (old new : Seen V) : Type 0 where
+    pub items : new.items ≡ old.items
+    pub lent : new.lent ≡ old.lent
+
+module _ {V W : Type 0} where
+  abbrev pub value_of : Slot V W → Option V
+  value_of (Kept value beside) = Some value
+  value_of Lent = None
+
+  abbrev pub value_in : Option (Slot V W) → Option V
+  value_in None = None
+  value_in (Some slot) = value_of slot
+
+  abbrev pub is_lent : Slot V W → Bool
+  is_lent (Kept value beside) = false
+  is_lent Lent = true
+
+  abbrev pub lent_in : Option (Slot V W) → Bool
+  lent_in None = false
+  lent_in (Some slot) = is_lent slot
+
+  abbrev pub items_of : Table (Slot V W) → List (Option V)
+  items_of table = map value_in table
+
+  abbrev pub lent_of : Table (Slot V W) → List Bool
+  lent_of table = map lent_in table

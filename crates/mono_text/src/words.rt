@@ -1,0 +1,86 @@
+// Words of a line, and numbers among them.
+ghost use Rattle.std.specs.Prelude.{◌≡◌, ◌<◌, ◌∷◌, [], length, IfSome, IfNone};
+ghost use Rattle.mono_text.specs.Words as spec;
+
+// Whether the byte stands between words.
+fn is_gap(byte: u8) -> bool
+    ensures { result ≡ spec.is_gap byte }
+{
+    byte == b' ' || byte == b';'
+}
+
+/// The first word, and the bytes behind its gap; none where no gap ends it.
+pub(crate) fn cut(bytes: &[u8]) -> (&[u8], Option<&[u8]>)
+    ensures behind { IfSome result.1 (λ rest. spec.words bytes.now ≡ result.0.now ∷ spec.words rest.now) }
+    ensures last { IfNone result.1 (spec.words bytes.now ≡ result.0.now ∷ []) }
+    ensures shorter { IfSome result.1 (λ rest. length rest.now < length bytes.now) }
+{
+    let mut place = 0usize;
+    'bytes: while place < bytes.len() {
+        if is_gap(bytes[place]) {
+            return (&bytes[..place], Some(&bytes[place + 1..]));
+        }
+        place += 1;
+    }
+    (bytes, None)
+}
+
+/// Whether the word is among those of a text.
+pub(crate) fn is_among(word: &[u8], text: &[u8]) -> bool
+    ensures { result ≡ spec.is_among word.now (spec.words text.now) }
+{
+    let mut rest = text;
+    'words: loop {
+        let (name, behind) = cut(rest);
+        if word == name {
+            return true;
+        }
+        let Some(more) = behind else {
+            return false;
+        };
+        rest = more;
+    }
+}
+
+fn are_digits(word: &[u8]) -> bool
+    ensures { result ≡ spec.are_digits word.now }
+{
+    let mut rest = word;
+    'bytes: while let Some((byte, more)) = rest.split_first() {
+        if !byte.is_ascii_digit() {
+            return false;
+        }
+        rest = more;
+    }
+    true
+}
+
+// Whether it is a number: digits of which the first is not zero.
+fn is_number(word: &[u8]) -> bool
+    ensures { result ≡ spec.is_number word.now }
+{
+    match word.split_first() {
+        None => false,
+        Some((first, _)) => *first != b'0' && are_digits(word),
+    }
+}
+
+/// Whether it is zero or a number.
+pub(crate) fn is_plain(word: &[u8]) -> bool
+    ensures { result ≡ spec.is_plain word.now }
+{
+    word == b"0".as_slice() || is_number(word)
+}
+
+/// Whether the word is a number above this one.
+pub(crate) fn is_above(top: &[u8], word: &[u8]) -> bool
+    ensures { result ≡ spec.is_above top.now word.now }
+{
+    if !is_number(word) {
+        return false;
+    }
+    if top.len() < word.len() {
+        return true;
+    }
+    word.len() == top.len() && top.cmp(word).is_lt()
+}

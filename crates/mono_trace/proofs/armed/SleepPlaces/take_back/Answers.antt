@@ -1,9 +1,0 @@
-use Rattle.std.proofs.Common.{subst, sym}
-use Rattle.mono_trace.specs.Ordered.{AreTicks, armed_count}
-use Rattle.mono_trace.proofs.armed.SleepPlaces.take_back.Goals as goal
-
-pub invariant_of-self : goal.invariant_of-self
-invariant_of-self c =
-    let places = c.self.inside.places in
-    subst (λ m. AreTicks (armed_count m.now) (armed_count m.before) c.take_back-2.new.self) (sym c.take_back.ensures)
-    (c.in-Ok.ensures (armed_count places.now) (armed_count places.before) c.self.invariant)

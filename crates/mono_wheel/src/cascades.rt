@@ -1,0 +1,41 @@
+//! The keys of a slot that was reached are registered at their true ticks.
+ghost use Rattle.std.specs.Prelude.{◌≡◌, ℕ, ◌+◌, ◌<◌, length};
+ghost use Rattle.mono_wheel.specs.Lists.{IsLoose, list_at};
+ghost use Rattle.mono_wheel.specs.Holdings.{Held, Registered, Cascading, Cascaded};
+ghost use Rattle.mono_wheel.specs.Start.{taken_list};
+
+use crate::Steps;
+use crate::entry::Entry;
+use crate::numbers::standing;
+use crate::slot_links::SlotLinks;
+use std::sync::ledger::Ledger;
+
+// Registers one key that stands in no list at its true tick.
+fn register(elapsed: u64, links: &mut SlotLinks, key: usize)
+    requires room { key < length links.old.entries }
+    requires loose { IsLoose links.old key }
+    ensures { Registered elapsed links.old.entries links.new.entries links.old links.new key }
+{
+    let tick = links.entry(key).tick;
+    let list = standing(elapsed, tick);
+    links.put_front(
+        list,
+        key,
+        Entry {
+            tick,
+            registered: tick,
+        },
+    );
+}
+
+/// Registers the keys of the taken list at their true ticks, the last first.
+pub fn cascade<L: Ledger>(elapsed: u64, links: &mut SlotLinks, steps: &mut Steps<L>)
+    requires { Cascading elapsed links.old.entries links.old }
+    ensures held { Held elapsed links.new.entries links.new }
+    ensures cascaded { Cascaded links.old.entries links.new.entries links.old links.new }
+    ensures steps { steps.new ≡ steps.old + length (list_at links.old taken_list) }
+{
+    while let Some(key) = links.pop_taken(steps) {
+        register(elapsed, links, key);
+    }
+}

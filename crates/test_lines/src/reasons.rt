@@ -1,0 +1,102 @@
+// Reasons of lines, each by its bytes alone.
+use mono_text::{Fault, Reason, fault_of_line};
+
+const NAMES: &[u8] = b"spawn wake sleep reset job-end clock turn";
+
+const PARTS: &[u8] = b"spawn wake sleep poll pending ready";
+
+// The reason of line n of an input that has no reports.
+fn reason_of(input: &[u8], n: usize) -> Option<Reason> {
+    match fault_of_line(NAMES, PARTS, b"", input, n) {
+        Some(fault) => Some(fault.reason),
+        None => None,
+    }
+}
+
+// Inputs, and the reasons of their first lines.
+const CASES: [(&[u8], Reason); 27] = [
+    (b"spawn", Reason::NoLineFeed),
+    (b"poll9\r", Reason::NoLineFeed),
+    (b"spawn\r\n", Reason::CarriageReturn),
+    (b"poll9\r\n", Reason::CarriageReturn),
+    (b"poll9\n", Reason::UnknownWord),
+    (b"\n", Reason::UnknownWord),
+    (b" spawn\n", Reason::UnknownWord),
+    (b"spawn2 99999999999999999999\n", Reason::UnknownWord),
+    (b"wake 18446744073709551615\n", Reason::OtherForm),
+    (b"wake 18446744073709551616\n", Reason::GreatNumber),
+    (b"wake 018446744073709551616\n", Reason::NoNumber),
+    (b"wake 99999999999999999999x\n", Reason::NoNumber),
+    (b"wake 0\n", Reason::OtherForm),
+    (b"wake 00\n", Reason::NoNumber),
+    (b"sleep 18446744073709551616 \n", Reason::OtherForm),
+    (
+        b"sleep 340282366920938463463374607431768211455\n",
+        Reason::OtherForm,
+    ),
+    (
+        b"sleep 340282366920938463463374607431768211456\n",
+        Reason::GreatNanos,
+    ),
+    (
+        b"reset 1 340282366920938463463374607431768211456\n",
+        Reason::GreatNanos,
+    ),
+    (b"reset 18446744073709551616 0\n", Reason::GreatNumber),
+    (
+        b"turn; wake 20000000000000000000; pending\n",
+        Reason::GreatNumber,
+    ),
+    (b"turn; wake 1; pend\n", Reason::UnknownPart),
+    (b"turn; wake 1x; pend\n", Reason::NoNumber),
+    (b"job-end 1 canceled\n", Reason::OtherForm),
+    (b"job-end 1 gone\n", Reason::NoNumber),
+    (b"job-end ran\n", Reason::NoNumber),
+    (b"spawn -> task 0\n", Reason::OtherReport),
+    (b"turn\n", Reason::OtherForm),
+];
+
+#[test]
+fn each_line_has_its_reason(rt: HostRuntime) {
+    for (line, reason) in CASES {
+        assert!(&rt; reason_of(line, 1) == Some(reason));
+    }
+}
+
+#[test]
+fn lines_are_counted_from_one(rt: HostRuntime) {
+    let input = b"spawn\r\n\nwake 18446744073709551616\nspawn";
+    let cases = [
+        (0, None),
+        (1, Some(Reason::CarriageReturn)),
+        (2, Some(Reason::UnknownWord)),
+        (3, Some(Reason::GreatNumber)),
+        (4, Some(Reason::NoLineFeed)),
+        (5, None),
+    ];
+    for (line, reason) in cases {
+        assert!(&rt; reason_of(input, line) == reason);
+    }
+    assert!(&rt; reason_of(b"", 1) == None);
+}
+
+#[test]
+fn an_event_of_a_journal_has_a_report(rt: HostRuntime) {
+    let fault = Fault {
+        reason: Reason::NoReport,
+        word: b"spawn",
+        head: b"spawn",
+    };
+    assert!(&rt; fault_of_line(NAMES, PARTS, b"spawn wake", b"spawn\n", 1) == Some(fault));
+}
+
+#[test]
+fn the_wrong_word_and_its_head_are_told(rt: HostRuntime) {
+    let fault = Fault {
+        reason: Reason::NoNumber,
+        word: b"5ms",
+        head: b"sleep",
+    };
+    let input = b"turn; wake 1; sleep 5ms; pend\n";
+    assert!(&rt; fault_of_line(NAMES, PARTS, b"", input, 1) == Some(fault));
+}

@@ -1,0 +1,89 @@
+// What a builder sets, and a start on the defaults.
+ghost use Rattle.std.specs.Prelude.{◌≡◌, None};
+
+use crate::turns::Gives;
+use crate::waits::{Work, Worked, outcome_of, ready};
+use mono_blocking::{BlockingStrategy, NoPool};
+use mono_model::Host;
+use mono_rt::{RunError, RuntimeBuilder, StepDriver, TimeDriver, start};
+use std::alloc::Global;
+use std::process::Abort;
+
+/// A builder on a driver that never waits.
+fn builder(alloc: Global) -> RuntimeBuilder<StepDriver, NoPool<Gives>> {
+    RuntimeBuilder::new(StepDriver::new(Vec::new(alloc)))
+}
+
+#[test]
+fn entries_are_at_least_256(rt: HostRuntime) {
+    let alloc = rt.alloc();
+    assert!(rt; builder(alloc).with_entries(100).entries() == 256);
+    assert!(rt; builder(alloc).with_entries(300).entries() == 300);
+    assert!(rt; builder(alloc).entries() == 1024);
+    assert!(rt; builder(alloc).with_entries(100).enable_all().entries() == 256);
+}
+
+/// A built runtime with timers and a journal.
+fn built<R: Abort>(rt: &R, alloc: Global) -> Worked<TimeDriver<StepDriver>>
+    ensures { result.cx.parts.tasks.turn ≡ None }
+{
+    builder(alloc)
+        .with_blocking_strategy(BlockingStrategy::ExecuteLocal)
+        .with_journal()
+        .enable_timer()
+        .build(alloc)
+        .expect(rt, "memory")
+}
+
+/// Whether a main task on a built runtime is ready with 1, and the journal was kept.
+fn runs<R: Host + Abort>(rt: &R, alloc: Global) -> bool {
+    let one = ready(rt, alloc, 1);
+    let mut runtime = built(rt, alloc);
+    let answer = outcome_of(rt, alloc, &mut runtime, one, 10);
+    let is_kept = !runtime.journal().is_full();
+    let has_no_pool = runtime.into_pool().is_none();
+    answer == Ok(1) && is_kept && has_no_pool
+}
+
+#[test]
+fn a_built_runtime_runs(rt: HostRuntime) {
+    assert!(rt; runs(&rt, rt.alloc()));
+}
+
+/// How a main task on a runtime with the defaults ends.
+fn started<R: Host>(rt: &R, alloc: Global, main: Work, units: u64) -> Result<u64, RunError> {
+    let driver = StepDriver::new(Vec::new(alloc));
+    start::<_, _, _, NoPool<Gives>, _>(rt, alloc, driver, main, units)
+}
+
+#[test]
+fn a_start_ends_with_the_output_or_the_turns(rt: HostRuntime) {
+    let alloc = rt.alloc();
+    assert!(rt; started(&rt, alloc, ready(&rt, alloc, 1), 10) == Ok(1));
+    assert!(rt; started(&rt, alloc, Work::Waits, 3) == Err(RunError::Turns));
+}
+
+/// How a main task that sleeps ends on a runtime with timers and the defaults.
+fn slept<R: Host>(rt: &R, alloc: Global, units: u64) -> Result<u64, RunError> {
+    let driver = TimeDriver::new(StepDriver::new(Vec::new(alloc)));
+    start::<_, _, _, NoPool<Gives>, _>(rt, alloc, driver, Work::Sleeps(5, None), units)
+}
+
+#[test]
+fn a_start_has_so_many_units(rt: HostRuntime) {
+    assert!(rt; slept(&rt, rt.alloc(), 2) == Ok(5));
+    assert!(rt; slept(&rt, rt.alloc(), 1) == Err(RunError::Turns));
+}
+
+/// How a main task that wakes itself in each turn ends where the first call of the driver under the timers fails: a submit.
+fn waked<R: Host + Abort>(rt: &R, alloc: Global) -> Result<u64, RunError> {
+    let mut failing = Vec::new(alloc);
+    failing.push(0).expect(rt, "memory");
+    let driver = TimeDriver::new(StepDriver::new(failing));
+    start::<_, _, _, NoPool<Gives>, _>(rt, alloc, driver, Work::Wakes, 100)
+}
+
+#[test]
+fn a_driver_with_timers_submits(rt: HostRuntime) {
+    assert!(rt; waked(&rt, rt.alloc()) == Err(RunError::Driver));
+}

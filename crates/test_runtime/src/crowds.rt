@@ -1,0 +1,179 @@
+// A crowd of tasks whose remote wakers are woken, while they live and after their ends.
+ghost use Rattle.std.specs.Prelude.{◌≡◌, ⊤, false};
+ghost use Rattle.mono_rt.specs.Reaches.{Reaches};
+
+use crate::turns::Gives;
+use mono_blocking::NoPool;
+use mono_driver::StepDriver;
+use mono_inbox::{NoUnpark, RemoteWaker};
+use mono_model::Host;
+use mono_rt::{Cx, start};
+use mono_task::{Context, Poll, TaskFuture};
+use std::alloc::Global;
+use std::sync::atomic::{AtomicU64, Ordering};
+use std::sync::{Arc, Mutex};
+
+/// How many tasks there are, far more than are made known at once.
+const CROWD: u64 = 300;
+
+/// For so many turns of the main task all others have ended: more than a round has that began with all of them queued, so
+/// that the inbox was drained since.
+const REST: u64 = 700;
+
+/// The wakers of the crowd, and how many of its tasks have ended.
+#[derive(Drop)]
+struct Shared {
+    wakers: Mutex<Vec<RemoteWaker<NoUnpark>>>,
+    ended: AtomicU64,
+}
+
+/// What a task does at its next turn.
+#[derive(Clone, Copy, Drop)]
+enum Part {
+    /// The main task makes the crowd.
+    Makes,
+    /// It wakes each of them.
+    Wakes,
+    /// Once all have ended, and so many turns later, it wakes each again. So many wakes were listed before.
+    Waits(u64, u64),
+    /// One of the crowd hands its waker out.
+    Gives,
+    /// It ends.
+    Ends,
+}
+
+#[derive(Drop)]
+struct Member {
+    part: Part,
+    shared: Arc<Shared, Global>,
+}
+
+type Own = Cx<Member, u64, NoPool<Gives>, NoUnpark>;
+
+/// How many of these wakes are listed.
+fn wake_each<R: Host>(rt: &R, shared: &Shared) -> u64 {
+    let mut listed = 0u64;
+    let wakers = shared.wakers.lock(rt);
+    for waker in wakers.iter() {
+        listed = listed.saturating_add(u64::from(waker.wake(rt)));
+    }
+    listed
+}
+
+/// The waker of the task whose turn runs is kept, where there is one.
+fn keep_waker<R: Host>(rt: &R, shared: &Shared, cx: &mut Own)
+    ensures { cx.new ≡ cx.old }
+{
+    if let Ok(waker) = cx.remote_waker() {
+        let _ = shared.wakers.lock(rt).push(waker);
+    }
+}
+
+/// One more task of the crowd.
+fn put(alloc: Global, cx: &mut Own, shared: &Arc<Shared, Global>)
+    ensures { Reaches (λ n. n) cx.old cx.new }
+{
+    if let Ok(shared) = Arc::try_clone(shared) {
+        let part = Part::Gives;
+        let _ = cx.spawn(alloc, Member { part, shared });
+    }
+}
+
+/// All tasks of the crowd.
+fn put_all(alloc: Global, cx: &mut Own, shared: &Arc<Shared, Global>)
+    ensures { Reaches (λ n. n) cx.old cx.new }
+{
+    for _ in 0..CROWD {
+        put(alloc, cx, shared);
+    }
+}
+
+/// What the main task does next, with how many wakes were listed, once all have ended and the inbox was drained.
+fn after_rest<R: Host>(rt: &R, shared: &Shared, listed: u64, turns: u64) -> Result<u64, Part> {
+    if shared.ended.load(Ordering::SeqCst) < CROWD {
+        return Err(Part::Waits(listed, 0));
+    }
+    if turns < REST {
+        return Err(Part::Waits(listed, turns + 1));
+    }
+    Ok(
+        listed
+            .saturating_mul(1000)
+            .saturating_add(wake_each(rt, shared)),
+    )
+}
+
+impl Member {
+    /// What the task does next, or what it is ready with.
+    fn act<R: Host>(&self, rt: &R, alloc: Global, cx: &mut Own) -> Result<u64, Part>
+        ensures { Reaches (λ n. n) cx.old cx.new }
+    {
+        match self.part {
+            Part::Makes => {
+                put_all(alloc, cx, &self.shared);
+                Err(Part::Wakes)
+            }
+            Part::Wakes => Err(Part::Waits(wake_each(rt, &self.shared), 0)),
+            Part::Waits(listed, turns) => after_rest(rt, &self.shared, listed, turns),
+            Part::Gives => {
+                keep_waker(rt, &self.shared, cx);
+                Err(Part::Ends)
+            }
+            Part::Ends => Ok(self.shared.ended.fetch_add(1, Ordering::SeqCst)),
+        }
+    }
+}
+
+/// A task of the crowd waits for a wake; the main task goes to the queue's back.
+fn goes_on(part: Part, cx: &mut Own)
+    ensures { Reaches (λ n. n) cx.old cx.new }
+{
+    if matches!(part, Part::Ends) {
+        return;
+    }
+    let me = cx.me();
+    let _ = cx.wake(me);
+}
+
+impl TaskFuture<Own> for Member {
+    type Output = u64;
+
+    ghost is_spent = { λ f. false };
+
+    ghost polls = { λ f c r g d. ⊤ };
+
+    ghost cancels = { λ f c d. ⊤ };
+
+    fn spent(&self) -> bool {
+        false
+    }
+
+    fn poll<R: Host>(&mut self, rt: &R, alloc: Global, cx: &mut Own) -> Poll<u64> {
+        match self.act(rt, alloc, cx) {
+            Ok(output) => Poll::Ready(output),
+            Err(part) => {
+                self.part = part;
+                goes_on(part, cx);
+                Poll::Pending
+            }
+        }
+    }
+
+    fn cancel(self, _cx: &mut Own) {}
+}
+
+#[test]
+fn each_waker_of_a_crowd_wakes_its_task_and_none_that_ended(rt: HostRuntime) {
+    let alloc = rt.alloc();
+    let shared = Shared {
+        wakers: Mutex::new(Vec::new(alloc)),
+        ended: AtomicU64::new(0),
+    };
+    let main = Member {
+        part: Part::Makes,
+        shared: Arc::new(alloc, shared).expect(&rt, "memory"),
+    };
+    let driver = StepDriver::new(Vec::new(alloc));
+    let answer = start::<_, _, _, NoPool<Gives>, _>(&rt, alloc, driver, main, 100000);
+    assert_eq!(rt; answer, Ok(300000));
+}

@@ -1,0 +1,25 @@
+//! Tests of the runtime, with a driver that never waits and with real threads, over its public calls.
+#![tactic(auto)]
+
+#[cfg(test)]
+mod builders;
+#[cfg(test)]
+mod cases;
+#[cfg(test)]
+mod crowds;
+#[cfg(test)]
+mod failures;
+#[cfg(test)]
+mod jobs;
+#[cfg(test)]
+mod naps;
+#[cfg(test)]
+mod pools;
+#[cfg(test)]
+mod runs;
+#[cfg(test)]
+mod runtimes;
+#[cfg(test)]
+mod turns;
+#[cfg(test)]
+mod waits;

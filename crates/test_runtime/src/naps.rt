@@ -1,0 +1,54 @@
+// Naps on drivers that park often enough, and on ones that do not.
+use crate::turns::Gives;
+use mono_blocking::NoPool;
+use mono_model::Host;
+use mono_rt::{Entry, Instant, Journal, RunError, StepDriver};
+use std::alloc::Global;
+use std::process::Abort;
+use std::time::Duration;
+use use_driver::nap_within;
+
+/// How many parks the journal tells, and for how many milliseconds they were at most.
+fn parks_in(journal: &Journal) -> (u64, u64) {
+    let mut parks = 0u64;
+    let mut milliseconds = 0u64;
+    for place in 0..journal.len() {
+        if let Some(Entry::Park(wait)) = journal.get(place) {
+            parks = parks.saturating_add(1);
+            milliseconds = milliseconds.saturating_add(wait.unwrap_or(0));
+        }
+    }
+    (parks, milliseconds)
+}
+
+/// Whether a nap of so many milliseconds, within so many parks, ends with this answer, and the journal tells these parks and
+/// the milliseconds of all.
+fn is_nap<R: Host + Abort>(
+    rt: &R,
+    alloc: Global,
+    parks: u64,
+    milliseconds: u64,
+    answer: Result<u64, RunError>,
+    told: (u64, u64),
+) -> bool {
+    let start = Instant::from_nanos(0).expect(rt, "an instant");
+    let driver = StepDriver::new(Vec::new(alloc));
+    let length = Duration::from_millis(milliseconds);
+    let (napped, journal) = nap_within::<_, NoPool<Gives>, _>(
+        rt, alloc, driver, parks, length, start,
+    ).expect(rt, "memory");
+    napped == answer && parks_in(&journal) == told
+}
+
+#[test]
+fn a_nap_takes_as_many_parks_as_the_wheel_has_slots_to_open(rt: HostRuntime) {
+    assert!(rt; is_nap(&rt, rt.alloc(), 1, 5, Ok(1), (1, 5)));
+    assert!(rt; is_nap(&rt, rt.alloc(), 2, 100, Ok(1), (2, 100)));
+    assert!(rt; is_nap(&rt, rt.alloc(), 0, 0, Ok(1), (0, 0)));
+}
+
+#[test]
+fn a_park_too_few_is_a_fault_of_the_driver(rt: HostRuntime) {
+    assert!(rt; is_nap(&rt, rt.alloc(), 0, 5, Err(RunError::Driver), (1, 5)));
+    assert!(rt; is_nap(&rt, rt.alloc(), 1, 100, Err(RunError::Driver), (2, 100)));
+}

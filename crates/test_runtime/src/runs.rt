@@ -1,0 +1,82 @@
+// Runtimes of the tests, and the answer of a main task on one.
+ghost use Rattle.std.specs.Prelude.{◌≡◌, None};
+
+use crate::turns::{Gives, Shared, Task, Turns};
+use mono_blocking::{BlockingHandle, ThreadPool};
+use mono_machine::Limits;
+use mono_model::Host;
+use mono_rt::{Driver, Instant, ListClock, RunError, Runtime, ThreadDriver};
+use std::alloc::Global;
+use std::process::Abort;
+use std::sync::atomic::AtomicU64;
+use std::sync::{Arc, Mutex};
+
+/// A runtime of tasks that ask for jobs, which sleeps by a thread's park.
+pub(crate) type Sleeping<P> = Runtime<Turns, u64, ThreadDriver<ListClock>, P>;
+
+/// A runtime on this driver, whose first instant is 0.
+pub(crate) fn a_runtime<F: Drop, D: Driver, P: ThreadPool + Drop, R: Abort>(
+    rt: &R,
+    alloc: Global,
+    driver: D,
+    pool: BlockingHandle<P>,
+    limits: Limits,
+    has_timers: bool,
+) -> Runtime<F, u64, D, P>
+    ensures { result.cx.parts.tasks.turn ≡ None }
+{
+    let start = Instant::from_nanos(0).expect(rt, "an instant");
+    Runtime::new(alloc, driver, pool, limits, has_timers, start, ()).expect(rt, "memory")
+}
+
+/// A driver that parks its thread, and whose clock always reads 0.
+fn parking<R: Abort>(rt: &R, alloc: Global) -> ThreadDriver<ListClock> {
+    let zero = Instant::from_nanos(0).expect(rt, "an instant");
+    let clock = ListClock::new(vec![in alloc; zero].expect(rt, "memory"));
+    ThreadDriver::new(alloc, clock).expect(rt, "memory")
+}
+
+/// A runtime that parks its thread, with this pool, where so many jobs may be kept.
+pub(crate) fn sleeping<P: ThreadPool<Job = Gives> + Drop, R: Abort>(
+    rt: &R,
+    alloc: Global,
+    pool: BlockingHandle<P>,
+    jobs: u64,
+) -> Sleeping<P>
+    ensures { result.cx.parts.tasks.turn ≡ None }
+{
+    let limits = Limits {
+        tasks: 2,
+        jobs,
+        sleeps: 2,
+    };
+    a_runtime(rt, alloc, parking(rt, alloc), pool, limits, false)
+}
+
+/// The future of a task, whose pool has no job yet.
+pub(crate) fn main_task<R: Abort>(rt: &R, alloc: Global, task: Task) -> Turns {
+    let shared = Shared {
+        waiting: Mutex::new(Vec::new(alloc)),
+        waker: Mutex::new(None),
+        turns: AtomicU64::new(0),
+    };
+    Turns {
+        task,
+        seen: Vec::new(alloc),
+        shared: Arc::new(alloc, shared).expect(rt, "memory"),
+        flag: Arc::new(alloc, AtomicU64::new(0)).expect(rt, "memory"),
+    }
+}
+
+/// The answer of a main task with so many units. No clause speaks of it, so that callers have none to carry.
+pub(crate) fn answer_of<P: ThreadPool<Job = Gives> + Drop, R: Host>(
+    rt: &R,
+    alloc: Global,
+    runtime: &mut Sleeping<P>,
+    main: Turns,
+    units: u64,
+) -> Result<u64, RunError>
+    requires { runtime.old.cx.parts.tasks.turn ≡ None }
+{
+    runtime.block_on(rt, alloc, main, units)
+}

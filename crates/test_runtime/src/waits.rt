@@ -1,0 +1,270 @@
+// Small futures on a driver that never waits.
+ghost use Rattle.std.specs.Prelude.{◌≡◌, ⊤, false, None};
+
+use crate::runs::a_runtime;
+use crate::turns::Gives;
+use mono_blocking::{BlockingHandle, BlockingStrategy, NoPool};
+use mono_machine::Limits;
+use mono_model::Host;
+use mono_rt::{Driver, Entry, Journal, RunError, Runtime, SpawnRefused, StepDriver};
+use mono_task::{Poll, TaskFuture};
+use mono_time::{Sleep, TimeContext, sleep};
+use std::alloc::Global;
+use std::process::Abort;
+use std::rc::Rc;
+use std::time::Duration;
+
+/// Is ready with a number, or waits for ever, or sleeps for so many milliseconds and then is ready with their number. The
+/// output stands in an `Rc`, which no other thread may have.
+#[derive(Drop)]
+pub(crate) enum Work {
+    Ready(Rc<u64, Global>),
+    Waits,
+    Wakes,
+    Sleeps(u64, Option<Sleep>),
+}
+
+impl<C: TimeContext> TaskFuture<C> for Work {
+    type Output = u64;
+
+    ghost is_spent = { λ f. false };
+
+    ghost polls = { λ f c r g d. ⊤ };
+
+    ghost cancels = { λ f c d. ⊤ };
+
+    fn spent(&self) -> bool {
+        false
+    }
+
+    fn poll<R: Host>(&mut self, rt: &R, alloc: Global, cx: &mut C) -> Poll<u64> {
+        match self {
+            Work::Ready(output) => Poll::Ready(**output),
+            Work::Waits => Poll::Pending,
+            Work::Wakes => {
+                let me = cx.me();
+                let _ = cx.wake(me);
+                Poll::Pending
+            }
+            Work::Sleeps(ticks, kept) => poll_sleeping(rt, alloc, cx, *ticks, kept),
+        }
+    }
+
+    fn cancel(self, cx: &mut C) {
+        match self {
+            Work::Sleeps(_, kept) => {
+                if let Some(delay) = kept {
+                    delay.cancel(cx);
+                }
+            }
+            Work::Ready(_) | Work::Waits | Work::Wakes => {}
+        }
+    }
+}
+
+/// A sleep of so many milliseconds, which is made at the first poll.
+fn poll_sleeping<R: Host, C: TimeContext>(
+    rt: &R,
+    alloc: Global,
+    cx: &mut C,
+    ticks: u64,
+    kept: &mut Option<Sleep>,
+) -> Poll<u64>
+    ensures { C.reaches cx.old cx.new }
+{
+    if kept.is_none() {
+        match sleep(alloc, cx, Duration::from_millis(ticks)) {
+            Ok(delay) => *kept = Some(delay),
+            Err(_) => return Poll::Pending,
+        }
+    }
+    match kept {
+        Some(delay) => match delay.poll(rt, alloc, cx) {
+            Poll::Ready(_) => Poll::Ready(ticks),
+            Poll::Pending => Poll::Pending,
+        },
+        None => Poll::Pending,
+    }
+}
+
+const LIMITS: Limits = Limits {
+    tasks: 16,
+    jobs: 16,
+    sleeps: 16,
+};
+
+/// A runtime of such tasks.
+pub(crate) type Worked<D> = Runtime<Work, u64, D, NoPool<Gives>>;
+
+/// Such a runtime on a driver that never waits.
+type Quiet = Worked<StepDriver>;
+
+/// The answer of such a task as the main one, with so many units. No clause speaks of it, so that callers have none to carry.
+pub(crate) fn outcome_of<D: Driver, R: Host>(
+    rt: &R,
+    alloc: Global,
+    runtime: &mut Worked<D>,
+    main: Work,
+    units: u64,
+) -> Result<u64, RunError>
+    requires { runtime.old.cx.parts.tasks.turn ≡ None }
+{
+    runtime.block_on(rt, alloc, main, units)
+}
+
+/// A driver that never waits, and whose call with this number fails, if there is one.
+fn stepping<R: Abort>(rt: &R, alloc: Global, fails: Option<u64>) -> StepDriver {
+    let mut failing = Vec::new(alloc);
+    if let Some(call) = fails {
+        failing.push(call).expect(rt, "memory");
+    }
+    StepDriver::new(failing)
+}
+
+/// A runtime on such a driver.
+fn quiet<R: Abort>(rt: &R, alloc: Global, fails: Option<u64>) -> Quiet
+    ensures { result.cx.parts.tasks.turn ≡ None }
+{
+    let pool = BlockingHandle::Empty(BlockingStrategy::Panic);
+    a_runtime(rt, alloc, stepping(rt, alloc, fails), pool, LIMITS, true)
+}
+
+/// A task that is ready with this number.
+pub(crate) fn ready<R: Abort>(rt: &R, alloc: Global, output: u64) -> Work {
+    Work::Ready(Rc::new(alloc, output).expect(rt, "memory"))
+}
+
+/// A runtime of which a task that is ready with 2 was spawned.
+fn with_two<R: Abort>(rt: &R, alloc: Global) -> Quiet
+    ensures { result.cx.parts.tasks.turn ≡ None }
+{
+    let two = ready(rt, alloc, 2);
+    let mut runtime = quiet(rt, alloc, None);
+    assert!(rt; runtime.spawn(alloc, two).is_ok());
+    runtime
+}
+
+/// Whether the spawn after so many is refused as at capacity.
+fn is_refused_after<R: Abort>(rt: &R, alloc: Global, spawns: u64) -> bool {
+    let mut runtime = quiet(rt, alloc, None);
+    for _ in 0..spawns {
+        assert!(rt; runtime.spawn(alloc, Work::Waits).is_ok());
+    }
+    let last = runtime.spawn(alloc, Work::Waits);
+    let is_refused = matches!(last, Err(SpawnRefused::AtCapacity(_)));
+    assert!(rt; runtime.into_pool().is_none());
+    assert!(rt; is_refused || last.is_ok());
+    is_refused
+}
+
+/// Whether a main task with so many units ends so, and the journal then has so many entries, where that is told.
+fn ends<R: Host>(
+    rt: &R,
+    alloc: Global,
+    runtime: Quiet,
+    main: Work,
+    units: u64,
+    answer: Result<u64, RunError>,
+    entries: Option<usize>,
+) -> bool
+    requires { runtime.cx.parts.tasks.turn ≡ None }
+{
+    let mut runtime = runtime;
+    let ended = outcome_of(rt, alloc, &mut runtime, main, units);
+    let has = runtime.journal().len();
+    let has_no_pool = runtime.into_pool().is_none();
+    has_no_pool && ended == answer && entries.unwrap_or(has) == has
+}
+
+/// No task may live.
+const NO_TASK: Limits = Limits {
+    tasks: 0,
+    jobs: 16,
+    sleeps: 16,
+};
+
+/// Whether a main task that is refused as at capacity is let go: nobody else has its output then.
+fn lets_the_refused_go<R: Host + Abort>(rt: &R, alloc: Global, output: &Rc<u64, Global>) -> bool {
+    let theirs = Work::Ready(output.clone().expect(rt, "memory"));
+    let pool = BlockingHandle::Empty(BlockingStrategy::Panic);
+    let driver = stepping(rt, alloc, None);
+    let mut runtime: Quiet = a_runtime(rt, alloc, driver, pool, NO_TASK, true);
+    let answer = outcome_of(rt, alloc, &mut runtime, theirs, 3);
+    let owners = Rc::strong_count(output);
+    let has_no_pool = runtime.into_pool().is_none();
+    has_no_pool & (answer == Err(RunError::AtCapacity)) & (owners == 1)
+}
+
+/// How long a park was, at this place of the journal.
+fn park_at(journal: &Journal, place: usize) -> Option<u64> {
+    match journal.get(place) {
+        Some(Entry::Park(Some(ticks))) => Some(*ticks),
+        _ => None,
+    }
+}
+
+/// Whether a main task that sleeps for so many milliseconds has these two parks. Before the first park stand the spawn, a
+/// turn with its reading, and a reading; behind it a drain, a clock step, and a reading.
+fn has_parks<R: Host + Abort>(rt: &R, alloc: Global, ticks: u64, parks: (u64, u64)) -> bool {
+    let mut runtime = quiet(rt, alloc, None);
+    let answer = outcome_of(rt, alloc, &mut runtime, Work::Sleeps(ticks, None), 10);
+    let journal = runtime.journal();
+    let told = (park_at(journal, 4), park_at(journal, 8));
+    let has_no_pool = runtime.into_pool().is_none();
+    has_no_pool && answer.is_ok() && told == (Some(parks.0), Some(parks.1))
+}
+
+// A park ends where the slot of the armed tick starts, and a second one at the tick.
+#[test]
+fn parks(rt: HostRuntime) {
+    let alloc = rt.alloc();
+    assert!(rt; has_parks(&rt, alloc, 100, (64, 36)));
+    assert!(rt; has_parks(&rt, alloc, 70866960384, (68719476736, 2147483648)));
+}
+
+/// Whether a main task that waits for ever ends so, with 3 units.
+fn waits<R: Host + Abort>(rt: &R, alloc: Global, fails: Option<u64>, answer: RunError) -> bool {
+    let runtime = quiet(rt, alloc, fails);
+    ends(rt, alloc, runtime, Work::Waits, 3, Err(answer), None)
+}
+
+#[test]
+fn blocks(rt: HostRuntime) {
+    let alloc = rt.alloc();
+    // each turn has two entries
+    let two = with_two(&rt, alloc);
+    assert!(rt; ends(&rt, alloc, two, ready(&rt, alloc, 1), 10, Ok(1), Some(6)));
+    assert!(rt; !is_refused_after(&rt, alloc, 15));
+    assert!(rt; is_refused_after(&rt, alloc, 16));
+    let output = Rc::new(alloc, 7).expect(&rt, "memory");
+    assert!(rt; lets_the_refused_go(&rt, alloc, &output));
+    assert!(rt; waits(&rt, alloc, None, RunError::Turns));
+    assert!(rt; waits(&rt, alloc, Some(0), RunError::Driver));
+    let one = quiet(&rt, alloc, None);
+    assert!(rt; ends(&rt, alloc, one, Work::Sleeps(5, None), 10, Ok(5), Some(10)));
+}
+
+/// Whether a main task that wakes itself in each turn ends so, where the first call of the driver fails: that is a submit.
+#[test]
+fn a_failed_submit_is_told(rt: HostRuntime) {
+    let runtime = quiet(&rt, rt.alloc(), Some(0));
+    let answer = Err(RunError::Driver);
+    assert!(rt; ends(&rt, rt.alloc(), runtime, Work::Wakes, 100, answer, None));
+}
+
+/// The park that fails, how a main task that sleeps for 100 milliseconds then ends, and how many entries the journal has: a
+/// spawn, a turn with its reading, for each park its reading, a drain and a clock step, and the drop of the handle.
+const PARKS: [(u64, Result<u64, RunError>, usize); 3] = [
+    (0, Err(RunError::Driver), 8),
+    (1, Err(RunError::Driver), 12),
+    (2, Ok(100), 14),
+];
+
+#[test]
+fn a_failed_park_is_told(rt: HostRuntime) {
+    for (call, answer, entries) in PARKS {
+        let runtime = quiet(&rt, rt.alloc(), Some(call));
+        let main = Work::Sleeps(100, None);
+        assert!(rt; ends(&rt, rt.alloc(), runtime, main, 100, answer, Some(entries)));
+    }
+}

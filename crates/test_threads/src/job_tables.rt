@@ -1,0 +1,357 @@
+// Jobs by each strategy and on a pool of the tests: each call on its happy path, and each refusal once.
+use crate::jobs::{Gives, waker};
+use crate::keeps::{Keeps, Waiting, pool_refusing, run_all};
+use mono_blocking::{BlockingHandle, BlockingStrategy, JoinError, *};
+use mono_machine::{How, Refusal, Reply};
+use mono_model::{Host, Poll};
+use std::alloc::Global;
+use std::process::Abort;
+
+/// One call on the jobs.
+#[derive(Clone, Copy)]
+enum Call {
+    /// Makes a job with this output.
+    Spawn(u64),
+    /// Whether the job has ended.
+    HasEnded(u64),
+    /// Polls the job for this task.
+    Poll(u64, u64),
+    /// Drops the job's handle.
+    Drop(u64),
+    /// Runs all tasks that wait.
+    RunAll,
+}
+
+/// A call, what it must answer, and the end of a job that it must see.
+type Row = (Call, Reply, Option<End>);
+
+/// The end of a job that was run, and for which nobody waited.
+const RAN: Option<End> = Some(End {
+    how: How::Ran,
+    waiter: None,
+});
+
+/// The same of one for which task 7 waited.
+const RAN_FOR_SEVEN: Option<End> = Some(End {
+    how: How::Ran,
+    waiter: Some(7),
+});
+
+/// What a spawn answers: `Canceled` where the pool refused the job. One that comes back must be the one with this output,
+/// and any other answer is `Pending`, which no test expects.
+fn spawned(answer: Result<JobHandle, SpawnError<Gives>>, output: u64) -> Reply {
+    match answer {
+        Ok(handle) => Reply::Job(handle.job()),
+        Err(SpawnError::AtCapacity(job)) if job.0 == output => Reply::Refused(Refusal::AtCapacity),
+        Err(SpawnError::NoPool(job)) if job.0 == output => Reply::Refused(Refusal::NoPool),
+        Err(SpawnError::PoolFault) => Reply::Canceled,
+        Err(_) => Reply::Pending,
+    }
+}
+
+/// What the question whether a job has ended answers.
+fn asked(answer: Result<bool, Refusal>) -> Reply {
+    match answer {
+        Ok(true) => Reply::Yes,
+        Ok(false) => Reply::No,
+        Err(refusal) => Reply::Refused(refusal),
+    }
+}
+
+/// What a poll answers.
+fn polled(answer: Result<Poll<Result<u64, JoinError>>, Refusal>) -> Reply {
+    match answer {
+        Ok(Poll::Pending) => Reply::Pending,
+        Ok(Poll::Ready(Ok(output))) => Reply::Output(output),
+        Ok(Poll::Ready(Err(JoinError::Canceled))) => Reply::Canceled,
+        Err(refusal) => Reply::Refused(refusal),
+    }
+}
+
+/// What the drop of a handle answers.
+fn dropped(answer: Result<Option<Result<u64, JoinError>>, Refusal>) -> Reply {
+    match answer {
+        Ok(Some(Ok(output))) => Reply::Dropped(Some(output)),
+        Ok(Some(Err(JoinError::Canceled))) => Reply::Canceled,
+        Ok(None) => Reply::Dropped(None),
+        Err(refusal) => Reply::Refused(refusal),
+    }
+}
+
+/// Makes one call: what it answers, and the end that it saw.
+fn answer<R: Host + Abort>(
+    rt: &R,
+    alloc: Global,
+    jobs: &mut Blockings<Keeps>,
+    waiting: &Waiting,
+    call: Call,
+) -> (Reply, Option<End>) {
+    match call {
+        Call::Spawn(output) => {
+            let answer = jobs.spawn(rt, alloc, Gives(output));
+            (spawned(answer, output), None)
+        }
+        Call::HasEnded(job) => (asked(jobs.has_ended(job)), None),
+        Call::Poll(job, task) => {
+            let seen = jobs.poll(job, waker(rt, alloc, task));
+            (polled(seen.answer), seen.end)
+        }
+        Call::Drop(job) => {
+            let seen = jobs.drop_handle(job);
+            (dropped(seen.answer), seen.end)
+        }
+        Call::RunAll => {
+            run_all(rt, waiting, MANY);
+            (Reply::Ready, None)
+        }
+    }
+}
+
+/// Makes the calls in turn: each must answer so.
+fn all_answer<R: Host + Abort>(
+    rt: &R,
+    alloc: Global,
+    jobs: &mut Blockings<Keeps>,
+    waiting: &Waiting,
+    rows: &[Row],
+) {
+    for row in rows {
+        let (reply, end) = answer(rt, alloc, jobs, waiting, row.0);
+        assert!(rt; reply == row.1 && end == row.2);
+    }
+}
+
+/// The calls on new jobs with this limit, by a strategy: the pool, where there is one.
+fn all_answer_by<R: Host + Abort>(
+    rt: &R,
+    alloc: Global,
+    strategy: BlockingHandle<Keeps>,
+    limit: u64,
+    waiting: &Waiting,
+    rows: &[Row],
+) -> Option<Keeps> {
+    let mut jobs = Blockings::new(alloc, strategy, limit);
+    all_answer(rt, alloc, &mut jobs, waiting, rows);
+    jobs.into_pool()
+}
+
+/// The same without a pool.
+fn all_answer_without<R: Host + Abort>(
+    rt: &R,
+    alloc: Global,
+    strategy: BlockingStrategy,
+    limit: u64,
+    rows: &[Row],
+) {
+    let (_pool, waiting) = pool_refusing(rt, alloc, 0);
+    let strategy = BlockingHandle::Empty(strategy);
+    let pool = all_answer_by(rt, alloc, strategy, limit, &waiting, rows);
+    assert!(rt; pool.is_none());
+}
+
+/// More jobs than a table makes room for at first.
+const MANY: u64 = 300;
+
+// A job on the caller has ended.
+const ON_THE_CALLER: [Row; 10] = [
+    (Call::Spawn(4), Reply::Job(0), None),
+    (Call::Spawn(5), Reply::Job(1), None),
+    (Call::Spawn(6), Reply::Refused(Refusal::AtCapacity), None),
+    (Call::HasEnded(0), Reply::Yes, None),
+    (Call::Poll(0, 3), Reply::Output(4), None),
+    (Call::Poll(0, 3), Reply::Refused(Refusal::Taken), None),
+    (Call::HasEnded(0), Reply::Yes, None),
+    (Call::Drop(1), Reply::Dropped(Some(5)), None),
+    (Call::Drop(1), Reply::Refused(Refusal::NoHandle), None),
+    (Call::HasEnded(2), Reply::Refused(Refusal::NoTask), None),
+];
+
+// No pool comes after at capacity.
+const WITH_ROOM: [Row; 1] = [(Call::Spawn(4), Reply::Refused(Refusal::NoPool), None)];
+
+const WITHOUT_ROOM: [Row; 1] = [(Call::Spawn(4), Reply::Refused(Refusal::AtCapacity), None)];
+
+/// The strategy without a pool, the limit of its jobs, and the calls.
+const WITHOUT_A_POOL: [(BlockingStrategy, u64, &[Row]); 3] = [
+    (BlockingStrategy::ExecuteLocal, 2, &ON_THE_CALLER),
+    (BlockingStrategy::Panic, 1, &WITH_ROOM),
+    (BlockingStrategy::Panic, 0, &WITHOUT_ROOM),
+];
+
+#[test]
+fn jobs_without_a_pool(rt: HostRuntime) {
+    for (strategy, limit, rows) in WITHOUT_A_POOL {
+        all_answer_without(&rt, rt.alloc(), strategy, limit, rows);
+    }
+}
+
+// A refused task makes no job.
+const ONE_REFUSED: [Row; 5] = [
+    (Call::Spawn(4), Reply::Job(0), None),
+    (Call::Spawn(5), Reply::Canceled, None),
+    (Call::HasEnded(1), Reply::Refused(Refusal::NoTask), None),
+    (Call::HasEnded(0), Reply::No, None),
+    (Call::Spawn(6), Reply::Job(1), None),
+];
+
+// A poll and a drop see the end.
+const SEEN_BY_EACH: [Row; 7] = [
+    (Call::Spawn(4), Reply::Job(0), None),
+    (Call::Spawn(5), Reply::Job(1), None),
+    (Call::Spawn(6), Reply::Job(2), None),
+    (Call::Drop(2), Reply::Dropped(None), None),
+    (Call::RunAll, Reply::Ready, None),
+    (Call::Poll(0, 7), Reply::Output(4), RAN),
+    (Call::Drop(1), Reply::Dropped(Some(5)), RAN),
+];
+
+/// Which task a pool refuses, counted from 0, if any, and the calls; how often it refused, and how many tasks then wait there.
+const ON_A_POOL: [(u64, &[Row], u64, usize); 2] = [
+    (1, &ONE_REFUSED, 1, 2),
+    (u64::MAX, &SEEN_BY_EACH, 0, 0),
+];
+
+/// The calls on new jobs on such a pool: how often it refused, and how many tasks then wait there.
+fn all_answer_on_a_pool<R: Host + Abort>(
+    rt: &R,
+    alloc: Global,
+    refused: u64,
+    rows: &[Row],
+) -> (u64, usize) {
+    let (pool, waiting) = pool_refusing(rt, alloc, refused);
+    let pool = BlockingHandle::Attached(pool);
+    let pool = all_answer_by(rt, alloc, pool, 3, &waiting, rows).expect(rt, "a pool");
+    (pool.refusals, waiting.lock(rt).len())
+}
+
+#[test]
+fn jobs_on_a_pool(rt: HostRuntime) {
+    for (refused, rows, refusals, waiting) in ON_A_POOL {
+        let told = all_answer_on_a_pool(&rt, rt.alloc(), refused, rows);
+        assert!(rt; told.0 == refusals && told.1 == waiting);
+    }
+}
+
+/// Jobs on a pool that refuses none of their tasks, and the tasks that wait there.
+fn jobs_on<R: Abort>(rt: &R, alloc: Global, limit: u64) -> (Blockings<Keeps>, Waiting) {
+    let (pool, waiting) = pool_refusing(rt, alloc, u64::MAX);
+    let jobs = Blockings::new(alloc, BlockingHandle::Attached(pool), limit);
+    (jobs, waiting)
+}
+
+/// Jobs past the second page of the table.
+const THROUGH: u64 = 600;
+
+/// How many jobs live beside the first one, once that many were made.
+const ALIVE: u64 = 10;
+
+/// The output that a drop hands back, or 0.
+fn output_of(answer: Result<Option<Result<u64, JoinError>>, Refusal>) -> u64 {
+    match answer {
+        Ok(Some(Ok(output))) => output,
+        _ => 0,
+    }
+}
+
+/// One more job, which is run, and the drop of the one that was made so many before: its output, or 0 where there was none,
+/// or where it is not gone.
+fn one_comes_one_goes<R: Host + Abort>(
+    rt: &R,
+    alloc: Global,
+    jobs: &mut Blockings<Keeps>,
+    waiting: &Waiting,
+    number: u64,
+) -> u64 {
+    let made = jobs.spawn(rt, alloc, Gives(number));
+    assert!(rt; spawned(made, number) == Reply::Job(number));
+    run_all(rt, waiting, MANY);
+    let gone = number.saturating_sub(ALIVE);
+    if gone == 0 {
+        return 0;
+    }
+    let output = output_of(jobs.drop_handle(gone).answer);
+    if jobs.has_ended(gone).is_ok() {
+        0
+    } else {
+        output
+    }
+}
+
+const FIRST: [Row; 1] = [(Call::Spawn(7), Reply::Job(0), None)];
+
+const AFTER_ALL: [Row; 19] = [
+    (Call::HasEnded(1), Reply::Refused(Refusal::NoHandle), None),
+    (Call::Drop(1), Reply::Refused(Refusal::NoHandle), None),
+    (Call::HasEnded(255), Reply::Refused(Refusal::NoHandle), None),
+    (Call::Drop(255), Reply::Refused(Refusal::NoHandle), None),
+    (Call::HasEnded(256), Reply::Refused(Refusal::NoHandle), None),
+    (Call::Drop(256), Reply::Refused(Refusal::NoHandle), None),
+    (Call::HasEnded(511), Reply::Refused(Refusal::NoHandle), None),
+    (Call::Drop(511), Reply::Refused(Refusal::NoHandle), None),
+    (Call::HasEnded(512), Reply::Refused(Refusal::NoHandle), None),
+    (Call::Drop(512), Reply::Refused(Refusal::NoHandle), None),
+    (Call::HasEnded(589), Reply::Refused(Refusal::NoHandle), None),
+    (Call::Drop(589), Reply::Refused(Refusal::NoHandle), None),
+    (Call::HasEnded(600), Reply::Refused(Refusal::NoTask), None),
+    (Call::HasEnded(590), Reply::Yes, None),
+    (Call::Poll(0, 3), Reply::Output(7), RAN),
+    (Call::Spawn(8), Reply::Job(600), None),
+    (Call::Spawn(9), Reply::Refused(Refusal::AtCapacity), None),
+    (Call::Drop(0), Reply::Dropped(None), None),
+    (Call::HasEnded(0), Reply::Refused(Refusal::NoHandle), None),
+];
+
+#[test]
+fn the_first_job_outlives_pages(rt: HostRuntime) {
+    let alloc = rt.alloc();
+    let (mut jobs, waiting) = jobs_on(&rt, alloc, ALIVE.wrapping_add(2));
+    all_answer(&rt, alloc, &mut jobs, &waiting, &FIRST);
+    let mut sum = 0u64;
+    for number in 1..THROUGH {
+        let output = one_comes_one_goes(&rt, alloc, &mut jobs, &waiting, number);
+        sum = sum.wrapping_add(output);
+    }
+    assert!(rt; sum == 173755);
+    all_answer(&rt, alloc, &mut jobs, &waiting, &AFTER_ALL);
+}
+
+/// What a job answers before it was run and after it: its end is seen once, with who waited, and the drop after it sees none.
+fn rows_of(number: u64) -> ([Row; 2], [Row; 4]) {
+    let before = [
+        (Call::Poll(number, 7), Reply::Pending, None),
+        (Call::HasEnded(number), Reply::No, None),
+    ];
+    let after = [
+        (Call::HasEnded(number), Reply::Yes, None),
+        (Call::HasEnded(number), Reply::Yes, None),
+        (Call::Poll(number, 8), Reply::Output(number), RAN_FOR_SEVEN),
+        (Call::Drop(number), Reply::Dropped(None), None),
+    ];
+    (before, after)
+}
+
+/// Makes all jobs, polls each of them, runs them, and polls them again.
+fn ends_are_seen_once<R: Host + Abort>(
+    rt: &R,
+    alloc: Global,
+    jobs: &mut Blockings<Keeps>,
+    waiting: &Waiting,
+) {
+    for number in 0..MANY {
+        let row = (Call::Spawn(number), Reply::Job(number), None);
+        all_answer(rt, alloc, jobs, waiting, &[row]);
+    }
+    for number in 0..MANY {
+        all_answer(rt, alloc, jobs, waiting, &rows_of(number).0);
+    }
+    run_all(rt, waiting, MANY);
+    for number in 0..MANY {
+        all_answer(rt, alloc, jobs, waiting, &rows_of(number).1);
+    }
+}
+
+#[test]
+fn an_end_is_seen_once(rt: HostRuntime) {
+    let (mut jobs, waiting) = jobs_on(&rt, rt.alloc(), MANY);
+    ends_are_seen_once(&rt, rt.alloc(), &mut jobs, &waiting);
+}
