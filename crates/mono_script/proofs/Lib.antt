@@ -8,3 +8,4 @@ pub mod KindCountLemmas
 pub mod BadLineLemmas
 pub mod NumberLemmas
 pub mod MainPlaceLemmas
+pub mod FollowLemmas

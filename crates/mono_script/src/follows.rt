@@ -1,7 +1,8 @@
 // Commands whose lines are answered as soon as they were read.
-ghost use Rattle.std.specs.Prelude.{◌≡◌, IfSome, IfNone, map, string_bytes};
+ghost use Rattle.std.specs.Prelude.{◌≡◌, IfSome, IfNone, IfOk, OnErr, map, string_bytes};
 ghost use Rattle.std.specs.Option.{option_map};
 ghost use Rattle.mono_text.specs.ReasonTexts.{told};
+ghost use Rattle.mono_text.specs.declared.followers.FollowEnd.TheVariants as end;
 ghost use Rattle.mono_script.specs.Command.{IsCommand};
 ghost use Rattle.mono_script.specs.Follows.{FollowsAs, status_of_end};
 ghost use Rattle.mono_script.specs.LineWords.{fault_at};
@@ -59,7 +60,9 @@ impl FollowedCommand {
 }
 
 // An end before anything was read.
-fn without_memory(alloc: Global) -> Followed {
+fn without_memory(alloc: Global) -> Followed
+    ensures { result.end ≡ end.OutOfMemory }
+{
     Followed {
         end: FollowEnd::OutOfMemory,
         lines: 0,
@@ -72,12 +75,18 @@ fn followed_of(
     alloc: Global,
     command: Command,
     followed: Result<Followed, AllocError>,
-) -> FollowedCommand {
-    let followed = match followed {
-        Ok(followed) => followed,
-        Err(_) => without_memory(alloc),
-    };
-    FollowedCommand { command, followed }
+) -> FollowedCommand
+    ensures command { result.command ≡ command }
+    ensures some { IfOk followed (λ f. result.followed ≡ f) }
+    ensures none { OnErr followed (result.followed.end ≡ end.OutOfMemory) }
+{
+    match followed {
+        Ok(followed) => FollowedCommand { command, followed },
+        Err(_) => FollowedCommand {
+            command,
+            followed: without_memory(alloc),
+        },
+    }
 }
 
 /// Carries out the command that the words say, and answers each line of the source as soon as it was read. What was written
@@ -93,19 +102,27 @@ pub fn follow_command<S: Source, K: Sink>(
     ensures followed { IfSome result (λ f. FollowsAs f.command f.followed.end f.followed.rest.items (S.left source.old) (S.left source.new) (K.written sink.old) (K.written sink.new)) }
     ensures none { IfNone result ((S.left source.new ≡ S.left source.old) × (K.written sink.new ≡ K.written sink.old)) }
 {
-    let command = read_command(words)?;
-    let followed = match command {
-        Command::Replay(limits, blocking) => {
-            follow_replay(alloc, limits, blocking, source, sink)
-        }
-        Command::Sessions(sessions, entries) => {
-            follow_sessions(alloc, sessions, entries, source, sink)
-        }
-        Command::Limiter(buckets, retries) => {
-            follow_limiter(alloc, buckets, retries, source, sink)
-        }
-        Command::Actors(actors, messages) => follow_actors(alloc, actors, messages, source, sink),
-        Command::Run(_, _) | Command::Load(_, _) | Command::Check(_, _) => return None,
-    };
-    Some(followed_of(alloc, command, followed))
+    match read_command(words)? {
+        Command::Replay(limits, blocking) => Some(followed_of(
+            alloc,
+            Command::Replay(limits, blocking),
+            follow_replay(alloc, limits, blocking, source, sink),
+        )),
+        Command::Sessions(sessions, entries) => Some(followed_of(
+            alloc,
+            Command::Sessions(sessions, entries),
+            follow_sessions(alloc, sessions, entries, source, sink),
+        )),
+        Command::Limiter(buckets, retries) => Some(followed_of(
+            alloc,
+            Command::Limiter(buckets, retries),
+            follow_limiter(alloc, buckets, retries, source, sink),
+        )),
+        Command::Actors(actors, messages) => Some(followed_of(
+            alloc,
+            Command::Actors(actors, messages),
+            follow_actors(alloc, actors, messages, source, sink),
+        )),
+        Command::Run(_, _) | Command::Load(_, _) | Command::Check(_, _) => None,
+    }
 }
