@@ -39,7 +39,7 @@ use std::process::ExitCode;
 use std::sync::ledger::{Blank, Ledger};
 use std::{env, io};
 
-const HELP: &str = "usage: mono_refused CALL CALLS
+const HELP: &str = "usage: test_out_of_memory CALL CALLS
   The call is made so often; where it was refused memory, the object is looked at, and the call is made once more.
   Printed is how often it was refused. CALL is one of push list spawn add fire node key know drain record register make
   open acquire bucket retry hire send tick join try select enter child block sleep interval timeout attempt.

@@ -20,7 +20,7 @@ pub enum ScriptRead {
 /// The script that the input spells, or the number of its first bad line, counted from 1. Where the input ends too early
 /// that is the line that is missing: one more than it has.
 ///
-/// The relations `Spells` and `IsFirstBad` of the crate `mono_scripts` say which line is bad, by what some script may go
+/// The relations `Spells` and `IsFirstBad` of the module `scripts` say which line is bad, by what some script may go
 /// on with; at most one line of an input is the first bad one, and none of an input that spells a script.
 pub fn read_script(alloc: Global, input: &[u8]) -> Result<ScriptRead, AllocError>
     ensures { IfOk result (λ read. IsRead input.now read) }
