@@ -12,7 +12,6 @@ use mono_time::{LateError, SleepError, sleep_for, timeout_for};
 use std::alloc::Global;
 use std::process::Abort;
 use std::time::Duration;
-use use_client::{Server, ask};
 
 /// A job that no test hands out.
 #[derive(Drop)]
@@ -247,25 +246,4 @@ fn the_first_of_two_ends_a_race(rt: HostRuntime) {
         short(),
     );
     assert_eq!(rt; run(&rt, alloc, task), (Ok(1), (2, 1, 1)));
-}
-
-#[test]
-fn a_client_asks_again_until_its_server_replies_in_time(rt: HostRuntime) {
-    let alloc = rt.alloc();
-    let start = Instant::from_nanos(0).expect(&rt, "an instant");
-    // Each attempt takes 1 ms to connect, then 20 ms or as long as the reply takes, and rests 10, 20, 40, 80 ms.
-    for (reply, answer, milliseconds) in [
-        (12, (1, Some(42)), 1 + 12),
-        (30, (2, Some(42)), 1 + 20 + 10 + 1 + 15),
-        (100, (4, Some(42)), 3 * (1 + 20) + 10 + 20 + 40 + 1 + 12),
-        (1000, (5, None), 5 * (1 + 20) + 10 + 20 + 40 + 80),
-    ] {
-        let server = Server { connect: 1, reply };
-        let driver = StepDriver::new(Vec::new(alloc));
-        let (told, journal) = ask::<StepDriver, NoPool<NoJob>, HostRuntime>(
-            &rt, alloc, driver, server, 21, start,
-        ).expect(&rt, "memory");
-        assert_eq!(rt; told, Ok(answer));
-        assert_eq!(rt; told_in(&journal).2, milliseconds);
-    }
 }
