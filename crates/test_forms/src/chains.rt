@@ -206,8 +206,8 @@ fn a_loop_that_never_waits_gives_way(rt: HostRuntime) {
 #[test]
 fn one_turn_takes_both_where_the_first_is_there(rt: HostRuntime) {
     let task = ready(1u64)
-        .then(|x: u64| ready(x + 1))
-        .then(|x: u64| ready(x + 1));
+        .then(|x: u64| ready(x.saturating_add(1)))
+        .then(|x: u64| ready(x.saturating_add(1)));
     assert_eq!(rt; run(&rt, rt.alloc(), task), (Ok(3), (1, 0, 0)));
 }
 
@@ -226,7 +226,9 @@ fn an_error_ends_a_chain(rt: HostRuntime) {
 fn an_error_leads_to_another_future(rt: HostRuntime) {
     let failed: Result<u64, u64> = Err(3);
     let task = ready(failed)
-        .or_else(|e: u64| yield_now().map(move |_: ()| -> Result<u64, u64> { Ok(e + 1) }))
+        .or_else(|e: u64| yield_now().map(move |_: ()| -> Result<u64, u64> {
+            Ok(e.saturating_add(1))
+        }))
         .map(|answer: Result<u64, u64>| answer.unwrap_or(0));
     assert_eq!(rt; run(&rt, rt.alloc(), task), (Ok(4), (2, 0, 0)));
 }
