@@ -1,4 +1,4 @@
--- What a table ends as, where a reference to the value of one number is handed out.
+-- What a table ends as, if a reference to the value of one number is handed out.
 use Rattle.std.specs.Prelude.{ℕ, Option, Some}
 use Rattle.std.specs.Borrow.{Lends, Fml, RattleType, MutBor}
 use Rattle.std.specs.contracts.option.Option.{the_row as option_row}

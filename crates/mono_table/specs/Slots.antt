@@ -1,22 +1,22 @@
--- Values by number that may be lent.
+-- Values by number that may be taken out and put back.
 use Rattle.std.specs.Prelude.{◌≡◌, ℕ, Bool, true, false, List, map, slice_index_or, Option, Some, None}
 use Rattle.mono_model.specs.Table.{Table}
 use Rattle.mono_table.specs.declared.slots.Slot.{Slot}
 use Rattle.mono_table.specs.declared.slots.Slot.TheVariants.{Kept, Lent}
 
--- for each number that was given out its value, or none while it is lent and once it is gone; whether it is lent; and the
--- value that is reserved for the next number
+-- For each number that was given out its value, or none if it is taken out or removed; whether it is taken out; and the
+-- value that is reserved for the next number.
 pub record Seen (V : Type 0) : Type 0 where
   pub items : List (Option V)
   pub lent : List Bool
   pub reserved : Option V
 
 module _ {V : Type 0} where
-  -- the number was given out, and whoever took its value has it
+  -- Whether the number was given out and its value is taken out.
   abbrev pub lent_at : Seen V → ℕ → Bool
   lent_at seen number = slice_index_or seen.lent number false
 
-  -- the same values, and the same numbers lent
+  -- The same values, and the same numbers taken out.
   pub record SameSlots (old new : Seen V) : Type 0 where
     pub items : new.items ≡ old.items
     pub lent : new.lent ≡ old.lent

@@ -9,12 +9,12 @@ use crate::parts::{PART, Part};
 use std::alloc::{AllocError, Global};
 use std::marker::Model;
 
-/// The values of numbers that are given out from 0 on and never twice, as the table of the plain machine.
+/// The values of numbers that are given out from 0 on and never twice, as the table of the reference machine.
 ///
-/// A number is read and written in constant time. The numbers lie in pages of 256, in one piece of memory each, and the pages
-/// in parts of 256. A page is given back once all its numbers were given out and none of them has a value, and so is a part.
-/// So the memory is that of the pages in which something lives, a page that is begun among them, of the heads of the pages
-/// of their parts, 40 bytes each, and 40 bytes for every 65,536 numbers that were given out.
+/// It reads and writes a number in constant time. The numbers lie in pages of 256, each in one piece of memory, and the
+/// pages in parts of 256. It gives a page back once all 256 numbers were given out and none has a value; the same holds
+/// for a part. So its memory is three things: the pages with a value or with the next number, the heads of the pages of
+/// their parts, 40 bytes each, and 40 bytes for every 65,536 numbers that were given out.
 #[derive(Drop)]
 pub struct Table<T> {
     parts: Vec<Part<T>>,
@@ -38,7 +38,7 @@ impl<T> Model for Table<T> {
 impl<T> Table<T> {
     ghost use Rattle.mono_table.specs.Loans.{table_lends};
 
-    /// No number was given out. It takes no memory.
+    /// Creates a table that has given out no number. It takes no memory.
     pub fn new(alloc: Global) -> Table<T>
         ensures { result ≡ [] }
     {
@@ -49,21 +49,21 @@ impl<T> Table<T> {
         }
     }
 
-    /// The number that is given out next: as many were given out before.
+    /// Returns the number that is given out next, which is the count of those given out before.
     pub fn len(&self) -> u64
         ensures { result ≡ next_number self.now }
     {
         self.len as u64
     }
 
-    /// How many numbers have a value.
+    /// Returns how many numbers have a value.
     pub fn count(&self) -> u64
         ensures { result ≡ count_of self.now }
     {
         self.live as u64
     }
 
-    /// The value of a number. None where it is gone or was never given out.
+    /// Returns the value of a number, or `None` if it was removed or was never given out.
     #[inline(always)]
     pub fn get(&self, number: u64) -> Option<&T>
         ensures { option_copied result ≡ value_at self.now number }
@@ -75,7 +75,8 @@ impl<T> Table<T> {
         self.parts[number / PART].get(number % PART)
     }
 
-    /// The value of a number that has one, for writing. The number has what was written last, once the borrow is over.
+    /// Returns the value of a number that has one, for writing. The number has the last value written once the borrow
+    /// is over.
     #[inline(always)]
     pub fn value_mut(&mut self, number: u64) -> &mut T
         requires { is_some (value_at self.old number) ≡ true }
@@ -90,7 +91,7 @@ impl<T> Table<T> {
 impl<T: Drop> Table<T> {
     /// Gives the next number out, with this value. The last number, 2^64 - 1, is never given out.
     ///
-    /// Refused for want of memory alone, and then all is as it was (`refused`).
+    /// Refused only if out of memory; then nothing changes (`refused`).
     #[inline(always)]
     pub fn push(&mut self, alloc: Global, value: T) -> Result<(), AllocError>
         requires { next_number self.old < 2 ^ 64 - 1 }
@@ -103,7 +104,7 @@ impl<T: Drop> Table<T> {
         }
     }
 
-    /// The same, but where it is refused the value comes back (`back`).
+    /// Gives the next number out as `push` does, and returns the value if refused (`back`).
     #[inline(always)]
     pub fn push_or_back(&mut self, alloc: Global, value: T) -> Result<(), T>
         requires { next_number self.old < 2 ^ 64 - 1 }
@@ -125,7 +126,7 @@ impl<T: Drop> Table<T> {
         }
     }
 
-    /// Another value for a number that has one. It takes no memory.
+    /// Replaces the value of a number that has one. It takes no memory.
     pub fn set(&mut self, number: u64, value: T)
         requires { is_some (value_at self.old number) ≡ true }
         ensures { self.new ≡ with_value self.old number value }
@@ -134,8 +135,8 @@ impl<T: Drop> Table<T> {
         self.parts[number / PART].set(number % PART, value);
     }
 
-    /// The value of a number that has one is gone. It takes no memory, and gives back the memory of a page in which nothing
-    /// lives any more and in which no number comes.
+    /// Removes the value of a number that has one. It takes no memory. It gives back the memory of a page without
+    /// values in which no further number is given out.
     #[inline(always)]
     pub fn remove(&mut self, number: u64)
         requires { is_some (value_at self.old number) ≡ true }
@@ -149,7 +150,7 @@ impl<T: Drop> Table<T> {
     }
 }
 
-// The part at this place is there.
+// Makes sure that the part at this index exists.
 #[inline(always)]
 fn open_part<T: Drop>(parts: &mut Vec<Part<T>>, alloc: Global, at: usize) -> Result<(), AllocError>
     requires { at ≤ length parts.old.items }

@@ -1,4 +1,5 @@
-//! Tables by number whose memory follows what lives: a number costs nothing once all that was given out near it is gone.
+//! Tables by number whose memory follows the values that live. A number costs nothing once all numbers near it were
+//! given out and removed.
 #![tactic(auto)]
 
 mod directory;

@@ -1,4 +1,4 @@
-// A page: the places of as many numbers in a row, in one piece of memory.
+// A page: the places of 256 consecutive numbers, in one piece of memory.
 ghost use Rattle.std.specs.Prelude.{◌≡◌, ◌<◌, ◌↔◌, ℕ, true, [], length, IfErr, OnOk, OnErr, is_some, Some, vec_capacity};
 ghost use Rattle.std.specs.Borrow.{sem};
 ghost use Rattle.std.specs.Option.{option_copied};
@@ -12,7 +12,7 @@ use std::marker::Model;
 /// How many numbers a page has.
 pub(crate) const PAGE: usize = 256;
 
-/// The places of the numbers of one page that were given out so far. It takes its memory with the first, all at once.
+/// The places of those numbers of one page that were given out. It takes all its memory at once, with the first number.
 #[derive(Drop)]
 pub(crate) struct Page<T> {
     places: Vec<Option<T>>,
@@ -35,7 +35,7 @@ impl<T> Model for Page<T> {
 impl<T> Page<T> {
     ghost use Rattle.mono_table.specs.Loans.{page_lends};
 
-    /// A page without places, and without memory.
+    /// Creates a page without places and without memory.
     pub(crate) fn new(alloc: Global) -> Page<T>
         ensures { result ≡ [] }
     {
@@ -45,14 +45,14 @@ impl<T> Page<T> {
         }
     }
 
-    /// How many of its numbers have a value.
+    /// Returns how many of its numbers have a value.
     pub(crate) fn count(&self) -> usize
         ensures { result ≡ count_of self.now }
     {
         self.live
     }
 
-    /// The value at a place.
+    /// Returns the value at a place.
     #[inline(always)]
     pub(crate) fn get(&self, at: usize) -> Option<&T>
         ensures { option_copied result ≡ value_at self.now at }
@@ -66,7 +66,7 @@ impl<T> Page<T> {
         }
     }
 
-    /// The value at a place that has one, for writing.
+    /// Returns the value at a place that has one, for writing.
     #[inline(always)]
     pub(crate) fn value_mut(&mut self, at: usize) -> &mut T
         requires { is_some (value_at self.old at) ≡ true }
@@ -77,7 +77,7 @@ impl<T> Page<T> {
     }
 }
 
-// The value at a place that has one, for writing.
+// Returns the value at a place that has one, for writing.
 #[inline(always)]
 fn value_in<T>(place: &mut Option<T>) -> &mut T
     requires { is_some place.old ≡ true }
@@ -91,7 +91,7 @@ fn value_in<T>(place: &mut Option<T>) -> &mut T
 }
 
 impl<T: Drop> Page<T> {
-    /// One more place, with this value, which comes back where it is refused.
+    /// Adds a place with this value, and returns the value if refused.
     #[inline(always)]
     pub(crate) fn push_or_back(&mut self, value: T) -> Result<(), T>
         requires { length self.old < 256 }
@@ -108,7 +108,7 @@ impl<T: Drop> Page<T> {
         Ok(())
     }
 
-    /// Another value at a place that has one.
+    /// Replaces the value at a place that has one.
     pub(crate) fn set(&mut self, at: usize, value: T)
         requires { is_some (value_at self.old at) ≡ true }
         ensures { self.new ≡ with_value self.old at value }
@@ -116,7 +116,7 @@ impl<T: Drop> Page<T> {
         self.places[at] = Some(value);
     }
 
-    /// The value at a place is gone. Where the page is closed and that was its last value, its memory is given back.
+    /// Removes the value at a place. If the page is closed and that was its last value, gives its memory back.
     #[inline(always)]
     pub(crate) fn remove(&mut self, at: usize, is_closed: bool)
         requires { is_some (value_at self.old at) ≡ true }
@@ -130,7 +130,7 @@ impl<T: Drop> Page<T> {
     }
 }
 
-// No place, and no memory.
+// Empties a list of places and gives its memory back.
 fn give_back<T: Drop>(places: &mut Vec<Option<T>>)
     ensures items { places.new.items ≡ [] }
     ensures room { vec_capacity places.new ≡ 0 }

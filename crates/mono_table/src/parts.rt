@@ -1,4 +1,4 @@
-// A part of the directory: the pages of as many numbers in a row.
+// A part of the directory: the pages of 65,536 consecutive numbers.
 ghost use Rattle.std.specs.Prelude.{◌≡◌, ◌<◌, ◌≤◌, ◌+◌, ◌⊎◌, ℕ, true, [], length, IfErr, OnOk, OnErr, is_some, Some, vec_capacity};
 ghost use Rattle.std.specs.Borrow.{sem};
 ghost use Rattle.std.specs.Option.{option_copied};
@@ -12,8 +12,7 @@ use std::marker::Model;
 /// How many numbers a part has.
 pub(crate) const PART: usize = 65536;
 
-/// The pages of the numbers of one part that were given out so far. A page that is closed and in which nothing lives has no
-/// memory.
+/// The pages of those numbers of one part that were given out. A closed page without values has no memory.
 #[derive(Drop)]
 pub(crate) struct Part<T> {
     pages: Vec<Page<T>>,
@@ -37,7 +36,7 @@ impl<T> Model for Part<T> {
 impl<T> Part<T> {
     ghost use Rattle.mono_table.specs.Loans.{part_lends};
 
-    /// A part without numbers, and without memory.
+    /// Creates a part without numbers and without memory.
     pub(crate) fn new(alloc: Global) -> Part<T>
         ensures { result ≡ [] }
     {
@@ -48,14 +47,14 @@ impl<T> Part<T> {
         }
     }
 
-    /// How many of its numbers have a value.
+    /// Returns how many of its numbers have a value.
     pub(crate) fn count(&self) -> usize
         ensures { result ≡ count_of self.now }
     {
         self.live
     }
 
-    /// The value of a number.
+    /// Returns the value of a number.
     #[inline(always)]
     pub(crate) fn get(&self, number: usize) -> Option<&T>
         ensures { option_copied result ≡ value_at self.now number }
@@ -66,7 +65,8 @@ impl<T> Part<T> {
         self.pages[number / PAGE].get(number % PAGE)
     }
 
-    /// The value of a number that has one, for writing. The number has what was written last, once the borrow is over.
+    /// Returns the value of a number that has one, for writing. The number has the last value written once the borrow
+    /// is over.
     #[inline(always)]
     pub(crate) fn value_mut(&mut self, number: usize) -> &mut T
         requires { is_some (value_at self.old number) ≡ true }
@@ -78,7 +78,7 @@ impl<T> Part<T> {
 }
 
 impl<T: Drop> Part<T> {
-    /// One more number, with this value, which comes back where it is refused.
+    /// Adds a number with this value, and returns the value if refused.
     #[inline(always)]
     pub(crate) fn push_or_back(&mut self, alloc: Global, value: T) -> Result<(), T>
         requires { length self.old < 65536 }
@@ -100,7 +100,7 @@ impl<T: Drop> Part<T> {
         }
     }
 
-    /// Another value of a number that has one.
+    /// Replaces the value of a number that has one.
     pub(crate) fn set(&mut self, number: usize, value: T)
         requires { is_some (value_at self.old number) ≡ true }
         ensures { self.new ≡ with_value self.old number value }
@@ -108,7 +108,7 @@ impl<T: Drop> Part<T> {
         self.pages[number / PAGE].set(number % PAGE, value);
     }
 
-    /// The value of a number is gone. Where the part is closed and that was its last value, its memory is given back.
+    /// Removes the value of a number. If the part is closed and that was its last value, gives its memory back.
     #[inline(always)]
     pub(crate) fn remove(&mut self, number: usize, is_closed: bool)
         requires { is_some (value_at self.old number) ≡ true }
@@ -120,7 +120,7 @@ impl<T: Drop> Part<T> {
         }
     }
 
-    // The value of a number is gone.
+    // Removes the value of a number.
     #[inline(always)]
     fn take_out(&mut self, number: usize)
         requires { is_some (value_at self.old number) ≡ true }
@@ -132,7 +132,7 @@ impl<T: Drop> Part<T> {
         self.live -= 1;
     }
 
-    // No number has a value, and none will come.
+    // Removes all pages; no number has a value, and none will be added.
     fn clear(&mut self)
         ensures { self.new ≡ [] }
     {
@@ -142,7 +142,7 @@ impl<T: Drop> Part<T> {
     }
 }
 
-// The page at this place is there.
+// Makes sure that the page at this index exists.
 #[inline(always)]
 fn open_page<T: Drop>(pages: &mut Vec<Page<T>>, alloc: Global, at: usize) -> Result<(), AllocError>
     requires { at ≤ length pages.old.items }
@@ -161,7 +161,7 @@ fn open_page<T: Drop>(pages: &mut Vec<Page<T>>, alloc: Global, at: usize) -> Res
     Ok(())
 }
 
-// No page, and no memory.
+// Empties a list of pages and gives its memory back.
 fn give_back<T: Drop>(pages: &mut Vec<Page<T>>)
     ensures items { pages.new.items ≡ [] }
     ensures room { vec_capacity pages.new ≡ 0 }

@@ -1,4 +1,4 @@
-// A table by number, and a place of it that stands ready for the next number.
+// A table by number with a place that may be ready for the next number.
 ghost use Rattle.std.specs.Prelude.{◌≡◌, ◌++◌, ◌∷◌, true, [], None, IfErr, OnOk, OnErr, is_some, Some};
 ghost use Rattle.std.specs.Option.{option_copied};
 ghost use Rattle.mono_model.specs.Table.{value_at, count_of, next_number, with_next, with_value, without};
@@ -9,14 +9,15 @@ use std::alloc::{AllocError, Global};
 use std::marker::Model;
 use std::mem;
 
-/// The values of numbers that are given out from 0 on and never twice, as the table of the plain machine, and perhaps a
-/// place for the next number, in which a value stands already. `reserve_value` makes it with the value that is to be given out, and
-/// `commit` gives that out; `reserve` makes it with any, and `add` gives out another.
+/// The values of numbers that are given out from 0 on and never twice, as the table of the reference machine. A place
+/// for the next number may be ready, with a value in it. `reserve_value` makes that place with the value to be given
+/// out, and `commit` gives it out. `reserve` makes it with any value, and `add` gives out another.
 ///
-/// It costs what its table costs (`mono_table`): a page in which nothing lives and in which no number comes goes back.
+/// It costs as much as its table (`mono_table`): it gives back a page without values in which no further number is
+/// given out.
 #[derive(Drop)]
 pub struct ReadyTable<T> {
-    // The places of the numbers that were given out, and after them that of the next one, where it stands ready.
+    // The places of the numbers that were given out, then that of the next number, if it is ready.
     places: Table<T>,
     next: u64,
 }
@@ -34,7 +35,7 @@ impl<T> Model for ReadyTable<T> {
 }
 
 impl<T> ReadyTable<T> {
-    /// No number was given out, and no place is ready. It takes no memory.
+    /// Creates a table that has given out no number and has no place ready. It takes no memory.
     pub fn new(alloc: Global) -> ReadyTable<T>
         ensures { result ≡ record { table = []; room = 0; reserved = None } }
     {
@@ -44,21 +45,21 @@ impl<T> ReadyTable<T> {
         }
     }
 
-    /// The number that is given out next: as many were given out before.
+    /// Returns the number that is given out next, which is the count of those given out before.
     pub fn len(&self) -> u64
         ensures { result ≡ next_number self.now.table }
     {
         self.next
     }
 
-    /// How many numbers have a value.
+    /// Returns how many numbers have a value.
     pub fn count(&self) -> u64
         ensures { result ≡ count_of self.now.table }
     {
         self.places.count() - (self.places.len() - self.next)
     }
 
-    /// Whether a number has a value. It has none where it is gone or was never given out.
+    /// Returns whether a number has a value. It has none if it was removed or was never given out.
     #[inline(always)]
     pub fn has(&self, number: u64) -> bool
         ensures { result ≡ is_some (value_at self.now.table number) }
@@ -66,7 +67,7 @@ impl<T> ReadyTable<T> {
         number < self.next && self.places.get(number).is_some()
     }
 
-    /// Returns the value of a number. None if it was removed or was never given out.
+    /// Returns the value of a number, or `None` if it was removed or was never given out.
     #[inline(always)]
     pub fn get(&self, number: u64) -> Option<&T>
         ensures { option_copied result ≡ value_at self.now.table number }
@@ -79,9 +80,10 @@ impl<T> ReadyTable<T> {
 }
 
 impl<T: Drop> ReadyTable<T> {
-    /// A place for the next number, in which this value stands from now on, also where one stood ready. `commit` gives it out.
+    /// Reserves a place for the next number and puts this value into it, also if a place was ready. `commit` gives it
+    /// out.
     ///
-    /// Refused for want of memory, or where the numbers are used up: 2^64 - 1 is never given out. All is as it was then, and
+    /// Refused if out of memory, or if the numbers are used up: 2^64 - 1 is never given out. Then nothing changes, and
     /// the value comes back.
     #[inline(always)]
     pub fn reserve_value(&mut self, alloc: Global, value: T) -> Result<(), T>
@@ -101,7 +103,7 @@ impl<T: Drop> ReadyTable<T> {
         self.places.push_or_back(alloc, value)
     }
 
-    /// Gives the next number out, with the value that stands in its place. It takes no memory.
+    /// Gives the next number out, with the value in its place. It takes no memory.
     #[inline(always)]
     pub fn commit(&mut self) -> u64
         requires { is_some self.old.reserved ≡ true }
@@ -113,7 +115,7 @@ impl<T: Drop> ReadyTable<T> {
         number
     }
 
-    /// Takes back the value that stands in the place of the next number, and leaves another there. It takes no memory.
+    /// Takes back the value in the place of the next number, and leaves another there. It takes no memory.
     #[inline(always)]
     pub fn abort(&mut self, filler: T) -> T
         requires { is_some self.old.reserved ≡ true }
@@ -124,9 +126,9 @@ impl<T: Drop> ReadyTable<T> {
         mem::replace(self.places.value_mut(self.next), filler)
     }
 
-    /// A place for the next number, in which this value stands until then.
+    /// Reserves a place for the next number, which holds this value until then.
     ///
-    /// Refused for want of memory, or where the numbers are used up: 2^64 - 1 is never given out. All is as it was then.
+    /// Refused if out of memory, or if the numbers are used up: 2^64 - 1 is never given out. Then nothing changes.
     #[inline(always)]
     pub fn reserve(&mut self, alloc: Global, filler: T) -> Result<(), AllocError>
         ensures place { OnOk result (HasPlace self.new) }
@@ -139,7 +141,7 @@ impl<T: Drop> ReadyTable<T> {
         }
     }
 
-    /// Gives the next number out, with this value, where its place stands ready. It takes no memory.
+    /// Gives the next number out with this value, if its place is ready. It takes no memory.
     #[inline(always)]
     pub fn add(&mut self, value: T) -> u64
         requires { HasPlace self.old }
@@ -150,7 +152,7 @@ impl<T: Drop> ReadyTable<T> {
         self.commit()
     }
 
-    /// Another value for a number that has one, which comes back. It takes no memory.
+    /// Replaces the value of a number that has one, and returns the old value. It takes no memory.
     #[inline(always)]
     pub fn replace(&mut self, number: u64, value: T) -> T
         requires { is_some (value_at self.old.table number) ≡ true }
@@ -160,8 +162,8 @@ impl<T: Drop> ReadyTable<T> {
         mem::replace(self.places.value_mut(number), value)
     }
 
-    /// The value of a number that has one is gone. It takes no memory, and gives back the memory of a page in which nothing
-    /// lives any more and in which no number comes.
+    /// Removes the value of a number that has one. It takes no memory. It gives back the memory of a page without
+    /// values in which no further number is given out.
     #[inline(always)]
     pub fn remove(&mut self, number: u64)
         requires { is_some (value_at self.old.table number) ≡ true }

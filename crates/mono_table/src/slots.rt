@@ -1,4 +1,4 @@
-// Values by number that may be lent.
+// Values by number that may be taken out and put back.
 ghost use Rattle.std.specs.Prelude.{◌≡◌, ◌++◌, ◌∷◌, [], true, false, None, Some, OnOk, OnErr, IfErr, IfSome, is_some, slice_set, ℕ};
 ghost use Rattle.mono_model.specs.Table.{value_at};
 ghost use Rattle.mono_table.specs.Slots.{lent_at, SameSlots};
@@ -7,26 +7,28 @@ use crate::ReadyTable;
 use std::alloc::Global;
 use std::marker::Model;
 
-/// What stands in a place that is not gone.
+/// The content of a place that was not removed.
 #[derive(Drop)]
 pub enum Slot<T, W> {
-    /// A value, and what its holder put beside it.
+    /// A value, and the note that its holder left with it.
     Kept(T, Option<W>),
-    /// Its value is with whoever took it. So the place of the next number stands, too, once what was reserved was taken back.
+    /// A place without its value, which a caller took out. The place of the next number is also in this state after
+    /// `abort`.
     Lent,
 }
 
-/// Values by numbers that are given out from 0 on and never twice. A value is taken for a while (`take`), and then either
-/// comes back (`put`) or does not, and its place is gone (`remove`).
+/// Values by numbers that are given out from 0 on and never twice. A caller takes a value out (`take`), and then either
+/// puts it back (`put`) or removes its place (`remove`).
 ///
-/// A value stands in the place of the next number before that is given out: it is reserved (`reserve_value`), and then accepted
-/// (`commit`) or taken back (`abort`).
+/// The place of the next number has a value before that number is given out: it is reserved (`reserve_value`), and then
+/// given out (`commit`) or taken back (`abort`).
 ///
-/// Its view tells for each number the value that is there, or none while it is lent and once it is gone (`items`); whether it
-/// is lent (`lent`); and the value that is reserved for the next number (`reserved`). What stands beside a value is not told.
+/// The view has three fields. `items` lists for each number its value, or none if it is taken out or removed. `lent`
+/// says which numbers are taken out. `reserved` is the value that is reserved for the next number. The view does not
+/// show the note that is kept with a value.
 ///
-/// It costs what its table costs (`mono_table`): a page goes back once all its numbers were given out and all their places
-/// are gone.
+/// It costs as much as its table (`mono_table`): it gives a page back once all its numbers were given out and all its
+/// places were removed.
 #[derive(Drop)]
 pub struct Slots<T, W> {
     places: ReadyTable<Slot<T, W>>,
@@ -41,7 +43,7 @@ impl<T, W> Model for Slots<T, W> {
 }
 
 impl<T: Drop, W: Drop> Slots<T, W> {
-    /// No number was given out. It takes no memory.
+    /// Creates slots that have given out no number. It takes no memory.
     pub fn new(alloc: Global) -> Slots<T, W>
         ensures { result ≡ record { items = []; lent = []; reserved = None } }
     {
@@ -50,10 +52,9 @@ impl<T: Drop, W: Drop> Slots<T, W> {
         }
     }
 
-    /// A place for the next number, in which this value stands from now on, with nothing beside it, also where one stood
-    /// ready.
+    /// Reserves a place for the next number and puts this value into it, without a note, also if a place was ready.
     ///
-    /// Refused for want of memory, or where the numbers are used up. All is as it was then, and the value comes back.
+    /// Refused if out of memory, or if the numbers are used up. Then nothing changes, and the value comes back.
     #[inline(always)]
     pub fn reserve_value(&mut self, alloc: Global, value: T) -> Result<(), T>
         ensures reserved { OnOk result (self.new.reserved ≡ Some value) }
@@ -68,7 +69,7 @@ impl<T: Drop, W: Drop> Slots<T, W> {
         }
     }
 
-    /// Gives the next number out, with the value that is reserved. It takes no memory.
+    /// Gives the next number out, with the reserved value. It takes no memory.
     #[inline(always)]
     pub fn commit(&mut self)
         requires { is_some self.old.reserved ≡ true }
@@ -78,7 +79,7 @@ impl<T: Drop, W: Drop> Slots<T, W> {
         self.places.commit();
     }
 
-    /// Takes back the value that is reserved. Its place stays ready. It takes no memory.
+    /// Takes back the reserved value. Its place stays ready. It takes no memory.
     #[inline(always)]
     pub fn abort(&mut self) -> T
         requires { is_some self.old.reserved ≡ true }
@@ -92,7 +93,8 @@ impl<T: Drop, W: Drop> Slots<T, W> {
         }
     }
 
-    /// Takes the value of a number, with what stands beside it. The number is lent from now on, where it had a value.
+    /// Takes out the value of a number, with the note that is kept with it. The number is lent from now on, if it had a
+    /// value.
     #[inline(always)]
     pub fn take(&mut self, number: u64) -> (Option<T>, Option<W>)
         ensures value { result.0 ≡ value_at self.old.items number }
@@ -108,7 +110,7 @@ impl<T: Drop, W: Drop> Slots<T, W> {
         }
     }
 
-    /// A value comes back to a number that is lent, with what is to stand beside it. It takes no memory.
+    /// Puts a value back at a number that is lent, with a note to keep with it. It takes no memory.
     #[inline(always)]
     pub fn put(&mut self, number: u64, value: T, beside: Option<W>)
         requires { lent_at self.old number ≡ true }
@@ -118,8 +120,8 @@ impl<T: Drop, W: Drop> Slots<T, W> {
         drop(self.places.replace(number, Slot::Kept(value, beside)));
     }
 
-    /// A number that is lent is gone. It takes no memory, and gives back the memory of a page in which nothing is left and in
-    /// which no number comes.
+    /// Removes a number that is lent. It takes no memory. It gives back the memory of a page without values in which no
+    /// further number is given out.
     #[inline(always)]
     pub fn remove(&mut self, number: u64)
         requires { lent_at self.old number ≡ true }
