@@ -1,4 +1,4 @@
--- What one place of the table stands for, and what each call makes of it.
+-- The task at one place of the table, and what each call makes of the place.
 use Rattle.std.specs.Prelude.{ℕ, Bool, true, false, Option, Some, None}
 use Rattle.mono_model.specs.Tasks as model
 use Rattle.mono_task.specs.declared.entries.Handle.{Handle}
@@ -20,7 +20,7 @@ waiter_of (handle.Awaited by) = Some by
 abbrev pub in_hand : {O : Type 0} → model.Phase O → Handle → model.Task O
 in_hand phase handle = record { phase = phase; is_kept = is_kept handle; waiter = waiter_of handle }
 
--- the task that stands here
+-- The task at this place, if any.
 abbrev pub task_of : {O : Type 0} → Entry O → Option (model.Task O)
 task_of Gone = None
 task_of Taken = Some (record { phase = model.taken; is_kept = true; waiter = None })
@@ -30,7 +30,7 @@ task_of (Queued h) = Some (in_hand model.queued h)
 task_of (Running h) = Some (in_hand (model.running false) h)
 task_of (Noted h) = Some (in_hand (model.running true) h)
 
--- the handle of a task that has not finished
+-- The handle of a task that has not finished.
 abbrev pub handle_of : {O : Type 0} → Entry O → Option Handle
 handle_of Gone = None
 handle_of Taken = None
@@ -76,7 +76,7 @@ paused_entry (Queued h) = Queued h
 paused_entry (Running h) = Idle h
 paused_entry (Noted h) = Queued h
 
--- the task goes into the queue again
+-- Whether the task goes into the queue again after its turn.
 abbrev pub is_noted : {O : Type 0} → Entry O → Bool
 is_noted Gone = false
 is_noted Taken = false
@@ -100,7 +100,7 @@ completed_entry (Queued h) output = finished_entry h output
 completed_entry (Running h) output = finished_entry h output
 completed_entry (Noted h) output = finished_entry h output
 
--- the task has finished, and its handle is kept
+-- Whether the task has finished and its handle is kept.
 abbrev pub is_over : {O : Type 0} → Entry O → Bool
 is_over Gone = false
 is_over Taken = true
@@ -151,7 +151,7 @@ is_running (Queued h) = false
 is_running (Running h) = true
 is_running (Noted h) = true
 
--- the task has not finished
+-- Whether the task has not finished.
 abbrev pub is_unfinished : {O : Type 0} → Entry O → Bool
 is_unfinished Gone = false
 is_unfinished Taken = false

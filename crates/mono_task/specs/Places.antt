@@ -1,10 +1,10 @@
--- What stands at the number of a task, and how one place of the table has it in memory.
+-- The content of one place of the table of tasks.
 use Rattle.mono_task.specs.declared.entries.Handle.{Handle}
 use Rattle.mono_task.specs.declared.entries.Handle.TheVariants.{Dropped, Kept, Awaited}
 use Rattle.mono_task.specs.declared.entries.State.{State}
 use Rattle.mono_task.specs.declared.entries.State.TheVariants as state
 
--- a task that has not finished, with its handle; one that has finished stands only while its handle is kept
+-- An unfinished task with its handle, or a finished task whose handle is kept, or nothing.
 pub data Entry (O : Type 0) : Type 0 where
   Gone : Entry O
   Taken : Entry O

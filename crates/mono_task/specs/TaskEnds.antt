@@ -6,11 +6,11 @@ use Rattle.mono_task.specs.declared.entries.Handle.{Handle}
 use Rattle.mono_task.specs.Entries.{is_kept, waiter_of}
 use Rattle.mono_task.specs.Schedule.{Schedule}
 
--- the task is done where its handle is kept, and else it is gone
+-- The tasks after t has finished: it is done if its handle is kept, else removed.
 abbrev pub finished : {O : Type 0} → Tasks O → ℕ → Handle → O → Tasks O
 finished tasks t handle output = if is_kept handle then with_task tasks t (record { phase = done output; is_kept = true; waiter = None }) else without_task tasks t
 
--- the task whose turn ran has finished, and this was its handle
+-- The task whose turn ran has finished, and this was its handle.
 pub record Finishes {O : Type 0} (old new : Schedule O) (output : O) (handle : Handle) : Type 0 where
   pub t : ℕ
   pub task : Task O

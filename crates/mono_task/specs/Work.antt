@@ -1,4 +1,4 @@
--- Tasks with their outputs forgotten, which is what every context can tell.
+-- Tasks without their outputs, which every context can expose.
 use Rattle.std.specs.Prelude.{⊤, ◌≡◌, ℕ, Bool, true, false, if◌then◌else◌, Option, Some, None, Result, Ok, Err, map}
 use Rattle.std.specs.Option.{option_map}
 use Rattle.mono_model.specs.Table.{value_at, is_issued}
@@ -20,7 +20,7 @@ task_without task = record { phase = phase_without task.phase; is_kept = task.is
 abbrev pub without_outputs : {O : Type 0} → Tasks O → Tasks ⊤
 without_outputs tasks = record { queue = tasks.queue; table = map (option_map task_without) tasks.table; limit = tasks.limit }
 
--- the task has finished, and its output was not taken
+-- Whether the task has finished and its output was not taken.
 abbrev pub is_done : {O : Type 0} → Phase O → Bool
 is_done idle = false
 is_done queued = false
@@ -32,11 +32,12 @@ abbrev pub has_output : {O : Type 0} → Option (Task O) → Bool
 has_output None = false
 has_output (Some task) = is_done task.phase
 
--- the drop of its handle gives an output
+-- Whether dropping the task's handle returns an output.
 abbrev pub GivesOutput : {O : Type 0} → Tasks O → ℕ → Type 0
 GivesOutput {O} tasks t = (output : O) × (drop_answer tasks t ≡ Ok (Some output))
 
--- A task that was given out has finished, whether its handle is kept or dropped. One that is not there has finished.
+-- Whether a task that was given out has finished, with its handle kept or dropped. A task that is not there has
+-- finished.
 abbrev pub has_finished : {O : Type 0} → Option (Task O) → Bool
 has_finished None = true
 has_finished (Some task) = is_finished task.phase

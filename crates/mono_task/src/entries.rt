@@ -10,7 +10,7 @@ use mono_model::{Poll, TaskError};
 use std::marker::Model;
 use std::mem;
 
-/// Whether the handle of a task is kept, and which task waits for the output.
+/// The state of a task's handle: dropped, kept, or awaited by a task that waits for the output.
 #[derive(Clone, Copy, Drop)]
 pub enum Handle {
     Dropped,
@@ -18,8 +18,8 @@ pub enum Handle {
     Awaited(u64),
 }
 
-// The states of a place: those of a task that has not finished once for each state of its handle, so that a place is one
-// word and a tag.
+// The states of a place. An unfinished task has a state for each state of its handle, so that a place is one word and a
+// tag.
 #[derive(Drop)]
 enum State<O> {
     Gone,
@@ -39,7 +39,7 @@ enum State<O> {
     NotedAwaited(u64),
 }
 
-/// The place of a number that was given out. A task that has finished is here only while its handle is kept.
+/// The place of a number that was given out. It holds a finished task only while its handle is kept.
 #[derive(Drop)]
 pub struct Place<O> {
     state: State<O>,
@@ -53,7 +53,7 @@ impl<O> Model for Place<O> {
     ghost view = { λ a. entry_in a.state };
 }
 
-/// What a wake of a task asks for: that the task goes into the queue, or nothing.
+/// The answer to a wake of a task: whether it joins the queue, is noted, or stays as it is.
 #[derive(Clone, Copy, Drop)]
 pub enum Waking {
     Queues,
@@ -62,7 +62,7 @@ pub enum Waking {
 }
 
 impl<O: Drop> Place<O> {
-    /// The place of a task that is queued, with a handle that is kept.
+    /// Creates the place of a queued task with a kept handle.
     pub fn new() -> Place<O>
         ensures { result ≡ Queued Kept }
     {
@@ -71,7 +71,7 @@ impl<O: Drop> Place<O> {
         }
     }
 
-    /// A wake.
+    /// Wakes the task.
     pub fn wake(&mut self) -> Waking
         ensures entry { self.new ≡ woken_entry self.old }
         ensures waking { result ≡ waking_of self.old }
@@ -106,7 +106,7 @@ impl<O: Drop> Place<O> {
         }
     }
 
-    /// A turn of the task begins.
+    /// Begins a turn of the task.
     pub fn begin(&mut self)
         ensures { self.new ≡ begun_entry self.old }
     {
@@ -118,7 +118,7 @@ impl<O: Drop> Place<O> {
         }
     }
 
-    /// The turn of the task ends pending. True for a task that was woken meanwhile, which goes into the queue again.
+    /// Ends the task's turn as pending. Returns true if the task was woken meanwhile and so goes into the queue again.
     pub fn pause(&mut self) -> bool
         ensures entry { self.new ≡ paused_entry self.old }
         ensures noted { result ≡ is_noted self.old }
@@ -152,7 +152,7 @@ impl<O: Drop> Place<O> {
         }
     }
 
-    /// The task finishes with this output, which is kept for a handle that is kept. Gives the handle back.
+    /// Finishes the task with this output, which is kept if the handle is kept. Returns the handle.
     pub fn complete(&mut self, output: O) -> Option<Handle>
         ensures entry { self.new ≡ completed_entry self.old output }
         ensures handle { result ≡ handle_of self.old }
@@ -180,7 +180,7 @@ impl<O: Drop> Place<O> {
         }
     }
 
-    /// Whether the task has finished and its handle is kept.
+    /// Returns whether the task has finished and its handle is kept.
     pub fn is_over(&self) -> bool
         ensures { result ≡ is_over self.now }
     {
@@ -190,7 +190,7 @@ impl<O: Drop> Place<O> {
         }
     }
 
-    /// Whether the task has finished and its output was not taken.
+    /// Returns whether the task has finished and its output was not taken.
     pub fn has_output(&self) -> bool
         ensures { result ≡ has_output (task_of self.now) }
     {
@@ -200,7 +200,7 @@ impl<O: Drop> Place<O> {
         }
     }
 
-    /// Whether the task has finished, whatever its handle.
+    /// Returns whether the task has finished, whatever its handle.
     pub fn has_finished(&self) -> bool
         ensures { result ≡ has_finished (task_of self.now) }
     {
@@ -210,7 +210,7 @@ impl<O: Drop> Place<O> {
         }
     }
 
-    /// A poll of the handle by another task, which then waits for the output in the place of any other.
+    /// Polls the handle for another task, which then waits for the output instead of any earlier one.
     pub fn join(&mut self, by: u64) -> Result<Poll<O>, TaskError>
         ensures entry { self.new ≡ joined_entry self.old by }
         ensures answer { result ≡ join_value (kept_value (task_of self.old)) }
@@ -238,7 +238,7 @@ impl<O: Drop> Place<O> {
         }
     }
 
-    // The output is taken.
+    // Takes the output.
     fn take(&mut self) -> Result<Poll<O>, TaskError>
         requires { is_over self.old ≡ true }
         ensures entry { self.new ≡ Taken }
@@ -250,7 +250,7 @@ impl<O: Drop> Place<O> {
         }
     }
 
-    /// The handle is dropped, and an output that nobody took comes back.
+    /// Drops the handle, and returns the output if it was not taken.
     pub fn drop_join(&mut self) -> Result<Option<O>, TaskError>
         ensures entry { self.new ≡ dropped_entry self.old }
         ensures answer { result ≡ drop_value (kept_value (task_of self.old)) }
@@ -277,7 +277,7 @@ impl<O: Drop> Place<O> {
         }
     }
 
-    // A task that has finished is gone.
+    // Removes a finished task.
     fn end(&mut self) -> Option<O>
         requires { is_over self.old ≡ true }
         ensures entry { self.new ≡ Gone }
@@ -289,7 +289,7 @@ impl<O: Drop> Place<O> {
         }
     }
 
-    /// Whether the task has finished, for its handle.
+    /// Returns whether the task has finished, for its handle.
     pub fn is_finished(&self) -> Result<bool, TaskError>
         ensures { result ≡ finished_value (kept_value (task_of self.now)) }
     {

@@ -7,37 +7,37 @@ use crate::context::Context;
 use mono_model::{Host, Poll};
 use std::alloc::Global;
 
-/// A computation that runs in turns on a context and answers a value in the end.
+/// A computation that runs in turns on a context and returns a value at its end.
 ///
-/// A future tells what one poll may answer and leave (`polls`), what giving it up may leave (`cancels`) and what it may
-/// answer in the end (`gives`). Whatever it is, poll and cancel promise that the context is reached from the one before
-/// (`reached`).
+/// A future specifies what one poll may answer and leave (`polls`), what `cancel` may leave (`cancels`), and what it
+/// may answer in the end (`gives`). For every future, poll and cancel promise that they reach the context afterwards
+/// from the one before (`reached`).
 pub trait TaskFuture<C: Context>: Drop {
-    /// The value that the future answers in the end.
+    /// The value that the future returns at its end.
     type Output;
 
-    // it has answered for good, and may not be polled
+    // Whether the future has answered for good and may not be polled.
     ghost is_spent: { Self → Bool };
 
-    // what its closures require of a poll; true of every future that holds none
+    // What the future's closures require of a poll; true if it holds none.
     ghost can_poll: { Self → Type 0 } = { λ _. ⊤ };
 
-    // what one poll may answer, and the future and the context that it may leave
+    // What one poll may answer, and the future and the context that it may leave.
     ghost polls: { Self → C → Poll Self.Output → Self → C → Type 0 };
 
-    // what the future may answer in the end; anything where a future does not say
+    // What the future may answer in the end; anything, if the future does not say.
     ghost gives: { Self → Self.Output → Type 0 } = { λ _ _. ⊤ };
 
-    // the context that giving the future up may leave
+    // The context that `cancel` may leave.
     ghost cancels: { Self → C → C → Type 0 };
 
-    /// Whether the future has answered for good.
+    /// Returns whether the future has answered for good.
     fn spent(&self) -> bool
         ensures { result ≡ is_spent self.now };
 
-    /// Goes on with the computation in the running task's turn. A future that answers `Pending` may be polled again.
+    /// Continues the computation in the running task's turn. A future that returned `Pending` may be polled again.
     ///
-    /// A poll has no answer of its own for want of memory: the context notes that one of its calls was refused memory.
+    /// A poll has no answer of its own for out of memory: the context records that an allocation failed.
     fn poll<R: Host>(&mut self, rt: &R, alloc: Global, cx: &mut C) -> Poll<Self::Output>
         requires unspent { is_spent self.old ≡ false }
         requires callable { can_poll self.old }
@@ -48,7 +48,7 @@ pub trait TaskFuture<C: Context>: Drop {
         ensures callable { can_poll self.new }
         ensures reached { C.reaches cx.old cx.new };
 
-    /// Gives the future up, with what it holds in the context: sleeps and join handles.
+    /// Gives up the future and its sleeps and join handles in the context.
     fn cancel(self, cx: &mut C)
         ensures cancelled { cancels self cx.old cx.new }
         ensures reached { C.reaches cx.old cx.new };

@@ -1,4 +1,4 @@
-//! Tasks and the queue of those that run next, the context that a running task sees, futures, and join handles.
+//! Tasks and their run queue, the context that a running task sees, futures, and join handles.
 #![tactic(auto)]
 
 mod context;

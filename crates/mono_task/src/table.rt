@@ -1,4 +1,4 @@
-// The table of tasks, and the queue of those that run next.
+// The table of tasks, and their run queue.
 ghost use Rattle.std.specs.Prelude.{◌≡◌, ◌<◌, ◌≤◌, ◌↔◌, true, length, IfOk, OnOk, OnErr, None, Err, is_some, ◌-◌, ◌^◌};
 ghost use Rattle.std.specs.VecDeque.{deque_len, deque_capacity};
 ghost use Rattle.mono_model.specs.Table.{value_at, next_number, with_next, is_full};
@@ -20,20 +20,20 @@ use std::alloc::{AllocError, Global};
 use std::collections::VecDeque;
 use std::marker::Model;
 
-/// The room that is made for the first task.
+/// The room that the queue gets with the first task.
 const LEAST_ROOM: usize = 4;
 
-/// The tasks of an executor, by their numbers, and the queue of those that run next.
+/// The tasks of an executor, by their numbers, and their run queue.
 ///
-/// Numbers count from 0 and are never given twice. A task is live while it has not finished or its handle is kept; of one
-/// that is neither, nothing is left.
+/// Numbers count from 0 and are never given twice. A task is live while it has not finished or its handle is kept. The
+/// table keeps nothing of a task that is not live.
 #[derive(Drop)]
 pub struct Tasks<O> {
     // The numbers of the queued tasks, the front first, with room for each task that has not finished.
     queue: VecDeque<u64>,
-    // At each number that was given out, its task, or nothing once it is gone.
+    // The task at each number that was given out, or nothing once it was removed.
     entries: Table<Place<O>>,
-    // How many tasks have not finished.
+    // The number of tasks that have not finished.
     unfinished: usize,
     limit: u64,
     turns: u64,
@@ -55,7 +55,7 @@ impl<O> Model for Tasks<O> {
 }
 
 impl<O> Tasks<O> {
-    /// No task, with room for so many live ones at once.
+    /// Creates a table without tasks, for at most `limit` live ones.
     pub fn new(alloc: Global, limit: u64) -> Result<Tasks<O>, AllocError>
         ensures { IfOk result (λ tasks. tasks ≡ no_schedule limit) }
     {
@@ -69,14 +69,14 @@ impl<O> Tasks<O> {
         })
     }
 
-    /// How many tasks are queued.
+    /// Returns how many tasks are queued.
     pub fn queue_len(&self) -> usize
         ensures { result ≡ length self.now.tasks.queue }
     {
         self.queue.len()
     }
 
-    /// How many turns have begun. It stands still at 2^64 - 1.
+    /// Returns how many turns have begun. The count stays at 2^64 - 1 once it is reached.
     pub fn turns(&self) -> u64
         ensures { result ≡ self.now.turns }
     {
@@ -84,8 +84,8 @@ impl<O> Tasks<O> {
     }
 }
 
-// Makes the queue's room more than so many tasks, of which the queued ones are some. What is too little at least
-// doubles, so that a task costs the same however many there are.
+// Grows the queue's room above the count `tasks`, which includes the queued ones. If it is too small, it at least
+// doubles, so that the cost of a task does not depend on their number.
 #[inline(always)]
 fn make_room(queue: &mut VecDeque<u64>, tasks: usize) -> Result<(), AllocError>
     requires { deque_len queue.old ≤ tasks }
@@ -102,7 +102,7 @@ fn make_room(queue: &mut VecDeque<u64>, tasks: usize) -> Result<(), AllocError>
     queue.reserve(more)
 }
 
-// Makes room in the queue for one more than so many tasks, and gives the next number out, whose task is queued.
+// Makes room in the queue for one more than `tasks` tasks, and gives out the next number, whose task is queued.
 #[inline(always)]
 fn enter<O: Drop>(
     alloc: Global,
@@ -123,10 +123,10 @@ fn enter<O: Drop>(
 }
 
 impl<O: Drop> Tasks<O> {
-    /// A new task, with the next number. It is queued last, and its handle is kept.
+    /// Adds a task with the next number. The task goes to the queue's back, and its handle is kept.
     ///
-    /// Refused with `AtCapacity` exactly where the live tasks are at the limit or the next number is 2^64 - 1 (`full`),
-    /// and else with `Memory` where there was none. A refusal leaves all as it was (`refused`).
+    /// Refused with `AtCapacity` if and only if the number of live tasks is at the limit or the next number is 2^64 - 1
+    /// (`full`); otherwise with `Memory` if an allocation failed. A refusal changes nothing (`refused`).
     #[inline(always)]
     pub fn spawn(&mut self, alloc: Global) -> Result<u64, SpawnTask>
         ensures full { (result ≡ Err AtCapacity) ↔ (is_full self.old.tasks.table self.old.tasks.limit ≡ true) }
@@ -148,10 +148,10 @@ impl<O: Drop> Tasks<O> {
         }
     }
 
-    /// Wakes a task: an idle one goes to the queue's back (`Queued`), a running one runs again after its turn (`Noted`),
-    /// and any other stays as it is (`Nothing`).
+    /// Wakes a task. An idle task goes to the queue's back (`Queued`), a running task runs again after its turn
+    /// (`Noted`), and any other stays as it is (`Nothing`).
     ///
-    /// Refused with `NoTask` exactly where the number was never given out.
+    /// Refused with `NoTask` if and only if the number was never given out.
     pub fn wake(&mut self, task: u64) -> Result<Woke, TaskError>
         ensures answer { result ≡ wake_answer self.old.tasks task }
         ensures after { self.new ≡ with_tasks self.old (woken self.old.tasks task) }
@@ -173,9 +173,9 @@ impl<O: Drop> Tasks<O> {
         }
     }
 
-    /// Begins the turn of the queue's front, which is running from then on. No turn may run already.
+    /// Begins the turn of the task at the queue's front, which is running from then on. No turn may be running.
     ///
-    /// Refused with `Idle` exactly where the queue is empty. `turns` counts the turns that begin.
+    /// Refused with `Idle` if and only if the queue is empty. `turns` counts the turns that begin.
     #[inline(always)]
     pub fn begin_turn(&mut self) -> Result<u64, TaskError>
         requires { self.old.turn ≡ None }
@@ -192,11 +192,11 @@ impl<O: Drop> Tasks<O> {
         Ok(task)
     }
 
-    /// Ends the turn that runs. One has to run.
+    /// Ends the running turn. A turn must be running.
     ///
-    /// Pending: a task that was woken during its turn goes to the queue's back (`Again`), and any other is idle (`Idle`).
-    /// Ready: where the handle is kept the output is kept for it, and then the task that waits for it is woken (`Done`);
-    /// else the task is gone (`Gone`).
+    /// If it ends pending, a task that was woken during its turn goes to the queue's back (`Again`), and any other is
+    /// idle (`Idle`). If it ends ready and the handle is kept, keeps the output, then wakes the task that waits for it
+    /// (`Done`). If it ends ready without a handle, removes the task (`Gone`).
     #[inline(always)]
     pub fn end_turn(&mut self, end: Poll<O>) -> Ended
         requires { is_some self.old.turn ≡ true }
@@ -209,7 +209,7 @@ impl<O: Drop> Tasks<O> {
         }
     }
 
-    // The turn that runs ends pending.
+    // Ends the running turn as pending.
     fn pause(&mut self) -> Ended
         requires { is_some self.old.turn ≡ true }
         ensures answer { result ≡ end_answer self.old Pending }
@@ -227,7 +227,7 @@ impl<O: Drop> Tasks<O> {
         Ended::Idle
     }
 
-    // The turn that runs ends with an output.
+    // Ends the running turn with an output.
     fn complete(&mut self, output: O) -> Ended
         requires { is_some self.old.turn ≡ true }
         ensures answer { result ≡ end_answer self.old (Ready output) }
@@ -243,7 +243,7 @@ impl<O: Drop> Tasks<O> {
         }
     }
 
-    // The task whose turn runs is done, or gone where its handle is dropped. Its handle is given back.
+    // Finishes the task whose turn runs, or removes it if its handle is dropped. Returns its handle.
     fn finish(&mut self, output: O) -> Handle
         requires { is_some self.old.turn ≡ true }
         ensures { Finishes self.old self.new output result }
@@ -268,10 +268,10 @@ impl<O: Drop> Tasks<O> {
         }
     }
 
-    /// Polls for the output of a task, on behalf of the task `by`, which waits for it where there is none yet.
+    /// Polls for the output of a task on behalf of the task `by`, which waits for it if there is none yet.
     ///
-    /// Refused with `NoTask` where the number was never given out, with `NoHandle` where the task's handle is dropped,
-    /// and with `Taken` where the output was taken already, in this order.
+    /// Refused with `NoTask` if the number was never given out, then with `NoHandle` if the task's handle is dropped,
+    /// then with `Taken` if the output was already taken.
     pub fn poll_join(&mut self, task: u64, by: u64) -> Result<Poll<O>, TaskError>
         ensures answer { result ≡ join_answer self.old.tasks task }
         ensures after { self.new ≡ with_tasks self.old (joined self.old.tasks task by) }
@@ -286,10 +286,9 @@ impl<O: Drop> Tasks<O> {
         entry.join(by)
     }
 
-    /// Drops the handle of a task, and gives back an output that nobody took. A task that has not finished runs on.
+    /// Drops the handle of a task, and returns the output if it was not taken. A task that has not finished runs on.
     ///
-    /// Refused with `NoTask` where the number was never given out, and then with `NoHandle` where the handle is dropped
-    /// already.
+    /// Refused with `NoTask` if the number was never given out, then with `NoHandle` if the handle is already dropped.
     #[inline(always)]
     pub fn drop_join(&mut self, task: u64) -> Result<Option<O>, TaskError>
         ensures answer { result ≡ drop_answer self.old.tasks task }
@@ -310,8 +309,8 @@ impl<O: Drop> Tasks<O> {
         entry.drop_join()
     }
 
-    /// Whether a task has finished and its output was not taken. Where it is so, its handle is kept, and the drop of it
-    /// gives the output (`given`).
+    /// Returns whether a task has finished and its output was not taken. If so, its handle is kept, and `drop_join`
+    /// returns the output (`given`).
     pub fn has_output(&self, task: u64) -> bool
         ensures answer { result ≡ has_output (value_at self.now.tasks.table task) }
         ensures given { result ≡ true → GivesOutput self.now.tasks task }
@@ -322,8 +321,8 @@ impl<O: Drop> Tasks<O> {
         }
     }
 
-    /// Whether a task has finished, whatever its handle. Refused with `NoTask` exactly where the number was never given
-    /// out.
+    /// Returns whether a task has finished, whatever its handle. Refused with `NoTask` if and only if the number was
+    /// never given out.
     pub fn has_finished(&self, task: u64) -> Result<bool, TaskError>
         ensures { result ≡ over_answer self.now.tasks task }
     {
@@ -336,7 +335,7 @@ impl<O: Drop> Tasks<O> {
         }
     }
 
-    /// Whether a task has finished. Refused as `drop_join` is.
+    /// Returns whether a task has finished. Refused as `drop_join` is.
     pub fn is_finished(&self, task: u64) -> Result<bool, TaskError>
         ensures { result ≡ finished_answer self.now.tasks task }
     {

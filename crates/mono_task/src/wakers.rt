@@ -1,4 +1,4 @@
-// Several wakes one after another, and a wake that may be none.
+// Several wakes one after another, and a wake of an optional task.
 ghost use Rattle.std.specs.Prelude.{◌≡◌};
 ghost use Rattle.mono_model.specs.Tasks.{all_woken, woken_if_any};
 ghost use Rattle.mono_task.specs.Schedule as schedule;
