@@ -120,8 +120,8 @@ impl<T: Drop, W: Drop> Slots<T, W> {
         drop(self.places.replace(number, Slot::Kept(value, beside)));
     }
 
-    /// Removes a number that is lent. It takes no memory. It gives back the memory of a page without values in which no
-    /// further number is given out.
+    /// Removes a number that is lent. It takes no memory. It gives back the memory of a page in which no place is left and
+    /// no further number is given out.
     #[inline(always)]
     pub fn remove(&mut self, number: u64)
         requires { lent_at self.old number ≡ true }
