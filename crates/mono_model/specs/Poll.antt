@@ -1,4 +1,4 @@
--- Words on what a poll answers.
+-- Properties of a poll's answer.
 use Rattle.std.specs.Prelude.{⊤, Bool, true, false, Option, Some, None, Result, Ok, Err}
 use Rattle.mono_model.specs.declared.poll.Poll.{Poll}
 use Rattle.mono_model.specs.declared.poll.Poll.TheVariants.{Ready, Pending}
@@ -15,22 +15,22 @@ abbrev pub ready_value : {A : Type 0} → Poll A → Option A
 ready_value (Ready x) = Some x
 ready_value Pending = None
 
--- the fact holds where the answer is pending
+-- The fact holds if the answer is pending.
 abbrev pub OnPending : {A : Type 0} → Poll A → Type 0 → Type 0
 OnPending (Ready x) P = ⊤
 OnPending Pending P = P
 
--- the fact holds where the answer is ready
+-- The fact holds if the answer is ready.
 abbrev pub OnReady : {A : Type 0} → Poll A → Type 0 → Type 0
 OnReady (Ready x) P = P
 OnReady Pending P = ⊤
 
--- the property holds of the value, where the answer is ready
+-- The property holds of the value if the answer is ready.
 abbrev pub IfReady : {A : Type 0} → Poll A → (A → Type 0) → Type 0
 IfReady (Ready x) P = P x
 IfReady Pending P = ⊤
 
--- a call's answer whose refusal is an answer of the poll
+-- The answer of a call whose refusal is an answer of the poll.
 abbrev pub call_of : {A E : Type 0} → Poll (Result A E) → Result (Poll A) E
 call_of (Ready (Ok x)) = Ok (Ready x)
 call_of (Ready (Err e)) = Err e

@@ -1,4 +1,4 @@
--- What each call on the timers answers, and what it makes of the sleeps of the plain machine.
+-- The answer of each call on the timers, and the sleeps of the reference machine afterwards.
 use Rattle.std.specs.Prelude.{◌≡◌, ℕ, ⊤, max, Bool, true, false, if◌then◌else◌, Option, Some, None, Result, Ok, Err, nat_le}
 use Rattle.mono_model.specs.Ticks.{up, down}
 use Rattle.mono_model.specs.Table.{value_at, is_full, next_number}
@@ -11,12 +11,12 @@ use Rattle.mono_model.specs.declared.error.Error.TheVariants.{Shutdown, AtCapaci
 use Rattle.mono_model.specs.declared.error.SleepError.{SleepError}
 use Rattle.mono_model.specs.declared.error.SleepError.TheVariants.{Memory, Timer}
 
--- what is answered of a live sleep, or the refusal where there is none
+-- The answer for a live sleep, or the refusal if there is none.
 abbrev pub of_live : {A : Type 0} → Option Sleep → (Sleep → A) → Result A Error
 of_live None answer = Err Shutdown
 of_live (Some sleep) answer = Ok (answer sleep)
 
--- what a call leaves that finds a live sleep
+-- The sleeps after a call, which changes them only if it finds a live sleep.
 abbrev pub if_live : Option Sleep → Sleeps → (Sleep → Sleeps) → Sleeps
 if_live None sleeps after = sleeps
 if_live (Some sleep) sleeps after = after sleep
@@ -24,7 +24,7 @@ if_live (Some sleep) sleeps after = after sleep
 abbrev pub added : Sleeps → ℕ → Sleeps
 added sleeps nanos = with_next_sleep sleeps (fresh nanos)
 
--- a fresh sleep is armed by its poll
+-- Whether a poll is ready at the greatest tick so far. A poll arms a fresh sleep.
 abbrev pub is_ready_at : ℕ → Sleep → Bool
 is_ready_at greatest (fresh nanos) = nat_le (up nanos) greatest
 is_ready_at greatest (armed a) = false
@@ -42,7 +42,7 @@ after_poll elapsed sleeps s by = sleeps
 abbrev pub polled : Sleeps → ℕ → ℕ → Sleeps
 polled sleeps s by = if_live (value_at sleeps.table s) sleeps (λ sleep. after_poll sleep sleeps s by)
 
--- a reset arms the sleep at the tick of its new deadline
+-- The answer of a reset, which arms the sleep at the tick of its new deadline.
 abbrev pub reset_answer : Sleeps → ℕ → ℕ → Result (Option ℕ) Error
 reset_answer sleeps s nanos = of_live (value_at sleeps.table s) (λ sleep. woken_by_arming sleep sleeps (up nanos))
 
@@ -63,11 +63,11 @@ is_elapsed elapsed = true
 abbrev pub elapsed_answer : Sleeps → ℕ → Result Bool Error
 elapsed_answer sleeps s = of_live (value_at sleeps.table s) is_elapsed
 
--- the sleeps once the clock shows n
+-- The sleeps once the clock shows n.
 abbrev pub at_clock : Sleeps → ℕ → Sleeps
 at_clock sleeps nanos = with_greatest sleeps (max sleeps.greatest (down nanos))
 
--- a sleep fires: it has elapsed, and its waker is handed out
+-- The sleeps after s has fired: s has elapsed, and its waker is handed out.
 abbrev pub fired : Sleeps → ℕ → Sleeps
 fired sleeps s = with_sleep sleeps s elapsed
 
@@ -78,14 +78,14 @@ waker_in (Some sleep) = waker_of sleep
 abbrev pub waker_at : Sleeps → ℕ → Option ℕ
 waker_at sleeps s = waker_in (value_at sleeps.table s)
 
--- What a call within a clock step answers: no sleep is due, or the first that is due fires with its waker. What holds of
--- the sleeps afterwards is given by `Left`.
+-- The answer of a call within a clock step: no sleep is due, or the first due sleep fires with its waker. `Left`
+-- describes the sleeps afterwards.
 abbrev pub Fires : Sleeps → Option (ℕ × Option ℕ) → (Sleeps → Type 0) → Type 0
 Fires sleeps None Left = IsNoneDue sleeps.table sleeps.greatest × Left sleeps
 Fires sleeps (Some (s, waker)) Left = IsFirstDue sleeps.table sleeps.greatest s × (waker ≡ waker_at sleeps s) × Left (fired sleeps s)
 
--- What an addition answers: the next number, or the refusal where there are no timers, or where no further sleep is given
--- out, or want of memory. What holds of the sleeps afterwards is given by `Left`.
+-- The answer of an addition: the next number; shutdown without timers; at capacity if no further sleep is given out; or
+-- out of memory. `Left` describes the sleeps afterwards.
 abbrev pub Adds : Bool → Sleeps → ℕ → Result ℕ SleepError → (Sleeps → Type 0) → Type 0
 Adds is_enabled sleeps nanos (Ok number) Left = (is_enabled ≡ true) × (is_full sleeps.table sleeps.limit ≡ false) × (number ≡ next_number sleeps.table) × Left (added sleeps nanos)
 Adds is_enabled sleeps nanos (Err (Timer Shutdown)) Left = (is_enabled ≡ false) × Left sleeps

@@ -1,4 +1,4 @@
--- Which error is which, and the bytes that are printed of it.
+-- The names of the errors, and the bytes that are printed for each.
 use Rattle.std.specs.Prelude.{ℕ, Bool, true, false, List, codes}
 use Rattle.mono_model.specs.declared.error.Error.{Error}
 use Rattle.mono_model.specs.declared.error.Error.TheVariants.{Shutdown, AtCapacity, Invalid}

@@ -4,7 +4,7 @@ ghost use Rattle.mono_model.specs.Texts.{text_of, is_shutdown_error, is_at_capac
 
 use std::fmt;
 
-/// Why the timers refuse a call.
+/// The reason why the timers refuse a call.
 #[derive(Clone, Copy, Debug, PartialEq, Eq)]
 pub enum Error {
     /// There are no timers, or no live sleep has the number.
@@ -16,28 +16,28 @@ pub enum Error {
 }
 
 impl Error {
-    /// The error where there are no timers, or where no live sleep has the number.
+    /// Returns the error for missing timers, or for a number that no live sleep has.
     pub fn shutdown() -> Error
         ensures { result ≡ Error.Shutdown }
     {
         Error::Shutdown
     }
 
-    /// The error where no further sleep is given out.
+    /// Returns the error for a sleep that is refused because no further one is given out.
     pub fn at_capacity() -> Error
         ensures { result ≡ Error.AtCapacity }
     {
         Error::AtCapacity
     }
 
-    /// The error where a deadline is past the last instant.
+    /// Returns the error for a deadline past the last instant.
     pub fn invalid() -> Error
         ensures { result ≡ Error.Invalid }
     {
         Error::Invalid
     }
 
-    /// Whether this is [`Error::shutdown`].
+    /// Returns whether this is [`Error::shutdown`].
     pub fn is_shutdown(&self) -> bool
         ensures { result ≡ is_shutdown_error self.now }
     {
@@ -48,7 +48,7 @@ impl Error {
         }
     }
 
-    /// Whether this is [`Error::at_capacity`].
+    /// Returns whether this is [`Error::at_capacity`].
     pub fn is_at_capacity(&self) -> bool
         ensures { result ≡ is_at_capacity_error self.now }
     {
@@ -59,7 +59,7 @@ impl Error {
         }
     }
 
-    /// Whether this is [`Error::invalid`].
+    /// Returns whether this is [`Error::invalid`].
     pub fn is_invalid(&self) -> bool
         ensures { result ≡ is_invalid_error self.now }
     {
@@ -86,10 +86,10 @@ impl fmt::Display for Error {
     }
 }
 
-/// Why no sleep was made.
+/// The reason why no sleep was made.
 #[derive(Clone, Copy, Debug, PartialEq, Eq)]
 pub enum SleepError {
-    /// Memory was wanted and not there.
+    /// An allocation failed.
     Memory,
     /// The timers refuse.
     Timer(Error),

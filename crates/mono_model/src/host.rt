@@ -1,11 +1,11 @@
-// The runtime value that calls which wait are handed.
+// The runtime value that each waiting call takes.
 use std::rt::Clock;
 use std::sync::Wait;
 use std::thread::Threads;
 
-/// What a call that locks, waits, starts a thread or reads the clock is handed as `rt`.
+/// The value `rt` that a call takes to lock, wait, start a thread or read the clock.
 ///
-/// It is one word for the bounds, met by every value that meets them.
+/// It is one name for the bounds, implemented by every value that meets them.
 pub trait Host: Wait + Threads + Clock + Clone {}
 
 impl<R: Wait + Threads + Clock + Clone> Host for R {}

@@ -1,4 +1,4 @@
-//! The words in which the crates of the executor speak of ticks, tasks, sleeps, jobs and the inbox.
+//! Definitions and types of ticks, tasks, sleeps, jobs and the inbox, which the crates of the executor share.
 #![tactic(auto)]
 
 mod error;
@@ -12,14 +12,14 @@ pub use host::Host;
 pub use poll::Poll;
 pub use task_error::TaskError;
 
-/// What a wake did.
+/// The effect of a wake.
 #[derive(Clone, Copy, Debug, PartialEq, Eq)]
 pub enum Woke {
-    /// The task was idle, and now stands at the queue's back.
+    /// The task was idle, and now is at the queue's back.
     Queued,
     /// The task is running, and runs again after its turn.
     Noted,
-    /// The task was queued already, or has finished.
+    /// The task was already queued, or has finished.
     Nothing,
 }
 
@@ -28,11 +28,11 @@ pub enum Woke {
 pub enum Ended {
     /// The task waits for a wake.
     Idle,
-    /// The task was woken during its turn, and stands in the queue again.
+    /// The task was woken during its turn, and is queued again.
     Again,
     /// The task has finished, and its output is kept for its handle.
     Done,
-    /// The task has finished, and nobody can ask for its output.
+    /// The task has finished without a handle, and its output was dropped.
     Gone,
 }
 

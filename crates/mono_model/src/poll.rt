@@ -1,8 +1,8 @@
-// What a poll answers.
+// The answer of a poll.
 ghost use Rattle.std.specs.Prelude.{◌≡◌};
 ghost use Rattle.mono_model.specs.Poll.{is_pending, is_ready, ready_value};
 
-/// What one poll of a future, a stream or a job answers: a value for good, or nothing yet.
+/// The answer of one poll of a future, a stream or a job: a value for good, or nothing yet.
 #[derive(Clone, Copy, Debug, PartialEq, Eq, Drop)]
 pub enum Poll<T> {
     /// The value is there.
@@ -12,7 +12,7 @@ pub enum Poll<T> {
 }
 
 impl<T> Poll<T> {
-    /// Whether the value is there.
+    /// Returns whether the value is there.
     pub fn is_ready(&self) -> bool
         ensures { result ≡ is_ready self.now }
     {
@@ -22,7 +22,7 @@ impl<T> Poll<T> {
         }
     }
 
-    /// Whether nothing is there yet.
+    /// Returns whether nothing is there yet.
     pub fn is_pending(&self) -> bool
         ensures { result ≡ is_pending self.now }
     {
@@ -32,7 +32,7 @@ impl<T> Poll<T> {
         }
     }
 
-    /// The value, or none where nothing is there yet.
+    /// Returns the value, or `None` if it is not there yet.
     pub fn ready(self) -> Option<T>
         ensures { result ≡ ready_value self }
     {

@@ -1,9 +1,9 @@
 // Why a call on a task was refused.
 use thiserror::Error;
 
-/// Why a call on a task was refused.
+/// The reason why a call on a task was refused.
 ///
-/// Where several causes hold, the one that stands first here counts.
+/// If several causes hold, the first in this order counts.
 #[derive(Clone, Copy, Debug, PartialEq, Eq, Error)]
 pub enum TaskError {
     /// No task is queued.
@@ -15,7 +15,7 @@ pub enum TaskError {
     /// The task's handle was dropped.
     #[error("the handle of the task was dropped")]
     NoHandle,
-    /// The task's output was taken already.
+    /// The task's output was already taken.
     #[error("the output of the task was taken already")]
     Taken,
 }
