@@ -1,4 +1,4 @@
--- What an entry of the timers says of its sleep.
+-- The sleep that an entry of the timers describes.
 use Rattle.std.specs.Prelude.{ℕ, Bool, true, false, Option, Some, None}
 use Rattle.mono_wheel.specs.Model.{Timed}
 use Rattle.mono_time.specs.Sleeps.{Kept, fresh, armed, elapsed}
@@ -24,12 +24,12 @@ waker_in_state Unwatched = None
 waker_in_state (Armed task) = Some task
 waker_in_state Elapsed = None
 
--- armed, with this waker
+-- The armed state with this waker.
 abbrev pub armed_with : Option ℕ → State
 armed_with None = Unwatched
 armed_with (Some task) = Armed task
 
--- the tick of a sleep that was never armed
+-- The tick of a sleep that was never armed.
 abbrev pub fresh_tick : State → ℕ
 fresh_tick (Fresh tick) = tick
 fresh_tick Unwatched = 0
@@ -40,7 +40,7 @@ abbrev pub tick_in : Option Timed → ℕ
 tick_in None = 0
 tick_in (Some timed) = timed.tick
 
--- the sleep, with the ticks of its key
+-- The sleep, with the ticks of its key.
 abbrev pub kept_in : Option Timed → State → Kept
 kept_in timed (Fresh tick) = fresh tick
 kept_in timed Unwatched = armed (tick_in timed) None

@@ -1,4 +1,4 @@
--- When an interval ticks, and what a poll of it answers and leaves.
+-- The ticks of an interval, and the answer and effect of a poll.
 use Rattle.std.specs.Prelude.{◌≡◌, ℕ, ⊤, false, true, Result, Ok, Err, nat_le}
 use Rattle.std.specs.Duration.{as_nanos}
 use Rattle.mono_model.specs.Ticks.{max_nanos}
@@ -15,7 +15,7 @@ use Rattle.mono_time.specs.MissedTicks.{next_deadline}
 use Rattle.mono_time.specs.declared.missed_ticks.MissedTickBehavior.TheVariants.{Burst}
 use Rattle.mono_time.specs.declared.intervals.Interval.{Interval}
 
--- an interval was made, whose delay is a sleep with the next number for this start, or was refused
+-- An interval was made, whose delay is a sleep with the next number for this start, or it was refused.
 abbrev pub IntervalMade : SleepTable → ℕ → ℕ → Result Interval SleepError → SleepTable → Type 0
 IntervalMade old start period (Ok interval) new =
     (nanos_of interval.delay.deadline ≡ start) × (as_nanos interval.period ≡ period) × (interval.behavior ≡ Burst) × Added old start (Ok interval.delay.number) new
@@ -25,7 +25,7 @@ module _ {C : Type 0} (number nanos : C → ℕ) (sleeps : C → SleepTable) (wo
   abbrev pub next_of : Interval → C → ℕ
   next_of i c = next_deadline i.behavior (nanos_of i.delay.deadline) (as_nanos i.period) (nanos c)
 
-  -- the interval ticks: its delay goes on to the next deadline
+  -- The interval ticks, and its delay moves to the next deadline.
   pub record Ticks (i : Interval) (c : C) (tick : Instant) (j : Interval) (d : C) : Type 0 where
     pub is_deadline : tick ≡ i.delay.deadline
     pub within : nat_le (next_of i c) max_nanos ≡ true
@@ -35,12 +35,12 @@ module _ {C : Type 0} (number nanos : C → ℕ) (sleeps : C → SleepTable) (wo
     pub same_behavior : j.behavior ≡ i.behavior
     pub sleeps_after : sleeps d ≡ with_reset_sleep (with_polled_sleep (sleeps c) i.delay.number (number c)) i.delay.number (next_of i c)
 
-  -- nothing but the delay's poll has happened
+  -- The delay was polled, and nothing else happened.
   pub record TicksNot (i : Interval) (c : C) (j : Interval) (d : C) : Type 0 where
     pub same : j ≡ i
     pub sleeps_after : sleeps d ≡ with_polled_sleep (sleeps c) i.delay.number (number c)
 
-  -- what a poll gives, by what the poll of its delay answers
+  -- The outcome of a poll, by the answer of its delay.
   abbrev pub TickAfter : Result (Poll ⊤) Error → Interval → C → Result (Poll Instant) Error → Interval → C → Type 0
   TickAfter (Err error) i c result j d = (result ≡ Err error) × TicksNot i c j d
   TickAfter (Ok Pending) i c result j d = (result ≡ Ok Pending) × TicksNot i c j d

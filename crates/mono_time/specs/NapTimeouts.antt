@@ -11,7 +11,7 @@ use Rattle.mono_time.specs.declared.naps.SleepFor.{SleepFor}
 use Rattle.mono_time.specs.declared.error.LateError.{LateError}
 use Rattle.mono_time.specs.declared.error.LateError.TheVariants.{Elapsed, Sleep}
 
--- why there is no output, from the delay's answer
+-- The reason why there is no output, from the delay's answer.
 abbrev pub late_cause : Result ⊤ SleepError → LateError
 late_cause (Ok x) = Elapsed (record {})
 late_cause (Err e) = Sleep e
@@ -25,19 +25,19 @@ module _ {T : Type 0} where
   LimitCanPoll can_poll (Some p) = can_poll p.0
   LimitCanPoll can_poll None = ⊤
 
-  -- a value that the future may give; any cause may always be
+  -- Whether the future may give the value. Any cause is always possible.
   abbrev pub LimitGives : {O : Type 0} → (T → O → Type 0) → Option (T × SleepFor) → Result O LateError → Type 0
   LimitGives gives (Some p) (Ok x) = gives p.0 x
   LimitGives gives (Some p) (Err e) = ⊤
   LimitGives gives None r = ⊥
 
-  -- the future is given up, and then the delay
+  -- The future is given up, and then the delay.
   abbrev pub LimitCancels : {C : Type 0} → (T → C → C → Type 0) → (C → SleepTable) → (C → Tasks ⊤) → (C → C → Type 0) → Option (T × SleepFor) → C → C → Type 0
   LimitCancels {C} cancels sleeps work reaches (Some p) c d = (m : C) × cancels p.0 c m × NapCancels sleeps work reaches p.1 m d
   LimitCancels cancels sleeps work reaches None c d = d ≡ c
 
 module _ {T C O : Type 0} (future : FutureOf T C O) (nanos number : C → ℕ) (sleeps : C → SleepTable) (work : C → Tasks ⊤) (reaches : C → C → Type 0) where
-  -- the delay was polled
+  -- The delay was polled.
   abbrev pub AfterDelay : Poll (Result ⊤ SleepError) → T → SleepFor → C → Poll (Result O LateError) → Option (T × SleepFor) → C → Type 0
   AfterDelay (Ready x) f s c r n d = (r ≡ Ready (Err (late_cause x))) × (n ≡ None) × LimitCancels future.cancels sleeps work reaches (Some (f, s)) c d
   AfterDelay Pending f s c r n d = (r ≡ Pending) × (n ≡ Some (f, s)) × (d ≡ c)
@@ -49,7 +49,7 @@ module _ {T C O : Type 0} (future : FutureOf T C O) (nanos number : C → ℕ) (
     pub polled : NapPolls nanos number sleeps work reaches s c answer left middle
     pub rest : AfterDelay answer f left middle r n d
 
-  -- the future was polled; if it waits, the delay is
+  -- The future was polled. If it waits, the delay is polled, too.
   abbrev pub AfterLimited : Poll O → T → SleepFor → C → Poll (Result O LateError) → Option (T × SleepFor) → C → Type 0
   AfterLimited (Ready x) f s c r n d = (r ≡ Ready (Ok x)) × (n ≡ None) × LimitCancels future.cancels sleeps work reaches (Some (f, s)) c d
   AfterLimited Pending f s c r n d = PollsDelay f s c r n d

@@ -18,7 +18,7 @@ nap_spent (Fresh d) = false
 nap_spent (Asleep s) = false
 nap_spent Over = true
 
--- an error of the sleep as one of the form
+-- An error of the sleep as an error of `SleepFor`.
 abbrev pub told : Result ⊤ Error → Result ⊤ SleepError
 told (Ok x) = Ok x
 told (Err e) = Err (Timer e)
@@ -34,14 +34,14 @@ module _ {C : Type 0} (nanos number : C → ℕ) (sleeps : C → SleepTable) (wo
   AfterNap (Ready x) s c r n d = (r ≡ Ready (told x)) × (n ≡ Over) × SleepCancels sleeps work reaches s c d
   AfterNap Pending s c r n d = (r ≡ Pending) × (n ≡ Asleep s) × (d ≡ c)
 
-  -- the sleep is polled, and given up where it answered
+  -- The sleep is polled, and given up if it answered.
   pub record Naps (s : Sleep) (c : C) (r : Poll (Result ⊤ SleepError)) (n : SleepFor) (d : C) : Type 0 where
     pub answer : Poll (Result ⊤ Error)
     pub middle : C
     pub polled : SleepPolls number sleeps work reaches s c answer s middle
     pub rest : AfterNap answer s middle r n d
 
-  -- the sleep was made, and is polled; or it was refused
+  -- The sleep was made and is polled, or it was refused.
   abbrev pub AfterMade : Result Sleep SleepError → C → Poll (Result ⊤ SleepError) → SleepFor → C → Type 0
   AfterMade (Ok s) c r n d = Naps s c r n d
   AfterMade (Err e) c r n d = (r ≡ Ready (Err e)) × (n ≡ Over) × (d ≡ c)

@@ -1,4 +1,4 @@
--- For which sleeps of the plain machine a table of timers stands.
+-- The refinement of the reference machine's sleeps by a table of timers.
 use Rattle.std.specs.Prelude.{◌≡◌, ◌≢◌, ◌<◌, ℕ, true, false, List, Some, map, length}
 use Rattle.std.specs.Option.{option_map}
 use Rattle.mono_model.specs.Ticks.{up}
@@ -12,14 +12,14 @@ use Rattle.mono_time.specs.Timers.{sleeps_of}
 use Rattle.mono_time.specs.declared.entry.Entry.{Entry}
 use Rattle.mono_time.specs.declared.timers.Timers.{Timers}
 
--- a sleep of the machine as those who call the timers see it: without its arm number, and a fresh one with its tick
+-- A sleep of the machine as callers of the timers see it: without its arm number, and a fresh one with its tick.
 abbrev pub seen : model.Sleep → Kept
 seen (model.fresh nanos) = fresh (up nanos)
 seen (model.armed a) = armed a.tick a.waker
 seen model.elapsed = elapsed
 
--- The sleeps are the machine's but for the arm numbers. A sleep that was not moved is registered at its tick, and of two
--- that are registered at one tick the one that was armed first stands first. No two arm numbers are equal.
+-- The sleeps are the machine's, without the arm numbers. An unmoved sleep is registered at its tick. Of two unmoved
+-- sleeps at one tick, the one that was armed first comes first. No two arm numbers are equal.
 pub record Standing (wheel : Wheel) (keys : Table ℕ) (entries : List Entry) (greatest limit : ℕ) (sleeps : Sleeps) : Type 0 where
   pub table : map (option_map seen) sleeps.table ≡ table_of (kept_at wheel keys entries) (length keys)
   pub same_greatest : sleeps.greatest ≡ greatest
@@ -35,7 +35,7 @@ pub record Standing (wheel : Wheel) (keys : Table ℕ) (entries : List Entry) (g
 abbrev pub StandsForSleeps : Timers → Sleeps → Type 0
 StandsForSleeps timers sleeps = Standing timers.wheel timers.keys timers.entries.items timers.greatest timers.limit sleeps
 
--- There are timers, and their table stands for the machine's sleeps.
+-- There are timers, and their table refines the machine's sleeps.
 pub record Keeps (timers : Timers) (sleeps : Sleeps) : Type 0 where
   pub stands : StandsForSleeps timers sleeps
   pub is_enabled : (sleeps_of timers).is_enabled ≡ true

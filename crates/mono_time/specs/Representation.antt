@@ -1,4 +1,4 @@
--- How the timers keep their sleeps: by number a key of the wheel, and at the key the sleep's number and state.
+-- The representation of sleeps: a number has a key of the wheel, and the key has the sleep's number and state.
 use Rattle.std.specs.Prelude.{◌≡◌, ◌≢◌, ◌<◌, ◌≤◌, ◌⊎◌, ℕ, ◌^◌, true, false, List, [], ◌∷◌, ◌++◌, length, Option, Some, None, is_some, slice_get}
 use Rattle.mono_model.specs.Table.{Table, value_at, count_of}
 use Rattle.mono_wheel.specs.Model.{Wheel, Timed, timed_at, is_reserved, Precedes, KeepsOrder, Changed}
@@ -6,7 +6,7 @@ use Rattle.mono_time.specs.Sleeps.{Kept}
 use Rattle.mono_time.specs.Entries.{kept_of, owner_of, is_armed_entry, fresh_tick_of, tick_in}
 use Rattle.mono_time.specs.declared.entry.Entry.{Entry}
 
--- what is kept of the sleep with this number
+-- The sleep with this number, as the timers keep it.
 abbrev pub kept_under : Wheel → List Entry → Option ℕ → Option Kept
 kept_under wheel entries None = None
 kept_under wheel entries (Some key) = kept_of (timed_at wheel key) (slice_get entries key)
@@ -14,8 +14,8 @@ kept_under wheel entries (Some key) = kept_of (timed_at wheel key) (slice_get en
 abbrev pub kept_at : Wheel → Table ℕ → List Entry → ℕ → Option Kept
 kept_at wheel keys entries s = kept_under wheel entries (value_at keys s)
 
--- Each live sleep has a reserved key, at which its number stands, and which is in the wheel exactly while it is armed.
--- What is in the wheel belongs to a live sleep, and each reserved key is that of one.
+-- Each live sleep has a reserved key with its number. The key is in the wheel if and only if the sleep is armed. Each
+-- key in the wheel, and each reserved key, belongs to a live sleep.
 pub record Holds (wheel : Wheel) (keys : Table ℕ) (entries : List Entry) (greatest live : ℕ) : Type 0 where
   pub owners : (s k : ℕ) → value_at keys s ≡ Some k → owner_of (slice_get entries k) ≡ Some s
   pub reserved : (s k : ℕ) → value_at keys s ≡ Some k → is_reserved wheel k ≡ true
@@ -28,7 +28,7 @@ pub record Holds (wheel : Wheel) (keys : Table ℕ) (entries : List Entry) (grea
   pub greatest_below : greatest < 2 ^ 63
   pub live_count : live ≡ count_of keys
 
--- All keys but one keep their tick and their order, and one that is registered at its tick stays so.
+-- All keys but one keep their tick and their order, and a key that is registered at its tick stays so.
 pub record KeepsBut (old new : Wheel) (key : ℕ) : Type 0 where
   pub ticks : (other : ℕ) → other ≢ key → tick_in (timed_at new other) ≡ tick_in (timed_at old other)
   pub in_or_out : (other : ℕ) → other ≢ key → is_some (timed_at new other) ≡ is_some (timed_at old other)
@@ -36,7 +36,7 @@ pub record KeepsBut (old new : Wheel) (key : ℕ) : Type 0 where
   pub order : (a b tick : ℕ) → a ≢ key → b ≢ key → timed_at old a ≡ Some record { tick = tick; registered = tick } → timed_at old b ≡ Some record { tick = tick; registered = tick } → Precedes old a b → Precedes new a b
   pub reserved : (other : ℕ) → is_reserved new other ≡ is_reserved old other
 
--- The key was put in anew, behind those that are registered at the same tick.
+-- The key was inserted anew, after those that are registered at the same tick.
 pub record ArmedAnew (old new : Wheel) (key tick : ℕ) : Type 0 where
   pub here : timed_at new key ≡ Some record { tick = tick; registered = tick }
   pub others : (other : ℕ) → other ≢ key → timed_at new other ≡ timed_at old other
@@ -44,15 +44,15 @@ pub record ArmedAnew (old new : Wheel) (key tick : ℕ) : Type 0 where
   pub last : (other : ℕ) → other ≢ key → timed_at old other ≡ Some record { tick = tick; registered = tick } → Precedes new other key
   pub elapsed : new.elapsed ≡ old.elapsed
 
--- The key is due at another tick. Where that is not before its tick, and the key is not pending, the key keeps its place.
--- Otherwise it was put in anew.
+-- The key is due at another tick. If that is not before its tick, and the key is not pending, the key keeps its place.
+-- Otherwise it was inserted anew.
 pub record Rearmed (old new : Wheel) (key tick : ℕ) : Type 0 where
   pub timed : Timed
   pub was : timed_at old key ≡ Some timed
   pub how : ((timed.tick ≢ old.elapsed) × (timed.tick ≤ tick) × Changed old new key (Some record { tick = tick; registered = timed.registered }))
       ⊎ (((timed.tick ≡ old.elapsed) ⊎ (tick < timed.tick)) × ArmedAnew old new key tick)
 
--- A key was reserved that is out, or was given back: all other keys and all that is in stay.
+-- A key that is out was reserved or given back: all other keys, and all keys in the wheel, stay.
 pub record KeysStay (old new : Wheel) (key : ℕ) : Type 0 where
   pub same_ticks : (other : ℕ) → timed_at new other ≡ timed_at old other
   pub same_reserved : (other : ℕ) → other ≢ key → is_reserved new other ≡ is_reserved old other
@@ -63,7 +63,7 @@ pub record KeysStay (old new : Wheel) (key : ℕ) : Type 0 where
 abbrev pub EntriesStay : List Entry → List Entry → Type 0
 EntriesStay old new = (k : ℕ) → k < length old → slice_get new k ≡ slice_get old k
 
--- A further number has a key that no other has, which is out, and there is a place for its entry.
+-- A further number has a new key, which is out of the wheel, and there is a place for its entry.
 pub record KeyMade (old new : Wheel) (old_keys new_keys : Table ℕ) (old_entries new_entries : List Entry) (key : ℕ) : Type 0 where
   pub was_free : is_reserved old key ≡ false
   pub now_reserved : is_reserved new key ≡ true
@@ -73,7 +73,7 @@ pub record KeyMade (old new : Wheel) (old_keys new_keys : Table ℕ) (old_entrie
   pub inside : key < length new_entries
   pub entries_stay : EntriesStay old_entries new_entries
 
--- There is no further key, and all that there was stays.
+-- There is no further key, and everything else stays.
 pub record NoKeyMade (old new : Wheel) (old_keys new_keys : Table ℕ) (old_entries new_entries : List Entry) : Type 0 where
   pub same_ticks : (other : ℕ) → timed_at new other ≡ timed_at old other
   pub same_reserved : (other : ℕ) → is_reserved new other ≡ is_reserved old other

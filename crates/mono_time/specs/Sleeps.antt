@@ -1,4 +1,4 @@
--- Sleeps as those who call the timers see them: by their numbers, each with its latest waker alone.
+-- Sleeps as callers of the timers see them: by their numbers, each with its latest waker alone.
 use Rattle.std.specs.Prelude.{◌≡◌, ◌<◌, ◌≤◌, ℕ, max, ⊤, Bool, true, false, if◌then◌else◌, [], Option, Some, None, Result, Ok, Err, nat_le, count_by}
 use Rattle.mono_model.specs.Ticks.{up, down}
 use Rattle.mono_model.specs.Table.{Table, value_at, next_number, is_full, with_next, with_value, without}
@@ -9,15 +9,15 @@ use Rattle.mono_model.specs.declared.error.Error.TheVariants.{Shutdown, AtCapaci
 use Rattle.mono_model.specs.declared.error.SleepError.{SleepError}
 use Rattle.mono_model.specs.declared.error.SleepError.TheVariants.{Memory, Timer}
 
--- A sleep for a tick that was never polled or reset, one that is armed at a tick with the task that polled it last, or
--- one that has elapsed. Only an armed sleep has a waker.
+-- A sleep for a tick that was never polled or reset, an armed sleep with its tick and the task that polled it last, or
+-- an elapsed sleep. Only an armed sleep has a waker.
 pub data Kept : Type 0 where
   fresh : (tick : ℕ) → Kept
   armed : (tick : ℕ) → (waker : Option ℕ) → Kept
   elapsed : Kept
 
--- the live sleeps by their numbers, the greatest tick of the clock so far, how many sleeps may live, and whether there
--- are timers at all
+-- The live sleeps by their numbers, the greatest tick of the clock so far, how many sleeps may live, and whether there
+-- are timers at all.
 pub record SleepTable : Type 0 where
   pub table : Table Kept
   pub greatest : ℕ
@@ -35,11 +35,11 @@ kept_waker (fresh tick) = None
 kept_waker (armed tick waker) = waker
 kept_waker elapsed = None
 
--- armed at a tick, or elapsed where the tick is not above the greatest so far
+-- The sleep armed at a tick, or elapsed if the tick is at most the greatest so far.
 abbrev pub at_tick : ℕ → ℕ → Option ℕ → Kept
 at_tick greatest tick waker = if nat_le tick greatest then elapsed else armed tick waker
 
--- one sleep changes, where it is live
+-- The table after one sleep changes, if it is live.
 abbrev pub changed_value : Option Kept → SleepTable → ℕ → (Kept → Kept) → SleepTable
 changed_value None sleeps s change = sleeps
 changed_value (Some kept) sleeps s change = with_table sleeps (with_value sleeps.table s (change kept))
@@ -47,13 +47,13 @@ changed_value (Some kept) sleeps s change = with_table sleeps (with_value sleeps
 abbrev pub changed : SleepTable → ℕ → (Kept → Kept) → SleepTable
 changed sleeps s change = changed_value (value_at sleeps.table s) sleeps s change
 
--- what is answered of a sleep, or the refusal where no live sleep has the number
+-- The answer for a sleep, or the refusal if no live sleep has the number.
 abbrev pub of_live_sleep : {A : Type 0} → Option Kept → (Kept → A) → Result A Error
 of_live_sleep None answer = Err Shutdown
 of_live_sleep (Some kept) answer = Ok (answer kept)
 
--- A new sleep has the next number and is fresh. It is refused where there are no timers, and then where no further sleep
--- is given out. Want of memory comes last. No refusal changes anything.
+-- The table after an addition: the new sleep has the next number and is fresh. An addition is refused without timers,
+-- then if no further sleep is given out, and last if out of memory. A refusal changes nothing.
 abbrev pub with_added_sleep : SleepTable → ℕ → SleepTable
 with_added_sleep sleeps tick = with_table sleeps (with_next sleeps.table (fresh tick))
 
@@ -65,7 +65,8 @@ Added old nanos (Err (Timer AtCapacity)) new = (old.is_enabled ≡ true) × (is_
 Added old nanos (Err (Timer Invalid)) new = ⊥
 Added old nanos (Err Memory) new = (old.is_enabled ≡ true) × (is_full old.table old.limit ≡ false) × (new ≡ old)
 
--- A poll by a task: a fresh sleep is armed first. One that has elapsed is ready, and of any other the task is the waker.
+-- The sleep after a poll by a task. A fresh sleep is armed first. An elapsed sleep is ready; the task becomes the waker
+-- of any other.
 abbrev pub polled_kept : ℕ → ℕ → Kept → Kept
 polled_kept greatest by (fresh tick) = at_tick greatest tick (Some by)
 polled_kept greatest by (armed tick waker) = armed tick (Some by)
@@ -82,7 +83,7 @@ sleep_poll_answer sleeps s = of_live_sleep (value_at sleeps.table s) (λ kept. p
 abbrev pub with_polled_sleep : SleepTable → ℕ → ℕ → SleepTable
 with_polled_sleep sleeps s by = changed sleeps s (polled_kept sleeps.greatest by)
 
--- A reset to a tick keeps the waker, or hands it out where the sleep elapses at once.
+-- The waker that a reset to a tick hands out: the sleep's, if it elapses at once. Otherwise the sleep keeps it.
 abbrev pub woken_by_reset : ℕ → ℕ → Kept → Option ℕ
 woken_by_reset greatest tick kept = if nat_le tick greatest then kept_waker kept else None
 
@@ -92,7 +93,7 @@ sleep_reset_answer sleeps s nanos = of_live_sleep (value_at sleeps.table s) (wok
 abbrev pub with_reset_sleep : SleepTable → ℕ → ℕ → SleepTable
 with_reset_sleep sleeps s nanos = changed sleeps s (λ kept. at_tick sleeps.greatest (up nanos) (kept_waker kept))
 
--- A removed sleep is gone, and wakes nobody.
+-- The answer of a removal. A removed sleep wakes no task.
 abbrev pub sleep_remove_answer : SleepTable → ℕ → Result ⊤ Error
 sleep_remove_answer sleeps s = of_live_sleep (value_at sleeps.table s) (λ kept. tt)
 
@@ -111,30 +112,30 @@ is_kept_elapsed elapsed = true
 abbrev pub sleep_elapsed_answer : SleepTable → ℕ → Result Bool Error
 sleep_elapsed_answer sleeps s = of_live_sleep (value_at sleeps.table s) is_kept_elapsed
 
--- The clock shows n: the greatest tick is the greater of itself and that of n.
+-- The table when the clock shows n: the greatest tick is the greater of itself and the tick of n.
 abbrev pub at_clock_tick : SleepTable → ℕ → SleepTable
 at_clock_tick sleeps nanos = record { table = sleeps.table; greatest = max sleeps.greatest (down nanos); limit = sleeps.limit; is_enabled = sleeps.is_enabled }
 
--- a sleep fires: it has elapsed
+-- The table after a sleep has fired: it has elapsed.
 abbrev pub with_fired_sleep : SleepTable → ℕ → SleepTable
 with_fired_sleep sleeps s = with_table sleeps (with_value sleeps.table s elapsed)
 
--- no armed sleep has a tick up to the greatest
+-- No armed sleep has a tick up to the greatest.
 abbrev pub IsNoneArmedUpTo : SleepTable → Type 0
 IsNoneArmedUpTo sleeps = (s tick : ℕ) (waker : Option ℕ) → value_at sleeps.table s ≡ Some (armed tick waker) → sleeps.greatest < tick
 
--- some sleep is armed
+-- Some sleep is armed.
 abbrev pub IsOneArmed : SleepTable → Type 0
 IsOneArmed sleeps = (s : ℕ) × ((tick : ℕ) × ((waker : Option ℕ) × (value_at sleeps.table s ≡ Some (armed tick waker))))
 
--- the sleep is armed with this waker at a tick up to the greatest, and no sleep is armed at a lower tick
+-- The sleep is armed with this waker at a tick up to the greatest, and no sleep is armed at a lower tick.
 pub record IsFiredFirst (sleeps : SleepTable) (s : ℕ) (waker : Option ℕ) : Type 0 where
   pub tick : ℕ
   pub is_armed_there : value_at sleeps.table s ≡ Some (armed tick waker)
   pub is_due : tick ≤ sleeps.greatest
   pub is_least : (other later : ℕ) (task : Option ℕ) → value_at sleeps.table other ≡ Some (armed later task) → tick ≤ later
 
--- how many sleeps are armed
+-- Whether a sleep is armed; the table counts the armed ones.
 abbrev pub is_armed : Option Kept → Bool
 is_armed None = false
 is_armed (Some (fresh tick)) = false

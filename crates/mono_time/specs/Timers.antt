@@ -15,19 +15,19 @@ sleeps_of timers = record {
   is_enabled = timers.is_enabled;
 }
 
--- the tick up to which the wheel has gone: the greatest tick, but while a clock step is under way
+-- The tick that the wheel has reached: the greatest tick, except during a clock step.
 abbrev pub elapsed_tick : Timers → ℕ
 elapsed_tick timers = timers.wheel.elapsed
 
--- where each sleep is registered while it is armed
+-- The tick at which each sleep is registered while it is armed.
 abbrev pub registered_of : Timers → ℕ → Option ℕ
 registered_of timers s = registered_at timers.wheel timers.keys s
 
--- how many steps the wheel has still to take at most for what is armed
+-- At most how many steps the wheel has still to take for the armed sleeps.
 abbrev pub credit_left : Timers → ℕ
 credit_left timers = credit timers.wheel
 
--- by how much a poll of what is kept may raise that: a fresh sleep is armed
+-- By how much a poll may raise that credit, since it arms a fresh sleep.
 abbrev pub poll_raise : ℕ → Option Kept → ℕ
 poll_raise reached None = 0
 poll_raise reached (Some (fresh tick)) = most_takes (tick - reached)

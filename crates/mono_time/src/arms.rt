@@ -1,4 +1,4 @@
-// How a key of the wheel is armed.
+// Arming a key of the wheel.
 ghost use Rattle.std.specs.Prelude.{◌≡◌, ◌≢◌, ◌<◌, ◌≤◌, ◌+◌, ◌-◌, ◌^◌, true, false, None};
 ghost use Rattle.mono_wheel.specs.Model.{timed_at, is_reserved};
 ghost use Rattle.mono_wheel.specs.Credit.{credit, most_takes};
@@ -6,7 +6,7 @@ ghost use Rattle.mono_time.specs.Representation.{ArmedAnew, Rearmed};
 
 use mono_wheel::Wheel;
 
-/// Puts a key in that is out, to be due at a tick above the elapsed tick.
+/// Inserts a key that is out, to be due at a tick above the elapsed tick.
 pub(crate) fn put_in(wheel: &mut Wheel, key: usize, tick: u64)
     requires reserved { is_reserved wheel.old key ≡ true }
     requires out { timed_at wheel.old key ≡ None }
@@ -19,8 +19,8 @@ pub(crate) fn put_in(wheel: &mut Wheel, key: usize, tick: u64)
     prove!(put.is_ok());
 }
 
-/// Lets a key that is in be due at another tick above the elapsed tick. A key that is due later, or at the same tick, keeps
-/// its place.
+/// Makes a key that is in due at another tick above the elapsed tick. A key that becomes due later, or at the same
+/// tick, keeps its place.
 pub(crate) fn put_later(wheel: &mut Wheel, key: usize, tick: u64)
     requires reserved { is_reserved wheel.old key ≡ true }
     requires within { timed_at wheel.old key ≢ None }

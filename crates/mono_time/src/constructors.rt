@@ -19,12 +19,12 @@ use mono_task::TaskFuture;
 use std::alloc::Global;
 use std::time::Duration;
 
-/// The time that a sleep takes whose deadline would be past the last instant: thirty years of 365 days.
+/// The length of a sleep whose deadline would be past the last instant: thirty years of 365 days, in seconds.
 const FAR_OFF_SECONDS: u64 = 946080000;
 
-/// A fresh sleep until a deadline.
+/// Makes a fresh sleep until a deadline.
 ///
-/// Refused as the context refuses a further sleep: as shutdown, at capacity, for want of memory (`made`).
+/// Refused as the context refuses a further sleep: shutdown, then at capacity, then out of memory (`made`).
 pub fn sleep_until<C: TimeContext>(
     alloc: Global,
     cx: &mut C,
@@ -41,7 +41,7 @@ pub fn sleep_until<C: TimeContext>(
     }
 }
 
-// The deadline of a sleep for a duration from now.
+// Returns the deadline of a sleep for a duration from now.
 fn deadline_from(now: Instant, duration: Duration) -> Option<Instant>
     ensures { option_map nanos_of result ≡ deadline_after (nanos_of now) (as_nanos duration) }
 {
@@ -51,10 +51,22 @@ fn deadline_from(now: Instant, duration: Duration) -> Option<Instant>
     }
 }
 
-/// A fresh sleep for a duration from the context's now. Where that would be past the last instant, the deadline is
-/// 946,080,000 seconds from now.
+/// Makes a fresh sleep for a duration from the context's now. If its deadline would be past the last instant, the
+/// deadline is 946,080,000 seconds from now.
 ///
-/// Refused as invalid exactly where that is past the last instant too, and else as [`sleep_until`] (`made`).
+/// Refused as invalid if and only if that is past the last instant too, and otherwise as [`sleep_until`] (`made`).
+///
+/// ```rust
+/// // from use_driver/src/naps.rt: the nap answers 0 if its sleep is refused
+/// let made = match self.delay.take() {
+///     Some(delay) => Ok(delay),
+///     None => sleep(alloc, cx, self.length),
+/// };
+/// let Ok(mut delay) = made else {
+///     self.has_answered = true;
+///     return Poll::Ready(0);
+/// };
+/// ```
 pub fn sleep<C: TimeContext>(
     alloc: Global,
     cx: &mut C,
@@ -71,7 +83,7 @@ pub fn sleep<C: TimeContext>(
     }
 }
 
-/// An interval that ticks at a start and at each period after it. The period is not zero.
+/// Makes an interval that ticks at a start and at each period after it. The period is not zero.
 ///
 /// Refused as the context refuses a further sleep (`made`).
 pub fn interval_at<C: TimeContext>(
@@ -96,7 +108,7 @@ pub fn interval_at<C: TimeContext>(
     }
 }
 
-/// An interval that ticks now and at each period from now on. The period is not zero.
+/// Makes an interval that ticks now and at each period from now on. The period is not zero.
 ///
 /// Refused as the context refuses a further sleep (`made`).
 pub fn interval<C: TimeContext>(
@@ -114,9 +126,9 @@ pub fn interval<C: TimeContext>(
     interval_at(alloc, cx, start, period)
 }
 
-/// The future with a deadline.
+/// Gives a future a deadline.
 ///
-/// Refused as [`sleep_until`] is (`made`, `memory`), and then the future comes back (`future`).
+/// Refused as [`sleep_until`] is (`made`, `memory`); then the future comes back (`future`).
 pub fn timeout_at<C: TimeContext, T: TaskFuture<C>>(
     alloc: Global,
     cx: &mut C,
@@ -138,10 +150,20 @@ pub fn timeout_at<C: TimeContext, T: TaskFuture<C>>(
     }
 }
 
-/// The future with a deadline that is a duration from now; where that would be past the last instant, 946,080,000 seconds
-/// from now.
+/// Gives a future a deadline that is a duration from now. If that would be past the last instant, the deadline is
+/// 946,080,000 seconds from now.
 ///
-/// Refused as [`sleep`] is (`made`, `memory`), and then the future comes back (`future`).
+/// Refused as [`sleep`] is (`made`, `memory`); then the future comes back (`future`).
+///
+/// ```rust
+/// // from test_futures/src/interval_ticks.rt
+/// let value = Answer { value: Some(6) };
+/// let Ok(timeout) = timeout(alloc, cx, Duration::from_secs(1), value) else {
+///     return false;
+/// };
+/// let kept = timeout.get_ref().value;
+/// let back = timeout.into_inner(cx);
+/// ```
 pub fn timeout<C: TimeContext, T: TaskFuture<C>>(
     alloc: Global,
     cx: &mut C,

@@ -50,7 +50,7 @@ impl Due {
     }
 
     /// Empties the lists of an earlier step, and reserves room for all sleeps that the next one may fire. It takes
-    /// memory only if more sleeps live than the lists have had room for.
+    /// memory only if more sleeps live than the lists ever had room for.
     pub fn make_room(&mut self, timers: &Timers) -> Result<(), AllocError>
         ensures fired { OnOk result ((self.new.fired.items ≡ []) × (armed_count (sleeps_of timers.now) + vec_len self.new.fired ≤ vec_capacity self.new.fired)) }
         ensures wakers { OnOk result ((self.new.wakers.items ≡ []) × (armed_count (sleeps_of timers.now) + vec_len self.new.wakers ≤ vec_capacity self.new.wakers)) }
@@ -76,7 +76,7 @@ impl Due {
         }
     }
 
-    /// Returns the sleeps that fired as a list of just their length; `fired` keeps its memory. If the allocation fails
+    /// Returns the sleeps that fired as a list of just their length; `fired` keeps its memory. If the allocation fails,
     /// it returns `fired` itself, so a clock step never fails once it has begun.
     pub fn fired_apart(&mut self, alloc: Global) -> List<u64>
         ensures { result ≡ self.old.fired.items }
@@ -87,7 +87,7 @@ impl Due {
         }
     }
 
-    /// Returns the sleeps that fired, in as much memory as they need.
+    /// Returns the sleeps that fired, in a list of just their length.
     pub fn into_fired(self) -> List<u64>
         ensures { result ≡ self.fired.items }
     {
@@ -97,8 +97,8 @@ impl Due {
     }
 }
 
-/// Lets all sleeps fire that are due at `now`, one after another, and returns them in the lists of `room`. It wakes
-/// nobody and takes no memory.
+/// Fires all sleeps that are due at `now`, one after another, and returns them in the lists of `room`. It wakes no task
+/// and takes no memory.
 pub fn take_due<L: Ledger>(timers: &mut Timers, now: Instant, blank: Blank, room: Due) -> Due
     requires ledger { (blank.name ≡ L.name) × (blank.parts ≡ L.parts) × (0 < L.parts) }
     requires fired { (room.fired.items ≡ []) × (armed_count (sleeps_of timers.old) + vec_len room.fired ≤ vec_capacity room.fired) }

@@ -1,4 +1,4 @@
-// What the timers keep of a live sleep, at its key in the wheel.
+// The entry of a live sleep, at its key in the wheel.
 ghost use Rattle.std.specs.Prelude.{◌≡◌, ◌<◌, ◌-◌, ◌^◌, ℕ, [], ◌∷◌, ◌++◌, OnOk, OnErr, IfOk, Some, length, slice_get};
 ghost use Rattle.mono_model.specs.Table.{next_number};
 ghost use Rattle.mono_wheel.specs.Credit.{credit};
@@ -9,8 +9,8 @@ use mono_table::Table;
 use mono_wheel::Wheel;
 use std::alloc::{AllocError, Global};
 
-/// A sleep for a tick that was never armed, one that is armed with the task that polled it last, or one that has elapsed.
-/// The tick at which a sleep is armed is the wheel's.
+/// A sleep for a tick that was never armed, an armed sleep with the task that polled it last, or an elapsed sleep. The
+/// wheel has the tick at which a sleep is armed.
 #[derive(Clone, Copy)]
 pub(crate) enum State {
     Fresh(u64),
@@ -49,7 +49,7 @@ impl State {
         }
     }
 
-    /// The task that is to be woken when the sleep elapses.
+    /// Returns the task that is to be woken when the sleep elapses.
     pub(crate) fn waker(&self) -> Option<u64>
         ensures { result ≡ waker_in_state self.now }
     {
@@ -62,7 +62,7 @@ impl State {
     }
 }
 
-/// Makes an entry for a key, where there is none yet.
+/// Makes an entry for a key that has none yet.
 pub(crate) fn make_entry(entries: &mut Vec<Entry>, key: usize) -> Result<(), AllocError>
     ensures below { OnOk result (key < length entries.new.items) }
     ensures kept { (k : ℕ) → k < length entries.old.items → slice_get entries.new.items k ≡ slice_get entries.old.items k }
@@ -76,7 +76,8 @@ pub(crate) fn make_entry(entries: &mut Vec<Entry>, key: usize) -> Result<(), All
     Ok(())
 }
 
-/// Makes the places of a further sleep with this key: one for its entry, and one for its key. Without memory no key is there.
+/// Makes the places of a further sleep with this key: one for its entry, and one for its key. If out of memory, adds no
+/// key.
 pub(crate) fn make_places(
     alloc: Global,
     keys: &mut Table<u32>,
@@ -96,7 +97,7 @@ pub(crate) fn make_places(
     keys.push(alloc, key as u32)
 }
 
-/// A key for a further sleep, with its places.
+/// Reserves a key for a further sleep, with its places.
 #[inline(always)]
 pub(crate) fn make_key(
     alloc: Global,

@@ -1,4 +1,4 @@
-// What a deadline that has passed is, and why a timeout did not answer its value.
+// The error of a passed deadline, and the reasons why a timeout did not answer its value.
 ghost use Rattle.std.specs.Prelude.{◌≡◌, ◌==◌, Some, codes};
 ghost use Rattle.std.specs.IoError.{error_kind};
 ghost use Rattle.std.specs.declared.io.ErrorKind.TheVariants.{TimedOut};
@@ -27,7 +27,7 @@ impl From<Elapsed> for io::Error {
     }
 }
 
-/// Why a timeout did not answer its value.
+/// The reason why a timeout did not answer its value.
 #[derive(Debug, PartialEq, Eq, Drop)]
 pub enum TimeoutError {
     /// The deadline has come.
@@ -36,7 +36,7 @@ pub enum TimeoutError {
     Timer(Error),
 }
 
-/// Why a timeout that makes its own delay did not answer its value.
+/// The reason why a timeout that makes its own delay did not answer its value.
 #[derive(Debug, PartialEq, Eq, Drop)]
 pub enum LateError {
     /// The duration has elapsed.

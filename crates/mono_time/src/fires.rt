@@ -1,4 +1,4 @@
-// A whole clock step, for callers who do not count its steps.
+// A whole clock step, for callers that do not count its steps.
 ghost use Rattle.std.specs.Prelude.{◌≡◌, ◌<◌, ◌≤◌, ◌+◌, ℕ, OnOk, OnErr, vec_len, vec_capacity};
 ghost use Rattle.mono_time.specs.Instants.{nanos_of};
 ghost use Rattle.mono_time.specs.Sleeps.{armed_count};
@@ -13,7 +13,7 @@ use std::alloc::{AllocError, Global};
 use std::marker::Brand;
 use std::sync::ledger::{Blank, Ledger};
 
-// Lets all sleeps fire that are due. There is room for them.
+// Fires all sleeps that are due. There is room for them.
 fn fire_each<L: Ledger>(
     timers: &mut Timers,
     now: Instant,
@@ -34,11 +34,11 @@ fn fire_each<L: Ledger>(
 }
 
 impl Timers {
-    /// Lets all sleeps fire that are due at a reading, as [`Timers::clock`] does one by one, and puts their numbers and
-    /// wakers behind what the list has, in the order in which they fired (`fires`).
+    /// Fires all sleeps that are due at a reading, as [`Timers::clock`] does one by one. It appends their numbers and
+    /// wakers to the list, in the order in which they fired (`fires`).
     ///
-    /// Room for all live sleeps is made first. Where there is no memory for it nothing has changed (`refused`), so no fired
-    /// number is ever lost. The steps are not counted.
+    /// It first reserves room for all live sleeps. If that fails, nothing has changed (`refused`), so no fired number
+    /// is ever lost. It does not count the steps.
     pub fn fire_all(
         &mut self,
         _alloc: Global,
@@ -47,7 +47,7 @@ impl Timers {
     ) -> Result<(), AllocError>
         ensures fires { OnOk result (FiredAll self.old self.new (nanos_of now) fired.old.items fired.new.items) }
         ensures refused { OnErr result ((self.new ≡ self.old) × (fired.new.items ≡ fired.old.items)) }
-        // What shows the wheel under the table.
+        // These clauses show the wheel under the table.
         ensures elapsed { OnOk result (elapsed_tick self.new ≡ (sleeps_of self.new).greatest) }
         ensures registered { OnOk result ((s : ℕ) → registered_of self.new s ≡ stepped_registered (elapsed_tick self.old) (elapsed_tick self.new) (value_at (sleeps_of self.old).table s) (registered_of self.old s)) }
     {

@@ -10,7 +10,7 @@ use std::time::Duration;
 
 /// A moment, in nanoseconds since the clock's zero: from 0 to `MAX_NANOS`.
 ///
-/// Instants are equal, ordered and hashed as their numbers are.
+/// Instants are compared and hashed as their numbers are.
 #[derive(Clone, Copy, Debug, PartialEq, Eq, PartialOrd, Ord, Hash)]
 pub struct Instant {
     nanos: u128,
@@ -20,7 +20,7 @@ pub struct Instant {
 impl Instant {
     ghost use Rattle.mono_time.specs.Instants.{nanos_of};
 
-    /// The instant of a number of nanoseconds, or None exactly where it is above `MAX_NANOS`.
+    /// Returns the instant of a number of nanoseconds, or `None` if and only if it is above `MAX_NANOS`.
     pub fn from_nanos(nanos: u128) -> Option<Instant>
         ensures variant { IsSome result ↔ (nanos ≤ max_nanos) }
         ensures some { IfSome result (λ t. nanos_of t ≡ nanos) }
@@ -32,14 +32,14 @@ impl Instant {
         }
     }
 
-    /// The number of nanoseconds since the clock's zero.
+    /// Returns the number of nanoseconds since the clock's zero.
     pub fn as_nanos(&self) -> u128
         ensures { result ≡ nanos_of self.now }
     {
         self.nanos
     }
 
-    /// The tick of a deadline: milliseconds, rounded up.
+    /// Returns the tick of a deadline: milliseconds, rounded up.
     pub(crate) fn tick(&self) -> u64
         ensures tick { result ≡ up (nanos_of self.now) }
         ensures range { result < 2 ^ 63 }
@@ -47,7 +47,7 @@ impl Instant {
         ((self.nanos + 999999) / 1000000) as u64
     }
 
-    /// The tick of a clock's reading: milliseconds, rounded down.
+    /// Returns the tick of a clock's reading: milliseconds, rounded down.
     pub fn clock_tick(&self) -> u64
         ensures tick { result ≡ down (nanos_of self.now) }
         ensures range { result < 2 ^ 63 }
@@ -55,14 +55,14 @@ impl Instant {
         (self.nanos / 1000000) as u64
     }
 
-    /// The clock's reading at the start of the running turn.
+    /// Returns the clock's reading at the start of the running turn.
     pub fn now<C: Context>(cx: &C) -> Instant
         ensures { nanos_of result ≡ C.nanos cx.now }
     {
         Instant { nanos: cx.now() }
     }
 
-    /// The time from `earlier` to this instant. `earlier` is not later.
+    /// Returns the time from `earlier` to this instant. `earlier` is not later.
     pub fn duration_since(&self, earlier: Instant) -> Duration
         requires { nanos_of earlier ≤ nanos_of self.now }
         ensures { as_nanos result ≡ nanos_of self.now - nanos_of earlier }
@@ -70,7 +70,7 @@ impl Instant {
         Duration::from_nanos_u128(self.nanos - earlier.nanos)
     }
 
-    /// The time from `earlier` to this instant, or None exactly where `earlier` is later.
+    /// Returns the time from `earlier` to this instant, or `None` if and only if `earlier` is later.
     pub fn checked_duration_since(&self, earlier: Instant) -> Option<Duration>
         ensures variant { IsSome result ↔ (nanos_of earlier ≤ nanos_of self.now) }
         ensures some { IfSome result (λ d. as_nanos d + nanos_of earlier ≡ nanos_of self.now) }
@@ -82,7 +82,7 @@ impl Instant {
         }
     }
 
-    /// The time from `earlier` to this instant, and zero where `earlier` is later.
+    /// Returns the time from `earlier` to this instant, or zero if `earlier` is later.
     pub fn saturating_duration_since(&self, earlier: Instant) -> Duration
         ensures { as_nanos result ≡ nanos_of self.now - nanos_of earlier }
     {
@@ -93,7 +93,7 @@ impl Instant {
         }
     }
 
-    /// The time from this instant to `now`. `now` is not earlier.
+    /// Returns the time from this instant to `now`. `now` is not earlier.
     pub fn elapsed(&self, now: Instant) -> Duration
         requires { nanos_of self.now ≤ nanos_of now }
         ensures { as_nanos result ≡ nanos_of now - nanos_of self.now }
@@ -101,7 +101,7 @@ impl Instant {
         now.duration_since(*self)
     }
 
-    /// The instant a duration later, or None exactly where it is past `MAX_NANOS`.
+    /// Returns the instant a duration later, or `None` if and only if it is past `MAX_NANOS`.
     pub fn checked_add(&self, duration: Duration) -> Option<Instant>
         ensures variant { IsSome result ↔ (nanos_of self.now + as_nanos duration ≤ max_nanos) }
         ensures some { IfSome result (λ t. nanos_of t ≡ nanos_of self.now + as_nanos duration) }
@@ -109,7 +109,7 @@ impl Instant {
         Instant::from_nanos(self.nanos + duration.as_nanos())
     }
 
-    /// The instant a duration earlier, or None exactly where it is before the clock's zero.
+    /// Returns the instant a duration earlier, or `None` if and only if it is before the clock's zero.
     pub fn checked_sub(&self, duration: Duration) -> Option<Instant>
         ensures variant { IsSome result ↔ (as_nanos duration ≤ nanos_of self.now) }
         ensures some { IfSome result (λ t. nanos_of t + as_nanos duration ≡ nanos_of self.now) }
@@ -125,7 +125,7 @@ impl Instant {
     }
 }
 
-/// A duration later. The sum is at most `MAX_NANOS`.
+/// The sum is the instant a duration later. It is at most `MAX_NANOS`.
 impl Add<Duration> for Instant {
     ghost use Rattle.mono_time.specs.Instants.{nanos_of};
 
@@ -142,7 +142,7 @@ impl Add<Duration> for Instant {
     }
 }
 
-/// Goes a duration on. The sum is at most `MAX_NANOS`.
+/// The instant moves a duration later. The sum is at most `MAX_NANOS`.
 impl AddAssign<Duration> for Instant {
     ghost use Rattle.mono_time.specs.Instants.{nanos_of};
 
@@ -155,7 +155,7 @@ impl AddAssign<Duration> for Instant {
     }
 }
 
-/// A duration earlier. The duration is not longer than the time since the clock's zero.
+/// The difference is the instant a duration earlier. The duration is not longer than the time since the clock's zero.
 impl Sub<Duration> for Instant {
     ghost use Rattle.mono_time.specs.Instants.{nanos_of};
 
@@ -172,7 +172,7 @@ impl Sub<Duration> for Instant {
     }
 }
 
-/// Goes a duration back. The duration is not longer than the time since the clock's zero.
+/// The instant moves a duration earlier. The duration is not longer than the time since the clock's zero.
 impl SubAssign<Duration> for Instant {
     ghost use Rattle.mono_time.specs.Instants.{nanos_of};
 
@@ -185,7 +185,7 @@ impl SubAssign<Duration> for Instant {
     }
 }
 
-/// The time from the second instant to the first. The second is not later.
+/// The difference is the time from the second instant to the first. The second is not later.
 impl Sub<Instant> for Instant {
     ghost use Rattle.mono_time.specs.Instants.{nanos_of};
 

@@ -16,9 +16,22 @@ use std::time::Duration;
 /// How many nanoseconds a tick may be late before it counts as missed.
 const LATE: u128 = 5000000;
 
-/// Ticks at a start and at each period after it. A tick is polled for by [`Interval::poll_tick`].
+/// A source of ticks at a start and at each period after it. [`Interval::poll_tick`] polls for a tick.
 ///
-/// An interval that is let go without [`Interval::cancel`] leaves its delay in the context.
+/// An interval that is dropped without [`Interval::cancel`] leaves its delay in the context.
+///
+/// ```rust
+/// // from test_futures/src/interval_ticks.rt: at 199 ms, four ticks follow at once
+/// let Ok(mut ticks) = interval(alloc, cx, Duration::from_millis(50)) else {
+///     return false;
+/// };
+/// go_to(cx, 199);
+/// for millis in [0, 50, 100, 150] {
+///     if ticks.poll_tick(cx) != Ok(Poll::Ready(at_millis(millis))) {
+///         return false;
+///     }
+/// }
+/// ```
 #[derive(Drop)]
 pub struct Interval {
     pub(crate) delay: Sleep,
@@ -27,7 +40,7 @@ pub struct Interval {
     pub ghost goes_on: { 0 < as_nanos period },
 }
 
-// The deadline after the tick of a deadline, in nanoseconds.
+// Returns the deadline after the tick of a deadline, in nanoseconds.
 fn next_after(behavior: MissedTickBehavior, deadline: u128, period: Duration, now: u128) -> u128
     requires deadline_in { deadline ≤ max_nanos }
     requires now_in { now ≤ max_nanos }
@@ -49,21 +62,21 @@ impl Interval {
     ghost use Rattle.mono_time.specs.IntervalTicks.{TickPolls};
     ghost use Rattle.mono_time.specs.Futures.{SleepCancels};
 
-    /// The time between two ticks; it is not zero.
+    /// Returns the time between two ticks; it is not zero.
     pub fn period(&self) -> Duration
         ensures { result ≡ self.now.period }
     {
         self.period
     }
 
-    /// What happens once a tick was missed.
+    /// Returns the behavior after a missed tick.
     pub fn missed_tick_behavior(&self) -> MissedTickBehavior
         ensures { result ≡ self.now.behavior }
     {
         self.behavior
     }
 
-    /// Sets what happens once a tick was missed.
+    /// Sets the behavior after a missed tick.
     pub fn set_missed_tick_behavior(&mut self, behavior: MissedTickBehavior)
         ensures behavior { self.new.behavior ≡ behavior }
         ensures delay { self.new.delay ≡ self.old.delay }
@@ -72,10 +85,12 @@ impl Interval {
         self.behavior = behavior;
     }
 
-    /// The next tick, once its deadline has come; the running task is woken then. The delay goes on to the next deadline.
+    /// Polls for the next tick, which comes at its deadline; the running task is woken then. After a tick, the delay
+    /// moves to the next deadline.
     ///
-    /// Refused as invalid exactly where the delay has come and the next deadline is past the last instant: the delay then
-    /// stays elapsed at its old deadline. Refused as shutdown exactly where the context has no such live sleep (`ticks`).
+    /// Refused as invalid if and only if the delay has elapsed and the next deadline is past the last instant; the
+    /// delay then stays elapsed at its old deadline. Refused as shutdown if and only if the context has no such live
+    /// sleep (`ticks`).
     pub fn poll_tick<C: TimeContext>(&mut self, cx: &mut C) -> Result<Poll<Instant>, Error>
         ensures ticks { TickPolls C.number C.nanos C.sleeps C.work self.old cx.old result self.new cx.new }
         ensures reached { C.reaches cx.old cx.new }
@@ -96,7 +111,7 @@ impl Interval {
         }
     }
 
-    /// Gives the interval up, with its delay.
+    /// Gives up the interval and its delay.
     pub fn cancel<C: TimeContext>(self, cx: &mut C)
         ensures cancelled { SleepCancels C.sleeps C.work C.reaches self.delay cx.old cx.new }
         ensures reached { C.reaches cx.old cx.new }

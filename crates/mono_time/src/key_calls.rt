@@ -1,4 +1,4 @@
-// What a call does to the sleep at a key.
+// The effect of each call on the sleep at a key.
 ghost use Rattle.std.specs.Prelude.{◌≡◌, ◌<◌, ◌≤◌, ◌+◌, ◌-◌, ◌^◌, true, is_some};
 ghost use Rattle.mono_wheel.specs.Model.{timed_at, is_reserved};
 ghost use Rattle.mono_wheel.specs.Credit.{credit, most_takes};
@@ -10,7 +10,7 @@ use crate::arms::{put_in, put_later};
 use crate::entry::{Entry, State};
 use mono_wheel::Wheel;
 
-/// Polls the sleep at a key for a task: a fresh one is armed first. The answer is whether it has elapsed.
+/// Polls the sleep at a key for a task, and first arms a fresh one. Returns whether it has elapsed.
 pub(crate) fn poll_entry(
     wheel: &mut Wheel,
     entry: &mut Entry,
@@ -48,7 +48,7 @@ pub(crate) fn poll_entry(
     }
 }
 
-/// Takes a key out of the wheel, where it is in.
+/// Takes a key out of the wheel, if it is in.
 pub(crate) fn take_out(wheel: &mut Wheel, key: usize, is_armed: bool)
     requires { is_some (timed_at wheel.old key) ≡ is_armed }
     ensures out { Out wheel.old wheel.new key }
@@ -59,7 +59,7 @@ pub(crate) fn take_out(wheel: &mut Wheel, key: usize, is_armed: bool)
     }
 }
 
-/// The sleep has elapsed. The answer is its waker.
+/// Marks the sleep as elapsed. Returns its waker.
 pub(crate) fn elapse(entry: &mut Entry) -> Option<u64>
     ensures waker { result ≡ waker_in_state entry.old.state }
     ensures entry { entry.new ≡ record { sleep = entry.old.sleep; state = Elapsed } }
@@ -69,7 +69,7 @@ pub(crate) fn elapse(entry: &mut Entry) -> Option<u64>
     waker
 }
 
-/// Arms the sleep at a key at a tick. Where it elapses at once, the answer is its waker.
+/// Arms the sleep at a key at a tick. If it elapses at once, returns its waker.
 pub(crate) fn reset_entry(
     wheel: &mut Wheel,
     entry: &mut Entry,

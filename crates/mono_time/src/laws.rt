@@ -11,19 +11,21 @@ ghost use Rattle.mono_time.specs.Sleeps.{SleepTable, IsNoneArmedUpTo, IsFiredFir
 use crate::instant::Instant;
 use std::hash::Hash;
 
-/// Instants are compared and hashed as their numbers.
+/// Shows that instants are compared and hashed as their numbers.
 pub fn instants_are_numbers()
     ensures eq { (a b : Instant) → ⟦<Instant as PartialEq>⟧.eq a b ≡ (nanos_of a == nanos_of b) }
     ensures cmp { (a b : Instant) → ⟦<Instant as Ord>⟧.cmp a b ≡ nat_cmp (nanos_of a) (nanos_of b) }
     ensures hash { (a : Instant) → ⟦<Instant as Hash>⟧.hash_input a ≡ fed.u128 (nanos_of a) }
 {}
 
-/// A sleep that is armed for a deadline fires only once the greatest reading of the clock so far is not before the deadline.
+/// Shows that a sleep that is armed for a deadline fires only once the clock's greatest reading so far has reached the
+/// deadline.
 pub fn none_fires_early()
     ensures { (sleeps : SleepTable) (clock deadline s : ℕ) (waker task : Option ℕ) → sleeps.greatest ≡ down clock → value_at sleeps.table s ≡ Some (armed (up deadline) task) → IsFiredFirst sleeps s waker → deadline ≤ clock }
 {}
 
-/// After a clock step every armed sleep has a tick above the greatest, and so it stays until the next clock step.
+/// Shows that additions, polls, resets and removals keep every armed sleep's tick above the greatest, as a clock step
+/// leaves them.
 pub fn none_is_late()
     ensures added { (sleeps : SleepTable) (tick : ℕ) → IsNoneArmedUpTo sleeps → IsNoneArmedUpTo (with_added_sleep sleeps tick) }
     ensures polled { (sleeps : SleepTable) (s by : ℕ) → IsNoneArmedUpTo sleeps → IsNoneArmedUpTo (with_polled_sleep sleeps s by) }

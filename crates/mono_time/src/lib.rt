@@ -1,4 +1,4 @@
-//! Instants, sleeps and what waits for them.
+//! Instants, sleeps, and the futures that wait for them.
 #![tactic(auto)]
 
 mod arms;

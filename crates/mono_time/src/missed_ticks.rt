@@ -1,11 +1,11 @@
-// What an interval does about ticks that were missed.
+// The behavior of an interval after missed ticks.
 ghost use Rattle.std.specs.Prelude.{◌≡◌};
 ghost use Rattle.mono_time.specs.declared.missed_ticks.MissedTickBehavior.TheVariants.{Burst};
 
-/// What an [`crate::Interval`] does once a tick was polled more than 5 ms after its deadline.
+/// The behavior of an [`crate::Interval`] once a tick was polled more than 5 ms after its deadline.
 #[derive(Clone, Copy, Debug, PartialEq, Eq)]
 pub enum MissedTickBehavior {
-    /// The next tick is a period after the one that was missed, so that ticks follow at once until none is missing.
+    /// The next tick is a period after the missed one, so that ticks follow at once until none is missing.
     Burst,
     /// The next tick is a period after now.
     Delay,

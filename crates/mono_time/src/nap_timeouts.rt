@@ -1,4 +1,4 @@
-// A future that has to be ready within a time from its first poll on.
+// A future with a limited time from its first poll on.
 ghost use Rattle.std.specs.Prelude.{◌≡◌, None, Some};
 ghost use Rattle.mono_time.specs.Naps.{nap_spent};
 ghost use Rattle.mono_time.specs.NapTimeouts.{limit_spent, LimitCanPoll, LimitPolls, LimitGives, LimitCancels, late_cause};
@@ -12,7 +12,7 @@ use mono_task::TaskFuture;
 use std::alloc::Global;
 use std::time::Duration;
 
-/// A future with a deadline that is a duration from its first poll on. It asks for no context before.
+/// A future with a deadline that is a duration from its first poll on. It needs no context before.
 ///
 /// Each poll polls the future first, and the delay if the future waits. Once one has answered, both are given up, the
 /// future first, and the timeout is spent.
@@ -33,7 +33,7 @@ pub fn timeout_for<T>(duration: Duration, future: T) -> TimeoutFor<T>
     }
 }
 
-// Why there is no output, from the delay's answer.
+// Returns why there is no output, from the delay's answer.
 fn cause_of(answer: Result<(), SleepError>) -> LateError
     ensures { result ≡ late_cause answer }
 {
@@ -44,7 +44,7 @@ fn cause_of(answer: Result<(), SleepError>) -> LateError
 }
 
 impl<T> TimeoutFor<T> {
-    // Gives both up.
+    // Gives up the future and the delay.
     fn end<C: TimeContext>(&mut self, cx: &mut C)
     where
         T: TaskFuture<C>,

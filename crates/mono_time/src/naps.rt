@@ -13,7 +13,7 @@ use std::alloc::Global;
 use std::mem;
 use std::time::Duration;
 
-/// A sleep for a duration from its first poll on. So it can stand behind another future: it asks for no context before.
+/// A sleep for a duration from its first poll on. So it can follow another future: it needs no context before.
 #[derive(Drop)]
 pub enum SleepFor {
     /// It was not polled.
@@ -24,7 +24,7 @@ pub enum SleepFor {
     Over,
 }
 
-/// A sleep for a duration from its first poll on.
+/// Makes a sleep for a duration from its first poll on.
 pub fn sleep_for(duration: Duration) -> SleepFor
     ensures { result ≡ SleepFor.Fresh duration }
 {
@@ -32,7 +32,7 @@ pub fn sleep_for(duration: Duration) -> SleepFor
 }
 
 impl SleepFor {
-    // Whether it has answered.
+    // Returns whether it has answered.
     pub(crate) fn is_over(&self) -> bool
         ensures { result ≡ nap_spent self.now }
     {
@@ -43,7 +43,7 @@ impl SleepFor {
         }
     }
 
-    // The sleep is polled, and given up where it answered.
+    // Polls the sleep, and gives it up if it answered.
     fn go_on<C: TimeContext, R: Host>(
         &mut self,
         rt: &R,

@@ -15,8 +15,8 @@ use std::alloc::Global;
 
 /// A sleep of a context: its number there, and its deadline. It answers once the deadline has come.
 ///
-/// A sleep that is let go without [`TaskFuture::cancel`] stays in the context. One that is used in another context names
-/// that context's sleep of the same number.
+/// A sleep that is dropped without [`TaskFuture::cancel`] stays in the context. In another context, it names that
+/// context's sleep of the same number.
 #[derive(Debug, PartialEq, Eq, Drop)]
 pub struct Sleep {
     pub(crate) number: u64,
@@ -24,32 +24,32 @@ pub struct Sleep {
 }
 
 impl Sleep {
-    /// When the sleep ends.
+    /// Returns the instant at which the sleep ends.
     pub fn deadline(&self) -> Instant
         ensures { result ≡ self.now.deadline }
     {
         self.deadline
     }
 
-    /// The sleep's number in its context.
+    /// Returns the sleep's number in its context.
     pub fn number(&self) -> u64
         ensures { result ≡ self.now.number }
     {
         self.number
     }
 
-    /// Whether the sleep has elapsed in the context: false of one that was never polled or reset.
+    /// Returns whether the sleep has elapsed in the context. It is false for a sleep that was never polled or reset.
     ///
-    /// Refused as shutdown exactly where the context has no such live sleep.
+    /// Refused as shutdown if and only if the context has no such live sleep.
     pub fn is_elapsed<C: TimeContext>(&self, cx: &C) -> Result<bool, Error>
         ensures { result ≡ sleep_elapsed_answer (C.sleeps cx.now) self.now.number }
     {
         cx.sleep_elapsed(self.number)
     }
 
-    /// Arms the sleep anew for a deadline. Where it elapses at once, its waker is woken (`work`).
+    /// Arms the sleep anew for a deadline. If it elapses at once, its waker is woken (`work`).
     ///
-    /// Refused as shutdown exactly where the context has no such live sleep; then the deadline stays (`refused`).
+    /// Refused as shutdown if and only if the context has no such live sleep; then the deadline stays (`refused`).
     pub fn reset<C: TimeContext>(&mut self, cx: &mut C, deadline: Instant) -> Result<(), Error>
         ensures answer { result ≡ without_waker (sleep_reset_answer (C.sleeps cx.old) self.old.number (nanos_of deadline)) }
         ensures sleeps { C.sleeps cx.new ≡ with_reset_sleep (C.sleeps cx.old) self.old.number (nanos_of deadline) }
@@ -68,7 +68,7 @@ impl Sleep {
 impl<C: TimeContext> TaskFuture<C> for Sleep {
     type Output = Result<(), Error>;
 
-    // it may be polled again, and then answers the same until it is reset
+    // A sleep may always be polled again, and then answers the same until it is reset.
     ghost is_spent = { λ s. false };
 
     ghost polls = { SleepPolls C.number C.sleeps C.work C.reaches };

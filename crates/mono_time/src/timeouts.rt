@@ -13,33 +13,33 @@ use mono_model::{Host, Poll};
 use mono_task::TaskFuture;
 use std::alloc::Global;
 
-/// A future with a deadline. Its value is polled first and wins; a timeout is spent where its value is.
+/// A future with a deadline. Each poll polls its value first, so an output wins. A timeout is spent if its value is.
 ///
-/// After an Ok answer the delay is gone; after an Err it stays until `cancel` or [`Timeout::into_inner`].
+/// After an `Ok` answer the delay has been dropped; after an `Err` it stays until `cancel` or [`Timeout::into_inner`].
 #[derive(Drop)]
 pub struct Timeout<T> {
     pub(crate) value: T,
     pub(crate) delay: Sleep,
 }
 
-/// The future, back from a timeout that was refused, and why.
+/// The future of a refused timeout, and the cause.
 #[derive(Drop)]
 pub struct TimeoutRefused<T> {
-    /// Why no delay was made.
+    /// The reason why no delay was made.
     pub cause: SleepError,
     /// The future that was handed in.
     pub future: T,
 }
 
 impl<T> Timeout<T> {
-    /// The future.
+    /// Returns a reference to the future.
     pub fn get_ref(&self) -> &T
         ensures { result.now ≡ self.now.value }
     {
         &self.value
     }
 
-    /// The future, to be changed. The delay stays.
+    /// Returns a mutable reference to the future. The delay stays.
     pub fn get_mut(&mut self) -> &mut T
         ensures* writes_back { sem 𝓛 (LendsValue T.row self.entry result) }
         ensures value { result.now ≡ self.old.value }
@@ -47,7 +47,7 @@ impl<T> Timeout<T> {
         &mut self.value
     }
 
-    /// The future alone. The delay is given up.
+    /// Returns the future and gives up the delay.
     pub fn into_inner<C: TimeContext>(self, cx: &mut C) -> T
         ensures value { result ≡ self.value }
         ensures delay { SleepCancels C.sleeps C.work C.reaches self.delay cx.old cx.new }

@@ -20,17 +20,17 @@ use std::sync::ledger::Ledger;
 
 /// The sleeps of an executor, by their numbers, on a [`Wheel`].
 ///
-/// A sleep is fresh, armed at a tick, or elapsed; an armed sleep has at most one waker, the task that polled it last. Ticks
-/// are milliseconds below 2^63. Only `new` and `add` take memory. A sleep's number is never given twice, and of a sleep that
-/// was removed nothing stays: each key of the wheel is that of a live sleep (`holds`).
+/// A sleep is fresh, armed at a tick, or elapsed. An armed sleep has at most one waker, the task that polled it last.
+/// Ticks are milliseconds below 2^63. Only `new` and `add` take memory. A sleep's number is never given twice, and the
+/// table keeps nothing of a removed sleep: each key of the wheel belongs to a live sleep (`holds`).
 #[derive(Drop)]
 pub struct Timers {
     wheel: Wheel,
-    // by the sleep's number its key in the wheel, while it is live
+    // The key of each live sleep in the wheel, by the sleep's number.
     keys: Table<u32>,
-    // by key, what is kept of the sleep
+    // The entry of the sleep at each key.
     entries: Vec<Entry>,
-    // the greatest tick of the clock so far
+    // The greatest tick of the clock so far.
     greatest: u64,
     limit: u64,
     live: u64,
@@ -38,7 +38,7 @@ pub struct Timers {
     pub ghost holds: { Holds wheel keys entries.items greatest live },
 }
 
-// The key of a sleep in the wheel, while it is live.
+// Returns the key of a sleep in the wheel, while it is live.
 fn key_at(keys: &Table<u32>, sleep: u64) -> Option<usize>
     ensures { result ≡ value_at keys.now sleep }
 {
@@ -48,7 +48,7 @@ fn key_at(keys: &Table<u32>, sleep: u64) -> Option<usize>
     }
 }
 
-// Whether no further sleep is given out, where so many live and this number is the next.
+// Returns whether no further sleep is given out, if `live` sleeps live and `next` is the next number.
 fn is_at_end(live: u64, limit: u64, next: u64) -> bool
     ensures { result ≡ (nat_le limit live || (next == 2 ^ 64 - 1)) }
 {
@@ -76,11 +76,11 @@ impl Timers {
     ghost use Rattle.mono_time.specs.SlotRegistration.{RegistersOnly, polled_registered, reset_registered, moved_registered, IsRegistered, NextExpiration};
     ghost use Rattle.mono_time.specs.Refinement.{StandsForSleeps};
 
-    /// Timers without sleeps, for at most `limit` live ones; without `enabled` no sleep is ever made.
+    /// Makes timers without sleeps, for at most `limit` live ones. Without `enabled` no sleep is ever made.
     pub fn new(alloc: Global, limit: u64, enabled: bool) -> Result<Timers, AllocError>
         ensures sleeps { IfOk result (λ timers. sleeps_of timers ≡ empty_sleep_table limit enabled) }
         ensures stands { IfOk result (λ timers. StandsForSleeps timers (model.no_sleeps limit)) }
-        // What shows the wheel under the table.
+        // These clauses show the wheel under the table.
         ensures elapsed { IfOk result (λ timers. elapsed_tick timers ≡ 0) }
         ensures registered { IfOk result (λ timers. (s : ℕ) → registered_of timers s ≡ None) }
         ensures credit { IfOk result (λ timers. credit_left timers ≡ 0) }
@@ -97,7 +97,8 @@ impl Timers {
         })
     }
 
-    /// Whether no further sleep is given out: exactly where the live sleeps are at the limit or the next number is 2^64 - 1.
+    /// Returns whether no further sleep is given out: if and only if the live sleeps are at the limit or the next
+    /// number is 2^64 - 1.
     pub fn is_full(&self) -> bool
         ensures full { result ≡ is_full (sleeps_of self.now).table (sleeps_of self.now).limit }
         ensures stands { (m : Sleeps) → StandsForSleeps self.now m → result ≡ is_full m.table m.limit }
@@ -105,7 +106,7 @@ impl Timers {
         is_at_end(self.live, self.limit, self.keys.len())
     }
 
-    /// How many sleeps live (`live`). No more than these are armed (`armed`).
+    /// Returns how many sleeps live (`live`). At most this number is armed (`armed`).
     pub fn live(&self) -> u64
         ensures live { result ≡ count_of (sleeps_of self.now).table }
         ensures armed { armed_count (sleeps_of self.now) ≤ result }
@@ -113,15 +114,16 @@ impl Timers {
         self.live
     }
 
-    /// A fresh sleep for a deadline, with the next number. It counts as live until it is removed.
+    /// Adds a fresh sleep for a deadline, with the next number. It counts as live until it is removed.
     ///
-    /// Refused as shutdown exactly where the timers are not enabled, and then at capacity exactly where the live sleeps are
-    /// at the limit or the next number is 2^64 - 1; want of memory comes last. No refusal changes anything (`added`).
+    /// Refused as shutdown if and only if the timers are not enabled, then as at capacity if and only if the live
+    /// sleeps are at the limit or the next number is 2^64 - 1. Out of memory comes last. A refusal changes nothing
+    /// (`added`).
     #[inline(always)]
     pub fn add(&mut self, alloc: Global, deadline: Instant) -> Result<u64, SleepError>
         ensures added { Added (sleeps_of self.old) (nanos_of deadline) result (sleeps_of self.new) }
         ensures stands { (m : Sleeps) → StandsForSleeps self.old m → machine.Adds (sleeps_of self.old).is_enabled m (nanos_of deadline) result (StandsForSleeps self.new) }
-        // What shows the wheel under the table.
+        // These clauses show the wheel under the table.
         ensures elapsed { elapsed_tick self.new ≡ elapsed_tick self.old }
         ensures registered { (s : ℕ) → registered_of self.new s ≡ registered_of self.old s }
         ensures credit { credit_left self.new ≡ credit_left self.old }
@@ -144,14 +146,15 @@ impl Timers {
         }
     }
 
-    /// Polls a sleep for a task: a fresh one is armed first at the tick of its deadline. Ready where it has elapsed, and else
-    /// the task is its only waker. Refused as shutdown exactly where no live sleep has the number (`answer`).
+    /// Polls a sleep for a task, and first arms a fresh one at the tick of its deadline. It is ready if it has elapsed;
+    /// otherwise the task becomes its only waker. Refused as shutdown if and only if no live sleep has the number
+    /// (`answer`).
     #[inline(always)]
     pub fn poll(&mut self, sleep: u64, by: u64) -> Result<Poll<()>, Error>
         ensures answer { result ≡ sleep_poll_answer (sleeps_of self.old) sleep }
         ensures sleeps { sleeps_of self.new ≡ with_polled_sleep (sleeps_of self.old) sleep by }
         ensures stands { (m : Sleeps) → StandsForSleeps self.old m → (result ≡ machine.poll_answer m sleep) × StandsForSleeps self.new (machine.polled m sleep by) }
-        // What shows the wheel under the table.
+        // These clauses show the wheel under the table.
         ensures elapsed { elapsed_tick self.new ≡ elapsed_tick self.old }
         ensures registered { RegistersOnly (registered_of self.old) (registered_of self.new) sleep (polled_registered (sleeps_of self.old).greatest (value_at (sleeps_of self.old).table sleep) (registered_of self.old sleep)) }
         ensures raise { credit_left self.new ≤ credit_left self.old + poll_raise (elapsed_tick self.old) (value_at (sleeps_of self.old).table sleep) }
@@ -166,13 +169,13 @@ impl Timers {
         }
     }
 
-    /// Arms a sleep at the tick of a new deadline. Where it elapses at once, the answer is its waker, which is to be woken;
-    /// else the waker stays. Refused as shutdown exactly where no live sleep has the number (`answer`).
+    /// Arms a sleep at the tick of a new deadline. If it elapses at once, returns its waker, which is to be woken;
+    /// otherwise the waker stays. Refused as shutdown if and only if no live sleep has the number (`answer`).
     pub fn reset(&mut self, sleep: u64, deadline: Instant) -> Result<Option<u64>, Error>
         ensures answer { result ≡ sleep_reset_answer (sleeps_of self.old) sleep (nanos_of deadline) }
         ensures sleeps { sleeps_of self.new ≡ with_reset_sleep (sleeps_of self.old) sleep (nanos_of deadline) }
         ensures stands { (m : Sleeps) → StandsForSleeps self.old m → (result ≡ machine.reset_answer m sleep (nanos_of deadline)) × StandsForSleeps self.new (machine.reset m sleep (nanos_of deadline)) }
-        // What shows the wheel under the table.
+        // These clauses show the wheel under the table.
         ensures elapsed { elapsed_tick self.new ≡ elapsed_tick self.old }
         ensures registered { IsNoneArmedUpTo (sleeps_of self.old) → RegistersOnly (registered_of self.old) (registered_of self.new) sleep (reset_registered (sleeps_of self.old).greatest (up (nanos_of deadline)) (value_at (sleeps_of self.old).table sleep) (registered_of self.old sleep)) }
         ensures raise { credit_left self.new ≤ credit_left self.old + most_takes (up (nanos_of deadline) - elapsed_tick self.old) }
@@ -187,13 +190,13 @@ impl Timers {
         }
     }
 
-    /// Gives a sleep up: it is gone, and wakes nobody. Refused as shutdown exactly where no live sleep has the number
+    /// Removes a sleep, which wakes no task. Refused as shutdown if and only if no live sleep has the number
     /// (`answer`).
     pub fn remove(&mut self, sleep: u64) -> Result<(), Error>
         ensures answer { result ≡ sleep_remove_answer (sleeps_of self.old) sleep }
         ensures sleeps { sleeps_of self.new ≡ with_removed_sleep (sleeps_of self.old) sleep }
         ensures stands { (m : Sleeps) → StandsForSleeps self.old m → (result ≡ machine.remove_answer m sleep) × StandsForSleeps self.new (machine.removed m sleep) }
-        // What shows the wheel under the table.
+        // These clauses show the wheel under the table.
         ensures elapsed { elapsed_tick self.new ≡ elapsed_tick self.old }
         ensures registered { RegistersOnly (registered_of self.old) (registered_of self.new) sleep None }
         ensures raise { credit_left self.new ≤ credit_left self.old }
@@ -211,7 +214,7 @@ impl Timers {
         }
     }
 
-    /// Whether a sleep has elapsed. Refused as shutdown exactly where no live sleep has the number.
+    /// Returns whether a sleep has elapsed. Refused as shutdown if and only if no live sleep has the number.
     pub fn is_elapsed(&self, sleep: u64) -> Result<bool, Error>
         ensures answer { result ≡ sleep_elapsed_answer (sleeps_of self.now) sleep }
         ensures stands { (m : Sleeps) → StandsForSleeps self.now m → result ≡ machine.elapsed_answer m sleep }
@@ -222,16 +225,16 @@ impl Timers {
         }
     }
 
-    /// The greatest tick of the clock so far.
+    /// Returns the greatest tick of the clock so far.
     pub fn greatest(&self) -> u64
         ensures { result ≡ (sleeps_of self.now).greatest }
     {
         self.greatest
     }
 
-    /// Where the sleeps are registered: a sleep is registered exactly while it is armed, ahead of the tick up to which the
-    /// wheel has gone and not after its own, unless it is pending (`registered`). The wheel has not gone beyond the greatest
-    /// tick (`behind`). The call does nothing.
+    /// Shows where sleeps are registered: a sleep is registered if and only if it is armed, and then either it is
+    /// pending, or above the tick that the wheel has reached and at most its own (`registered`). The wheel's tick is at
+    /// most the greatest tick (`behind`). The call does nothing.
     pub fn registers_armed(&self)
         ensures registered { (s : ℕ) → IsRegistered (elapsed_tick self.now) (value_at (sleeps_of self.now).table s) (registered_of self.now s) }
         ensures behind { elapsed_tick self.now ≤ (sleeps_of self.now).greatest }
@@ -239,12 +242,12 @@ impl Timers {
         let _ = self.wheel.elapsed();
     }
 
-    /// The next sleep that fires in the clock step to a reading, with its waker, which is to be woken. The greatest tick
-    /// becomes the greater of itself and the reading's tick, rounded down (`none`, `some`).
+    /// Fires the next sleep of the clock step to a reading, and returns it with its waker, which is to be woken. The
+    /// greatest tick becomes the greater of itself and the reading's tick, rounded down (`none`, `some`).
     ///
-    /// None exactly where no armed sleep has a tick up to the greatest. Sleeps fire in ascending ticks, and of those of one
-    /// tick that were not moved the one that was armed first fires first (`stands`). A clock step is a run of calls with one
-    /// reading, until one answers None. Its steps are exactly the fall of the wheel's credit (`steps`).
+    /// Returns `None` if and only if no armed sleep has a tick up to the greatest. Sleeps fire in ascending ticks, and
+    /// unmoved sleeps of one tick fire in the order of their arming (`stands`). A clock step is a run of calls with one
+    /// reading, until one returns `None`. The fall of the wheel's credit is the exact count of its steps (`steps`).
     pub fn clock<L: Ledger>(
         &mut self,
         now: Instant,
@@ -254,7 +257,7 @@ impl Timers {
         ensures some { IfSome result (λ x. IsFiredFirst (at_clock_tick (sleeps_of self.old) (nanos_of now)) x.0 x.1 × (sleeps_of self.new ≡ with_fired_sleep (at_clock_tick (sleeps_of self.old) (nanos_of now)) x.0)) }
         ensures fewer { OnSome result (armed_count (sleeps_of self.new) < armed_count (sleeps_of self.old)) }
         ensures stands { (m : Sleeps) → StandsForSleeps self.old m → machine.Fires (machine.at_clock m (nanos_of now)) result (StandsForSleeps self.new) }
-        // What shows the wheel under the table.
+        // These clauses show the wheel under the table.
         ensures elapsed { IfNone result (elapsed_tick self.new ≡ (sleeps_of self.new).greatest) }
         ensures later { elapsed_tick self.old ≤ elapsed_tick self.new }
         ensures reached { IfSome result (λ x. value_at (sleeps_of self.old).table x.0 ≡ Some (armed (elapsed_tick self.new) x.1)) }
@@ -275,11 +278,11 @@ impl Timers {
         }
     }
 
-    /// The next tick at which the wheel has something to do: None exactly where no sleep is armed, else the first start of a
-    /// slot with a sleep (`next`).
+    /// Returns the next tick at which the wheel has something to do. It is `None` if and only if no sleep is armed,
+    /// else the first start of a slot with a sleep (`next`).
     ///
-    /// While no clock step is under way it is above the greatest tick and not above the least armed tick (`ahead`). It is
-    /// there only where some sleep is armed (`armed`).
+    /// While no clock step is under way it is above the greatest tick and at most the least armed tick (`ahead`). It
+    /// exists only if some sleep is armed (`armed`).
     pub fn next_expiration_time(&self) -> Option<u64>
         ensures next { NextExpiration (elapsed_tick self.now) (registered_of self.now) (sleeps_of self.now) result }
         ensures armed { IfSome result (λ next. IsOneArmed (sleeps_of self.now)) }
