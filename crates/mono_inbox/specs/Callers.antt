@@ -1,4 +1,4 @@
--- The callers of a recorded inbox, and what a wake with a caller's share tells.
+-- The callers of a recorded inbox, and the reply to a wake with a caller's share.
 use Rattle.std.specs.Prelude.{◌≡◌, ◌+◌, ◌++◌, ℕ, zero, suc, Bool, true, false, List, [], ◌∷◌}
 use Rattle.mono_inbox.specs.declared.shares.PutReply.{PutReply}
 use Rattle.mono_inbox.specs.declared.shares.PutReply.TheVariants.{Kept, Unkept}
@@ -8,7 +8,7 @@ pub record Caller : Type 0 where
   pub number : ℕ
   pub calls : ℕ
 
--- the reply is Unkept exactly where the state was full, and has the put's answer
+-- Whether the reply carries the put's answer, and is Unkept if and only if the state was full.
 abbrev pub IsPutReply : PutReply → Bool → Bool → Type 0
 IsPutReply (Kept listed) full answer = (full ≡ false) × (listed ≡ answer)
 IsPutReply (Unkept listed) full answer = (full ≡ true) × (listed ≡ answer)
@@ -16,12 +16,12 @@ IsPutReply (Unkept listed) full answer = (full ≡ true) × (listed ≡ answer)
 abbrev pub with_a_call : Caller → Caller
 with_a_call c = record { number = c.number; calls = c.calls + 1 }
 
--- a kept wake adds one to the caller's calls, another nothing
+-- Whether a kept wake adds one to the caller's calls, and any other reply adds nothing.
 abbrev pub CountsKept : PutReply → Caller → Caller → Type 0
 CountsKept (Kept listed) old new = new ≡ with_a_call old
 CountsKept (Unkept listed) old new = new ≡ old
 
--- so many callers, numbered from 0, with no calls
+-- The given number of callers, numbered from 0, with no calls.
 abbrev pub new_callers : ℕ → List Caller
 new_callers zero = []
 new_callers (suc n) = new_callers n ++ record { number = n; calls = 0 } ∷ []

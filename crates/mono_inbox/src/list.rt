@@ -1,4 +1,4 @@
-// The plain state of an inbox: who waits, and who is known.
+// The plain state of an inbox: which tasks wait, and which are known.
 ghost use Rattle.std.specs.Prelude.{◌≡◌, ◌+◌, ◌<◌, ◌≤◌, false, IfOk, OnOk, OnErr, MatchOption, length, vec_len, vec_capacity, [], ◌∷◌, ◌++◌};
 ghost use Rattle.std.specs.VecDeque.{deque_len, deque_capacity};
 ghost use Rattle.mono_model.specs.Inbox.{is_waiting};
@@ -10,13 +10,13 @@ use std::alloc::{AllocError, Global};
 use std::collections::VecDeque;
 use std::marker::Model;
 
-/// The room that is made for the first task.
+/// The number of places that the list reserves for its first task.
 const LEAST_ROOM: usize = 4;
 
-/// Tasks that other threads have woken, each once and in order, and the tasks that may be woken so.
+/// The tasks that other threads have woken, each once and in order, and the tasks that other threads may wake.
 ///
-/// The memory is that of the pages of marks in which some task is known or waits, of 4,096 bytes each, and eight bytes for
-/// each task that is known or waits.
+/// A task that is known or waits takes eight bytes. Each page of marks takes 4,096 bytes if one of its tasks is known
+/// or waits.
 #[derive(Drop)]
 pub(crate) struct Listing {
     waiting: VecDeque<u64>,
@@ -40,7 +40,7 @@ impl Model for Listing {
 }
 
 impl Listing {
-    /// An inbox in which no task waits and none is known, with room for so many tasks.
+    /// Returns a list in which no task waits and no task is known, with room for `capacity` tasks.
     pub(crate) fn new(alloc: Global, capacity: usize) -> Result<Listing, AllocError>
         ensures { IfOk result (λ state. state ≡ no_state) }
     {
@@ -51,9 +51,9 @@ impl Listing {
         })
     }
 
-    /// Makes the task known, and its place in the list sure: no later `put` of it takes memory.
+    /// Makes the task known and reserves its place in the list, so that no later `put` of it takes memory.
     ///
-    /// Where memory is refused nothing changes; it is never wanted for a task that is known or waits (`wanted`).
+    /// Nothing changes if it is out of memory. It never is for a task that is known or waits (`wanted`).
     pub(crate) fn know(&mut self, alloc: Global, task: u64) -> Result<(), AllocError>
         ensures known { OnOk result (AlsoKnows self.old self.new task) }
         ensures refused { OnErr result (self.new ≡ self.old) }
@@ -71,8 +71,8 @@ impl Listing {
         Ok(())
     }
 
-    /// Makes tasks from this number on known, so many at most, with their places in the list. Answers how many: none where a
-    /// later number was made known before, or where there was no memory.
+    /// Makes at most `count` tasks from `task` on known, with their places in the list. Returns how many: none if a
+    /// later number was made known before, or if it is out of memory.
     pub(crate) fn know_behind(&mut self, task: u64, count: usize) -> usize
         ensures most { result ≤ count }
         ensures known { AlsoKnowsRow self.old self.new task (task + result) }
@@ -90,8 +90,8 @@ impl Listing {
         }
     }
 
-    /// Lists the task's wake: true where the task now waits, last. False exactly where it waits already or is not
-    /// known; then nothing changes.
+    /// Appends the task to the list and returns true. Returns false, and changes nothing, if and only if the task waits
+    /// already or is not known.
     pub(crate) fn put(&mut self, task: u64) -> bool
         ensures answer { result ≡ put_answer self.old task }
         ensures state { self.new ≡ after_put self.old task }
@@ -106,7 +106,7 @@ impl Listing {
         }
     }
 
-    /// Takes the first waiting task out of the list. None exactly where the list is empty.
+    /// Removes and returns the first waiting task. Returns `None` if and only if the list is empty.
     pub(crate) fn drain_one(&mut self) -> Option<u64>
         ensures { MatchOption result ((self.old.waiting ≡ []) × (self.new ≡ self.old)) (λ t. (self.old.waiting ≡ t ∷ self.new.waiting) × (self.new.known ≡ self.old.known)) }
     {
@@ -136,7 +136,7 @@ impl Listing {
         }
     }
 
-    /// How many tasks wait.
+    /// Returns how many tasks wait.
     pub(crate) fn waiting(&self) -> usize
         ensures count { result ≡ length self.now.waiting }
         ensures distinct { HasNoDoubles self.now.waiting }
@@ -144,7 +144,7 @@ impl Listing {
         self.waiting.len()
     }
 
-    /// Makes the task unknown. Where it waits, its entry stays until the drain.
+    /// Makes the task unknown. The entry of a waiting task stays until the drain.
     #[inline(always)]
     pub(crate) fn retire(&mut self, task: u64)
         ensures { Forgets self.old self.new task }
@@ -159,8 +159,8 @@ impl Listing {
         }
     }
 
-    /// Makes tasks in a row from this number on unknown, so many at most. Answers how many: those that are known and do not
-    /// wait, up to the first that does not stand so, and in one page.
+    /// Makes at most `count` tasks in a row, from `from` on, unknown. Returns how many. It stops at the page's end, and
+    /// before the first task that waits or is not known.
     #[inline(always)]
     pub(crate) fn retire_row(&mut self, from: u64, count: usize) -> usize
         ensures most { result ≤ count }
@@ -175,8 +175,8 @@ impl Listing {
     }
 }
 
-/// Makes the list's room that of so many places, of which the waiting tasks are some, and so many more. What is too little at
-/// least doubles, so that a task costs the same however many there are.
+/// Reserves `count` places in the list in addition to `places`, which include those of the waiting tasks. Room that is
+/// too small at least doubles, so a task's cost does not depend on their number.
 fn make_room(waiting: &mut VecDeque<u64>, places: usize, count: usize) -> Result<(), AllocError>
     requires waiting { deque_len waiting.old ≤ places }
     requires places { places ≤ deque_capacity waiting.old }

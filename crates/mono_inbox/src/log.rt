@@ -9,19 +9,19 @@ use std::marker::Model;
 /// One call on the state of an inbox, with its reply.
 #[derive(Clone, Copy, Debug, PartialEq, Eq)]
 pub enum CallEntry {
-    /// The task was made known.
+    /// The call made the task known.
     Know(u64),
-    /// A wake of the task, and whether it was listed.
+    /// The call was a wake of the task; the flag says whether it was listed.
     Put(u64, bool),
-    /// The first waiting task was asked for, and this one was taken.
+    /// The call took the first waiting task, or found none.
     DrainOne(Option<u64>),
-    /// All waiting tasks were taken: so many.
+    /// The call took all waiting tasks, this number of them.
     Drain(u64),
-    /// The task was made unknown.
+    /// The call made the task unknown.
     Retire(u64),
 }
 
-/// The kept calls in order, until so many are kept.
+/// The kept calls in order, up to a fixed number.
 #[derive(Drop)]
 pub(crate) struct CallLog {
     entries: Vec<CallEntry>,
@@ -42,7 +42,7 @@ impl Model for CallLog {
 }
 
 impl CallLog {
-    /// An empty log that will keep so many calls.
+    /// Returns an empty log that will keep `calls` calls.
     pub(crate) fn new(alloc: Global, calls: usize) -> Result<CallLog, AllocError>
         ensures { IfOk result (λ log. log ≡ no_entries calls) }
     {
@@ -54,21 +54,21 @@ impl CallLog {
         })
     }
 
-    /// As many calls are kept as may be.
+    /// Returns whether the log keeps no further call.
     pub(crate) fn is_full(&self) -> bool
         ensures { result ≡ is_full self.now }
     {
         self.entries.len() == self.calls
     }
 
-    /// The kept calls in order.
+    /// Returns the kept calls in order.
     pub(crate) fn entries(&self) -> &Vec<CallEntry>
         ensures { result.now.items ≡ self.now.entries }
     {
         &self.entries
     }
 
-    /// How many kept wakes were made without a share.
+    /// Returns how many kept wakes were made without a share.
     pub(crate) fn plain_puts(&self) -> u64
         ensures number { result ≡ self.now.plain_puts }
         ensures counted { result + self.now.ledger_puts ≡ count_puts self.now.entries }
@@ -76,7 +76,7 @@ impl CallLog {
         self.plain_puts
     }
 
-    /// How many kept wakes were made with a share.
+    /// Returns how many kept wakes were made with a share.
     pub(crate) fn ledger_puts(&self) -> u64
         ensures number { result ≡ self.now.ledger_puts }
         ensures counted { self.now.plain_puts + result ≡ count_puts self.now.entries }
@@ -108,7 +108,7 @@ impl CallLog {
     }
 }
 
-/// One for a wake, and none for another call.
+/// Returns one for a wake, and zero for another call.
 fn puts_in(entry: &CallEntry) -> u64
     ensures { result ≡ put_in entry.now }
 {

@@ -1,4 +1,4 @@
-// The directory: the parts of all tasks, and so how each task stands.
+// The directory: the parts with the standings of all tasks.
 ghost use Rattle.std.specs.Prelude.{◌≡◌, ◌<◌, ◌≤◌, ◌^◌, ◌++◌, ℕ, true, [], length, replicate, OnOk, OnErr, slice_set};
 ghost use Rattle.mono_inbox.specs.Standings.{has_place, standing_at, AreKnown, without_row};
 ghost use Rattle.mono_inbox.specs.Pages.{with_mark, child_at, closed_before};
@@ -8,12 +8,12 @@ use crate::standings::Standing;
 use std::alloc::{AllocError, Global};
 use std::marker::Model;
 
-/// How each task stands, by its number.
+/// The standing of each task, by its number.
 ///
-/// A standing is read and changed in constant time. The standings lie in pages of 4,096, a byte each, and the pages in parts
-/// of 256. A page is given back once none of its tasks has a place and a later page was begun, and so is a part. So the
-/// memory is that of the pages in which some task has a place, of the page that is begun, of the heads of the pages of their
-/// parts, and 40 bytes for every 1,048,576 numbers.
+/// A standing is read and changed in constant time. A page holds 4,096 standings of a byte each, and a part holds 256
+/// pages. A page is freed once none of its tasks has a place and a later page was begun; so is a part. The memory is
+/// that of the pages in which some task has a place, and of the page begun last. The heads of the pages in their parts,
+/// and 40 bytes for every 1,048,576 numbers, are added.
 #[derive(Drop)]
 pub(crate) struct Marks {
     parts: Vec<Part>,
@@ -33,7 +33,7 @@ impl Model for Marks {
 }
 
 impl Marks {
-    /// All tasks are unknown. It takes no memory.
+    /// Returns a directory in which all tasks are unknown. It takes no memory.
     pub(crate) fn new(alloc: Global) -> Marks
         ensures { result ≡ [] }
     {
@@ -43,14 +43,14 @@ impl Marks {
         }
     }
 
-    /// The number behind the last that was ever made known.
+    /// Returns the number after the last that was ever made known.
     pub(crate) fn len(&self) -> usize
         ensures { result ≡ length self.now }
     {
         self.len
     }
 
-    /// How a task stands.
+    /// Returns the task's standing.
     #[inline(always)]
     pub(crate) fn standing(&self, task: u64) -> Standing
         ensures { result ≡ standing_at self.now task }
@@ -66,9 +66,9 @@ impl Marks {
         self.parts[at].standing(task % PART)
     }
 
-    /// A task that was unknown stands so.
+    /// Gives a task that was unknown this standing.
     ///
-    /// Refused for want of memory alone, and then all is as it was (`refused`). The task 2^64 - 1 never has a place.
+    /// Fails if it is out of memory or the task is 2^64 - 1, which never has a place; then nothing changes (`refused`).
     pub(crate) fn mark(
         &mut self,
         alloc: Global,
@@ -93,8 +93,8 @@ impl Marks {
         Ok(())
     }
 
-    /// Tasks from the number behind the last are known, so many at most. Answers how many: the rest of the page that is begun,
-    /// where it has an entry for each number before, and where there was memory.
+    /// Makes at most `count` tasks after the last number known, and returns how many. It stops at the end of the page
+    /// begun last. Returns zero if that page lacks an entry for an earlier number, or if it is out of memory.
     #[inline(always)]
     pub(crate) fn extend(&mut self, count: usize) -> usize
         ensures most { result ≤ count }
@@ -111,8 +111,8 @@ impl Marks {
         more
     }
 
-    /// A task that has a place stands otherwise. It takes no memory, and gives back the memory of a page in which no task
-    /// has a place any more and in which no number comes.
+    /// Gives a task that has a place another standing. It takes no memory. It frees a page that gets no further number
+    /// once no task of the page has a place.
     #[inline(always)]
     pub(crate) fn change(&mut self, task: u64, standing: Standing)
         requires { has_place (standing_at self.old task) ≡ true }
@@ -124,8 +124,8 @@ impl Marks {
         self.parts[at].change(task % PART, standing, is_closed);
     }
 
-    /// The tasks in a row from this one on, in its page, that are known and do not wait, so many at most, are unknown. Answers
-    /// how many. It gives back memory as `change` does.
+    /// Makes at most `count` tasks in a row, from `task` on and in its page, unknown. Each of them is known and does
+    /// not wait. Returns how many, and frees memory as `change` does.
     #[inline(always)]
     pub(crate) fn forget(&mut self, task: u64, count: usize) -> usize
         requires { has_place (standing_at self.old task) ≡ true }
@@ -141,7 +141,7 @@ impl Marks {
     }
 }
 
-// Where the part that was begun last is another than that at this place, no number of it comes any more.
+// Closes the part that was begun last if it is another than the part at this place: it gets no further number.
 fn close_before(parts: &mut Vec<Part>, begun: usize, at: usize)
     ensures { parts.new.items ≡ closed_before parts.old.items begun at }
 {
@@ -150,7 +150,7 @@ fn close_before(parts: &mut Vec<Part>, begun: usize, at: usize)
     }
 }
 
-// The part at this place is there.
+// Adds parts up to the part at this place.
 fn open_part(parts: &mut Vec<Part>, alloc: Global, at: usize) -> Result<(), AllocError>
     requires { at < 2 ^ 44 }
     ensures same { (i : ℕ) → child_at parts.new.items i ≡ child_at parts.old.items i }

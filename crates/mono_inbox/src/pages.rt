@@ -1,4 +1,4 @@
-// A page: the standings of as many tasks in a row, in one piece of memory.
+// A page: the standings of 4,096 tasks in a row, in one piece of memory.
 ghost use Rattle.std.specs.Prelude.{◌≡◌, ◌+◌, ◌<◌, ◌≤◌, ◌++◌, ◌∷◌, true, [], OnOk, OnErr, length, replicate, slice_set, vec_len, vec_capacity};
 ghost use Rattle.mono_inbox.specs.Standings.{has_place, standing_at, count_where, AreKnown, without_row};
 ghost use Rattle.mono_inbox.specs.Pages.{grown, with_mark, left_of};
@@ -7,10 +7,11 @@ use crate::standings::{Standing, is_idle, places_of};
 use std::alloc::{AllocError, Global};
 use std::marker::Model;
 
-/// How many tasks a page has.
+/// The number of tasks in a page.
 pub(crate) const PAGE: usize = 4096;
 
-/// How the tasks of one page stand, up to the last that was made known. It takes its memory with the first, all at once.
+/// The standings of the tasks of one page, up to the last that was made known. The page allocates all its memory with
+/// the first entry.
 #[derive(Drop)]
 pub(crate) struct Page {
     standings: Vec<Standing>,
@@ -30,7 +31,7 @@ impl Model for Page {
 }
 
 impl Page {
-    /// A page without entries, and without memory.
+    /// Returns a page without entries and without memory.
     pub(crate) fn new(alloc: Global) -> Page
         ensures { result ≡ [] }
     {
@@ -40,21 +41,21 @@ impl Page {
         }
     }
 
-    /// How many of its tasks have a place.
+    /// Returns how many of its tasks have a place.
     pub(crate) fn count(&self) -> usize
         ensures { result ≡ count_where has_place self.now }
     {
         self.placed
     }
 
-    /// How many of its tasks have an entry.
+    /// Returns how many of its tasks have an entry.
     pub(crate) fn len(&self) -> usize
         ensures { result ≡ length self.now }
     {
         self.standings.len()
     }
 
-    /// How the task at a place stands.
+    /// Returns the standing of the task at a place.
     #[inline(always)]
     pub(crate) fn standing(&self, at: usize) -> Standing
         ensures { result ≡ standing_at self.now at }
@@ -65,7 +66,7 @@ impl Page {
         }
     }
 
-    /// The task at a place, which was unknown, stands so.
+    /// Gives the task at a place, which was unknown, this standing.
     pub(crate) fn mark(&mut self, at: usize, standing: Standing) -> Result<(), AllocError>
         requires inside { at < 4096 }
         requires unknown { standing_at self.old at ≡ Standing.Unknown }
@@ -78,7 +79,7 @@ impl Page {
         Ok(())
     }
 
-    /// So many tasks more, behind those that have an entry, are known, where some have one.
+    /// Appends `count` known tasks after those that have an entry, if the page has entries.
     #[inline(always)]
     pub(crate) fn extend(&mut self, count: usize) -> Result<(), AllocError>
         requires begun { 0 < length self.old }
@@ -92,8 +93,8 @@ impl Page {
         Ok(())
     }
 
-    /// The task at a place, which has a place in the list, stands otherwise. Where the page is closed and that was its last
-    /// task with a place, its memory is given back.
+    /// Gives the task at a place, which has a place in the list, another standing. It frees the memory of a closed page
+    /// if that was the last task with a place.
     #[inline(always)]
     pub(crate) fn change(&mut self, at: usize, standing: Standing, is_closed: bool)
         requires { has_place (standing_at self.old at) ≡ true }
@@ -103,8 +104,8 @@ impl Page {
         self.leave(is_closed);
     }
 
-    /// The tasks in a row from this place on that are known and do not wait, so many at most, are unknown. Answers how many.
-    /// Where the page is closed and none of its tasks has a place any more, its memory is given back.
+    /// Makes at most `count` tasks in a row, from this place on, unknown, and returns how many. Each of them is known
+    /// and does not wait. It frees the memory of a closed page if none of its tasks has a place any more.
     #[inline(always)]
     pub(crate) fn forget(&mut self, at: usize, count: usize, is_closed: bool) -> usize
         requires { at < 4096 }
@@ -117,7 +118,7 @@ impl Page {
         row
     }
 
-    /// No number of it comes any more: where no task of it has a place, its memory is given back.
+    /// Closes the page, which gets no further number. It frees the memory if no task of the page has a place.
     pub(crate) fn close(&mut self)
         ensures { self.new ≡ left_of true self.old }
     {
@@ -126,7 +127,7 @@ impl Page {
         }
     }
 
-    // Where the page is closed and no task of it has a place, its memory is given back.
+    // Frees the memory if the page is closed and no task of it has a place.
     #[inline(always)]
     fn leave(&mut self, is_closed: bool)
         ensures { self.new ≡ left_of is_closed self.old }
@@ -136,7 +137,7 @@ impl Page {
         }
     }
 
-    // The tasks in a row from this place on that are known and do not wait, so many at most, are unknown.
+    // Makes at most `count` tasks in a row, from this place on, unknown. Each of them is known and does not wait.
     #[inline(always)]
     fn write_row(&mut self, at: usize, count: usize) -> usize
         requires { at < 4096 }
@@ -149,7 +150,7 @@ impl Page {
         row
     }
 
-    // The task at a place, which has a place in the list, stands otherwise.
+    // Gives the task at a place, which has a place in the list, another standing.
     #[inline(always)]
     fn write(&mut self, at: usize, standing: Standing)
         requires { has_place (standing_at self.old at) ≡ true }
@@ -160,7 +161,7 @@ impl Page {
     }
 }
 
-// The task at a place stands so. Most often the place is the next behind the entries.
+// Writes the standing of the task at a place. Most often the place is the next after the entries.
 #[inline(always)]
 #[tactic(auto, using(crate::proofs::LayoutLemmas::mark_behind))]
 fn put_mark(standings: &mut Vec<Standing>, at: usize, standing: Standing) -> Result<(), AllocError>
@@ -177,7 +178,7 @@ fn put_mark(standings: &mut Vec<Standing>, at: usize, standing: Standing) -> Res
     Ok(())
 }
 
-// One entry more, behind the others.
+// Appends one entry.
 #[inline(always)]
 fn add_mark(standings: &mut Vec<Standing>, standing: Standing) -> Result<(), AllocError>
     ensures items { OnOk result (standings.new.items ≡ standings.old.items ++ standing ∷ []) }
@@ -189,7 +190,7 @@ fn add_mark(standings: &mut Vec<Standing>, standing: Standing) -> Result<(), All
     Ok(())
 }
 
-// Makes entries up to the place's, where it has none. Most often that is one more.
+// Appends entries up to the place if it has none. Most often that is one entry.
 fn make_entry(standings: &mut Vec<Standing>, at: usize) -> Result<(), AllocError>
     requires { at < 4096 }
     ensures items { OnOk result (standings.new.items ≡ grown standings.old.items at) }
@@ -206,7 +207,7 @@ fn make_entry(standings: &mut Vec<Standing>, at: usize) -> Result<(), AllocError
     Ok(())
 }
 
-// So many entries more, of tasks that stand so.
+// Appends `missing` entries with this standing.
 fn fill(standings: &mut Vec<Standing>, missing: usize, standing: Standing)
     requires { vec_len standings.old + missing ≤ vec_capacity standings.old }
     ensures items { standings.new.items ≡ standings.old.items ++ replicate missing standing }
@@ -217,7 +218,7 @@ fn fill(standings: &mut Vec<Standing>, missing: usize, standing: Standing)
     }
 }
 
-// The tasks in a row from this place on that are known and do not wait, so many at most, are unknown.
+// Makes at most `count` tasks in a row, from this place on, unknown. Each of them is known and does not wait.
 #[inline(always)]
 fn clear_known(standings: &mut Vec<Standing>, at: usize, count: usize) -> usize
     requires { at < 4096 }
@@ -235,7 +236,7 @@ fn clear_known(standings: &mut Vec<Standing>, at: usize, count: usize) -> usize
     row
 }
 
-// No entry, and no memory.
+// Removes all entries and frees their memory.
 fn give_back(standings: &mut Vec<Standing>)
     ensures items { standings.new.items ≡ [] }
     ensures room { vec_capacity standings.new ≡ 0 }

@@ -1,4 +1,4 @@
-// A part of the directory: the pages of as many tasks in a row.
+// A part of the directory: the pages of 1,048,576 tasks in a row.
 ghost use Rattle.std.specs.Prelude.{◌≡◌, ◌+◌, ◌<◌, ◌≤◌, ◌++◌, ◌⊎◌, ℕ, true, [], length, replicate, OnOk, OnErr, slice_set, vec_capacity};
 ghost use Rattle.mono_inbox.specs.Standings.{has_place, standing_at, count_where, AreKnown, without_row};
 ghost use Rattle.mono_inbox.specs.Pages.{with_mark, left_of, child_at, closed_before};
@@ -8,11 +8,11 @@ use crate::standings::{Standing, places_of};
 use std::alloc::{AllocError, Global};
 use std::marker::Model;
 
-/// How many tasks a part has.
+/// The number of tasks in a part.
 pub(crate) const PART: usize = 1048576;
 
-/// How the tasks of one part stand, up to the last that was made known. A page that is closed, in which no task has a
-/// place, has no memory.
+/// The standings of the tasks of one part, up to the last that was made known. A closed page in which no task has a
+/// place has no memory.
 #[derive(Drop)]
 pub(crate) struct Part {
     pages: Vec<Page>,
@@ -33,7 +33,7 @@ impl Model for Part {
 }
 
 impl Part {
-    /// A part without entries, and without memory.
+    /// Returns a part without entries and without memory.
     pub(crate) fn new(alloc: Global) -> Part
         ensures { result ≡ [] }
     {
@@ -44,21 +44,21 @@ impl Part {
         }
     }
 
-    /// How many of its tasks have a place.
+    /// Returns how many of its tasks have a place.
     pub(crate) fn count(&self) -> usize
         ensures { result ≡ count_where has_place self.now }
     {
         self.placed
     }
 
-    /// How many of its tasks have an entry.
+    /// Returns how many of its tasks have an entry.
     pub(crate) fn len(&self) -> usize
         ensures { result ≡ length self.now }
     {
         self.len
     }
 
-    /// How a task stands.
+    /// Returns the task's standing.
     #[inline(always)]
     pub(crate) fn standing(&self, task: usize) -> Standing
         ensures { result ≡ standing_at self.now task }
@@ -70,7 +70,7 @@ impl Part {
         self.pages[at].standing(task % PAGE)
     }
 
-    /// A task that was unknown stands so.
+    /// Gives a task that was unknown this standing.
     pub(crate) fn mark(
         &mut self,
         alloc: Global,
@@ -93,8 +93,8 @@ impl Part {
         Ok(())
     }
 
-    /// Tasks behind those that have an entry are known, so many at most. Answers how many: those of the page that is begun,
-    /// where it has an entry for each number before, and where there was memory.
+    /// Makes at most `count` tasks after those that have an entry known, and returns how many. It stops at the end of
+    /// the page begun last. Returns zero if that page lacks an entry for an earlier number, or if it is out of memory.
     #[inline(always)]
     pub(crate) fn extend(&mut self, count: usize) -> usize
         requires inside { length self.old + count ≤ 1048576 }
@@ -117,8 +117,8 @@ impl Part {
         }
     }
 
-    /// A task that has a place stands otherwise. Where the part is closed and that was its last task with a place, its
-    /// memory is given back.
+    /// Gives a task that has a place another standing. It frees the memory of a closed part if that was the last task
+    /// with a place.
     #[inline(always)]
     pub(crate) fn change(&mut self, task: usize, standing: Standing, is_closed: bool)
         requires { has_place (standing_at self.old task) ≡ true }
@@ -128,8 +128,8 @@ impl Part {
         self.leave(is_closed);
     }
 
-    /// The tasks in a row from this one on, in its page, that are known and do not wait, so many at most, are unknown. Answers
-    /// how many. Where the part is closed and none of its tasks has a place any more, its memory is given back.
+    /// Makes at most `count` tasks in a row, from `task` on and in its page, unknown, and returns how many. Each of
+    /// them is known and does not wait. It frees the memory of a closed part if none of its tasks has a place any more.
     #[inline(always)]
     pub(crate) fn forget(&mut self, task: usize, count: usize, is_closed: bool) -> usize
         requires { has_place (standing_at self.old task) ≡ true }
@@ -142,7 +142,7 @@ impl Part {
         row
     }
 
-    /// No number of it comes any more: where no task of it has a place, its memory is given back.
+    /// Closes the part, which gets no further number. It frees the memory if no task of the part has a place.
     pub(crate) fn close(&mut self)
         ensures { self.new ≡ left_of true self.old }
     {
@@ -151,7 +151,7 @@ impl Part {
         }
     }
 
-    // Where the part is closed and no task of it has a place, its memory is given back.
+    // Frees the memory if the part is closed and no task of it has a place.
     #[inline(always)]
     fn leave(&mut self, is_closed: bool)
         ensures { self.new ≡ left_of is_closed self.old }
@@ -161,7 +161,8 @@ impl Part {
         }
     }
 
-    // The tasks in a row from this one on, in its page, that are known and do not wait, so many at most, are unknown.
+    // Makes at most `count` tasks in a row, from `task` on and in its page, unknown. Each of them is known and does not
+    // wait.
     #[inline(always)]
     fn write_row(&mut self, task: usize, count: usize) -> usize
         requires { has_place (standing_at self.old task) ≡ true }
@@ -177,7 +178,7 @@ impl Part {
         row
     }
 
-    // A task that has a place stands otherwise.
+    // Gives a task that has a place another standing.
     #[inline(always)]
     fn write(&mut self, task: usize, standing: Standing)
         requires { has_place (standing_at self.old task) ≡ true }
@@ -189,7 +190,7 @@ impl Part {
         self.placed = self.placed - 1 + places_of(standing);
     }
 
-    // No task of it has a place.
+    // Removes all pages; no task of the part has a place.
     fn clear(&mut self)
         ensures { self.new ≡ [] }
     {
@@ -199,7 +200,7 @@ impl Part {
     }
 }
 
-/// The lesser of two numbers.
+/// Returns the lesser of two numbers.
 #[inline(always)]
 pub(crate) fn lesser_of(a: usize, b: usize) -> usize
     ensures first { result ≤ a }
@@ -208,7 +209,7 @@ pub(crate) fn lesser_of(a: usize, b: usize) -> usize
     if a < b { a } else { b }
 }
 
-/// The greater of two numbers.
+/// Returns the greater of two numbers.
 pub(crate) fn greater_of(a: usize, b: usize) -> usize
     ensures first { a ≤ result }
     ensures second { b ≤ result }
@@ -217,7 +218,7 @@ pub(crate) fn greater_of(a: usize, b: usize) -> usize
     if a < b { b } else { a }
 }
 
-// Where the page that was begun last is another than that at this place, no number of it comes any more.
+// Closes the page that was begun last if it is another than the page at this place: it gets no further number.
 fn close_before(pages: &mut Vec<Page>, begun: usize, at: usize)
     ensures items { pages.new.items ≡ closed_before pages.old.items begun at }
     ensures room { vec_capacity pages.new ≡ vec_capacity pages.old }
@@ -227,7 +228,7 @@ fn close_before(pages: &mut Vec<Page>, begun: usize, at: usize)
     }
 }
 
-// The page at this place is there.
+// Adds pages up to the page at this place.
 fn open_page(pages: &mut Vec<Page>, alloc: Global, at: usize) -> Result<(), AllocError>
     requires { at < 256 }
     ensures same { (i : ℕ) → child_at pages.new.items i ≡ child_at pages.old.items i }
@@ -246,7 +247,7 @@ fn open_page(pages: &mut Vec<Page>, alloc: Global, at: usize) -> Result<(), Allo
     Ok(())
 }
 
-// No page, and no memory.
+// Removes all pages and frees their memory.
 fn give_back(pages: &mut Vec<Page>)
     ensures items { pages.new.items ≡ [] }
     ensures room { vec_capacity pages.new ≡ 0 }

@@ -14,15 +14,15 @@ use std::marker::Model;
 use std::sync::ledger::{Book, Ledger, Share};
 use std::sync::{Arc, Mutex};
 
-/// What a recorded inbox and its wakers share. Whoever takes the lock knows of the value what `Recorded` and
-/// `InboxState` say of themselves.
+/// The part of a recorded inbox that its wakers share. A thread that holds the lock knows the invariants of `Recorded`
+/// and `InboxState`.
 #[derive(Drop)]
 struct RecordedShared<U: Unpark, L: Ledger> {
     recorded: Mutex<Recorded<L>>,
     unpark: U,
 }
 
-/// As an `Inbox`, over a recorded state, whose wakes with shares are counted in a ledger with one part for each caller.
+/// An `Inbox` over a recorded state. A ledger with one part for each caller counts the wakes with shares.
 #[derive(Drop)]
 pub struct RecordedInbox<U: Unpark, L: Ledger> {
     shared: Arc<RecordedShared<U, L>, Global>,
@@ -30,7 +30,7 @@ pub struct RecordedInbox<U: Unpark, L: Ledger> {
 }
 
 impl<U: Unpark, L: Ledger> RecordedInbox<U, L> {
-    /// An inbox in which no task waits, none is known and no call was made, and a share for each caller.
+    /// Returns an inbox in which no task waits, no task is known and no call was made, and a share for each caller.
     pub fn new(
         alloc: Global,
         capacity: usize,
@@ -57,7 +57,7 @@ impl<U: Unpark, L: Ledger> RecordedInbox<U, L> {
         Ok((RecordedInbox { shared, callers }, shares))
     }
 
-    /// A waker of the task, which is made known. Where memory is refused the inbox stays as it was.
+    /// Makes the task known and returns a waker of it. The inbox stays as it was if the call is out of memory.
     pub fn waker<R: Host>(
         &self,
         rt: &R,
@@ -71,7 +71,7 @@ impl<U: Unpark, L: Ledger> RecordedInbox<U, L> {
         Ok(RecordedWaker { shared, task })
     }
 
-    /// The calls of all shares, added up. With fewer shares than callers it hands them back.
+    /// Adds up the calls of all shares. It gives the shares back if there are fewer of them than callers.
     pub fn gather<R: Host>(
         &self,
         rt: &R,
@@ -87,7 +87,7 @@ impl<U: Unpark, L: Ledger> RecordedInbox<U, L> {
         Ok(self.shared.recorded.lock(rt).sum(shares))
     }
 
-    /// As `Inbox::drain`.
+    /// Drains the inbox as `Inbox::drain` does.
     pub fn drain<R: Host>(
         &self,
         rt: &R,
@@ -100,13 +100,13 @@ impl<U: Unpark, L: Ledger> RecordedInbox<U, L> {
         self.shared.recorded.lock(rt).drain(alloc, into)
     }
 
-    /// As `Inbox::retire`.
+    /// Makes the task unknown as `Inbox::retire` does.
     pub fn retire<R: Host>(&self, rt: &R, task: u64) {
         self.shared.recorded.lock(rt).retire(task);
     }
 
-    /// What `look` answers of the state and the calls that it kept. It is lent them under the lock, so no other call
-    /// is made meanwhile.
+    /// Returns the answer of `look` to the state and the calls that it kept. `look` borrows them under the lock, so no
+    /// other call is made meanwhile.
     pub fn look<R: Host, T, F: FnOnce(&InboxState) -> T>(&self, rt: &R, look: F) -> T
         requires { F.IsAlwaysCallable look }
         ensures { (state : Recording) × FnOnceReturnsAt F.FnOnce look state result }
@@ -116,7 +116,7 @@ impl<U: Unpark, L: Ledger> RecordedInbox<U, L> {
     }
 }
 
-/// Wakes one task of one recorded inbox, from any thread. A contract sees its task's number.
+/// A waker of one task of one recorded inbox, for any thread. A contract sees its task's number.
 #[derive(Drop)]
 pub struct RecordedWaker<U: Unpark, L: Ledger> {
     shared: Arc<RecordedShared<U, L>, Global>,
@@ -132,14 +132,14 @@ impl<U: Unpark, L: Ledger> Model for RecordedWaker<U, L> {
 }
 
 impl<U: Unpark, L: Ledger> RecordedWaker<U, L> {
-    /// As `RemoteWaker::wake`: the put is counted in no share.
+    /// Wakes the task as `RemoteWaker::wake` does. No share counts the put.
     pub fn wake<R: Host>(&self, rt: &R) -> bool {
         let listed = self.shared.recorded.lock(rt).put(self.task);
         self.shared.unpark.unpark(rt);
         listed
     }
 
-    /// The same by `Recorded::put_with`: a wake that was kept has added one to the share's calls.
+    /// Wakes the task by `Recorded::put_with`: a wake that was kept has added one to the share's calls.
     pub fn wake_with<R: Host>(&self, rt: &R, share: &mut CallShare<L>) -> PutReply
         requires { share.old.calls < 2 ^ 64 - 1 }
         ensures calls { CountsKept result share.old share.new }
@@ -149,7 +149,7 @@ impl<U: Unpark, L: Ledger> RecordedWaker<U, L> {
         reply
     }
 
-    /// The task's number.
+    /// Returns the task's number.
     pub fn task(&self) -> u64
         ensures { result ≡ self.now }
     {

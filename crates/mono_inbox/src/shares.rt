@@ -1,4 +1,4 @@
-// The recorded state beside the book of a ledger, and the shares of its callers.
+// The recorded state with the book of a ledger, and the shares of its callers.
 ghost use Rattle.std.specs.Prelude.{◌≡◌, ◌+◌, ◌-◌, ◌<◌, ◌^◌, ◌++◌, [], true, false, length, vec_len, sum_by, OnOk, OnErr};
 ghost use Rattle.mono_inbox.specs.declared.log.CallEntry.TheVariants.{Know, Put, Drain, Retire};
 ghost use Rattle.mono_inbox.specs.State.{put_answer, after_put, with_list, AlsoKnows, Forgets, HasNoDoubles};
@@ -11,7 +11,7 @@ use std::alloc::{AllocError, Global};
 use std::marker::Model;
 use std::sync::ledger::{Book, Ledger, Share};
 
-/// What a wake with a share did, with the answer of the put.
+/// The result of a wake with a share, with the answer of the put.
 #[derive(Clone, Copy, Debug, PartialEq, Eq)]
 pub enum PutReply {
     /// The put was kept, and counted in the share.
@@ -42,7 +42,7 @@ impl<L: Ledger> Model for CallShare<L> {
 }
 
 impl<L: Ledger> CallShare<L> {
-    /// A share of one part, with no calls.
+    /// Returns a share of one part, with no calls.
     pub(crate) fn over(number: u64, share: Share<L>) -> CallShare<L>
         requires { (share.parts ≡ 1) × (share.amount ≡ 0) }
         ensures { result ≡ record { number = number; calls = 0 } }
@@ -54,14 +54,14 @@ impl<L: Ledger> CallShare<L> {
         }
     }
 
-    /// The caller's number.
+    /// Returns the caller's number.
     pub fn number(&self) -> u64
         ensures { result ≡ self.now.number }
     {
         self.number
     }
 
-    /// How many kept wakes were made with this share.
+    /// Returns how many kept wakes were made with this share.
     pub fn calls(&self) -> u64
         ensures { result ≡ self.now.calls }
     {
@@ -69,7 +69,7 @@ impl<L: Ledger> CallShare<L> {
     }
 }
 
-/// What lies under the lock of a recorded inbox: its state, and the book of the ledger that counts its wakes.
+/// The value under the lock of a recorded inbox: its state, and the book of the ledger that counts its wakes.
 #[derive(Drop)]
 pub struct Recorded<L: Ledger> {
     pub(crate) state: InboxState,
@@ -78,7 +78,7 @@ pub struct Recorded<L: Ledger> {
 }
 
 impl<L: Ledger> Recorded<L> {
-    /// A state in which no wake was counted, beside a book of nothing.
+    /// Returns a state in which no wake was counted, with an empty book.
     pub(crate) fn over(state: InboxState, book: Book<L>) -> Recorded<L>
         requires { book.total ≡ state.log.ledger_puts }
         ensures state { result.state ≡ state }
@@ -86,7 +86,7 @@ impl<L: Ledger> Recorded<L> {
         Recorded { state, book }
     }
 
-    /// Puts the task. Where the state keeps the call it is counted in the share.
+    /// Puts the task. The share counts the call if the state keeps it.
     pub fn put_with(&mut self, task: u64, share: &mut CallShare<L>) -> PutReply
         requires { share.old.calls < 2 ^ 64 - 1 }
         ensures answer { IsPutReply result (is_full self.old.state.log) (put_answer self.old.state.state task) }
@@ -126,7 +126,7 @@ impl<L: Ledger> Recorded<L> {
         self.state.put(task)
     }
 
-    /// With room made in `into`, takes all that waits, or nothing.
+    /// Reserves room in `into` and takes all waiting tasks, or takes none.
     pub(crate) fn drain(&mut self, alloc: Global, into: &mut Vec<u64>) -> Result<(), AllocError>
         ensures items { OnOk result (into.new.items ≡ into.old.items ++ self.old.state.state.waiting) }
         ensures distinct { HasNoDoubles self.old.state.state.waiting }
@@ -145,7 +145,7 @@ impl<L: Ledger> Recorded<L> {
         self.state.retire(task);
     }
 
-    /// The calls of all these shares, added up. Each of them is counted in the book, so the sum is no number above it.
+    /// Adds up the calls of all these shares. The book counts each of them, so the sum is at most the book's.
     pub(crate) fn sum(&mut self, shares: Vec<CallShare<L>>) -> u64
         ensures sum { result ≡ sum_by (λ s. s.calls) shares.items }
         ensures all { 0 < vec_len shares → vec_len shares ≡ L.parts → result ≡ self.old.state.log.ledger_puts }

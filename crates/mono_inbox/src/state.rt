@@ -1,4 +1,4 @@
-// The state of an inbox: who waits, who is known, and the calls that were kept.
+// The state of an inbox: which tasks wait, which are known, and the calls that were kept.
 ghost use Rattle.std.specs.Prelude.{◌≡◌, ◌+◌, ◌<◌, ◌≤◌, true, false, IfOk, OnOk, OnErr, MatchOption, length, vec_len, vec_capacity, [], ◌∷◌, ◌++◌};
 ghost use Rattle.mono_model.specs.Inbox.{is_waiting};
 ghost use Rattle.mono_inbox.specs.declared.log.CallEntry.TheVariants.{Know, Put, DrainOne, Drain, Retire};
@@ -11,12 +11,12 @@ use crate::log::{CallEntry, CallLog};
 use std::alloc::{AllocError, Global};
 use std::marker::Model;
 
-/// Tasks that other threads have woken, each once and in order, and the tasks that may be woken so.
+/// The tasks that other threads have woken, each once and in order, and the tasks that other threads may wake.
 ///
-/// A recorded one also keeps its calls with their replies, in order, until it is full.
+/// A recorded state also keeps its calls with their replies, in order, until it is full.
 ///
-/// The memory is eight bytes for each task that is known or waits, and a byte for each of the 4,096 numbers about it; of
-/// a task that is gone nothing stays, but for 40 bytes for every 1,048,576 numbers.
+/// The memory is eight bytes for each task that is known or waits, and a byte for each of the 4,096 numbers around it.
+/// Nothing remains of a task that has ended, except for 40 bytes for every 1,048,576 numbers.
 #[derive(Drop)]
 pub struct InboxState {
     listing: Listing,
@@ -34,14 +34,14 @@ impl Model for InboxState {
 }
 
 impl InboxState {
-    /// An inbox in which no task waits and none is known, with room for so many tasks. It keeps no calls.
+    /// Returns an inbox in which no task waits and no task is known, with room for `capacity` tasks. It keeps no calls.
     pub fn new(alloc: Global, capacity: usize) -> Result<InboxState, AllocError>
         ensures { IfOk result (λ state. state ≡ new_recording 0) }
     {
         InboxState::recorded(alloc, capacity, 0)
     }
 
-    /// The same, which keeps so many calls.
+    /// Returns the same inbox as `new`, which keeps `calls` calls.
     pub fn recorded(alloc: Global, capacity: usize, calls: usize) -> Result<InboxState, AllocError>
         ensures { IfOk result (λ state. state ≡ new_recording calls) }
     {
@@ -51,9 +51,9 @@ impl InboxState {
         })
     }
 
-    /// Makes the task known, and its place in the list sure: no later `put` of it takes memory.
+    /// Makes the task known and reserves its place in the list, so that no later `put` of it takes memory.
     ///
-    /// Where memory is refused nothing changes; it is never wanted for a task that is known or waits (`wanted`).
+    /// Nothing changes if it is out of memory. It never is for a task that is known or waits (`wanted`).
     pub fn know(&mut self, alloc: Global, task: u64) -> Result<(), AllocError>
         ensures known { OnOk result (AlsoKnows self.old.state self.new.state task) }
         ensures kept { OnOk result (self.new.log ≡ with_entry self.old.log (Know task)) }
@@ -65,8 +65,8 @@ impl InboxState {
         Ok(())
     }
 
-    /// Makes tasks from this number on known, so many at most. Answers how many: none where a later number was made known
-    /// before, where there was no memory, or where calls are kept.
+    /// Makes at most `count` tasks from `task` on known, and returns how many. Returns zero if a later number was made
+    /// known before, if it is out of memory, or if calls are kept.
     pub(crate) fn know_behind(&mut self, task: u64, count: usize) -> usize
         ensures most { result ≤ count }
         ensures known { AlsoKnowsRow self.old.state self.new.state task (task + result) }
@@ -78,8 +78,8 @@ impl InboxState {
         self.listing.know_behind(task, count)
     }
 
-    /// Lists the task's wake: true where the task now waits, last. False exactly where it waits already or is not
-    /// known; then list and known tasks stay.
+    /// Appends the task to the list and returns true. Returns false, and keeps the list and the known tasks, if and
+    /// only if the task waits already or is not known.
     pub fn put(&mut self, task: u64) -> bool
         ensures answer { result ≡ put_answer self.old.state task }
         ensures state { self.new.state ≡ after_put self.old.state task }
@@ -90,7 +90,7 @@ impl InboxState {
         listed
     }
 
-    /// The same, counted as a wake with a share.
+    /// Puts the task, and counts the call as a wake with a share.
     pub(crate) fn put_counted(&mut self, task: u64) -> bool
         ensures answer { result ≡ put_answer self.old.state task }
         ensures state { self.new.state ≡ after_put self.old.state task }
@@ -101,7 +101,7 @@ impl InboxState {
         listed
     }
 
-    /// Takes the first waiting task out of the list. None exactly where the list is empty.
+    /// Removes and returns the first waiting task. Returns `None` if and only if the list is empty.
     pub fn drain_one(&mut self) -> Option<u64>
         ensures task { MatchOption result ((self.old.state.waiting ≡ []) × (self.new.state ≡ self.old.state)) (λ t. (self.old.state.waiting ≡ t ∷ self.new.state.waiting) × (self.new.state.known ≡ self.old.state.known)) }
         ensures kept { self.new.log ≡ with_entry self.old.log (DrainOne result) }
@@ -125,7 +125,7 @@ impl InboxState {
         self.log.keep(CallEntry::Drain(tasks));
     }
 
-    /// How many tasks wait.
+    /// Returns how many tasks wait.
     pub fn waiting(&self) -> usize
         ensures count { result ≡ length self.now.state.waiting }
         ensures distinct { HasNoDoubles self.now.state.waiting }
@@ -133,7 +133,7 @@ impl InboxState {
         self.listing.waiting()
     }
 
-    /// Makes the task unknown. Where it waits, its entry stays until the drain.
+    /// Makes the task unknown. The entry of a waiting task stays until the drain.
     #[inline(always)]
     pub fn retire(&mut self, task: u64)
         ensures state { Forgets self.old.state self.new.state task }
@@ -143,8 +143,8 @@ impl InboxState {
         self.log.keep(CallEntry::Retire(task));
     }
 
-    /// Makes tasks in a row from this number on unknown, so many at most. Answers how many: none where the first is not known
-    /// or waits, or where calls are kept.
+    /// Makes at most `count` tasks in a row, from `from` on, unknown, and returns how many. Returns zero if the first
+    /// is not known or waits, or if calls are kept.
     #[inline(always)]
     pub(crate) fn retire_row(&mut self, from: u64, count: usize) -> usize
         ensures most { result ≤ count }
@@ -157,7 +157,7 @@ impl InboxState {
         0
     }
 
-    /// The kept calls, in order: a history of one thread, which stands for the state where none was left out.
+    /// Returns the kept calls, in order: a history of one thread, which gives the state if no call was left out.
     pub fn history(&self) -> &Vec<CallEntry>
         ensures entries { result.now.items ≡ self.now.log.entries }
         ensures replies { is_history result.now.items ≡ true }
@@ -166,14 +166,14 @@ impl InboxState {
         self.log.entries()
     }
 
-    /// As many calls are kept as may be: the list of calls stays from now on.
+    /// Returns whether the state keeps no further call: the list of calls stays as it is from now on.
     pub fn is_full(&self) -> bool
         ensures { result ≡ is_full self.now.log }
     {
         self.log.is_full()
     }
 
-    /// How many kept wakes were made without a share.
+    /// Returns how many kept wakes were made without a share.
     pub fn plain_puts(&self) -> u64
         ensures number { result ≡ self.now.log.plain_puts }
         ensures counted { result + self.now.log.ledger_puts ≡ count_puts self.now.log.entries }
@@ -181,7 +181,7 @@ impl InboxState {
         self.log.plain_puts()
     }
 
-    /// How many kept wakes were made with a share.
+    /// Returns how many kept wakes were made with a share.
     pub fn ledger_puts(&self) -> u64
         ensures number { result ≡ self.now.log.ledger_puts }
         ensures counted { self.now.log.plain_puts + result ≡ count_puts self.now.log.entries }
