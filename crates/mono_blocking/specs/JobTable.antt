@@ -1,4 +1,4 @@
--- What the places of the table of jobs stand for.
+-- The view of the table of jobs.
 use Rattle.std.specs.Prelude.{◌≡◌, ◌<◌, ⊤, ℕ, false, List, map, Option, Some, None, Result, Ok, Err, IfSome}
 use Rattle.std.specs.Option.{option_map}
 use Rattle.mono_model.specs.Table.{value_at, next_number}
@@ -13,7 +13,7 @@ use Rattle.mono_machine.specs.declared.events.Refusal.{Refusal}
 use Rattle.mono_blocking.specs.declared.jobs.table.Place.{Place}
 use Rattle.mono_blocking.specs.declared.jobs.table.Place.TheVariants.{Running, Ended, Taken}
 
--- the jobs, what the joiners of those that run know, and how many places there is room for
+-- The jobs, the knowledge of the joiners of those that run, and the number of places for which there is room.
 pub record Seen : Type 0 where
   pub jobs : Jobs
   pub joiners : List (Option JoinerView)
@@ -22,7 +22,7 @@ pub record Seen : Type 0 where
 abbrev pub HasPlace : Seen → Type 0
 HasPlace seen = next_number seen.jobs.table < seen.room
 
--- the jobs, while a call holds one whose handle is kept
+-- The jobs while a call holds one whose handle is kept.
 abbrev pub held_value : Result model.Job Refusal → Jobs → ℕ → Jobs
 held_value (Ok value) jobs j = with_job jobs j model.taken
 held_value (Err error) jobs j = jobs
@@ -59,7 +59,7 @@ module _ {J A U : Type 0} where
   abbrev pub joiners_of : List (Option (Place J A U)) → List (Option JoinerView)
   joiners_of places = map joiner_in places
 
-  -- the output was not taken, or has the job's number
+  -- Whether the joiner has not taken the output and has the job's number, or the kept output has it.
   abbrev pub IsSound : (A → ℕ) → Place J A U → Type 0
   IsSound number (Running n joiner waiter) = ((joiner_view joiner).took ≡ false) × ((joiner_view joiner).number ≡ n)
   IsSound number (Ended n r) = HasNumber number n r

@@ -1,4 +1,4 @@
-// The blocking jobs of a runtime: the table of those whose handles are kept, who runs them, and their handles.
+// The blocking jobs of a runtime: the table of jobs whose handles are kept, the pool that runs them, and their handles.
 
 mod ends;
 mod handles;

@@ -1,5 +1,5 @@
-//! Jobs that block: a job with the runner's end of its word, the pool whose workers run such jobs, and who starts the
-//! threads of the workers.
+//! Jobs that block: a job with the runner's end of its word, the pool whose workers run jobs, and the spawner of the
+//! workers' threads.
 #![tactic(auto)]
 
 mod jobs;

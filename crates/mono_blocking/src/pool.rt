@@ -13,8 +13,8 @@ use mono_model::Host;
 use std::alloc::{AllocError, Global};
 use std::sync::Arc;
 
-/// Threads that run blocking tasks, in the order in which they were scheduled. With no thread, tasks are run on the
-/// caller.
+/// A pool of threads that run blocking tasks in the order in which they were scheduled. A pool without a thread runs
+/// them on the caller.
 ///
 /// The threads belong to the spawner that started them. They end once the pool is closed and the queue is empty.
 #[derive(Drop)]
@@ -24,9 +24,9 @@ pub struct DefaultThreadPool<J: Job> {
 }
 
 impl<J: Job> DefaultThreadPool<J> {
-    /// Asks the spawner for so many workers, by exactly so many calls of `start` (`starts`). The spawner's count of
-    /// refusals rises by one for each worker that is missing (`exact`), so fewer start only where it rose (`fewer`).
-    /// Where memory is refused, the workers that started end.
+    /// Asks the spawner for `num_threads` workers, by exactly that number of calls of `start` (`starts`). The spawner's
+    /// count of refusals rises by one for each worker that did not start (`exact`). So fewer workers start only if that
+    /// count rose (`fewer`). If the call is out of memory, the workers that started end.
     pub fn new<R: Host + Send + 'static, P: Spawner>(
         rt: &R,
         alloc: Global,
@@ -53,21 +53,21 @@ impl<J: Job> DefaultThreadPool<J> {
         }
     }
 
-    /// How many workers were started.
+    /// Returns how many workers were started.
     pub fn workers(&self) -> usize
         ensures { result ≡ self.now.workers }
     {
         self.workers
     }
 
-    /// Lets the workers end, once the queue is empty. Each task that waits is still run.
+    /// Closes the pool: the workers end once the queue is empty. They still run each task that waits.
     pub fn close<R: Host>(self, rt: &R) {
         self.queue.close(rt);
     }
 }
 
-/// With no worker each task is run on the caller. Else the workers run tasks in order. Where there is no memory for a task
-/// it comes back; it is never refused.
+/// A pool without workers runs each task on the caller; otherwise the workers run the tasks in order. A task comes back
+/// if the queue is out of memory; it is never refused.
 impl<J: Job> ThreadPool for DefaultThreadPool<J> {
     type Job = J;
 
@@ -100,7 +100,7 @@ impl<J: Job> ThreadPool for DefaultThreadPool<J> {
     }
 }
 
-// Asks for so many workers, and answers how many started.
+// Asks for `count` workers, and returns how many started.
 fn start_workers<R: Host + Send + 'static, J: Job + 'static, P: Spawner>(
     rt: &R,
     queue: &Arc<Queue<BlockingTask<J>>, Global>,

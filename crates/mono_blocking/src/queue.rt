@@ -6,7 +6,7 @@ use std::alloc::Global;
 use std::collections::VecDeque;
 use std::sync::{Condvar, Mutex};
 
-/// What waits for a worker, in order, and whether the pool is closed.
+/// The items that wait for a worker, in order, and whether the pool is closed.
 #[derive(Drop)]
 pub(crate) struct QueueState<T> {
     waiting: VecDeque<T>,
@@ -14,7 +14,7 @@ pub(crate) struct QueueState<T> {
 }
 
 impl<T: Drop> QueueState<T> {
-    /// Nothing waits, and the pool is open.
+    /// Returns an open queue in which nothing waits.
     fn new(alloc: Global) -> QueueState<T>
         ensures waiting { result.waiting.items ≡ [] }
         ensures open { result.is_closed ≡ false }
@@ -25,7 +25,7 @@ impl<T: Drop> QueueState<T> {
         }
     }
 
-    /// Puts an item last. Where memory is refused it comes back, and nothing changes.
+    /// Appends an item. If it is out of memory, the item comes back and nothing changes.
     fn put(&mut self, item: T) -> Result<(), T>
         ensures put { OnOk result (self.new.waiting.items ≡ self.old.waiting.items ++ item ∷ []) }
         ensures refused { IfErr result (λ back. (back ≡ item) × (self.new.waiting.items ≡ self.old.waiting.items)) }
@@ -38,7 +38,8 @@ impl<T: Drop> QueueState<T> {
         Ok(())
     }
 
-    /// Takes the first item. None exactly where nothing waits, which is only where the pool is closed.
+    /// Removes and returns the first item. Returns `None` if and only if nothing waits; a worker sees that only once
+    /// the pool is closed.
     fn take(&mut self) -> Option<T>
         requires { self.old.waiting.items ≡ [] → self.old.is_closed ≡ true }
         ensures ended { IfNone result (self.old.is_closed ≡ true) }
@@ -48,7 +49,7 @@ impl<T: Drop> QueueState<T> {
         self.waiting.pop_front()
     }
 
-    /// Closes the pool. What waits still waits.
+    /// Closes the pool. The waiting items still wait.
     fn close(&mut self)
         ensures closed { self.new.is_closed ≡ true }
         ensures waiting { self.new.waiting.items ≡ self.old.waiting.items }
@@ -56,7 +57,7 @@ impl<T: Drop> QueueState<T> {
         self.is_closed = true;
     }
 
-    /// Whether a worker has to wait: nothing waits for it, and the pool is open.
+    /// Returns whether a worker has to wait: no item waits and the pool is open.
     fn is_idle(&self) -> bool
         ensures { IsTrue result ↔ (self.now.waiting.items ≡ []) × (self.now.is_closed ≡ false) }
     {
@@ -64,7 +65,7 @@ impl<T: Drop> QueueState<T> {
     }
 }
 
-/// The queue under its lock, and what tells workers of a change.
+/// The queue under its lock, with the signal that wakes its workers.
 #[derive(Drop)]
 pub(crate) struct Queue<T> {
     state: Mutex<QueueState<T>>,
@@ -72,7 +73,7 @@ pub(crate) struct Queue<T> {
 }
 
 impl<T: Drop> Queue<T> {
-    /// An open queue in which nothing waits.
+    /// Returns an open queue in which nothing waits.
     pub(crate) fn new(alloc: Global) -> Queue<T> {
         Queue {
             state: Mutex::new(QueueState::new(alloc)),
@@ -80,7 +81,7 @@ impl<T: Drop> Queue<T> {
         }
     }
 
-    /// Puts an item last, and tells one worker. Where memory is refused the item comes back.
+    /// Appends an item, and notifies one worker. If it is out of memory, the item comes back.
     pub(crate) fn put<R: Host>(&self, rt: &R, item: T) -> Result<(), T>
         ensures { IfErr result (λ back. back ≡ item) }
     {
@@ -89,7 +90,8 @@ impl<T: Drop> Queue<T> {
         Ok(())
     }
 
-    /// Waits for an item and takes the first. None only where the pool is closed and nothing waits.
+    /// Waits for an item, and removes and returns the first. Returns `None` only if the pool is closed and nothing
+    /// waits.
     pub(crate) fn next<R: Host>(&self, rt: &R) -> Option<T> {
         let mut state = self
             .changed
@@ -97,7 +99,7 @@ impl<T: Drop> Queue<T> {
         state.take()
     }
 
-    /// Closes the pool, and tells all workers.
+    /// Closes the pool, and notifies all workers.
     pub(crate) fn close<R: Host>(&self, rt: &R) {
         self.state.lock(rt).close();
         self.changed.notify_all();

@@ -1,4 +1,4 @@
-// Who starts the threads of a pool's workers.
+// Spawners, which start the threads of a pool's workers.
 ghost use Rattle.std.specs.Prelude.{◌≡◌, ℕ, IfNone, IfSome, OnErr, OnOk, ⊤};
 ghost use Rattle.mono_blocking.specs.Counts.{counted_by, HasRisen};
 
@@ -8,13 +8,13 @@ use mono_model::Host;
 use std::thread;
 use std::thread::JoinHandle;
 
-/// A start that was refused. The worker was let go, and the count of refusals rose. Why is not known.
+/// A start that was refused, for an unnamed reason. The worker was dropped, and the count of refusals rose.
 #[derive(Clone, Copy, Debug, PartialEq, Eq)]
 pub struct StartFault;
 
-/// What a thread does before it runs its worker.
+/// The code that a thread runs before its worker.
 pub trait Entry: Send + Drop {
-    /// Is called once, on the thread.
+    /// Runs once, on the thread.
     fn enter(self);
 }
 
@@ -23,13 +23,13 @@ impl Entry for () {
     fn enter(self) {}
 }
 
-/// What starts threads. Whoever has a worker calls `start`.
+/// A value that starts threads. A caller that has a worker calls `start`.
 ///
-/// A spawner writes what it decides of a start: whether a thread may be made (`admit`), where the thread is kept
-/// (`keep`), and what a refusal changes (`refuse`). The thread itself is started in `start`, since only a function that
-/// knows the job's type may hand a worker to a thread.
+/// A spawner decides three things: whether a thread may be made (`admit`), how the thread is kept (`keep`), and the
+/// effect of a refusal (`refuse`). The thread itself is started in `start`, since only a function that knows the job's
+/// type may pass a worker to a thread.
 pub trait Spawner {
-    /// What its threads do first.
+    /// The code that its threads run first.
     type Entry: Entry + 'static;
 
     /// How often a start was asked for, at most 2^64 - 1.
@@ -41,14 +41,14 @@ pub trait Spawner {
     /// Whether one more thread can be kept.
     ghost can_keep: { Self → Type 0 } = { λ _. ⊤ };
 
-    /// Counts a start, and answers what the thread does first. None where no thread may be made for it; then it counts a
-    /// refusal.
+    /// Counts a start, and returns the code that the thread runs first. Returns `None`, and counts a refusal, if no
+    /// thread may be made.
     fn admit(&mut self) -> Option<Self::Entry>
         ensures starts { starts self.new ≡ counted_by 1 (starts self.old) }
         ensures admitted { IfSome result (λ _. can_keep self.new × (refusals self.new ≡ refusals self.old)) }
         ensures refused { IfNone result (refusals self.new ≡ counted_by 1 (refusals self.old)) };
 
-    /// Takes the thread that was made for an admitted start.
+    /// Keeps the thread that was made for an admitted start.
     fn keep(&mut self, thread: JoinHandle<()>)
         requires { can_keep self.old }
         ensures starts { starts self.new ≡ starts self.old }
@@ -59,10 +59,10 @@ pub trait Spawner {
         ensures starts { starts self.new ≡ starts self.old }
         ensures refusals { refusals self.new ≡ counted_by 1 (refusals self.old) };
 
-    /// Starts a thread that runs the worker. The count of starts rises by one, at most to 2^64 - 1, whatever the answer
-    /// is (`starts`). The count of refusals rises by one where the start is refused, and stays otherwise (`refused`,
-    /// `granted`); so a start is refused only where that count rose in this call (`rose`). The worker of a refused start
-    /// is let go.
+    /// Starts a thread that runs the worker. The count of starts rises by one, at most to 2^64 - 1, for each answer
+    /// (`starts`). The count of refusals rises by one if the start is refused, and stays otherwise (`refused`,
+    /// `granted`). So a start is refused only if that count rose in this call (`rose`). A refused start drops its
+    /// worker.
     final fn start<R: Host + Send + 'static, J: Job + 'static>(
         &mut self,
         rt: &R,
@@ -92,7 +92,7 @@ pub trait Spawner {
     }
 }
 
-// A thread for the worker.
+// Spawns a thread for the worker.
 fn start_thread<R: Host + Send + 'static, E: Entry + 'static, J: Job + 'static>(
     rt: &R,
     entry: E,

@@ -1,4 +1,4 @@
-// A spawner that refuses each start, and one that starts threads and joins them.
+// A spawner that refuses each start, and a spawner that starts threads and joins them.
 ghost use Rattle.std.specs.Prelude.{◌≡◌, ◌<◌, IsNone, IfNone, IfSome, ⊤};
 ghost use Rattle.std.specs.Vec.{vec_len, vec_capacity};
 ghost use Rattle.mono_blocking.specs.Counts.{counted_by};
@@ -7,7 +7,7 @@ use crate::spawner::Spawner;
 use std::alloc::Global;
 use std::thread::{JoinHandle, Threads};
 
-/// How often a spawner was asked, and how often it refused. Both end at 2^64 - 1.
+/// How often a spawner was asked, and how often it refused. Both counts stop at 2^64 - 1.
 #[derive(Drop)]
 struct Asked {
     starts: u64,
@@ -15,7 +15,7 @@ struct Asked {
 }
 
 impl Asked {
-    /// It was never asked.
+    /// Returns counts of zero.
     fn never() -> Asked
         ensures starts { result.starts ≡ 0 }
         ensures refusals { result.refusals ≡ 0 }
@@ -43,14 +43,14 @@ impl Asked {
     }
 }
 
-/// Refuses each start.
+/// A spawner that refuses each start.
 #[derive(Drop)]
 pub struct NoSpawner {
     asked: Asked,
 }
 
 impl NoSpawner {
-    /// A spawner that was never asked: both counts are 0.
+    /// Returns a spawner that was never asked: both counts are 0.
     pub fn new() -> NoSpawner
         ensures starts { result.asked.starts ≡ 0 }
         ensures refusals { result.asked.refusals ≡ 0 }
@@ -95,7 +95,7 @@ impl Spawner for NoSpawner {
     }
 }
 
-/// Starts a thread for each worker, and keeps it until `join`.
+/// A spawner that starts a thread for each worker, and keeps it until `join`.
 #[derive(Drop)]
 pub struct ThreadSpawner {
     threads: Vec<JoinHandle<()>>,
@@ -103,7 +103,7 @@ pub struct ThreadSpawner {
 }
 
 impl ThreadSpawner {
-    /// A spawner that was never asked: it has no thread, and both counts are 0.
+    /// Returns a spawner that was never asked: it has no thread, and both counts are 0.
     pub fn new(alloc: Global) -> ThreadSpawner
         ensures starts { result.asked.starts ≡ 0 }
         ensures refusals { result.asked.refusals ≡ 0 }
@@ -114,7 +114,7 @@ impl ThreadSpawner {
         }
     }
 
-    /// Waits for each thread that was started. Close each pool whose workers they run first: until then they do not end.
+    /// Joins each thread that was started. Close each pool whose workers they run first: until then they do not end.
     pub fn join<R: Threads>(self, rt: &R) {
         for thread in self.threads {
             thread.join(rt);
@@ -122,7 +122,7 @@ impl ThreadSpawner {
     }
 }
 
-/// A start is refused where there is no memory to keep a thread, or where the system makes none.
+/// It refuses a start if it is out of memory to keep a thread, or if the system makes none.
 impl Spawner for ThreadSpawner {
     type Entry = ();
 

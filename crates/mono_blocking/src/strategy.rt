@@ -1,4 +1,4 @@
-// What a runtime does with blocking jobs, and what a pool is.
+// The strategy for blocking jobs, and the trait of a pool.
 ghost use Rattle.std.specs.Prelude.{◌≡◌, ℕ, IsOk, ⊤};
 ghost use Rattle.mono_blocking.specs.Pool.{Offers, Schedules};
 ghost use Rattle.mono_blocking.specs.declared.strategy.Offered.TheVariants.{Here};
@@ -8,16 +8,16 @@ use mono_model::Host;
 use std::alloc::Global;
 use std::marker::PhantomData;
 
-/// What is done with a blocking job where no pool is attached.
+/// The strategy for a blocking job if no pool is attached.
 #[derive(Clone, Copy, Debug)]
 pub enum BlockingStrategy {
-    /// It is refused.
+    /// The job is refused.
     Panic,
-    /// It is run at once, by the caller.
+    /// The caller runs the job at once.
     ExecuteLocal,
 }
 
-/// A pool, or what is done without one.
+/// A pool, or the strategy without a pool.
 #[derive(Drop)]
 pub enum BlockingHandle<P> {
     /// Jobs go to this pool.
@@ -29,26 +29,26 @@ pub enum BlockingHandle<P> {
 /// Why a pool did not take a task. The task comes back.
 #[derive(Drop)]
 pub enum ScheduleError<J: Job> {
-    /// There was no memory for it.
+    /// The pool was out of memory for it.
     Memory(BlockingTask<J>),
     /// The pool refused it, and counted a refusal.
     Refused(BlockingTask<J>),
 }
 
-/// What a pool does with a task that it is offered.
+/// A pool's answer to a task that is offered to it.
 #[derive(Clone, Copy, Debug, PartialEq, Eq)]
 pub enum Offered {
     /// It took the task.
     Taken,
-    /// The task is to be run on the caller.
+    /// The caller has to run the task.
     Here,
-    /// There was no memory for it.
+    /// It was out of memory for the task.
     Memory,
     /// It refuses the task, and counted a refusal.
     Refused,
 }
 
-/// What runs blocking tasks. Whoever has a task calls `schedule_task`; a pool writes what it does with one (`offer`).
+/// A value that runs blocking tasks. A caller that has a task calls `schedule_task`; a pool implements `offer`.
 pub trait ThreadPool {
     /// The jobs that it runs.
     type Job: Job;
@@ -59,8 +59,8 @@ pub trait ThreadPool {
     /// Whether it runs each task on the caller, from now on.
     ghost runs_here: { Self → Type 0 } = { λ _. ⊥ };
 
-    /// Takes the task out of `task`, or leaves that same task there (`offer`): to be run on the caller, or since there
-    /// is no memory, or refused, which comes only where the count of refusals rose in this call.
+    /// Takes the task out of `task`, or leaves that same task there (`offer`): the caller has to run it, the pool is
+    /// out of memory, or it refuses the task. It refuses a task only if the count of refusals rose in this call.
     fn offer<R: Host>(
         &mut self,
         rt: &R,
@@ -70,8 +70,8 @@ pub trait ThreadPool {
         ensures offer { Offers task.old task.new (refusals self.old) (refusals self.new) result }
         ensures here { runs_here self.old → (result ≡ Here) × runs_here self.new };
 
-    /// Takes a task, to run it here or elsewhere. Where it does not, the same task comes back. It is refused only where
-    /// the count of refusals rose in this call (`answer`). A pool that runs each task on the caller always answers Ok
+    /// Takes a task, to run it here or elsewhere. Otherwise the same task comes back. The pool refuses it only if the
+    /// count of refusals rose in this call (`answer`). A pool that runs each task on the caller always answers Ok
     /// (`here`).
     final fn schedule_task<R: Host>(
         &mut self,
@@ -99,7 +99,7 @@ pub trait ThreadPool {
     }
 }
 
-/// A pool that is never attached: it has no thread, and each task is run on the caller.
+/// A pool that is never attached: it has no thread, and runs each task on the caller.
 #[derive(Drop)]
 pub struct NoPool<J> {
     marker: PhantomData<J>,

@@ -10,14 +10,15 @@ use mono_model::Host;
 use std::alloc::Global;
 use std::marker::Model;
 
-/// Work that may block, and may be handed to another thread.
+/// Work that may block, and that may move to another thread.
 ///
-/// A job has a number, that of its output. An output whose value has no such number carries its job's number beside it.
+/// A job has a number, which is its output's number. An output whose value has no such number carries its job's number
+/// as well.
 pub trait Job: Outcome + Send + Drop {
-    /// What the job gives.
+    /// The job's output.
     type Output: Outcome + Send + Drop;
 
-    /// What ends the wait of the thread whose task asks for the output.
+    /// The value that ends the wait of the thread whose task asks for the output.
     type Unpark: Unpark;
 
     /// Does the work.
@@ -43,7 +44,7 @@ impl<U: Unpark> Model for JobWaker<U> {
 }
 
 impl<U: Unpark> JobWaker<U> {
-    /// The same waker, of the same task.
+    /// Returns the same waker, of the same task.
     pub fn new(waker: RemoteWaker<U>) -> JobWaker<U>
         ensures { result ≡ waker }
     {
@@ -68,9 +69,9 @@ impl<U: Unpark> Wakes for JobWaker<U> {
 /// The joiner's end of a job's word.
 pub type JobJoiner<J: Job> = Joiner<J::Output, JobWaker<J::Unpark>>;
 
-/// A job with the runner's end of its word. It is spent by `run` or by `cancel`.
+/// A job with the runner's end of its word. `run` or `cancel` spends it.
 ///
-/// One that is let go completes its word with `Canceled`, and wakes nobody, since a drop is handed no `rt`.
+/// A drop completes its word with `Canceled`, and wakes no task, since a drop has no `rt`.
 #[derive(Drop)]
 pub struct BlockingTask<J: Job> {
     pub(crate) job: J,
@@ -79,15 +80,15 @@ pub struct BlockingTask<J: Job> {
 }
 
 /// A blocking task that was run or cancelled: the runner's seat of its word, after the one completing step. Contracts
-/// see its view; it may be let go at any time.
+/// see its view. It may be dropped at any time.
 #[derive(Drop)]
 pub struct Spent<J: Job> {
     pub(crate) seat: RunnerSeat<J::Output, JobWaker<J::Unpark>>,
 }
 
 impl<J: Job> BlockingTask<J> {
-    /// A task for the job, and the joiner of its word, whose number is the job's. The job comes back where memory is
-    /// refused, and only there.
+    /// Returns a task for the job, and the joiner of its word, whose number is the job's. The job comes back if and
+    /// only if the call is out of memory.
     pub fn new(alloc: Global, job: J) -> Result<(BlockingTask<J>, JobJoiner<J>), J>
         ensures job { IfOk result (λ made. made.0.job ≡ job) }
         ensures joiner { IfOk result (λ made. joiner_view made.1 ≡ fresh (J.output_number job)) }
@@ -110,7 +111,7 @@ impl<J: Job> BlockingTask<J> {
         Spent { seat: done.seat }
     }
 
-    /// Completes the word with `Canceled`, by one step, and hands the job back unrun. Then it wakes the waker that the
+    /// Completes the word with `Canceled`, by one step, and returns the job unrun. Then it wakes the waker that the
     /// step found.
     pub fn cancel<R: Host>(self, rt: &R) -> (J, Spent<J>)
         ensures job { result.0 ≡ self.job }
@@ -123,7 +124,7 @@ impl<J: Job> BlockingTask<J> {
     }
 }
 
-// Wakes the waker that the completing step found, where it found one.
+// Wakes the waker that the completing step found, if it found one.
 fn wake_found<U: Unpark, R: Host>(rt: &R, woke: Option<JobWaker<U>>) {
     if let Some(waker) = woke {
         waker.wake(rt);

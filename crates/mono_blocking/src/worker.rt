@@ -1,18 +1,18 @@
-// What a thread of a pool does.
+// The work of a pool's thread.
 use crate::queue::Queue;
 use crate::task::{BlockingTask, Job};
 use mono_model::Host;
 use std::alloc::Global;
 use std::sync::Arc;
 
-/// The share of one thread in a pool's queue. One that is let go takes nothing with it.
+/// The share of one thread in a pool's queue. A drop takes no task with it.
 #[derive(Drop)]
 pub struct Worker<J: Job> {
     queue: Arc<Queue<BlockingTask<J>>, Global>,
 }
 
 impl<J: Job> Worker<J> {
-    /// A worker on this queue.
+    /// Returns a worker on this queue.
     pub(crate) fn over(queue: Arc<Queue<BlockingTask<J>>, Global>) -> Worker<J> {
         Worker { queue }
     }

@@ -1,4 +1,4 @@
-// What a call on a job saw of its word.
+// The part of a job's word that a call saw.
 ghost use Rattle.std.specs.Prelude.{◌≡◌, None};
 ghost use Rattle.mono_blocking.specs.JobAnswers.{how_of};
 
@@ -7,8 +7,8 @@ use mono_joinword::{JoinError, JoinerSeat};
 use mono_machine::{How, Refusal};
 use mono_model::Poll;
 
-/// The end of a job that a call saw as the first: how it ended, and the task that waited for it. It is the act that stands
-/// right before the call's own.
+/// The end of a job that a call saw as the first: how it ended, and the task that waited for it. It is the act right
+/// before the call's own.
 #[derive(Clone, Copy, Debug, PartialEq, Eq)]
 pub struct End {
     /// How the job ended.
@@ -17,10 +17,10 @@ pub struct End {
     pub waiter: Option<u64>,
 }
 
-/// What a poll of a job's handle saw and answers.
+/// The result of a poll of a job's handle: the end that it saw, and its answer.
 #[derive(Drop)]
 pub struct PolledJob<J: Job> {
-    /// The job's end, where this call saw it.
+    /// The job's end, if this call saw it.
     pub end: Option<End>,
     /// The answer, which is the machine's after that end.
     pub answer: Result<Poll<Result<J::Output, JoinError>>, Refusal>,
@@ -28,10 +28,10 @@ pub struct PolledJob<J: Job> {
     pub joiner: Option<JobJoiner<J>>,
 }
 
-/// What another call on a job's handle saw and answers.
+/// The result of another call on a job's handle: the end that it saw, and its answer.
 #[derive(Drop)]
 pub struct Answered<J: Job, A> {
-    /// The job's end, where this call saw it.
+    /// The job's end, if this call saw it.
     pub end: Option<End>,
     /// The answer, which is the machine's after that end.
     pub answer: Result<A, Refusal>,
@@ -39,7 +39,7 @@ pub struct Answered<J: Job, A> {
     pub seat: Option<JoinerSeat<J::Output, JobWaker<J::Unpark>>>,
 }
 
-/// How a job ended, by its output.
+/// Returns how a job ended, by its output.
 pub(crate) fn how_of<A>(output: &Result<A, JoinError>) -> How
     ensures { result ≡ how_of output.now }
 {
@@ -50,7 +50,7 @@ pub(crate) fn how_of<A>(output: &Result<A, JoinError>) -> How
 }
 
 impl<J: Job> PolledJob<J> {
-    /// An answer of the table alone.
+    /// Wraps an answer of the table alone, without an end.
     pub(crate) fn told(answer: Result<Poll<Result<J::Output, JoinError>>, Refusal>) -> PolledJob<J>
         ensures { result ≡ record { end = None; answer = answer; joiner = None } }
     {
@@ -63,7 +63,7 @@ impl<J: Job> PolledJob<J> {
 }
 
 impl<J: Job, A: Drop> Answered<J, A> {
-    /// An answer of the table alone.
+    /// Wraps an answer of the table alone, without an end.
     pub(crate) fn told(answer: Result<A, Refusal>) -> Answered<J, A>
         ensures { result ≡ record { end = None; answer = answer; seat = None } }
     {

@@ -1,21 +1,21 @@
 // The handle of a blocking job.
 ghost use Rattle.std.specs.Prelude.{◌≡◌};
 
-/// Names a job whose output was not asked for yet. Numbers count from 0 and are never given twice.
+/// The name of a job whose output was not asked for yet. Numbers count from 0 and are never given twice.
 #[derive(Clone, Copy, Debug, PartialEq, Eq)]
 pub struct JobHandle {
     job: u64,
 }
 
 impl JobHandle {
-    /// The handle of the job with this number.
+    /// Returns the handle of the job with this number.
     pub fn of_job(job: u64) -> JobHandle
         ensures { result.job ≡ job }
     {
         JobHandle { job }
     }
 
-    /// The job's number.
+    /// Returns the job's number.
     pub fn job(&self) -> u64
         ensures { result ≡ self.now.job }
     {

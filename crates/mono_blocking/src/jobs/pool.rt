@@ -1,4 +1,4 @@
-// Who runs the blocking jobs, and the table of those jobs.
+// The pool that runs the blocking jobs, with the table of those jobs.
 ghost use Rattle.std.specs.Prelude.{◌≡◌, ◌≤◌, false, IfSome, IfNone};
 ghost use Rattle.mono_model.specs.Jobs.{no_jobs};
 ghost use Rattle.mono_model.specs.Table.{is_full};
@@ -21,10 +21,10 @@ use mono_model::Host;
 use std::alloc::Global;
 use std::marker::Model;
 
-/// What a job of the pool gives.
+/// The output of a job of the pool.
 pub type OutputOf<P: ThreadPool> = <P::Job as Job>::Output;
 
-/// Who runs the jobs, and the jobs whose handles are kept.
+/// The pool, or the strategy without one, and the jobs whose handles are kept.
 #[derive(Drop)]
 pub struct Blockings<P: ThreadPool> {
     pool: BlockingHandle<P>,
@@ -39,7 +39,7 @@ impl<P: ThreadPool> Model for Blockings<P> {
     ghost view = { λ a. record { table = a.jobs; pool = a.pool } };
 }
 
-// A job is run in this call, where there is a place for it, and its output stands in the table.
+// Runs a job in this call, if there is a place for it, and keeps its output in the table.
 fn run_here<J: Job>(
     alloc: Global,
     jobs: &mut JobTable<J>,
@@ -55,7 +55,7 @@ fn run_here<J: Job>(
     Ok(JobHandle::of_job(jobs.keep(number, job.run())))
 }
 
-// A job is handed to the pool, where there is a place for it.
+// Passes a job to the pool, if there is a place for it.
 fn hand_over<P: ThreadPool + Drop, R: Host>(
     rt: &R,
     alloc: Global,
@@ -88,7 +88,7 @@ fn hand_over<P: ThreadPool + Drop, R: Host>(
 }
 
 impl<P: ThreadPool + Drop> Blockings<P> {
-    /// No job, and who runs the jobs; at most so many are kept at once.
+    /// Returns a table without jobs over this pool; it keeps at most `limit` jobs at once.
     pub fn new(alloc: Global, pool: BlockingHandle<P>, limit: u64) -> Blockings<P>
         ensures jobs { result.table.jobs ≡ no_jobs limit }
         ensures pool { result.pool ≡ pool }
@@ -99,10 +99,10 @@ impl<P: ThreadPool + Drop> Blockings<P> {
         }
     }
 
-    /// Hands a job to the pool, or runs it in this call without a word where the strategy is to run it on the caller; the
-    /// output then stands in the table. `spawned` says what each answer means: AtCapacity comes before NoPool, the pool is
-    /// asked only after both, and its refusal comes only where its count of refusals rose; the job is cancelled then. In
-    /// all other refusals the same job comes back. A refusal leaves the jobs as they were.
+    /// Passes a job to the pool. If the strategy is to run it on the caller, the call runs it without a word, and the
+    /// table keeps the output. `spawned` defines each answer. AtCapacity comes before NoPool, and the pool is asked
+    /// only after both. The pool refuses only if its count of refusals rose; then the job is cancelled. With each other
+    /// refusal the same job comes back. A refusal leaves the jobs as they were.
     pub fn spawn<R: Host>(
         &mut self,
         rt: &R,
@@ -125,7 +125,7 @@ impl<P: ThreadPool + Drop> Blockings<P> {
         }
     }
 
-    /// A poll of a job's handle: as `JobTable::poll`. The pool is not asked.
+    /// Polls a job's handle as `JobTable::poll` does. The pool is not asked.
     pub fn poll(&mut self, j: u64, waker: JobWaker<<P::Job as Job>::Unpark>) -> PolledJob<P::Job>
         ensures end { IsEnd result.end self.old.table.jobs j }
         ensures answer { polled_reply P.Job.Output.output_number result.answer ≡ poll_answer (after_end result.end self.old.table.jobs j) j }
@@ -136,7 +136,7 @@ impl<P: ThreadPool + Drop> Blockings<P> {
         self.jobs.poll(j, waker)
     }
 
-    /// Drops the handle of a job: as `JobTable::drop_handle`. The pool is not asked.
+    /// Drops the handle of a job as `JobTable::drop_handle` does. The pool is not asked.
     pub fn drop_handle(
         &mut self,
         j: u64,
@@ -150,7 +150,7 @@ impl<P: ThreadPool + Drop> Blockings<P> {
         self.jobs.drop_handle(j)
     }
 
-    /// Whether a job has ended: as `JobTable::has_ended`. The pool is not asked.
+    /// Returns whether a job has ended, as `JobTable::has_ended` does. The pool is not asked.
     pub fn has_ended(&mut self, j: u64) -> Result<bool, Refusal>
         ensures jobs { self.new.table.jobs ≡ self.old.table.jobs }
         ensures shown { FinishShown self.old.table j result self.new.table }
@@ -159,7 +159,7 @@ impl<P: ThreadPool + Drop> Blockings<P> {
         self.jobs.has_ended(j)
     }
 
-    /// The attached pool; None exactly where none is attached.
+    /// Returns the attached pool, or `None` if and only if none is attached.
     pub fn into_pool(self) -> Option<P>
         ensures some { IfSome result (λ pool. self.pool ≡ Attached pool) }
         ensures none { IfNone result (IsApart self.pool) }

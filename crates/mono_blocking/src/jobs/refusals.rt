@@ -1,10 +1,10 @@
 // Why a job was not made, or not asked.
 use mono_machine::Refusal;
 
-/// Why a job was not made. The job comes back, but where the pool refused it.
+/// Why a job was not made. The job comes back, unless the pool refused it.
 #[derive(Drop)]
 pub enum SpawnError<J> {
-    /// There was no memory for it.
+    /// The call was out of memory for it.
     Memory(J),
     /// The kept jobs are at their limit, or the numbers are used up.
     AtCapacity(J),

@@ -17,18 +17,18 @@ use mono_table::ReadyTable;
 use std::alloc::{AllocError, Global};
 use std::marker::Model;
 
-/// A job whose handle is kept: it runs, and a task may wait for it; or it has ended; or its output was taken.
+/// A job whose handle is kept: it runs and a task may wait for it, or it has ended, or its output was taken.
 #[derive(Drop)]
 pub enum Place<J: Job> {
     /// It runs: the number of its output, its joiner, and the task that waits for it.
     Running(u64, JobJoiner<J>, Option<u64>),
     /// It has ended with this output, or was canceled.
     Ended(u64, Result<J::Output, JoinError>),
-    /// Its output was taken. So it stands, too, while a call holds the job itself, and in the place of the next one.
+    /// Its output was taken. The place has this value, too, while a call holds the job itself.
     Taken,
 }
 
-/// The jobs by their numbers, and how many there may be. Of a job whose handle was dropped nothing is left.
+/// The jobs by their numbers, and their greatest number. Nothing remains of a job whose handle was dropped.
 #[derive(Drop)]
 pub struct JobTable<J: Job> {
     places: ReadyTable<Place<J>>,
@@ -48,7 +48,7 @@ impl<J: Job> Model for JobTable<J> {
 }
 
 impl<J: Job> JobTable<J> {
-    /// No job.
+    /// Returns a table without jobs.
     pub fn new(alloc: Global, limit: u64) -> JobTable<J>
         ensures { result.jobs ≡ no_jobs limit }
     {
@@ -58,14 +58,14 @@ impl<J: Job> JobTable<J> {
         }
     }
 
-    /// Whether no further job may be made.
+    /// Returns whether no further job may be made.
     pub fn is_full(&self) -> bool
         ensures { result ≡ is_full self.now.jobs.table self.now.jobs.limit }
     {
         self.places.count() >= self.limit || self.places.len() == u64::MAX
     }
 
-    /// A place for one more. Refused for want of memory, or where the numbers are used up.
+    /// Reserves a place for one more job. Refuses it if it is out of memory, or if the numbers are used up.
     pub fn reserve(&mut self, alloc: Global) -> Result<(), AllocError>
         ensures place { OnOk result (HasPlace self.new) }
         ensures jobs { self.new.jobs ≡ self.old.jobs }
@@ -73,7 +73,7 @@ impl<J: Job> JobTable<J> {
         self.places.reserve(alloc, Place::Taken)
     }
 
-    /// One more job, which runs elsewhere, with the number of its output.
+    /// Adds a job that runs elsewhere, with the number of its output, and returns the job's number.
     pub fn start(&mut self, number: u64, joiner: JobJoiner<J>) -> u64
         requires place { HasPlace self.old }
         requires fresh { joiner_view joiner ≡ fresh number }
@@ -83,7 +83,7 @@ impl<J: Job> JobTable<J> {
         self.add(Place::Running(number, joiner, None))
     }
 
-    /// One more job, which has run here.
+    /// Adds a job that has run here, and returns its number.
     pub fn keep(&mut self, number: u64, output: J::Output) -> u64
         requires place { HasPlace self.old }
         requires same { J.Output.output_number output ≡ number }
@@ -93,7 +93,7 @@ impl<J: Job> JobTable<J> {
         self.add(Place::Ended(number, Ok(output)))
     }
 
-    /// One more job.
+    /// Adds a job, and returns its number.
     fn add(&mut self, place: Place<J>) -> u64
         requires place { HasPlace self.old }
         requires sound { IsSound J.Output.output_number place }
@@ -103,7 +103,8 @@ impl<J: Job> JobTable<J> {
         self.places.add(place)
     }
 
-    /// What stands at a job whose handle is kept, for a call to hold. Until it is put back its output counts as taken.
+    /// Takes the place of a job whose handle is kept, for a call to hold. Until the call puts it back, the job's output
+    /// counts as taken.
     fn take(&mut self, j: u64) -> Result<Place<J>, Refusal>
         ensures found { found_of result ≡ kept_job self.old.jobs j }
         ensures jobs { self.new.jobs ≡ job_held self.old.jobs j }
@@ -120,7 +121,7 @@ impl<J: Job> JobTable<J> {
         Ok(self.hold(j))
     }
 
-    /// What stands at a job.
+    /// Takes the place of a job.
     fn hold(&mut self, j: u64) -> Place<J>
         requires { is_some (value_at self.old.jobs.table j) ≡ true }
         ensures found { value_at self.old.jobs.table j ≡ Some (job_of result) }
@@ -131,7 +132,7 @@ impl<J: Job> JobTable<J> {
         self.places.replace(j, Place::Taken)
     }
 
-    /// Takes a job whose handle is kept out of the table. It takes no memory.
+    /// Removes a job whose handle is kept from the table. It takes no memory.
     fn take_out(&mut self, j: u64) -> Result<Place<J>, Refusal>
         ensures found { found_of result ≡ kept_job self.old.jobs j }
         ensures jobs { self.new.jobs ≡ job_dropped self.old.jobs j }
@@ -143,7 +144,7 @@ impl<J: Job> JobTable<J> {
         Ok(place)
     }
 
-    /// Puts what a call held back to its place.
+    /// Puts back the place that a call held.
     fn put(&mut self, j: u64, place: Place<J>)
         requires kept { is_some (value_at self.old.jobs.table j) ≡ true }
         requires sound { IsSound J.Output.output_number place }
@@ -153,9 +154,9 @@ impl<J: Job> JobTable<J> {
         drop(self.places.replace(j, place));
     }
 
-    /// A poll of a job's handle with a waker, whose task waits for the job from then on where it runs. `end` is the job's
-    /// end where this call saw it; `answer` and `jobs` are the machine's after it. `shown` says which answers come from a
-    /// poll of the joiner in this call.
+    /// Polls a job's handle with a waker; its task waits for the job from then on if it runs. `end` is the job's end if
+    /// this call saw it; `answer` and `jobs` are the machine's after it. `shown` says which answers come from a poll of
+    /// the joiner in this call.
     pub fn poll(&mut self, j: u64, waker: JobWaker<J::Unpark>) -> PolledJob<J>
         ensures end { IsEnd result.end self.old.jobs j }
         ensures answer { polled_reply J.Output.output_number result.answer ≡ poll_answer (after_end result.end self.old.jobs j) j }
@@ -187,8 +188,9 @@ impl<J: Job> JobTable<J> {
         }
     }
 
-    /// Drops the handle of a job. `end` is the job's end where this call saw it; `answer` and `jobs` are the machine's
-    /// after it. `shown` says that no output of a job that had not ended means that the joiner's one step found it so.
+    /// Drops the handle of a job. `end` is the job's end if this call saw it; `answer` and `jobs` are the machine's
+    /// after it. By `shown`, if it returns no output of a job that had not ended, the joiner's one step in this call
+    /// found none.
     pub fn drop_handle(&mut self, j: u64) -> Answered<J, Option<Result<J::Output, JoinError>>>
         ensures end { IsEnd result.end self.old.jobs j }
         ensures answer { dropped_reply J.Output.output_number result.answer ≡ drop_answer (after_end result.end self.old.jobs j) j }
@@ -221,9 +223,9 @@ impl<J: Job> JobTable<J> {
         }
     }
 
-    /// Whether a job has ended. The question changes nothing for the machine (`jobs`): a job that its load sees ended
-    /// runs on in the table, until a poll or a drop sees the end. `shown` says that a refusal is the machine's, that Yes
-    /// of a job that had not ended comes from a load of the joiner's in this call, and so does No.
+    /// Returns whether a job has ended. The query changes nothing for the machine (`jobs`): a job whose load sees an
+    /// end stays running in the table, until a poll or a drop sees that end. By `shown`, a refusal is the machine's. If
+    /// the table has the job running, both Yes and No come from a load of the joiner in this call.
     pub fn has_ended(&mut self, j: u64) -> Result<bool, Refusal>
         ensures jobs { self.new.jobs ≡ self.old.jobs }
         ensures shown { FinishShown self.old j result self.new }
