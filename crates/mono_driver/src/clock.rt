@@ -1,20 +1,20 @@
-// What tells the time.
+// The trait of a clock.
 ghost use Rattle.std.specs.Prelude.{◌≡◌, ℕ, Bool, true, List, Option, None};
 ghost use Rattle.mono_time.specs.Instants.{nanos_of};
 ghost use Rattle.mono_driver.specs.Drivers.{Reads, ReadsTime};
 
 use mono_time::Instant;
 
-/// What tells the time.
+/// A source of the time.
 ///
-/// A clock tells its readings to come, its time, both or nothing, and `now` answers what it told. The counts are those of
-/// a driver, which is a clock too: they stand here since `now` leaves them, and a clock that is no driver keeps the
-/// defaults.
+/// A clock exposes its readings to come, its time, both or nothing, and `now` reads the exposed value. The counts are
+/// those of a driver, which is a clock, too. They are members here since `now` keeps them; a clock that is no driver
+/// keeps the defaults.
 pub trait Clock {
-    /// The readings to come, in nanoseconds, where they are told. The list is not empty.
+    /// The readings to come, in nanoseconds, if the clock exposes them. The list is not empty.
     ghost readings: { Self → Option (List ℕ) } = { λ _. None };
 
-    /// The time in nanoseconds, where it is told.
+    /// The time in nanoseconds, if the clock exposes it.
     ghost time: { Self → Option ℕ } = { λ _. None };
 
     /// How often a call of a driver failed. A count of 2^64 - 1 counts as risen.
@@ -26,8 +26,9 @@ pub trait Clock {
     /// Whether a call of a driver may fail, from now on.
     ghost can_fail: { Self → Bool } = { λ _. true };
 
-    /// The reading of the clock. Where readings are told it is the first of them, which then goes unless it is the last
-    /// one (`reads`). Where the time is told it is that time, and the time stays (`reads_time`, `time`).
+    /// Returns the reading of the clock. If readings are exposed, it is the first of them, which is then removed unless
+    /// it is the last one (`reads`). If the time is exposed, it is that time, and the time stays (`reads_time`,
+    /// `time`).
     fn now(&mut self) -> Instant
         ensures reads { Reads (readings self.old) (nanos_of result) (readings self.new) }
         ensures reads_time { ReadsTime (time self.old) (nanos_of result) }

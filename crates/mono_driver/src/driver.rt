@@ -1,4 +1,4 @@
-// What a runtime waits on.
+// The trait of a driver, on which a runtime waits.
 ghost use Rattle.std.specs.Prelude.{◌≡◌};
 ghost use Rattle.std.specs.Duration.{as_nanos};
 ghost use Rattle.mono_driver.specs.Drivers.{Faults, IsSure, one_more, moved};
@@ -13,19 +13,20 @@ use std::time::Duration;
 #[derive(Clone, Copy, Debug, PartialEq, Eq)]
 pub struct DriverFault;
 
-/// What a runtime waits on.
+/// A value on which a runtime waits.
 ///
-/// A driver's counts are the clock's members `faults`, `parks` and `can_fail`. A call answers Err if and only if the count of
-/// faults rose in it (`faults`), and that count never falls. A driver that tells that it can't fail answers no Err, and
-/// neither its count of faults nor what it tells changes by a call (`sure`). Each `park` and `park_timeout` raises the count
-/// of parks by one, at most to 2^64 - 1, and no other call changes it (`parks`). Of the calls here only a `park_timeout`
-/// that answers Ok moves the time, where it is told: by what it was parked for, at most to `MAX_NANOS` (`time`). None
-/// changes the readings to come (`readings`).
+/// A driver's counts are the clock's members `faults`, `parks` and `can_fail`. A call answers Err if and only if the
+/// count of faults rose in it (`faults`), and that count never falls. If `can_fail` is false, each call answers Ok and
+/// changes neither the count of faults nor `can_fail` (`sure`). Each `park` and `park_timeout` raises the count of
+/// parks by one, at most to 2^64 - 1, and no other call changes it (`parks`).
+///
+/// A `park_timeout` that answers Ok moves an exposed time by its duration, at most to `MAX_NANOS`; no other call here
+/// moves it (`time`). None changes the readings to come (`readings`).
 pub trait Driver: Clock + Drop {
-    /// What ends its waits.
+    /// The handle that ends its waits.
     type Unpark: Unpark;
 
-    /// Hands in what is to be done, without waiting.
+    /// Submits the pending work, without waiting.
     fn submit<R: Host>(&mut self, rt: &R) -> Result<(), DriverFault>
         ensures faults { Faults result (Self.faults self.old) (Self.faults self.new) }
         ensures sure { IsSure (Self.can_fail self.old) result (Self.faults self.old) (Self.faults self.new) (Self.can_fail self.new) }
@@ -33,7 +34,7 @@ pub trait Driver: Clock + Drop {
         ensures time { Self.time self.new ≡ Self.time self.old }
         ensures readings { Self.readings self.new ≡ Self.readings self.old };
 
-    /// Waits until it is unparked.
+    /// Parks until an unpark.
     fn park<R: Host>(&mut self, rt: &R) -> Result<(), DriverFault>
         ensures faults { Faults result (Self.faults self.old) (Self.faults self.new) }
         ensures sure { IsSure (Self.can_fail self.old) result (Self.faults self.old) (Self.faults self.new) (Self.can_fail self.new) }
@@ -41,7 +42,7 @@ pub trait Driver: Clock + Drop {
         ensures time { Self.time self.new ≡ Self.time self.old }
         ensures readings { Self.readings self.new ≡ Self.readings self.old };
 
-    /// Waits until it is unparked, at most for so long.
+    /// Parks until an unpark, or until `longest` has passed.
     fn park_timeout<R: Host>(&mut self, rt: &R, longest: Duration) -> Result<(), DriverFault>
         ensures faults { Faults result (Self.faults self.old) (Self.faults self.new) }
         ensures sure { IsSure (Self.can_fail self.old) result (Self.faults self.old) (Self.faults self.new) (Self.can_fail self.new) }
@@ -49,6 +50,6 @@ pub trait Driver: Clock + Drop {
         ensures time { Self.time self.new ≡ moved (Self.time self.old) (as_nanos longest) result }
         ensures readings { Self.readings self.new ≡ Self.readings self.old };
 
-    /// What ends this driver's waits, from any thread. It is refused only for want of memory.
+    /// Returns a handle that ends this driver's waits, from any thread. It is refused only if it is out of memory.
     fn unpark(&self) -> Result<Self::Unpark, AllocError>;
 }

@@ -1,5 +1,5 @@
-//! Clocks, and the drivers on which a runtime waits: one that never waits, one that parks its thread, and one that marks a
-//! runtime with timers.
+//! Clocks, and the drivers on which a runtime waits: a driver that never waits, a driver that parks its thread, and a
+//! driver that marks a runtime with timers.
 #![tactic(auto)]
 
 mod clock;

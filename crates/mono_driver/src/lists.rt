@@ -6,8 +6,8 @@ use crate::clock::Clock;
 use mono_time::Instant;
 use std::marker::Model;
 
-/// A clock that reads what it was given, in order, and then the last of it again and again. Contracts see it as the list
-/// of the readings that are left, in nanoseconds.
+/// A clock that returns the given readings in order, and then the last of them again and again. Contracts see it as the
+/// list of the remaining readings, in nanoseconds.
 #[derive(Drop)]
 pub struct ListClock {
     readings: Vec<Instant>,
@@ -26,7 +26,7 @@ impl Model for ListClock {
 }
 
 impl ListClock {
-    /// A clock with these readings, of which there is at least one.
+    /// Returns a clock with these readings, at least one.
     pub fn new(readings: Vec<Instant>) -> ListClock
         requires { 0 < length readings.items }
         ensures { result ≡ map nanos_of readings.items }

@@ -8,7 +8,7 @@ use mono_model::MAX_NANOS;
 use mono_time::Instant;
 use std::time::Duration;
 
-/// The first instant.
+/// Returns the first instant.
 pub(crate) fn first() -> Instant
     ensures { nanos_of result ≡ 0 }
 {
@@ -18,7 +18,7 @@ pub(crate) fn first() -> Instant
     }
 }
 
-/// The last instant.
+/// Returns the last instant.
 fn last() -> Instant
     ensures { nanos_of result ≡ max_nanos }
 {
@@ -28,7 +28,7 @@ fn last() -> Instant
     }
 }
 
-/// The instant so much later, or the last one.
+/// Returns the instant that is `by` later, at most the last one.
 pub(crate) fn later(time: Instant, by: Duration) -> Instant
     ensures { nanos_of result ≡ min (nanos_of time + as_nanos by) max_nanos }
 {

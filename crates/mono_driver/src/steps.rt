@@ -15,9 +15,9 @@ use std::alloc::AllocError;
 use std::marker::Model;
 use std::time::Duration;
 
-/// A driver that never waits: its time starts at 0 and moves by what it is parked for. Of its calls of `submit`, `park` and
-/// `park_timeout` the k-th, counted from 0, fails exactly where k is listed, and then the time stays. It tells that it
-/// can't fail exactly where the list is empty.
+/// A driver that never waits. Its time starts at 0, and a park moves it by the park's duration. Its calls of `submit`,
+/// `park` and `park_timeout` count from 0. The k-th fails if and only if k is listed, and then the time stays. It
+/// exposes that it cannot fail if and only if the list is empty.
 #[derive(Drop)]
 pub struct StepDriver {
     time: Instant,
@@ -37,7 +37,7 @@ impl Model for StepDriver {
 }
 
 impl StepDriver {
-    /// A driver at time 0 that was not called yet, of whose calls those fail that are listed.
+    /// Returns a driver at time 0 that was not called yet, and whose listed calls fail.
     pub fn new(failing: Vec<u64>) -> StepDriver
         ensures { result ≡ start_with failing.items }
     {
@@ -50,7 +50,7 @@ impl StepDriver {
         }
     }
 
-    // Whether the next call fails.
+    // Returns whether the next call fails.
     fn fails(&self) -> bool
         ensures { result ≡ next_fails self.now }
     {
@@ -58,7 +58,7 @@ impl StepDriver {
         self.failing.iter().any(|k| *k as u128 == call)
     }
 
-    // One more call, which fails where it is listed.
+    // Counts one more call, which fails if it is listed.
     fn call(&mut self) -> Result<(), DriverFault>
         ensures answer { FailsIf (next_fails self.old) result }
         ensures called { self.new ≡ called self.old }
@@ -111,7 +111,7 @@ impl Driver for StepDriver {
         self.call()
     }
 
-    /// Returns at once.
+    /// Returns at once, without a wait.
     fn park<R: Host>(&mut self, _rt: &R) -> Result<(), DriverFault>
         ensures faults { Faults result self.old.faults self.new.faults }
         ensures sure { IsSure (has_any self.old.failing) result self.old.faults self.new.faults (has_any self.new.failing) }
@@ -124,7 +124,7 @@ impl Driver for StepDriver {
         self.call()
     }
 
-    /// Returns at once.
+    /// Moves the time by `longest`, and returns at once.
     fn park_timeout<R: Host>(&mut self, _rt: &R, longest: Duration) -> Result<(), DriverFault>
         ensures faults { Faults result self.old.faults self.new.faults }
         ensures sure { IsSure (has_any self.old.failing) result self.old.faults self.new.faults (has_any self.new.failing) }

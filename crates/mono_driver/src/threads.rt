@@ -10,10 +10,10 @@ use mono_time::Instant;
 use std::alloc::{AllocError, Global};
 use std::time::Duration;
 
-/// A driver that parks its thread, with a clock of the caller's. It tells the readings that its clock tells. It can't
-/// fail, and its count of faults is 0.
+/// A driver that parks its thread, with a clock of the caller's. It exposes the readings of its clock. It cannot fail,
+/// and its count of faults is 0.
 ///
-/// That a park waits, and that an unpark ends it, is shown by tests.
+/// Tests show that a park waits, and that an unpark ends it.
 #[derive(Drop)]
 pub struct ThreadDriver<C> {
     clock: C,
@@ -22,7 +22,7 @@ pub struct ThreadDriver<C> {
 }
 
 impl<C: Clock + Drop> ThreadDriver<C> {
-    /// A driver over this clock that was never parked.
+    /// Returns a driver over this clock that was never parked.
     pub fn new(alloc: Global, clock: C) -> Result<ThreadDriver<C>, AllocError>
         ensures clock { IfOk result (λ driver. driver.clock ≡ clock) }
         ensures parks { IfOk result (λ driver. driver.parks ≡ 0) }

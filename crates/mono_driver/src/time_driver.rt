@@ -8,21 +8,21 @@ use mono_time::Instant;
 use std::alloc::AllocError;
 use std::time::Duration;
 
-/// Passes all calls on to its driver, and tells what that tells. It marks a runtime with timers.
+/// A driver that passes all calls on to its inner driver, and exposes the same values. It marks a runtime with timers.
 #[derive(Drop)]
 pub struct TimeDriver<D> {
     driver: D,
 }
 
 impl<D: Drop> TimeDriver<D> {
-    /// The same driver, with timers.
+    /// Returns the same driver, with timers.
     pub fn new(driver: D) -> TimeDriver<D>
         ensures { result.driver ≡ driver }
     {
         TimeDriver { driver }
     }
 
-    /// The driver without the mark.
+    /// Returns the driver without the mark.
     pub fn into_inner(self) -> D
         ensures { result ≡ self.driver }
     {
