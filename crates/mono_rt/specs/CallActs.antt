@@ -1,5 +1,5 @@
--- What a call on tasks or on sleeps keeps in the record of the turn: the call as an act, with its reply. Want of memory is
--- no act, and is noted by its flag; neither is a sleep where there are no timers.
+-- What a call on tasks or on sleeps adds to the record of the turn: the call as an act, with its reply. An allocation
+-- that fails is no act, and sets a flag; a sleep without timers is no act either.
 use Rattle.std.specs.Prelude.{ℕ, ⊤, Bool, true, Option, Result, Ok, Err}
 use Rattle.mono_model.specs.Ticks.{up}
 use Rattle.mono_model.specs.declared.Woke.{Woke}
@@ -31,7 +31,7 @@ module _ {O : Type 0} (number : O → ℕ) where
   abbrev pub noted_drop : Record → ℕ → Result (Option O) TaskError → Record
   noted_drop acts t answer = noted acts (step.Act (act.DropJoin t)) (drop_reply (drop_numbered number answer))
 
--- a task that is asked for, made or refused
+-- the record after a spawn, made or refused
 abbrev pub noted_task : Record → Result ℕ SpawnTask → Record
 noted_task acts (Ok t) = noted acts (step.Act act.Spawn) (reply.Task t)
 noted_task acts (Err spawn.AtCapacity) = noted acts (step.Act act.Spawn) (reply.Refused refusal.AtCapacity)
@@ -42,7 +42,7 @@ lacks_task before (Ok t) = before
 lacks_task before (Err spawn.AtCapacity) = before
 lacks_task before (Err spawn.Memory) = true
 
--- a sleep for this deadline that is asked for, made or refused
+-- the record after a sleep for this deadline, made or refused
 abbrev pub noted_sleep : Record → ℕ → Result ℕ SleepError → Record
 noted_sleep acts nanos (Ok s) = noted acts (step.Act (act.NewSleep nanos)) (reply.Sleep s)
 noted_sleep acts nanos (Err (Timer timer.AtCapacity)) = noted acts (step.Act (act.NewSleep nanos)) (reply.Refused refusal.AtCapacity)
@@ -61,7 +61,7 @@ noted_poll acts s answer = noted acts (step.Query (query.Sleep s)) (poll_reply a
 abbrev pub noted_gone : Record → ℕ → Result ⊤ Error → Record
 noted_gone acts s answer = noted acts (step.Act (act.DropSleep s)) (gone_reply answer)
 
--- a reset is answered by whether the tick of its deadline has come
+-- the record after a reset, whose reply says whether the tick of its deadline has come
 abbrev pub noted_reset : Record → ℕ → ℕ → ℕ → Result ⊤ Error → Record
 noted_reset acts greatest s nanos (Ok x) = noted acts (step.Act (act.Reset s nanos)) (reset_reply greatest (up nanos))
 noted_reset acts greatest s nanos (Err e) = noted acts (step.Act (act.Reset s nanos)) no_timer

@@ -11,13 +11,13 @@ use Rattle.mono_machine.specs.declared.events.Report.TheVariants as report
 use Rattle.mono_rt.specs.declared.parts.journals.Entry.{Entry}
 use Rattle.mono_rt.specs.declared.parts.journals.Entry.TheVariants.{Ran}
 
--- what the wake tells, by whether the task has finished
+-- the report of the wake, by whether the task has finished
 abbrev pub told_by : Result Bool TaskError → Report
 told_by (Ok true) = report.Unlisted
 told_by (Ok false) = report.Listed
 told_by (Err e) = report.Reply (reply.Refused refusal.NoTask)
 
--- a task that was given out and is unfinished is listed
+-- the task, if it was given out and is unfinished
 abbrev pub listed_by : Result Bool TaskError → ℕ → List ℕ
 listed_by (Ok true) t = []
 listed_by (Ok false) t = t ∷ []
@@ -27,7 +27,7 @@ abbrev pub remotes : {O : Type 0} → Tasks O → List ℕ → List Entry
 remotes tasks [] = []
 remotes tasks (t ∷ ts) = Ran (event.Remote t) (told_by (over_answer tasks t)) ∷ remotes tasks ts
 
--- those that are listed, in order
+-- the listed tasks, in order
 abbrev pub listed : {O : Type 0} → Tasks O → List ℕ → List ℕ
 listed tasks [] = []
 listed tasks (t ∷ ts) = listed_by (over_answer tasks t) t ++ listed tasks ts

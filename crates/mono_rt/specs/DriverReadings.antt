@@ -1,4 +1,4 @@
--- What a driver tells goes along the entries of a journal: each reading of the clock is the one that it told.
+-- How a driver relates to the entries of a journal: each reading of the clock is the driver's.
 use Rattle.std.specs.Prelude.{⊤, ◌≡◌, ◌⊎◌, ℕ, ◌+◌, ◌*◌, min, Bool, true, false, List, [], ◌∷◌, ◌++◌, Option, Some, None, Result, Ok, Err}
 use Rattle.mono_model.specs.Ticks.{max_nanos}
 use Rattle.mono_driver.specs.Drivers.{Reads, ReadsTime, one_more}
@@ -10,7 +10,8 @@ use Rattle.mono_rt.specs.declared.parts.journals.Entry.{Entry}
 use Rattle.mono_rt.specs.declared.parts.journals.Entry.TheVariants.{Ran, Now, Park}
 use Rattle.mono_rt.specs.declared.parts.journals.Journal.{Journal}
 
--- What a driver tells: its readings to come, in nanoseconds, and its time, each where it is told, and how often it was parked.
+-- What a driver exposes: its readings to come, in nanoseconds, its time, and how often it was parked. The first two are
+-- optional.
 pub record Told : Type 0 where
   pub readings : Option (List ℕ)
   pub time : Option ℕ
@@ -19,21 +20,23 @@ pub record Told : Type 0 where
 abbrev pub telling : Option (List ℕ) → Option ℕ → ℕ → Told
 telling readings time parks = record { readings = readings; time = time; parks = parks }
 
--- How it goes with the driver: no call of it failed; it was parked, and the inbox is to be drained; or its last call failed,
--- after which it is neither parked nor read for a turn.
+-- The state of the calls to the driver: none failed; it was parked, and the inbox is to be drained; or its last call
+-- failed, after which it is neither parked nor read for a turn.
 pub data Course : Type 0 where
   going : Course
   parked : Course
   failed : Course
 
--- The clock is read: the first of the readings that are told, which then goes unless it is the last, and the time that is told.
+-- The clock is read: the first of the readings that the driver exposes, which is then removed unless it is the last,
+-- and the time that it exposes.
 pub record IsRead (n : ℕ) (old new : Told) : Type 0 where
   pub reads : Reads old.readings n new.readings
   pub reads_time : ReadsTime old.time n
   pub time : new.time ≡ old.time
   pub parks : new.parks ≡ old.parks
 
--- the time after a park for so many milliseconds at most; one that failed leaves it, and so does one without an end
+-- the time after a park for at most this number of milliseconds; a failed park leaves it, and so does a park without an
+-- end
 abbrev pub parked_time : Bool → Option ℕ → Option ℕ → Option ℕ
 parked_time has_failed wait None = None
 parked_time true wait (Some t) = Some t
@@ -50,13 +53,13 @@ abbrev pub after_park : Bool → Course
 after_park true = failed
 after_park false = parked
 
--- After a park the inbox is drained. Otherwise what was handed in before the drain may have failed.
+-- After a park the inbox is drained. Otherwise a hand-in before the drain may have failed.
 abbrev pub IsDrained : Course → Course → Type 0
 IsDrained going next = (next ≡ going) ⊎ (next ≡ failed)
 IsDrained parked next = next ≡ going
 IsDrained failed next = next ≡ failed
 
--- what an event is to the driver: a clock step reads it
+-- the effect of an event on the driver: a clock step reads it
 abbrev pub IsMet : Event → Told → Course → Told → Course → Type 0
 IsMet (event.Act act) old before new after = (new ≡ old) × (after ≡ before)
 IsMet (event.Turn steps end) old before new after = (new ≡ old) × (after ≡ before)
@@ -64,35 +67,36 @@ IsMet (event.Clock n) old before new after = IsRead n old new × (after ≡ befo
 IsMet (event.Remote t) old before new after = (new ≡ old) × (after ≡ before)
 IsMet event.Drain old before new after = (new ≡ old) × IsDrained before after
 
--- These entries lead from what the driver told, and how it went with it, to what it tells after them.
+-- These entries lead from the driver's readings, time and course to those after them.
 abbrev pub Tells : Told → Course → List Entry → Told → Course → Type 0
 Tells old before [] new after = (new ≡ old) × (after ≡ before)
 Tells old before (Ran e r ∷ part) new after = (mid : Told) × ((next : Course) × (IsMet e old before mid next × Tells mid next part new after))
 Tells old before (Now n ∷ part) new after = (before ≡ going) × ((mid : Told) × (IsRead n old mid × Tells mid going part new after))
 Tells old before (Park wait ∷ part) new after = (before ≡ going) × ((mid : Told) × ((has_failed : Bool) × (IsParked wait has_failed old mid × Tells mid (after_park has_failed) part new after)))
 
--- By the error: only where it is that the driver failed did a call of it fail. After want of memory either may be.
+-- By the error: the last call of the driver failed if it is Driver, and none failed if it is Turns or AtCapacity. If
+-- memory ran out, either may be.
 abbrev pub EndsBy : RunError → Course → Type 0
 EndsBy error.Turns course = course ≡ going
 EndsBy error.AtCapacity course = course ≡ going
 EndsBy error.Driver course = course ≡ failed
 EndsBy error.Memory course = ⊤
 
--- By the answer, where it is good no call of the driver failed.
+-- If the answer is good, no call of the driver failed.
 abbrev pub EndsSo : {A : Type 0} → Result A RunError → Course → Type 0
 EndsSo (Ok x) course = course ≡ going
 EndsSo (Err e) course = EndsBy e course
 
--- it goes on as before
+-- the course stays
 abbrev pub Still : Course → Course → Type 0
 Still before after = after ≡ before
 
--- after a park, by whether it failed; where memory was refused it was not parked
+-- the course after a park, by whether it failed; if memory ran out, the driver was not parked
 abbrev pub EndsParked : Result Bool RunError → Course → Type 0
 EndsParked (Ok has_failed) course = course ≡ after_park has_failed
 EndsParked (Err e) course = course ≡ going
 
--- after a park, a drain and with timers a clock step, by whether the park failed
+-- the course after a park, a drain and, with timers, a clock step, by whether the park failed
 abbrev pub after_wait : Bool → Course
 after_wait true = failed
 after_wait false = going
@@ -101,16 +105,16 @@ abbrev pub EndsWaited : Result Bool RunError → Course → Type 0
 EndsWaited (Ok has_failed) course = course ≡ after_wait has_failed
 EndsWaited (Err e) course = ⊤
 
--- after a drain; where memory was refused nothing was drained
+-- the course after a drain; if memory ran out, nothing was drained
 abbrev pub EndsDrained : {A : Type 0} → Result A RunError → Course → Course → Type 0
 EndsDrained (Ok x) before after = IsDrained before after
 EndsDrained (Err e) before after = after ≡ before
 
--- What the history grew by tells of the driver, and then it goes so with the driver.
+-- The readings and parks by which the history grew are the driver's, and its course is then this.
 pub record Telling (Ends : Course → Type 0) (old : Told) (before : Course) (j k : Journal) (new : Told) : Type 0 where
   pub tells : (part : List Entry) × ((after : Course) × ((k.history.entries ≡ j.history.entries ++ part) × (Ends after × Tells old before part new after)))
 
--- The entries of a whole history tell of the driver, in a call that answered so.
+-- The readings and parks of a whole history are the driver's, in a call with this answer.
 pub record IsTold {A : Type 0} (answer : Result A RunError) (old : Told) (part : List Entry) : Type 0 where
   pub new : Told
   pub after : Course

@@ -1,4 +1,4 @@
--- The bytes that are printed of an error.
+-- The bytes that are printed for an error.
 use Rattle.std.specs.Prelude.{ℕ, List, codes}
 use Rattle.mono_rt.specs.declared.parts.errors.RunError.{RunError}
 use Rattle.mono_rt.specs.declared.parts.errors.RunError.TheVariants.{Memory, AtCapacity, Driver, Turns}

@@ -1,10 +1,10 @@
--- What a call leaves of the driver's count of faults, by its answer.
+-- How a call changes the driver's count of faults, by its answer.
 use Rattle.std.specs.Prelude.{⊤, ◌≡◌, ℕ, Bool, true, false, Result, Ok, Err}
 use Rattle.mono_driver.specs.Drivers.{HasRisen}
 use Rattle.mono_rt.specs.declared.parts.errors.RunError.{RunError}
 use Rattle.mono_rt.specs.declared.parts.errors.RunError.TheVariants as error
 
--- The answer is Driver only if the count rose, and if it rose the answer is that or Memory.
+-- The answer is Driver only if the count rose; if it rose, the answer is Driver or Memory.
 abbrev pub FaultsOn : RunError → ℕ → ℕ → Type 0
 FaultsOn error.Driver before now = HasRisen before now
 FaultsOn error.Turns before now = now ≡ before

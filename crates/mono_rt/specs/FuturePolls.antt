@@ -1,5 +1,5 @@
--- The futures go along the entries of a history: each turn is one poll of its task's own future, at the reading before it,
--- from the futures that the turns before it left.
+-- How the futures change along the entries of a history. Each turn is one poll of its task's own future, at the reading
+-- before it, from the futures that the turns before it left.
 use Rattle.std.specs.Prelude.{⊤, ◌≡◌, ℕ, Bool, false, List, [], ◌∷◌, ◌++◌, Option, Some, Result, Ok, Err}
 use Rattle.mono_task.specs.Members.{FutureOf}
 use Rattle.mono_time.specs.declared.instant.Instant.{Instant}
@@ -30,8 +30,9 @@ MakesNoTask act.Spawn = ⊥
 MakesNoTask other = ⊤
 
 module _ {F O P U W J A V : Type 0} (number : O → ℕ) (leads : W → W → Type 0) (future : FutureOf F (Cx F O P U W J A V) O) (has_timers : Bool) where
-  -- A turn of the history, at this reading of the clock: the context before it stands for the machine and has these futures,
-  -- that after it has those that are left. The entry has each of its acts, and each of its calls found memory.
+  -- A turn of the history, at this reading of the clock. The context before it refines the machine and has these
+  -- futures; the context after it has those that are left. The entry has each act of the turn, and no call ran out of
+  -- memory.
   pub record TellsTurn (m : Machine) (futures : List (Option F)) (reading : ℕ) (steps : List TurnStep) (e : End) (answer : Report) (left : List (Option F)) : Type 0 where
     pub task : ℕ
     pub now : Instant
@@ -49,8 +50,8 @@ module _ {F O P U W J A V : Type 0} (number : O → ℕ) (leads : W → W → Ty
     pub acts : after.parts.acts.steps ≡ steps
     pub told : answer ≡ report.Turn task after.parts.acts.replies ended
 
-  -- Each turn among these entries is one poll of its task's own future, from these futures and this reading on. What else is
-  -- done leaves the futures, and makes no task.
+  -- Each turn among these entries is one poll of its task's own future, from these futures and this reading on. All
+  -- other entries leave the futures, and make no task.
   abbrev pub Polled : Machine → List (Option F) → ℕ → List Entry → Type 0
   Polled m futures reading [] = ⊤
   Polled m futures reading (Now n ∷ part) = Polled m futures n part
@@ -62,16 +63,17 @@ module _ {F O P U W J A V : Type 0} (number : O → ℕ) (leads : W → W → Ty
   Polled m futures reading (Ran (event.Remote t) answer ∷ part) = (mid : Machine) × (Step m (event.Remote t) answer mid × Polled mid futures reading part)
   Polled m futures reading (Ran event.Drain answer ∷ part) = (mid : Machine) × (Step m event.Drain answer mid × Polled mid futures reading part)
 
-  -- The same of a part of a history, which leaves these futures: where what follows it is polled, so is the whole.
+  -- The same for a part of a history that leaves these futures: if all turns after it are polls, so are all turns of
+  -- the whole.
   abbrev pub Polling : List (Option F) → List (Option F) → Machine → List Entry → Machine → List Entry → Type 0
   Polling futures left old part new rest = ((reading : ℕ) → Polled new left reading rest) → (reading : ℕ) → Polled old futures reading part
 
-  -- the main task is made, and its future stands last; what follows leaves these futures
+  -- the main task is made with its future last; the entries after it leave these futures
   abbrev pub PollsMain : F → List (Option F) → List (Option F) → Machine → List Entry → Machine → List Entry → Type 0
   PollsMain main futures left old part new rest =
       (t : ℕ) × ((mid : Machine) × ((more : List Entry) × (IsSpawn t old part mid more × Polling (futures ++ Some main ∷ []) left mid more new rest)))
 
--- By the answer, a fact of a call that made its main task, unless it found no memory.
+-- By the answer: a fact about a call that made its main task, unless it ran out of memory.
 abbrev pub OnMain : {A : Type 0} → Result A RunError → Type 0 → Type 0
 OnMain (Ok x) P = P
 OnMain (Err error.Turns) P = P

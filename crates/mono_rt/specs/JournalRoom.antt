@@ -14,7 +14,7 @@ use Rattle.mono_rt.specs.declared.contexts.Cx.{Cx}
 use Rattle.mono_rt.specs.declared.parts.journals.Journal.{Journal}
 
 module _ {F O P U W J A V : Type 0} (number : O → ℕ) (leads : W → W → Type 0) (future : FutureOf F (Cx F O P U W J A V) O) where
-  -- A turn in which the task's own future, polled once, made more calls than the record of a turn has room for: it began
+  -- A turn in which one poll of the task's own future made more calls than the record of a turn has room for. It began
   -- with an empty record and ended with a full one, and for each machine it is a turn of more than 512 acts.
   pub record LongTurn (c d : Cx F O P U W J A V) : Type 0 where
     pub task : ℕ
@@ -29,7 +29,7 @@ module _ {F O P U W J A V : Type 0} (number : O → ℕ) (leads : W → W → Ty
   abbrev pub IsOneLong : Type 0
   IsOneLong = (c : Cx F O P U W J A V) × ((d : Cx F O P U W J A V) × LongTurn c d)
 
-  -- Such a turn came. Until it began the journal was not full, so it kept all that was done.
+  -- There was such a turn. The journal was not full until it began, so it kept all entries before.
   pub record FilledBy (c : Cx F O P U W J A V) (j : Journal) : Type 0 where
     pub before : Cx F O P U W J A V
     pub after : Cx F O P U W J A V
@@ -38,6 +38,6 @@ module _ {F O P U W J A V : Type 0} (number : O → ℕ) (leads : W → W → Ty
     pub unfull : so_far.is_full ≡ false
     pub long : LongTurn before after
 
-  -- The journal is full afterwards only where it was full before, or a turn made more acts than its record has room for.
+  -- The journal is full afterwards only if it was full before, or a turn made more acts than its record has room for.
   abbrev pub Fills : Cx F O P U W J A V → Journal → Journal → Type 0
   Fills c j k = k.is_full ≡ true → (j.is_full ≡ true) ⊎ FilledBy c j

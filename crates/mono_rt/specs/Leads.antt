@@ -14,9 +14,9 @@ use Rattle.mono_time.specs.Registrations.{registered_by_steps, registered_by_act
 use Rattle.mono_rt.specs.Refinement.{Hosting, Matches}
 use Rattle.mono_rt.specs.declared.parts.state.Parts.{Parts}
 
--- A list of acts leads each machine for which the parts stood to one for which they stand. The record of the turn grew by
--- these acts and by the machine's replies to them. It becomes full if and only if these and those before are more than it
--- has room for, and it stays full. The ticks at which the wheel has the sleeps follow the acts.
+-- A list of acts leads each machine that the parts refined to one that they refine. The record of the turn grew by
+-- these acts and by the machine's replies to them. It becomes full if and only if these and those before are more than
+-- it has room for, and it stays full. The registered ticks of the sleeps follow the acts.
 pub record Leads {O B : Type 0} (number : O → ℕ) (hosting : B → Hosting) (c d : Parts O B) : Type 0 where
   pub steps : List TurnStep
   pub leads : (m : Machine) → Matches number hosting c m → Matches number hosting d (after_steps c.me steps m)
@@ -55,7 +55,7 @@ open_before false c is = refl
 pub unfilled : (acts : Record) (step : TurnStep) (reply : Reply) → (noted acts step reply).is_full ≡ false → acts.is_full ≡ false
 unfilled acts step reply left = open_before acts.is_full _ left
 
--- an act fills the record exactly where it is one more than there is room for
+-- an act fills the record if and only if it is one more than there is room for
 one_more : (full : Bool) (n : ℕ) → nat_le room n ≡ full → full ≡ nat_lt room (n + 1)
 one_more true n is = sym (lt-ltb room (n + 1) (omega (arith, leb-true room n is)))
 one_more false n is = sym (le-ltb room (n + 1) (omega (arith, leb-false room n is)))

@@ -1,4 +1,4 @@
--- Tasks with numbers in the place of their outputs: so a runtime's tasks are those of the plain machine.
+-- Tasks with numbers in the place of their outputs: in this form a runtime's tasks are those of the reference machine.
 use Rattle.std.specs.Prelude.{ℕ, map, Option, Result, Ok, Err}
 use Rattle.std.specs.Option.{option_map}
 use Rattle.mono_model.specs.Tasks.{Tasks, Task, Phase, idle, queued, running, done, taken}
@@ -27,7 +27,7 @@ module _ {O : Type 0} (number : O → ℕ) where
   poll_numbered (Ready output) = Ready (number output)
   poll_numbered Pending = Pending
 
-  -- what a poll of a handle and the drop of one answer
+  -- the answers of a poll of a handle and of its drop
   abbrev pub join_numbered : Result (Poll O) TaskError → Result (Poll ℕ) TaskError
   join_numbered (Ok poll) = Ok (poll_numbered poll)
   join_numbered (Err e) = Err e
@@ -41,7 +41,7 @@ module _ {O : Type 0} (number : O → ℕ) where
   answer_numbered (Ok output) = Ok (number output)
   answer_numbered (Err e) = Err e
 
-  -- how a turn ends whose future answered so
+  -- the end of a turn whose future gave this answer
   abbrev pub end_of : Poll O → End
   end_of (Ready output) = end.Ready (number output)
   end_of Pending = end.Pending

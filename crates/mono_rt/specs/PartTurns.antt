@@ -1,4 +1,4 @@
--- A turn of a task, of what the parts have of it.
+-- A turn of a task, as the parts see it.
 use Rattle.std.specs.Prelude.{◌≡◌, ℕ, false, nat_lt, List, length, Ok}
 use Rattle.mono_model.specs.declared.Ended.{Ended}
 use Rattle.mono_model.specs.declared.poll.Poll.{Poll}

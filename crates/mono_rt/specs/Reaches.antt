@@ -1,4 +1,4 @@
--- A context that was reached from another by calls of the running task.
+-- A context that calls of the running task reached from another.
 use Rattle.std.specs.Prelude.{⊤, ◌≡◌, ℕ, Bool, true, false, List, [], ◌∷◌, ◌++◌, length, Option, Some, ◌≤◌, slice_index_or, zero, suc, refl}
 use Rattle.std.proofs.Common.{sym, ◌∙◌, ap, arith}
 use Rattle.std.proofs.Math.Nat.{le_refl}
@@ -7,11 +7,11 @@ use Rattle.mono_rt.specs.Leads.{Leads, leads_itself, leads_on}
 use Rattle.mono_rt.specs.Refinement.{hosting_of}
 use Rattle.mono_rt.specs.declared.contexts.Cx.{Cx}
 
--- Each future in the table stays. Nothing else is said of the futures.
+-- Each future in the table stays. No more is claimed for the futures.
 abbrev pub KeepsFutures : {F : Type 0} → List (Option F) → List (Option F) → Type 0
 KeepsFutures {F} old new = (t : ℕ) (f : F) → value_at old t ≡ Some f → value_at new t ≡ Some f
 
--- each number that was lent still is
+-- each number that was taken out still is
 abbrev pub KeepsLent : List Bool → List Bool → Type 0
 KeepsLent old new = (t : ℕ) → slice_index_or old t false ≡ true → slice_index_or new t false ≡ true
 
@@ -30,7 +30,7 @@ module _ {F O P U W J A V : Type 0} (number : O → ℕ) (leads : W → W → Ty
     pub parts : Leads number hosting_of c.parts d.parts
     pub keeps : KeepsFutures c.futures.items d.futures.items
     pub grows : length c.futures.items ≤ length d.futures.items
-    -- what runs finds its own place again
+    -- the running task finds its own place again
     pub lent : KeepsLent c.futures.lent d.futures.lent
     pub same_waker : d.waker ≡ c.waker
     -- what the tasks share was led

@@ -1,4 +1,4 @@
--- What the readings of a journal are: those of a list, in order, or the sums of what was parked for.
+-- The readings of a journal: those of a list, in order, or the sums of the parks.
 use Rattle.std.specs.Prelude.{⊤, ◌≡◌, ℕ, ◌+◌, ◌*◌, min, List, [], ◌∷◌, ◌++◌, Some, None}
 use Rattle.mono_model.specs.Ticks.{max_nanos}
 use Rattle.mono_machine.specs.declared.events.Event.{Event}
@@ -27,7 +27,7 @@ AreFirst (n ∷ values) [] = ⊥
 AreFirst (n ∷ values) (x ∷ []) = (n ≡ x) × AreFirst values (x ∷ [])
 AreFirst (n ∷ values) (x ∷ y ∷ readings) = (n ≡ x) × AreFirst values (y ∷ readings)
 
--- the time so many milliseconds after a start, at most the greatest
+-- the time a number of milliseconds after a start, at most the greatest
 abbrev pub time_after : ℕ → ℕ → ℕ
 time_after start millis = min (start + millis * 1000000) max_nanos
 
@@ -38,7 +38,7 @@ IsSumAt (event.Clock n) start millis = n ≡ time_after start millis
 IsSumAt (event.Remote t) start millis = ⊤
 IsSumAt event.Drain start millis = ⊤
 
--- After so many milliseconds of parks: each reading is the start and the milliseconds of the parks before it.
+-- After this number of milliseconds of parks: each reading is the start and the milliseconds of the parks before it.
 abbrev pub AreSums : ℕ → ℕ → List Entry → Type 0
 AreSums start millis [] = ⊤
 AreSums start millis (Ran e r ∷ part) = IsSumAt e start millis × AreSums start millis part

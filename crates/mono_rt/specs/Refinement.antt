@@ -1,4 +1,4 @@
--- For which machines the parts of a runtime stand.
+-- Which machines the parts of a runtime refine.
 use Rattle.std.specs.Prelude.{◌≡◌, ℕ, []}
 use Rattle.mono_model.specs.Jobs.{Jobs}
 use Rattle.mono_time.specs.Sleeps.{IsNoneArmedUpTo}
@@ -10,7 +10,7 @@ use Rattle.mono_blocking.specs.JobSpawns.{Seen, strategy_of}
 use Rattle.mono_rt.specs.Numbering.{numbered}
 use Rattle.mono_rt.specs.declared.parts.state.Parts.{Parts}
 
--- The jobs whose handles are kept, and who runs them, as the machine has them.
+-- The jobs whose handles are kept, and the strategy, as the machine has them.
 pub record Hosting : Type 0 where
   pub jobs : Jobs
   pub strategy : Blocking
@@ -18,8 +18,8 @@ pub record Hosting : Type 0 where
 abbrev pub hosting_of : {P : Type 0} → Seen P → Hosting
 hosting_of seen = record { jobs = seen.table.jobs; strategy = strategy_of seen.pool }
 
--- The parts are those of the machine, with the numbers of outputs in the place of outputs. What waits under the lock of the
--- inbox is no part of it: the machine's inbox is empty but while it is drained.
+-- The parts are those of the machine, with the numbers of outputs in the place of outputs. The list under the lock of
+-- the inbox is no part of it: the machine's inbox is empty except during a drain.
 pub record Matches {O B : Type 0} (number : O → ℕ) (hosting : B → Hosting) (parts : Parts O B) (m : Machine) : Type 0 where
   pub tasks : numbered number parts.tasks.tasks ≡ m.tasks
   pub sleeps : StandsForSleeps parts.timers m.sleeps

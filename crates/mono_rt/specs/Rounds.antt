@@ -36,19 +36,19 @@ pub record OneTurn (old : Machine) (part : List Entry) (new : Machine) (rest : L
   pub entries : part ≡ Now now ∷ Ran (event.Turn steps ending) (report.Turn task replies ended) ∷ rest
   pub step : Step old (event.Turn steps ending) (report.Turn task replies ended) new
 
--- The last turn stands apart, so that one more turn is one more step.
+-- The last turn is a step of its own, so that one more turn is one more step.
 abbrev pub Turns : ℕ → Machine → List Entry → Machine → List Entry → Type 0
 Turns zero old part new rest = (part ≡ rest) × (new ≡ old)
 Turns (suc n) old part new rest = (mid : Machine) × ((left : List Entry) × (Turns n old part mid left × OneTurn mid left new rest))
 
--- a round has at most so many turns
+-- the greatest number of turns in a round
 abbrev pub most_turns_of : ℕ → List ℕ → ℕ
 most_turns_of units queue = min units (2 * length queue + 1)
 
 abbrev pub most_turns : ℕ → Machine → ℕ
 most_turns units m = most_turns_of units m.tasks.queue
 
--- It ends at the first of these: the queue is empty, no unit is left, or its turns are done.
+-- A round ends at the first of these: the queue is empty, the budget is spent, or its turns are done.
 pub record Round (units left : ℕ) (old : Machine) (part : List Entry) (new : Machine) (rest : List Entry) : Type 0 where
   pub turns : ℕ
   pub are : Turns turns old part new rest
@@ -94,7 +94,7 @@ pub record WaitsUntil (m : Machine) (now v : ℕ) : Type 0 where
   pub before : (s : ℕ) (a : Arming) → value_at m.sleeps.table s ≡ Some (armed a) → until ≤ a.tick
   pub is_one : IsOneArmed m
 
--- How long the driver is parked, in milliseconds: without an end where there are no timers or no sleep is armed.
+-- How long the driver is parked, in milliseconds: without an end if there are no timers or no sleep is armed.
 abbrev pub IsWait : Bool → Machine → ℕ → Option ℕ → Type 0
 IsWait false m now None = ⊤
 IsWait false m now (Some v) = ⊥
@@ -114,7 +114,7 @@ pub record Parks (has_timers : Bool) (old : Machine) (part : List Entry) (new : 
   pub drains : Drained parked left drained after
   pub clock : ClockIf has_timers drained after new rest
 
--- what stands between two rounds, by the queue
+-- the entries between two rounds, by the queue
 abbrev pub Pauses : Bool → List ℕ → Machine → List Entry → Machine → List Entry → Type 0
 Pauses has_timers [] old part new rest = Parks has_timers old part new rest
 Pauses has_timers (front ∷ queue) old part new rest = Drained old part new rest
@@ -122,12 +122,12 @@ Pauses has_timers (front ∷ queue) old part new rest = Drained old part new res
 abbrev pub Pause : Bool → Machine → List Entry → Machine → List Entry → Type 0
 Pause has_timers old part new rest = Pauses has_timers old.tasks.queue old part new rest
 
--- Where memory was refused, what is in the journal are still steps of the machine.
+-- If memory ran out, the entries of the journal are still steps of the machine.
 abbrev pub OrLed : {A : Type 0} → Result A RunError → (Machine → List Entry → Machine → List Entry → Type 0) → Machine → List Entry → Machine → List Entry → Type 0
 OrLed (Ok x) R old part new rest = R old part new rest
 OrLed (Err e) R old part new rest = Led old part new rest
 
--- the whole pause is there, but where memory was refused
+-- the whole pause is recorded, unless memory ran out
 abbrev pub PauseEnds : Bool → Result Bool RunError → Machine → List Entry → Machine → List Entry → Type 0
 PauseEnds has_timers (Ok spent) old part new rest = Pause has_timers old part new rest
 PauseEnds has_timers (Err error.Driver) old part new rest = Pause has_timers old part new rest
@@ -135,7 +135,7 @@ PauseEnds has_timers (Err error.Memory) old part new rest = Led old part new res
 PauseEnds has_timers (Err error.Turns) old part new rest = ⊥
 PauseEnds has_timers (Err error.AtCapacity) old part new rest = ⊥
 
--- a park after which the queue is still empty costs a unit
+-- a park after which the queue is still empty costs one
 abbrev pub cost : List ℕ → List ℕ → ℕ
 cost [] [] = 1
 cost [] (t ∷ ts) = 0
@@ -148,14 +148,14 @@ pub record Pass (has_timers : Bool) (units left : ℕ) (old : Machine) (part : L
   pub pause : Pause has_timers old part paused behind
   pub round : Round (units - cost old.tasks.queue paused.tasks.queue) left paused behind new rest
 
--- the driver failed, or memory was refused
+-- the driver failed, or memory ran out
 abbrev pub IsBreak : RunError → Type 0
 IsBreak error.Driver = ⊤
 IsBreak error.Memory = ⊤
 IsBreak error.Turns = ⊥
 IsBreak error.AtCapacity = ⊥
 
--- where the driver failed there is no round
+-- if the driver failed, there is no round
 abbrev pub PassEnds : Bool → ℕ → Result ℕ RunError → Machine → List Entry → Machine → List Entry → Type 0
 PassEnds has_timers units (Ok left) old part new rest = Pass has_timers units left old part new rest
 PassEnds has_timers units (Err error.Driver) old part new rest = Pause has_timers old part new rest
@@ -167,7 +167,7 @@ PassEnds has_timers units (Err error.AtCapacity) old part new rest = ⊥
 abbrev pub is_main_done : ℕ → Machine → Bool
 is_main_done main m = has_output (value_at m.tasks.table main)
 
--- Passes, one after the other. Before each one the main task has no output, and a unit is left.
+-- Passes in sequence. Before each one the main task has no output, and some of the budget is left.
 abbrev pub Passes : Bool → ℕ → ℕ → ℕ → ℕ → Machine → List Entry → Machine → List Entry → Type 0
 Passes has_timers main zero units left old part new rest = (part ≡ rest) × (new ≡ old) × (left ≡ units)
 Passes has_timers main (suc n) units left old part new rest =
@@ -183,7 +183,7 @@ pub record Rounds (has_timers : Bool) (main units left : ℕ) (old : Machine) (p
   pub count : ℕ
   pub passes : Passes has_timers main count kept left mid more new rest
 
--- where the driver failed, a last pause stands behind them
+-- if the driver failed, a last pause follows the rounds
 pub record Breaks (has_timers : Bool) (main units : ℕ) (old : Machine) (part : List Entry) (new : Machine) (rest : List Entry) : Type 0 where
   pub mid : Machine
   pub more : List Entry
@@ -193,7 +193,7 @@ pub record Breaks (has_timers : Bool) (main units : ℕ) (old : Machine) (part :
   pub some_left : 0 < left
   pub pause : Pause has_timers mid more new rest
 
--- By the answer: the main task has its output, or no unit is left and it has none, or the driver failed.
+-- By the answer: the main task has its output, or the budget is spent and it has none, or the driver failed.
 abbrev pub Ends : {A : Type 0} → Bool → ℕ → ℕ → Result A RunError → Machine → List Entry → Machine → List Entry → Type 0
 Ends has_timers main units (Ok x) old part new rest = (left : ℕ) × (Rounds has_timers main units left old part new rest × (is_main_done main new ≡ true))
 Ends has_timers main units (Err error.Turns) old part new rest = Rounds has_timers main units 0 old part new rest × (is_main_done main new ≡ false)
@@ -212,12 +212,12 @@ IsRefused old part new rest = IsStep (event.Act act.Spawn) (report.Reply (reply.
 abbrev pub IsDrop : ℕ → Machine → List Entry → Machine → List Entry → Type 0
 IsDrop main old part new rest = (answer : Reply) × IsStep (event.Act (act.DropJoin main)) (report.Reply answer) old part new rest
 
--- the handle of the main task is dropped, and gives this output where there is one
+-- the handle of the main task is dropped, and gives this output if there is one
 abbrev pub DropsFor : ℕ → Option ℕ → Machine → List Entry → Machine → List Entry → Type 0
 DropsFor main (Some output) old part new rest = IsStep (event.Act (act.DropJoin main)) (report.Reply (reply.Dropped (Some output))) old part new rest
 DropsFor main None old part new rest = IsDrop main old part new rest
 
--- what the drop of the main task's handle gives, by the answer
+-- the output that the drop of the main task's handle gives, by the answer
 abbrev pub output_in : Result ℕ RunError → Option ℕ
 output_in (Ok output) = Some output
 output_in (Err e) = None
@@ -232,8 +232,8 @@ pub record RunsMain (has_timers : Bool) (main units : ℕ) (answer : Result ℕ 
   pub ends : Ends has_timers main units answer spawned behind ended last
   pub drop : DropsFor main (output_in answer) ended last new rest
 
--- What one call did, by its answer, whose output has this number. Where no task could be made that is the one entry. Where
--- memory was refused nothing was done, or the main task was made and its handle was dropped at the end.
+-- The entries of one call, by its answer, whose output has this number. If no task could be made, the refusal is the
+-- one entry. If memory ran out, nothing was done, or the main task was made and its handle was dropped at the end.
 abbrev pub Blocked : Bool → ℕ → Result ℕ RunError → Machine → List Entry → Machine → List Entry → Type 0
 Blocked has_timers units (Ok output) old part new rest = (main : ℕ) × RunsMain has_timers main units (Ok output) old part new rest
 Blocked has_timers units (Err error.Turns) old part new rest = (main : ℕ) × RunsMain has_timers main units (Err error.Turns) old part new rest

@@ -1,4 +1,4 @@
--- What a spawn keeps in the record of a turn, and what one outside of a turn means for the machine, by its answer.
+-- What a spawn adds to the record of a turn, and the effect of a spawn outside of a turn on the machine, by its answer.
 use Rattle.std.specs.Prelude.{◌≡◌, ℕ, Bool, true, Result, Ok, Err}
 use Rattle.mono_machine.specs.Machine.{Machine}
 use Rattle.mono_machine.specs.Acts.{act_outcome}
@@ -10,8 +10,8 @@ use Rattle.mono_rt.specs.Record.{Record, noted}
 use Rattle.mono_rt.specs.declared.contexts.SpawnRefused.{SpawnRefused}
 use Rattle.mono_rt.specs.declared.contexts.SpawnRefused.TheVariants.{Memory, AtCapacity}
 
--- What a running task's spawn keeps in the record of its turn: the act, made or refused. Want of memory is no act, and is
--- noted by its flag.
+-- What a running task's spawn adds to the record of its turn: the act, made or refused. An allocation that fails is no
+-- act, and sets a flag.
 module _ {F : Type 0} where
   abbrev pub noted_spawn : Record → Result ℕ (SpawnRefused F) → Record
   noted_spawn acts (Ok t) = noted acts (step.Act act.Spawn) (reply.Task t)
@@ -23,8 +23,8 @@ module _ {F : Type 0} where
   lacks_spawn before (Err (AtCapacity future)) = before
   lacks_spawn before (Err (Memory future)) = true
 
--- The spawn is the machine's, with its reply, and this is left for the machine that it leaves. Where memory was refused it is
--- left for the machine before.
+-- The spawn is the machine's, with its reply, and the fact holds for the machine that it leaves. If memory ran out, the
+-- fact holds for the machine before.
 abbrev pub SpawnsTask : {F : Type 0} → Machine → Result ℕ (SpawnRefused F) → (Machine → Type 0) → Type 0
 SpawnsTask m (Ok t) Left = ((act_outcome act.Spawn m).reply ≡ reply.Task t) × Left (act_outcome act.Spawn m).machine
 SpawnsTask m (Err (AtCapacity f)) Left = ((act_outcome act.Spawn m).reply ≡ reply.Refused refusal.AtCapacity) × Left (act_outcome act.Spawn m).machine

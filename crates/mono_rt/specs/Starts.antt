@@ -1,4 +1,4 @@
--- What one call on a new runtime did.
+-- The history of one call on a new runtime.
 use Rattle.std.specs.Prelude.{ℕ, Bool, List, [], Result}
 use Rattle.mono_machine.specs.Machine.{Machine}
 use Rattle.mono_rt.specs.Numbering.{answer_numbered}
@@ -7,8 +7,8 @@ use Rattle.mono_rt.specs.DriverReadings.{Told, IsTold}
 use Rattle.mono_rt.specs.declared.parts.errors.RunError.{RunError}
 use Rattle.mono_rt.specs.declared.parts.journals.Entry.{Entry}
 
--- There is a history from this machine on that is what `Blocked` says of the answer, and whose readings and parks are those of
--- a driver that told this before it.
+-- There is a history from this machine on that `Blocked` specifies for the answer. Its readings and parks are those of
+-- a driver that exposed this before it.
 pub record RunsFrom {O : Type 0} (number : O → ℕ) (has_timers : Bool) (turns : ℕ) (answer : Result O RunError) (old : Machine) (first : Told) : Type 0 where
   pub part : List Entry
   pub new : Machine

@@ -21,13 +21,14 @@ use mono_task::TaskFuture;
 use mono_time::Instant;
 use std::alloc::{AllocError, Global};
 
-/// Runs a main task on a new runtime, and answers the journal beside the answer.
+/// Runs a main task on a new runtime, and returns the journal with the answer.
 ///
-/// The journal's history is what `Blocked` says of the answer, from the machine's start (`blocked`). So what was done is a
-/// run of the plain machine from its start (`run`). Each park is until the next expiration over the registered ticks, of
-/// which there are none at the start (`parks`). Each reading is the one that the driver told: if it tells its time, that
-/// time and what it was parked for since; if it tells its readings, the next of them (`told`). The journal is full only if a
-/// turn made more acts than 512 (`full`); until then its entries are the history (`Journal::kept`).
+/// The journal's history is the one that `Blocked` specifies for the answer, from the machine's start (`blocked`). So
+/// it is a run of the reference machine from its start (`run`). Each park ends at the next expiration over the
+/// registered ticks, of which there are none at the start (`parks`). The readings are the driver's (`told`). If the
+/// driver exposes its time, a reading is that time and the length of the parks since; if it exposes its readings, the
+/// next of them. The journal is full only if a turn made more than 512 acts (`full`). Until then its entries are the
+/// history (`Journal::kept`).
 pub fn run_alone<F, O, D, P, R: Host>(
     rt: &R,
     alloc: Global,

@@ -28,8 +28,8 @@ impl<F: Drop, O: Outcome + Drop, D: Driver, P: ThreadPool + Drop, W: SharedState
     P,
     W,
 > {
-    /// The queue is empty: the driver is parked, the inbox is drained, and with timers a clock step is done. The answer tells
-    /// whether the park failed.
+    /// Parks the driver, since the queue is empty, drains the inbox, and with timers does a clock step. Returns whether
+    /// the park failed.
     fn wait<R: Host>(&mut self, rt: &R, alloc: Global) -> Result<bool, RunError>
         ensures parks { Does O.output_number (OrLed result (Parks self.old.cx.parts.has_timers)) self.old.cx.parts self.new.cx.parts self.old.journal self.new.journal }
         ensures has_timers { self.new.cx.parts.has_timers ≡ self.old.cx.parts.has_timers }
@@ -63,7 +63,7 @@ impl<F: Drop, O: Outcome + Drop, D: Driver, P: ThreadPool + Drop, W: SharedState
         }
     }
 
-    /// Between two rounds. The answer tells whether a unit is spent: the queue was empty and still is.
+    /// Pauses between two rounds. Returns whether the pause costs one of the budget: the queue was empty and still is.
     fn pause<R: Host>(&mut self, rt: &R, alloc: Global) -> Result<bool, RunError>
         ensures pauses { Does O.output_number (PauseEnds self.old.cx.parts.has_timers result) self.old.cx.parts self.new.cx.parts self.old.journal self.new.journal }
         ensures spent { IfOk result (λ spent. (if spent then 1 else 0) ≡ cost self.old.cx.parts.tasks.tasks.queue self.new.cx.parts.tasks.tasks.queue) }
@@ -94,7 +94,7 @@ impl<F: Drop, O: Outcome + Drop, D: Driver, P: ThreadPool + Drop, W: SharedState
         }
     }
 
-    /// The main task is made, and room is held for the entry of its handle's drop.
+    /// Makes the main task, and holds room for the entry of its handle's drop.
     fn start_main(&mut self, alloc: Global, future: F) -> Result<u64, RunError>
         ensures goes { Goes O.output_number self.old.cx.parts self.new.cx.parts self.old.journal self.new.journal }
         ensures spawned { IfOk result (λ t. Does O.output_number (IsSpawn t) self.old.cx.parts self.new.cx.parts self.old.journal self.new.journal) }
@@ -134,8 +134,8 @@ where
     P: ThreadPool + Drop,
     W: SharedState + Drop,
 {
-    /// At most 2q + 1 turns of queued tasks, q being the queue's length now, while units are left. Answers the units that
-    /// are left.
+    /// Runs at most 2q + 1 turns of queued tasks while the budget lasts, where q is the queue's length now. Returns the
+    /// rest of the budget.
     fn round<R: Host>(&mut self, rt: &R, alloc: Global, units: u64) -> Result<u64, RunError>
         requires callable { (f : F) → F.can_poll f }
         requires rests { self.old.cx.parts.tasks.turn ≡ None }
@@ -163,7 +163,7 @@ where
         Ok(units - most)
     }
 
-    /// A pause and a round. Answers the units that are left, which are fewer.
+    /// Pauses, and runs a round. Returns the rest of the budget, which is smaller than before.
     fn pass<R: Host>(&mut self, rt: &R, alloc: Global, units: u64) -> Result<u64, RunError>
         requires callable { (f : F) → F.can_poll f }
         requires rests { self.old.cx.parts.tasks.turn ≡ None }
@@ -192,7 +192,7 @@ where
         }
     }
 
-    /// Rounds and waits until the main task has its output. It ends since each pass spends a unit.
+    /// Runs rounds and waits until the main task has its output. It ends, since each pass spends some of the budget.
     fn run<R: Host>(&mut self, rt: &R, alloc: Global, main: u64, turns: u64) -> Result<(), RunError>
         requires callable { (f : F) → F.can_poll f }
         requires rests { self.old.cx.parts.tasks.turn ≡ None }
@@ -224,16 +224,26 @@ where
         }
     }
 
-    /// Runs the future as the main task until it is ready, with so many units: each turn costs one, and each wait after
-    /// which no task is queued.
+    /// Runs the future as the main task until it is ready, with a budget of `turns`. Each turn costs one, and so does
+    /// each wait after which no task is queued.
     ///
-    /// From each machine for which the parts stood, the history grew by what `Blocked` says of the answer, which is a run of
-    /// the machine (`blocked`). The history is there whether or not a journal is kept; a journal that is not full equals it
-    /// (`Journal::kept`). If the answer is Memory, nothing was done, or the main task was made, what follows is a run, and the
-    /// last entry is the drop of the main task's handle, which takes no memory: room for it is made before the main task. Each
-    /// turn of the history is one poll of its task's own future, from the futures that the turns before it left, unless the
-    /// answer is Memory (`polled`). The answer is Driver only if the driver's count of faults rose in this call, and if it
-    /// rose the answer is Driver or Memory (`faults`).
+    /// The history grows by the entries that `Blocked` specifies for the answer, from each machine that the parts
+    /// refined. They are a run of the machine (`blocked`). The history exists whether or not a journal is kept; a
+    /// journal that is not full equals it (`Journal::kept`). If the answer is Memory, nothing was done, or the main
+    /// task was made and a run follows. The last entry is then the drop of the main task's handle. That drop takes no
+    /// memory, since its room is reserved before the main task is made.
+    ///
+    /// Each turn of the history is one poll of its task's own future, from the futures that the turns before it left,
+    /// unless the answer is Memory (`polled`). The answer is Driver only if the driver's count of faults rose in this
+    /// call. If the count rose, the answer is Driver or Memory (`faults`).
+    ///
+    /// ```rust
+    /// // use_channel/src/main.rt
+    /// match runtime.block_on(rt, alloc, Party::consumer(total), 1000) {
+    ///     Ok(sum) => Some((sum, runtime.shared().numbers.len())),
+    ///     Err(_) => None,
+    /// }
+    /// ```
     pub fn block_on<R: Host>(
         &mut self,
         rt: &R,

@@ -1,4 +1,4 @@
-// How a runtime is made.
+// How a runtime is made from its parts.
 ghost use Rattle.std.specs.Prelude.{◌≡◌, ℕ, IfOk, None, false, []};
 ghost use Rattle.mono_machine.specs.Machine.{start_machine};
 ghost use Rattle.mono_blocking.specs.JobSpawns.{strategy_of};
@@ -23,7 +23,8 @@ impl<F: Drop, O: Outcome + Drop, D: Driver, P: ThreadPool + Drop, W: SharedState
     P,
     W,
 > {
-    /// A runtime with a journal, whose tasks share this value. It stands for the start machine, with the pool's strategy.
+    /// Makes a runtime with a journal, whose tasks share this value. It refines the start machine with the pool's
+    /// strategy.
     pub fn new(
         alloc: Global,
         driver: D,
@@ -55,21 +56,21 @@ impl<F: Drop, O: Outcome + Drop, D: Driver, P: ThreadPool + Drop, W: SharedState
         builder.make(alloc, has_timers, start, shared)
     }
 
-    /// What it did.
+    /// Returns the journal of all that the runtime did.
     pub fn journal(&self) -> &Journal
         ensures { result.now ≡ self.now.journal }
     {
         &self.journal
     }
 
-    /// What the tasks share, between two calls of `block_on`.
+    /// Returns the value that the tasks share, between two calls of `block_on`.
     pub fn shared(&self) -> &W
         ensures { result.now ≡ self.now.cx.shared }
     {
         &self.cx.shared
     }
 
-    /// Gives the runtime up, and keeps what it did.
+    /// Consumes the runtime, and returns its journal.
     pub(crate) fn into_journal(self) -> Journal
         ensures { result ≡ self.journal }
     {

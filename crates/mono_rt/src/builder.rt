@@ -26,16 +26,25 @@ use mono_task::TaskFuture;
 use mono_time::Instant;
 use std::alloc::{AllocError, Global};
 
-/// The inbox's first capacity, where none is set.
+/// The inbox's first capacity if none is set.
 pub(crate) const ENTRIES: u32 = 1024;
 
 /// The least first capacity of an inbox.
 const LEAST_ENTRIES: u32 = 256;
 
-/// How many tasks, jobs and sleeps there may be at once, where no limits are set.
+/// How many tasks, jobs and sleeps each may live at once if no limits are set.
 const LIMIT: u64 = 1048576;
 
-/// Sets up a runtime on a driver.
+/// The settings of a runtime on a driver.
+///
+/// ```rust
+/// // test_runtime/src/builders.rt
+/// RuntimeBuilder::new(StepDriver::new(Vec::new(alloc)))
+///     .with_blocking_strategy(BlockingStrategy::ExecuteLocal)
+///     .with_journal()
+///     .enable_timer()
+///     .build(alloc)
+/// ```
 #[derive(Drop)]
 pub struct RuntimeBuilder<D, P> {
     pub(crate) driver: D,
@@ -46,8 +55,8 @@ pub struct RuntimeBuilder<D, P> {
 }
 
 impl<D: Drop, P: Drop> RuntimeBuilder<D, P> {
-    /// The defaults: no pool, and blocking jobs are refused; an inbox of 1024 entries; at most 2^20 tasks, jobs and sleeps
-    /// each; no journal.
+    /// Returns the defaults: no pool, and blocking jobs are refused; an inbox of 1024 entries; at most 2^20 tasks, jobs
+    /// and sleeps each; no journal.
     pub fn new(driver: D) -> RuntimeBuilder<D, P>
         ensures driver { result.driver ≡ driver }
         ensures pool { result.pool ≡ Empty Panic }
@@ -68,7 +77,7 @@ impl<D: Drop, P: Drop> RuntimeBuilder<D, P> {
         }
     }
 
-    /// The inbox's first capacity, raised to at least 256.
+    /// Sets the inbox's first capacity, and raises it to at least 256.
     pub fn with_entries(self, entries: u32) -> RuntimeBuilder<D, P>
         ensures { result ≡ record self { entries = max entries 256 } }
     {
@@ -77,7 +86,7 @@ impl<D: Drop, P: Drop> RuntimeBuilder<D, P> {
         this
     }
 
-    /// The inbox's first capacity.
+    /// Returns the inbox's first capacity.
     pub fn entries(&self) -> u32
         ensures { result ≡ self.now.entries }
     {
@@ -108,7 +117,7 @@ impl<D: Drop, P: Drop> RuntimeBuilder<D, P> {
         }
     }
 
-    /// Enables the timer. There is nothing else.
+    /// Enables the timer, which is all that can be enabled.
     pub fn enable_all(self) -> RuntimeBuilder<TimeDriver<D>, P>
         ensures driver { result.driver.driver ≡ self.driver }
         ensures pool { result.pool ≡ self.pool }
@@ -119,7 +128,7 @@ impl<D: Drop, P: Drop> RuntimeBuilder<D, P> {
         self.enable_timer()
     }
 
-    /// Blocking jobs go to this pool. Of this call and `with_blocking_strategy` the last one wins.
+    /// Sends blocking jobs to this pool. The last call of this and `with_blocking_strategy` wins.
     pub fn attach_thread_pool(self, pool: P) -> RuntimeBuilder<D, P>
         ensures { result ≡ record self { pool = Attached pool } }
     {
@@ -128,8 +137,8 @@ impl<D: Drop, P: Drop> RuntimeBuilder<D, P> {
         this
     }
 
-    /// No pool is attached, and blocking jobs are refused or run on the caller. Of this call and `attach_thread_pool` the
-    /// last one wins.
+    /// Attaches no pool: blocking jobs are refused, or run on the caller. The last call of this and
+    /// `attach_thread_pool` wins.
     pub fn with_blocking_strategy(self, strategy: BlockingStrategy) -> RuntimeBuilder<D, P>
         ensures { result ≡ record self { pool = Empty strategy } }
     {
@@ -138,7 +147,7 @@ impl<D: Drop, P: Drop> RuntimeBuilder<D, P> {
         this
     }
 
-    /// How many tasks, jobs and sleeps there may be at once.
+    /// Sets how many tasks, jobs and sleeps may live at once.
     pub fn limits(self, limits: Limits) -> RuntimeBuilder<D, P>
         ensures { result ≡ record self { limits = limits } }
     {
@@ -147,7 +156,7 @@ impl<D: Drop, P: Drop> RuntimeBuilder<D, P> {
         this
     }
 
-    /// The runtime keeps a journal.
+    /// Lets the runtime keep a journal.
     pub fn with_journal(self) -> RuntimeBuilder<D, P>
         ensures { result ≡ record self { keeps_journal = true } }
     {
@@ -158,8 +167,8 @@ impl<D: Drop, P: Drop> RuntimeBuilder<D, P> {
 }
 
 impl<D: Buildable, P: ThreadPool + Drop> RuntimeBuilder<D, P> {
-    /// A runtime. Its context stands for the machine's start, with the limits that were set, and with the strategy Attached
-    /// where a pool is attached, else with the one that was set (`stands`). It has timers exactly where its driver marks
+    /// Makes a runtime. Its context refines the machine's start with the limits that were set (`stands`). The strategy
+    /// is Attached if a pool is attached, else the one set before. The runtime has timers if and only if its driver has
     /// them (`timers`). No future is in its table (`futures`), and nothing was done yet (`history`).
     pub fn build<F: Drop, O: Outcome + Drop>(
         self,
@@ -179,7 +188,7 @@ impl<D: Buildable, P: ThreadPool + Drop> RuntimeBuilder<D, P> {
         D::build(alloc, self, ())
     }
 
-    /// A runtime whose tasks share this value (`shared`). Else it is as `build` says.
+    /// Makes a runtime whose tasks share this value (`shared`). All else is as in `build`.
     pub fn build_sharing<F: Drop, O: Outcome + Drop, W: SharedState + Drop>(
         self,
         alloc: Global,
@@ -202,7 +211,8 @@ impl<D: Buildable, P: ThreadPool + Drop> RuntimeBuilder<D, P> {
 }
 
 impl<D: Driver, P: ThreadPool + Drop> RuntimeBuilder<D, P> {
-    /// A runtime that stands for the start machine, with this mark of timers and this reading of the clock.
+    /// Makes a runtime that refines the start machine, with or without timers, and with this first reading of the
+    /// clock.
     pub(crate) fn make<F: Drop, O: Outcome + Drop, W: SharedState + Drop>(
         self,
         alloc: Global,
@@ -253,16 +263,16 @@ impl<D: Driver, P: ThreadPool + Drop> RuntimeBuilder<D, P> {
     }
 }
 
-/// A driver of which a runtime can be made.
+/// A driver for which a runtime can be made.
 pub trait Buildable: Driver + Sized {
-    /// Whether it marks a runtime with timers.
+    /// whether a runtime on this driver has timers
     ghost marks_timers: { Bool } = { false };
 
-    /// Whether it marks a runtime with timers.
+    /// Returns whether a runtime on this driver has timers.
     fn has_timers() -> bool
         ensures { result ≡ marks_timers };
 
-    /// A runtime, as `RuntimeBuilder::build` says.
+    /// Makes a runtime, as `RuntimeBuilder::build` specifies.
     final fn build<F: Drop, O: Outcome + Drop, P: ThreadPool + Drop, W: SharedState + Drop>(
         alloc: Global,
         this: RuntimeBuilder<Self, P>,
@@ -296,7 +306,7 @@ impl<C: Clock + Drop> Buildable for ThreadDriver<C> {
     }
 }
 
-/// With timers.
+/// A runtime on it has timers.
 impl<D: Driver> Buildable for TimeDriver<D> {
     ghost marks_timers = { true };
 
@@ -322,7 +332,7 @@ impl<F: Drop, O: Outcome + Drop, D: Driver, P: ThreadPool + Drop, W: SharedState
     P,
     W,
 > {
-    /// The attached pool (`some`); None exactly where none is attached (`none`).
+    /// Returns the attached pool (`some`); None if and only if none is attached (`none`).
     pub fn into_pool(self) -> Option<P>
         ensures some { IfSome result (λ pool. self.cx.parts.blocking.pool ≡ Attached pool) }
         ensures none { IfNone result (IsApart self.cx.parts.blocking.pool) }
@@ -331,7 +341,7 @@ impl<F: Drop, O: Outcome + Drop, D: Driver, P: ThreadPool + Drop, W: SharedState
         blocking.into_pool()
     }
 
-    /// Gives all up but the jobs with who runs them, and the journal.
+    /// Consumes the runtime, and returns the jobs with their pool or strategy, and the journal.
     pub(crate) fn apart(self) -> (Blockings<P>, Journal)
         ensures blocking { result.0 ≡ self.cx.parts.blocking }
         ensures journal { result.1 ≡ self.journal }
@@ -353,8 +363,9 @@ impl<F: Drop, O: Outcome + Drop, D: Driver, P: ThreadPool + Drop, W: SharedState
     }
 }
 
-/// Makes a runtime with the defaults on this driver, and runs the future on it as `Runtime::block_on` does: there is a history
-/// from the machine's start that is what `Blocked` says of the answer, and that tells of the driver.
+/// Makes a runtime with the defaults on this driver, and runs the future on it as `Runtime::block_on` does. There is a
+/// history from the machine's start that `Blocked` specifies for the answer, and whose readings and parks are the
+/// driver's.
 pub fn start<D, F, O, P, R: Host>(
     rt: &R,
     alloc: Global,

@@ -30,21 +30,22 @@ use std::alloc::{AllocError, Global};
 #[derive(Drop)]
 pub struct Cx<F, O, P: ThreadPool, U: Unpark, W = ()> {
     pub(crate) parts: Parts<O, Blockings<P>>,
-    // by the task's number its future, and beside that its remote waker once it has had a turn; its place goes with its end
+    // the future of each task by its number, and its remote waker once it has had a turn; the place is removed when the
+    // task ends
     pub(crate) futures: Slots<F, RemoteWaker<U>>,
     pub(crate) wakers: Wakers<U>,
-    // that of the task whose turn runs, where there was memory for it
+    // the waker of the task whose turn runs, unless it ran out of memory
     pub(crate) waker: Option<RemoteWaker<U>>,
     // what the tasks share
     pub(crate) shared: W,
 }
 
-/// A future that was not spawned. It comes back.
+/// A future that was not spawned, and is handed back.
 #[derive(Drop)]
 pub enum SpawnRefused<F> {
-    /// There was no memory for its task.
+    /// The allocation of its task failed.
     Memory(F),
-    /// As many tasks live as the limit allows, or the numbers are used up.
+    /// The limit of live tasks is reached, or the numbers are used up.
     AtCapacity(F),
 }
 
@@ -55,9 +56,21 @@ impl<F: Drop, O: Outcome + Drop, P: ThreadPool + Drop, U: Unpark, W: SharedState
     U,
     W,
 > {
-    /// Makes a task of this future, which is queued last. The future is put into the table under the task's number.
+    /// Makes a task of this future, queues it last, and stores the future under the task's number.
     ///
-    /// It is an act of the turn, made or refused; want of memory is none (`kept`).
+    /// The spawn, made or refused, is an act of the turn; an allocation that fails is none (`kept`).
+    ///
+    /// ```rust
+    /// // mono_bench/src/turns/work.rt
+    /// match cx.spawn(alloc, work) {
+    ///     Ok(handle) => {
+    ///         let number = handle.task();
+    ///         let _ = handle.cancel_join(cx);
+    ///         Some(number)
+    ///     }
+    ///     Err(_) => None,
+    /// }
+    /// ```
     pub fn spawn(&mut self, alloc: Global, future: F) -> Result<JoinHandle<O>, SpawnRefused<F>>
         ensures number { IfOk result (λ handle. handle ≡ next_number self.old.parts.tasks.tasks.table) }
         ensures tasks { OnOk result (self.new.parts.tasks.tasks ≡ spawned self.old.parts.tasks.tasks) }
@@ -83,8 +96,8 @@ impl<F: Drop, O: Outcome + Drop, P: ThreadPool + Drop, U: Unpark, W: SharedState
 }
 
 impl<F: Drop, O: Drop, P: ThreadPool + Drop, U: Unpark, W: SharedState + Drop> Cx<F, O, P, U, W> {
-    /// A remote waker of the task whose turn runs (`task`): a clone of the one that was made before its first turn. Refused
-    /// for want of memory only. The runtime answers Memory where there was none for the first one.
+    /// Returns a remote waker of the task whose turn runs (`task`): a clone of the waker made before its first turn. It
+    /// fails only if it runs out of memory. If the first waker could not be allocated, the runtime answers Memory.
     pub fn remote_waker(&mut self) -> Result<RemoteWaker<U>, AllocError>
         ensures waker { IfOk result (λ waker. self.old.waker ≡ Some waker) }
         ensures same { self.new ≡ self.old }

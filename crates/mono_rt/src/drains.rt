@@ -1,4 +1,4 @@
-// What other threads woke is taken from the inbox.
+// The drain: takes from the inbox the tasks that other threads woke.
 ghost use Rattle.std.specs.Prelude.{◌≡◌, ◌≤◌, length, OnOk};
 ghost use Rattle.mono_rt.specs.Journals.{Goes, Does};
 ghost use Rattle.mono_rt.specs.Rounds.{Drained};
@@ -20,7 +20,7 @@ impl<F: Drop, O: Outcome + Drop, D: Driver, P: ThreadPool + Drop, W: SharedState
     P,
     W,
 > {
-    /// Takes what waits in the inbox. Each task is told, and those that are unfinished are woken.
+    /// Takes all tasks out of the inbox, records each in the journal, and wakes those that are unfinished.
     pub(crate) fn drain<R: Host>(&mut self, rt: &R, alloc: Global) -> Result<(), RunError>
         ensures goes { Goes O.output_number self.old.cx.parts self.new.cx.parts self.old.journal self.new.journal }
         ensures drained { OnOk result (Does O.output_number Drained self.old.cx.parts self.new.cx.parts self.old.journal self.new.journal) }

@@ -1,4 +1,4 @@
-// Blocking jobs, as a running task calls for them.
+// The calls of a running task on blocking jobs.
 ghost use Rattle.std.specs.Prelude.{◌≡◌, IfOk};
 ghost use Rattle.mono_rt.specs.JobActs.{SpawnsJob, PollsJob, DropsJob, AsksWhetherEnded};
 ghost use Rattle.mono_rt.specs.Reaches.{ReachesSharing};
@@ -19,12 +19,20 @@ impl<F: Drop, O: Outcome + Drop, P: ThreadPool + Drop, U: Unpark, W: SharedState
     U,
     W,
 > {
-    /// Hands a job to the pool, or runs it in this call where no pool is attached and the strategy is to run jobs on the
-    /// caller; its output then waits in the table of jobs. The handle has the next job number.
+    /// Hands a job to the pool, or runs it in this call if no pool is attached and the strategy is to run jobs on the
+    /// caller. The output of such a job waits in the table of jobs. The handle has the next job number.
     ///
-    /// Refused as at capacity, and then for want of a pool; the job comes back, and the refusal is an act of the turn, as
-    /// the job that was made is (`spawned`). Where there was no memory the job comes back and nothing was done. A pool that
-    /// counts a refusal gives `PoolFault`: the job was cancelled, and nothing else was done.
+    /// Refused as at capacity, and then if there is no pool. The job is handed back, and the refusal is an act of the
+    /// turn, as a job made is (`spawned`). If it runs out of memory, the job is handed back and nothing was done. A
+    /// pool that counts a refusal gives `PoolFault`: the job was cancelled, and nothing else was done.
+    ///
+    /// ```rust
+    /// // mono_run/src/tasks.rt
+    /// match cx.spawn_blocking(rt, alloc, ScriptJob::new(output)) {
+    ///     Ok(handle) => Some(handle.job()),
+    ///     Err(_) => None,
+    /// }
+    /// ```
     pub fn spawn_blocking<R: Host>(
         &mut self,
         rt: &R,
@@ -38,8 +46,9 @@ impl<F: Drop, O: Outcome + Drop, P: ThreadPool + Drop, U: Unpark, W: SharedState
         self.parts.spawn_blocking(rt, alloc, job)
     }
 
-    /// Drops the handle of a job. An output that nobody took comes back. Refused as `NoTask`, and then as `NoHandle`. It is
-    /// an act of the turn, and so is the job's end right before it, where this call saw that as the first (`dropped`).
+    /// Drops the handle of a job, and returns an output that was not taken. Refused as `NoTask`, and then as
+    /// `NoHandle`. The drop is an act of the turn. If this call is the first to see the job's end, the end is an act
+    /// right before it (`dropped`).
     pub fn drop_job(&mut self, job: u64) -> Result<Option<Result<OutputOf<P>, JoinError>>, Refusal>
         ensures dropped { DropsJob P.Job.Output.output_number job result self.old.parts self.new.parts }
         ensures same { self.new ≡ record self.old { parts = self.new.parts } }
@@ -48,8 +57,8 @@ impl<F: Drop, O: Outcome + Drop, P: ThreadPool + Drop, U: Unpark, W: SharedState
         self.parts.drop_job(job)
     }
 
-    /// Whether a job has ended. Refused as `NoTask`, and then as `NoHandle`. It is a question: the turn keeps nothing of
-    /// it, and the end that it saw is told by the next poll or drop (`asked`).
+    /// Returns whether a job has ended. Refused as `NoTask`, and then as `NoHandle`. It is a question: the turn records
+    /// none of it. If it saw the end, the next poll or drop records that (`asked`).
     pub fn job_finished(&mut self, job: u64) -> Result<bool, Refusal>
         ensures asked { AsksWhetherEnded job result self.old.parts self.new.parts }
         ensures same { self.new ≡ record self.old { parts = self.new.parts } }
@@ -58,7 +67,7 @@ impl<F: Drop, O: Outcome + Drop, P: ThreadPool + Drop, U: Unpark, W: SharedState
         self.parts.has_job_ended(job)
     }
 
-    // A waker of the task whose turn runs.
+    // Returns a waker of the task whose turn runs.
     fn own_waker(&self) -> Result<RemoteWaker<U>, AllocError>
         ensures { IfOk result (λ waker. waker ≡ self.now.parts.me) }
     {
@@ -79,12 +88,12 @@ impl<F: Drop, O: Outcome + Drop, P: ThreadPool + Drop, U: Unpark, W: SharedState
 where
     P::Job: Job<Unpark = U>,
 {
-    /// Polls the handle of a job. Pending: the running task waits for the job in the place of any other, and the job's end
-    /// wakes it from outside. An output, or that the job was cancelled, is answered once.
+    /// Polls the handle of a job. If pending, the running task waits for the job in the place of any other, and the
+    /// job's end wakes it through the inbox. An output, or that the job was cancelled, is returned once.
     ///
-    /// Refused as `NoTask`, then as `NoHandle`, and then as `Taken`. `Memory`: there was no waker to hand out, and nothing
-    /// was asked. Else the poll is an act of the turn, and so is the job's end right before it, where this call saw that as
-    /// the first (`polled`).
+    /// Refused as `NoTask`, then as `NoHandle`, and then as `Taken`. `Memory`: there was no waker to hand out, and the
+    /// job was not polled. Otherwise the poll is an act of the turn. If this call is the first to see the job's end,
+    /// the end is an act right before it (`polled`).
     pub fn poll_job(&mut self, job: u64) -> Result<Poll<Result<OutputOf<P>, JoinError>>, PollJob>
         ensures polled { PollsJob P.Job.Output.output_number job result self.old.parts self.new.parts }
         ensures same { self.new ≡ record self.old { parts = self.new.parts } }

@@ -1,5 +1,5 @@
-// What a runtime is made of beside its futures: the parts with their acts, and the journal of what was done. Whoever has a
-// runtime reaches none of its parts.
+// The parts of a runtime other than its futures, with their acts, and the journal of what was done. A runtime's user
+// reaches none of them.
 
 mod acts;
 mod calls;

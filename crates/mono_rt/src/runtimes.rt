@@ -1,4 +1,4 @@
-// A runtime, and the turns that it does.
+// A runtime, and its turns.
 ghost use Rattle.std.specs.Prelude.{◌≡◌, ◌<◌, None, length, OnOk};
 ghost use Rattle.mono_rt.specs.Journals.{Goes, Does};
 ghost use Rattle.mono_rt.specs.Rounds.{OneTurn};
@@ -16,7 +16,7 @@ use mono_shared::SharedState;
 use mono_task::TaskFuture;
 use std::alloc::Global;
 
-/// Futures that run on one thread, the driver on which it waits, and the journal of what it did.
+/// A runtime: futures that run on one thread, the driver on which it waits, and its journal.
 #[derive(Drop)]
 pub struct Runtime<F, O, D: Driver, P: ThreadPool, W = ()> {
     pub(crate) cx: Cx<F, O, P, D::Unpark, W>,
@@ -32,7 +32,7 @@ where
     P: ThreadPool + Drop,
     W: SharedState + Drop,
 {
-    /// The clock is read, and the task at the queue's front has its turn.
+    /// Reads the clock, and runs a turn of the task at the queue's front.
     pub(crate) fn turn<R: Host>(&mut self, rt: &R, alloc: Global) -> Result<(), RunError>
         requires callable { (f : F) → F.can_poll f }
         requires rests { self.old.cx.parts.tasks.turn ≡ None }

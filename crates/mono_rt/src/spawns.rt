@@ -1,4 +1,4 @@
-// Tasks that are made outside of a turn, and the context between two turns.
+// Spawns outside of a turn, and the context between two turns.
 ghost use Rattle.std.specs.Prelude.{◌≡◌, ◌++◌, ◌∷◌, [], Some, IfOk, IfErr, OnOk, OnErr};
 ghost use Rattle.mono_model.specs.Table.{next_number};
 ghost use Rattle.mono_model.specs.Tasks.{spawned};
@@ -22,12 +22,20 @@ impl<F: Drop, O: Outcome + Drop, D: Driver, P: ThreadPool + Drop, W: SharedState
     P,
     W,
 > {
-    /// Makes a task of this future, which is queued last and has its turns in calls of `block_on`. The future is put into the
-    /// table under the task's number (`number`, `futures`).
+    /// Makes a task of this future, and queues it last; it has its turns in calls of `block_on`. The future is stored
+    /// under the task's number (`number`, `futures`).
     ///
-    /// For each machine for which the context stood, the spawn is the machine's, with its reply (`machine`): where it is
-    /// refused as at capacity the machine refuses it, too. A refused future comes back (`back`), and all tasks, sleeps and
-    /// futures are as before (`refused`). The journal, which keeps what `block_on` did, does not tell of it (`journal`).
+    /// For each machine that the context refined, the spawn is the machine's, with its reply (`machine`); so the
+    /// machine refuses it as at capacity, too. A refused future is handed back (`back`), and all tasks, sleeps and
+    /// futures are as before (`refused`). The journal keeps what `block_on` did, and does not record the spawn
+    /// (`journal`).
+    ///
+    /// ```rust
+    /// // use_channel/src/main.rt
+    /// if runtime.spawn(alloc, Party::producer(1, each)).is_err() {
+    ///     return None;
+    /// }
+    /// ```
     pub fn spawn(&mut self, alloc: Global, future: F) -> Result<JoinHandle<O>, SpawnRefused<F>>
         ensures number { IfOk result (λ handle. handle ≡ next_number self.old.cx.parts.tasks.tasks.table) }
         ensures tasks { OnOk result (self.new.cx.parts.tasks.tasks ≡ spawned self.old.cx.parts.tasks.tasks) }
@@ -53,7 +61,7 @@ impl<F: Drop, O: Outcome + Drop, D: Driver, P: ThreadPool + Drop, W: SharedState
         }
     }
 
-    /// Its tasks, sleeps and futures, as they stand between two calls.
+    /// Returns the context: the tasks, sleeps and futures between two calls.
     pub fn context(&self) -> &Cx<F, O, P, D::Unpark, W>
         ensures { result.now ≡ self.now.cx }
     {

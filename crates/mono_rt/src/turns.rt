@@ -27,7 +27,7 @@ impl<F: Drop, O: Outcome + Drop, P: ThreadPool + Drop, U: Unpark, W: SharedState
     U,
     W,
 > {
-    /// The future of the task whose turn ends goes back to its place, with the task's waker beside it.
+    /// Puts the future of the task whose turn ends back to its place, with the task's waker.
     #[inline(always)]
     fn put_back(&mut self, task: u64, future: Option<F>)
         requires { IfSome future (λ f. lent_at self.old.futures task ≡ true) }
@@ -42,8 +42,8 @@ impl<F: Drop, O: Outcome + Drop, P: ThreadPool + Drop, U: Unpark, W: SharedState
         }
     }
 
-    /// The queue's front runs, at this reading of the clock, and its future is taken out of the table. Before its first
-    /// turn its remote waker is made. What is noted of refused memory is what this turn is refused.
+    /// Runs the queue's front at this reading of the clock, and takes its future out of the table. Before the first
+    /// turn it makes the task's remote waker. The flag of refused memory is then that of this turn.
     fn begin_turn<R: Host>(&mut self, rt: &R, alloc: Global, now: Instant) -> (u64, Option<F>)
         requires rests { self.old.parts.tasks.turn ≡ None }
         requires queued { 0 < length self.old.parts.tasks.tasks.queue }
@@ -63,7 +63,7 @@ impl<F: Drop, O: Outcome + Drop, P: ThreadPool + Drop, U: Unpark, W: SharedState
         (task, future)
     }
 
-    /// The turn that runs ends pending, and the future goes back to the table.
+    /// Ends the running turn pending, and puts the future back into the table.
     #[inline(always)]
     fn pause_turn(&mut self, task: u64, future: Option<F>) -> Ended
         requires runs { is_some self.old.parts.tasks.turn ≡ true }
@@ -75,8 +75,8 @@ impl<F: Drop, O: Outcome + Drop, P: ThreadPool + Drop, U: Unpark, W: SharedState
         ended
     }
 
-    /// The turn that runs ends ready: the task's place is gone (`gone`), and it is made unknown to other threads with the
-    /// next tasks that end, or before the inbox is drained.
+    /// Ends the running turn ready, and removes the task's place (`gone`). Other threads know the task until the next
+    /// tasks end, or until the inbox is drained.
     fn complete_turn<R: Host>(&mut self, rt: &R, task: u64, output: O) -> Ended
         requires runs { is_some self.old.parts.tasks.turn ≡ true }
         requires lent { lent_at self.old.futures task ≡ true }
@@ -98,7 +98,7 @@ where
     U: Unpark,
     W: SharedState + Drop,
 {
-    /// The turn of the task that has begun, with the future that it had in the table.
+    /// Runs the turn of the task that has begun, with the future that it had in the table.
     fn run_turn<R: Host>(
         &mut self,
         rt: &R,
@@ -127,7 +127,7 @@ where
         }
     }
 
-    /// One turn of the task at the queue's front.
+    /// Runs one turn of the task at the queue's front.
     pub(crate) fn turn<R: Host>(&mut self, rt: &R, alloc: Global, now: Instant) -> (u64, End, Ended)
         requires callable { (f : F) → F.can_poll f }
         requires rests { self.old.parts.tasks.turn ≡ None }

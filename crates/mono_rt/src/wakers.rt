@@ -1,4 +1,4 @@
-// The remote wakers of a runtime's tasks, and when the inbox knows of them.
+// The remote wakers of a runtime's tasks, and when the inbox learns of them.
 ghost use Rattle.std.specs.Prelude.{◌≡◌, IfSome, OnOk, OnErr};
 ghost use Rattle.mono_inbox.specs.State.{AppendsOnce};
 
@@ -7,14 +7,14 @@ use mono_model::Host;
 use std::alloc::{AllocError, Global};
 use std::mem;
 
-/// For so many tasks the inbox's lock is taken once.
+/// How many tasks are made known or unknown under one lock.
 const LOT: usize = 64;
 
-/// The inbox, and what is put off so that a task takes its lock less than once: tasks are made known in rows, before their
-/// first turns, and made unknown together, after their ends.
+/// The inbox, and the calls on it that are put off so that a task takes its lock less than once. Tasks are made known
+/// in rows, before their first turns, and made unknown together, after their ends.
 ///
-/// Nobody has a waker of a task that had no turn yet. A wake of a task that ended does nothing: where it was listed, the
-/// drain that takes it finds the task finished.
+/// No thread has a waker of a task that had no turn yet. A wake of a task that ended does nothing: if it was listed,
+/// the drain that takes it finds the task finished.
 #[derive(Drop)]
 pub struct Wakers<U: Unpark> {
     inbox: Inbox<U>,
@@ -22,12 +22,12 @@ pub struct Wakers<U: Unpark> {
     known: u64,
     // tasks that ended and were not made unknown since
     ended: Vec<u64>,
-    // that of a task that ended, which serves the next task
+    // the waker of a task that ended, which serves the next task
     spare: Option<RemoteWaker<U>>,
 }
 
 impl<U: Unpark> Wakers<U> {
-    /// No task is known, and the inbox has room for so many.
+    /// Makes an inbox with room for `entries` tasks, none of which is known.
     pub(crate) fn new(alloc: Global, entries: usize, unpark: U) -> Result<Wakers<U>, AllocError> {
         let ended = Vec::with_capacity(alloc, LOT)?;
         Ok(Wakers {
@@ -38,8 +38,8 @@ impl<U: Unpark> Wakers<U> {
         })
     }
 
-    /// The waker of a task that begins a turn: the one that it had, or a new one before its first turn. None where there was
-    /// no memory for it.
+    /// Returns the waker of a task that begins a turn: the old one, or a new one before its first turn. Returns None if
+    /// it ran out of memory.
     #[inline(always)]
     pub(crate) fn open<R: Host>(
         &mut self,
@@ -65,7 +65,7 @@ impl<U: Unpark> Wakers<U> {
         }
     }
 
-    /// A waker of a task that is known.
+    /// Makes a waker of a task that is known.
     fn made(&mut self, task: u64) -> Option<RemoteWaker<U>>
         ensures { IfSome result (λ waker. waker ≡ task) }
     {
@@ -75,13 +75,14 @@ impl<U: Unpark> Wakers<U> {
         }
     }
 
-    /// This task and a row behind it are made known, as far as there is memory.
+    /// Makes this task and a row of tasks after it known, as far as memory lasts.
     fn know<R: Host>(&mut self, rt: &R, alloc: Global, task: u64) {
         let until = task.saturating_add(LOT as u64);
         self.known = self.inbox.know_row(rt, alloc, self.known, until);
     }
 
-    /// The task ended, and had this waker. It is made unknown with others, at the latest by the next `retire_ended`.
+    /// Records that the task ended, with its waker. The task is made unknown with others, at the latest by the next
+    /// `retire_ended`.
     #[inline(always)]
     pub(crate) fn close<R: Host>(&mut self, rt: &R, task: u64, waker: Option<RemoteWaker<U>>) {
         if self.spare.is_none() {
@@ -97,7 +98,7 @@ impl<U: Unpark> Wakers<U> {
         }
     }
 
-    /// Those that ended are made unknown, under one lock, where there are any.
+    /// Makes the tasks that ended unknown, under one lock, if there are any.
     pub(crate) fn retire_ended<R: Host>(&mut self, rt: &R) {
         if !self.ended.is_empty() {
             self.inbox.retire_all(rt, &self.ended);
@@ -105,7 +106,7 @@ impl<U: Unpark> Wakers<U> {
         }
     }
 
-    /// Those that ended are made unknown, and what waits is taken, as `Inbox::drain` does.
+    /// Makes the tasks that ended unknown, and takes the list, as `Inbox::drain` does.
     pub(crate) fn drain<R: Host>(
         &mut self,
         rt: &R,

@@ -7,11 +7,11 @@ use mono_machine::{List, Reply, TurnStep};
 use std::alloc::{AllocError, Global};
 use std::marker::Model;
 
-/// So many acts of one turn are kept.
+/// How many acts of one turn memory keeps.
 const ROOM: usize = 512;
 
-/// The acts of the turn that runs, with their replies. A clause sees all of them; memory keeps up to 512. After one more
-/// the record is full: memory keeps nothing more. If no journal reads it, it is full from the start.
+/// The acts of the running turn, with their replies. A clause sees all of them; memory keeps up to 512. After one more
+/// the record is full, and memory keeps nothing more. If no journal reads the record, it is full from the start.
 #[derive(Drop)]
 pub struct Acts {
     steps: Vec<TurnStep>,
@@ -33,7 +33,7 @@ impl Model for Acts {
 }
 
 impl Acts {
-    /// No act yet, with room for 512.
+    /// Returns a record without acts, with room for 512.
     pub fn with_room(alloc: Global) -> Result<Acts, AllocError>
         ensures { IfOk result (λ acts. acts ≡ no_acts false) }
     {
@@ -52,7 +52,7 @@ impl Acts {
         }
     }
 
-    /// No act yet, with room for 512, or without any if nobody reads the record.
+    /// Clears the record, with room for 512 acts, or for none if the record is not read.
     pub fn begin(&mut self, alloc: Global, is_unread: bool) -> Result<(), AllocError>
         ensures { OnOk result (self.new ≡ no_acts is_unread) }
     {
@@ -66,7 +66,7 @@ impl Acts {
         Ok(())
     }
 
-    /// No act yet, and memory keeps none.
+    /// Returns a record without acts, of which memory keeps none.
     pub fn keeping_none(alloc: Global) -> Acts
         ensures { result ≡ no_acts true }
     {
@@ -79,7 +79,7 @@ impl Acts {
         }
     }
 
-    /// The acts and their replies, in as much memory as they need, or none where the record is full.
+    /// Returns the acts and their replies, in as much memory as they need, or None if the record is full.
     pub fn take(self) -> Option<(List<TurnStep>, List<Reply>)>
         ensures some { IfSome result (λ lists. (self.is_full ≡ false) × (lists.0 ≡ self.steps) × (lists.1 ≡ self.replies)) }
         ensures none { IfNone result (self.is_full ≡ true) }
@@ -94,7 +94,7 @@ impl Acts {
         Some((List::from(steps), List::from(replies)))
     }
 
-    /// One more act. It takes no memory.
+    /// Adds one act. It takes no memory.
     pub fn note(&mut self, step: TurnStep, reply: Reply)
         ensures { self.new ≡ noted self.old step reply }
     {

@@ -1,4 +1,4 @@
-// The calls of a running task on the parts of a runtime. Each is an act of the machine, and is kept in the record.
+// The calls of a running task on the parts of a runtime. Each is an act of the machine, and is recorded.
 ghost use Rattle.std.specs.Prelude.{◌≡◌, true, Err, IfOk, OnOk, OnErr};
 ghost use Rattle.mono_model.specs.Table.{next_number};
 ghost use Rattle.mono_model.specs.Tasks.{woken, woken_if_any, spawned};
@@ -25,7 +25,7 @@ use mono_task::{Poll, SpawnTask, TaskError, Woke, wake_if_any};
 use mono_time::{Error, Instant, SleepError};
 use std::alloc::Global;
 
-/// The reply to a poll of a task's handle.
+/// Returns the reply to a poll of a task's handle.
 fn join_reply_of<O: Outcome>(answer: &Result<Poll<O>, TaskError>) -> Reply
     ensures { result ≡ replies.join_reply (join_numbered O.output_number answer.now) }
 {
@@ -36,7 +36,7 @@ fn join_reply_of<O: Outcome>(answer: &Result<Poll<O>, TaskError>) -> Reply
     }
 }
 
-/// The reply to the drop of a task's handle.
+/// Returns the reply to the drop of a task's handle.
 pub(crate) fn drop_reply_of<O: Outcome>(answer: &Result<Option<O>, TaskError>) -> Reply
     ensures { result ≡ replies.drop_reply (drop_numbered O.output_number answer.now) }
 {
@@ -62,7 +62,7 @@ impl<O: Outcome + Drop, B: Drop> Parts<O, B> {
         answer
     }
 
-    /// Polls the handle of a task, for the running one.
+    /// Polls the handle of a task for the running task.
     pub fn poll_join(&mut self, task: u64) -> Result<Poll<O>, TaskError>
         ensures answer { result ≡ join_answer self.old.tasks.tasks task }
         ensures tasks { self.new.tasks ≡ schedule.with_tasks self.old.tasks (joined self.old.tasks.tasks task self.old.me) }
@@ -145,7 +145,7 @@ impl<O: Outcome + Drop, B: Drop> Parts<O, B> {
         }
     }
 
-    /// Polls a sleep, for the running task.
+    /// Polls a sleep for the running task.
     pub fn poll_sleep(&mut self, sleep: u64) -> Result<Poll<()>, Error>
         ensures answer { result ≡ sleep_poll_answer (sleeps_of self.old.timers) sleep }
         ensures sleeps { sleeps_of self.new.timers ≡ with_polled_sleep (sleeps_of self.old.timers) sleep self.old.me }
@@ -160,7 +160,7 @@ impl<O: Outcome + Drop, B: Drop> Parts<O, B> {
         answer
     }
 
-    /// Gives a sleep up.
+    /// Drops a sleep.
     pub fn drop_sleep(&mut self, sleep: u64) -> Result<(), Error>
         ensures answer { result ≡ sleep_remove_answer (sleeps_of self.old.timers) sleep }
         ensures sleeps { sleeps_of self.new.timers ≡ with_removed_sleep (sleeps_of self.old.timers) sleep }
@@ -175,7 +175,7 @@ impl<O: Outcome + Drop, B: Drop> Parts<O, B> {
         answer
     }
 
-    /// Arms a sleep anew.
+    /// Resets a sleep to a new deadline.
     pub fn reset_sleep(&mut self, sleep: u64, deadline: Instant) -> Result<(), Error>
         ensures answer { result ≡ without_waker (sleep_reset_answer (sleeps_of self.old.timers) sleep (nanos_of deadline)) }
         ensures sleeps { sleeps_of self.new.timers ≡ with_reset_sleep (sleeps_of self.old.timers) sleep (nanos_of deadline) }

@@ -1,4 +1,4 @@
-// A clock step: the clock is read, and what is due fires.
+// A clock step: reads the clock and fires the due sleeps.
 ghost use Rattle.std.specs.Prelude.{◌≡◌, ◌≤◌, ◌+◌, [], true, vec_len, vec_capacity, OnOk, OnErr, IfSome, IfNone};
 ghost use Rattle.mono_time.specs.Instants.{nanos_of};
 ghost use Rattle.mono_time.specs.Sleeps.{armed_count};
@@ -20,7 +20,7 @@ use std::alloc::Global;
 use std::marker::Brand;
 use std::sync::ledger::Blank;
 
-// Room for a clock step, and the reading of the clock.
+// Reserves room for a clock step, and reads the clock.
 fn open_clock<D: Driver>(
     alloc: Global,
     timers: &Timers,
@@ -47,8 +47,8 @@ fn open_clock<D: Driver>(
 }
 
 impl<O: Outcome + Drop, P: ThreadPool + Drop> Parts<O, Blockings<P>> {
-    /// The clock is read, and the sleeps that are due fire. Where memory is refused nothing changes, since the room for all
-    /// that may fire is made first.
+    /// Reads the clock, and fires the due sleeps. If it runs out of memory, nothing changes, since room for all sleeps
+    /// that may fire is reserved first.
     pub fn clock_step<D: Driver>(
         &mut self,
         alloc: Global,

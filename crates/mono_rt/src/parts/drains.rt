@@ -1,4 +1,4 @@
-// What other threads woke, once it was taken: it is told in the journal, and woken.
+// The tasks that other threads woke, after they were taken: recorded in the journal, and woken.
 ghost use Rattle.std.specs.Prelude.{◌≡◌, ◌≤◌, ◌<◌, ◌+◌, ◌++◌, ◌∷◌, ℕ, [], length, vec_len, vec_capacity, IfSome, OnOk};
 ghost use Rattle.mono_inbox.specs.State.{HasNoDoubles};
 ghost use Rattle.mono_task.specs.Work.{over_answer};
@@ -18,7 +18,7 @@ use mono_machine::{Event, List, Refusal, Reply, Report};
 use mono_task::wake_all;
 use std::alloc::Global;
 
-// Room for the entries, and for the list of those that are woken.
+// Reserves room for the entries, and for the list of the tasks to wake.
 fn open_drain(alloc: Global, journal: &mut Journal, taken: &[u64]) -> Option<Vec<u64>>
     ensures places { IfSome result (λ list. HasPlaces journal.new (length taken.now + 1)) }
     ensures room { IfSome result (λ list. vec_len list + length taken.now ≤ vec_capacity list) }
@@ -37,7 +37,7 @@ fn open_drain(alloc: Global, journal: &mut Journal, taken: &[u64]) -> Option<Vec
 }
 
 impl<O: Outcome + Drop, P: ThreadPool + Drop> Parts<O, Blockings<P>> {
-    /// Tells and wakes those that were taken.
+    /// Records and wakes the tasks that were taken.
     pub fn wake_taken(
         &mut self,
         alloc: Global,
@@ -65,7 +65,7 @@ impl<O: Outcome + Drop, P: ThreadPool + Drop> Parts<O, Blockings<P>> {
         }
     }
 
-    /// One entry for each task, and the list of those that are to be woken.
+    /// Adds one entry for each task, and lists the tasks to wake.
     fn tell_remotes(&self, journal: &mut Journal, taken: &[u64], into: &mut Vec<u64>)
         requires places { HasPlaces journal.old (length taken.now + 1) }
         requires room { vec_len into.old + length taken.now ≤ vec_capacity into.old }

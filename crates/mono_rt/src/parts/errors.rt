@@ -1,19 +1,19 @@
-// Why a main task gave no output.
+// The errors of a run of a main task.
 ghost use Rattle.std.specs.Prelude.{Some};
 ghost use Rattle.mono_rt.specs.ErrorTexts.{text_of};
 
 use std::fmt;
 
-/// Why a runtime gave no output of its main task.
+/// The reasons for which a runtime returns no output of its main task.
 #[derive(Clone, Copy, Debug, PartialEq, Eq)]
 pub enum RunError {
-    /// There was no memory.
+    /// An allocation failed.
     Memory,
-    /// As many tasks live as the limit allows, or the numbers are used up.
+    /// The limit of live tasks is reached, or the numbers are used up.
     AtCapacity,
     /// The driver failed.
     Driver,
-    /// No unit is left.
+    /// The budget is spent.
     Turns,
 }
 

@@ -1,12 +1,12 @@
-// A list that holds room for what must go into it later.
+// A list that holds room for later items.
 ghost use Rattle.std.specs.Prelude.{◌≡◌, ◌≤◌, ◌<◌, ◌+◌, ◌++◌, ◌∷◌, [], OnOk, IfSome, IfNone, Some, length, slice_get};
 ghost use Rattle.mono_rt.specs.HeldRoom.{HasRoomFor};
 
 use std::alloc::{AllocError, Global};
 use std::marker::Model;
 
-/// A list, and for how many more items room is held. What is held stays free through every other push, so that an item
-/// for which room was held goes in without asking for memory.
+/// A list, and for how many more items room is held. Held room stays free through every other push, so an item for
+/// which room was held is added without an allocation.
 #[derive(Drop)]
 pub(crate) struct RoomList<T> {
     list: Vec<T>,
@@ -25,7 +25,7 @@ impl<T> Model for RoomList<T> {
 }
 
 impl<T> RoomList<T> {
-    /// The empty list, which takes no memory yet.
+    /// Returns the empty list, which takes no memory yet.
     pub(crate) fn new(alloc: Global) -> RoomList<T>
         ensures items { result.items ≡ [] }
         ensures held { result.held ≡ 0 }
@@ -36,14 +36,14 @@ impl<T> RoomList<T> {
         }
     }
 
-    /// How many items there are.
+    /// Returns how many items there are.
     pub(crate) fn len(&self) -> usize
         ensures { result ≡ length self.now.items }
     {
         self.list.len()
     }
 
-    /// The item at a place, or none from the length on.
+    /// Returns the item at a place, or None from the length on.
     pub(crate) fn get(&self, place: usize) -> Option<&T>
         ensures some { IfSome result (λ item. slice_get self.now.items place ≡ Some item.now) }
         ensures none { IfNone result (length self.now.items ≤ place) }
@@ -51,7 +51,7 @@ impl<T> RoomList<T> {
         self.list.get(place)
     }
 
-    /// Makes room for so many items, beside those for which it is held.
+    /// Reserves room for `more` items, in addition to the held room.
     pub(crate) fn reserve(&mut self, more: usize) -> Result<(), AllocError>
         ensures room { OnOk result (HasRoomFor self.new more) }
         ensures items { self.new.items ≡ self.old.items }
@@ -63,7 +63,7 @@ impl<T> RoomList<T> {
         }
     }
 
-    /// One more item, for which there is room.
+    /// Adds one item, for which there is room.
     pub(crate) fn push(&mut self, item: T)
         requires { HasRoomFor self.old 1 }
         ensures items { self.new.items ≡ self.old.items ++ item ∷ [] }
@@ -82,7 +82,7 @@ impl<T> RoomList<T> {
         self.places += 1;
     }
 
-    /// Lets the room for one item go, which is there now.
+    /// Releases the held room of one item, which is free now.
     pub(crate) fn release(&mut self)
         requires { 0 < self.old.held }
         ensures items { self.new.items ≡ self.old.items }

@@ -1,5 +1,5 @@
-// The calls of a running task on blocking jobs, on the parts of a runtime. Each is an act of the machine, and is kept in the
-// record. The end of a job that a call sees as the first is kept as an act right before it.
+// The calls of a running task on blocking jobs, on the parts of a runtime. Each is an act of the machine, and is
+// recorded. If a call is the first to see the end of a job, the end is recorded as an act right before it.
 ghost use Rattle.std.specs.Prelude.{◌≡◌};
 ghost use Rattle.mono_rt.specs.JobActs.{noted_end, SpawnsJob, AsksOutput, DropsJob, AsksWhetherEnded};
 ghost use Rattle.mono_rt.specs.Leads.{Leads};
@@ -15,7 +15,7 @@ use mono_machine::{Act, Query, Refusal, Reply, TurnStep};
 use mono_model::{Host, Poll};
 use std::alloc::Global;
 
-/// The reply to a poll of a job's handle.
+/// Returns the reply to a poll of a job's handle.
 fn polled_reply<A: Outcome>(answer: &Result<Poll<Result<A, JoinError>>, Refusal>) -> Reply
     ensures { result ≡ reply_of (polled_reply A.output_number answer.now) }
 {
@@ -27,7 +27,7 @@ fn polled_reply<A: Outcome>(answer: &Result<Poll<Result<A, JoinError>>, Refusal>
     }
 }
 
-/// The reply to the drop of a job's handle.
+/// Returns the reply to the drop of a job's handle.
 fn dropped_reply<A: Outcome>(answer: &Result<Option<Result<A, JoinError>>, Refusal>) -> Reply
     ensures { result ≡ reply_of (dropped_reply A.output_number answer.now) }
 {
@@ -40,7 +40,7 @@ fn dropped_reply<A: Outcome>(answer: &Result<Option<Result<A, JoinError>>, Refus
 }
 
 impl Acts {
-    /// The end of a job, where a call saw it as the first.
+    /// Records the end of a job if this call is the first to see it.
     fn note_end(&mut self, job: u64, end: Option<End>)
         ensures { self.new ≡ noted_end self.old job end }
     {
@@ -107,7 +107,7 @@ impl<O: Outcome + Drop, P: ThreadPool + Drop> Parts<O, Blockings<P>> {
         dropped.answer
     }
 
-    /// Whether a job has ended. Nothing is kept of the question.
+    /// Returns whether a job has ended. The question is not recorded.
     pub fn has_job_ended(&mut self, job: u64) -> Result<bool, Refusal>
         ensures asks { AsksWhetherEnded job result self.old self.new }
         ensures leads { Leads O.output_number hosting_of self.old self.new }

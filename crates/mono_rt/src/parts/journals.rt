@@ -1,4 +1,4 @@
-// What a runtime did, in order: all of it in proofs, and in memory as far as the journal is kept.
+// The history of a runtime, in order: all of it in proofs, and in memory as far as the journal is kept.
 ghost use Rattle.std.specs.Prelude.{◌≡◌, [], false};
 ghost use mathlib.Core.List.{IsPrefix};
 
@@ -7,19 +7,20 @@ use mono_history::History;
 use mono_machine::{Event, Report};
 use std::alloc::Global;
 
-/// One thing that a runtime did.
+/// An entry: one step of a runtime.
 #[derive(Drop)]
 pub enum Entry {
-    /// The machine took this event and answered this report.
+    /// The machine took this event and returned this report.
     Ran(Event, Report),
     /// The clock was read.
     Now(u128),
-    /// The driver was parked, for so many milliseconds at most.
+    /// The driver was parked, for at most this number of milliseconds.
     Park(Option<u64>),
 }
 
-/// What a runtime did, in order. Its `history` has all of it, in proofs alone. The entries are those of the history while the
-/// journal is not full (`kept`), and always a beginning of it (`begins`). Once it is full nothing more is kept.
+/// The history of a runtime, in order. Its `history` has all of it, in proofs alone. The entries are those of the
+/// history while the journal is not full (`kept`), and always a beginning of it (`begins`). A full journal keeps
+/// nothing more.
 #[derive(Drop)]
 pub struct Journal {
     pub(crate) entries: RoomList<Entry>,
@@ -29,7 +30,7 @@ pub struct Journal {
     pub ghost begins: { ∥ IsPrefix entries.items history.entries ∥₁ },
 }
 
-/// A journal without entries. One that is full from the start keeps nothing.
+/// Returns a journal without entries, which keeps nothing if it is full from the start.
 pub fn new_journal(alloc: Global, is_full: bool) -> Journal
     ensures entries { result.entries.items ≡ [] }
     ensures history { result.history.entries ≡ [] }

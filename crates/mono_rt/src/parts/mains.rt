@@ -18,7 +18,7 @@ use mono_task::SpawnTask;
 use std::alloc::Global;
 
 impl<O: Outcome + Drop, P: ThreadPool + Drop> Parts<O, Blockings<P>> {
-    /// The main task is made, and room is held for the entry of its handle's drop.
+    /// Makes the main task, and holds room for the entry of its handle's drop.
     pub fn start_main(&mut self, alloc: Global, journal: &mut Journal) -> Result<u64, RunError>
         ensures goes { Goes O.output_number self.old self.new journal.old journal.new }
         ensures spawned { IfOk result (λ t. Does O.output_number (IsSpawn t) self.old self.new journal.old journal.new) }
@@ -53,8 +53,8 @@ impl<O: Outcome + Drop, P: ThreadPool + Drop> Parts<O, Blockings<P>> {
         }
     }
 
-    /// The handle of the main task is dropped. The answer is the output that it gave, whose number stands in the journal. The
-    /// entry has the room that was held for it, so no memory is asked for.
+    /// Drops the handle of the main task, and returns its output, whose number is in the journal. The entry takes the
+    /// room that was held for it, so nothing is allocated.
     pub fn end_main(&mut self, journal: &mut Journal, main: u64) -> Option<O>
         requires { 0 < journal.old.entries.held }
         ensures output { (output : O) → drop_answer self.old.tasks.tasks main ≡ Ok (Some output) → result ≡ Some output }

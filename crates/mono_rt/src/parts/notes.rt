@@ -1,4 +1,4 @@
-// How a journal notes what was done. What it keeps in memory is beside its history, which has every entry.
+// How a journal records entries. Its history has every entry, and memory may keep fewer.
 ghost use Rattle.std.specs.Prelude.{◌≡◌, ◌≤◌, ◌<◌, ◌||◌, ◌++◌, ◌∷◌, [], OnOk, IfSome, IfNone, length, slice_get, ℕ, ◌+◌, Some};
 ghost use Rattle.mono_machine.specs.declared.events.Event.TheVariants as event;
 ghost use Rattle.mono_machine.specs.declared.events.Report.TheVariants as report;
@@ -13,7 +13,7 @@ use mono_history::Tells;
 use mono_machine::{End, Ended, Event, Report};
 use std::alloc::AllocError;
 
-/// A turn that ended, with all its acts, of which memory may not hold each.
+/// A turn that ended, with all its acts, some of which memory may lack.
 #[derive(Drop)]
 pub struct Turned {
     task: u64,
@@ -72,21 +72,21 @@ fn keep_turn(entries: &mut RoomList<Entry>, is_full: bool, turned: Turned) -> bo
 }
 
 impl Journal {
-    /// Whether the journal is full.
+    /// Returns whether the journal is full.
     pub fn is_full(&self) -> bool
         ensures { result ≡ self.now.is_full }
     {
         self.is_full
     }
 
-    /// How many entries there are.
+    /// Returns how many entries there are.
     pub fn len(&self) -> usize
         ensures { result ≡ length self.now.entries.items }
     {
         self.entries.len()
     }
 
-    /// The entry at a place, or none from the length on.
+    /// Returns the entry at a place, or None from the length on.
     pub fn get(&self, place: usize) -> Option<&Entry>
         ensures some { IfSome result (λ entry. slice_get self.now.entries.items place ≡ Some entry.now) }
         ensures none { IfNone result (length self.now.entries.items ≤ place) }
@@ -94,7 +94,7 @@ impl Journal {
         self.entries.get(place)
     }
 
-    /// Makes room for so many entries, beside those for which it is held.
+    /// Reserves room for `more` entries, in addition to the held room.
     pub(crate) fn reserve(&mut self, more: usize) -> Result<(), AllocError>
         ensures room { OnOk result (HasPlaces self.new more) }
         ensures entries { self.new.entries.items ≡ self.old.entries.items }
@@ -105,7 +105,7 @@ impl Journal {
         self.entries.reserve(more)
     }
 
-    /// The room that was held for an entry is there for it now.
+    /// Releases the room that was held for an entry, which is free now.
     pub(crate) fn release(&mut self)
         requires { 0 < self.old.entries.held }
         ensures room { HasPlaces self.new 1 }
@@ -117,7 +117,7 @@ impl Journal {
         self.entries.release();
     }
 
-    /// Notes the turn of a task, for which there is room. If memory lost an act, the journal is full from then on.
+    /// Records the turn of a task, for which there is room. If memory lost an act, the journal is full from then on.
     pub(crate) fn push_turn(&mut self, task: u64, acts: Acts, end: End, ended: Ended)
         requires { HasPlaces self.old 1 }
         ensures history { self.new.history.entries ≡ self.old.history.entries ++ Ran (event.Turn acts.steps end) (report.Turn task acts.replies ended) ∷ [] }
@@ -135,7 +135,7 @@ impl Journal {
         self.history = history;
     }
 
-    /// One more entry, for which there is room.
+    /// Adds one entry, for which there is room.
     #[inline(always)]
     pub(crate) fn push(&mut self, entry: Entry)
         requires { HasPlaces self.old 1 }
@@ -149,7 +149,7 @@ impl Journal {
         self.history = history;
     }
 
-    /// One more entry, for which there is room, and room for another one is held.
+    /// Adds one entry, for which there is room, and holds room for another one.
     pub(crate) fn push_and_hold(&mut self, entry: Entry)
         requires { HasPlaces self.old 2 }
         ensures history { self.new.history.entries ≡ self.old.history.entries ++ entry ∷ [] }

@@ -19,7 +19,7 @@ use mono_model::Host;
 use mono_time::Instant;
 use std::time::Duration;
 
-// Parks the driver, for so many milliseconds at most. The answer tells whether it failed.
+// Parks the driver for at most `wait` milliseconds. Returns whether it failed.
 fn park_driver<D: Driver, R: Host>(rt: &R, driver: &mut D, wait: Option<u64>) -> bool
     ensures parked { IsParked wait result (telling (D.readings driver.old) (D.time driver.old) (D.parks driver.old)) (telling (D.readings driver.new) (D.time driver.new) (D.parks driver.new)) }
     ensures faults { RisesIf result (D.faults driver.old) (D.faults driver.new) }
@@ -33,7 +33,7 @@ fn park_driver<D: Driver, R: Host>(rt: &R, driver: &mut D, wait: Option<u64>) ->
 }
 
 impl<O: Outcome + Drop, P: ThreadPool + Drop> Parts<O, Blockings<P>> {
-    /// How long the driver is parked, in milliseconds.
+    /// Returns how long the driver is parked, in milliseconds.
     fn wait_from(&self, now: Instant) -> Option<u64>
         ensures wait { (m : Machine) → Matches O.output_number hosting_of self.entry.now m → IsWait self.entry.now.has_timers m (nanos_of now) result }
         ensures next { IfSome result (λ v. (m : Machine) → Matches O.output_number hosting_of self.entry.now m → WaitsForNext m (registered_of self.entry.now.timers) (Some (nanos_of now)) v) }
@@ -48,7 +48,7 @@ impl<O: Outcome + Drop, P: ThreadPool + Drop> Parts<O, Blockings<P>> {
         }
     }
 
-    /// The clock is read, and the driver is parked. The answer tells whether it failed.
+    /// Reads the clock, and parks the driver. Returns whether it failed.
     pub fn park<D: Driver, R: Host>(
         &self,
         rt: &R,

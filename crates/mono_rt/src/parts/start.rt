@@ -15,7 +15,7 @@ use mono_time::{Instant, Timers};
 use std::alloc::{AllocError, Global};
 
 impl<O: Outcome + Drop, P: ThreadPool + Drop> Parts<O, Blockings<P>> {
-    /// No task, no sleep and no job, and who runs the jobs.
+    /// Returns parts without tasks, sleeps and jobs, with the pool or strategy for the jobs.
     pub fn starting(
         alloc: Global,
         limits: Limits,

@@ -1,11 +1,11 @@
-// What a runtime is made of beside its futures.
+// The parts of a runtime other than its futures.
 use crate::parts::acts::Acts;
 use mono_task::Tasks;
 use mono_time::{Instant, Timers};
 
-/// The tasks, the sleeps, the jobs with who runs them, and the record of the turn that runs. Nothing here depends on the
-/// type of the futures, so the acts of a turn are proved here. The calls of the context's traits leave the jobs alone, and
-/// ask nothing of their type.
+/// The tasks, the sleeps, the jobs with their pool or strategy, and the record of the running turn. Nothing here
+/// depends on the type of the futures, so the acts of a turn are proved here. The calls of the context's traits leave
+/// the jobs unchanged, and require nothing of their type.
 #[derive(Drop)]
 pub struct Parts<O, B> {
     pub tasks: Tasks<O>,

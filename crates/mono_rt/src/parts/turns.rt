@@ -1,4 +1,4 @@
-// What stands in the journal before a turn and after it.
+// The journal's entries before a turn and after it.
 ghost use Rattle.std.specs.Prelude.{◌≡◌, ◌++◌, ◌∷◌, ◌||◌, [], IfSome};
 ghost use Rattle.mono_time.specs.Instants.{nanos_of};
 ghost use Rattle.mono_machine.specs.declared.events.Event.TheVariants as event;
@@ -20,7 +20,7 @@ use std::alloc::Global;
 use std::mem;
 
 impl<O: Outcome + Drop, P: ThreadPool + Drop> Parts<O, Blockings<P>> {
-    /// Notes the turn that ended.
+    /// Records the turn that ended.
     pub fn keep_turn(
         &mut self,
         alloc: Global,
@@ -43,7 +43,7 @@ impl<O: Outcome + Drop, P: ThreadPool + Drop> Parts<O, Blockings<P>> {
         journal.push_turn(task, acts, end, ended);
     }
 
-    /// Room for a turn, and the reading of the clock, which stands in the journal.
+    /// Reserves room for a turn, and records the reading of the clock.
     pub fn open_turn<D: Driver>(
         &mut self,
         alloc: Global,
