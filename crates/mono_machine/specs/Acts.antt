@@ -1,4 +1,5 @@
--- What each act and each poll answers and leaves. The refusals are tried in the order in which they stand.
+-- The answer of each act and each poll, and the machine afterwards. The refusals are tried in the order in which they
+-- are written.
 use Rattle.std.specs.Prelude.{ℕ, if◌then◌else◌, Option, Some, None, Result, Ok, Err, nat_lt}
 use Rattle.mono_model.specs.Ticks.{max_nanos, up}
 use Rattle.mono_model.specs.Table.{value_at, next_number, is_full}
@@ -25,7 +26,7 @@ use Rattle.mono_machine.specs.declared.events.Refusal.TheVariants as refusal
 use Rattle.mono_machine.specs.declared.events.Blocking.{Blocking}
 use Rattle.mono_machine.specs.declared.events.Blocking.TheVariants as blocking
 
--- the reply, and the machine after it
+-- The reply, and the machine after it.
 pub record Outcome : Type 0 where
   pub reply : Reply
   pub machine : Machine
@@ -33,7 +34,7 @@ pub record Outcome : Type 0 where
 abbrev pub answered : Reply → Machine → Outcome
 answered r m = record { reply = r; machine = m }
 
--- a refused act changes nothing
+-- The outcome of a refused act, which changes nothing.
 abbrev pub refused : Refusal → Machine → Outcome
 refused r m = answered (reply.Refused r) m
 
@@ -41,18 +42,18 @@ abbrev pub reply_of : Result Reply Refusal → Reply
 reply_of (Ok r) = r
 reply_of (Err r) = reply.Refused r
 
--- A job is made: it runs on a thread, or has run on the caller, or there is no place for it.
+-- The outcome of making a job: it runs on a thread, has run on the caller, or is refused.
 abbrev pub block : Blocking → ℕ → Machine → Outcome
 block blocking.Attached output m = answered (reply.Job (next_number m.jobs.table)) (with_jobs m (jobs.with_next_job m.jobs (job.running output None)))
 block blocking.ExecuteLocal output m = answered (reply.Job (next_number m.jobs.table)) (with_jobs m (jobs.with_next_job m.jobs (job.ended_ok output)))
 block blocking.Panic output m = refused refusal.NoPool m
 
--- A sleep, or the refusal: it was never given out, or is gone.
+-- The outcome for a sleep, or the refusal if it was never given out or was dropped.
 abbrev pub for_sleep : Option Sleep → Machine → Outcome → Outcome
 for_sleep None m outcome = refused refusal.NoTimer m
 for_sleep (Some value) m outcome = outcome
 
--- A sleep is armed at the tick of n. Where it elapses at once, its waker is woken.
+-- The outcome of arming a sleep at the tick of n. If it elapses at once, its waker is woken.
 abbrev pub reset : ℕ → ℕ → Machine → Outcome
 reset s n m =
     answered (reset_reply m.sleeps.greatest (up n))
@@ -79,7 +80,7 @@ act_outcome (act.JobFinished j) m = answered (reply_of (jobs.finished_answer m.j
 act_outcome (act.SleepElapsed s) m = answered (elapsed_reply (sleep.elapsed_answer m.sleeps s)) m
 act_outcome (act.JobEnd j h) m = answered (reply_of (jobs.end_answer m.jobs j)) (with_jobs m (jobs.job_ended m.jobs j h))
 
--- the poll by the running task, `me`, which becomes the only waker or waiter where the answer is Pending
+-- The outcome of a poll by the running task, `me`, which becomes the only waker or waiter if the answer is Pending.
 abbrev pub query_outcome : ℕ → Query → Machine → Outcome
 query_outcome me (query.Sleep s) m = answered (poll_reply (sleep.poll_answer m.sleeps s)) (with_sleeps m (sleep.polled m.sleeps s me))
 query_outcome me (query.Join t) m = answered (join_reply (join.join_answer m.tasks t)) (with_tasks m (join.joined m.tasks t me))

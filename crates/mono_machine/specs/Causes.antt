@@ -1,4 +1,4 @@
--- What may bring a task to a turn: a spawn, a wake that queued or noted it, a drain.
+-- The causes of a task's turn: a spawn, a wake that queued or noted it, a drain.
 use Rattle.std.specs.Prelude.{◌≡◌, ℕ, Bool, false, ◌==◌, ◌||◌, List, [], ◌∷◌}
 use Rattle.mono_machine.specs.Machine.{Machine}
 use Rattle.mono_machine.specs.Steps.{Step}
@@ -10,7 +10,7 @@ use Rattle.mono_machine.specs.declared.events.Reply.TheVariants as reply
 use Rattle.mono_machine.specs.declared.events.Report.{Report}
 use Rattle.mono_machine.specs.declared.events.Report.TheVariants as report
 
--- the reply says that t was made
+-- Whether the reply says that t was made.
 abbrev pub is_made : ℕ → Reply → Bool
 is_made t (reply.Task n) = n == t
 is_made t (reply.Woke w) = false
@@ -40,8 +40,8 @@ tells_spawn t report.Listed = false
 tells_spawn t report.Unlisted = false
 tells_spawn t (report.Drained tasks) = false
 
--- The event is a cause of a turn of t: it made t, or woke it so that it was queued or noted (by a wake, a reset, a sleep that
--- fired, a task that finished), or drained it. That another thread's wake is listed is none yet.
+-- Whether the event is a cause of a turn of t. It made t, drained it, or woke it so that it was queued or noted: by a
+-- wake, a reset, a sleep that fired or a task that finished. Listing another thread's wake is no cause yet.
 abbrev pub is_cause : ℕ → Machine → Event → Report → Bool
 is_cause t old (event.Act a) answer = act_tells t old a answer || tells_spawn t answer
 is_cause t old (event.Turn steps e) answer = (turn_tells t (begun_machine old.tasks.queue old) steps answer || is_waker (woken_by_turn old.tasks.queue steps e old) t) || tells_spawn t answer
@@ -49,7 +49,7 @@ is_cause t old (event.Clock n) answer = clock_tells t old.sleeps.table answer
 is_cause t old (event.Remote u) answer = false
 is_cause t old event.Drain answer = drain_tells t answer
 
--- a run in which no event is a cause of a turn of t
+-- A run in which no event is a cause of a turn of t.
 abbrev pub RunWithoutCause : ℕ → Machine → List Event → List Report → Machine → Type 0
 RunWithoutCause t old [] [] new = new ≡ old
 RunWithoutCause t old (e ∷ events) (answer ∷ answers) new = (mid : Machine) × Step old e answer mid × (is_cause t old e answer ≡ false) × RunWithoutCause t mid events answers new

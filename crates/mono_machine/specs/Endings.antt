@@ -1,4 +1,4 @@
--- What the end of one job changes.
+-- The effect of the end of one job.
 use Rattle.std.specs.Prelude.{◌≡◌, ◌≢◌, ℕ, Option, Some}
 use Rattle.mono_model.specs.Table.{value_at, next_number}
 use Rattle.mono_machine.specs.Machine.{Machine, with_jobs}
@@ -8,7 +8,7 @@ use Rattle.mono_machine.specs.declared.events.Reply.TheVariants as reply
 use Rattle.mono_machine.specs.declared.events.Report.{Report}
 use Rattle.mono_machine.specs.declared.events.Report.TheVariants as report
 
--- The waiter is answered. The job has ended as it is said, no other job changes, and nothing else of the machine does.
+-- The waiter is answered. The job has ended in this way, no other job changes, and nothing else of the machine does.
 pub record EndsAlone (old : Machine) (j output : ℕ) (waiter : Option ℕ) (h : How) (answer : Report) (new : Machine) : Type 0 where
   pub told : answer ≡ report.Reply (reply.Ended waiter)
   pub ended : value_at new.jobs.table j ≡ Some (ended_as h output)

@@ -1,4 +1,4 @@
--- Worked runs: a list of events, and a list of reports that the machine may answer.
+-- Examples of runs: a list of events, and a list of reports that the machine may answer.
 use Rattle.std.specs.Prelude.{ℕ, List, [], ◌∷◌, Some, None}
 use Rattle.mono_model.specs.declared.Woke.TheVariants as woke
 use Rattle.mono_model.specs.declared.Ended.TheVariants as ended
@@ -21,14 +21,14 @@ use Rattle.mono_machine.specs.declared.events.Report.TheVariants as report
 use Rattle.mono_machine.specs.declared.events.Blocking.{Blocking}
 use Rattle.mono_machine.specs.declared.events.Blocking.TheVariants as blocking
 
--- the start machine with one limit for tasks, jobs and sleeps
+-- The start machine with one limit for tasks, jobs and sleeps.
 abbrev pub start_with : Blocking → ℕ → Machine
 start_with strategy limit = start_machine (record { tasks = limit; jobs = limit; sleeps = limit }) strategy
 
 abbrev pub start : ℕ → Machine
 start limit = start_with blocking.Attached limit
 
--- some machine is left after these reports
+-- Whether the machine may answer these reports.
 abbrev pub Answers : Machine → List Event → List Report → Type 0
 Answers m events reports = (new : Machine) × Run m events reports new
 
@@ -44,7 +44,7 @@ poll s = step.Query (query.Sleep s)
 abbrev pub join : ℕ → TurnStep
 join t = step.Query (query.Join t)
 
--- one job is made and polled
+-- The turn in which one job is made and polled.
 abbrev pub block_and_poll : Event
 block_and_poll = event.Turn (step.Act (act.Block 3) ∷ step.Query (query.Job 0) ∷ []) end.Pending
 
@@ -96,7 +96,7 @@ LatestWaker = Answers (start 16)
     (report.Reply (reply.Task 0) ∷ report.Reply (reply.Task 1) ∷ report.Turn 0 (reply.Sleep 0 ∷ reply.Pending ∷ []) ended.Idle ∷ report.Turn 1 (reply.Pending ∷ []) ended.Idle ∷ report.Fired (0 ∷ []) ∷ report.Turn 1 [] ended.Done ∷ report.Reply (reply.Refused refusal.Idle) ∷ [])
 
 -- The greatest deadline and the greatest clock value, and the next above each. A reset to the greatest deadline elapses
--- at once where the clock has come to it.
+-- at once if the clock has come to it.
 abbrev pub EndOfTheType : Type 0
 EndOfTheType = Answers (start 16)
     (event.Act (act.NewSleep 9223372036854775807000000) ∷ event.Act (act.NewSleep 9223372036854775807000001) ∷ event.Clock 9223372036854775807000000 ∷ event.Clock 9223372036854775807000001
@@ -110,7 +110,7 @@ ClockGoesBack = Answers (start 16)
     (spawn ∷ event.Turn (new_sleep 12000000 ∷ poll 0 ∷ []) end.Pending ∷ event.Clock 10000000 ∷ event.Clock 5000000 ∷ event.Act (act.Reset 0 9000000) ∷ event.Turn [] (end.Ready 1) ∷ [])
     (report.Reply (reply.Task 0) ∷ report.Turn 0 (reply.Sleep 0 ∷ reply.Pending ∷ []) ended.Idle ∷ report.Fired [] ∷ report.Fired [] ∷ report.Reply reply.Elapsed ∷ report.Turn 0 [] ended.Done ∷ [])
 
--- A late move: the sleep fires at the deadline to which it was moved, and wakes who polled it.
+-- A late move: the sleep fires at the deadline to which it was moved, and wakes the task that polled it.
 abbrev pub LateMove : Type 0
 LateMove = Answers (start 16)
     (spawn ∷ event.Turn (new_sleep 50000000 ∷ poll 0 ∷ step.Act (act.Reset 0 80000000) ∷ []) end.Pending ∷ event.Clock 50000000 ∷ event.Clock 80000000 ∷ event.Turn [] end.Pending ∷ [])
@@ -128,7 +128,7 @@ RefusalInTheMiddle = Answers (start 16)
     (spawn ∷ event.Act (act.NewSleep 5000000) ∷ event.Act (act.DropSleep 0) ∷ event.Turn (step.Act (act.Finished 0) ∷ poll 0 ∷ step.Act (act.Wake 0) ∷ []) end.Pending ∷ [])
     (report.Reply (reply.Task 0) ∷ report.Reply (reply.Sleep 0) ∷ report.Reply (reply.Dropped None) ∷ report.Turn 0 (reply.No ∷ reply.Refused refusal.NoTimer ∷ reply.Woke woke.Noted ∷ []) ended.Again ∷ [])
 
--- Of two causes the first is the answer: with no room, also a deadline that is too late is refused for want of room.
+-- The first of two causes is the answer: with no room, a deadline that is too late is also refused for want of room.
 abbrev pub NoRoomFirst : Type 0
 NoRoomFirst = Answers (start 0)
     (spawn ∷ event.Act (act.NewSleep 9223372036854775807000001) ∷ event.Act (act.Wake 0) ∷ [])
@@ -154,7 +154,7 @@ TwoCauses = Answers (start_with blocking.Panic 0)
     (spawn ∷ event.Act (act.Block 3) ∷ event.Act (act.NewSleep 9223372036854775807000001) ∷ [])
     (report.Reply (reply.Refused refusal.AtCapacity) ∷ report.Reply (reply.Refused refusal.AtCapacity) ∷ report.Reply (reply.Refused refusal.AtCapacity) ∷ [])
 
--- Three strategies: a job is refused, has run on the caller, or runs until its end is told.
+-- Three strategies: a job is refused, has run on the caller, or runs until its end is reported.
 abbrev pub NoPool : Type 0
 NoPool = Answers (start_with blocking.Panic 4) (event.Act (act.Block 3) ∷ []) (report.Reply (reply.Refused refusal.NoPool) ∷ [])
 
@@ -176,14 +176,13 @@ JobsThatEnd = Answers (start_with blocking.Attached 4)
     (report.Reply (reply.Job 0) ∷ report.Reply (reply.Job 1) ∷ report.Reply (reply.Dropped None) ∷ report.Reply (reply.Ended None) ∷ report.Reply (reply.Ended None) ∷ report.Reply reply.Yes
     ∷ report.Reply (reply.Dropped None) ∷ report.Reply (reply.Refused refusal.NoHandle) ∷ report.Reply (reply.Refused refusal.NoTask) ∷ [])
 
--- The end of a job answers who waited for it and wakes nobody: the task has a turn once a wake from a thread is
--- drained.
+-- The end of a job answers its waiter and wakes no task: the task has a turn once a wake from a thread is drained.
 abbrev pub EndOfJobWakesNobody : Type 0
 EndOfJobWakesNobody = Answers (start 4)
     (spawn ∷ event.Turn (step.Act (act.Block 3) ∷ step.Query (query.Job 0) ∷ []) end.Pending ∷ event.Act (act.JobEnd 0 how.Ran) ∷ event.Turn [] end.Pending ∷ event.Remote 0 ∷ event.Turn [] end.Pending ∷ event.Drain ∷ event.Turn (step.Query (query.Job 0) ∷ step.Query (query.Job 0) ∷ step.Act (act.JobFinished 0) ∷ []) end.Pending ∷ [])
     (report.Reply (reply.Task 0) ∷ report.Turn 0 (reply.Job 0 ∷ reply.Pending ∷ []) ended.Idle ∷ report.Reply (reply.Ended (Some 0)) ∷ report.Reply (reply.Refused refusal.Idle) ∷ report.Listed ∷ report.Reply (reply.Refused refusal.Idle) ∷ report.Drained (0 ∷ []) ∷ report.Turn 0 (reply.Output 3 ∷ reply.Refused refusal.Taken ∷ reply.Yes ∷ []) ended.Idle ∷ [])
 
--- That a job was canceled is told once; then it is taken, has finished, and its handle can be dropped.
+-- A canceled job is reported once; then it is taken, has finished, and its handle can be dropped.
 abbrev pub CanceledIsToldOnce : Type 0
 CanceledIsToldOnce = Answers (start 4)
     (spawn ∷ event.Act (act.Block 3) ∷ event.Act (act.JobEnd 0 how.Canceled) ∷ event.Turn (step.Query (query.Job 0) ∷ step.Query (query.Job 0) ∷ step.Act (act.JobFinished 0) ∷ step.Act (act.DropJob 0) ∷ []) end.Pending ∷ [])
@@ -195,13 +194,13 @@ WakesInOrder = Answers (start 16)
     (spawn ∷ spawn ∷ event.Turn (new_sleep 10000000 ∷ poll 0 ∷ []) end.Pending ∷ event.Turn (new_sleep 20000000 ∷ poll 1 ∷ []) end.Pending ∷ event.Clock 20000000 ∷ event.Turn [] end.Pending ∷ event.Turn [] end.Pending ∷ [])
     (report.Reply (reply.Task 0) ∷ report.Reply (reply.Task 1) ∷ report.Turn 0 (reply.Sleep 0 ∷ reply.Pending ∷ []) ended.Idle ∷ report.Turn 1 (reply.Sleep 1 ∷ reply.Pending ∷ []) ended.Idle ∷ report.Fired (0 ∷ 1 ∷ []) ∷ report.Turn 0 [] ended.Idle ∷ report.Turn 1 [] ended.Idle ∷ [])
 
--- Of two tasks that polled a join handle the one that polled last is woken.
+-- The task that polled a join handle last is woken, of two that polled it.
 abbrev pub LatestWaiter : Type 0
 LatestWaiter = Answers (start 16)
     (spawn ∷ spawn ∷ spawn ∷ event.Turn (join 2 ∷ []) end.Pending ∷ event.Turn (join 2 ∷ []) end.Pending ∷ event.Turn [] (end.Ready 5) ∷ event.Turn (join 2 ∷ []) end.Pending ∷ event.Turn [] end.Pending ∷ [])
     (report.Reply (reply.Task 0) ∷ report.Reply (reply.Task 1) ∷ report.Reply (reply.Task 2) ∷ report.Turn 0 (reply.Pending ∷ []) ended.Idle ∷ report.Turn 1 (reply.Pending ∷ []) ended.Idle ∷ report.Turn 2 [] ended.Done ∷ report.Turn 1 (reply.Output 5 ∷ []) ended.Idle ∷ report.Reply (reply.Refused refusal.Idle) ∷ [])
 
--- Of two tasks that polled a job the one that polled last is answered at its end.
+-- The task that polled a job last is answered at its end, of two that polled it.
 abbrev pub LatestWaiterOfJob : Type 0
 LatestWaiterOfJob = Answers (start 16)
     (spawn ∷ spawn ∷ event.Turn (step.Act (act.Block 3) ∷ step.Query (query.Job 0) ∷ []) end.Pending ∷ event.Turn (step.Query (query.Job 0) ∷ []) end.Pending ∷ event.Act (act.JobEnd 0 how.Ran) ∷ [])
@@ -213,8 +212,8 @@ NotedTwice = Answers (start 16)
     (spawn ∷ event.Turn (step.Act (act.Wake 0) ∷ step.Act (act.Wake 0) ∷ []) end.Pending ∷ event.Turn (step.Act (act.Wake 0) ∷ []) (end.Ready 1) ∷ event.Turn [] end.Pending ∷ [])
     (report.Reply (reply.Task 0) ∷ report.Turn 0 (reply.Woke woke.Noted ∷ reply.Woke woke.Noted ∷ []) ended.Again ∷ report.Turn 0 (reply.Woke woke.Noted ∷ []) ended.Done ∷ report.Reply (reply.Refused refusal.Idle) ∷ [])
 
--- A wake from a thread lists a queued task and one without a handle, and none that has finished; a task that finishes
--- once it is listed comes out of the drain and has no turn.
+-- A wake from a thread lists a queued task and one without a handle, but no finished task. A task that finishes once it
+-- is listed comes out of the drain and has no turn.
 abbrev pub WhoIsListed : Type 0
 WhoIsListed = Answers (start 16)
     (spawn ∷ spawn ∷ spawn ∷ event.Remote 0 ∷ event.Turn [] (end.Ready 1) ∷ event.Remote 0 ∷ event.Act (act.DropJoin 1) ∷ event.Turn [] end.Pending ∷ event.Remote 1 ∷ event.Drain ∷ event.Turn [] end.Pending ∷ event.Turn [] end.Pending ∷ event.Turn [] end.Pending ∷ [])
@@ -238,19 +237,19 @@ ResetOfAFreshSleep = Answers (start 16)
     (event.Act (act.NewSleep 5000000) ∷ event.Act (act.Reset 0 6000000) ∷ event.Clock 5000000 ∷ event.Clock 6000000 ∷ event.Act (act.Reset 0 7000000) ∷ event.Act (act.SleepElapsed 0) ∷ event.Clock 7000000 ∷ [])
     (report.Reply (reply.Sleep 0) ∷ report.Reply reply.Armed ∷ report.Fired [] ∷ report.Fired (0 ∷ []) ∷ report.Reply reply.Armed ∷ report.Reply reply.No ∷ report.Fired (0 ∷ []) ∷ [])
 
--- The drop of a polled sleep wakes nobody, and the sleep does not fire.
+-- The drop of a polled sleep wakes no task, and the sleep does not fire.
 abbrev pub DroppedSleepWakesNobody : Type 0
 DroppedSleepWakesNobody = Answers (start 16)
     (spawn ∷ event.Turn (new_sleep 5000000 ∷ poll 0 ∷ []) end.Pending ∷ event.Act (act.DropSleep 0) ∷ event.Turn [] end.Pending ∷ event.Clock 5000000 ∷ [])
     (report.Reply (reply.Task 0) ∷ report.Turn 0 (reply.Sleep 0 ∷ reply.Pending ∷ []) ended.Idle ∷ report.Reply (reply.Dropped None) ∷ report.Reply (reply.Refused refusal.Idle) ∷ report.Fired [] ∷ [])
 
--- A sleep that is moved to an earlier tick fires behind those that were armed for it before.
+-- A sleep that is moved to an earlier tick fires after those that were armed for it before.
 abbrev pub MovedEarlierIsLast : Type 0
 MovedEarlierIsLast = Answers (start 16)
     (spawn ∷ event.Turn (new_sleep 90000000 ∷ new_sleep 60000000 ∷ poll 0 ∷ poll 1 ∷ []) end.Pending ∷ event.Act (act.Reset 0 60000000) ∷ event.Clock 60000000 ∷ [])
     (report.Reply (reply.Task 0) ∷ report.Turn 0 (reply.Sleep 0 ∷ reply.Sleep 1 ∷ reply.Pending ∷ reply.Pending ∷ []) ended.Idle ∷ report.Reply reply.Armed ∷ report.Fired (1 ∷ 0 ∷ []) ∷ [])
 
--- A sleep that is moved to an earlier tick wakes who polled it, and is ready at every further poll.
+-- A sleep that is moved to an earlier tick wakes the task that polled it, and is ready at every further poll.
 abbrev pub MovedEarlierKeepsWaker : Type 0
 MovedEarlierKeepsWaker = Answers (start 16)
     (spawn ∷ event.Turn (new_sleep 90000000 ∷ poll 0 ∷ []) end.Pending ∷ event.Act (act.Reset 0 60000000) ∷ event.Clock 60000000 ∷ event.Turn (poll 0 ∷ poll 0 ∷ []) end.Pending ∷ [])
@@ -262,7 +261,7 @@ FinishedTakesRoom = Answers (start 1)
     (spawn ∷ event.Turn [] (end.Ready 1) ∷ spawn ∷ event.Act (act.DropJoin 0) ∷ spawn ∷ event.Act (act.Block 1) ∷ event.Act (act.JobEnd 0 how.Ran) ∷ event.Act (act.Block 2) ∷ event.Act (act.DropJob 0) ∷ event.Act (act.Block 2) ∷ [])
     (report.Reply (reply.Task 0) ∷ report.Turn 0 [] ended.Done ∷ report.Reply (reply.Refused refusal.AtCapacity) ∷ report.Reply (reply.Dropped (Some 1)) ∷ report.Reply (reply.Task 1) ∷ report.Reply (reply.Job 0) ∷ report.Reply (reply.Ended None) ∷ report.Reply (reply.Refused refusal.AtCapacity) ∷ report.Reply (reply.Dropped (Some 1)) ∷ report.Reply (reply.Job 1) ∷ [])
 
--- A task without a handle takes room until it has finished, and then is gone.
+-- A task without a handle takes room until it has finished, and then is removed.
 abbrev pub NoHandleTakesRoom : Type 0
 NoHandleTakesRoom = Answers (start 1)
     (spawn ∷ event.Act (act.DropJoin 0) ∷ spawn ∷ event.Turn [] (end.Ready 1) ∷ spawn ∷ [])
@@ -292,7 +291,7 @@ AscendingTicks = Answers (start 16)
     (spawn ∷ event.Turn (new_sleep 20000000 ∷ new_sleep 10000000 ∷ poll 0 ∷ poll 1 ∷ poll 0 ∷ []) end.Pending ∷ event.Clock 20000000 ∷ [])
     (report.Reply (reply.Task 0) ∷ report.Turn 0 (reply.Sleep 0 ∷ reply.Sleep 1 ∷ reply.Pending ∷ reply.Pending ∷ reply.Pending ∷ []) ended.Idle ∷ report.Fired (1 ∷ 0 ∷ []) ∷ [])
 
--- A task that has finished is not listed, even where its handle stands.
+-- A task that has finished is not listed, even if its handle is kept.
 abbrev pub DoneIsNotListed : Type 0
 DoneIsNotListed = Answers (start 16)
     (spawn ∷ event.Turn [] (end.Ready 1) ∷ event.Remote 0 ∷ [])
@@ -308,8 +307,8 @@ PollKeepsItsPlace = Answers (start 16)
 abbrev pub two_armed : ℕ → ℕ → Machine
 two_armed n k = after_turn (new_sleep n ∷ new_sleep k ∷ poll 0 ∷ poll 1 ∷ []) end.Pending (act_outcome act.Spawn (start 16)).machine
 
--- Of two sleeps with ticks of their own the later one may not fire first, of two with one tick the one that was armed later
--- may not, and none fires twice.
+-- Two sleeps with different ticks do not fire with the later tick first, and two with one tick do not fire with the
+-- later armed first. None fires twice.
 abbrev pub NoneFiresBeforeAnEarlier : Type 0
 NoneFiresBeforeAnEarlier = (new : Machine) → Step (two_armed 20000000 10000000) (event.Clock 20000000) (report.Fired (0 ∷ 1 ∷ [])) new → ⊥
 

@@ -1,11 +1,11 @@
--- Who has the turns of a run.
+-- The tasks that have the turns of a run.
 use Rattle.std.specs.Prelude.{ℕ, List, [], ◌∷◌, Option, Some, None}
 use Rattle.mono_machine.specs.declared.events.Event.{Event}
 use Rattle.mono_machine.specs.declared.events.Event.TheVariants as event
 use Rattle.mono_machine.specs.declared.events.Report.{Report}
 use Rattle.mono_machine.specs.declared.events.Report.TheVariants as report
 
--- the task whose turn is told; none where no turn was
+-- The task whose turn is reported, or none if there was no turn.
 abbrev pub turn_of : Report → Option ℕ
 turn_of (report.Turn t replies ended) = Some t
 turn_of (report.Reply r) = None
@@ -14,7 +14,7 @@ turn_of report.Listed = None
 turn_of report.Unlisted = None
 turn_of (report.Drained tasks) = None
 
--- The tasks of the turns of a run, in order: for each turn event its task, or none where it was refused.
+-- The tasks of the turns of a run, in order: for each turn event its task, or none if it was refused.
 abbrev pub turns_of : List Event → List Report → List (Option ℕ)
 turns_of [] answers = []
 turns_of (e ∷ events) [] = []

@@ -14,7 +14,7 @@ use Rattle.mono_machine.specs.declared.events.Reply.TheVariants as reply
 use Rattle.mono_machine.specs.declared.events.Report.{Report}
 use Rattle.mono_machine.specs.declared.events.Report.TheVariants as report
 
--- the reply has an output: of a poll, or of the drop of a handle
+-- Whether the reply has an output, of a poll or of the drop of a handle.
 abbrev pub has_output : Reply → Bool
 has_output (reply.Output output) = true
 has_output (reply.Dropped (Some output)) = true
@@ -33,7 +33,7 @@ has_output reply.Ready = false
 has_output reply.Canceled = false
 has_output (reply.Refused r) = false
 
--- the call is on the handle of the task t, or of the job j: a poll, or the drop
+-- Whether the call polls or drops the handle of the task t, or of the job j.
 abbrev pub is_on_task_act : ℕ → Act → Bool
 is_on_task_act t (act.DropJoin u) = u == t
 is_on_task_act t act.Spawn = false
@@ -80,7 +80,7 @@ abbrev pub is_on_job : ℕ → TurnStep → Bool
 is_on_job j (step.Act a) = is_on_job_act j a
 is_on_job j (step.Query q) = is_on_job_query j q
 
--- how many of the calls that are meant were answered by an output
+-- How many of the chosen calls were answered by an output.
 abbrev pub hands : (TurnStep → Bool) → TurnStep → Reply → ℕ
 hands is_meant s r = once_if (is_meant s && has_output r)
 

@@ -1,4 +1,4 @@
--- What whole runs keep of a task.
+-- The facts of a task that whole runs keep.
 use Rattle.std.specs.Prelude.{ℕ, Bool, true, false, not, ◌==◌, ◌&&◌, ◌||◌, List, [], ◌∷◌, Option, Some, None, nat_lt}
 use Rattle.mono_model.specs.Ticks.{max_nanos}
 use Rattle.mono_model.specs.SleepAnswers.{waker_in}
@@ -26,7 +26,7 @@ use Rattle.mono_machine.specs.declared.events.Reply.TheVariants as reply
 use Rattle.mono_machine.specs.declared.events.Report.{Report}
 use Rattle.mono_machine.specs.declared.events.Report.TheVariants as report
 
--- the report is that of a turn of t
+-- Whether the report is that of a turn of t.
 abbrev pub is_turn_of : ℕ → Report → Bool
 is_turn_of t (report.Reply r) = false
 is_turn_of t (report.Turn me replies ended) = me == t
@@ -39,11 +39,11 @@ abbrev pub has_turn_of : ℕ → List Report → Bool
 has_turn_of t [] = false
 has_turn_of t (answer ∷ answers) = is_turn_of t answer || has_turn_of t answers
 
--- t is queued or waits in the inbox
+-- Whether t is queued or in the inbox.
 abbrev pub is_awaiting : ℕ → Machine → Bool
 is_awaiting t m = of_task is_queued (value_at m.tasks.table t) || is_waiting m.inbox t
 
--- the reply says that a wake queued the task or noted it
+-- Whether the reply says that a wake queued the task or noted it.
 abbrev pub has_effect : Woke → Bool
 has_effect woke.Queued = true
 has_effect woke.Noted = true
@@ -70,7 +70,7 @@ abbrev pub is_waker : Option ℕ → ℕ → Bool
 is_waker None t = false
 is_waker (Some u) t = u == t
 
--- The act woke t: by a wake, or by a reset to an instant that has come, of a sleep whose waker it was.
+-- Whether the act woke t: by a wake, or by a reset to an instant that has come, of a sleep whose waker t was.
 abbrev pub wakes_by_act : ℕ → Machine → Act → Reply → Bool
 wakes_by_act t m (act.Wake u) r = (u == t) && says_woken r
 wakes_by_act t m (act.Reset s n) r = not (nat_lt max_nanos n) && is_waker (waker_in (sleep.reset_answer m.sleeps s n)) t
@@ -89,18 +89,18 @@ abbrev pub wakes_by_step : ℕ → Machine → TurnStep → Reply → Bool
 wakes_by_step t m (step.Act a) r = wakes_by_act t m a r
 wakes_by_step t m (step.Query q) r = false
 
--- each step with its reply, at the machine that the steps before it left
+-- Whether some step woke t. Each step has its reply, and starts at the machine that the steps before it left.
 abbrev pub wakes_by_steps : ℕ → ℕ → Machine → List TurnStep → List Reply → Bool
 wakes_by_steps t me m [] replies = false
 wakes_by_steps t me m (s ∷ steps) [] = false
 wakes_by_steps t me m (s ∷ steps) (r ∷ replies) = wakes_by_step t m s r || wakes_by_steps t me (step_outcome me s m).machine steps replies
 
--- t is woken by a sleep that fires
+-- Whether a sleep that fires wakes t.
 abbrev pub wakes_by_fires : ℕ → Table Sleep → List ℕ → Bool
 wakes_by_fires t table [] = false
 wakes_by_fires t table (s ∷ fired) = is_waker (sleep.waker_in (value_at table s)) t || wakes_by_fires t table fired
 
--- the task that waits for the output of the task that ends its turn ready
+-- The task that waits for the output of the task that ends its turn ready.
 abbrev pub waiter_at : Option (Task ℕ) → Option ℕ
 waiter_at None = None
 waiter_at (Some task) = task.waiter
@@ -113,8 +113,8 @@ abbrev pub woken_by_turn : List ℕ → List TurnStep → End → Machine → Op
 woken_by_turn [] steps e m = None
 woken_by_turn (front ∷ rest) steps e m = woken_by_end e front (after_steps front steps (after_begin front rest m))
 
--- The report says that t was woken or noted, that it was listed or drained, that a sleep fired whose waker it was, or that
--- the task finished for which it waited.
+-- Whether the report says that t was woken: it was woken or noted, listed or drained, a sleep fired whose waker it was,
+-- or a task finished for which it waited.
 abbrev pub act_tells : ℕ → Machine → Act → Report → Bool
 act_tells t m a (report.Reply r) = wakes_by_act t m a r
 act_tells t m a (report.Turn me replies ended) = false
@@ -123,7 +123,7 @@ act_tells t m a report.Listed = false
 act_tells t m a report.Unlisted = false
 act_tells t m a (report.Drained tasks) = false
 
--- the machine once the front of the queue runs
+-- The machine once the front of the queue runs.
 abbrev pub begun_machine : List ℕ → Machine → Machine
 begun_machine [] m = m
 begun_machine (front ∷ rest) m = after_begin front rest m

@@ -1,4 +1,4 @@
--- What a call on a job answers and leaves. A refusal changes nothing.
+-- The answer of each call on a job, and the jobs afterwards. A refusal changes nothing.
 use Rattle.std.specs.Prelude.{ℕ, Bool, true, false, if◌then◌else◌, Option, Some, None, Result, Ok, Err}
 use Rattle.mono_model.specs.Table.{value_at, is_issued, with_next, with_value, without}
 use Rattle.mono_model.specs.Jobs.{Jobs, Job}
@@ -19,7 +19,7 @@ with_next_job jobs value = record { table = with_next jobs.table value; limit = 
 abbrev pub without_job : Jobs → ℕ → Jobs
 without_job jobs j = record { table = without jobs.table j; limit = jobs.limit }
 
--- The job j, where its handle is kept. Else it was never given out, or its handle is dropped.
+-- The job j if its handle is kept, else the refusal: it was never given out, or its handle is dropped.
 abbrev pub kept_value : Option Job → Result Job Refusal
 kept_value None = Err refusal.NoHandle
 kept_value (Some value) = Ok value
@@ -31,7 +31,7 @@ abbrev pub yes_or_no : Bool → Reply
 yes_or_no true = reply.Yes
 yes_or_no false = reply.No
 
--- The drop of the handle: the job is gone, and an output that nobody took comes back.
+-- The output that a drop of the handle returns. The job is removed, and an output that was not taken comes back.
 abbrev pub output_of : Job → Option ℕ
 output_of (job.running output waiter) = None
 output_of (job.ended_ok output) = Some output
@@ -66,8 +66,8 @@ finished_value (Err error) = Err error
 abbrev pub finished_answer : Jobs → ℕ → Result Reply Refusal
 finished_answer jobs j = finished_value (kept_job jobs j)
 
--- The end of the job: its waiter is answered, and nobody waits for it any longer. Nobody is woken. A job whose handle
--- was dropped may end too, and nothing changes.
+-- The job after its end. Its waiter is answered, waits no longer, and is not woken. A job whose handle was dropped may
+-- end too, and nothing changes.
 abbrev pub ended_as : How → ℕ → Job
 ended_as how.Ran output = job.ended_ok output
 ended_as how.Canceled output = job.ended_canceled
@@ -92,8 +92,8 @@ ended_value (Some job.taken) jobs j h = jobs
 abbrev pub job_ended : Jobs → ℕ → How → Jobs
 job_ended jobs j h = ended_value (value_at jobs.table j) jobs j h
 
--- A poll of the handle by a task. What is known of an ended job is answered once, and until then the task waits for it,
--- in the place of any other.
+-- The answer of a poll of the handle by a task. The result of an ended job is answered once; until then the task waits
+-- for it, instead of any earlier one.
 abbrev pub poll_in : Job → Result Reply Refusal
 poll_in (job.running output waiter) = Ok reply.Pending
 poll_in (job.ended_ok output) = Ok (reply.Output output)

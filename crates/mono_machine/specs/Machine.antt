@@ -1,4 +1,4 @@
--- The plain machine.
+-- The reference machine.
 use Rattle.std.specs.Prelude.{◌<◌, ◌≤◌, ℕ, List, [], Option, None, IfSome}
 use Rattle.mono_model.specs.Table.{value_at, next_number, count_of}
 use Rattle.mono_model.specs.Tasks.{Tasks, no_tasks}
@@ -16,7 +16,7 @@ pub record Machine : Type 0 where
   pub inbox : List ℕ
   pub strategy : Blocking
 
--- nothing was given out yet, and the clock stands at 0
+-- The machine in which nothing was given out and the clock is at 0.
 abbrev pub start_machine : Limits → Blocking → Machine
 start_machine limits strategy = record {
   tasks = no_tasks limits.tasks;
@@ -48,12 +48,12 @@ pub record AreValidJobs (next : ℕ) (jobs : Jobs) : Type 0 where
   pub each : (j : ℕ) → IfSome (value_at jobs.table j) (IsValidJob next)
   pub within : count_of jobs.table ≤ jobs.limit
 
--- the inbox has each task at most once, and only tasks that were given out
+-- The inbox has each task at most once, and only tasks that were given out.
 pub record IsValidInbox (next : ℕ) (inbox : List ℕ) : Type 0 where
   pub once : (t : ℕ) → times inbox t ≤ 1
   pub are_issued : (t : ℕ) → 0 < times inbox t → t < next
 
--- the machine while a task has the turn, or between two events, when none has
+-- The machine while a task has the turn, or between two events, when no task has it.
 pub record IsValidDuring (turn : Option ℕ) (m : Machine) : Type 0 where
   pub tasks : AreValidTasks turn m.tasks
   pub sleeps : AreValidSleeps (next_number m.tasks.table) m.sleeps

@@ -9,7 +9,7 @@ use Rattle.mono_machine.specs.declared.events.Refusal.TheVariants as refusal
 use Rattle.mono_machine.specs.JobCalls.{yes_or_no}
 use Rattle.std.specs.Prelude.{None}
 
--- a sleep was never given out, or is gone
+-- The reply for a sleep that was never given out or was dropped.
 abbrev pub no_timer : Reply
 no_timer = reply.Refused refusal.NoTimer
 
@@ -26,6 +26,6 @@ abbrev pub elapsed_reply : Result Bool Error → Reply
 elapsed_reply (Ok is) = yes_or_no is
 elapsed_reply (Err e) = no_timer
 
--- a sleep that is reset to an instant whose tick has come has elapsed
+-- The reply of a reset. A sleep that is reset to an instant whose tick has come has elapsed.
 abbrev pub reset_reply : ℕ → ℕ → Reply
 reset_reply greatest tick = if nat_le tick greatest then reply.Elapsed else reply.Armed

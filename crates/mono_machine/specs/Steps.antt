@@ -1,4 +1,4 @@
--- From old, the machine may answer the event with this report and go on to new.
+-- From old, the machine may answer the event with this report and become new.
 use Rattle.std.specs.Prelude.{◌≡◌, ◌<◌, ◌≤◌, ℕ, max, Bool, true, if◌then◌else◌, ◌||◌, List, [], ◌∷◌, Option, Some, None}
 use Rattle.mono_model.specs.Ticks.{max_nanos, down}
 use Rattle.mono_model.specs.Table.{value_at, is_issued}
@@ -16,7 +16,7 @@ use Rattle.mono_machine.specs.declared.events.Refusal.TheVariants as refusal
 use Rattle.mono_machine.specs.declared.events.Report.{Report}
 use Rattle.mono_machine.specs.declared.events.Report.TheVariants as report
 
--- One sleep fires: it has elapsed, and its waker is woken.
+-- The machine after one sleep fires: it has elapsed, and its waker is woken.
 abbrev pub after_fire : Machine → ℕ → Machine
 after_fire m s = with_tasks (with_sleeps m (sleep.fired m.sleeps s)) (woken_if_any m.tasks (sleep.waker_at m.sleeps s))
 
@@ -24,22 +24,22 @@ abbrev pub after_fires : Machine → List ℕ → Machine
 after_fires m [] = m
 after_fires m (s ∷ fired) = after_fires (after_fire m s) fired
 
--- The sleeps alone that are left once several have fired.
+-- The sleeps alone after several have fired.
 abbrev pub all_fired : Sleeps → List ℕ → Sleeps
 all_fired sleeps [] = sleeps
 all_fired sleeps (s ∷ fired) = all_fired (sleep.fired sleeps s) fired
 
--- a waker, if there is one, before others
+-- A waker, if there is one, before others.
 abbrev pub with_first : Option ℕ → List ℕ → List ℕ
 with_first None wakers = wakers
 with_first (Some t) wakers = t ∷ wakers
 
--- the wakers of sleeps that fire one after another, each as it is when its sleep fires
+-- The wakers of sleeps that fire one after another, each as it is when its sleep fires.
 abbrev pub wakers_of : Sleeps → List ℕ → List ℕ
 wakers_of sleeps [] = []
 wakers_of sleeps (s ∷ fired) = with_first (sleep.waker_at sleeps s) (wakers_of (sleep.fired sleeps s) fired)
 
--- the greatest tick once the clock shows n
+-- The greatest tick once the clock shows n.
 abbrev pub greatest_at : Machine → ℕ → ℕ
 greatest_at m n = max m.sleeps.greatest (down n)
 
@@ -56,7 +56,7 @@ ClockStep old n report.Listed new = ⊥
 ClockStep old n report.Unlisted new = ⊥
 ClockStep old n (report.Drained tasks) new = ⊥
 
--- A task that was given out and is not there has finished.
+-- Whether a task that was given out has finished. A task that is not there has finished.
 abbrev pub has_finished : Option (Task ℕ) → Bool
 has_finished None = true
 has_finished (Some task) = is_finished task.phase
@@ -83,7 +83,7 @@ Step old (event.Clock n) answer new = ClockStep old n answer new
 Step old (event.Remote t) answer new = (answer ≡ remote_report old t) × (new ≡ after_remote old t)
 Step old event.Drain answer new = (answer ≡ report.Drained old.inbox) × (new ≡ after_drain old)
 
--- one step after another, with one report for each event
+-- A run: one step after another, with one report for each event.
 abbrev pub Run : Machine → List Event → List Report → Machine → Type 0
 Run old [] [] new = new ≡ old
 Run old (event ∷ events) (answer ∷ answers) new = (mid : Machine) × Step old event answer mid × Run mid events answers new

@@ -14,7 +14,7 @@ use Rattle.mono_machine.specs.declared.events.Refusal.TheVariants as refusal
 use Rattle.mono_machine.specs.declared.events.Report.{Report}
 use Rattle.mono_machine.specs.declared.events.Report.TheVariants as report
 
--- each step is answered, refused or not, and the next one finds what it left
+-- The replies of the steps. Each step is answered, refused or not, and the next one starts at the machine that it left.
 abbrev pub replies_of : ℕ → List TurnStep → Machine → List Reply
 replies_of me [] m = []
 replies_of me (step ∷ steps) m = (step_outcome me step m).reply ∷ replies_of me steps (step_outcome me step m).machine
@@ -23,7 +23,7 @@ abbrev pub after_steps : ℕ → List TurnStep → Machine → Machine
 after_steps me [] m = m
 after_steps me (step ∷ steps) m = after_steps me steps (step_outcome me step m).machine
 
--- what the end of the turn answers, and what it leaves
+-- The answer of the end of the turn, and the machine after it.
 abbrev pub end_answer : End → ℕ → Machine → Ended
 end_answer end.Pending me m = pause_answer (value_at m.tasks.table me)
 end_answer (end.Ready output) me m = complete_answer (value_at m.tasks.table me)
@@ -32,11 +32,11 @@ abbrev pub after_end : End → ℕ → Machine → Machine
 after_end end.Pending me m = with_tasks m (paused_value (value_at m.tasks.table me) m.tasks me)
 after_end (end.Ready output) me m = with_tasks m (completed_value (value_at m.tasks.table me) m.tasks me output)
 
--- the machine once the front runs
+-- The machine once the front runs.
 abbrev pub after_begin : ℕ → List ℕ → Machine → Machine
 after_begin front rest m = with_tasks m (begun m.tasks front rest)
 
--- Where the queue is empty the turn is refused, and no step is done.
+-- The report of a turn. If the queue is empty, the turn is refused and no step is done.
 abbrev pub turn_report_for : List ℕ → List TurnStep → End → Machine → Report
 turn_report_for [] steps e m = report.Reply (reply.Refused refusal.Idle)
 turn_report_for (front ∷ rest) steps e m =

@@ -1,4 +1,4 @@
--- What a task may wait for in the machine, who waits, and what ends such a wait.
+-- The sources for which a task may wait in the machine, the waiting task, and the ends of such a wait.
 use Rattle.std.specs.Prelude.{◌≡◌, ◌⊎◌, ℕ, Bool, true, false, not, ◌==◌, ◌&&◌, ◌||◌, List, [], ◌∷◌, Option, Some, None}
 use Rattle.mono_model.specs.Table.{value_at}
 use Rattle.mono_model.specs.Inbox.{is_waiting}
@@ -22,7 +22,7 @@ use Rattle.mono_machine.specs.declared.events.Reply.TheVariants as reply
 use Rattle.mono_machine.specs.declared.events.Report.{Report}
 use Rattle.mono_machine.specs.declared.events.Report.TheVariants as report
 
--- a sleep, the end of a task, or the end of a job
+-- A sleep, the end of a task, or the end of a job.
 pub data Source : Type 0 where
   of_sleep : (s : ℕ) → Source
   of_task : (u : ℕ) → Source
@@ -43,7 +43,7 @@ is_job k (of_sleep s) = false
 is_job k (of_task u) = false
 is_job k (of_job j) = k == j
 
--- the task that waits for a job
+-- The task that waits for a job.
 abbrev pub job_waiter : Option job.Job → Option ℕ
 job_waiter None = None
 job_waiter (Some (job.running output waiter)) = waiter
@@ -57,11 +57,11 @@ watcher m (of_sleep s) = sleep.waker_at m.sleeps s
 watcher m (of_task u) = waiter_at (value_at m.tasks.table u)
 watcher m (of_job j) = job_waiter (value_at m.jobs.table j)
 
--- t waits for x
+-- Whether t waits for x.
 abbrev pub IsWatched : Machine → ℕ → Source → Type 0
 IsWatched m t x = watcher m x ≡ Some t
 
--- The act drops the source. The end of a job is one of them: it answers who waited, and wakes nobody.
+-- Whether the act drops the source. The end of a job counts: it answers the waiter, and wakes no task.
 abbrev pub drops : Source → Act → Bool
 drops x (act.DropSleep s) = is_sleep s x
 drops x (act.DropJoin u) = is_task u x
@@ -81,7 +81,7 @@ polls x (query.Sleep s) = is_sleep s x
 polls x (query.Join u) = is_task u x
 polls x (query.Job j) = is_job j x
 
--- The step ends the wait of t for x and wakes nobody: a drop of x, or a poll of x in the turn of another task.
+-- Whether the step ends the wait of t for x and wakes no task: a drop of x, or a poll of x in the turn of another task.
 abbrev pub takes : ℕ → ℕ → Source → TurnStep → Bool
 takes t me x (step.Act a) = drops x a
 takes t me x (step.Query q) = not (me == t) && polls x q
@@ -103,7 +103,7 @@ says_elapsed (reply.Output output) = false
 says_elapsed reply.Canceled = false
 says_elapsed (reply.Refused r) = false
 
--- The act wakes who waits for x: a reset of the sleep, which has elapsed at once.
+-- Whether the act wakes the watcher of x: a reset of the sleep, which has elapsed at once.
 abbrev pub fires_by : Source → Act → Reply → Bool
 fires_by x (act.Reset s n) r = is_sleep s x && says_elapsed r
 fires_by x act.Spawn r = false
@@ -122,19 +122,19 @@ abbrev pub fires_step : Source → TurnStep → Reply → Bool
 fires_step x (step.Act a) r = fires_by x a r
 fires_step x (step.Query q) r = false
 
--- x fires in a turn, before its wait is ended otherwise
+-- Whether x fires in a turn, before its wait is ended otherwise.
 abbrev pub fires_in : ℕ → ℕ → Source → List TurnStep → List Reply → Bool
 fires_in t me x [] replies = false
 fires_in t me x (s ∷ steps) [] = false
 fires_in t me x (s ∷ steps) (r ∷ replies) = fires_step x s r || (not (takes t me x s) && fires_in t me x steps replies)
 
--- the wait for x is ended in a turn, before x fires
+-- Whether the wait for x is ended in a turn, before x fires.
 abbrev pub takes_in : ℕ → ℕ → Source → List TurnStep → List Reply → Bool
 takes_in t me x [] replies = false
 takes_in t me x (s ∷ steps) [] = false
 takes_in t me x (s ∷ steps) (r ∷ replies) = takes t me x s || (not (fires_step x s r) && takes_in t me x steps replies)
 
--- the end of a turn of the task u, whose handle is kept, with an output
+-- Whether a turn of the task u, whose handle is kept, ended with an output.
 abbrev pub is_done : Ended → Bool
 is_done ended.Done = true
 is_done ended.Idle = false
@@ -146,7 +146,8 @@ is_fired (of_sleep s) fired = is_waiting fired s
 is_fired (of_task u) fired = false
 is_fired (of_job j) fired = false
 
--- x fires: its sleep is listed by a clock step, or is reset to an instant that has come, or its task has finished.
+-- Whether x fires: a clock step lists its sleep, or its sleep is reset to an instant that has come, or its task has
+-- finished.
 abbrev pub fires : ℕ → Source → Event → Report → Bool
 fires t x (event.Act a) (report.Reply r) = fires_by x a r
 fires t x (event.Turn steps e) (report.Turn me replies end) =
@@ -154,26 +155,26 @@ fires t x (event.Turn steps e) (report.Turn me replies end) =
 fires t x (event.Clock n) (report.Fired fired) = is_fired x fired
 fires t x e answer = false
 
--- The event ends the wait of t for x and wakes nobody: a drop of x, the end of its job, or a poll of x in the turn of
--- another task.
+-- Whether the event ends the wait of t for x and wakes no task: a drop of x, the end of its job, or a poll of x in the
+-- turn of another task.
 abbrev pub is_taken : ℕ → Source → Event → Report → Bool
 is_taken t x (event.Act a) answer = drops x a
 is_taken t x (event.Turn steps e) (report.Turn me replies end) = takes_in t me x steps replies
 is_taken t x e answer = false
 
--- the wait of t for x is ended in a run by a drop, the end of a job, or a poll by another task
+-- Whether the wait of t for x is ended in a run by a drop, the end of a job, or a poll by another task.
 abbrev pub is_taken_in : ℕ → Source → List Event → List Report → Bool
 is_taken_in t x [] answers = false
 is_taken_in t x (e ∷ events) [] = false
 is_taken_in t x (e ∷ events) (answer ∷ answers) = is_taken t x e answer || is_taken_in t x events answers
 
--- x never fires in a run, and the wait of t for it is not ended otherwise
+-- Whether x never fires in a run, and the wait of t for it is not ended otherwise.
 abbrev pub is_untouched : ℕ → Source → List Event → List Report → Bool
 is_untouched t x [] answers = true
 is_untouched t x (e ∷ events) [] = true
 is_untouched t x (e ∷ events) (answer ∷ answers) = not (fires t x e answer) && (not (is_taken t x e answer) && is_untouched t x events answers)
 
--- queued, noted, finished or gone: of the running task, noted
+-- Whether a task is queued, noted, finished or removed. If it is running, whether it is noted.
 abbrev pub is_stirred : {O : Type 0} → Phase O → Bool
 is_stirred idle = false
 is_stirred queued = true
@@ -185,7 +186,7 @@ abbrev pub is_stirred_in : {O : Type 0} → Option (Task O) → Bool
 is_stirred_in None = true
 is_stirred_in (Some task) = is_stirred task.phase
 
--- t waits for x, or was woken in the turn that it has
+-- Whether t waits for x, or was woken in its running turn.
 abbrev pub Hears : Machine → ℕ → Source → Type 0
 Hears m t x = IsWatched m t x ⊎ (is_stirred_in (value_at m.tasks.table t) ≡ true)
 
@@ -193,11 +194,11 @@ abbrev pub drops_step : Source → TurnStep → Bool
 drops_step x (step.Act a) = drops x a
 drops_step x (step.Query q) = false
 
--- a step drops x, or is the end of its job
+-- Whether a step drops x, or is the end of its job.
 abbrev pub drops_in : Source → List TurnStep → Bool
 drops_in x [] = false
 drops_in x (s ∷ steps) = drops_step x s || drops_in x steps
 
--- t waits for x, or is queued, noted or in the inbox, or has finished
+-- Whether t waits for x, or is queued, noted or in the inbox, or has finished.
 abbrev pub IsHeld : Machine → ℕ → Source → Type 0
 IsHeld m t x = IsWatched m t x ⊎ ((is_stirred_in (value_at m.tasks.table t) || is_waiting m.inbox t) ≡ true)

@@ -1,40 +1,41 @@
-// What the machine is told, and what it answers.
+// The inputs of the machine, and its answers.
 use crate::{Ended, List, Woke};
 
-/// A call that stands by itself or in a turn.
+/// A call by itself or in a turn.
 ///
-/// Tasks, jobs and sleeps go by their numbers, which count from 0 and are never given twice. A task or a job has a handle,
-/// which is kept until it is dropped. Where several refusals are named, the first that holds is the answer.
+/// Tasks, jobs and sleeps have numbers, which count from 0 and are never given twice. A task or a job has a handle,
+/// which is kept until it is dropped. If several refusals are named, the first that holds is the answer.
 #[derive(Clone, Copy, Debug, PartialEq, Eq)]
 pub enum Act {
-    /// Makes a task, which is queued last. Refused as `AtCapacity`.
+    /// Makes a task at the queue's back. Refused as `AtCapacity`.
     Spawn,
     /// Wakes a task. Refused as `NoTask`.
     Wake(u64),
-    /// Makes a sleep until a deadline, in nanoseconds from the clock's zero; it is not armed yet. Refused as
-    /// `AtCapacity`, and then as `Invalid`.
+    /// Makes a sleep until a deadline, in nanoseconds from the clock's zero. It is not armed yet. Refused as
+    /// `AtCapacity`, then as `Invalid`.
     NewSleep(u128),
-    /// Arms a sleep at another deadline, in nanoseconds from the clock's zero. Where the tick of that deadline has come,
-    /// the sleep has elapsed and its waker is woken; else it keeps its waker. Refused as `NoTimer`, and then as `Invalid`.
+    /// Arms a sleep at another deadline, in nanoseconds from the clock's zero. If the tick of that deadline has come,
+    /// the sleep has elapsed and its waker is woken; otherwise it keeps its waker. Refused as `NoTimer`, then as
+    /// `Invalid`.
     Reset(u64, u128),
-    /// Drops a sleep, which is gone and wakes nobody. Refused as `NoTimer`.
+    /// Drops a sleep, which wakes no task. Refused as `NoTimer`.
     DropSleep(u64),
     /// Asks whether a sleep has elapsed. Refused as `NoTimer`.
     SleepElapsed(u64),
-    /// Drops the handle of a task. A task that has finished is gone, and an output that nobody took comes back; any other
-    /// runs on, and nobody waits for it. Refused as `NoTask`, and then as `NoHandle`.
+    /// Drops the handle of a task. A finished task is removed, and an output that was not taken comes back. Any other
+    /// task runs on, and no task waits for it. Refused as `NoTask`, then as `NoHandle`.
     DropJoin(u64),
-    /// Makes a blocking job whose output will have this number. Refused as `AtCapacity`, and then as `NoPool`.
+    /// Makes a blocking job whose output will have this number. Refused as `AtCapacity`, then as `NoPool`.
     Block(u64),
-    /// Drops the handle of a job, which is gone; an output that nobody took comes back. Refused as `NoTask`, and then as
-    /// `NoHandle`.
+    /// Drops the handle of a job, which is removed. An output that was not taken comes back. Refused as `NoTask`, then
+    /// as `NoHandle`.
     DropJob(u64),
-    /// Asks whether a task has finished. Refused as `NoTask`, and then as `NoHandle`.
+    /// Asks whether a task has finished. Refused as `NoTask`, then as `NoHandle`.
     Finished(u64),
-    /// Asks whether a job has ended. Refused as `NoTask`, and then as `NoHandle`.
+    /// Asks whether a job has ended. Refused as `NoTask`, then as `NoHandle`.
     JobFinished(u64),
-    /// A job has ended. Its waiter is answered and waits no longer; it is not woken. Refused as `NoTask`, and then as
-    /// `Ended`; the end of a job whose handle was dropped changes nothing.
+    /// Ends a job. The answer names its waiter, which waits no longer and is not woken. Refused as `NoTask`, then as
+    /// `Ended`. The end of a job whose handle was dropped changes nothing.
     JobEnd(u64, How),
 }
 
@@ -50,11 +51,11 @@ pub enum How {
 /// A poll, by the task whose turn it is.
 #[derive(Clone, Copy, Debug, PartialEq, Eq)]
 pub enum Query {
-    /// Polls a sleep. One that was never polled is armed first. Refused as `NoTimer`.
+    /// Polls a sleep. A poll arms a sleep that was never polled. Refused as `NoTimer`.
     Sleep(u64),
-    /// Polls for the output of a task. Refused as `NoTask`, then as `NoHandle`, and then as `Taken`.
+    /// Polls for the output of a task. Refused as `NoTask`, then as `NoHandle`, then as `Taken`.
     Join(u64),
-    /// Polls for the output of a job. Refused as `NoTask`, then as `NoHandle`, and then as `Taken`.
+    /// Polls for the output of a job. Refused as `NoTask`, then as `NoHandle`, then as `Taken`.
     Job(u64),
 }
 
@@ -67,7 +68,7 @@ pub enum TurnStep {
     Query(Query),
 }
 
-/// What the task answers at the end of its turn.
+/// The answer of the task at the end of its turn.
 #[derive(Clone, Copy, Debug, PartialEq, Eq)]
 pub enum End {
     /// It waits for a wake.
@@ -83,34 +84,34 @@ pub enum Event {
     Act(Act),
     /// A turn of the task at the queue's front: its steps in order, and its end. Refused as `Idle`.
     Turn(List<TurnStep>, End),
-    /// The clock shows so many nanoseconds from its zero. Refused as `Invalid`.
+    /// The clock shows this number of nanoseconds from its zero. Refused as `Invalid`.
     Clock(u128),
     /// Another thread wakes a task, which then waits in the inbox. Refused as `NoTask`.
     Remote(u64),
-    /// Each task that waits in the inbox is woken, in order.
+    /// Wakes each task in the inbox, in order.
     Drain,
 }
 
-/// Why an act, a poll or an event was refused. Nothing has changed then.
+/// The reason why an act, a poll or an event was refused. A refusal changes nothing.
 #[derive(Clone, Copy, Debug, PartialEq, Eq)]
 pub enum Refusal {
     /// No task is queued.
     Idle,
     /// No task or job was ever given this number.
     NoTask,
-    /// No sleep was ever given this number, or it is gone.
+    /// No sleep was ever given this number, or the sleep was dropped.
     NoTimer,
     /// The handle of the task or the job was dropped.
     NoHandle,
-    /// The output of the task or the job was taken, or it is known already that the job has none.
+    /// The output of the task or the job was taken, or a poll has already reported that the job has none.
     Taken,
-    /// As many tasks, jobs or sleeps are there as the limit allows, or their numbers are used up: the next is 2^64 - 1.
+    /// The tasks, jobs or sleeps are at their limit, or their numbers are used up: the next is 2^64 - 1.
     AtCapacity,
     /// A deadline or a clock value is above `MAX_NANOS`.
     Invalid,
     /// No blocking job may be made here.
     NoPool,
-    /// The job has ended already.
+    /// The job has already ended.
     Ended,
 }
 
@@ -127,7 +128,7 @@ pub enum Reply {
     Armed,
     /// The sleep that was reset has elapsed at once.
     Elapsed,
-    /// The handle or the sleep was dropped. An output that nobody took comes back.
+    /// The handle or the sleep was dropped. An output that was not taken comes back.
     Dropped(Option<u64>),
     /// The job with this number was made.
     Job(u64),
@@ -137,7 +138,7 @@ pub enum Reply {
     No,
     /// The job has ended, and this task waited for it.
     Ended(Option<u64>),
-    /// The sleep is armed, or the output is to come, and the task that polled is the one that is woken.
+    /// The sleep is armed, or the output is to come. The task that polled is the one to be woken.
     Pending,
     /// The sleep has elapsed.
     Ready,
@@ -160,13 +161,13 @@ pub enum Report {
     Fired(List<u64>),
     /// The task that another thread woke waits in the inbox, last.
     Listed,
-    /// The task that another thread woke has finished or waits in the inbox already.
+    /// The task that another thread woke has finished or already waits in the inbox.
     Unlisted,
     /// The tasks that waited in the inbox, in order. Each was woken.
     Drained(List<u64>),
 }
 
-/// How many tasks, jobs and sleeps may be there at a time.
+/// How many tasks, jobs and sleeps may exist at a time.
 #[derive(Clone, Copy, Debug, PartialEq, Eq)]
 pub struct Limits {
     /// Tasks that are unfinished or whose handle is kept.
@@ -177,7 +178,7 @@ pub struct Limits {
     pub sleeps: u64,
 }
 
-/// Where a blocking job runs.
+/// The place where a blocking job runs.
 #[derive(Clone, Copy, Debug, PartialEq, Eq)]
 pub enum Blocking {
     /// On a thread of the pool.

@@ -1,4 +1,4 @@
-//! The plain machine: its events and reports, and what each event may answer and leave.
+//! The reference machine: its events and reports, and what each event may answer and leave.
 #![tactic(auto)]
 
 mod events;

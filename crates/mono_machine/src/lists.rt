@@ -19,7 +19,7 @@ impl<T> Model for List<T> {
 }
 
 impl<T> List<T> {
-    /// The empty list. It takes no memory yet.
+    /// Returns the empty list, which takes no memory yet.
     pub fn new(alloc: Global) -> List<T>
         ensures { result ≡ [] }
     {
@@ -30,7 +30,7 @@ impl<T> List<T> {
 }
 
 impl<T> From<Vec<T>> for List<T> {
-    /// The list of the items of a vector.
+    /// Returns the list of the items of a vector.
     fn from(items: Vec<T>) -> List<T>
         ensures { result ≡ items.items }
     {
@@ -39,7 +39,7 @@ impl<T> From<Vec<T>> for List<T> {
 }
 
 impl<T: Drop> List<T> {
-    /// Puts an item at the end. Where memory is refused the list stays as it was.
+    /// Appends an item. If out of memory, the list stays unchanged.
     pub fn push(&mut self, item: T) -> Result<(), AllocError>
         ensures ok { OnOk result (self.new ≡ self.old ++ item ∷ []) }
         ensures err { OnErr result (self.new ≡ self.old) }
@@ -48,7 +48,7 @@ impl<T: Drop> List<T> {
         Ok(())
     }
 
-    /// Takes all items out. The list keeps its memory.
+    /// Removes all items. The list keeps its memory.
     pub fn clear(&mut self)
         ensures { self.new ≡ [] }
     {
@@ -57,21 +57,21 @@ impl<T: Drop> List<T> {
 }
 
 impl<T> List<T> {
-    /// How many items there are.
+    /// Returns how many items there are.
     pub fn len(&self) -> usize
         ensures { result ≡ length self.now }
     {
         self.items.len()
     }
 
-    /// Whether there is no item.
+    /// Returns whether there is no item.
     pub fn is_empty(&self) -> bool
         ensures { result ≡ (length self.now == 0) }
     {
         self.items.is_empty()
     }
 
-    /// The item at a place, counted from 0, or none from the length on.
+    /// Returns the item at a place, counted from 0, or `None` if the place is not below the length.
     pub fn get(&self, place: usize) -> Option<&T>
         ensures some { IfSome result (λ item. slice_get self.now place ≡ Some item.now) }
         ensures none { IfNone result (length self.now ≤ place) }
@@ -79,7 +79,7 @@ impl<T> List<T> {
         self.items.get(place)
     }
 
-    /// The items as a slice.
+    /// Returns the items as a slice.
     pub fn as_slice(&self) -> &[T]
         ensures { result.now ≡ self.now }
     {

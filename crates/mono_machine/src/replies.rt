@@ -1,4 +1,4 @@
-// The replies by which the machine gives the answers of calls.
+// The replies of the machine for the answers of calls.
 ghost use Rattle.std.specs.Prelude.{◌≡◌, ◌≤◌};
 ghost use Rattle.mono_model.specs.Ticks.{up, max_nanos};
 ghost use Rattle.mono_machine.specs.Acts.{reply_of};
