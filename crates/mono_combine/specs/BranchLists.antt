@@ -9,12 +9,12 @@ use Rattle.mono_combine.specs.declared.maybe.MaybeDone.TheVariants.{Gone}
 use Rattle.mono_combine.specs.Branches.{Advances, maybe_spent, MaybeCanPoll, MaybeCancels, output_of}
 use Rattle.mono_combine.specs.Rules.{join_rule}
 
--- nothing is left of the branches
+-- Whether each branch was given up or its output was taken.
 abbrev pub AllGone : {C T O : Type 0} → List (MaybeDone C T O) → Type 0
 AllGone [] = ⊤
 AllGone (m ∷ ms) = (m ≡ Gone) × AllGone ms
 
--- each branch has its turn once, in the written order
+-- Whether each branch has its turn once, in the written order.
 abbrev pub EachInTurn : {M C : Type 0} → (M → C → M → C → Type 0) → List M → C → List M → C → Type 0
 EachInTurn step [] c [] d = d ≡ c
 EachInTurn step [] c (n ∷ ns) d = ⊥
@@ -33,12 +33,12 @@ module _ {C T O : Type 0} (future : FutureOf T C O) where
   AllCanPoll [] = ⊤
   AllCanPoll (m ∷ ms) = MaybeCanPoll future m × AllCanPoll ms
 
-  -- what is left of the branch is given up
+  -- Whether the branch is given up, or its output dropped.
   abbrev pub GivesUp : MaybeDone C T O → C → MaybeDone C T O → C → Type 0
   GivesUp m c n d = (n ≡ Gone) × MaybeCancels future m c d
 
-  -- each branch that is not done is polled once, in the written order, and the answer is the rule's; where it ends nothing
-  -- is left to be given up
+  -- Each branch that is not done is polled once, in the written order, and the rule gives the answer. Once it has
+  -- answered, no branch remains to be given up.
   pub record JoinListPolls (branches : List (MaybeDone C T O)) (c : C) (r : Poll (List O)) (left : List (MaybeDone C T O)) (has_answered : Bool) (d : C) : Type 0 where
     pub polled : List (MaybeDone C T O)
     pub turns : EachInTurn (Advances future) branches c polled d
@@ -46,11 +46,11 @@ module _ {C T O : Type 0} (future : FutureOf T C O) where
     pub waits : OnPending r ((left ≡ polled) × (has_answered ≡ false))
     pub ends : OnReady r ((has_answered ≡ true) × AllGone left)
 
-  -- what is left of the branches is given up in the written order
+  -- Whether the branches that remain are given up in the written order.
   abbrev pub AllCancel : List (MaybeDone C T O) → C → C → Type 0
   AllCancel branches c d = (left : List (MaybeDone C T O)) × EachInTurn GivesUp branches c left d
 
--- the answer with a vector seen as the list of its items
+-- The answer, with a vector seen as the list of its items.
 abbrev pub answer_as : {V O : Type 0} → (V → List O) → Poll V → Poll (List O)
 answer_as items (Ready v) = Ready (items v)
 answer_as items Pending = Pending

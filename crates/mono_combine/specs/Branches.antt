@@ -1,4 +1,4 @@
--- Branches that keep their output: what one poll of them does, and what is left.
+-- Branches that keep their output: the effect of one poll, and the branch after it.
 use Rattle.std.specs.Prelude.{◌≡◌, ⊤, Bool, true, false, Option, Some, None}
 use Rattle.mono_task.specs.Members.{FutureOf}
 use Rattle.mono_model.specs.Poll.{is_pending}
@@ -8,31 +8,31 @@ use Rattle.mono_combine.specs.declared.maybe.MaybeDone.{MaybeDone}
 use Rattle.mono_combine.specs.declared.maybe.MaybeDone.TheVariants.{Future, Done, Gone}
 
 module _ {C Fut O : Type 0} where
-  -- its output is still to come
+  -- Whether its output is still to come.
   abbrev pub is_waiting : MaybeDone C Fut O → Bool
   is_waiting (Future f) = true
   is_waiting (Done x) = false
   is_waiting Gone = false
 
-  -- the output that is there
+  -- The output, if the branch has one.
   abbrev pub output_of : MaybeDone C Fut O → Option O
   output_of (Future f) = None
   output_of (Done x) = Some x
   output_of Gone = None
 
-  -- what is left once an output that is there was taken
+  -- The branch after its output, if it has one, was taken.
   abbrev pub without_output : MaybeDone C Fut O → MaybeDone C Fut O
   without_output (Future f) = Future f
   without_output (Done x) = Gone
   without_output Gone = Gone
 
--- what it may still give, or has given
+-- Whether the branch may still give, or has given, the output.
 abbrev pub MaybeGives : {C Fut O : Type 0} → (Fut → O → Type 0) → MaybeDone C Fut O → O → Type 0
 MaybeGives gives (Future f) x = gives f x
 MaybeGives gives (Done y) x = x ≡ y
 MaybeGives gives Gone x = ⊥
 
--- it gives no more than before
+-- Whether the branch gives no more than before.
 abbrev pub MaybeNarrows : {C Fut O : Type 0} → (Fut → O → Type 0) → MaybeDone C Fut O → MaybeDone C Fut O → Type 0
 MaybeNarrows {C} {Fut} {O} gives n m = (x : O) → MaybeGives gives n x → MaybeGives gives m x
 
@@ -47,7 +47,7 @@ module _ {C Fut O : Type 0} (future : FutureOf Fut C O) where
   MaybeCanPoll (Done x) = ⊤
   MaybeCanPoll Gone = ⊤
 
-  -- a future that was ready is given up at once, and its output stands in its place
+  -- A future that was ready is given up at once, and its output takes its place.
   abbrev pub AfterBranch : Poll O → Fut → C → MaybeDone C Fut O → C → Type 0
   AfterBranch (Ready x) g c n d = future.cancels g c d × (n ≡ Done x)
   AfterBranch Pending g c n d = (n ≡ Future g) × (d ≡ c)
@@ -59,7 +59,7 @@ module _ {C Fut O : Type 0} (future : FutureOf Fut C O) where
     pub polled : future.polls f c answer left middle
     pub rest : AfterBranch answer left middle n d
 
-  -- a future is polled once, and an output stays
+  -- Whether a future is polled once, and an output stays.
   abbrev pub Advances : MaybeDone C Fut O → C → MaybeDone C Fut O → C → Type 0
   Advances (Future f) c n d = BranchPolls f c n d
   Advances (Done x) c n d = (n ≡ Done x) × (d ≡ c)
@@ -68,7 +68,7 @@ module _ {C Fut O : Type 0} (future : FutureOf Fut C O) where
   abbrev pub MaybePolls : MaybeDone C Fut O → C → Poll ⊤ → MaybeDone C Fut O → C → Type 0
   MaybePolls m c r n d = Advances m c n d × (is_pending r ≡ is_waiting n)
 
-  -- a future is given up, and an output is let go
+  -- Whether a future is given up, and an output is dropped.
   abbrev pub MaybeCancels : MaybeDone C Fut O → C → C → Type 0
   MaybeCancels (Future f) c d = future.cancels f c d
   MaybeCancels (Done x) c d = d ≡ c

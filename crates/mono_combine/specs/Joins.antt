@@ -13,7 +13,7 @@ use Rattle.mono_combine.specs.Branches.{Advances, MaybeCancels, output_of}
 use Rattle.mono_combine.specs.Rules.{join_rule}
 
 module _ {X Y : Type 0} where
-  -- two outputs as the list that the rule speaks of
+  -- Two outputs as the list to which the rule applies.
   abbrev pub both : Option X → Option Y → List (Option (X ⊎ Y))
   both x y = option_map inl x ∷ option_map inr y ∷ []
 
@@ -22,7 +22,7 @@ module _ {X Y : Type 0} where
   as_list Pending = Pending
 
 module _ {C A B X Y : Type 0} (a : FutureOf A C X) (b : FutureOf B C Y) where
-  -- each branch that is not done is polled once, in the written order, and the answer is the rule's
+  -- Each branch that is not done is polled once, in the written order, and the rule gives the answer.
   pub record JoinPolls (f : Join2 C A B X Y) (c : C) (r : Poll (X × Y)) (g : Join2 C A B X Y) (d : C) : Type 0 where
     pub first : MaybeDone C A X
     pub second : MaybeDone C B Y
@@ -33,6 +33,6 @@ module _ {C A B X Y : Type 0} (a : FutureOf A C X) (b : FutureOf B C Y) where
     pub waits : OnPending r (g ≡ record { a = first; b = second })
     pub ends : OnReady r (g ≡ record { a = Gone; b = Gone })
 
-  -- the branches are given up in the written order
+  -- Whether the branches are given up in the written order.
   abbrev pub JoinCancels : Join2 C A B X Y → C → C → Type 0
   JoinCancels f c d = (middle : C) × MaybeCancels a f.a c middle × MaybeCancels b f.b middle d

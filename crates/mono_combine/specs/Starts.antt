@@ -1,10 +1,10 @@
--- Where a select begins.
+-- The branch at which a select begins.
 use Rattle.std.specs.Prelude.{ℕ}
 use Rattle.mono_combine.specs.declared.start.Start.{Start}
 use Rattle.mono_combine.specs.declared.start.Start.TheVariants.{Biased, Random}
 use Rattle.mono_combine.specs.Random.{drawn_below, after_draw}
 
--- the first branch to look at, of so many
+-- The first branch to poll, among the given number of branches.
 abbrev pub start_of : Start → ℕ → ℕ
 start_of Biased branches = 0
 start_of (Random r) branches = drawn_below r branches

@@ -12,11 +12,11 @@ use Rattle.mono_combine.specs.declared.try_joins.TryJoin2.{TryJoin2}
 use Rattle.mono_combine.specs.Branches.{Advances, MaybeCancels, MaybeGives, output_of}
 use Rattle.mono_combine.specs.Rules.{error_of, try_join_rule}
 
--- the error or the value that a branch has
+-- The error or the value of a branch.
 abbrev pub failure_of : {C Fut X E : Type 0} → MaybeDone C Fut (Result X E) → Option E
 failure_of m = error_of (output_of m)
 
--- what is left once an error that is there was taken
+-- The branch after its error, if it has one, was taken.
 abbrev pub without_failure : {C Fut X E : Type 0} → MaybeDone C Fut (Result X E) → MaybeDone C Fut (Result X E)
 without_failure (Future f) = Future f
 without_failure (Done (Ok x)) = Done (Ok x)
@@ -32,7 +32,7 @@ module _ {X Y E : Type 0} where
   right_value (Ok y) = Ok (inr y)
   right_value (Err e) = Err e
 
-  -- two outputs as the list that the rule speaks of
+  -- Two outputs as the list to which the rule applies.
   abbrev pub both_results : Option (Result X E) → Option (Result Y E) → List (Option (Result (X ⊎ Y) E))
   both_results x y = option_map left_value x ∷ option_map right_value y ∷ []
 
@@ -41,23 +41,23 @@ module _ {X Y E : Type 0} where
   as_result_list (Ready (Err e)) = Ready (Err e)
   as_result_list Pending = Pending
 
--- both values, or an error that a branch may still give or has given
+-- Both values, or an error that a branch may still give or has given.
 abbrev pub TryJoinGives : {C A B X Y E : Type 0} → (A → Result X E → Type 0) → (B → Result Y E → Type 0) → TryJoin2 C A B (Result X E) (Result Y E) → Result (X × Y) E → Type 0
 TryJoinGives a b f (Ok p) = MaybeGives a f.a (Ok p.0) × MaybeGives b f.b (Ok p.1)
 TryJoinGives a b f (Err e) = MaybeGives a f.a (Err e) ⊎ MaybeGives b f.b (Err e)
 
--- a branch is polled unless one before it has failed
+-- Whether a branch is polled unless a branch before it has failed.
 abbrev pub AdvancesUnless : {C Fut O : Type 0} → FutureOf Fut C O → Bool → MaybeDone C Fut O → C → MaybeDone C Fut O → C → Type 0
 AdvancesUnless future true m c n d = (n ≡ m) × (d ≡ c)
 AdvancesUnless future false m c n d = Advances future m c n d
 
 module _ {C A B X Y E : Type 0} (a : FutureOf A C (Result X E)) (b : FutureOf B C (Result Y E)) where
-  -- what is left of the branches is given up in the written order
+  -- Whether the branches that remain are given up in the written order.
   abbrev pub BothCancel : MaybeDone C A (Result X E) → MaybeDone C B (Result Y E) → C → C → Type 0
   BothCancel first second c d = (middle : C) × MaybeCancels a first c middle × MaybeCancels b second middle d
 
-  -- each branch that is not done is polled once, in the written order, up to the first that fails; the answer is the
-  -- rule's, and where there is one the unfinished branches are given up in the written order
+  -- Each branch that is not done is polled once, in the written order, up to the first that fails, and the rule gives
+  -- the answer. Once it has answered, the unfinished branches are given up in the written order.
   pub record TryJoinPolls (f : TryJoin2 C A B (Result X E) (Result Y E)) (c : C) (r : Poll (Result (X × Y) E)) (g : TryJoin2 C A B (Result X E) (Result Y E)) (d : C) : Type 0 where
     pub first : MaybeDone C A (Result X E)
     pub second : MaybeDone C B (Result Y E)

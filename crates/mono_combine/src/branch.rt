@@ -10,14 +10,14 @@ use mono_task::{Context, TaskFuture};
 use std::alloc::Global;
 use std::mem;
 
-/// What one turn of a branch of a select gave. The rule of a select (`select_rule`) speaks of it.
+/// The result of one turn of a branch of a select. The rule of a select (`select_rule`) is a function of these results.
 #[derive(Drop)]
 pub enum Look<X> {
     /// The branch is ready, and its predicate is true of the output.
     Passes(X),
     /// The branch is pending.
     Waits,
-    /// The branch is left out, or ready with an output of which its predicate is false.
+    /// The branch is left out, or ready with an output for which its predicate is false.
     Rests,
 }
 
@@ -26,13 +26,13 @@ pub enum Look<X> {
 pub(crate) enum Branch<T> {
     // It is polled in its turn.
     Live(T),
-    // The mask that was handed in leaves it out.
+    // The caller's mask leaves it out.
     Out(T),
     // It was ready, or the select has answered; its future was given up.
     Gone,
 }
 
-// A branch that the mask leaves out where its bit is set.
+// Returns a branch; the mask leaves it out if its bit is set.
 pub(crate) fn branch_of<T>(future: T, is_left_out: bool) -> Branch<T>
     ensures { result ≡ left_out_if is_left_out future }
 {
@@ -56,7 +56,7 @@ impl<T> Branch<T> {
         }
     }
 
-    // The turn of the branch: a live one is polled, and given up at once where it is ready.
+    // Gives the branch its turn: it polls a live branch, and gives its future up at once if that is ready.
     pub(crate) fn look<R: Host, C: Context, P>(
         &mut self,
         test: &P,
@@ -95,7 +95,7 @@ impl<T> Branch<T> {
         }
     }
 
-    // Gives up a future that is left.
+    // Gives up the future that remains.
     pub(crate) fn give_up<C: Context>(&mut self, cx: &mut C)
     where
         T: TaskFuture<C>,

@@ -11,10 +11,10 @@ use mono_task::{Context, TaskFuture};
 use std::alloc::Global;
 use std::mem;
 
-/// At most 64 futures of one type of which each poll polls every unfinished one once, in the written order.
+/// At most 64 futures of one type. Each poll polls every unfinished one once, in the written order.
 ///
-/// It answers all outputs in the written order once all are there (`join_rule`), and is spent from then on. The room for
-/// the outputs is made when the form is made, so that no poll can be refused memory.
+/// It returns all outputs in the written order once all have been given (`join_rule`), and is spent from then on. `new`
+/// reserves the room for the outputs, so no poll is out of memory.
 #[derive(Drop)]
 pub struct JoinList<C: Context, T: TaskFuture<C>> {
     branches: Vec<MaybeDone<C, T>>,
@@ -25,7 +25,8 @@ pub struct JoinList<C: Context, T: TaskFuture<C>> {
 }
 
 impl<C: Context, T: TaskFuture<C, Output: Drop>> JoinList<C, T> {
-    /// The join of at most 64 futures that are not spent. It hands them back only where memory is refused.
+    /// Returns the join of at most 64 futures that are not spent. The futures come back only if the call is out of
+    /// memory.
     pub fn new(alloc: Global, v: Vec<T>) -> Result<JoinList<C, T>, Vec<T>>
         requires few { vec_len v ≤ 64 }
         requires unspent { All (λ f. T.is_spent f ≡ false) v.items }

@@ -8,9 +8,9 @@ use mono_model::{Host, Poll};
 use mono_task::{Context, TaskFuture};
 use std::alloc::Global;
 
-/// Two futures of which each poll polls every unfinished one once, in the written order.
+/// Two futures. Each poll polls every unfinished one once, in the written order.
 ///
-/// It answers both outputs once both are there (`join_rule`), and is spent from then on.
+/// It returns both outputs once both have been given (`join_rule`), and is spent from then on.
 #[derive(Drop)]
 pub struct Join2<C: Context, A: TaskFuture<C>, B: TaskFuture<C>> {
     a: MaybeDone<C, A>,
@@ -18,7 +18,7 @@ pub struct Join2<C: Context, A: TaskFuture<C>, B: TaskFuture<C>> {
 }
 
 impl<C: Context, A: TaskFuture<C>, B: TaskFuture<C>> Join2<C, A, B> {
-    /// The join of two futures that are not spent.
+    /// Returns the join of two futures that are not spent.
     pub fn new(a: A, b: B) -> Join2<C, A, B>
         requires a { A.is_spent a ≡ false }
         requires b { B.is_spent b ≡ false }

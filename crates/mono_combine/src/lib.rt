@@ -1,7 +1,7 @@
 //! Futures made of futures: closures as futures, futures that keep their output, joins, selects, and random numbers.
 //!
-//! What each form answers is a rule on what its branches answered in this poll: `join_rule`, `try_join_rule` and
-//! `select_rule` of specs/Rules. How the branches are polled and given up is said by the branches' own relations.
+//! A rule defines each form's answer from the answers of its branches in this poll: `join_rule`, `try_join_rule` and
+//! `select_rule` of specs/Rules. The branches' own relations define how the branches are polled and given up.
 #![tactic(auto)]
 
 mod branch;

@@ -11,7 +11,7 @@ use mono_task::{Context, TaskFuture};
 use std::alloc::Global;
 use std::vec;
 
-// Puts the futures behind the branches, which have the room for them.
+// Appends the futures to the branches, which have the room for them.
 pub(crate) fn fill<C: Context, T: TaskFuture<C, Output: Drop>>(
     mut futures: vec::IntoIter<T>,
     branches: &mut Vec<MaybeDone<C, T>>,
@@ -26,7 +26,8 @@ pub(crate) fn fill<C: Context, T: TaskFuture<C, Output: Drop>>(
     }
 }
 
-// Whether a branch is spent. It takes the vector, since a form over results can't lend it as a slice from a `&self`.
+// Returns whether a branch is spent. It takes the vector, since a form over results cannot borrow it as a slice from a
+// `&self`.
 pub(crate) fn any_spent<C: Context, T: TaskFuture<C, Output: Drop>>(
     branches: &Vec<MaybeDone<C, T>>,
 ) -> bool
@@ -40,7 +41,7 @@ pub(crate) fn any_spent<C: Context, T: TaskFuture<C, Output: Drop>>(
     false
 }
 
-// Polls each branch once, in the written order. True if one of them waits.
+// Polls each branch once, in the written order. Returns true if one of them waits.
 pub(crate) fn poll_each<R: Host, C: Context, T: TaskFuture<C, Output: Drop>>(
     rt: &R,
     alloc: Global,
@@ -64,7 +65,7 @@ pub(crate) fn poll_each<R: Host, C: Context, T: TaskFuture<C, Output: Drop>>(
     waits
 }
 
-// Gives up what is left of each branch, in the written order.
+// Gives up each branch that remains, in the written order.
 pub(crate) fn give_up_each<C: Context, T: TaskFuture<C, Output: Drop>>(
     cx: &mut C,
     branches: &mut Vec<MaybeDone<C, T>>,
@@ -77,7 +78,7 @@ pub(crate) fn give_up_each<C: Context, T: TaskFuture<C, Output: Drop>>(
     }
 }
 
-// The outputs that are there, in the written order, in a vector that has the room for them.
+// Moves the outputs, in the written order, to a vector that has the room for them.
 pub(crate) fn collect<C: Context, T: TaskFuture<C, Output: Drop>>(
     mut branches: vec::IntoIter<MaybeDone<C, T>>,
     outputs: &mut Vec<T::Output>,

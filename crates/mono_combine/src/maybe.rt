@@ -13,7 +13,7 @@ use std::mem;
 
 /// A future, or the output that it gave until that is taken.
 ///
-/// It is spent exactly where the output was taken or where it holds a future that is spent.
+/// It is spent if and only if the output was taken or it holds a future that is spent.
 #[derive(Drop)]
 pub enum MaybeDone<C: Context, Fut: TaskFuture<C>> {
     /// The future has not answered.
@@ -24,7 +24,7 @@ pub enum MaybeDone<C: Context, Fut: TaskFuture<C>> {
     Gone,
 }
 
-/// A future whose output is kept once it is there.
+/// Returns a future that keeps its output.
 pub fn maybe_done<C: Context, Fut: TaskFuture<C>>(future: Fut) -> MaybeDone<C, Fut>
     ensures { result ≡ MaybeDone.Future future }
 {
@@ -32,7 +32,7 @@ pub fn maybe_done<C: Context, Fut: TaskFuture<C>>(future: Fut) -> MaybeDone<C, F
 }
 
 impl<C: Context, Fut: TaskFuture<C, Output: Drop>> MaybeDone<C, Fut> {
-    /// The output, if it is there.
+    /// Returns the output if the future has answered.
     pub fn output_mut(&mut self) -> Option<&mut Fut::Output>
         ensures value { option_copied_mut result ≡ output_of self.old }
         ensures* writes_back { sem 𝓛 (LendsOutput C.row Fut.row Fut.Output.row self.entry result) }
@@ -43,7 +43,7 @@ impl<C: Context, Fut: TaskFuture<C, Output: Drop>> MaybeDone<C, Fut> {
         }
     }
 
-    /// Takes the output, if it is there; it is gone then, and else all stays as it was.
+    /// Removes and returns the output, if the future has answered; otherwise nothing changes.
     pub fn take_output(&mut self) -> Option<Fut::Output>
         ensures output { result ≡ output_of self.old }
         ensures left { self.new ≡ without_output self.old }
@@ -58,7 +58,7 @@ impl<C: Context, Fut: TaskFuture<C, Output: Drop>> MaybeDone<C, Fut> {
         }
     }
 
-    // Takes the output, which is there.
+    // Removes and returns the output; the future has answered.
     pub(crate) fn take_done(&mut self) -> Fut::Output
         requires unspent { maybe_spent Fut.TaskFuture self.old ≡ false }
         requires done { is_waiting self.old ≡ false }
@@ -71,7 +71,7 @@ impl<C: Context, Fut: TaskFuture<C, Output: Drop>> MaybeDone<C, Fut> {
         output
     }
 
-    // Whether the output is still to come.
+    // Returns whether the output is still to come.
     pub(crate) fn is_waiting(&self) -> bool
         ensures { result ≡ is_waiting self.now }
     {
@@ -82,7 +82,7 @@ impl<C: Context, Fut: TaskFuture<C, Output: Drop>> MaybeDone<C, Fut> {
         }
     }
 
-    // Gives up what is left of it.
+    // Gives up the future that remains.
     pub(crate) fn give_up(&mut self, cx: &mut C)
         ensures gone { self.new ≡ MaybeDone.Gone }
         ensures cancelled { MaybeCancels Fut.TaskFuture self.old cx.old cx.new }
@@ -92,7 +92,8 @@ impl<C: Context, Fut: TaskFuture<C, Output: Drop>> MaybeDone<C, Fut> {
     }
 }
 
-/// Answers `Ready` where the output is there, and polls the future before that. The output stays until it is taken.
+/// A poll polls the future until that has answered, and returns `Ready` from then on. The output stays until it is
+/// taken.
 impl<C: Context, Fut: TaskFuture<C, Output: Drop>> TaskFuture<C> for MaybeDone<C, Fut> {
     type Output = ();
 

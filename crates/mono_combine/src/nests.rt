@@ -1,12 +1,13 @@
-// Joins of three to five unlike futures.
-// Each is the join of two, nested to the left, so its polls and what it gives up stand in the written order.
+// Joins of three to five unlike futures. Each is the join of two, nested to the left, so it polls and gives up its
+// parts in the written order.
 ghost use Rattle.std.specs.Prelude.{◌≡◌, false};
 
 use crate::joins::Join2;
 use crate::maybe::MaybeDone;
 use mono_task::{Context, TaskFuture};
 
-/// The join of three unlike futures that are not spent. Each poll polls every unfinished one once, in the written order.
+/// Returns the join of three unlike futures that are not spent. Each poll polls every unfinished one once, in the
+/// written order.
 pub fn join3<C, A, B, D>(a: A, b: B, d: D) -> Join2<C, Join2<C, A, B>, D>
 where
     C: Context,
@@ -21,7 +22,8 @@ where
     Join2::new(Join2::new(a, b), d)
 }
 
-/// The join of four unlike futures that are not spent. Each poll polls every unfinished one once, in the written order.
+/// Returns the join of four unlike futures that are not spent. Each poll polls every unfinished one once, in the
+/// written order.
 pub fn join4<C, A, B, D, E>(a: A, b: B, d: D, e: E) -> Join2<C, Join2<C, Join2<C, A, B>, D>, E>
 where
     C: Context,
@@ -38,7 +40,8 @@ where
     Join2::new(join3(a, b, d), e)
 }
 
-/// The join of five unlike futures that are not spent. Each poll polls every unfinished one once, in the written order.
+/// Returns the join of five unlike futures that are not spent. Each poll polls every unfinished one once, in the
+/// written order.
 pub fn join5<C, A, B, D, E, F>(
     a: A,
     b: B,

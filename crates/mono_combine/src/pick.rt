@@ -1,6 +1,6 @@
-// What a select of a list answers.
+// The answer of a select of a list.
 
-/// What a select of a list of branches answers.
+/// The answer of a select of a list of branches.
 #[derive(Clone, Copy, Debug, PartialEq, Eq, Drop)]
 pub enum Out<X> {
     /// The number of the branch that was picked, from 0 on, and its output.

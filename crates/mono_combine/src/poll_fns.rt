@@ -7,16 +7,16 @@ use mono_model::{Host, Poll};
 use mono_task::{Context, TaskFuture};
 use std::alloc::Global;
 
-/// A future of which each poll calls a closure. It is never spent, and to give it up does nothing.
+/// A future whose polls each call a closure. It is never spent, and giving it up does nothing.
 ///
 /// A poll requires (`can_poll`) that the closure may be called at every state and context, and that each of its calls
-/// leaves a context that is reached from the one before.
+/// leaves a context that is reached from the context before.
 #[derive(Drop)]
 pub struct PollFn<F> {
     f: F,
 }
 
-/// The future of which each poll calls `f`.
+/// Returns the future whose polls each call `f`.
 pub fn poll_fn<T, C: Context, F: FnMut(&mut C) -> Poll<T>>(f: F) -> PollFn<F>
     ensures { result.f ≡ f }
 {
@@ -30,7 +30,7 @@ impl<T, C: Context, F: FnMut(&mut C) -> Poll<T> + Drop> TaskFuture<C> for PollFn
 
     ghost can_poll = { λ p. ((state : F) (x : _) → F.pre state x) × StaysReached F.FnMut C.reaches };
 
-    // the answer and the context are those of one call of the closure
+    // The answer and the context are those of one call of the closure.
     ghost polls = { λ p c r q d. CalledAtMut F.FnMut p.f c r q.f d };
 
     ghost gives = { λ p. CallGives F.FnMut };

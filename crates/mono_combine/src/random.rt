@@ -1,4 +1,4 @@
-// Random numbers of a seed.
+// Random numbers from a seed.
 ghost use Rattle.std.specs.Prelude.{◌≡◌, ◌<◌};
 ghost use Rattle.mono_combine.specs.Random.{seeded, drawn, after_draw, drawn_below};
 
@@ -10,7 +10,7 @@ pub struct FastRand {
 }
 
 impl FastRand {
-    /// The generator of this seed: the high and the low 32 bits of it, the low ones 1 where they are 0.
+    /// Returns the generator of this seed: its high and its low 32 bits, and low bits of 1 if they are 0.
     pub fn new(seed: u64) -> FastRand
         ensures { result ≡ seeded seed }
     {
@@ -20,7 +20,7 @@ impl FastRand {
         FastRand { one, two }
     }
 
-    /// The next number, any of 32 bits.
+    /// Returns the next number of 32 bits.
     pub fn fastrand(&mut self) -> u32
         ensures value { result ≡ drawn self.old }
         ensures next { self.new ≡ after_draw self.old }
@@ -33,7 +33,8 @@ impl FastRand {
         s0.wrapping_add(s1)
     }
 
-    /// The next number, scaled to the range below `n`: the high 32 bits of its product with `n`. It is 0 where `n` is 0.
+    /// Returns the next number scaled to the range below `n`: the high 32 bits of its product with `n`. It is 0 if `n`
+    /// is 0.
     pub fn fastrand_n(&mut self, n: u32) -> u32
         ensures value { result ≡ drawn_below self.old n }
         ensures below { 0 < n → result < n }

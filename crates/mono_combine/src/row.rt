@@ -14,7 +14,7 @@ use std::alloc::Global;
 use std::vec;
 
 impl<T> Branch<T> {
-    // The turn of the branch with this number, of which its predicate is asked too.
+    // Gives the branch with this number its turn; the predicate sees the number, too.
     pub(crate) fn look_at<R: Host, C: Context, P>(
         &mut self,
         number: u32,
@@ -74,7 +74,7 @@ pub(crate) fn mask_each<T: Drop>(
     }
 }
 
-// Whether a branch is spent.
+// Returns whether a branch is spent.
 pub(crate) fn any_branch_spent<C: Context, T: TaskFuture<C>>(branches: &Vec<Branch<T>>) -> bool
     ensures { result ≡ list_any (branch_spent T.TaskFuture) branches.now.items }
 {
@@ -86,7 +86,8 @@ pub(crate) fn any_branch_spent<C: Context, T: TaskFuture<C>>(branches: &Vec<Bran
     false
 }
 
-// The turns of the branches from the start on and round the end, up to the first that passes, and what is picked.
+// Gives the branches their turns from the start on and around the end, up to the first that passes, and returns the
+// pick.
 pub(crate) fn look_round<R, C, T, G>(
     rt: &R,
     alloc: Global,
@@ -129,7 +130,7 @@ where
     }
 }
 
-// Gives up what is left of each branch, in the written order.
+// Gives up each branch that remains, in the written order.
 pub(crate) fn end_each<C: Context, T: TaskFuture<C>>(cx: &mut C, branches: &mut Vec<Branch<T>>)
     ensures ended { EachInTurn (BranchEnds T.TaskFuture) branches.old.items cx.old branches.new.items cx.new }
     ensures length { vec_len branches.new ≡ vec_len branches.old }

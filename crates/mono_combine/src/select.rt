@@ -1,4 +1,4 @@
-// Two branches of which the first that is ready and passes its predicate is the answer.
+// Two branches; the answer is the first output that is ready and passes its predicate.
 ghost use Rattle.std.specs.Prelude.{◌≡◌, ◌<◌, ◌||◌, ◌==◌, ◌%◌, ◌/◌, true, false, if◌then◌else◌};
 ghost use Rattle.mono_model.specs.Poll.{OnPending};
 ghost use Rattle.mono_combine.specs.Looks.{branch_spent, BranchCanPoll};
@@ -10,7 +10,7 @@ use mono_model::{Host, Poll};
 use mono_task::{Context, TaskFuture};
 use std::alloc::Global;
 
-/// What a select of two branches answers.
+/// The answer of a select of two branches.
 #[derive(Clone, Copy, Debug, PartialEq, Eq, Drop)]
 pub enum Out2<X, Y> {
     /// The output of the first branch.
@@ -21,11 +21,22 @@ pub enum Out2<X, Y> {
     Disabled,
 }
 
-/// Two futures of which the first that is ready and passes its predicate is the answer (`select_rule`).
+/// Two futures; the answer is the first output that is ready and passes its predicate (`select_rule`).
 ///
-/// Each poll draws anew which branch has its turn first. A branch that is ready is given up at once and is out from then
-/// on, also where its predicate is false. Where a branch is picked, and where none is left, the unfinished branches are
-/// given up in the written order, also those that the mask left out. It is spent once it has answered.
+/// Each poll draws anew which branch has its turn first. A branch that is ready is given up at once and is out from
+/// then on, even if its predicate is false. Once a branch is picked or none is left, the unfinished branches are given
+/// up in the written order, including those that the mask left out. The select is spent once it has answered.
+///
+/// ```rust
+/// let form = Select2::new(
+///     pair.0,
+///     pair.1,
+///     |x: &u64| *x % 2 == 0,
+///     |_: &u64| true,
+///     mask,
+///     start,
+/// );
+/// ```
 #[derive(Drop)]
 pub struct Select2<A, B, G, H> {
     first: Branch<A>,
@@ -36,7 +47,7 @@ pub struct Select2<A, B, G, H> {
     has_answered: bool,
 }
 
-// What is picked where this is the answer of the branch that had its turn last.
+// Returns the pick, given this answer of the branch that had its turn last.
 fn then_second<X, Y>(some_wait: bool, look: Look<Y>) -> Poll<Option<Out2<X, Y>>>
     ensures { result ≡ then_look some_wait (as_second look) }
 {
@@ -79,8 +90,8 @@ fn answer_of<X, Y>(pick: Option<Out2<X, Y>>) -> Out2<X, Y>
 }
 
 impl<A, B, G, H> Select2<A, B, G, H> {
-    /// The select of two futures that are not spent, with a predicate for each. Bit 0 of the mask leaves the first out,
-    /// and bit 1 the second; further bits count for nothing.
+    /// Returns the select of two futures that are not spent, with a predicate for each. Bit 0 of the mask leaves the
+    /// first out, and bit 1 the second; further bits have no effect.
     pub fn new(a: A, b: B, g: G, h: H, mask: u8, start: Start) -> Select2<A, B, G, H>
         ensures first { result.first ≡ left_out_if (mask % 2 == 1) a }
         ensures second { result.second ≡ left_out_if (mask / 2 % 2 == 1) b }
@@ -101,7 +112,7 @@ impl<A, B, G, H> Select2<A, B, G, H> {
         }
     }
 
-    // The first branch has its turn first.
+    // Gives the first branch its turn first.
     fn in_order<R: Host, C: Context>(
         &mut self,
         rt: &R,
@@ -136,7 +147,7 @@ impl<A, B, G, H> Select2<A, B, G, H> {
         }
     }
 
-    // The second branch has its turn first.
+    // Gives the second branch its turn first.
     fn reversed<R: Host, C: Context>(
         &mut self,
         rt: &R,
@@ -171,7 +182,7 @@ impl<A, B, G, H> Select2<A, B, G, H> {
         }
     }
 
-    // The branches have their turns from the start on.
+    // Gives the branches their turns from the start on.
     fn select_from<R: Host, C: Context>(
         &mut self,
         start: u32,

@@ -1,4 +1,4 @@
-// Many branches of which the first that is ready and passes the predicate is the answer.
+// Many branches; the answer is the first output that is ready and passes the predicate.
 ghost use Rattle.std.specs.Prelude.{◌≡◌, ◌≤◌, ◌<◌, ◌||◌, false, length, vec_len, IfOk, IfErr};
 ghost use Rattle.std.specs.List.{list_any, All};
 ghost use Rattle.mono_combine.specs.Looks.{branch_spent, BranchCanPoll};
@@ -13,13 +13,13 @@ use mono_model::{Host, Poll};
 use mono_task::{Context, TaskFuture};
 use std::alloc::Global;
 
-/// From 1 to 64 futures of one type of which the first that is ready and passes the predicate is the answer
+/// From 1 to 64 futures of one type; the answer is the first output that is ready and passes the predicate
 /// (`select_rule`).
 ///
-/// Each poll draws anew which branch has its turn first; the others follow in the written order, round the end. A branch
-/// that is ready is given up at once and is out from then on, also where the predicate is false of its number and output.
-/// Where a branch is picked, and where none is left, the unfinished branches are given up in the written order, also
-/// those that the mask left out. It is spent once it has answered.
+/// Each poll draws anew which branch has its turn first; the others follow in the written order, around the end. A
+/// branch that is ready is given up at once and is out from then on, even if the predicate is false for its number and
+/// output. Once a branch is picked or none is left, the unfinished branches are given up in the written order,
+/// including those that the mask left out. The select is spent once it has answered.
 #[derive(Drop)]
 pub struct SelectList<T, G> {
     branches: Vec<Branch<T>>,
@@ -30,7 +30,7 @@ pub struct SelectList<T, G> {
     ghost few: { vec_len branches ≤ 64 },
 }
 
-// The answer of a poll that ends.
+// Returns the answer of a poll that ends.
 fn answer_of<X>(pick: Option<(u32, X)>) -> Out<X>
     ensures { result ≡ out_of pick }
 {
@@ -41,9 +41,9 @@ fn answer_of<X>(pick: Option<(u32, X)>) -> Out<X>
 }
 
 impl<T: Drop, G> SelectList<T, G> {
-    /// The select of 1 to 64 futures that are not spent, with a predicate of a branch's number and its output. Bit `i` of
-    /// the mask leaves the branch with the number `i` out; further bits count for nothing. It hands the futures and the
-    /// predicate back only where memory is refused.
+    /// Returns the select of 1 to 64 futures that are not spent, with a predicate of a branch's number and its output.
+    /// Bit `i` of the mask leaves out the branch with the number `i`; further bits have no effect. The futures and the
+    /// predicate come back only if the call is out of memory.
     pub fn new(
         alloc: Global,
         v: Vec<T>,

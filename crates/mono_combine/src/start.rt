@@ -1,10 +1,10 @@
-// Where a select begins.
+// The branch at which a select begins.
 ghost use Rattle.std.specs.Prelude.{◌≡◌, ◌<◌};
 ghost use Rattle.mono_combine.specs.Starts.{start_of, next_start};
 
 use crate::random::FastRand;
 
-/// Which branch a select looks at first, anew in each poll.
+/// The branch that a select polls first, anew in each poll.
 #[derive(Clone, Copy, Debug, PartialEq, Eq)]
 pub enum Start {
     /// The first branch in the written order.
@@ -14,7 +14,7 @@ pub enum Start {
 }
 
 impl Start {
-    // The branch to look at first in this poll.
+    // Returns the branch to poll first in this poll.
     pub(crate) fn draw(&mut self, branches: u32) -> u32
         requires { 0 < branches }
         ensures start { result ≡ start_of self.old branches }

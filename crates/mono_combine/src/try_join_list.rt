@@ -13,9 +13,9 @@ use mono_task::{Context, TaskFuture};
 use std::alloc::Global;
 use std::mem;
 
-/// What a branch that may fail answers: a value or an error.
+/// The answer of a branch that may fail: a value or an error.
 pub trait Fallible {
-    /// The value of one that succeeds.
+    /// The value of a branch that succeeds.
     type Value;
 }
 
@@ -23,12 +23,12 @@ impl<X, E> Fallible for Result<X, E> {
     type Value = X;
 }
 
-/// At most 64 futures of one type of which each poll polls every unfinished one once, in the written order, up to the
-/// first that fails.
+/// At most 64 futures of one type. Each poll polls every unfinished one once, in the written order, up to the first
+/// that fails.
 ///
-/// The first error in the written order is answered at once, and the unfinished branches are given up in the written
-/// order; else all values are answered in the written order once all are there (`try_join_rule`). It is spent once it
-/// has answered. The room for the values is made when the form is made, so that no poll can be refused memory.
+/// It returns the first error in the written order at once, and gives up the unfinished branches in the written order.
+/// Otherwise it returns all values in the written order once all have been given (`try_join_rule`). It is spent once it
+/// has answered. `new` reserves the room for the values, so no poll is out of memory.
 #[derive(Drop)]
 pub struct TryJoinList<C: Context, T: TaskFuture<C, Output: Fallible>> {
     branches: Vec<MaybeDone<C, T>>,
@@ -45,7 +45,8 @@ where
     E: Drop,
     T: TaskFuture<C, Output = Result<X, E>>,
 {
-    /// The join of at most 64 futures that are not spent. It hands them back only where memory is refused.
+    /// Returns the join of at most 64 futures that are not spent. The futures come back only if the call is out of
+    /// memory.
     pub fn new(alloc: Global, v: Vec<T>) -> Result<TryJoinList<C, T>, Vec<T>>
         requires few { vec_len v ≤ 64 }
         requires unspent { All (λ f. T.is_spent f ≡ false) v.items }

@@ -8,10 +8,10 @@ use mono_model::{Host, Poll};
 use mono_task::{Context, TaskFuture};
 use std::alloc::Global;
 
-/// Two futures of which each poll polls every unfinished one once, in the written order, up to the first that fails.
+/// Two futures. Each poll polls every unfinished one once, in the written order, up to the first that fails.
 ///
-/// The first error in the written order is answered at once, and the unfinished branches are given up in the written
-/// order; else both values are answered once both are there (`try_join_rule`). It is spent once it has answered.
+/// It returns the first error in the written order at once, and gives up the unfinished branches in the written order.
+/// Otherwise it returns both values once both have been given (`try_join_rule`). It is spent once it has answered.
 #[derive(Drop)]
 pub struct TryJoin2<C: Context, A: TaskFuture<C>, B: TaskFuture<C>> {
     a: MaybeDone<C, A>,
@@ -19,7 +19,7 @@ pub struct TryJoin2<C: Context, A: TaskFuture<C>, B: TaskFuture<C>> {
 }
 
 impl<C: Context, A: TaskFuture<C>, B: TaskFuture<C>> TryJoin2<C, A, B> {
-    /// The join of two futures that are not spent.
+    /// Returns the join of two futures that are not spent.
     pub fn new(a: A, b: B) -> TryJoin2<C, A, B>
         requires a { A.is_spent a ≡ false }
         requires b { B.is_spent b ≡ false }
@@ -34,7 +34,7 @@ impl<C: Context, A: TaskFuture<C>, B: TaskFuture<C>> TryJoin2<C, A, B> {
 }
 
 impl<C: Context, X: Drop, E: Drop, Fut: TaskFuture<C, Output = Result<X, E>>> MaybeDone<C, Fut> {
-    // Takes the error, if there is one.
+    // Removes and returns the error, if there is one.
     fn take_failure(&mut self) -> Option<E>
         ensures error { result ≡ failure_of self.old }
         ensures left { self.new ≡ without_failure self.old }
@@ -49,7 +49,7 @@ impl<C: Context, X: Drop, E: Drop, Fut: TaskFuture<C, Output = Result<X, E>>> Ma
         }
     }
 
-    // Takes the value, which is there.
+    // Removes and returns the value, which has been given.
     fn take_value(&mut self) -> X
         requires unspent { maybe_spent Fut.TaskFuture self.old ≡ false }
         requires done { is_waiting self.old ≡ false }

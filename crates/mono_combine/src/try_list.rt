@@ -14,14 +14,14 @@ use std::alloc::Global;
 use std::{mem, vec};
 
 impl<C: Context, X: Drop, E: Drop, Fut: TaskFuture<C, Output = Result<X, E>>> MaybeDone<C, Fut> {
-    // Whether the branch has failed.
+    // Returns whether the branch has failed.
     fn has_failed(&self) -> bool
         ensures { result ≡ has_failed self.now }
     {
         matches!(self, MaybeDone::Done(Err(_)))
     }
 
-    // The value, where it is there.
+    // Returns the value, if it has been given.
     fn into_value(self) -> Option<X>
         ensures { result ≡ value_in self }
     {
@@ -31,7 +31,7 @@ impl<C: Context, X: Drop, E: Drop, Fut: TaskFuture<C, Output = Result<X, E>>> Ma
         }
     }
 
-    // Gives up what is left of it, and hands out the error, if there is one.
+    // Gives up the future that remains, and returns the error, if there is one.
     fn give_up_failing(&mut self, cx: &mut C) -> Option<E>
         ensures error { result ≡ failure_of self.old }
         ensures gone { self.new ≡ MaybeDone.Gone }
@@ -50,7 +50,7 @@ impl<C: Context, X: Drop, E: Drop, Fut: TaskFuture<C, Output = Result<X, E>>> Ma
     }
 }
 
-// The first of two errors.
+// Returns the first of two errors.
 fn earlier_of<E: Drop>(first: Option<E>, later: Option<E>) -> Option<E>
     ensures { result ≡ earlier first later }
 {
@@ -60,7 +60,7 @@ fn earlier_of<E: Drop>(first: Option<E>, later: Option<E>) -> Option<E>
     }
 }
 
-// Polls each branch in the written order, up to the first that fails. True if one has failed.
+// Polls each branch in the written order, up to the first that fails. Returns true if one has failed.
 pub(crate) fn poll_until_failed<R, C, X, E, T>(
     rt: &R,
     alloc: Global,
@@ -90,7 +90,7 @@ where
     false
 }
 
-// Whether a branch waits.
+// Returns whether a branch waits.
 pub(crate) fn any_waiting<C: Context, T: TaskFuture<C, Output: Drop>>(
     branches: &[MaybeDone<C, T>],
 ) -> bool
@@ -104,7 +104,7 @@ pub(crate) fn any_waiting<C: Context, T: TaskFuture<C, Output: Drop>>(
     false
 }
 
-// Gives up what is left of each branch, in the written order, and hands out the first error.
+// Gives up each branch that remains, in the written order, and returns the first error.
 pub(crate) fn give_up_failing<C, X, E, T>(
     cx: &mut C,
     branches: &mut Vec<MaybeDone<C, T>>,
@@ -127,7 +127,7 @@ where
     first
 }
 
-// The values that are there, in the written order, in a vector that has the room for them.
+// Moves the values, in the written order, to a vector that has the room for them.
 pub(crate) fn collect_values<C, X, E, T>(
     mut branches: vec::IntoIter<MaybeDone<C, T>>,
     values: &mut Vec<X>,
