@@ -1,4 +1,4 @@
--- The first of two unlike futures that answers: what one poll answers and leaves, and what may be answered in the end.
+-- The first answer of two unlike futures: the answer and the form after one poll, and the answers in the end.
 use Rattle.std.specs.Prelude.{◌≡◌, Option, Some, None}
 use Rattle.mono_model.specs.declared.poll.Poll.{Poll}
 use Rattle.mono_model.specs.declared.poll.Poll.TheVariants.{Ready, Pending}
@@ -8,13 +8,13 @@ use Rattle.mono_forms.specs.Races.{RaceCancels}
 use Rattle.mono_forms.specs.declared.eithers.Either.{Either}
 use Rattle.mono_forms.specs.declared.eithers.Either.TheVariants.{Left, Right}
 
--- the side tells whose answer it is
+-- Whether the future on the answer's side gives it.
 abbrev pub EitherRaceGives : {A B X Y : Type 0} → (A → X → Type 0) → (B → Y → Type 0) → Option (A × B) → Either X Y → Type 0
 EitherRaceGives a b (Some p) out = EitherIs (a p.0) (b p.1) out
 EitherRaceGives a b None out = ⊥
 
 module _ {A B C X Y : Type 0} (first : FutureOf A C X) (second : FutureOf B C Y) where
-  -- the second was polled
+  -- The form after the second was polled.
   abbrev pub AfterOther : Poll Y → A → B → C → Poll (Either X Y) → Option (A × B) → C → Type 0
   AfterOther (Ready y) f g c r n d = (r ≡ Ready (Right y)) × (n ≡ None) × RaceCancels first.cancels second.cancels (Some (f, g)) c d
   AfterOther Pending f g c r n d = (r ≡ Pending) × (n ≡ Some (f, g)) × (d ≡ c)
@@ -26,7 +26,7 @@ module _ {A B C X Y : Type 0} (first : FutureOf A C X) (second : FutureOf B C Y)
     pub polled : second.polls g c answer left middle
     pub rest : AfterOther answer f left middle r n d
 
-  -- the first was polled; where it waits the second is
+  -- The form after the first was polled; the second is polled if the first waits.
   abbrev pub AfterOne : Poll X → A → B → C → Poll (Either X Y) → Option (A × B) → C → Type 0
   AfterOne (Ready x) f g c r n d = (r ≡ Ready (Left x)) × (n ≡ None) × RaceCancels first.cancels second.cancels (Some (f, g)) c d
   AfterOne Pending f g c r n d = PollsOther f g c r n d

@@ -1,4 +1,4 @@
--- Either of two futures: each relation is that of the one that is there.
+-- Either of two futures: each relation is that of the future that the form holds.
 use Rattle.std.specs.Prelude.{Bool}
 use Rattle.mono_model.specs.declared.poll.Poll.{Poll}
 use Rattle.mono_forms.specs.declared.eithers.Either.{Either}
@@ -13,7 +13,7 @@ module _ {A B : Type 0} where
   EitherIs a b (Left f) = a f
   EitherIs a b (Right g) = b g
 
-  -- what is left is on the same side
+  -- The form after a poll is on the same side.
   abbrev pub EitherPolls : {C X : Type 0} → (A → C → Poll X → A → C → Type 0) → (B → C → Poll X → B → C → Type 0) → Either A B → C → Poll X → Either A B → C → Type 0
   EitherPolls a b (Left f) c r (Left f') d = a f c r f' d
   EitherPolls a b (Left f) c r (Right g') d = ⊥

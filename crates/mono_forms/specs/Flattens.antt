@@ -1,4 +1,4 @@
--- One future after another: what one poll answers and leaves, and what may be answered in the end.
+-- One future after another: the answer and the form after one poll, and the answers in the end.
 use Rattle.std.specs.Prelude.{⊤, ◌≡◌, Bool, true}
 use Rattle.mono_model.specs.declared.poll.Poll.{Poll}
 use Rattle.mono_model.specs.declared.poll.Poll.TheVariants.{Ready, Pending}
@@ -13,7 +13,7 @@ module _ {A B : Type 0} where
   flatten_spent a b (Second g) = b g
   flatten_spent a b Over = true
 
-  -- the one that is under way is given up
+  -- Whether the running future is given up.
   abbrev pub FlattenCancels : {C : Type 0} → (A → C → C → Type 0) → (B → C → C → Type 0) → Flatten A B → C → C → Type 0
   FlattenCancels a b (First f) c d = a f c d
   FlattenCancels a b (Second g) c d = b g c d
@@ -25,7 +25,7 @@ module _ {A B C Y : Type 0} (second : FutureOf B C Y) where
   SecondMayPoll (Second g) = MayPoll second g
   SecondMayPoll Over = ⊥
 
-  -- the second was polled, and is given up where it answered
+  -- The second was polled, and is given up if it answered.
   abbrev pub AfterSecond : Poll Y → B → C → Poll Y → Flatten A B → C → Type 0
   AfterSecond (Ready y) left c r n d = (r ≡ Ready y) × second.cancels left c d × (n ≡ Over)
   AfterSecond Pending left c r n d = (r ≡ Pending) × (n ≡ Second left) × (d ≡ c)
@@ -50,7 +50,7 @@ module _ {A B C X Y : Type 0} (first : FutureOf A C X) (second : FutureOf B C Y)
     pub second_polled : PollsSecond second b middle r n d
 
 module _ {A B C Y : Type 0} (first : FutureOf A C B) (second : FutureOf B C Y) where
-  -- the one under way may be polled, and so may whatever second the first may answer
+  -- Whether the running future may be polled, and so may each second future that the first may answer.
   abbrev pub FlattenCanPoll : Flatten A B → Type 0
   FlattenCanPoll (First f) = first.can_poll f × ((b : B) → first.gives f b → MayPoll second b)
   FlattenCanPoll (Second g) = second.can_poll g
@@ -72,7 +72,7 @@ module _ {A B C Y : Type 0} (first : FutureOf A C B) (second : FutureOf B C Y) w
   FlattenPolls (Second g) c r n d = PollsSecond second g c r n d
   FlattenPolls Over c r n d = ⊥
 
--- what a second may give that the first may answer; then what the second may give
+-- Whether a second future that the first may answer gives the output, or the second does once it runs.
 abbrev pub FlattenGives : {A B Y : Type 0} → (A → B → Type 0) → (B → Y → Type 0) → Flatten A B → Y → Type 0
 FlattenGives {A} {B} first second (First f) y = (b : B) × first f b × second b y
 FlattenGives first second (Second g) y = second g y

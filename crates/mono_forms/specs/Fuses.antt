@@ -5,7 +5,7 @@ use Rattle.mono_model.specs.declared.poll.Poll.TheVariants.{Ready, Pending}
 use Rattle.mono_task.specs.Members.{FutureOf}
 
 module _ {A : Type 0} where
-  -- it may be polled after its answer
+  -- Whether the inner future is spent; the form may be polled after its answer.
   abbrev pub fuse_spent : (A → Bool) → Option A → Bool
   fuse_spent is_spent (Some a) = is_spent a
   fuse_spent is_spent None = false
@@ -23,7 +23,7 @@ module _ {A : Type 0} where
   FuseCancels cancels None c d = d ≡ c
 
 module _ {A C X : Type 0} (future : FutureOf A C X) where
-  -- the future was polled, and is given up if it answered
+  -- The future was polled, and is given up if it answered.
   abbrev pub AfterFused : Poll X → A → C → Poll X → Option A → C → Type 0
   AfterFused (Ready x) left c r n d = (r ≡ Ready x) × (n ≡ None) × future.cancels left c d
   AfterFused Pending left c r n d = (r ≡ Pending) × (n ≡ Some left) × (d ≡ c)
@@ -35,7 +35,7 @@ module _ {A C X : Type 0} (future : FutureOf A C X) where
     pub polled : future.polls a c answer left middle
     pub rest : AfterFused answer left middle r n d
 
-  -- after its answer it waits for good
+  -- After its answer it waits forever.
   abbrev pub FusePolls : Option A → C → Poll X → Option A → C → Type 0
   FusePolls (Some a) c r n d = PollsFused a c r n d
   FusePolls None c r n d = (r ≡ Pending) × (n ≡ None) × (d ≡ c)

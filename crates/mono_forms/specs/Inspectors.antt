@@ -1,4 +1,4 @@
--- An answer that a closure sees: what one poll answers and leaves, and what may be answered in the end.
+-- An answer that a closure sees: the answer and the form after one poll, and the answers in the end.
 use Rattle.std.specs.Prelude.{⊤, ◌≡◌, Option}
 use Rattle.std.specs.Fn.{Once, FnOnceReturnsAt, FnOnceTakesAt}
 use denote.Ref.{Bor}
@@ -7,7 +7,7 @@ use Rattle.mono_task.specs.Members.{FutureOf}
 use Rattle.mono_forms.specs.Maps.{LeadCanPoll, LeadPolls, LeadGives}
 
 module _ {X F : Type 0} (call : Once F (Bor X × Unit {0}) ⊤) where
-  -- the closure saw the answer, which stays
+  -- The closure saw the answer, which stays.
   abbrev pub Sees : F → X → X → Type 0
   Sees f x y = (y ≡ x) × FnOnceReturnsAt call f x tt
 

@@ -13,7 +13,7 @@ module _ {F T : Type 0} (call : Once F (Unit {0}) T) where
   LazyGives (Some f) x = call.post f tt x
   LazyGives None x = ⊥
 
-  -- the answer is a result of the closure
+  -- The answer is a result of the closure.
   abbrev pub IsMade : F → Poll T → Type 0
   IsMade f (Ready x) = call.post f tt x
   IsMade f Pending = ⊥

@@ -1,11 +1,12 @@
--- Answers that a closure changes: what one poll answers and leaves, and what may be answered in the end.
+-- Answers that a closure changes: the answer and the form after one poll, and the answers in the end.
 use Rattle.std.specs.Prelude.{⊤, ◌≡◌, Option, Some, None, Result, Ok, Err}
 use Rattle.std.specs.Fn.{Once}
 use Rattle.mono_model.specs.declared.poll.Poll.{Poll}
 use Rattle.mono_model.specs.declared.poll.Poll.TheVariants.{Ready, Pending}
 use Rattle.mono_task.specs.Members.{FutureOf}
 
--- The future was polled. Where it answered it is given up, and its answer leads to this one; else the form waits as before.
+-- The future was polled. If it answered, it is given up, and its answer leads to this answer; otherwise the form waits
+-- as before.
 module _ {A C X U F : Type 0} (future : FutureOf A C X) (Leads : F → X → U → Type 0) where
   abbrev pub LeadsTo : F → X → Poll U → Type 0
   LeadsTo f x (Ready y) = Leads f x y
@@ -26,13 +27,13 @@ module _ {A C X U F : Type 0} (future : FutureOf A C X) (Leads : F → X → U �
   LeadPolls (Some p) c r n d = PartPolls p.0 p.1 c r n d
   LeadPolls None c r n d = ⊥
 
-  -- an answer that the future may give leads to this one
+  -- An answer that the future may give leads to this answer.
   abbrev pub LeadGives : Option (A × F) → U → Type 0
   LeadGives (Some p) y = (x : X) × future.gives p.0 x × Leads p.1 x y
   LeadGives None y = ⊥
 
 module _ {A C X F : Type 0} (future : FutureOf A C X) (Asks : F → X → Type 0) where
-  -- the future may be polled, and the closure called with each answer that it may give
+  -- The future may be polled, and the closure called with each answer that it may give.
   abbrev pub LeadCanPoll : Option (A × F) → Type 0
   LeadCanPoll (Some p) = future.can_poll p.0 × ((x : X) → future.gives p.0 x → Asks p.1 x)
   LeadCanPoll None = ⊤
@@ -52,7 +53,7 @@ module _ {T E U F : Type 0} (call : Once F (T × Unit {0}) U) where
   AsksOk f (Ok x) = call.pre f (x, tt)
   AsksOk f (Err e) = ⊤
 
-  -- a value by the closure, and an error as it is
+  -- The closure changes a value, and an error stays.
   abbrev pub MapsOk : F → Result T E → Result U E → Type 0
   MapsOk f (Ok x) (Ok y) = call.post f (x, tt) y
   MapsOk f (Ok x) (Err e) = ⊥
@@ -74,7 +75,7 @@ module _ {T E U F : Type 0} (call : Once F (E × Unit {0}) U) where
   AsksErr f (Ok x) = ⊤
   AsksErr f (Err e) = call.pre f (e, tt)
 
-  -- an error by the closure, and a value as it is
+  -- The closure changes an error, and a value stays.
   abbrev pub MapsErr : F → Result T E → Result T U → Type 0
   MapsErr f (Ok x) (Ok y) = y ≡ x
   MapsErr f (Ok x) (Err u) = ⊥

@@ -1,4 +1,4 @@
--- The first of two that answers: what one poll answers and leaves, and what may be answered in the end.
+-- The first answer of two futures: the answer and the form after one poll, and the answers in the end.
 use Rattle.std.specs.Prelude.{⊤, ◌≡◌, ◌⊎◌, ◌||◌, Bool, true, Option, Some, None}
 use Rattle.mono_model.specs.declared.poll.Poll.{Poll}
 use Rattle.mono_model.specs.declared.poll.Poll.TheVariants.{Ready, Pending}
@@ -13,7 +13,7 @@ module _ {A B : Type 0} where
   RaceCanPoll a b (Some p) = a p.0 × b p.1
   RaceCanPoll a b None = ⊤
 
-  -- both are given up, in the written order
+  -- Both are given up, in the written order.
   abbrev pub RaceCancels : {C : Type 0} → (A → C → C → Type 0) → (B → C → C → Type 0) → Option (A × B) → C → C → Type 0
   RaceCancels {C} a b (Some p) c d = (m : C) × a p.0 c m × b p.1 m d
   RaceCancels a b None c d = d ≡ c
@@ -23,7 +23,7 @@ module _ {A B : Type 0} where
   RaceGives a b None x = ⊥
 
 module _ {A B C X : Type 0} (first : FutureOf A C X) (second : FutureOf B C X) where
-  -- the second was polled
+  -- The form after the second was polled.
   abbrev pub AfterLater : Poll X → A → B → C → Poll X → Option (A × B) → C → Type 0
   AfterLater (Ready y) f g c r n d = (r ≡ Ready y) × (n ≡ None) × RaceCancels first.cancels second.cancels (Some (f, g)) c d
   AfterLater Pending f g c r n d = (r ≡ Pending) × (n ≡ Some (f, g)) × (d ≡ c)
@@ -35,7 +35,7 @@ module _ {A B C X : Type 0} (first : FutureOf A C X) (second : FutureOf B C X) w
     pub polled : second.polls g c answer left middle
     pub rest : AfterLater answer f left middle r n d
 
-  -- the first was polled; where it waits the second is
+  -- The form after the first was polled; the second is polled if the first waits.
   abbrev pub AfterEarlier : Poll X → A → B → C → Poll X → Option (A × B) → C → Type 0
   AfterEarlier (Ready x) f g c r n d = (r ≡ Ready x) × (n ≡ None) × RaceCancels first.cancels second.cancels (Some (f, g)) c d
   AfterEarlier Pending f g c r n d = PollsLater f g c r n d

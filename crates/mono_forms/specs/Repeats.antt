@@ -1,4 +1,4 @@
--- A future again and again: what one poll answers and leaves, and what may be answered in the end.
+-- A future again and again: the answer and the form after one poll, and the answers in the end.
 use Rattle.std.specs.Prelude.{⊤, ◌≡◌, ◌⊎◌, ℕ, zero, suc, Bool, true, false, List, Option, Some, None, Result}
 use Rattle.std.specs.Fn.{Mut, Called}
 use Rattle.mono_model.specs.Tasks.{Tasks}
@@ -14,7 +14,7 @@ use Rattle.mono_forms.specs.declared.repeats.Loop.{Loop}
 use Rattle.mono_forms.specs.declared.repeats.Loop.TheVariants.{Break, Continue}
 use Rattle.mono_forms.specs.declared.repeats.Repeat.{Repeat}
 
--- so many turns a poll makes at most
+-- The greatest number of turns in one poll.
 abbrev pub budget : ℕ
 budget = 128
 
@@ -27,7 +27,7 @@ RepeatCancels cancels (Some a) c d = cancels a c d
 RepeatCancels cancels None c d = d ≡ c
 
 module _ {A F S T : Type 0} (gives : A → Loop T S → Type 0) (call : Mut F (S × Unit {0}) A) where
-  -- the future ends the loop with this, or a later one does
+  -- The future ends the loop with this value, or a later one does.
   abbrev pub LoopGives : A → F → T → Type 0
   LoopGives a f x = gives a (Break x)
       ⊎ ((s : S) × (turns : List (Unit {0})) × gives a (Continue s) × StepsTo call gives (f, s) turns (λ b. gives b (Break x)))
@@ -40,7 +40,7 @@ module _ {A F S T : Type 0} (gives : A → Loop T S → Type 0) (call : Mut F (S
   RepeatGives m x = GivesFrom m.future m.func x
 
 module _ {A C F S T : Type 0} (future : FutureOf A C (Loop T S)) (call : Mut F (S × Unit {0}) A) where
-  -- the future may be polled, and so may each that comes after it be made and polled
+  -- The future may be polled, and each future after it may be made and polled.
   abbrev pub CanLoop : A → F → Type 0
   CanLoop a f = future.can_poll a × ((s : S) → future.gives a (Continue s) → StepsWell call future.gives (MayPoll future) (f, s))
 
@@ -51,7 +51,7 @@ module _ {A C F S T : Type 0} (future : FutureOf A C (Loop T S)) (call : Mut F (
   abbrev pub RepeatCanPoll : Repeat A F → Type 0
   RepeatCanPoll m = CanLoopFrom m.future m.func
 
-  -- The future was polled. Where it asks for one more turn the closure makes the next, and it is given up.
+  -- The future was polled. If it asks for one more turn, the closure makes the next future, and this one is given up.
   abbrev pub AfterTurn : Poll (Loop T S) → A → F → C → Option (Poll T) → Repeat A F → C → Type 0
   AfterTurn (Ready (Continue s)) left f c o n d =
       (o ≡ None) × ((next : A) × Called call f (s, tt) next n.func × (n.future ≡ Some next)) × future.cancels left c d
@@ -69,11 +69,11 @@ module _ {A C F S T : Type 0} (future : FutureOf A C (Loop T S)) (call : Mut F (
   TurnsOf (Some a) f c o n d = TurnsFrom a f c o n d
   TurnsOf None f c o n d = ⊥
 
-  -- one turn
+  -- One turn.
   abbrev pub Turns : Repeat A F → C → Option (Poll T) → Repeat A F → C → Type 0
   Turns m c o n d = TurnsOf m.future m.func c o n d
 
-  -- What a turn leaves: a loop that goes on may be polled on, and gives no more than before.
+  -- The form after a turn gives no more than before; it may be polled again if the loop continues.
   abbrev pub Narrows : Repeat A F → Repeat A F → Type 0
   Narrows m n = (x : T) → RepeatGives future.gives call n x → RepeatGives future.gives call m x
 
@@ -88,12 +88,12 @@ module _ {A C F S T : Type 0} (future : FutureOf A C (Loop T S)) (call : Mut F (
   Leaves (Some (Ready x)) m n = RepeatCanPoll n × RepeatGives future.gives call m x
 
 module _ {A C F S T : Type 0} (future : FutureOf A C (Loop T S)) (call : Mut F (S × Unit {0}) A) (number : C → ℕ) (work : C → Tasks ⊤) (wakes : C → ℕ → Result Woke TaskError → C → Type 0) (reaches : C → C → Type 0) where
-  -- A turn gave the poll's answer, or the poll goes on.
+  -- A turn gave the poll's answer, or the poll continues.
   abbrev pub Onward : Option (Poll T) → Type 0 → Repeat A F → C → Poll T → Repeat A F → C → Type 0
   Onward None More t m p n d = More
   Onward (Some answer) More t m p n d = (p ≡ answer) × (n ≡ t) × (d ≡ m)
 
-  -- Turns until one gives the answer, and at most so many; after them the task is woken.
+  -- Turns until one gives the answer, at most the given number; after them the task is woken.
   abbrev pub Takes : ℕ → Repeat A F → C → Poll T → Repeat A F → C → Type 0
   Takes zero s c p n d = (p ≡ Pending) × (n ≡ s) × WakesItself number work wakes reaches c d
   Takes (suc k) s c p n d = (o : Option (Poll T)) × (t : Repeat A F) × (m : C) × Turns future call s c o t m × Onward o (Takes k t m p n d) t m p n d

@@ -1,4 +1,4 @@
--- One future after another, where the first fails: what one poll answers and leaves, and what may be answered in the end.
+-- One future after another, if the first fails: the answer and the form after one poll, and the answers in the end.
 use Rattle.std.specs.Prelude.{⊤, ◌≡◌, Bool, true, Result, Ok, Err}
 use Rattle.mono_model.specs.declared.poll.Poll.{Poll}
 use Rattle.mono_model.specs.declared.poll.Poll.TheVariants.{Ready, Pending}
@@ -13,7 +13,7 @@ module _ {A B : Type 0} where
   rescue_spent a b (Second g) = b g
   rescue_spent a b Over = true
 
-  -- the one that is under way is given up
+  -- Whether the running future is given up.
   abbrev pub RescueCancels : {C : Type 0} → (A → C → C → Type 0) → (B → C → C → Type 0) → TryFlattenErr A B → C → C → Type 0
   RescueCancels a b (First f) c d = a f c d
   RescueCancels a b (Second g) c d = b g c d
@@ -25,7 +25,7 @@ module _ {A B C Y : Type 0} (second : FutureOf B C Y) where
   OtherMayPoll (Second g) = MayPoll second g
   OtherMayPoll Over = ⊥
 
-  -- the second was polled, and is given up where it answered
+  -- The second was polled, and is given up if it answered.
   abbrev pub AfterOther : Poll Y → B → C → Poll Y → TryFlattenErr A B → C → Type 0
   AfterOther (Ready y) left c r n d = (r ≡ Ready y) × second.cancels left c d × (n ≡ Over)
   AfterOther Pending left c r n d = (r ≡ Pending) × (n ≡ Second left) × (d ≡ c)
@@ -54,13 +54,13 @@ module _ {A B C T U : Type 0} (first : FutureOf A C (Result T B)) (second : Futu
   ErrMayPoll (Ok x) = ⊤
   ErrMayPoll (Err b) = MayPoll second b
 
-  -- the one under way may be polled, and so may whatever second the first may answer
+  -- Whether the running future may be polled, and so may each second future that the first may answer.
   abbrev pub RescueCanPoll : TryFlattenErr A B → Type 0
   RescueCanPoll (First f) = first.can_poll f × ((x : Result T B) → first.gives f x → ErrMayPoll x)
   RescueCanPoll (Second g) = second.can_poll g
   RescueCanPoll Over = ⊤
 
-  -- a value is the answer, and the first is given up
+  -- A value is the answer, and the first is given up.
   abbrev pub AfterRescued : Poll (Result T B) → A → C → Poll (Result T U) → TryFlattenErr A B → C → Type 0
   AfterRescued (Ready (Ok x)) left c r n d = (r ≡ Ready (Ok x)) × first.cancels left c d × (n ≡ Over)
   AfterRescued (Ready (Err b)) left c r n d = GoesOn first second b left c r n d
@@ -78,7 +78,7 @@ module _ {A B C T U : Type 0} (first : FutureOf A C (Result T B)) (second : Futu
   RescuePolls (Second g) c r n d = PollsOther second g c r n d
   RescuePolls Over c r n d = ⊥
 
--- a value is the answer, and a future leads to what it may give
+-- A value is the answer; a future leads to an output that it may give.
 abbrev pub LeadsOver : {B T U : Type 0} → (B → Result T U → Type 0) → Result T B → Result T U → Type 0
 LeadsOver second (Ok x) y = y ≡ Ok x
 LeadsOver second (Err b) y = second b y

@@ -1,4 +1,4 @@
--- One future after another, where the first succeeds: what one poll answers and leaves, and what may be answered in the end.
+-- One future after another, if the first succeeds: the answer and the form after one poll, and the answers in the end.
 use Rattle.std.specs.Prelude.{⊤, ◌≡◌, Bool, true, Result, Ok, Err}
 use Rattle.mono_model.specs.declared.poll.Poll.{Poll}
 use Rattle.mono_model.specs.declared.poll.Poll.TheVariants.{Ready, Pending}
@@ -13,7 +13,7 @@ module _ {A B : Type 0} where
   try_spent a b (Second g) = b g
   try_spent a b Over = true
 
-  -- the one that is under way is given up
+  -- Whether the running future is given up.
   abbrev pub TryCancels : {C : Type 0} → (A → C → C → Type 0) → (B → C → C → Type 0) → TryFlatten A B → C → C → Type 0
   TryCancels a b (First f) c d = a f c d
   TryCancels a b (Second g) c d = b g c d
@@ -25,7 +25,7 @@ module _ {A B C Y : Type 0} (second : FutureOf B C Y) where
   NextMayPoll (Second g) = MayPoll second g
   NextMayPoll Over = ⊥
 
-  -- the second was polled, and is given up where it answered
+  -- The second was polled, and is given up if it answered.
   abbrev pub AfterNext : Poll Y → B → C → Poll Y → TryFlatten A B → C → Type 0
   AfterNext (Ready y) left c r n d = (r ≡ Ready y) × second.cancels left c d × (n ≡ Over)
   AfterNext Pending left c r n d = (r ≡ Pending) × (n ≡ Second left) × (d ≡ c)
@@ -54,13 +54,13 @@ module _ {A B C U E : Type 0} (first : FutureOf A C (Result B E)) (second : Futu
   OkMayPoll (Ok b) = MayPoll second b
   OkMayPoll (Err e) = ⊤
 
-  -- the one under way may be polled, and so may whatever second the first may answer
+  -- Whether the running future may be polled, and so may each second future that the first may answer.
   abbrev pub TryCanPoll : TryFlatten A B → Type 0
   TryCanPoll (First f) = first.can_poll f × ((x : Result B E) → first.gives f x → OkMayPoll x)
   TryCanPoll (Second g) = second.can_poll g
   TryCanPoll Over = ⊤
 
-  -- an error is the answer, and the first is given up
+  -- An error is the answer, and the first is given up.
   abbrev pub AfterTried : Poll (Result B E) → A → C → Poll (Result U E) → TryFlatten A B → C → Type 0
   AfterTried (Ready (Ok b)) left c r n d = GoesOn first second b left c r n d
   AfterTried (Ready (Err e)) left c r n d = (r ≡ Ready (Err e)) × first.cancels left c d × (n ≡ Over)
@@ -78,7 +78,7 @@ module _ {A B C U E : Type 0} (first : FutureOf A C (Result B E)) (second : Futu
   TryPolls (Second g) c r n d = PollsNext second g c r n d
   TryPolls Over c r n d = ⊥
 
--- an error is the answer, and a future leads to what it may give
+-- An error is the answer; a future leads to an output that it may give.
 abbrev pub LeadsOn : {B U E : Type 0} → (B → Result U E → Type 0) → Result B E → Result U E → Type 0
 LeadsOn second (Ok b) y = second b y
 LeadsOn second (Err e) y = y ≡ Err e

@@ -1,4 +1,4 @@
--- A turn for the others.
+-- A yield to the other queued tasks.
 use Rattle.std.specs.Prelude.{◌≡◌, ℕ, ⊤, Bool, true, false, Result}
 use Rattle.mono_model.specs.Tasks.{Tasks, woken}
 use Rattle.mono_model.specs.declared.Woke.{Woke}
@@ -14,7 +14,7 @@ yield_spent Woken = false
 yield_spent Over = true
 
 module _ {C : Type 0} (number : C → ℕ) (work : C → Tasks ⊤) (wakes : C → ℕ → Result Woke TaskError → C → Type 0) (reaches : C → C → Type 0) where
-  -- the running task is woken
+  -- The running task is woken.
   pub record WakesItself (c d : C) : Type 0 where
     pub woke : Result Woke TaskError
     pub wake : wakes c (number c) woke d

@@ -1,4 +1,4 @@
-// An answer that is there at once, and one that never comes.
+// A future that answers at once, and a future that never answers.
 ghost use Rattle.std.specs.Prelude.{◌≡◌, false, Some, is_none};
 ghost use Rattle.mono_forms.specs.Answers.{ReadyPolls};
 ghost use Rattle.mono_model.specs.declared.poll.Poll.TheVariants as poll;
@@ -8,7 +8,7 @@ use mono_task::{Context, TaskFuture};
 use std::alloc::Global;
 use std::marker::PhantomData;
 
-/// A future whose answer is there. It is spent once it has given it.
+/// A future whose first poll returns its value. It is spent then.
 #[derive(Drop)]
 pub struct Ready<T> {
     pub(crate) value: Option<T>,

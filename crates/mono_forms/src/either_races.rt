@@ -1,4 +1,4 @@
-// The first of two unlike futures that answers.
+// The first answer of two unlike futures.
 ghost use Rattle.std.specs.Prelude.{◌≡◌, None};
 ghost use Rattle.mono_forms.specs.Races.{race_spent, RaceCanPoll, RaceCancels};
 ghost use Rattle.mono_forms.specs.EitherRaces.{EitherRacePolls, EitherRaceGives};
@@ -8,17 +8,17 @@ use mono_model::{Host, Poll};
 use mono_task::{Context, TaskFuture};
 use std::alloc::Global;
 
-/// Two unlike futures of which the first that answers is the answer, on its side of an [`Either`].
+/// Two unlike futures; the answer is that of the first to answer, on its side of an [`Either`].
 ///
-/// Each poll polls them in the written order. Once one has answered, both are given up in the written order, and the form
-/// is spent.
+/// Each poll polls them in the written order. Once one has answered, both are given up in the written order, and the
+/// form is spent.
 #[derive(Drop)]
 pub struct RaceEither<A, B> {
     pub(crate) both: Option<(A, B)>,
 }
 
 impl<A, B> RaceEither<A, B> {
-    // Both are given up.
+    // Gives up both.
     fn end<C>(&mut self, cx: &mut C)
     where
         C: Context,

@@ -5,7 +5,7 @@ use mono_model::{Host, Poll};
 use mono_task::{Context, TaskFuture};
 use std::alloc::Global;
 
-/// One of two futures with the same output. A runtime's tasks have one type: this makes one of two.
+/// One of two futures with the same output. A runtime's tasks have one type: this makes one type of two.
 #[derive(Drop)]
 pub enum Either<A, B> {
     /// The first.

@@ -19,12 +19,12 @@ use mono_combine::{Fallible, Join2, JoinList, PollFn, Select2, SelectList, TryJo
 use mono_task::{Context, JoinHandle, TaskFuture};
 use mono_time::{Sleep, SleepFor, Timeout, TimeoutFor};
 
-/// The forms as calls on a future. A future by hand has them by an empty impl.
+/// The forms as calls on a future. An empty impl gives them to a future of your own.
 ///
-/// The trait names no context, so a chain can be made where its context is not known yet: a runtime's context names the
-/// type of its futures, and a closure's type has no name. So a closure says the type that it takes, as in `|x: u64|`.
+/// The trait names no context, so you can make a chain before its context is known. A runtime's context names the type
+/// of its futures, and a closure's type has no name. So a closure names the type of its argument, as in `|x: u64|`.
 pub trait FutureExt: Sized {
-    /// Its answer by a closure.
+    /// Changes its answer by a closure.
     final fn map<X, U, F: FnOnce(X) -> U>(self, f: F) -> Map<Self, F>
         ensures { result.inner ≡ Some (self, f) }
     {
@@ -33,7 +33,7 @@ pub trait FutureExt: Sized {
         }
     }
 
-    /// Its value by a closure; an error stays.
+    /// Changes its value by a closure; an error stays.
     final fn map_ok<T, U, F: FnOnce(T) -> U>(self, f: F) -> MapOk<Self, F>
         ensures { result.inner ≡ Some (self, f) }
     {
@@ -42,7 +42,7 @@ pub trait FutureExt: Sized {
         }
     }
 
-    /// Its error by a closure; a value stays.
+    /// Changes its error by a closure; a value stays.
     final fn map_err<E, U, F: FnOnce(E) -> U>(self, f: F) -> MapErr<Self, F>
         ensures { result.inner ≡ Some (self, f) }
     {
@@ -51,7 +51,7 @@ pub trait FutureExt: Sized {
         }
     }
 
-    /// And then the future that a closure makes of its answer.
+    /// Continues with the future that a closure makes of its answer.
     final fn then<X, B, F: FnOnce(X) -> B>(self, f: F) -> Then<Self, B, F>
         ensures { result ≡ Flatten.First (record { inner = Some (self, f) }) }
     {
@@ -60,7 +60,7 @@ pub trait FutureExt: Sized {
         })
     }
 
-    /// And then, where it succeeds, the future that a closure makes of its value.
+    /// Continues with the future that a closure makes of its value, if it succeeds.
     final fn and_then<T, B, F: FnOnce(T) -> B>(self, f: F) -> AndThen<Self, B, F>
         ensures { result ≡ TryFlatten.First (record { inner = Some (self, f) }) }
     {
@@ -69,7 +69,7 @@ pub trait FutureExt: Sized {
         })
     }
 
-    /// And then, where it fails, the future that a closure makes of its error.
+    /// Continues with the future that a closure makes of its error, if it fails.
     final fn or_else<E, B, F: FnOnce(E) -> B>(self, f: F) -> OrElse<Self, B, F>
         ensures { result ≡ TryFlattenErr.First (record { inner = Some (self, f) }) }
     {
@@ -78,7 +78,7 @@ pub trait FutureExt: Sized {
         })
     }
 
-    /// Its answer as it is, once a closure has seen it.
+    /// Shows its answer to a closure, and returns it as it is.
     final fn inspect<X, F: FnOnce(&X)>(self, f: F) -> Inspect<Self, F>
         ensures { result.inner ≡ Some (self, f) }
     {
@@ -87,28 +87,28 @@ pub trait FutureExt: Sized {
         }
     }
 
-    /// A future that waits for good after its answer.
+    /// Makes a future that waits forever after its answer.
     final fn fuse(self) -> Fuse<Self>
         ensures { result.inner ≡ Some self }
     {
         Fuse { inner: Some(self) }
     }
 
-    /// The future that it answers, after it.
+    /// Continues with the future that it answers.
     final fn flatten<B>(self) -> Flatten<Self, B>
         ensures { result ≡ Flatten.First self }
     {
         Flatten::First(self)
     }
 
-    /// As the first of two.
+    /// Makes it the first of two.
     final fn left_future<B>(self) -> Either<Self, B>
         ensures { result ≡ Either.Left self }
     {
         Either::Left(self)
     }
 
-    /// As the second of two.
+    /// Makes it the second of two.
     final fn right_future<A>(self) -> Either<A, Self>
         ensures { result ≡ Either.Right self }
     {

@@ -9,10 +9,10 @@ use mono_task::{Context, TaskFuture};
 use std::alloc::Global;
 use std::mem;
 
-/// A future whose answer is a future, and then that one.
+/// A future whose answer is a future, followed by that future.
 ///
-/// The first is given up once it has answered, and the second has its first poll in that same poll. The second is given
-/// up once it has answered, and then the form is spent.
+/// The first is given up once it has answered, and that same poll polls the second for the first time. The second is
+/// given up once it has answered, and then the form is spent.
 #[derive(Drop)]
 pub enum Flatten<A, B> {
     /// The first has not answered.
@@ -23,11 +23,11 @@ pub enum Flatten<A, B> {
     Over,
 }
 
-/// A future and then one that a closure makes of its answer.
+/// A future followed by the future that a closure makes of its answer.
 pub type Then<A, B, F> = Flatten<Map<A, F>, B>;
 
 impl<A, B> Flatten<A, B> {
-    // The second is polled.
+    // Polls the second.
     fn poll_second<C, R: Host>(&mut self, rt: &R, alloc: Global, cx: &mut C) -> Poll<B::Output>
     where
         C: Context,
@@ -55,7 +55,7 @@ impl<A, B> Flatten<A, B> {
         }
     }
 
-    // The first is given up, and the second stands in its place.
+    // Gives up the first, and puts the second in its place.
     fn go_on<C>(&mut self, b: B, cx: &mut C)
     where
         C: Context,

@@ -6,21 +6,21 @@ use mono_model::{Host, Poll};
 use mono_task::{Context, TaskFuture};
 use std::alloc::Global;
 
-/// A future that waits for good once the future below has answered. It is given up then.
+/// A future that waits forever once the inner future has answered. That is given up then.
 #[derive(Drop)]
 pub struct Fuse<A> {
     pub(crate) inner: Option<A>,
 }
 
 impl<A> Fuse<A> {
-    /// Returns whether the future below has answered.
+    /// Returns whether the inner future has answered.
     pub fn is_terminated(&self) -> bool
         ensures { result ≡ is_none self.now.inner }
     {
         self.inner.is_none()
     }
 
-    // Gives the future below up.
+    // Gives up the inner future.
     fn end<C>(&mut self, cx: &mut C)
     where
         C: Context,

@@ -6,9 +6,9 @@ use mono_model::{Host, Poll};
 use mono_task::{Context, TaskFuture};
 use std::alloc::Global;
 
-/// A future whose answer a closure sees before it is handed on.
+/// A future whose answer a closure sees before it is returned.
 ///
-/// The future below is given up before the closure is called. It is spent once it has answered.
+/// The inner future is given up before the closure is called. It is spent once it has answered.
 #[derive(Drop)]
 pub struct Inspect<A, F> {
     pub(crate) inner: Option<(A, F)>,

@@ -6,7 +6,7 @@ use mono_model::{Host, Poll};
 use mono_task::{Context, TaskFuture};
 use std::alloc::Global;
 
-/// A future whose first poll calls a closure and answers its result. Then it is spent.
+/// A future whose first poll calls a closure and returns its result. Then it is spent.
 #[derive(Drop)]
 pub struct Lazy<F> {
     pub(crate) func: Option<F>,

@@ -1,9 +1,9 @@
-//! Futures in sequence: an answer that is there, an answer that is changed, one future after another, either of two, a
-//! loop, and a turn for the others.
+//! Futures in sequence: a ready answer, a changed answer, one future after another, either of two, a race, a loop, and
+//! a yield to other tasks.
 //!
-//! What a form answers and leaves is said by its parts' own relations (`polls`, `cancels`), and what it may answer in the
-//! end (`gives`) follows from what its parts may answer and from its closures' contracts. A part that has answered is
-//! given up at once.
+//! A form's parts define its answers and its next state by their own relations (`polls`, `cancels`). The answers that a
+//! form may give in the end (`gives`) follow from those of its parts and from its closures' contracts. A part that has
+//! answered is given up at once.
 #![tactic(auto)]
 
 mod answers;

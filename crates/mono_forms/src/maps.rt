@@ -6,21 +6,21 @@ use mono_model::{Host, Poll};
 use mono_task::{Context, TaskFuture};
 use std::alloc::Global;
 
-/// A future whose answer is that of a closure, called with the answer of the future below.
+/// A future whose answer is that of a closure, called with the answer of the inner future.
 ///
-/// The future below is given up before the closure is called. It is spent once it has answered.
+/// The inner future is given up before the closure is called. It is spent once it has answered.
 #[derive(Drop)]
 pub struct Map<A, F> {
     pub(crate) inner: Option<(A, F)>,
 }
 
-/// The same, where the closure is called with a value, and an error stays as it is.
+/// A future that maps a value by a closure; an error stays as it is.
 #[derive(Drop)]
 pub struct MapOk<A, F> {
     pub(crate) inner: Option<(A, F)>,
 }
 
-/// The same, where the closure is called with an error, and a value stays as it is.
+/// A future that maps an error by a closure; a value stays as it is.
 #[derive(Drop)]
 pub struct MapErr<A, F> {
     pub(crate) inner: Option<(A, F)>,

@@ -1,4 +1,4 @@
-// The first of many futures that answers.
+// The first answer of many futures.
 ghost use Rattle.std.specs.Prelude.{◌≡◌, ◌||◌, false, true, vec_len, [], None};
 ghost use Rattle.std.specs.List.{list_any, All};
 ghost use Rattle.mono_model.specs.Poll.{OnPending, IfReady, ready_value};
@@ -11,17 +11,17 @@ use mono_task::{Context, TaskFuture};
 use std::alloc::Global;
 use std::mem;
 
-/// Many futures of one type of which the first that answers is the answer. Each poll polls them in the written order, up
+/// Many futures of one type; the answer is that of the first to answer. Each poll polls them in the written order, up
 /// to the first that answers.
 ///
-/// Then all are given up in the written order, and the form is spent. A race of no futures waits for good.
+/// Then all are given up in the written order, and the form is spent. A race of no futures waits forever.
 #[derive(Drop)]
 pub struct RaceList<T> {
     pub(crate) futures: Vec<T>,
     pub(crate) has_answered: bool,
 }
 
-// Whether a future is spent.
+// Returns whether a future is spent.
 fn any_spent<C: Context, T: TaskFuture<C>>(futures: &Vec<T>) -> bool
     ensures { result ≡ list_any T.is_spent futures.now.items }
 {
@@ -55,7 +55,7 @@ fn poll_in_turn<R: Host, C: Context, T: TaskFuture<C>>(
     Poll::Pending
 }
 
-// Gives the futures up, in the written order.
+// Gives up the futures, in the written order.
 fn cancel_each<C: Context, T: TaskFuture<C>>(cx: &mut C, futures: Vec<T>)
     ensures cancelled { AllCancel T.cancels futures.items cx.old cx.new }
     ensures reached { C.reaches cx.old cx.new }

@@ -1,4 +1,4 @@
-// The first of two that answers.
+// The first answer of two futures.
 ghost use Rattle.std.specs.Prelude.{◌≡◌, None};
 ghost use Rattle.mono_forms.specs.Races.{race_spent, RaceCanPoll, RacePolls, RaceGives, RaceCancels};
 
@@ -6,16 +6,16 @@ use mono_model::{Host, Poll};
 use mono_task::{Context, TaskFuture};
 use std::alloc::Global;
 
-/// Two futures of which the first that answers is the answer. Each poll polls them in the written order.
+/// Two futures; the answer is that of the first to answer. Each poll polls them in the written order.
 ///
-/// Where one has answered both are given up, in the written order, and the form is spent.
+/// Once one has answered, both are given up in the written order, and the form is spent.
 #[derive(Drop)]
 pub struct Race<A, B> {
     pub(crate) both: Option<(A, B)>,
 }
 
 impl<A, B> Race<A, B> {
-    // Both are given up.
+    // Gives up both.
     fn end<C>(&mut self, cx: &mut C)
     where
         C: Context,

@@ -9,22 +9,23 @@ use mono_task::{Context, TaskFuture};
 use std::alloc::Global;
 use std::mem;
 
-/// What a turn of a loop asks for: its end with a value, or one more turn at a state.
+/// The request of a turn of a loop: its end with a value, or one more turn at a state.
 #[derive(Drop)]
 pub enum Loop<T, S> {
     /// The loop ends.
     Break(T),
-    /// It goes on.
+    /// The loop continues.
     Continue(S),
 }
 
-/// So many turns a poll makes at most; then its task is woken, and the others have their turns.
+/// The greatest number of turns in one poll; after them the form wakes its task, so the other tasks have their turns.
 pub(crate) const BUDGET: u64 = 128;
 
-/// One future after another, each a closure's at the state that the one before asked for, until one ends the loop.
+/// One future after another, until one ends the loop. A closure makes each of them from the state that the future
+/// before asked for.
 ///
-/// A future that has answered is given up at once, and the next has its first poll in the same poll. After 128 turns in
-/// one poll the form wakes its own task and is pending.
+/// A future that has answered is given up at once, and the same poll polls the next for the first time. After 128 turns
+/// in one poll the form wakes its own task and is pending.
 #[derive(Drop)]
 pub struct Repeat<A, F> {
     pub(crate) future: Option<A>,
@@ -32,7 +33,7 @@ pub struct Repeat<A, F> {
 }
 
 impl<A, F> Repeat<A, F> {
-    // One turn: the poll's answer, or none where the next future stands in place of this one.
+    // Makes one turn. Returns the poll's answer, or `None` if the next future took this one's place.
     fn turn<C, S, T, R: Host>(&mut self, rt: &R, alloc: Global, cx: &mut C) -> Option<Poll<T>>
     where
         C: Context,
@@ -61,7 +62,7 @@ impl<A, F> Repeat<A, F> {
         }
     }
 
-    // The future under way is given up, and this stands in its place.
+    // Gives up the running future, and puts this in its place.
     fn stand<C>(&mut self, next: Option<A>, cx: &mut C)
     where
         C: Context,

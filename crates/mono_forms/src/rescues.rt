@@ -1,4 +1,4 @@
-// One future after another, where the first fails.
+// One future after another, if the first fails.
 ghost use Rattle.std.specs.Prelude.{◌≡◌, false};
 ghost use Rattle.mono_model.specs.Poll.{OnPending, IfReady};
 ghost use Rattle.mono_forms.specs.Rescues.{rescue_spent, RescueCanPoll, RescuePolls, RescueGives, RescueCancels, OtherMayPoll, OtherPolls};
@@ -9,10 +9,10 @@ use mono_task::{Context, TaskFuture};
 use std::alloc::Global;
 use std::mem;
 
-/// A future whose error is a future, and then that one; a value of the first is the answer at once.
+/// A future whose error is a future, followed by that future; a value of the first is the answer at once.
 ///
-/// The first is given up once it has answered, and the second has its first poll in that same poll. The second is given
-/// up once it has answered. Then the form is spent.
+/// The first is given up once it has answered, and that same poll polls the second for the first time. The second is
+/// given up once it has answered. Then the form is spent.
 #[derive(Drop)]
 pub enum TryFlattenErr<A, B> {
     /// The first has not answered.
@@ -23,11 +23,11 @@ pub enum TryFlattenErr<A, B> {
     Over,
 }
 
-/// A future and then, where it fails, one that a closure makes of its error.
+/// A future followed, if it fails, by the future that a closure makes of its error.
 pub type OrElse<A, B, F> = TryFlattenErr<MapErr<A, F>, B>;
 
 impl<A, B> TryFlattenErr<A, B> {
-    // The second is polled.
+    // Polls the second.
     fn poll_second<C, T, U, R: Host>(
         &mut self,
         rt: &R,
@@ -60,7 +60,7 @@ impl<A, B> TryFlattenErr<A, B> {
         }
     }
 
-    // The one under way is given up, and this stands in its place.
+    // Gives up the running future, and puts this in its place.
     fn go_on<C>(&mut self, next: TryFlattenErr<A, B>, cx: &mut C)
     where
         C: Context,

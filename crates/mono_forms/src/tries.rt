@@ -1,4 +1,4 @@
-// One future after another, where the first succeeds.
+// One future after another, if the first succeeds.
 ghost use Rattle.std.specs.Prelude.{◌≡◌, false};
 ghost use Rattle.mono_model.specs.Poll.{OnPending, IfReady};
 ghost use Rattle.mono_forms.specs.Tries.{try_spent, TryCanPoll, TryPolls, TryGives, TryCancels, NextMayPoll, NextPolls};
@@ -9,10 +9,10 @@ use mono_task::{Context, TaskFuture};
 use std::alloc::Global;
 use std::mem;
 
-/// A future whose value is a future, and then that one; an error of the first is the answer at once.
+/// A future whose value is a future, followed by that future; an error of the first is the answer at once.
 ///
-/// The first is given up once it has answered, and the second has its first poll in that same poll. The second is given
-/// up once it has answered. Then the form is spent.
+/// The first is given up once it has answered, and that same poll polls the second for the first time. The second is
+/// given up once it has answered. Then the form is spent.
 #[derive(Drop)]
 pub enum TryFlatten<A, B> {
     /// The first has not answered.
@@ -23,11 +23,11 @@ pub enum TryFlatten<A, B> {
     Over,
 }
 
-/// A future and then, where it succeeds, one that a closure makes of its value.
+/// A future followed, if it succeeds, by the future that a closure makes of its value.
 pub type AndThen<A, B, F> = TryFlatten<MapOk<A, F>, B>;
 
 impl<A, B> TryFlatten<A, B> {
-    // The second is polled.
+    // Polls the second.
     fn poll_second<C, U, E, R: Host>(
         &mut self,
         rt: &R,
@@ -60,7 +60,7 @@ impl<A, B> TryFlatten<A, B> {
         }
     }
 
-    // The one under way is given up, and this stands in its place.
+    // Gives up the running future, and puts this in its place.
     fn go_on<C>(&mut self, next: TryFlatten<A, B>, cx: &mut C)
     where
         C: Context,

@@ -1,4 +1,4 @@
-// A turn for the others.
+// A yield to the other queued tasks.
 ghost use Rattle.std.specs.Prelude.{◌≡◌};
 ghost use Rattle.mono_forms.specs.Yields.{yield_spent, YieldPolls};
 
@@ -6,7 +6,7 @@ use mono_model::{Host, Poll};
 use mono_task::{Context, TaskFuture};
 use std::alloc::Global;
 
-/// Lets the tasks that are queued have their turns: its first poll wakes its own task and is pending, and the next is ready.
+/// A yield to the queued tasks: its first poll wakes its own task and is pending, and the next is ready.
 #[derive(Drop)]
 pub enum YieldNow {
     /// It has not been polled.
