@@ -8,7 +8,7 @@ use Rattle.mono_stream.specs.Members.{StreamOf}
 use Rattle.mono_stream.specs.declared.chains.Then.{Then}
 
 module _ {Fut C Y : Type 0} (future : FutureOf Fut C Y) where
-  -- it may be polled
+  -- Whether it may be polled.
   abbrev pub IsLive : Fut → Type 0
   IsLive g = (future.is_spent g ≡ false) × future.can_poll g
 
@@ -20,7 +20,7 @@ module _ {Fut C Y : Type 0} (future : FutureOf Fut C Y) where
   HeldCancels None c d = d ≡ c
   HeldCancels (Some g) c d = future.cancels g c d
 
-  -- a future that was ready is given up at once, and its output is the item
+  -- A future that was ready is given up at once, and its output is the item.
   abbrev pub AfterPoll : Poll Y → Fut → C → Poll (Option Y) → Option Fut → C → Type 0
   AfterPoll (Ready y) left c r made d = future.cancels left c d × (r ≡ Ready (Some y)) × (made ≡ None)
   AfterPoll Pending left c r made d = (r ≡ Pending) × (made ≡ Some left) × (d ≡ c)
@@ -33,7 +33,7 @@ module _ {Fut C Y : Type 0} (future : FutureOf Fut C Y) where
     pub rest : AfterPoll answer left middle r made d
 
 module _ {F Fut C X Y : Type 0} (future : FutureOf Fut C Y) (call : Mut F (X × Unit {0}) Fut) where
-  -- what the closure makes may be polled
+  -- The future that the closure makes may be polled.
   pub record MakesLive : Type 0 where
     pub can_call : (f : F) (x : X) → call.pre f (x, tt)
     pub live : (f : F) (x : X) (g : Fut) (f' : F) → Called call f (x, tt) g f' → IsLive future g
@@ -50,7 +50,7 @@ module _ {S F Fut C X Y : Type 0} (stream : StreamOf S C X) (future : FutureOf F
     pub polled : stream.polls t.stream c answer u.stream middle
     pub rest : AfterNext future call answer t.f middle r u.f u.made d
 
-  -- the future that is there is polled, and else the next item is taken
+  -- The future that was made is polled; if there is none, the next item is taken.
   abbrev pub ByMade : Option Fut → Then S F Fut → C → Poll (Option Y) → Then S F Fut → C → Type 0
   ByMade (Some g) t c r u d = Finishes future g c r u.made d × (u.stream ≡ t.stream) × (u.f ≡ t.f)
   ByMade None t c r u d = Nexts t c r u d

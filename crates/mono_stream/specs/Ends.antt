@@ -1,17 +1,17 @@
--- Words on what a stream answers.
+-- Definitions for a stream's answers.
 use Rattle.std.specs.Prelude.{⊤, Option, Some, None}
 use Rattle.mono_model.specs.declared.poll.Poll.{Poll}
 use Rattle.mono_stream.specs.declared.for_each.Stop.{Stop}
 use Rattle.mono_stream.specs.declared.for_each.Stop.TheVariants.{Ended, Waits, Many}
 use Rattle.mono_model.specs.declared.poll.Poll.TheVariants.{Ready, Pending}
 
--- the fact holds unless the stream has ended
+-- The fact holds unless the stream has ended.
 abbrev pub UnlessEnded : {X : Type 0} → Poll (Option X) → Type 0 → Type 0
 UnlessEnded (Ready (Some x)) P = P
 UnlessEnded (Ready None) P = ⊤
 UnlessEnded Pending P = P
 
--- the fact holds unless no more items were handled because the stream has ended
+-- The fact holds unless the handling stopped because the stream has ended.
 abbrev pub UnlessStopped : Stop → Type 0 → Type 0
 UnlessStopped Ended P = ⊤
 UnlessStopped Waits P = P

@@ -3,6 +3,6 @@ use Rattle.std.specs.Prelude.{◌≡◌, Option}
 use Rattle.mono_model.specs.declared.poll.Poll.{Poll}
 use Rattle.mono_model.specs.declared.poll.Poll.TheVariants.{Ready}
 
--- the answer is ready with what the iterator gives next
+-- The answer is ready with the iterator's next item.
 abbrev pub IterPolls : {I C X : Type 0} → (I → Option X → I → Type 0) → I → C → Poll (Option X) → I → C → Type 0
 IterPolls {I} {C} {X} next_gives i c r j d = (item : Option X) × next_gives i item j × (r ≡ Ready item) × (d ≡ c)

@@ -1,4 +1,4 @@
--- A stream of what a closure answers for each item.
+-- A stream of a closure's answers for the items.
 use Rattle.std.specs.Prelude.{◌≡◌, Option, Some, None}
 use Rattle.std.specs.Fn.{Mut, Called}
 use Rattle.mono_model.specs.declared.poll.Poll.{Poll}
@@ -7,7 +7,7 @@ use Rattle.mono_stream.specs.Members.{StreamOf}
 use Rattle.mono_stream.specs.declared.maps.Map.{Map}
 
 module _ {F X Y : Type 0} (g : Mut F (X × Unit {0}) Y) where
-  -- the closure was called at the item, if there is one
+  -- The closure was called at the item, if there is one.
   abbrev pub Answers : Poll (Option X) → F → Poll (Option Y) → F → Type 0
   Answers (Ready (Some x)) f r f' = (y : Y) × Called g f (x, tt) y f' × (r ≡ Ready (Some y))
   Answers (Ready None) f r f' = (r ≡ Ready None) × (f' ≡ f)

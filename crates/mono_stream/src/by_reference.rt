@@ -6,7 +6,7 @@ use mono_model::{Host, Poll};
 use mono_task::Context;
 use std::alloc::Global;
 
-/// The stream behind the reference. To give the reference up does nothing.
+/// The stream that the reference points to. Giving the reference up does nothing.
 impl<C: Context, S: Stream<C>> Stream<C> for &mut S {
     type Item = S::Item;
 

@@ -10,7 +10,8 @@ use std::alloc::Global;
 /// A stream of the outputs of the futures that a closure makes of the items of another, in order.
 ///
 /// Each poll polls the future that was made. Once that is ready it is given up, and only then the next item is taken. A
-/// poll requires (`can_poll`) that the closure may be called at every state and item, and makes no future that is spent.
+/// poll requires (`can_poll`) that the closure may be called at every state and item, and makes no future that is
+/// spent.
 #[derive(Drop)]
 pub struct Then<S, F, Fut> {
     pub(crate) stream: S,
@@ -18,7 +19,7 @@ pub struct Then<S, F, Fut> {
     pub(crate) made: Option<Fut>,
 }
 
-// Polls a future that was made, and keeps it where it is not ready.
+// Polls a future that was made, and keeps it if it is not ready.
 fn finish<R: Host, C: Context, Fut: TaskFuture<C>>(
     rt: &R,
     alloc: Global,
@@ -81,7 +82,7 @@ where
         (0, None)
     }
 
-    // The future that was made is given up first, and then the stream.
+    // Gives up the future that was made first, and then the stream.
     fn cancel(self, cx: &mut C) {
         let Then { stream, f: _, made } = self;
         if let Some(future) = made {

@@ -7,9 +7,9 @@ use crate::maps::Map;
 use crate::streams::Stream;
 use mono_task::{Context, TaskFuture};
 
-/// What can be made of every stream.
+/// The streams and futures that can be made of every stream.
 pub trait StreamExt<C: Context>: Stream<C> + Sized {
-    /// The stream of what `f` answers for each item.
+    /// Returns the stream of the answers of `f` for the items.
     fn map<T, F: FnMut(Self::Item) -> T>(self, f: F) -> Map<Self, F>
         ensures stream { result.stream ≡ self }
         ensures f { result.f ≡ f }
@@ -17,7 +17,7 @@ pub trait StreamExt<C: Context>: Stream<C> + Sized {
         Map { stream: self, f }
     }
 
-    /// The stream of the outputs of the futures that `f` makes of the items. None of these may be spent.
+    /// Returns the stream of the outputs of the futures that `f` makes of the items. None of these may be spent.
     fn then<F: FnMut(Self::Item) -> Fut, Fut: TaskFuture<C>>(self, f: F) -> Then<Self, F, Fut>
         ensures stream { result.stream ≡ self }
         ensures f { result.f ≡ f }
@@ -30,7 +30,7 @@ pub trait StreamExt<C: Context>: Stream<C> + Sized {
         }
     }
 
-    /// The future that handles each item by the future that `f` makes of it. None of these may be spent.
+    /// Returns the future that handles each item by the future that `f` makes of it. None of these may be spent.
     fn for_each<F: FnMut(Self::Item) -> Fut, Fut: TaskFuture<C, Output = ()>>(
         self,
         f: F,

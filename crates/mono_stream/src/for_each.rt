@@ -43,8 +43,8 @@ fn handle_some<R: Host, C: Context, S: Stream<C, Item = ()>>(
 
 /// A future that handles each item of a stream, in order, by the future that a closure makes of it.
 ///
-/// Each of these futures is given up once it is ready. One poll handles at most 256 items; then it wakes its own task and
-/// answers `Pending`. It is ready once the stream has ended and each item was handled, and spent from then on.
+/// Each of these futures is given up once it is ready. One poll handles at most 256 items; then it wakes its own task
+/// and returns `Pending`. It is ready once the stream has ended and each item was handled, and is spent from then on.
 #[derive(Drop)]
 pub struct ForEach<S, F, Fut> {
     pub(crate) items: Then<S, F, Fut>,

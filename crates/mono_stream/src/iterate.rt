@@ -20,7 +20,7 @@ impl<C: Context, I: Iterator> Stream<C> for Iter<I> {
 
     ghost can_poll = { λ s. I.can_next s.iterator };
 
-    // the item is the iterator's, and the context stays as it is
+    // The item is the iterator's, and the context stays as it is.
     ghost polls = { λ s c r t d. IterPolls I.next_gives s.iterator c r t.iterator d };
 
     ghost cancels = { λ s c d. d ≡ c };

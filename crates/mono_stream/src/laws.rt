@@ -1,4 +1,4 @@
-// Laws on the items that streams give over polls in a row, as functions with empty bodies.
+// Laws on the items that streams give over consecutive polls, as functions with empty bodies.
 ghost use Rattle.std.specs.Prelude.{◌≡◌, ℕ, List, Option, None, Bool};
 ghost use Rattle.mono_stream.specs.Items.{Gives, AreImages, AreOutputs, AreNext, blank, is_end, polls_for};
 ghost use Rattle.mono_stream.specs.declared.iterate.Iter.{Iter};
@@ -13,8 +13,8 @@ use crate::iterate::Iter;
 use crate::streams::Stream;
 use mono_task::{Context, TaskFuture};
 
-/// Over polls in a row a mapped stream gives the images of the items that its stream gives in as many polls, in order,
-/// and has ended where that has ended.
+/// Shows that a mapped stream gives the images of the items that its stream gives in equally many consecutive polls, in
+/// order. It has ended if and only if that stream has ended.
 pub fn maps_each_item<T, C, S, F>()
 where
     C: Context,
@@ -24,8 +24,8 @@ where
         (items : List S.Item) × Gives S.polls n old.stream items has_ended new.stream × AreImages F.FnMut old.f items images new.f }
 {}
 
-/// Over polls in a row a chained stream that holds no future gives the outputs of the futures that its closure makes of
-/// the items of its stream, in order; the last of these futures may still be waited for.
+/// Shows that a chained stream that holds no future gives, over consecutive polls, the outputs of the futures that its
+/// closure makes of the items, in order. The last of these futures may still be pending.
 pub fn chains_each_item<C, S, F, Fut>()
 where
     C: Context,
@@ -36,7 +36,8 @@ where
         (count : ℕ) × (items : List S.Item) × Gives S.polls count old.stream items has_ended new.stream × AreOutputs Fut.TaskFuture F.FnMut old.f items outputs new.made new.f }
 {}
 
-/// What one poll handles are items that the stream gives, one after the other, and it stops as ended where that has ended.
+/// Shows that one poll handles items that the stream gives, one after the other. It stops as ended if and only if the
+/// stream has ended.
 pub fn handles_each_item<C, S>()
 where
     C: Context,
@@ -44,7 +45,8 @@ where
     ensures { (old : S) (c : C) (stop : Stop) (new : S) (d : C) → Handles S.polls old c stop new d → (n : ℕ) × Gives S.polls (polls_for stop n) old (blank n) (is_end stop) new }
 {}
 
-/// Over polls in a row the stream of an iterator gives what the iterator gives next, item by item, until that has ended.
+/// Shows that the stream of an iterator gives, over consecutive polls, the iterator's next items, item by item, until
+/// that has ended.
 pub fn gives_each_next<C, I>()
 where
     C: Context,

@@ -1,4 +1,4 @@
-// A stream of what a closure answers for each item.
+// A stream of a closure's answers for the items.
 ghost use Rattle.std.specs.Prelude.{◌≡◌, None};
 ghost use Rattle.mono_stream.specs.Maps.{MapPolls};
 
@@ -7,7 +7,7 @@ use mono_model::{Host, Poll};
 use mono_task::Context;
 use std::alloc::Global;
 
-/// A stream of what a closure answers for each item of another, in order.
+/// A stream of a closure's answers for the items of another, in order.
 ///
 /// A poll requires (`can_poll`) that the closure may be called at every state and item.
 #[derive(Drop)]

@@ -2,7 +2,7 @@
 
 use crate::iterate::Iter;
 
-/// The stream of the items of `i`.
+/// Returns the stream of the items of `i`.
 pub fn iter<I: IntoIterator>(i: I) -> Iter<I::IntoIter>
     ensures { I.into_iter_gives i result.iterator }
 {

@@ -1,12 +1,12 @@
-// A worked stream, as functions with empty bodies.
+// An example of a stream, as functions with empty bodies.
 ghost use Rattle.std.specs.Prelude.{◌≡◌, ℕ, true, false, List, [], ◌∷◌, Bool, Option, None};
 ghost use Rattle.mono_model.specs.declared.poll.Poll.{Poll};
 ghost use Rattle.mono_model.specs.declared.poll.Poll.TheVariants.{Ready, Pending};
 ghost use Rattle.mono_stream.specs.Items.{Gives};
 ghost use Rattle.mono_stream.specs.Examples.{AnswersNext, five_and_seven};
 
-/// Polls that answer 5, then that it has to wait, then 7, then that the stream has ended, give 5 and 7 and the end; three
-/// of them give 5 and 7 and no end; and they give nothing else.
+/// Shows that polls that answer 5, `Pending`, 7 and the end give 5 and 7 and the end. Three of them give 5 and 7 and no
+/// end. They give nothing else.
 pub fn waits_between_two_items()
     ensures all { Gives AnswersNext 4 five_and_seven (5 ∷ 7 ∷ []) true [] }
     ensures some { Gives AnswersNext 3 five_and_seven (5 ∷ 7 ∷ []) false (Ready None ∷ []) }

@@ -9,25 +9,26 @@ use std::alloc::Global;
 
 /// Items that come one after the other, in turns on a context.
 ///
-/// A stream tells what one poll may answer and leave (`polls`) and what giving it up may leave (`cancels`). Whatever it
-/// is, poll and cancel promise that the context is reached from the one before (`reached`).
+/// A stream specifies the answers of one poll and the stream after it (`polls`), and the context after it is given up
+/// (`cancels`). For every stream, poll and cancel promise that the new context is reached from the context before
+/// (`reached`).
 pub trait Stream<C: Context>: Drop {
-    /// What the stream gives.
+    /// The type of its items.
     type Item;
 
-    // what its closures, its iterator and the futures that it holds require of a poll; true of a stream that has none
+    // The requirements of its closures, its iterator and its futures on a poll; true for a stream that has none.
     ghost can_poll: { Self → Type 0 } = { λ _. ⊤ };
 
-    // what one poll may answer, and the stream and the context that it may leave
+    // The answers that one poll may give, and the stream and the context after it.
     ghost polls: { Self → C → Poll (Option Self.Item) → Self → C → Type 0 };
 
-    // the context that giving the stream up may leave
+    // The contexts after giving the stream up.
     ghost cancels: { Self → C → C → Type 0 };
 
-    // what may be said of how many items are left
+    // The hints that are right for the number of remaining items.
     ghost hints: { Self → ℕ × Option ℕ → Type 0 } = { λ _ hint. hint ≡ (0, None) };
 
-    /// The next item, or `None` where the stream has ended, or `Pending` where neither is there yet.
+    /// Returns the next item, `None` if the stream has ended, or `Pending` if neither has come yet.
     ///
     /// A stream that has not ended may be polled again (`callable`).
     fn poll_next<R: Host>(&mut self, rt: &R, alloc: Global, cx: &mut C) -> Poll<Option<Self::Item>>
@@ -36,11 +37,11 @@ pub trait Stream<C: Context>: Drop {
         ensures callable { UnlessEnded result (can_poll self.new) }
         ensures reached { C.reaches cx.old cx.new };
 
-    /// Bounds on how many items are left; `(0, None)` where the stream says no more.
+    /// Returns bounds on the number of remaining items; `(0, None)` if the stream knows no more.
     fn size_hint(&self) -> (usize, Option<usize>)
         ensures { hints self.now result };
 
-    /// Gives the stream up, with what it holds in the context: sleeps and join handles.
+    /// Gives up the stream, with its sleeps and join handles in the context.
     fn cancel(self, cx: &mut C)
         ensures cancelled { cancels self cx.old cx.new }
         ensures reached { C.reaches cx.old cx.new };
