@@ -1,4 +1,4 @@
--- A future that waits so many polls: what one poll of it answers and leaves.
+-- A future that waits for a number of polls: its answer to one poll and its state after it.
 use Rattle.std.specs.Prelude.{◌≡◌, ℕ, ◌-◌, ◌==◌, ⊤, Bool, true, if◌then◌else◌, Result}
 use Rattle.mono_model.specs.Tasks.{Tasks, woken}
 use Rattle.mono_model.specs.Poll.{OnPending, OnReady}
@@ -8,7 +8,7 @@ use Rattle.mono_model.specs.declared.poll.Poll.{Poll}
 use Rattle.mono_model.specs.declared.poll.Poll.TheVariants.{Ready, Pending}
 use Rattle.mono_nest.specs.declared.by_hand.Countdown.{Countdown}
 
--- no polls are left, so the next one answers
+-- Whether no polls are left, so the next one answers.
 abbrev pub is_over : Countdown → Bool
 is_over f = f.left == 0
 
@@ -22,13 +22,13 @@ abbrev pub answered : Countdown → Countdown
 answered f = record { left = f.left; value = f.value; has_answered = true }
 
 module _ {C : Type 0} (number : C → ℕ) (work : C → Tasks ⊤) (wakes : C → ℕ → Result Woke TaskError → C → Type 0) (reaches : C → C → Type 0) where
-  -- the running task is woken
+  -- The running task is woken.
   pub record WakesItself (c d : C) : Type 0 where
     pub woke : Result Woke TaskError
     pub wake : wakes c (number c) woke d
     pub work_after : work d ≡ woken (work c) (number c)
 
-  -- it answers exactly where no polls are left, and else one fewer is left and its own task is woken
+  -- It answers if and only if no polls are left; otherwise one fewer is left and its own task is woken.
   pub record CountdownPolls (f : Countdown) (c : C) (r : Poll ℕ) (g : Countdown) (d : C) : Type 0 where
     pub answer : r ≡ answer_of f
     pub waits : OnPending r ((g ≡ one_fewer f) × WakesItself c d)

@@ -18,37 +18,37 @@ use Rattle.mono_combine.specs.declared.start.Start.TheVariants.{Biased}
 use Rattle.mono_nest.specs.Countdowns.{is_over, one_fewer}
 use Rattle.mono_nest.specs.declared.by_hand.Countdown.{Countdown}
 
--- a countdown with a deadline
+-- A countdown with a deadline.
 abbrev pub Limited : Type 0
 Limited = Timeout Countdown
 
--- A select as it is made: both branches take part, and the first has its turn first.
+-- A new select: both branches take part, and the first has its turn first.
 abbrev pub race_of : {G H : Type 0} → Limited → Limited → G → H → Select2 Limited Limited G H
 race_of a b g h = record { first = Live a; second = Live b; first_test = g; second_test = h; start = Biased; has_answered = false }
 
--- a join as it is made
+-- A new join.
 abbrev pub nest_of : {C A B X Y : Type 0} → A → B → Join2 C A B X Y
 nest_of a b = record { a = maybe.Future a; b = maybe.Future b }
 
--- polls of the countdown are left, and the delay is not due
+-- The countdown has polls left, and the delay is not due.
 pub record Waits (sleeps : SleepTable) (t : Limited) : Type 0 where
   pub counts : is_over t.value ≡ false
   pub not_due : sleep_poll_answer sleeps t.delay.number ≡ Ok Pending
 
--- it has not answered, and waits
+-- It has not answered, and waits.
 abbrev pub MayBegin : SleepTable → Limited → Type 0
 MayBegin sleeps t = (t.value.has_answered ≡ false) × Waits sleeps t
 
--- polls of the countdown are left, and the delay is due
+-- The countdown has polls left, and the delay is due.
 pub record IsLate (sleeps : SleepTable) (t : Limited) : Type 0 where
   pub counts : is_over t.value ≡ false
   pub due : sleep_poll_answer sleeps t.delay.number ≡ Ok (Ready tt)
 
--- what a countdown answers whose time has elapsed
+-- The answer of a countdown whose time has elapsed.
 abbrev pub late : Result ℕ TimeoutError
 late = Err (Elapsed (record {}))
 
--- the delays of a nest are four
+-- The delays of the second race differ from each other and from those of the first.
 pub record Apart (a b e f : Limited) : Type 0 where
   pub e_a : e.delay.number ≢ a.delay.number
   pub e_b : e.delay.number ≢ b.delay.number
@@ -56,19 +56,19 @@ pub record Apart (a b e f : Limited) : Type 0 where
   pub f_b : f.delay.number ≢ b.delay.number
   pub f_e : f.delay.number ≢ e.delay.number
 
--- the delay is no live sleep
+-- The delay is no live sleep.
 abbrev pub IsGone : SleepTable → Limited → Type 0
 IsGone sleeps t = value_at sleeps.table t.delay.number ≡ None
 
--- the predicate can only pass this output
+-- The predicate can only pass this output.
 abbrev pub Passes : {P X : Type 0} → Shared P (Bor X × Unit {0}) Bool → P → X → Type 0
 Passes call test x = (b : Bool) → FnReturnsAt call test x b → b ≡ true
 
--- one poll fewer is left, and the delay stays
+-- The countdown with one poll fewer left; the delay stays.
 abbrev pub polled_once : Limited → Limited
 polled_once t = record { value = one_fewer t.value; delay = t.delay }
 
--- the sleeps after one poll of each of these by the task, and after each was given up, in order
+-- The sleeps after the task polled each of these once, and after each was given up, in order.
 abbrev pub all_polled : SleepTable → List ℕ → ℕ → SleepTable
 all_polled sleeps [] by = sleeps
 all_polled sleeps (s ∷ later) by = all_polled (with_polled_sleep sleeps s by) later by
@@ -77,25 +77,25 @@ abbrev pub all_removed : SleepTable → List ℕ → SleepTable
 all_removed sleeps [] = sleeps
 all_removed sleeps (s ∷ later) = all_removed (with_removed_sleep sleeps s) later
 
--- No sleep is there that was not there before.
+-- The new table has no new sleep.
 abbrev pub AddsNone : SleepTable → SleepTable → Type 0
 AddsNone old new = (s : ℕ) → value_at old.table s ≡ None → value_at new.table s ≡ None
 
--- None but this sleep is there that was not there before.
+-- The new table has no new sleep but this one.
 abbrev pub AddsOnly : SleepTable → SleepTable → ℕ → Type 0
 AddsOnly old new number = (s : ℕ) → s ≢ number → value_at old.table s ≡ None → value_at new.table s ≡ None
 
--- None but these two sleeps are there that were not there before.
+-- The new table has no new sleep but these two.
 abbrev pub AddsTwo : SleepTable → SleepTable → ℕ → ℕ → Type 0
 AddsTwo old new first second = (s : ℕ) → s ≢ first → s ≢ second → value_at old.table s ≡ None → value_at new.table s ≡ None
 
--- The sleeps after the first race was won by its first value, and the second by the time of its second: the delay of each
--- value that was ready is given up by its timeout, that of each branch that was ready or late by its select, and then that
--- of each branch that was not.
+-- The sleeps after the first race was won by its first value, and the second by the timeout of its second branch. The
+-- timeout gives up the delay of a value that was ready. Then the select gives up the delay of the branch that was ready
+-- or late, and after it that of the other branch.
 abbrev pub after_end : SleepTable → ℕ → ℕ → ℕ → ℕ → ℕ → SleepTable
 after_end sleeps a b e f by = all_removed (all_polled (all_removed sleeps (a ∷ a ∷ b ∷ [])) (e ∷ f ∷ []) by) (f ∷ e ∷ [])
 
--- the delays that are not given up yet, in the written order
+-- The delays that are not given up yet, in the written order.
 abbrev pub delay_in : Branch Limited → List ℕ
 delay_in (Live t) = t.delay.number ∷ []
 delay_in (Out t) = t.delay.number ∷ []

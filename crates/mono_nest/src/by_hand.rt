@@ -6,7 +6,7 @@ use mono_model::{Host, Poll};
 use mono_task::{Context, TaskFuture};
 use std::alloc::Global;
 
-/// A future that waits so many polls and then answers its value. In each of these polls it wakes its own task.
+/// A future that is pending for `left` polls and then returns its value. In each of these polls it wakes its own task.
 #[derive(Drop)]
 pub struct Countdown {
     left: u64,
@@ -15,7 +15,7 @@ pub struct Countdown {
 }
 
 impl Countdown {
-    /// The future that waits so many polls and then answers the value.
+    /// Returns the future that is pending for `left` polls and then returns `value`.
     pub fn new(left: u64, value: u64) -> Countdown
         ensures left { result.left ≡ left }
         ensures value { result.value ≡ value }

@@ -1,4 +1,4 @@
-//! What one poll of the nest answers and leaves, and what giving it up leaves, as functions with empty bodies.
+//! Laws on one poll of the nest and on giving it up, as functions with empty bodies.
 ghost use Rattle.std.specs.Prelude.{◌≡◌, true, Ok, [], ◌∷◌};
 ghost use Rattle.mono_model.specs.Tasks.{all_woken};
 ghost use Rattle.mono_model.specs.declared.poll.Poll.{Poll};
@@ -13,8 +13,9 @@ use mono_combine::Join2;
 use mono_task::TaskFuture;
 use mono_time::TimeContext;
 
-/// A nest waits where polls of all four countdowns are left and no delay is due. Then each countdown was polled once, and
-/// each delay after it, in the written order: the running task was woken by each, and is the only waker of each delay.
+/// Shows that a nest waits if all four countdowns have polls left and no delay is due. Then each countdown was polled
+/// once, and each delay after it, in the written order. Each countdown woke the running task, and that task is the only
+/// waker of each delay.
 pub fn nest_waits<C, G, H, I, J>()
 where
     C: TimeContext,
@@ -31,9 +32,9 @@ where
         × (C.work d ≡ all_woken (C.work c) (C.number c ∷ C.number c ∷ C.number c ∷ C.number c ∷ [])) }
 {}
 
-/// A nest answers where no polls of the first countdown are left, while the third waits and the fourth is out of time: the
-/// first race gives the first value, the second that the time has elapsed. No delay is left, and they are given up in this
-/// order: that of the first, of the second, of the fourth, of the third.
+/// Shows that a nest answers if the first countdown has no polls left, the third waits and the fourth is out of time.
+/// The first race gives the first value, and the second that the time has elapsed. No delay remains. They are given up
+/// in this order: that of the first, the second, the fourth and the third.
 pub fn nest_ends<C, G, H, I, J>()
 where
     C: TimeContext,
@@ -50,8 +51,8 @@ where
         × IsGone (C.sleeps d) a × IsGone (C.sleeps d) b × IsGone (C.sleeps d) e × IsGone (C.sleeps d) f }
 {}
 
-/// Giving a nest up gives up each delay that is not given up yet, in the written order, and changes nothing else of the
-/// sleeps and the tasks.
+/// Shows that giving up a nest gives up each remaining delay, in the written order. Nothing else of the sleeps and the
+/// tasks changes.
 pub fn nest_is_given_up<C, G, H, I, J>()
 where
     C: TimeContext,

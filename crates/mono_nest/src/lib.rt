@@ -1,7 +1,7 @@
-//! A future written by hand, and a join of selects of timeouts over it, reasoned about by the clauses of its parts alone.
+//! A future written by hand, and a join of selects of timeouts over it, proved from the clauses of its parts alone.
 //!
-//! The laws say what one poll of the nest answers and what giving it up leaves, by the countdowns' polls that are left and
-//! by the context's sleeps. Nothing of how a join, a select or a timeout works is opened for that.
+//! The laws state the nest's answer to one poll, and its state after that poll and after it is given up. They use the
+//! countdowns' remaining polls and the context's sleeps, and no definition inside a join, a select or a timeout.
 #![tactic(auto)]
 
 mod by_hand;

@@ -1,4 +1,4 @@
-// How the nest is made.
+// The types and the construction of the nest.
 ghost use Rattle.std.specs.Prelude.{◌≡◌, true, false, [], ◌∷◌};
 ghost use Rattle.mono_model.specs.Tasks.{all_woken};
 ghost use Rattle.mono_nest.specs.Nests.{race_of, nest_of, MayBegin, all_polled, all_removed};
@@ -14,23 +14,24 @@ use std::alloc::Global;
 /// A countdown with a deadline.
 pub type Limited = Timeout<Countdown>;
 
-/// What a countdown with a deadline answers.
+/// The answer of a countdown with a deadline.
 pub type Answer = Result<u64, TimeoutError>;
 
-/// Two countdowns with deadlines, of which the first that answers and passes its predicate counts.
+/// Two countdowns with deadlines; the first that answers and passes its predicate counts.
 pub type Race<G, H> = Select2<Limited, Limited, G, H>;
 
-/// What a race answers.
+/// The answer of a race.
 pub type Raced = Out2<Answer, Answer>;
 
-/// The race of two countdowns with deadlines, with a predicate for each. Both take part, and the first has its turn first.
+/// Returns the race of two countdowns with deadlines, with a predicate for each. Both take part, and the first has its
+/// turn first.
 pub fn race<G, H>(a: Limited, b: Limited, g: G, h: H) -> Race<G, H>
     ensures { result ≡ race_of a b g h }
 {
     Select2::new(a, b, g, h, 0, Start::Biased)
 }
 
-/// Two races, both of which have to be over.
+/// Joins two races, both of which have to end.
 pub fn nest<C, G, H, I, J>(
     first: Race<G, H>,
     second: Race<I, J>,
@@ -48,9 +49,9 @@ where
     Join2::new(first, second)
 }
 
-/// Makes a nest of countdowns with deadlines, polls it once and gives it up: whether that poll was to wait. It was, where
-/// polls of all four countdowns are left and no delay is due (`waits`). Each delay was polled and then given up (`sleeps`),
-/// and each countdown woke the running task once (`work`).
+/// Makes a nest of countdowns with deadlines, polls it once and gives it up. Returns whether that poll was pending: it
+/// was if all four countdowns have polls left and no delay is due (`waits`). Each delay was polled and then given up
+/// (`sleeps`), and each countdown woke the running task once (`work`).
 pub fn polled_once<C, R, G, H, I, J>(
     rt: &R,
     alloc: Global,

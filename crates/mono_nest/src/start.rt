@@ -12,7 +12,7 @@ use mono_task::TaskFuture;
 use mono_time::{Instant, SleepError, TimeContext, timeout_at};
 use std::alloc::Global;
 
-// A countdown with a deadline that is not due, or why there is none.
+// Makes a countdown with a deadline that is not due, or returns why there is none.
 fn limited<C: TimeContext>(
     alloc: Global,
     cx: &mut C,
@@ -35,7 +35,7 @@ fn limited<C: TimeContext>(
     }
 }
 
-// Two countdowns with one deadline that is not due. Where the second is refused the first is given up.
+// Makes two countdowns with one deadline that is not due. If the second is refused, the first is given up.
 fn pair<C: TimeContext>(
     alloc: Global,
     cx: &mut C,
@@ -62,15 +62,15 @@ fn pair<C: TimeContext>(
     }
 }
 
-// The predicate that passes every answer.
+// Passes every answer: a predicate.
 fn passes(_answer: &Answer) -> bool {
     true
 }
 
-/// Whether a nest of four countdowns waits at its first poll: it does where polls of all four are left and none of the two
-/// deadlines, one for each race, is due at the clock (`waits`). Each countdown woke the running task once (`polled`). An
-/// `Err` is the context's refusal of a sleep; then nobody was woken (`refused`), and the countdowns that were made are
-/// given up. Either way no sleep is left that was not there before (`gone`).
+/// Returns whether a nest of four countdowns waits at its first poll. It does if all four have polls left and neither
+/// deadline, one for each race, is due at the clock (`waits`). Each countdown woke the running task once (`polled`). An
+/// `Err` is the context's refusal of a sleep; then no task was woken (`refused`), and the countdowns that were made are
+/// given up. Either way the table has no new sleep (`gone`).
 pub fn begin<C: TimeContext, R: Host>(
     rt: &R,
     alloc: Global,
