@@ -1,4 +1,4 @@
--- Worked scripts: the turns that they give.
+-- Example scripts, with the turns that they give.
 use Rattle.std.specs.Prelude.{ℕ, List, [], ◌∷◌, ◌++◌, Some, None, codes}
 use Rattle.mono_model.specs.declared.Ended.TheVariants as ended
 use Rattle.mono_machine.specs.declared.events.Act.TheVariants as act
@@ -79,7 +79,7 @@ ChildTasks = Driven
     ∷ now 1000000 ∷ last_turn (join 1 ∷ drop_join 1 ∷ join 2 ∷ drop_join 2 ∷ []) 3 0 (reply.Output 7 ∷ reply.Dropped None ∷ reply.Output 7 ∷ reply.Dropped None ∷ [])
     ∷ ran (event.Act (act.DropJoin 0)) (report.Reply (reply.Dropped (Some 3))) ∷ [])
 
--- a job on the caller, whose end stands before the poll
+-- a job on the caller, whose end comes before the poll
 abbrev pub AJob : Type 0
 AJob = Driven (script 4 (kind (body.Block 4 ∷ body.AwaitJob 0 ∷ []) 1 ∷ []))
     (spawned ∷ now 0
@@ -87,7 +87,7 @@ AJob = Driven (script 4 (kind (body.Block 4 ∷ body.AwaitJob 0 ∷ []) 1 ∷ []
     (reply.Job 0 ∷ reply.Ended None ∷ reply.Output 4 ∷ reply.Dropped None ∷ [])
     ∷ ran (event.Act (act.DropJoin 0)) (report.Reply (reply.Dropped (Some 1))) ∷ [])
 
--- a turn that passes its sleep over: each call of the lines is an act
+-- a turn that passes over its sleep: each call of the lines is an act
 abbrev pub NoSleep : Type 0
 NoSleep = Driven sleeping (spawned ∷ now 0 ∷ last_turn [] 5 0 [] ∷ []) → ⊥
 
@@ -101,7 +101,7 @@ line text = text ++ 10 ∷ []
 abbrev pub ASleepIsWritten : Type 0
 ASleepIsWritten = Spells (line (codes "limits 16 16 16") ++ line (codes "task") ++ line (codes "await-sleep 100000000") ++ line (codes "done 5")) sleeping
 
--- no kind, so that the line behind the limits is missing
+-- no kind, so that the line after the limits is missing
 abbrev pub NoKind : Type 0
 NoKind = IsFirstBad (line (codes "limits 1 1 1")) 2
 
@@ -112,6 +112,6 @@ EndsInAKind = IsFirstBad (line (codes "limits 1 1 1") ++ line (codes "task")) 3
 abbrev pub no_such_kind_text : List ℕ
 no_such_kind_text = line (codes "limits 1 1 1") ++ line (codes "task") ++ line (codes "spawn 1") ++ line (codes "done 0")
 
--- a task of a kind that is not there: the third line is bad, with whatever stands behind it
+-- a task of a kind that does not exist: the third line is bad, for each rest of the input
 abbrev pub NoSuchKind : Type 0
 NoSuchKind = IsFirstBad no_such_kind_text 3

@@ -1,4 +1,4 @@
--- What a line says, as it is read.
+-- The meaning of a line, as the parser reads it.
 use Rattle.std.specs.Prelude.{ℕ, ◌<◌, ◌^◌, List, [], Some, None, codes}
 use Rattle.mono_machine.specs.declared.events.Limits.{Limits}
 use Rattle.mono_text.specs.Parser.{Read, when, then_read, word_at, number_at}

@@ -5,7 +5,7 @@ use Rattle.mono_text.specs.LineText.{FitLimits}
 use Rattle.mono_run.specs.declared.scripts.body.BodyLine.{BodyLine}
 use Rattle.mono_run.specs.declared.scripts.body.BodyLine.TheVariants as body
 
--- what the tasks of a kind do, line by line, and their output
+-- the lines that the tasks of a kind run, and their output
 pub record Kind : Type 0 where
   pub body : List BodyLine
   pub output : ℕ
@@ -69,7 +69,7 @@ pub record HasJob (before : List BodyLine) (i : ℕ) : Type 0 where
   pub made : i < count_in makes_job before
   pub kept : count_in (ends_job i) before ≡ 0
 
--- The line may stand behind those before it, in a script with so many kinds; its numbers are in range.
+-- The line may follow those before it, in a script with this number of kinds; its numbers are in range.
 abbrev pub MayStand : ℕ → List BodyLine → BodyLine → Type 0
 MayStand kinds before (body.Spawn k) = (k < 2 ^ 64) × (k < kinds)
 MayStand kinds before (body.Join i) = (i < 2 ^ 64) × HasTask before i
@@ -93,7 +93,7 @@ abbrev pub AreSoundKinds : ℕ → List Kind → Type 0
 AreSoundKinds kinds [] = Unit {0}
 AreSoundKinds kinds (k ∷ ks) = IsSoundKind kinds k × AreSoundKinds kinds ks
 
--- The script is sound where a line may name so many kinds.
+-- The script is sound if a line may name the kinds below this number.
 pub record IsSound (kinds : ℕ) (s : Script) : Type 0 where
   pub limits : FitLimits s.limits
   pub some : 1 ≤ length s.kinds

@@ -1,4 +1,4 @@
--- What a script's driver tells: what the one of its two drivers tells that it is.
+-- What a script's driver exposes: the readings and the time of the driver that it contains.
 use Rattle.std.specs.Prelude.{ℕ, Bool, false, List, Option, Some, None}
 use Rattle.mono_driver.specs.StepDrivers.{has_any}
 use Rattle.mono_run.specs.declared.drivers.ScriptDriver.{ScriptDriver}

@@ -36,12 +36,12 @@ same_text [] (y ∷ ys) = false
 same_text (x ∷ xs) [] = false
 same_text (x ∷ xs) (y ∷ ys) = (x == y) && same_text xs ys
 
--- how many lines say `task`, wherever they stand
+-- how many lines are exactly `task`
 abbrev pub task_lines : List Line → ℕ
 task_lines [] = 0
 task_lines (l ∷ ls) = (if l.is_ended && same_text l.bytes (codes "task") then 1 else 0) + task_lines ls
 
--- The lines are a script whose lines may name so many kinds.
+-- The lines are a script whose lines may name the kinds below this number.
 abbrev pub IsScript : ℕ → List Line → Type 0
 IsScript kinds ls = (s : Script) × IsSound kinds s × (ls ≡ map ended (script_texts s))
 

@@ -17,14 +17,14 @@ use Rattle.mono_run.specs.Script.{Kind, Script}
 use Rattle.mono_run.specs.declared.scripts.body.BodyLine.{BodyLine}
 use Rattle.mono_run.specs.declared.scripts.body.BodyLine.TheVariants as body
 
--- what a journal keeps
+-- an entry of a journal, as scripts see it
 pub data Entry : Type 0 where
   ran : Event → Report → Entry
   now : (nanos : ℕ) → Entry
   park : (millis : Option ℕ) → Entry
 
--- where a task stands between two turns: the lines to come, the handles of its own tasks and jobs, of which a refused one
--- is None, and the sleep that it waits for
+-- the place of a task between two turns: the lines to come, the handles of its own tasks and jobs (None if refused),
+-- and the sleep for which it waits
 pub record Place : Type 0 where
   pub left : List BodyLine
   pub output : ℕ
@@ -38,7 +38,7 @@ place left output tasks jobs sleeping = record { left = left; output = output; t
 abbrev pub start_of : Kind → Place
 start_of k = place k.body k.output [] [] None
 
--- a turn: its steps, its end, where the task stands afterwards (None: it has finished), and the kinds of the tasks that
+-- a turn: its steps, its end, the place of the task afterwards (None: it has finished), and the kinds of the tasks that
 -- it made, in their order
 pub record Turned : Type 0 where
   pub steps : List TurnStep
@@ -82,22 +82,22 @@ abbrev pub stops_at : Place → List Reply → Option Turned
 stops_at here [] = Some (stopped here)
 stops_at here (r ∷ rs) = None
 
--- An act whose reply counts for nothing, and then the rest.
+-- An act whose reply is ignored, and then the rest.
 abbrev pub acted : TurnStep → (List Reply → Option Turned) → List Reply → Option Turned
 acted s rest [] = None
 acted s rest (r ∷ rs) = with_step s [] (rest rs)
 
--- A poll. Where it is pending the turn stops; else an act whose reply counts for nothing, and then the rest.
+-- A poll. If it is pending, the turn stops; else an act whose reply is ignored, and then the rest.
 abbrev pub awaited : TurnStep → TurnStep → Place → (List Reply → Option Turned) → List Reply → Option Turned
 awaited poll last here rest [] = None
 awaited poll last here rest (r ∷ rs) = with_step poll [] (if is_pending r then stops_at here rs else acted last rest rs)
 
--- with a handle, what is done with it; else nothing
+-- with a handle, this act on it; else nothing
 abbrev pub with_handle : {A : Type 0} → Option ℕ → (ℕ → A) → A → A
 with_handle None f other = other
 with_handle (Some x) f other = f x
 
--- An act that answers a number or refuses, and the rest by that.
+-- An act that answers a number or refuses, and the rest by that answer.
 abbrev pub asked : TurnStep → (Reply → Option ℕ) → (Option ℕ → List ℕ) → (Option ℕ → List Reply → Option Turned) → List Reply → Option Turned
 asked s number made rest [] = None
 asked s number made rest (r ∷ rs) = with_step s (made (number r)) (rest (number r) rs)
@@ -117,8 +117,8 @@ sleep_steps s here rest rs = awaited (step.Query (query.Sleep s)) (step.Act (act
 abbrev pub yielded : ℕ → Place → List Reply → Option Turned
 yielded me here rs = acted (step.Act (act.Wake me)) (stops_at here) rs
 
--- What the lines give for task me, whose output is o, at the instant t, where these are the answers to its calls. Each call
--- has an answer: one that found no memory has none, and then no journal is told.
+-- The turn that the lines give for task me, whose output is o, at the instant t, if these are the replies to its calls.
+-- Each call has a reply: a call that ran out of memory has none, and then no journal is returned.
 abbrev pub turn_from : List BodyLine → ℕ → ℕ → ℕ → List (Option ℕ) → List (Option ℕ) → List Reply → Option Turned
 turn_from [] me t o tasks jobs [] = Some (finished o)
 turn_from [] me t o tasks jobs (r ∷ rs) = None
@@ -150,7 +150,7 @@ abbrev pub is_job_end : TurnStep → Bool
 is_job_end (step.Act (act.JobEnd j h)) = true
 is_job_end other = false
 
--- the steps of a turn, those that tell the end of a job left out
+-- the steps of a turn without those that record the end of a job
 abbrev pub own_steps : List TurnStep → List TurnStep
 own_steps [] = []
 own_steps (s ∷ steps) = if is_job_end s then own_steps steps else s ∷ own_steps steps
@@ -170,7 +170,7 @@ starts_of kinds (k ∷ ks) = slice_index_or (map (λ kind. Some (start_of kind))
 abbrev pub after_turn : List Kind → List (Option Place) → ℕ → Turned → List (Option Place)
 after_turn kinds places t turned = slice_set places t turned.after ++ starts_of kinds turned.made
 
--- The turn is the one that the task's lines give, and the rest holds from there.
+-- The turn is the task's by its lines, and the rest holds from there.
 abbrev pub Gives : Option Turned → List TurnStep → End → (Turned → Type 0) → Type 0
 Gives None steps e rest = ⊥
 Gives (Some turned) steps e rest = (steps ≡ turned.steps) × (e ≡ turned.e) × rest turned

@@ -1,4 +1,4 @@
--- Part of a poll: what is left to do goes from one function of the replies to another.
+-- Part of a poll: the rest of the turn changes from one function of the replies to another.
 use Rattle.std.specs.Prelude.{⊤, ◌≡◌, ◌<◌, ℕ, Bool, true, false, List, ◌∷◌, ◌++◌, length, Option, Some, None, Result, Ok, Err}
 use Rattle.mono_model.specs.declared.poll.Poll.{Poll}
 use Rattle.mono_model.specs.declared.poll.Poll.TheVariants.{Ready, Pending}
@@ -15,7 +15,7 @@ use Rattle.mono_run.specs.declared.tasks.Next.TheVariants as next
 use Rattle.mono_run.specs.declared.tasks.Own.{Own}
 use Rattle.mono_run.specs.declared.tasks.ScriptTask.{ScriptTask}
 
--- what is left of a turn, by the replies to come
+-- the rest of a turn, by the replies to come
 abbrev pub Rest : Type 0
 Rest = List Reply → Option Turned
 
@@ -25,7 +25,7 @@ behind steps made None = None
 behind steps made (Some t) = Some (record { steps = steps ++ t.steps; e = t.e; after = t.after; made = made ++ t.made })
 
 module _ {P U J A V : Type 0} where
-  -- Between the two contexts the turn went on from f to g.
+  -- Between the two contexts the turn went from f to g.
   pub record Goes (task : ScriptTask) (f g : Rest) (c d : Cx ScriptTask ℕ P U ⊤ J A V) : Type 0 where
     pub replies : List Reply
     pub steps : List TurnStep
@@ -40,12 +40,12 @@ waits (Ok (Ready x)) = false
 waits (Ok Pending) = true
 waits (Err e) = false
 
--- a wait that is over goes on, and else the turn stops here
+-- after a wait that is over the rest follows, and else the turn stops here
 abbrev pub if_over : Bool → Rest → Place → Rest
 if_over true f here = f
 if_over false f here = stops_at here
 
--- what follows a line that waits, and one that makes what it waits for
+-- how the task continues after a line that waits, and after a line that makes its source
 abbrev pub next_if : Bool → Next
 next_if true = next.GoesOn
 next_if false = next.Stays
@@ -61,7 +61,7 @@ sleep_line deadline left o own f =
     (λ d q. asked (step.Act (act.NewSleep d)) sleep_in none_made (λ h p. with_handle h (λ s u. sleep_steps s (place left o own.tasks own.jobs (Some s)) f u) f p) q)
     f
 
--- what is left behind a line, by what follows it
+-- the rest after a line, by how the task continues
 abbrev pub behind_line : Next → BodyLine → List BodyLine → ℕ → ℕ → ℕ → Own → Rest
 behind_line next.GoesOn line left me t o own = turn_from left me t o own.tasks own.jobs
 behind_line next.Stops line left me t o own = stops_at (place left o own.tasks own.jobs own.sleeping)
@@ -71,7 +71,7 @@ behind_line next.Stays line left me t o own = stops_at (place (line ∷ left) o 
 abbrev pub HasPlaces : Own → Type 0
 HasPlaces own = (length own.tasks < 127) × (length own.jobs < 127)
 
--- what is left of the turn of a task that stands at a line
+-- the rest of the turn of a task that is at a line
 abbrev pub at_task : ℕ → ℕ → ScriptTask → Rest
 at_task me t task = turn_from (left_of (kind_of task) task.at) me t (output_of (kind_of task)) task.own.tasks task.own.jobs
 

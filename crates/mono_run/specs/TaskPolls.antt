@@ -31,7 +31,7 @@ abbrev pub output_of : Option Kind → ℕ
 output_of None = 0
 output_of (Some kind) = kind.output
 
--- where the task stands
+-- the place of the task
 abbrev pub place_of : ScriptTask → Place
 place_of task = place (left_of (kind_of task) task.at) (output_of (kind_of task)) task.own.tasks task.own.jobs task.own.sleeping
 
@@ -42,7 +42,7 @@ no_own = record { tasks = []; jobs = []; sleeping = None }
 abbrev pub new_task : ScriptTask → ℕ → ScriptTask
 new_task task k = record { kinds = task.kinds; kind = k; at = 0; own = no_own }
 
--- as the futures of a table
+-- the new tasks as the futures of a table
 abbrev pub new_futures : ScriptTask → List ℕ → List (Option ScriptTask)
 new_futures task ks = map (λ k. Some (new_task task k)) ks
 
@@ -52,7 +52,8 @@ pub record Fits (task : ScriptTask) : Type 0 where
   pub tasks : length task.own.tasks ≤ task.at
   pub jobs : length task.own.jobs ≤ task.at
 
--- The record grew by acts with their replies, of which these are the task's own: those that tell the end of a job are left out.
+-- The record grew by acts with their replies. The steps here are the task's own, without those that record the end of a
+-- job.
 pub record Grew (c d : Record) (steps : List TurnStep) (replies : List Reply) : Type 0 where
   pub acts : List TurnStep
   pub told : List Reply
@@ -62,22 +63,23 @@ pub record Grew (c d : Record) (steps : List TurnStep) (replies : List Reply) : 
   pub own : own_steps acts ≡ steps
   pub answers : own_replies acts told ≡ replies
 
--- There was memory for all calls, and there are timers.
+-- No call ran out of memory, and there are timers.
 pub record HasKept {O B : Type 0} (c : Parts O B) : Type 0 where
   pub memory : c.is_out_of_memory ≡ false
   pub timers : c.has_timers ≡ true
 
--- The parts stand for a machine, as those of a runtime do in each turn.
+-- The parts refine a machine, as those of a runtime do in each turn.
 abbrev pub Stands : {P : Type 0} → Parts ℕ (Seen P) → Type 0
 Stands c = (m : Machine) × Matches (λ n. n) hosting_of c m
 
--- where a task stands that answered so
+-- the place of a task that gave this answer
 abbrev pub stands_at : Poll ℕ → ScriptTask → Option Place
 stands_at (Ready output) left = None
 stands_at Pending left = Some (place_of left)
 
 module _ {P U J A V : Type 0} where
-  -- The acts of the turn from here are those that the task's lines give, given the replies and the clock's reading before the turn.
+  -- The acts of the turn from here are those that the task's lines give, by the replies and the clock's reading before
+  -- the turn.
   pub record RunsLines (task : ScriptTask) (c : Cx ScriptTask ℕ P U ⊤ J A V) (answer : Poll ℕ) (left : ScriptTask) (d : Cx ScriptTask ℕ P U ⊤ J A V) : Type 0 where
     pub replies : List Reply
     pub turned : Turned
@@ -85,13 +87,13 @@ module _ {P U J A V : Type 0} where
     pub acts : Grew c.parts.acts d.parts.acts turned.steps replies
     pub ends : turned.e ≡ end_of (λ n. n) answer
     pub after : turned.after ≡ stands_at answer left
-    -- the tasks that it made stand behind the others
+    -- the tasks that it made come after the others
     pub made : d.futures.items ≡ c.futures.items ++ new_futures task turned.made
     -- it is a task of the same script, and of the same kind
     pub kinds : left.kinds ≡ task.kinds
     pub kind : left.kind ≡ task.kind
     pub fits : Fits left
 
-  -- One poll of a task of a script, in a turn of a runtime in which each call found memory.
+  -- One poll of a task of a script, in a turn of a runtime in which no call ran out of memory.
   abbrev pub PollsTask : ScriptTask → Cx ScriptTask ℕ P U ⊤ J A V → Poll ℕ → ScriptTask → Cx ScriptTask ℕ P U ⊤ J A V → Type 0
   PollsTask task c answer left d = Fits task → Stands c.parts → HasKept d.parts → RunsLines task c answer left d

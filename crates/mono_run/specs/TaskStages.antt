@@ -1,4 +1,4 @@
--- Where a script's task stands.
+-- The place of a script's task.
 use Rattle.std.specs.Prelude.{ℕ, length, Option, Some, None, slice_get}
 use Rattle.mono_run.specs.Script.{Kind}
 use Rattle.mono_run.specs.declared.tasks.ScriptTask.{ScriptTask}

@@ -5,21 +5,21 @@ use mono_model::Host;
 use std::alloc::AllocError;
 use std::time::Duration;
 
-/// Without workers nobody ends a wait but the driver itself; with workers its thread waits.
+/// The driver of a script. Without workers it alone ends a wait; with workers its thread waits.
 #[derive(Drop)]
 pub enum ScriptDriver<C> {
     /// Never waits.
     Steps(StepDriver),
-    /// Parks its thread, and reads the handed clock.
+    /// Parks its thread, and reads the clock that it was given.
     Threads(ThreadDriver<C>),
 }
 
-/// What ends the wait of a `ScriptDriver`.
+/// The handle that ends a wait of a `ScriptDriver`.
 #[derive(Drop)]
 pub enum ScriptUnpark {
-    /// There is no wait.
+    /// There is no wait to end.
     Nothing,
-    /// The wait of a thread.
+    /// Unparks the thread that waits.
     Thread(UnparkHandle),
 }
 
@@ -32,7 +32,7 @@ impl Unpark for ScriptUnpark {
     }
 }
 
-/// A further one of the same driver.
+/// Returns one more handle of the same driver.
 impl Clone for ScriptUnpark {
     fn clone(&self) -> Result<ScriptUnpark, AllocError> {
         match self {

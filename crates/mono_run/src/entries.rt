@@ -7,7 +7,7 @@ use mono_rt::{Entry, Event, Journal, Report};
 use mono_text::{put_event, put_nanos, put_pair, put_word, report_line};
 use std::alloc::{AllocError, Global};
 
-// An event, an arrow, and its report.
+// Appends an event, an arrow, and its report.
 fn put_ran(out: &mut Vec<u8>, event: &Event, report: &Report) -> Result<(), AllocError>
     ensures { OnOk result (out.new.items ≡ out.old.items ++ entry_line (told (Entry.Ran event.now report.now))) }
 {
@@ -35,7 +35,7 @@ fn put_park(out: &mut Vec<u8>, millis: Option<u64>) -> Result<(), AllocError>
     }
 }
 
-/// Puts the line of a journal's entry at the end: its one spelling, and a line feed.
+/// Appends the line of a journal's entry: its one spelling, and a line feed.
 pub fn put_entry(out: &mut Vec<u8>, entry: &Entry) -> Result<(), AllocError>
     ensures { OnOk result (out.new.items ≡ out.old.items ++ entry_line (told entry.now)) }
 {
@@ -46,7 +46,7 @@ pub fn put_entry(out: &mut Vec<u8>, entry: &Entry) -> Result<(), AllocError>
     }
 }
 
-// The line of the main task's output, where it gave one.
+// Appends the line of the main task's output, if it gave one.
 fn put_main(out: &mut Vec<u8>, output: Option<u64>) -> Result<(), AllocError>
     ensures { OnOk result (out.new.items ≡ out.old.items ++ main_text output) }
 {
@@ -59,7 +59,7 @@ fn put_main(out: &mut Vec<u8>, output: Option<u64>) -> Result<(), AllocError>
     }
 }
 
-// The lines of a journal's entries.
+// Appends the lines of a journal's entries.
 fn put_entries(out: &mut Vec<u8>, journal: &Journal) -> Result<(), AllocError>
     ensures { OnOk result (out.new.items ≡ out.old.items ++ flat_map entry_line (map told journal.now.entries.items)) }
 {
@@ -72,7 +72,7 @@ fn put_entries(out: &mut Vec<u8>, journal: &Journal) -> Result<(), AllocError>
     Ok(())
 }
 
-/// The lines of a journal, and behind them the line of the main task's output, where it gave one.
+/// Returns the lines of a journal, and after them the line of the main task's output, if it gave one.
 pub fn journal_lines(
     alloc: Global,
     journal: &Journal,

@@ -1,10 +1,11 @@
-// The handles that a task made, by the order of its lines.
+// The handles that a task made, in the order of its lines.
 ghost use Rattle.std.specs.Prelude.{◌≡◌, ◌≤◌, ◌<◌, ◌+◌, ◌++◌, ◌∷◌, [], None, length, slice_index_or};
 
 use arrayvec::ArrayVec;
 use std::marker::Model;
 
-/// The numbers of own tasks, or of own jobs, of which there are at most as many as a body has lines. A refused one is None.
+/// The numbers of a task's own tasks, or of its own jobs; at most one for each line of its body. A refused handle is
+/// None.
 #[derive(Drop)]
 pub(crate) struct Handles {
     numbers: ArrayVec<Option<u64>, 127>,
@@ -19,7 +20,7 @@ impl Model for Handles {
 }
 
 impl Handles {
-    /// No handle.
+    /// Returns the list without handles.
     pub fn new() -> Handles
         ensures { result ≡ [] }
     {
@@ -28,7 +29,7 @@ impl Handles {
         }
     }
 
-    /// One more handle, or that it was refused. Behind 127 there is no place.
+    /// Adds one handle, or None if it was refused. After 127 handles it adds none.
     pub fn push(&mut self, number: Option<u64>)
         ensures one_more { length self.old < 127 → self.new ≡ self.old ++ number ∷ [] }
         ensures few { length self.new ≤ length self.old + 1 }
@@ -36,7 +37,7 @@ impl Handles {
         let _ = self.numbers.try_push(number);
     }
 
-    /// The number of handle i, where there is one.
+    /// Returns the number of handle i, if there is one.
     pub fn get(&self, i: u64) -> Option<u64>
         ensures { result ≡ slice_index_or self.now i None }
     {

@@ -5,14 +5,14 @@ use crate::drivers::ScriptUnpark;
 use mono_blocking::Job;
 use mono_joinword::Outcome;
 
-/// A job that answers its number.
+/// A job that returns its number.
 #[derive(Drop)]
 pub struct ScriptJob {
     output: u64,
 }
 
 impl ScriptJob {
-    /// A job with this output.
+    /// Returns a job with this output.
     pub fn new(output: u64) -> ScriptJob
         ensures { result.output ≡ output }
     {

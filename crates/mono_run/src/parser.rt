@@ -1,4 +1,4 @@
-// Scripts out of bytes: the script that an input spells, or the number of its first bad line.
+// The parser of scripts: returns the script that an input spells, or the number of its first bad line.
 
 mod fronts;
 mod kinds;

@@ -1,4 +1,4 @@
-// A script on a runtime.
+// The run of a script on a runtime.
 ghost use Rattle.std.specs.Prelude.{◌≡◌, false, length, map, IfOk, IfSome, OnOk};
 ghost use Rattle.mono_blocking.specs.Counts.{counted_by};
 ghost use Rattle.mono_run.specs.Journal.{journal_text};
@@ -20,15 +20,15 @@ use std::alloc::{AllocError, Global};
 /// How a run ended.
 #[derive(Clone, Copy, Debug, PartialEq, Eq)]
 pub enum RunEnd {
-    /// The main task gave this output.
+    /// The main task returned this output.
     Output(u64),
-    /// No unit was left.
+    /// The budget was spent.
     Turns,
     /// There was no place for the main task.
     Capacity,
 }
 
-/// How a run ended, and the lines of its journal.
+/// The end of a run, and the lines of its journal.
 #[derive(Drop)]
 pub struct ScriptRun {
     pub end: RunEnd,
@@ -42,7 +42,7 @@ type ScriptRuntime<'a, C> = Runtime<
     DefaultThreadPool<ScriptJob>,
 >;
 
-// Without workers a driver that never waits; else one that parks its thread, over the clock.
+// Returns a driver that never waits without workers, and else a driver that parks its thread, over the clock.
 fn driver_for<C: Clock + Drop>(
     alloc: Global,
     workers: usize,
@@ -59,7 +59,7 @@ fn driver_for<C: Clock + Drop>(
     }
 }
 
-// How a run ended that was answered so. The driver never fails; want of memory is no end.
+// Returns how a run with this answer ended. The driver never fails; out of memory is no end.
 fn end_of(answer: &Result<u64, RunError>) -> Option<RunEnd>
     ensures { IfSome result (λ end. answer.now ≡ answer_of end) }
 {
@@ -82,8 +82,8 @@ fn output_of(end: RunEnd) -> Option<u64>
     }
 }
 
-// The lines of what was done. A turn of a script has fewer acts than make a journal full; no clause tells that, so a full
-// journal counts as want of memory.
+// Returns the lines of the journal. A turn of a script has fewer acts than make a journal full. No clause says so, so a
+// full journal counts as out of memory.
 fn told_of(
     alloc: Global,
     journal: &Journal,
@@ -103,14 +103,14 @@ fn told_of(
     Ok(ScriptRun { end, text })
 }
 
-// Lets the workers end.
+// Closes the pool, so that its workers end.
 fn end_workers<R: Host, C: Clock + Drop>(rt: &R, runtime: ScriptRuntime<C>) {
     if let Some(pool) = runtime.into_pool() {
         pool.close(rt);
     }
 }
 
-// The clock's zero.
+// Returns the clock's zero.
 fn zero() -> Instant {
     match Instant::from_nanos(0) {
         Some(zero) => zero,
@@ -118,15 +118,15 @@ fn zero() -> Instant {
     }
 }
 
-/// Runs kind 0 of the script as the main task of a new runtime with timers and a journal, with so many units, and a pool of
-/// so many workers, which are asked of the spawner one by one. Without workers time is what is parked for, and the clock is
-/// not read.
+/// Runs kind 0 of the script as the main task of a new runtime with timers and a journal, with a budget of `turns`. The
+/// pool has `workers` workers, and asks the spawner for them one by one. Without workers the time is the sum of the
+/// parks, and the clock is not read.
 ///
-/// What is told is how the run ended and the lines of its journal (`ran`). Without workers each reading in it is the sum of
-/// what was parked for before it; with workers, where the clock tells its readings, they are these, in order (`reads`). The
-/// turns in it are those that the script's lines give, where the script is sound (`driven`). Once a call found no memory
-/// nothing is told. The workers end when they have run what waits, whatever the answer is; only where there was no memory
-/// for the runtime itself do they wait on. Whoever started their threads joins them.
+/// It returns how the run ended, and the lines of its journal (`ran`). Without workers each reading in the journal is
+/// the sum of the parks before it. With workers, if the clock exposes its readings, they are these, in order (`reads`).
+/// If the script is sound, the turns in the journal are those that its lines give (`driven`). Once a call ran out of
+/// memory, nothing is returned. The workers end when they have run the queued jobs, for each answer. They go on waiting
+/// only if there was no memory for the runtime itself. The thread that started them joins them.
 pub fn run_script<R: Host + Send + 'static, C: Clock + Drop, P: Spawner>(
     rt: &R,
     alloc: Global,

@@ -1,4 +1,4 @@
-// Scripts: their written form, and the turns that their lines give. Definitions with worked examples.
+// Scripts: their written form, and the turns that their lines give. Definitions with examples.
 
 mod body;
 mod examples;

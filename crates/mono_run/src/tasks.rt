@@ -1,4 +1,4 @@
-// A script's task: one poll runs its lines from where the last one stopped.
+// A script's task: one poll runs its lines from where the poll before stopped.
 ghost use Rattle.std.specs.Prelude.{◌≡◌, ◌<◌, ◌≤◌, ◌-◌, ◌+◌, ◌^◌, ◌∷◌, [], ⊤, ℕ, List, Option, true, false, IfSome, IfNone, Some, None, length, slice_get, slice_index_or};
 ghost use Rattle.mono_machine.specs.declared.events.Act.TheVariants as act;
 ghost use Rattle.mono_machine.specs.declared.events.TurnStep.TheVariants as step;
@@ -25,13 +25,14 @@ use mono_time::{Instant, TimeContext};
 use std::alloc::Global;
 use std::time::Duration;
 
-/// The executor as a script's task sees it.
+/// The context of a script's task.
 pub type ScriptContext<'a> = Cx<ScriptTask<'a>, u64, DefaultThreadPool<ScriptJob>, ScriptUnpark>;
 
 /// A task of a kind of a script.
 ///
-/// Each poll runs lines of the kind's body from where the last one stopped, until one has to wait, or yields, or the body
-/// is done. What is refused has no handle, and the task goes on. A task takes no memory of its own.
+/// Each poll runs lines of the kind's body from where the poll before stopped. It ends when a line has to wait, or
+/// yields, or the body is done. A refused call leaves no handle, and the task continues. A task takes no memory of its
+/// own.
 #[derive(Drop)]
 pub struct ScriptTask<'a> {
     kinds: &'a [TaskKind],
@@ -40,7 +41,7 @@ pub struct ScriptTask<'a> {
     own: Own,
 }
 
-// What the task made, and the sleep that it waits for.
+// The handles that the task made, and the sleep for which it waits.
 #[derive(Drop)]
 struct Own {
     tasks: Handles,
@@ -48,21 +49,21 @@ struct Own {
     sleeping: Option<u64>,
 }
 
-// What follows a line.
+// How the task continues after a line.
 #[derive(Clone, Copy)]
 enum Next {
-    // The next line.
+    // The next line follows.
     GoesOn,
-    // The turn ends; the next one goes on behind the line.
+    // The turn ends; the next one continues after the line.
     Stops,
     // The turn ends; the next one begins with the line.
     Stays,
 }
 
-// The time that a sleep takes whose deadline would be past the last instant.
+// The length in seconds of a sleep whose deadline would be past the last instant.
 const FAR_OFF_SECONDS: u64 = 946080000;
 
-// The task has to wait for what it polled.
+// Returns whether the task has to wait for the source that it polled.
 fn waits<T, E>(answer: &Result<Poll<T>, E>) -> bool
     ensures { result ≡ waits answer.now }
 {
@@ -73,7 +74,7 @@ fn waits<T, E>(answer: &Result<Poll<T>, E>) -> bool
     }
 }
 
-// Waits for the sleep, and drops it. False where the task has to wait.
+// Waits for the sleep, and drops it. Returns false if the task has to wait.
 fn await_sleep(cx: &mut ScriptContext, number: u64) -> bool
     ensures reached { Reaches (λ n. n) cx.old cx.new }
     ensures goes { (task : ScriptTask) (here : Place) (f : Rest) → HasKept cx.new.parts → Goes task (sleep_steps number here f) (if_over result f here) cx.old cx.new }
@@ -86,7 +87,7 @@ fn await_sleep(cx: &mut ScriptContext, number: u64) -> bool
     true
 }
 
-// When a sleep of so many nanoseconds ends that is made now.
+// Returns the deadline of a sleep of `nanos` nanoseconds that is made now.
 fn deadline_from(now: Instant, nanos: u64) -> Option<Instant>
     ensures none { IfNone result (deadline_after (nanos_of now) nanos ≡ None) }
     ensures some { IfSome result (λ deadline. deadline_after (nanos_of now) nanos ≡ Some (nanos_of deadline)) }
@@ -97,7 +98,7 @@ fn deadline_from(now: Instant, nanos: u64) -> Option<Instant>
     }
 }
 
-// A new sleep until a deadline, where it is not refused.
+// Makes a sleep until a deadline, and returns its number unless it is refused.
 fn add_sleep(alloc: Global, cx: &mut ScriptContext, deadline: Instant) -> Option<u64>
     ensures reached { Reaches (λ n. n) cx.old cx.new }
     ensures goes { (task : ScriptTask) (k : Option ℕ → Rest) → Stands cx.old.parts → HasKept cx.new.parts → Goes task (asked (step.Act (act.NewSleep (nanos_of deadline))) sleep_in none_made k) (k result) cx.old cx.new }
@@ -108,7 +109,7 @@ fn add_sleep(alloc: Global, cx: &mut ScriptContext, deadline: Instant) -> Option
     }
 }
 
-// A new sleep of so many nanoseconds, where it is not refused.
+// Makes a sleep of `nanos` nanoseconds, and returns its number unless it is refused.
 fn make_sleep(alloc: Global, cx: &mut ScriptContext, nanos: u64) -> Option<u64>
     ensures reached { Reaches (λ n. n) cx.old cx.new }
     ensures goes { (task : ScriptTask) (k : Option ℕ → Rest) → Stands cx.old.parts → HasKept cx.new.parts → Goes task (with_handle (deadline_after (nanos_of cx.old.parts.now) nanos) (λ d q. asked (step.Act (act.NewSleep d)) sleep_in none_made k q) (k None)) (k result) cx.old cx.new }
@@ -119,7 +120,7 @@ fn make_sleep(alloc: Global, cx: &mut ScriptContext, nanos: u64) -> Option<u64>
     }
 }
 
-// Waits for the task's output, and drops its handle. False where the task has to wait.
+// Waits for the task's output, and drops its handle. Returns false if the task has to wait.
 fn await_task(cx: &mut ScriptContext, number: u64) -> bool
     ensures reached { Reaches (λ n. n) cx.old cx.new }
     ensures goes { (task : ScriptTask) (here : Place) (f : Rest) → HasKept cx.new.parts → Goes task (join_steps number here f) (if_over result f here) cx.old cx.new }
@@ -141,7 +142,7 @@ fn wake_self(cx: &mut ScriptContext)
     let _ = cx.wake(me);
 }
 
-// Waits for the job, and drops its handle. False where the task has to wait.
+// Waits for the job, and drops its handle. Returns false if the task has to wait.
 fn await_job(cx: &mut ScriptContext, number: u64) -> bool
     ensures reached { Reaches (λ n. n) cx.old cx.new }
     ensures goes { (task : ScriptTask) (here : Place) (f : Rest) → HasKept cx.new.parts → Goes task (job_steps number here f) (if_over result f here) cx.old cx.new }
@@ -154,7 +155,7 @@ fn await_job(cx: &mut ScriptContext, number: u64) -> bool
     true
 }
 
-// A task of this kind, which is handed to the context. The answer is its number, where it was not refused.
+// Spawns a task of this kind, and returns its number unless it was refused.
 fn spawn_kind<'a>(
     alloc: Global,
     cx: &mut ScriptContext<'a>,
@@ -170,7 +171,7 @@ fn spawn_kind<'a>(
     }
 }
 
-// A job with this output. The answer is its number, where it was not refused.
+// Spawns a job with this output, and returns its number unless it was refused.
 fn block<R: Host>(rt: &R, alloc: Global, cx: &mut ScriptContext, output: u64) -> Option<u64>
     ensures reached { Reaches (λ n. n) cx.old cx.new }
     ensures goes { (task : ScriptTask) (k : Option ℕ → Rest) → HasKept cx.new.parts → Goes task (asked (step.Act (act.Block output)) job_in none_made k) (k result) cx.old cx.new }
@@ -181,14 +182,14 @@ fn block<R: Host>(rt: &R, alloc: Global, cx: &mut ScriptContext, output: u64) ->
     }
 }
 
-// What follows a line that waits, unless it had to.
+// Returns how the task continues after a line that waits.
 fn next_if(is_over: bool) -> Next
     ensures { result ≡ next_if is_over }
 {
     if is_over { Next::GoesOn } else { Next::Stays }
 }
 
-// What follows a line that makes what it waits for, unless it had to.
+// Returns how the task continues after a line that makes a source and waits for it.
 fn next_behind(is_over: bool) -> Next
     ensures { result ≡ next_behind is_over }
 {
@@ -196,7 +197,7 @@ fn next_behind(is_over: bool) -> Next
 }
 
 impl Own {
-    // Nothing was made yet.
+    // Returns the state before the first line: no handle and no sleep.
     fn new() -> Own
         ensures { result ≡ no_own }
     {
@@ -207,7 +208,7 @@ impl Own {
         }
     }
 
-    // Waits for the sleep that the task made, where it made one. False where it has to wait.
+    // Waits for the sleep that the task made, if there is one. Returns false if the task has to wait.
     fn end_sleep(&mut self, cx: &mut ScriptContext) -> bool
         ensures own { self.new ≡ record self.old { sleeping = self.new.sleeping } }
         ensures over { result ≡ true → self.new.sleeping ≡ None }
@@ -228,7 +229,7 @@ impl Own {
         }
     }
 
-    // A line on own tasks.
+    // Runs a line on the task's own tasks.
     fn join(&self, cx: &mut ScriptContext, i: u64) -> bool
         ensures reached { Reaches (λ n. n) cx.old cx.new }
         ensures goes { (task : ScriptTask) (here : Place) (f : Rest) → HasKept cx.new.parts → Goes task (with_handle (slice_index_or self.now.tasks i None) (λ h q. join_steps h here f q) f) (if_over result f here) cx.old cx.new }
@@ -251,7 +252,7 @@ impl Own {
         }
     }
 
-    // A line on own jobs.
+    // Runs a line on the task's own jobs.
     fn await_own_job(&self, cx: &mut ScriptContext, i: u64) -> bool
         ensures reached { Reaches (λ n. n) cx.old cx.new }
         ensures goes { (task : ScriptTask) (here : Place) (f : Rest) → HasKept cx.new.parts → Goes task (with_handle (slice_index_or self.now.jobs i None) (λ h q. job_steps h here f q) f) (if_over result f here) cx.old cx.new }
@@ -274,7 +275,7 @@ impl Own {
         }
     }
 
-    // A line that makes a sleep and waits for it.
+    // Runs a line that makes a sleep and waits for it.
     fn sleep_for(&mut self, alloc: Global, cx: &mut ScriptContext, nanos: u64) -> bool
         ensures own { self.new ≡ record self.old { sleeping = self.new.sleeping } }
         ensures over { result ≡ true → self.new.sleeping ≡ None }
@@ -285,7 +286,7 @@ impl Own {
         self.end_sleep(cx)
     }
 
-    // One line.
+    // Runs one line.
     fn run_line<'a, R: Host>(
         &mut self,
         rt: &R,
@@ -332,7 +333,7 @@ impl Own {
 }
 
 impl<'a> ScriptTask<'a> {
-    /// A task of this kind, at its first line.
+    /// Returns a task of this kind, at its first line.
     pub fn new(kinds: &'a [TaskKind], kind: usize) -> ScriptTask<'a>
         ensures { result ≡ record { kinds = kinds.entry; kind = kind; at = 0; own = no_own } }
     {
@@ -344,7 +345,7 @@ impl<'a> ScriptTask<'a> {
         }
     }
 
-    // The kind of the task. Its number is that of one.
+    // Returns the kind of the task, if there is one of this number.
     fn kind(&self) -> Option<&'a TaskKind>
         ensures some { IfSome result (λ kind. kind_of self.now ≡ Some kind.now) }
         ensures none { IfNone result (kind_of self.now ≡ None) }
@@ -352,7 +353,7 @@ impl<'a> ScriptTask<'a> {
         self.kinds.get(self.kind)
     }
 
-    // The line at which the task stands; none at the end of the body.
+    // Returns the line at which the task is; None at the end of the body.
     fn line(&self) -> Option<BodyLine>
         ensures inside { IfSome result (λ _. self.now.at < body_len self.now) }
         ensures fits { IfSome result (λ _. self.now.at < 2 ^ 64 - 1) }
@@ -365,7 +366,7 @@ impl<'a> ScriptTask<'a> {
         }
     }
 
-    // The output of the task's kind.
+    // Returns the output of the task's kind.
     fn output(&self) -> u64
         ensures { result ≡ output_of (kind_of self.now) }
     {
@@ -375,7 +376,7 @@ impl<'a> ScriptTask<'a> {
         }
     }
 
-    // One line, at which the task stands.
+    // Runs the line at which the task is.
     fn step<R: Host>(
         &mut self,
         rt: &R,
@@ -409,7 +410,7 @@ impl<'a> ScriptTask<'a> {
 impl<'a> TaskFuture<ScriptContext<'a>> for ScriptTask<'a> {
     type Output = u64;
 
-    // a task that has answered is let go
+    // a task that has answered is dropped
     ghost is_spent = { λ task. false };
 
     ghost polls = { λ task c answer left d. PollsTask task c answer left d };

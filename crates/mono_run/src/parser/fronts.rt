@@ -1,4 +1,4 @@
-// The front of a script, to which one line after another is put.
+// The front of a script, which grows line by line.
 ghost use Rattle.std.specs.Prelude.{◌≡◌, ◌≤◌, ◌<◌, false, IfNone, IfOk, IfSome, IsTrue, None, Some, [], codes, length};
 ghost use Rattle.mono_run.specs.Fronts.{Continues, ContinuesNever, begun, front, script_of};
 
@@ -10,13 +10,14 @@ use mono_machine::Limits;
 use std::alloc::{AllocError, Global};
 use std::marker::Model;
 
-/// At most so many kinds are in a script.
+/// The greatest number of kinds in a script.
 const MOST_KINDS: usize = 64;
 
-/// At most so many lines are in the body of a kind.
+/// The greatest number of lines in the body of a kind.
 const MOST_LINES: usize = 127;
 
-/// What was read of a script: its limits, whole kinds, and the lines of one more where its end was not read yet.
+/// The part of a script that was read: its limits, whole kinds, and the lines of one more kind whose end was not read
+/// yet.
 #[derive(Drop)]
 pub(crate) struct Front {
     limits: Limits,
@@ -34,7 +35,7 @@ impl Model for Front {
 }
 
 impl Front {
-    /// The limits alone.
+    /// Returns the front with the limits alone.
     pub fn new(alloc: Global, limits: Limits) -> Front
         ensures { result ≡ begun limits }
     {
@@ -45,7 +46,7 @@ impl Front {
         }
     }
 
-    // A line between two kinds.
+    // Reads a line between two kinds.
     fn open(&mut self, alloc: Global, text: &[u8]) -> bool
         requires { self.old.inside ≡ None }
         ensures taken { IsTrue result → (text.now ≡ codes "task") × (length self.old.kinds < 64) × (self.new ≡ front self.old.limits self.old.kinds (Some [])) }
@@ -58,7 +59,7 @@ impl Front {
         true
     }
 
-    // A line inside a kind with these lines, which were taken out.
+    // Reads a line inside a kind with these lines, which were taken out.
     fn put_inside(
         &mut self,
         kinds: usize,
@@ -85,8 +86,8 @@ impl Front {
         Ok(true)
     }
 
-    /// One more line, where a line may name so many kinds. False where it may not stand there; then the front is no more to
-    /// be used.
+    /// Adds a line, in a script whose lines may name the kinds below `kinds`. Returns false if the line may not follow;
+    /// the front is then of no further use.
     pub fn put(&mut self, alloc: Global, kinds: usize, text: &[u8]) -> Result<bool, AllocError>
         ensures taken { IfOk result (λ taken. IsTrue taken → Continues kinds self.old text.now self.new) }
         ensures refused { IfOk result (λ taken. taken ≡ false → ContinuesNever kinds self.old text.now) }
@@ -97,7 +98,7 @@ impl Front {
         }
     }
 
-    /// The script, where one kind or more is there and the last one has its end.
+    /// Returns the script, if it has at least one kind and the end of the last kind was read.
     pub fn into_script(self) -> Option<Script>
         ensures whole { IfSome result (λ s. (self.inside ≡ None) × (1 ≤ length self.kinds) × (s ≡ script_of self)) }
         ensures none { IfNone result (self.inside ≡ None → length self.kinds ≡ 0) }

@@ -1,9 +1,9 @@
-// A script, as it is run.
+// A script in the form in which it is run.
 use crate::scripts::BodyLine;
 use mono_machine::Limits;
 use std::marker::Model;
 
-/// What the tasks of a kind do, line by line, and the output that each of them gives.
+/// The lines that the tasks of a kind run, and the output of each of them.
 #[derive(Drop)]
 pub struct TaskKind {
     pub body: Vec<BodyLine>,

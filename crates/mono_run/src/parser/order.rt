@@ -1,4 +1,4 @@
-// Whether a body line may stand behind those before it.
+// Whether a body line may follow those before it.
 ghost use Rattle.std.specs.Prelude.{◌≡◌, ◌<◌, false, IsTrue, if◌then◌else◌};
 ghost use Rattle.mono_run.specs.Script.{MayStand, HasTask, HasJob, count_in, makes_task, makes_job, ends_task, ends_job};
 ghost use Rattle.mono_run.specs.Parser.{Fits};
@@ -23,7 +23,7 @@ fn is_block(line: BodyLine) -> bool
     }
 }
 
-// Whether the line gives the handle of own task i away.
+// Returns whether the line gives the handle of own task i away.
 fn gives_task(line: BodyLine, i: u64) -> bool
     ensures { ends_task i line ≡ (if result then 1 else 0) }
 {
@@ -33,7 +33,7 @@ fn gives_task(line: BodyLine, i: u64) -> bool
     }
 }
 
-// Whether the line gives the handle of own job i away.
+// Returns whether the line gives the handle of own job i away.
 fn gives_job(line: BodyLine, i: u64) -> bool
     ensures { ends_job i line ≡ (if result then 1 else 0) }
 {
@@ -43,7 +43,7 @@ fn gives_job(line: BodyLine, i: u64) -> bool
     }
 }
 
-// Own task i was made by these lines, and not given away.
+// Returns whether own task i was made by these lines, and not given away.
 fn has_task(before: &[BodyLine], i: u64) -> bool
     ensures has { IsTrue result → HasTask before.now i }
     ensures not { result ≡ false → HasTask before.now i → ⊥ }
@@ -60,7 +60,7 @@ fn has_task(before: &[BodyLine], i: u64) -> bool
     i < made as u64
 }
 
-// Own job i was made by these lines, and not given away.
+// Returns whether own job i was made by these lines, and not given away.
 fn has_job(before: &[BodyLine], i: u64) -> bool
     ensures has { IsTrue result → HasJob before.now i }
     ensures not { result ≡ false → HasJob before.now i → ⊥ }
@@ -77,7 +77,7 @@ fn has_job(before: &[BodyLine], i: u64) -> bool
     i < made as u64
 }
 
-/// Whether the line may stand behind these lines of its kind, where a line may name so many kinds.
+/// Returns whether the line may follow these lines of its kind, if a line may name the kinds below `kinds`.
 pub(crate) fn may_stand(kinds: usize, before: &[BodyLine], line: BodyLine) -> bool
     requires { Fits line }
     ensures may { IsTrue result → MayStand kinds before.now line }

@@ -4,13 +4,13 @@ ghost use Rattle.mono_text.specs.Lines.{lines};
 ghost use Rattle.mono_text.specs.Services.{HasNoFeed};
 ghost use Rattle.mono_run.specs.ScriptText.{task_lines};
 
-/// What is left of an input.
+/// The rest of an input.
 #[derive(Drop)]
 pub(crate) struct Pieces<'a> {
     rest: &'a [u8],
 }
 
-// The place of the first line feed.
+// Returns the place of the first line feed.
 fn feed_in(text: &[u8]) -> Option<usize>
     ensures found { IfSome result (λ i. (i < length text.now) × (slice_index text.now i ≡ 10) × HasNoFeed (take i text.now)) }
     ensures none { IfNone result (HasNoFeed text.now) }
@@ -24,21 +24,21 @@ fn feed_in(text: &[u8]) -> Option<usize>
 }
 
 impl<'a> Pieces<'a> {
-    /// All of the input.
+    /// Returns the whole input as the rest.
     pub fn new(input: &'a [u8]) -> Pieces<'a>
         ensures { result.rest.now ≡ input.now }
     {
         Pieces { rest: input }
     }
 
-    /// Whether nothing is left.
+    /// Returns whether the rest is empty.
     pub fn is_empty(&self) -> bool
         ensures { IsTrue result ↔ length self.now.rest.now ≡ 0 }
     {
         self.rest.is_empty()
     }
 
-    /// The next line, without its line feed, and goes past it. None where no line feed is left.
+    /// Returns the next line, without its line feed, and moves past it. Returns None if no line feed is left.
     pub fn line(&mut self) -> Option<&'a [u8]>
         ensures line { IfSome result (λ text. (self.old.rest.now ≡ text.now ++ 10 ∷ self.new.rest.now) × HasNoFeed text.now) }
         ensures none { IfNone result (HasNoFeed self.old.rest.now) }
@@ -54,7 +54,7 @@ impl<'a> Pieces<'a> {
     }
 }
 
-/// How many lines are exactly `task`, wherever they stand.
+/// Returns how many lines of the input are exactly `task`.
 pub(crate) fn count_tasks(input: &[u8]) -> usize
     ensures { result ≡ task_lines (lines input.now) }
 {

@@ -8,7 +8,7 @@ use crate::parser::pieces::{Pieces, count_tasks};
 use crate::parser::words::limits_in;
 use std::alloc::{AllocError, Global};
 
-/// What an input is read as.
+/// The result of reading an input.
 #[derive(Drop)]
 pub enum ScriptRead {
     /// The input spells this script.
@@ -17,11 +17,11 @@ pub enum ScriptRead {
     BadLine(usize),
 }
 
-/// The script that the input spells, or the number of its first bad line, counted from 1. Where the input ends too early
-/// that is the line that is missing: one more than it has.
+/// Returns the script that the input spells, or the number of its first bad line, counted from 1. If the input ends too
+/// early, that is the missing line: one more than it has.
 ///
-/// The relations `Spells` and `IsFirstBad` of the module `scripts` say which line is bad, by what some script may go
-/// on with; at most one line of an input is the first bad one, and none of an input that spells a script.
+/// The relations `Spells` and `IsFirstBad` of the module `scripts` say which line is bad: the first line with which no
+/// script continues. At most one line of an input is the first bad one, and none of an input that spells a script.
 pub fn read_script(alloc: Global, input: &[u8]) -> Result<ScriptRead, AllocError>
     ensures { IfOk result (λ read. IsRead input.now read) }
 {

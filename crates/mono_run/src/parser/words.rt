@@ -1,4 +1,4 @@
-// What a line says.
+// The meaning of a line.
 ghost use Rattle.std.specs.Prelude.{◌≡◌, ◌<◌, ◌^◌, ◌++◌, ℕ, IfNone, IfSome, decimal};
 ghost use Rattle.mono_text.specs.Parser.{Gives};
 ghost use Rattle.mono_text.specs.LineText.{FitLimits};
@@ -9,7 +9,7 @@ use crate::scripts::BodyLine;
 use mono_machine::Limits;
 use mono_text::Reader;
 
-/// The number behind the word, where the text is the word and a number.
+/// Returns the number after the word, if the text is the word and a number.
 pub(crate) fn numbered(text: &[u8], word: &[u8]) -> Option<u64>
     ensures found { IfSome result (λ n. (text.now ≡ word.now ++ decimal n) × (n < 2 ^ 64)) }
     ensures none { IfNone result ((n : ℕ) → n < 2 ^ 64 → text.now ≡ word.now ++ decimal n → ⊥) }
@@ -22,7 +22,7 @@ pub(crate) fn numbered(text: &[u8], word: &[u8]) -> Option<u64>
     if reader.is_empty() { Some(n) } else { None }
 }
 
-// The three limits behind their word.
+// Reads the three limits after their word.
 #[tactic(auto, unfolding(crate::specs::Parser::limits_at))]
 fn three_limits(reader: &mut Reader) -> Option<Limits>
     ensures { Gives result reader.new.rest.now (limits_at reader.old.rest.now) }
@@ -46,7 +46,7 @@ fn three_limits(reader: &mut Reader) -> Option<Limits>
     })
 }
 
-/// The limits that the text says.
+/// Returns the limits that the text spells.
 pub(crate) fn limits_in(text: &[u8]) -> Option<Limits>
     ensures found { IfSome result (λ x. (text.now ≡ limits_text x) × FitLimits x) }
     ensures none { IfNone result ((x : Limits) → FitLimits x → text.now ≡ limits_text x → ⊥) }
@@ -60,7 +60,7 @@ pub(crate) fn limits_in(text: &[u8]) -> Option<Limits>
     }
 }
 
-/// The body line that the text says.
+/// Returns the body line that the text spells.
 pub(crate) fn body_line(text: &[u8]) -> Option<BodyLine>
     ensures found { IfSome result (λ line. (text.now ≡ body_text line) × Fits line) }
     ensures none { IfNone result ((line : BodyLine) → Fits line → text.now ≡ body_text line → ⊥) }

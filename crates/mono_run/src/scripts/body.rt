@@ -1,6 +1,6 @@
-// What a script says.
+// The lines of a script.
 
-/// One line of a kind's body. Tasks and jobs go by their place among those that the kind made, counted from 0.
+/// A line of a kind's body. Tasks and jobs are numbered by their place among those that the kind made, from 0.
 #[derive(Clone, Copy, Debug, PartialEq, Eq)]
 pub enum BodyLine {
     /// Makes a task of this kind.
@@ -9,7 +9,7 @@ pub enum BodyLine {
     Join(u64),
     /// Drops the handle of an own task.
     Detach(u64),
-    /// Makes a sleep of so many nanoseconds, waits for it, and drops it.
+    /// Makes a sleep of this many nanoseconds, waits for it, and drops it.
     AwaitSleep(u64),
     /// Makes a blocking job with this output.
     Block(u64),

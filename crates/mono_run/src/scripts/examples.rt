@@ -1,7 +1,7 @@
-// Worked scripts.
+// Example scripts.
 ghost use Rattle.mono_run.specs.Examples.{ASleep, ChildTasks, AJob, NotItsTurn, NoSleep, ASleepIsWritten, NoKind, EndsInAKind, NoSuchKind};
 
-/// Scripts with the turns that they give, and inputs with their first bad line.
+/// Shows scripts with the turns that they give, and inputs with their first bad line.
 pub fn worked_scripts()
     ensures a_sleep { ASleep }
     ensures child_tasks { ChildTasks }

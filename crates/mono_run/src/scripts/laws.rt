@@ -8,18 +8,18 @@ ghost use Rattle.mono_run.specs.LineOrder.{MayFollow, front_texts};
 ghost use Rattle.mono_run.specs.Script.{Kind, Script, AreSoundKinds, AllMayStand};
 ghost use Rattle.mono_run.specs.ScriptText.{Spells, IsFirstBad, ended, task_lines};
 
-/// An input that spells a script has no first bad line.
+/// Shows that an input that spells a script has no first bad line.
 pub fn a_script_has_no_bad_line()
     ensures { (input : List ℕ) (s : Script) (n : ℕ) → Spells input s → IsFirstBad input n → ⊥ }
 {}
 
-/// At most one line is the first bad one.
+/// Shows that at most one line is the first bad one.
 pub fn one_line_is_the_first()
     ensures { (input : List ℕ) (m n : ℕ) → IsFirstBad input m → IsFirstBad input n → m ≡ n }
 {}
 
-/// Behind the limits, whole kinds and the front of one more, all of them sound, a line that may not follow is the first
-/// bad one, whatever stands behind it.
+/// Shows that, after the limits, whole kinds and the front of one more, all of them sound, a line that may not follow
+/// is the first bad one, for each rest of the input.
 pub fn what_may_not_follow_is_bad()
     ensures { (input : List ℕ) (x : Limits) (ks : List Kind) (bs : List BodyLine) (l : Line) (rest : List Line) → FitLimits x → AreSoundKinds (task_lines (lines input)) ks → AllMayStand (task_lines (lines input)) [] bs → length ks < 64 → length bs ≤ 127 → lines input ≡ map ended (front_texts x ks bs) ++ l ∷ rest → (MayFollow (task_lines (lines input)) bs l → ⊥) → IsFirstBad input (length (map ended (front_texts x ks bs)) + 1) }
 {}
