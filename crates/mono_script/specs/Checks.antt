@@ -15,7 +15,7 @@ yes_line = codes "yes" ++ 10 ∷ []
 abbrev pub no_line : ℕ → List ℕ
 no_line n = codes "no " ++ decimal n ++ 10 ∷ []
 
--- A run is answered by yes, and another journal by no and the line of the first pair that no step allows.
+-- The answer to a run is yes; the answer to another journal is no and the line of the first pair that no step allows.
 abbrev pub IsChecked : Limits → Blocking → List ℕ → Status → List ℕ → Type 0
 IsChecked limits strategy input status.Done output = IsPassed limits strategy input × (output ≡ yes_line)
 IsChecked limits strategy input status.NotARun output = (n : ℕ) × FailsAtLine limits strategy input n × (output ≡ no_line n)

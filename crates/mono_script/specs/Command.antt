@@ -26,12 +26,12 @@ FitsCommand (command.Limiter buckets retries) = (buckets < 2 ^ 64) × (retries <
 FitsCommand (command.Actors actors messages) = (actors < 2 ^ 64) × (messages < 2 ^ 64)
 FitsCommand (command.Check limits strategy) = FitLimits limits
 
--- The words say the command.
+-- The words spell the command.
 pub record IsCommand (words : List (List ℕ)) (c : Command) : Type 0 where
   pub text : words ≡ command_words c
   pub fit : FitsCommand c
 
--- The words are those of no command.
+-- The words spell no command.
 abbrev pub IsNoCommand : List (List ℕ) → Type 0
 IsNoCommand words = (c : Command) → IsCommand words c → ⊥
 

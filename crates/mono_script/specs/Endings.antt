@@ -1,13 +1,13 @@
--- How a command ends. Of the source, left is what it had left before and rest what it has left afterwards; of the
--- sink, before and after are what was written before and afterwards; of the spawner, starts and now are its count of
--- starts before and afterwards.
+-- How a command ends. For the source, left is its rest before and rest its rest afterwards. For the sink, before and
+-- after are the bytes written before and afterwards. For the spawner, starts and now are its count of starts before and
+-- afterwards.
 use Rattle.std.specs.Prelude.{⊤, ◌≡◌, ◌≢◌, ℕ, ◌≤◌, ◌⊎◌, Bool, true, false, List, [], ◌∷◌, ◌++◌, length, Option, Some, None, codes, decimal}
 use Rattle.mono_blocking.specs.Counts.{counted_by}
 use Rattle.mono_text.specs.Environment.{HasReadAll, IsLongerThan, HasWritten, HasWrittenPrefix}
 use Rattle.mono_script.specs.declared.ends.Status.{Status}
 use Rattle.mono_script.specs.declared.ends.Status.TheVariants as status
 
--- the most bytes of an input
+-- the greatest number of bytes of an input
 abbrev pub max_input : ℕ
 max_input = 16777216
 
@@ -26,30 +26,30 @@ status_code status.Turns = 8
 status_code status.Capacity = 10
 status_code status.NotARun = 11
 
--- What a command is.
+-- The definition of a command.
 pub record Meaning : Type 1 where
-  -- It reads the source. One that does not has no bytes as input.
+  -- It reads the source. The input of a command that does not read has no bytes.
   pub reads : Bool
-  -- Where it answers it asks the spawner for so many threads. One without workers never asks.
+  -- The number of threads for which it asks the spawner if it answers. A command without workers never asks.
   pub workers : Option ℕ
   -- Each line of the input is in the command's form.
   pub IsGood : List ℕ → Type 0
   -- Line n of the input, counted from 1, is the first that is not, or that is missing.
   pub IsFirstBad : List ℕ → ℕ → Type 0
-  -- For a good input: a status, which is Done or one of the command's own, and an output that go together.
+  -- The statuses and outputs that answer a good input. The status is Done or a status of the command's own.
   pub Answers : List ℕ → Status → List ℕ → Type 0
 
--- The input that a command goes by, where the source tells it.
+-- The input of a command, if the source exposes it.
 abbrev pub IsInput : Bool → Option (List ℕ) → List ℕ → Type 0
 IsInput true left input = left ≡ Some input
 IsInput false left input = input ≡ []
 
--- The input was read to its end and is not too long; or none is read.
+-- The input was read to its end and is not too long; or no input is read.
 abbrev pub HasInput : Bool → Option (List ℕ) → List ℕ → Option (List ℕ) → Type 0
 HasInput true left input rest = HasReadAll left input rest × (length input ≤ max_input)
 HasInput false left input rest = (input ≡ []) × (rest ≡ left)
 
--- The command had its input, gave it the answer that goes with the status, and all of that was written.
+-- The command had its input, and wrote all of an answer with this status.
 pub record HasAnswered (m : Meaning) (s : Status) (left rest before after : Option (List ℕ)) : Type 0 where
   pub input : List ℕ
   pub output : List ℕ
@@ -65,7 +65,7 @@ pub record NamesBadLine (m : Meaning) (left rest before after : Option (List ℕ
   pub first : m.IsFirstBad input line
   pub wrote : HasWritten before after (bad_line_text line)
 
--- What is to be written for the input, and the status that it then ends with.
+-- The output for the input, and the status after it.
 abbrev pub IsOutput : Meaning → List ℕ → Status → List ℕ → Type 0
 IsOutput m input status.Done output = m.Answers input status.Done output
 IsOutput m input status.BadLine output = (n : ℕ) × m.IsFirstBad input n × (output ≡ bad_line_text n)
@@ -78,13 +78,13 @@ IsOutput m input status.WriteFault output = ⊥
 IsOutput m input status.OutOfMemory output = ⊥
 IsOutput m input status.TooLong output = ⊥
 
--- The line that is named beside what is to be written: the first bad one, where a line is bad.
+-- The line that is named with the output: the first bad line, if there is one.
 abbrev pub IsLine : Meaning → List ℕ → Status → Option ℕ → Type 0
 IsLine m input status.BadLine (Some n) = m.IsFirstBad input n
 IsLine m input status.BadLine None = ⊥
 IsLine m input s line = line ≡ None
 
--- The command had its input, and of an output for it the first few bytes were written.
+-- The command had its input, and wrote a beginning of an output for it.
 pub record IsCutShort (m : Meaning) (left rest before after : Option (List ℕ)) : Type 0 where
   pub input : List ℕ
   pub output : List ℕ
@@ -93,13 +93,13 @@ pub record IsCutShort (m : Meaning) (left rest before after : Option (List ℕ))
   pub allowed : IsOutput m input meant output
   pub wrote : HasWrittenPrefix before after output
 
--- No fault, no want of memory and no word kept the program from reading all of its input.
+-- Neither a fault, nor out of memory, nor a word kept the program from reading all of its input.
 pub record IsRead (code : ℕ) : Type 0 where
   pub usage : code ≢ 2
   pub read_fault : code ≢ 4
   pub memory : code ≢ 6
 
--- what each status says of the outside; reading and writing say that a count of faults rose
+-- the effects of each status; a read or write fault means that a count of faults rose
 abbrev pub Ends : Meaning → Option (List ℕ) → Option (List ℕ) → Option (List ℕ) → Option (List ℕ) → Type 0 → Type 0 → Status → Type 0
 Ends m left rest before after reading writing status.Done = HasAnswered m status.Done left rest before after
 Ends m left rest before after reading writing status.Turns = HasAnswered m status.Turns left rest before after
@@ -116,13 +116,14 @@ Ends m left rest before after reading writing status.Usage = ⊥
 abbrev pub IsAnswered : Meaning → List ℕ → ℕ → Type 0
 IsAnswered m input code = (s : Status) × (code ≡ status_code s) × ((output : List ℕ) × m.Answers input s output)
 
--- what writing an output that goes with the status meant ended in
+-- the status after writing an output for which this status was meant
 abbrev pub IsWritten : Status → List ℕ → Option (List ℕ) → Option (List ℕ) → Type 0 → Status → Type 0
 IsWritten meant text before after writing s = ((s ≡ meant) × HasWritten before after text) ⊎ ((s ≡ status.WriteFault) × writing × HasWrittenPrefix before after text)
 
--- How often the spawner was asked for a thread, by the status. Without workers it never was. Else it was asked for each of them
--- where the command answered: the count of starts rose by as many, or stands at its end. It was not asked where there was no
--- good input. A write fault may have come at an answer or at the line that names a bad one; of want of memory nothing is said.
+-- How often the spawner was asked for a thread, by the status. Without workers it never was. If the command answered,
+-- it was asked for each worker: the count of starts rose by their number, or is at its end. It was not asked if there
+-- was no good input. A write fault may have come at an answer or at the line that names a bad one. After out of memory
+-- nothing is said.
 abbrev pub Asks : Option ℕ → ℕ → ℕ → Status → Type 0
 Asks None starts now s = now ≡ starts
 Asks (Some workers) starts now status.Done = now ≡ counted_by workers starts

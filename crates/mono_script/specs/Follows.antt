@@ -1,4 +1,4 @@
--- What a command has written that answers each line as soon as it was read.
+-- The bytes written by a command that answers each line as soon as it was read.
 use Rattle.std.specs.Prelude.{◌≡◌, ◌⊎◌, ℕ, List, ◌++◌, Option}
 use Rattle.mono_machine.specs.Machine.{Machine, start_machine}
 use Rattle.mono_machine.specs.Steps.{Step}

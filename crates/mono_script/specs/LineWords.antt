@@ -1,4 +1,4 @@
--- With which words the lines of a command begin.
+-- The words with which the lines of a command begin.
 use Rattle.std.specs.Prelude.{ℕ, List, Option, Some, codes}
 use Rattle.mono_script.specs.declared.command.Command.{Command}
 use Rattle.mono_script.specs.declared.command.Command.TheVariants as command
@@ -9,7 +9,7 @@ use Rattle.mono_text.specs.Scripts.{script_wrong_at}
 abbrev pub event_words : List ℕ
 event_words = codes "spawn wake sleep reset drop-sleep elapsed drop-join finished block drop-job job-finished job-end turn clock remote drain"
 
--- a journal has also what a runtime's has beside events
+-- the words of a journal's lines, which are not only events
 abbrev pub journal_words : List ℕ
 journal_words = codes "spawn wake sleep reset drop-sleep elapsed drop-join finished block drop-job job-finished job-end turn clock remote drain now park main"
 
@@ -27,7 +27,7 @@ line_words (command.Check limits strategy) = journal_words
 abbrev pub step_words : List ℕ
 step_words = codes "spawn wake sleep reset drop-sleep elapsed drop-join finished block drop-job job-finished job-end poll join job pending ready"
 
--- With which words a part of a line begins, with blanks between them.
+-- The words with which a part of a line begins, with blanks between them.
 abbrev pub part_words : Command → List ℕ
 part_words (command.Replay limits strategy) = step_words
 part_words (command.Run workers turns) = codes ""
@@ -37,7 +37,7 @@ part_words (command.Limiter buckets retries) = codes ""
 part_words (command.Actors actors messages) = codes "send stay stop"
 part_words (command.Check limits strategy) = step_words
 
--- With which words a line begins that has a report, with blanks between them.
+-- The words with which a line with a report begins, with blanks between them.
 abbrev pub pair_words : Command → List ℕ
 pair_words (command.Replay limits strategy) = codes ""
 pair_words (command.Run workers turns) = codes ""
@@ -50,7 +50,7 @@ pair_words (command.Check limits strategy) = event_words
 abbrev pub line_fault_at : Command → List ℕ → ℕ → Option Wrong
 line_fault_at c input n = wrong_at (words (line_words c)) (words (part_words c)) (words (pair_words c)) input n
 
--- What is wrong with line n of the input, counted from 1, by the bytes of that line, and for a script by those before it.
+-- The fault of line n of the input, counted from 1, by the bytes of that line, and for a script by those before it.
 abbrev pub fault_at : Command → List ℕ → ℕ → Option Wrong
 fault_at (command.Run workers turns) input n = Some (script_wrong_at (words (line_words (command.Run workers turns))) input n)
 fault_at (command.Replay limits strategy) input n = line_fault_at (command.Replay limits strategy) input n

@@ -1,4 +1,4 @@
--- What each command is.
+-- The definition of each command.
 use Rattle.std.specs.Prelude.{◌≡◌, ℕ, true, false, codes, List, [], ◌∷◌, ◌++◌, Option, Some, None, decimal}
 use Rattle.mono_machine.specs.declared.events.Limits.{Limits}
 use Rattle.mono_machine.specs.declared.events.Blocking.{Blocking}
@@ -28,7 +28,7 @@ use Rattle.mono_limit.specs.Limiter.{no_limits}
 use Rattle.mono_limit_lines.specs.Lines as limiter_line
 use Rattle.mono_script.specs.Checks.{checking}
 
--- a replay: event lines in, and a line for each report of a run
+-- a replay: event lines as input, and a line for each report of a run
 abbrev pub replaying : Limits → Blocking → Meaning
 replaying limits strategy = record {
   reads = true;
@@ -38,8 +38,8 @@ replaying limits strategy = record {
   Answers = λ input s output. (s ≡ status.Done) × IsReplayed limits strategy input output;
 }
 
--- a run: a script in, and the lines of a journal; the status goes with how the run ended. It asks for so many workers, and
--- the readings in the journal go by them and by what the handed clock tells of its readings.
+-- A run: a script as input, and the lines of a journal. The status is that of the run's end. It asks for this number of
+-- workers; they and the clock's exposed readings decide the readings in the journal.
 abbrev pub run_status : RunEnd → Status
 run_status (ran.Output o) = status.Done
 run_status ran.Turns = status.Turns
@@ -67,19 +67,19 @@ loading seed count = record {
   Answers = λ input s output. (s ≡ status.Done) × ((sum : Summary) × IsSummary seed count sum × (output ≡ summary_line sum));
 }
 
--- sessions: lines of calls in, and a line for each answer of a run of their steps from the empty sessions
+-- sessions: lines of calls as input, and a line for each answer of a run of their steps from the empty sessions
 abbrev pub keeping_sessions : ℕ → ℕ → Meaning
 keeping_sessions most_sessions most_entries = serving session_line.call_text session_line.FitsCall session_line.StepsAs (no_sessions most_sessions most_entries)
 
--- a limiter: calls in, from buckets and retries that begin empty, and a line for each answer of a run
+-- a limiter: lines of calls as input, on buckets and retries that begin empty, and a line for each answer of a run
 abbrev pub limiting : ℕ → ℕ → Meaning
 limiting buckets retries = serving limiter_line.call_text limiter_line.FitsCall limiter_line.StepByLine (no_limits buckets retries)
 
--- actors: lines that say calls in, and a line for each call's answers
+-- actors: lines of calls as input, and a line for each call's answers
 abbrev pub acting : ℕ → ℕ → Meaning
 acting actors messages = serving line_text FitsLine Answers (no_actors actors messages)
 
--- each command, where the handed clock tells such readings
+-- each command, if the clock exposes these readings
 abbrev pub meaning : Option (List ℕ) → Command → Meaning
 meaning readings (command.Replay limits strategy) = replaying limits strategy
 meaning readings (command.Run workers turns) = running workers turns readings

@@ -1,4 +1,4 @@
--- What stands behind the first word of a command.
+-- The words after the first word of a command.
 use Rattle.std.specs.Prelude.{◌≡◌, ℕ, ◌<◌, ◌^◌, List, [], ◌∷◌, codes, decimal}
 use Rattle.mono_machine.specs.declared.events.Limits.{Limits}
 use Rattle.mono_machine.specs.declared.events.Blocking.{Blocking}
@@ -31,7 +31,7 @@ pub record SayLimits (name : List ℕ) (words : List (List ℕ)) (limits : Limit
 
 -- ---- for the reader
 
--- The three words say these limits.
+-- The three words spell these limits.
 pub record AreLimits (tasks jobs sleeps : List ℕ) (limits : Limits) : Type 0 where
   pub tasks_text : tasks ≡ decimal limits.tasks
   pub jobs_text : jobs ≡ decimal limits.jobs

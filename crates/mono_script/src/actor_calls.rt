@@ -7,7 +7,7 @@ use crate::ends::Output;
 use crate::services::output_of;
 use std::alloc::{AllocError, Global};
 
-// What the calls on actors are answered.
+// Returns the output of the calls on actors.
 pub(crate) fn output_of_actors(
     alloc: Global,
     actors: u64,

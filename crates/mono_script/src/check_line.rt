@@ -25,7 +25,7 @@ fn no(alloc: Global, n: usize) -> Result<Vec<u8>, AllocError>
     Ok(text)
 }
 
-// What a check writes.
+// Returns the output of a check.
 pub(crate) fn output_of_check(
     alloc: Global,
     limits: Limits,

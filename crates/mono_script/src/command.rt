@@ -1,4 +1,4 @@
-// The commands, and which one the words say.
+// The commands, and how words become one.
 ghost use Rattle.std.specs.Prelude.{IfSome, IfNone, map, string_bytes};
 ghost use Rattle.mono_script.specs.Command.{IsCommand, IsNoCommand};
 
@@ -12,26 +12,26 @@ use crate::words::sessions::read_sessions;
 use mono_machine::Limits;
 use mono_replay::Blocking;
 
-/// What the words ask for.
+/// A command.
 #[derive(Clone, Copy)]
 pub enum Command {
     /// A replay with these limits, and this strategy for blocking jobs.
     Replay(Limits, Blocking),
-    /// A run of a script with so many workers and units.
+    /// A run of a script with this many workers, and a budget of this many turns.
     Run(u64, u64),
     /// The load of this seed and count.
     Load(u64, u64),
-    /// Sessions, of which at most so many may be open, with at most so many entries in all queues.
+    /// Sessions: at most how many may be open, and at most how many entries all queues have.
     Sessions(u64, u64),
-    /// A limiter of at most so many buckets, and so many retries that live at a time.
+    /// A limiter: at most how many buckets there are, and at most how many retries live at a time.
     Limiter(u64, u64),
-    /// Calls on actors, with room for so many live ones and so many messages.
+    /// Calls on actors: at most how many live, and at most how many messages wait.
     Actors(u64, u64),
     /// A check of a journal, with these limits and this strategy.
     Check(Limits, Blocking),
 }
 
-// The command that the words say, or none.
+// Returns the command that the words spell, if they spell one.
 pub(crate) fn read_command(words: &Vec<String>) -> Option<Command>
     ensures found { IfSome result (λ c. IsCommand (map string_bytes words.now.items) c) }
     ensures none { IfNone result (IsNoCommand (map string_bytes words.now.items)) }

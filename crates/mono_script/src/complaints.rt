@@ -1,10 +1,10 @@
-// What is wrong with words that are no command.
+// Why words are no command.
 use crate::forms::{COMMANDS, Place, fits, is_command, place_at};
 use crate::word_texts::shown;
 use std::alloc::{AllocError, Global};
 use std::format;
 
-// What was expected at a place.
+// Returns the form that was expected at a place.
 fn expected(alloc: Global, place: Place) -> Result<String, AllocError> {
     match place {
         Place::Strategy => String::from_str(alloc, "STRATEGY is attached, local or panic"),
@@ -18,7 +18,7 @@ fn expected(alloc: Global, place: Place) -> Result<String, AllocError> {
     }
 }
 
-// Where the input comes from, behind a colon, if the command reads one.
+// Returns where the input comes from, after a colon, if the command reads one.
 fn hint_of(command: &str) -> &'static str {
     if command == "load" {
         ""
@@ -27,7 +27,7 @@ fn hint_of(command: &str) -> &'static str {
     }
 }
 
-// What is wrong at a place, where something is.
+// Returns why a place is wrong, if it is.
 fn complaint_at(
     alloc: Global,
     command: &str,
@@ -56,7 +56,7 @@ fn complaint_at(
     }
 }
 
-// The command that the words are about: behind `help` the second word.
+// Returns the command that the words are about: after `help` the second word.
 fn asked_of<'a>(words: &'a Vec<String>, first: &'a str) -> &'a str {
     match words.get(1) {
         Some(second) if first == "help" => second.as_str(),
@@ -64,8 +64,8 @@ fn asked_of<'a>(words: &'a Vec<String>, first: &'a str) -> &'a str {
     }
 }
 
-/// What is wrong with words that are no command, in one sentence: which word, and what was expected there. Of words that
-/// are one it says that nothing is wrong.
+/// Returns in one sentence why words are no command: the word that is wrong, and the form expected there. For words
+/// that are a command it says that nothing is wrong.
 pub fn complaint(alloc: Global, words: &Vec<String>) -> Result<String, AllocError> {
     let Some(command) = words.first() else {
         return format!(in alloc;

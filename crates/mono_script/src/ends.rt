@@ -10,7 +10,7 @@ use crate::line_words::fault;
 use mono_text::Fault;
 use std::alloc::{AllocError, Global};
 
-/// How the program ends.
+/// The status with which the program ends.
 #[derive(Clone, Copy, Debug, PartialEq, Eq)]
 pub enum Status {
     /// 0: the input was read to its end, and all of the answer was written.
@@ -23,11 +23,11 @@ pub enum Status {
     ReadFault,
     /// 5: a write failed.
     WriteFault,
-    /// 6: memory was refused.
+    /// 6: an allocation failed.
     OutOfMemory,
     /// 7: the input has more than 2^24 bytes.
     TooLong,
-    /// 8: a run had no unit left, and its journal was written.
+    /// 8: a run spent its budget, and its journal was written.
     Turns,
     /// 10: there was no place for a run's main task, and its journal was written.
     Capacity,
@@ -36,7 +36,7 @@ pub enum Status {
 }
 
 impl Status {
-    /// The number of the status.
+    /// Returns the number of the status.
     pub fn code(self) -> u8
         ensures { result ≡ status_code self }
     {
@@ -55,7 +55,7 @@ impl Status {
     }
 }
 
-// All that is to be written, the status that it then ends with, and the first bad line where one is named.
+// The bytes to write, the status after them, and the first bad line if one is named.
 #[derive(Drop)]
 pub(crate) struct Output {
     pub status: Status,
@@ -63,21 +63,21 @@ pub(crate) struct Output {
     pub bad_line: Option<usize>,
 }
 
-/// How a command ended.
+/// The end of a command.
 #[derive(Drop)]
 pub struct Ended {
-    /// Which command.
+    /// The command.
     pub(crate) command: Command,
     /// The status.
     pub(crate) status: Status,
-    /// The input that was read, where it was read to its end.
+    /// The input, if it was read to its end.
     pub(crate) input: Vec<u8>,
-    /// The first bad line, where one was named.
+    /// The first bad line, if one was named.
     pub(crate) bad_line: Option<usize>,
 }
 
 impl Ended {
-    // An end without an input that was read to its end.
+    // Returns an end without an input that was read to its end.
     pub(crate) fn without_input(alloc: Global, command: Command, status: Status) -> Ended
         ensures command { result.command ≡ command }
         ensures status { result.status ≡ status }
@@ -90,22 +90,22 @@ impl Ended {
         }
     }
 
-    /// The status.
+    /// Returns the status.
     pub fn status(&self) -> Status
         ensures { result ≡ self.now.status }
     {
         self.status
     }
 
-    /// The first bad line, counted from 1, where one was named.
+    /// Returns the first bad line, counted from 1, if one was named.
     pub fn bad_line(&self) -> Option<usize>
         ensures { result ≡ self.now.bad_line }
     {
         self.bad_line
     }
 
-    /// What is wrong with the first bad line: why it says nothing of the command, and the word that shows it. It goes by the
-    /// bytes of the line alone, and of a script by those before it.
+    /// Returns the fault of the first bad line: why it is no line of the command, and the word that shows it. The fault
+    /// depends on the bytes of the line alone, and for a script also on those before it.
     pub fn fault(&self) -> Option<Fault>
         ensures some { IfSome self.now.bad_line (λ n. option_map told result ≡ fault_at self.now.command self.now.input.items n) }
         ensures none { IfNone self.now.bad_line (result ≡ None) }
@@ -114,7 +114,7 @@ impl Ended {
     }
 }
 
-// What names a bad line.
+// Returns the output that names a bad line.
 pub(crate) fn bad_line(alloc: Global, n: usize) -> Result<Output, AllocError>
     ensures status { IfOk result (λ o. o.status ≡ Status.BadLine) }
     ensures text { IfOk result (λ o. o.text.items ≡ bad_line_text n) }

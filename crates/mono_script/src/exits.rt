@@ -1,4 +1,4 @@
-// What the program decides from the way in which a command ended, and from the words that it was given.
+// How the program exits, by the command's end and by its words.
 ghost use Rattle.std.specs.Prelude.{◌≡◌, ◌≢◌, ◌↔◌, true, IfSome, IfNone, IsTrue, drop};
 ghost use Rattle.mono_script.specs.Endings.{status_code};
 ghost use Rattle.mono_script.specs.declared.ends.Status.TheVariants as status;
@@ -16,8 +16,8 @@ pub fn exit_code(ended: &Option<Ended>) -> u8
     }
 }
 
-/// Returns whether the program joins the workers: unless memory was refused, since a pool may then be open and its workers
-/// wait for ever.
+/// Returns whether the program joins the workers. After out of memory it does not, since a pool may then be open and
+/// its workers wait for ever.
 pub fn joins_workers(ended: &Option<Ended>) -> bool
     ensures some { IfSome ended.now (λ e. IsTrue result ↔ (e.status ≢ status.OutOfMemory)) }
     ensures none { IfNone ended.now (result ≡ true) }
@@ -28,7 +28,7 @@ pub fn joins_workers(ended: &Option<Ended>) -> bool
     }
 }
 
-/// Returns the words behind the program's name, which is the first of all.
+/// Returns the words after the program's name, which is the first of all.
 pub fn words_behind(all: Vec<String>) -> Vec<String>
     ensures { result.items ≡ drop 1 all.items }
 {

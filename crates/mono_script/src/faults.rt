@@ -1,11 +1,11 @@
-// What is wrong with a line, in a sentence.
+// The fault of a line, in a sentence.
 use crate::line_forms::form_of;
 use crate::word_texts::shown;
 use mono_text::{Fault, Reason};
 use std::alloc::{AllocError, Global};
 use std::format;
 
-// What was expected, behind a semicolon, if the word has a form.
+// Returns the expected form, after a semicolon, if the word has one.
 fn expected(alloc: Global, command: &str, fault: &Fault) -> Result<String, AllocError> {
     match form_of(command, fault.head) {
         Some(form) => format!(in alloc; "; expected: {form}"),
@@ -13,7 +13,7 @@ fn expected(alloc: Global, command: &str, fault: &Fault) -> Result<String, Alloc
     }
 }
 
-// The word, and what is wrong with it, and what was expected.
+// Returns the word, its fault, and the expected form.
 fn about_word(
     alloc: Global,
     command: &str,
@@ -25,7 +25,7 @@ fn about_word(
     format!(in alloc; "\"{word}\" {what}{expected}")
 }
 
-// What is missing in a script that ends before this line.
+// Returns which line is missing in a script that ends before this line.
 fn missing_text(alloc: Global, line: usize) -> Result<String, AllocError> {
     let text = match line {
         1 => "the script is empty: limits TASKS JOBS SLEEPS is missing",
@@ -35,7 +35,7 @@ fn missing_text(alloc: Global, line: usize) -> Result<String, AllocError> {
     String::from_str(alloc, text)
 }
 
-// What is wrong with a number of a script.
+// Returns the fault of a number in a script.
 fn script_number_text(alloc: Global, fault: &Fault) -> Result<String, AllocError> {
     let word = shown(alloc, fault.word)?;
     match fault.reason {
@@ -52,7 +52,7 @@ fn script_number_text(alloc: Global, fault: &Fault) -> Result<String, AllocError
     }
 }
 
-// What is wrong with a whole line.
+// Returns the fault of a whole line.
 fn line_text(command: &str, reason: Reason) -> &'static str {
     match reason {
         Reason::NoLineFeed => "no line feed at the end",
@@ -74,7 +74,7 @@ fn line_text(command: &str, reason: Reason) -> &'static str {
     }
 }
 
-// Why the line says nothing of the command.
+// Returns why the line is no line of the command.
 fn reason_text(
     alloc: Global,
     command: &str,
@@ -115,8 +115,8 @@ fn reason_text(
     }
 }
 
-/// Returns what is wrong with a command's first bad line, in one sentence. Of a line that a script lacks it names what is
-/// missing, and no number.
+/// Returns the fault of a command's first bad line, in one sentence. For a line that a script lacks it names the
+/// missing line, and no number.
 pub fn line_sentence(
     alloc: Global,
     command: &str,

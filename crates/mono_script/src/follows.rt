@@ -17,14 +17,14 @@ use mono_session_lines::follow_sessions;
 use mono_text::{Fault, FollowEnd, Followed, Sink, Source};
 use std::alloc::{AllocError, Global};
 
-/// How a command ended whose lines were answered as soon as they were read.
+/// The end of a command whose lines were answered as soon as they were read.
 #[derive(Drop)]
 pub struct FollowedCommand {
     pub(crate) command: Command,
     pub(crate) followed: Followed,
 }
 
-// The status that goes with an end.
+// Returns the status of an end.
 fn status_of(end: FollowEnd) -> Status
     ensures { result ≡ status_of_end end }
 {
@@ -59,7 +59,7 @@ impl FollowedCommand {
     }
 }
 
-// An end before anything was read.
+// Returns an end before anything was read.
 fn without_memory(alloc: Global) -> Followed
     ensures { result.end ≡ end.OutOfMemory }
 {
@@ -70,7 +70,7 @@ fn without_memory(alloc: Global) -> Followed
     }
 }
 
-// What the command did, or that there was no memory to begin.
+// Returns the end of the command, or that there was no memory to begin.
 fn followed_of(
     alloc: Global,
     command: Command,
@@ -89,9 +89,9 @@ fn followed_of(
     }
 }
 
-/// Carries out the command that the words say, and answers each line of the source as soon as it was read. What was written
-/// is the answers to lines at the front of the input. None if the words are no command, or one whose lines are answered
-/// together, and then nothing is read or written.
+/// Carries out the command that the words spell, and answers each line of the source as soon as it was read. The bytes
+/// written are the answers to lines at the front of the input. It returns None if the words are no command, or a
+/// command whose lines are answered together; then nothing is read or written.
 pub fn follow_command<S: Source, K: Sink>(
     alloc: Global,
     words: &Vec<String>,

@@ -1,19 +1,19 @@
 // The words that each command takes.
 use mono_text::whole_number;
 
-/// What stands at a place behind the command's name.
+/// The form of a place after the command's name.
 #[derive(Clone, Copy)]
 pub(crate) enum Place {
     /// The strategy for blocking jobs.
     Strategy,
-    /// A number of this name, at most so great.
+    /// A number of this name, at most this great.
     Number(&'static str, u64),
 }
 
 /// The names of the commands.
 pub(crate) const COMMANDS: &str = "replay, run, load, sessions, limiter, actors or check";
 
-/// Whether it is the name of a command.
+/// Returns whether it is the name of a command.
 pub(crate) fn is_command(name: &str) -> bool {
     place_at(name, 1).is_some()
 }
@@ -40,7 +40,7 @@ fn two(at: usize, first: Option<Place>, second: Option<Place>) -> Option<Place> 
     }
 }
 
-/// What stands at a place behind a command's name, counted from 1; none behind the last.
+/// Returns the form of a place after a command's name, counted from 1; None after the last place.
 pub(crate) fn place_at(command: &str, at: usize) -> Option<Place> {
     match command {
         "replay" | "check" => limits(at),
@@ -57,7 +57,7 @@ pub(crate) fn place_at(command: &str, at: usize) -> Option<Place> {
     }
 }
 
-/// Whether the word may stand at the place.
+/// Returns whether the word fits the place.
 pub(crate) fn fits(place: Place, word: &str) -> bool {
     match place {
         Place::Strategy => word == "attached" || word == "local" || word == "panic",

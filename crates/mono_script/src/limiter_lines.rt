@@ -1,4 +1,4 @@
-// What the lines of a limiter are answered, as an output.
+// The answers to the lines of a limiter, as an output.
 ghost use Rattle.std.specs.Prelude.{IfOk};
 ghost use Rattle.mono_script.specs.Endings.{IsOutput, IsLine};
 ghost use Rattle.mono_script.specs.Meanings.{limiting};
@@ -8,7 +8,7 @@ use crate::services::output_of;
 use mono_limit_lines::limiter;
 use std::alloc::{AllocError, Global};
 
-// What a limiter writes for an input.
+// Returns the output of a limiter for an input.
 pub(crate) fn output_of_limiter(
     alloc: Global,
     buckets: u64,

@@ -73,7 +73,7 @@ const ACTORS: [&str; 5] = [
     "clock NANOS",
 ];
 
-// Whether the form begins with this word.
+// Returns whether the form begins with this word.
 fn begins_with(form: &str, head: &[u8]) -> bool {
     match form.split([' ', ',', ';']).next() {
         Some(first) => first.as_bytes() == head,
@@ -81,7 +81,7 @@ fn begins_with(form: &str, head: &[u8]) -> bool {
     }
 }
 
-// The first of the forms that begins with this word.
+// Returns the first of the forms that begins with this word.
 fn find(forms: &'static [&'static str], head: &[u8]) -> Option<&'static str> {
     for form in forms {
         if begins_with(form, head) {
@@ -91,7 +91,7 @@ fn find(forms: &'static [&'static str], head: &[u8]) -> Option<&'static str> {
     None
 }
 
-// The form of an event, or of a step of a turn.
+// Returns the form of an event, or of a step of a turn.
 fn event_form(head: &[u8]) -> Option<&'static str> {
     match find(EVENTS.as_slice(), head) {
         Some(form) => Some(form),

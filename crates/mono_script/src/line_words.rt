@@ -1,4 +1,4 @@
-// With which words the lines of a command begin, and what is wrong with a line.
+// The words with which the lines of a command begin, and the fault of a line.
 ghost use Rattle.std.specs.Prelude.{◌≡◌};
 ghost use Rattle.std.specs.Option.{option_map};
 ghost use Rattle.mono_text.specs.ReasonTexts.{told};
@@ -13,7 +13,7 @@ const EVENT_WORDS: &[u8] =
 const JOURNAL_WORDS: &[u8] =
     b"spawn wake sleep reset drop-sleep elapsed drop-join finished block drop-job job-finished job-end turn clock remote drain now park main";
 
-/// The words with which the lines of a command begin, with blanks between them.
+/// Returns the words with which the lines of a command begin, with blanks between them.
 pub(crate) fn first_words(command: Command) -> &'static [u8]
     ensures { result.now ≡ line_words command }
 {
@@ -33,7 +33,7 @@ pub(crate) fn first_words(command: Command) -> &'static [u8]
 const STEP_WORDS: &[u8] =
     b"spawn wake sleep reset drop-sleep elapsed drop-join finished block drop-job job-finished job-end poll join job pending ready";
 
-// The words with which a part of a line begins, with blanks between them.
+// Returns the words with which a part of a line begins, with blanks between them.
 fn first_words_of_parts(command: Command) -> &'static [u8]
     ensures { result.now ≡ part_words command }
 {
@@ -48,7 +48,7 @@ fn first_words_of_parts(command: Command) -> &'static [u8]
     }
 }
 
-// The words with which a line begins that has a report, with blanks between them.
+// Returns the words with which a line with a report begins, with blanks between them.
 fn first_words_of_pairs(command: Command) -> &'static [u8]
     ensures { result.now ≡ pair_words command }
 {
@@ -63,7 +63,7 @@ fn first_words_of_pairs(command: Command) -> &'static [u8]
     }
 }
 
-// What is wrong with a line, by its bytes alone.
+// Returns the fault of a line, by its bytes alone.
 fn line_fault<'a>(command: Command, input: &'a [u8], n: usize) -> Option<Fault<'a>>
     ensures { option_map told result ≡ line_fault_at command input.now n }
 {
@@ -76,7 +76,7 @@ fn line_fault<'a>(command: Command, input: &'a [u8], n: usize) -> Option<Fault<'
     )
 }
 
-/// Returns what is wrong with line n of the input, counted from 1; of a script also that the line is missing.
+/// Returns the fault of line n of the input, counted from 1; for a script also that the line is missing.
 pub(crate) fn fault<'a>(command: Command, input: &'a [u8], n: usize) -> Option<Fault<'a>>
     ensures { option_map told result ≡ fault_at command input.now n }
 {

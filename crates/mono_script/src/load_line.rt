@@ -28,7 +28,7 @@ fn line_of(alloc: Global, sum: Summary) -> Result<Vec<u8>, AllocError>
     Ok(text)
 }
 
-// What a load writes; it has no input.
+// Returns the output of a load, which has no input.
 pub(crate) fn output_of_load(
     alloc: Global,
     seed: u64,

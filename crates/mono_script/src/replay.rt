@@ -15,17 +15,16 @@ use mono_replay::{Blocking, Event, Exec, List, Reply, Report, TurnStep};
 use mono_text::{Followed, Reader, Service, Sink, Source, follow, report_line};
 use std::alloc::{AllocError, Global};
 
-/// What an input is answered: the number of the first line that says no event, counted from 1, or the lines of the
-/// reports.
+/// The answer to an input: the number of the first line that is no event, counted from 1, or the lines of the reports.
 #[derive(Drop)]
 pub enum Replayed {
-    /// The first line that says no event, counted from 1.
+    /// The first line that is no event, counted from 1.
     BadLine(usize),
     /// The report lines, one for each event.
     Output(Vec<u8>),
 }
 
-// The lists of a turn's steps and of its replies, for the next turn.
+// The lists of a turn's steps and replies, kept for the next turn.
 #[derive(Drop)]
 struct Spare {
     steps: List<TurnStep>,
@@ -43,7 +42,7 @@ fn keep_lists(event: Event, report: Report, spare: &mut Spare) {
     }
 }
 
-// Applies the event and puts the line of its report behind the others.
+// Applies the event, and appends the line of its report.
 #[inline(always)]
 fn one_event(
     alloc: Global,
@@ -60,7 +59,8 @@ fn one_event(
     Ok(())
 }
 
-/// The answer to an input, one line at a time: read, applied and printed. At a bad line what was printed is thrown away.
+/// Returns the answer to an input, and reads, applies and prints one line at a time. At a bad line it drops the printed
+/// lines.
 pub fn answer(
     alloc: Global,
     limits: Limits,
@@ -87,7 +87,7 @@ pub fn answer(
     Ok(Replayed::Output(out))
 }
 
-// The replay's answer as an output.
+// Returns the replay's answer as an output.
 pub(crate) fn output_of_replay(
     alloc: Global,
     limits: Limits,
@@ -138,8 +138,8 @@ impl Service for ReplayLines {
     }
 }
 
-/// Replays each line of the source as soon as it was read: what was written is the reports of a run for the lines at its
-/// front. If there is no memory for the executor the source is not read and nothing is written.
+/// Replays each line of the source as soon as it was read. The bytes written are the reports of a run for the lines at
+/// its front. If there is no memory for the executor, the source is not read and nothing is written.
 pub(crate) fn follow_replay<S: Source, K: Sink>(
     alloc: Global,
     limits: Limits,

@@ -1,4 +1,4 @@
-// A script, run and told as an output.
+// A run of a script, as an output.
 ghost use Rattle.std.specs.Prelude.{◌≡◌, Some, IfOk};
 ghost use Rattle.mono_script.specs.Endings.{IsOutput, IsLine, Asks};
 ghost use Rattle.mono_script.specs.Meanings.{running, run_status};
@@ -20,7 +20,7 @@ fn status_of(end: RunEnd) -> Status
     }
 }
 
-// The run of the script that the input spells, or its first bad line, as an output.
+// Returns the run of the script that the input spells, or its first bad line, as an output.
 pub(crate) fn output_of_run<R: Host + Send + 'static, C: Clock + Drop, P: Spawner>(
     rt: &R,
     alloc: Global,

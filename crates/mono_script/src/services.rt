@@ -1,4 +1,4 @@
-// What a value served to an input, as an output.
+// The answers of a service to an input, as an output.
 ghost use Rattle.std.specs.Prelude.{IfOk};
 ghost use Rattle.mono_script.specs.Services.{IsToldAs, IsLineOf};
 
@@ -6,7 +6,8 @@ use crate::ends::{Output, Status, bad_line};
 use mono_text::Served;
 use std::alloc::{AllocError, Global};
 
-// The output of a command that serves. What it is worth by the command's meaning tells `as_output` of proofs/Serving.
+// Returns the output of a command that serves. The law `as_output` of proofs/Serving says which answer of the command's
+// meaning it is.
 pub(crate) fn output_of(alloc: Global, served: Served) -> Result<Output, AllocError>
     ensures told { IfOk result (λ o. IsToldAs served o.status o.text.items) }
     ensures line { IfOk result (λ o. IsLineOf served o.bad_line) }

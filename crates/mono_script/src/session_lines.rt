@@ -1,4 +1,4 @@
-// What the sessions answer, as an output.
+// The answers of the sessions, as an output.
 ghost use Rattle.std.specs.Prelude.{IfOk};
 ghost use Rattle.mono_script.specs.Endings.{IsOutput, IsLine};
 ghost use Rattle.mono_script.specs.Meanings.{keeping_sessions};

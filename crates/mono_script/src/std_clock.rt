@@ -9,7 +9,7 @@ use mono_model::{Host, MAX_NANOS};
 use std::time::{self, Duration};
 
 /// The system's clock, in nanoseconds from its making. It ends at `MAX_NANOS`, and a reading that the system refuses
-/// repeats the last one. It tells nothing of its readings.
+/// repeats the last one. It exposes no readings.
 #[derive(Drop)]
 pub struct StdClock<R> {
     rt: R,
@@ -17,7 +17,8 @@ pub struct StdClock<R> {
     last: Instant,
 }
 
-// The instant so long after the clock's beginning, which ends at `MAX_NANOS`; the last one if the system told none.
+// Returns the instant this long after the clock's beginning, at most `MAX_NANOS`; the last instant if the system
+// refused.
 fn reading(gone: Option<Duration>, last: Instant) -> Instant
     ensures told { IfSome gone (λ gone. nanos_of result ≡ min (as_nanos gone) max_nanos) }
     ensures repeated { IfNone gone (result ≡ last) }
@@ -31,7 +32,7 @@ fn reading(gone: Option<Duration>, last: Instant) -> Instant
     }
 }
 
-// The first instant.
+// Returns the first instant.
 fn first() -> Instant {
     match Instant::from_nanos(0) {
         Some(first) => first,
@@ -40,7 +41,7 @@ fn first() -> Instant {
 }
 
 impl<R: Host + Drop> StdClock<R> {
-    /// A clock that begins now.
+    /// Returns a clock that begins now.
     pub fn new(rt: R) -> StdClock<R> {
         let begin = match time::Instant::now(&rt) {
             Ok(begin) => Some(begin),
@@ -53,7 +54,7 @@ impl<R: Host + Drop> StdClock<R> {
         }
     }
 
-    // The time since its making, where the system tells it.
+    // Returns the time since its making, unless the system refuses.
     fn gone(&self) -> Option<Duration> {
         match &self.begin {
             None => None,

@@ -25,7 +25,7 @@ use mono_model::Host;
 use mono_text::{InputError, Sink, Source, read_all, write_all};
 use std::alloc::{AllocError, Global};
 
-// What the command is to write for the input.
+// Returns the output of the command for the input.
 fn made<R: Host + Send + 'static, C: Clock + Drop, P: Spawner>(
     rt: &R,
     alloc: Global,
@@ -55,7 +55,7 @@ fn made<R: Host + Send + 'static, C: Clock + Drop, P: Spawner>(
     }
 }
 
-// Whether the command reads the source, whatever the clock tells.
+// Returns whether the command reads the source, for each clock.
 fn reads(command: Command) -> bool
     ensures { (readings : Option (List ℕ)) → result ≡ (meaning readings command).reads }
 {
@@ -70,7 +70,7 @@ fn reads(command: Command) -> bool
     }
 }
 
-// The input: what the source has left, or none where it is not to be read.
+// Returns the input: the rest of the source, or no bytes if the command does not read.
 fn input_of<S: Source>(
     alloc: Global,
     needs_input: bool,
@@ -102,7 +102,7 @@ fn write_output<K: Sink>(sink: &mut K, meant: Status, text: &[u8]) -> Status
     meant
 }
 
-// The command over its input, to the sink.
+// Carries out the command over its input, and writes to the sink.
 fn carry_out<S: Source, K: Sink, R: Host + Send + 'static, C: Clock + Drop, P: Spawner>(
     rt: &R,
     alloc: Global,
@@ -141,8 +141,9 @@ fn carry_out<S: Source, K: Sink, R: Host + Send + 'static, C: Clock + Drop, P: S
     }
 }
 
-/// As [`program`], and tells how the command ended: beside the status also the input that was read, and the first bad line
-/// where one was named. None exactly where the words are no command (`none`, `command`), and then nothing is read or written.
+/// Carries out the command as [`program`] does, and returns its end: the status, the input that was read, and the first
+/// bad line if one was named. It returns None if and only if the words are no command (`none`, `command`); then nothing
+/// is read or written.
 pub fn explained<S: Source, K: Sink, C: Clock + Drop, P: Spawner, R: Host + Send + 'static>(
     rt: &R,
     alloc: Global,
@@ -171,21 +172,23 @@ pub fn explained<S: Source, K: Sink, C: Clock + Drop, P: Spawner, R: Host + Send
     }
 }
 
-/// Carries out the command that the words say: it reads the source, makes the answer and writes it. The words are those
-/// behind the program's name.
+/// Carries out the command that the words spell: reads the source, makes the answer and writes it. The words are those
+/// after the program's name.
 ///
-/// What a command is stands in one record (`Meaning`): whether it reads, for how many threads it asks, which input is good,
-/// which line of another is the first bad one, and which status and output answer a good input, where the clock tells such
-/// readings. Each status has a clause of its name that says what it means, for every command, and the clauses `usage`,
-/// `too_long_where` and `bad_line_where` say exactly where it comes: in the order of usage, reading, bad line, writing. A
-/// read or a write fault comes only where the count of that object rose in this call, and wherever it rose
-/// (`read_fault_where`, `write_fault_where`). Want of memory may come at any time before the first write. `complete` says
-/// that a good command over good input ends with an answer, but for a fault or want of memory. `capacity_where` says that a
-/// run ends with 10 exactly where its script's limit of tasks is 0.
+/// One record (`Meaning`) defines a command: whether it reads, and for how many threads it asks; which input is good,
+/// and which line of another is the first bad one; which status and output answer a good input, if the clock exposes
+/// these readings. Each status has a clause of its name that gives its meaning, for every command. The clauses `usage`,
+/// `too_long_where` and `bad_line_where` give the conditions, as an if and only if, in the order of usage, reading, bad
+/// line, writing.
 ///
-/// `starts` says by the status how often the spawner was asked for a thread: a run that is answered asked for each of its
-/// workers, what never got so far asked for none, and no other command asks. Words that are no command ask for none
-/// (`no_starts`).
+/// A read or a write fault is returned only if the count of that object rose in this call, and whenever it rose
+/// (`read_fault_where`, `write_fault_where`). It may run out of memory at any time before the first write. `complete`
+/// says that a good command over good input ends with an answer, unless a fault came or memory ran out.
+/// `capacity_where` says that a run ends with 10 if and only if its script's limit of tasks is 0.
+///
+/// `starts` says by the status how often the spawner was asked for a thread. A run that is answered asked for each of
+/// its workers, a run that stopped before it asked for none, and no other command asks. Words that are no command ask
+/// for none (`no_starts`).
 pub fn program<S: Source, K: Sink, C: Clock + Drop, P: Spawner, R: Host + Send + 'static>(
     rt: &R,
     alloc: Global,

@@ -1,12 +1,12 @@
-// Bytes as a person may see them on a terminal.
+// Bytes in a form that a terminal may show.
 use std::alloc::{AllocError, Global};
 use std::format;
 
 // How many bytes of a word are shown.
 const MOST: usize = 40;
 
-/// Returns the first 40 bytes as text. A byte that is neither graphic ASCII nor a blank is written as `\x` and two digits,
-/// and `...` stands behind a text that was cut.
+/// Returns the first 40 bytes as text. A byte that is neither graphic ASCII nor a blank is written as `\x` and two
+/// digits, and `...` follows a text that was cut.
 pub fn shown(alloc: Global, bytes: &[u8]) -> Result<String, AllocError> {
     let mut text = String::new(alloc);
     for byte in bytes.iter().take(MOST) {

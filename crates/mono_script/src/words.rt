@@ -1,4 +1,4 @@
-// The words of each command, a file each, and what several commands have behind their first word.
+// The words of each command, a file each, and the words after the first that several commands share.
 pub(crate) mod actors;
 pub(crate) mod check;
 pub(crate) mod limiter;

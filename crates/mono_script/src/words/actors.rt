@@ -5,7 +5,7 @@ ghost use Rattle.mono_script.specs.Command.{IsCommand, IsNoActors};
 use crate::command::Command;
 use crate::words::numbers::two_numbers;
 
-// The limits of actors and messages that the words say, or none.
+// Returns the limits of actors and messages that the words spell, if they spell any.
 pub(crate) fn read_actors(words: &Vec<String>) -> Option<Command>
     ensures found { IfSome result (λ c. IsCommand (map string_bytes words.now.items) c) }
     ensures none { IfNone result (IsNoActors (map string_bytes words.now.items)) }

@@ -5,7 +5,7 @@ ghost use Rattle.mono_script.specs.Command.{IsCommand, IsNoCheck};
 use crate::command::Command;
 use crate::words::limits::strategy_and_limits;
 
-// The check that the words say, or none.
+// Returns the check that the words spell, if they spell one.
 pub(crate) fn read_check(words: &Vec<String>) -> Option<Command>
     ensures found { IfSome result (λ c. IsCommand (map string_bytes words.now.items) c) }
     ensures none { IfNone result (IsNoCheck (map string_bytes words.now.items)) }

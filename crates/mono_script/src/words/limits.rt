@@ -1,4 +1,4 @@
-// A strategy for blocking jobs and limits behind a word.
+// A strategy for blocking jobs and limits after a word.
 ghost use Rattle.std.specs.Prelude.{◌≡◌, ◌∷◌, [], IfSome, IfNone, map, string_bytes};
 ghost use Rattle.mono_script.specs.Words.{AreLimits, SayLimits, strategy_text};
 
@@ -66,7 +66,7 @@ fn read_five(
     read_four(blocking, tasks, jobs, sleeps)
 }
 
-// The limits and the strategy behind the name, where these are the words.
+// Returns the limits and the strategy after the name, if these are the words.
 pub(crate) fn strategy_and_limits(words: &Vec<String>, name: &[u8]) -> Option<(Limits, Blocking)>
     ensures found { IfSome result (λ x. SayLimits name.now (map string_bytes words.now.items) x.0 x.1) }
     ensures none { IfNone result ((l : Limits) (s : Blocking) → SayLimits name.now (map string_bytes words.now.items) l s → ⊥) }

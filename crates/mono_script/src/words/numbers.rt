@@ -1,4 +1,4 @@
-// Two numbers behind a word.
+// Two numbers after a word.
 ghost use Rattle.std.specs.Prelude.{◌∷◌, [], ℕ, IfSome, IfNone, map, string_bytes};
 ghost use Rattle.mono_script.specs.Words.{SayTwo};
 
@@ -16,7 +16,7 @@ fn numbers_of(word: &[u8], first: &[u8], second: &[u8], name: &[u8]) -> Option<(
     Some((first, second))
 }
 
-// The two numbers behind the name, where these are the words.
+// Returns the two numbers after the name, if these are the words.
 pub(crate) fn two_numbers(words: &Vec<String>, name: &[u8]) -> Option<(u64, u64)>
     ensures found { IfSome result (λ n. SayTwo name.now (map string_bytes words.now.items) n.0 n.1) }
     ensures none { IfNone result ((a b : ℕ) → SayTwo name.now (map string_bytes words.now.items) a b → ⊥) }

@@ -5,7 +5,7 @@ ghost use Rattle.mono_script.specs.Command.{IsCommand, IsNoRun};
 use crate::command::Command;
 use crate::words::numbers::two_numbers;
 
-// The run that the words say, or none.
+// Returns the run that the words spell, if they spell one.
 pub(crate) fn read_run(words: &Vec<String>) -> Option<Command>
     ensures found { IfSome result (λ c. IsCommand (map string_bytes words.now.items) c) }
     ensures none { IfNone result (IsNoRun (map string_bytes words.now.items)) }
