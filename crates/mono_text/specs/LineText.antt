@@ -57,7 +57,7 @@ abbrev pub end_text : End → List ℕ
 end_text end.Pending = codes "pending"
 end_text (end.Ready o) = codes "ready " ++ decimal o
 
--- each step and then the end, each behind a semicolon and a space
+-- each step and then the end, each after a semicolon and a space
 abbrev pub parts_text : List TurnStep → End → List ℕ
 parts_text [] e = codes "; " ++ end_text e
 parts_text (s ∷ steps) e = codes "; " ++ step_text s ++ parts_text steps e
@@ -127,12 +127,12 @@ woke_text woke.Queued = codes "queued"
 woke_text woke.Noted = codes "noted"
 woke_text woke.Nothing = codes "nothing"
 
--- a number behind a space, where there is one
+-- a number after a space, if there is one
 abbrev pub number_text : Option ℕ → List ℕ
 number_text None = []
 number_text (Some n) = codes " " ++ decimal n
 
--- a number, where there is one
+-- a number, if there is one
 abbrev pub any_number : Option ℕ → List ℕ
 any_number None = []
 any_number (Some n) = decimal n

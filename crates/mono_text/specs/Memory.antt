@@ -1,14 +1,14 @@
--- Bytes in memory that are read or written, where the calls that are listed fail.
+-- Bytes in memory that are read or written, if the listed calls fail.
 use Rattle.std.specs.Prelude.{◌≡◌, ℕ, ◌+◌, ◌-◌, ◌^◌, ◌<◌, ◌⊎◌, min, List, [], ◌++◌, length, take, drop, Contains, Result, Ok, Err}
 
--- What is left, which calls fail, how many calls came and how many failed; both counts end at 2 ^ 64 - 1.
+-- The bytes left, the calls that fail, how many calls came and how many failed; both counts end at 2 ^ 64 - 1.
 pub record Feed : Type 0 where
   pub left : List ℕ
   pub failing : List ℕ
   pub calls : ℕ
   pub faults : ℕ
 
--- What was written, how much is written at most, and the rest as above.
+-- The bytes written, the room for them, and the rest as above.
 pub record Store : Type 0 where
   pub written : List ℕ
   pub room : ℕ
@@ -38,7 +38,7 @@ after_read feed n = feed_of (drop n feed.left) feed.failing (counted feed.calls)
 abbrev pub after_read_fault : Feed → Feed
 after_read_fault feed = feed_of feed.left feed.failing (counted feed.calls) (counted feed.faults)
 
--- A read fails exactly where its call is listed. Else it fills the buffer as far as the bytes go.
+-- A read fails if and only if its call is listed. Else it fills the buffer as far as the bytes go.
 abbrev pub IsRead : {E : Type 0} → Feed → Feed → List ℕ → List ℕ → Result ℕ E → Type 0
 IsRead old new before after (Ok n) =
     (Contains old.failing old.calls → ⊥) × (n ≡ min (length old.left) (length before)) × (take n after ≡ take n old.left) × (new ≡ after_read old n)
@@ -57,7 +57,7 @@ after_write_fault store = store_of store.written store.room store.failing (count
 abbrev pub HasNoRoom : Store → List ℕ → Type 0
 HasNoRoom store piece = (0 < length piece) × (room_left store ≡ 0)
 
--- A write fails exactly where its call is listed or there is no room. Else it takes what fits.
+-- A write fails if and only if its call is listed or there is no room. Else it takes the bytes that fit.
 abbrev pub IsWrite : {E : Type 0} → Store → Store → List ℕ → Result ℕ E → Type 0
 IsWrite old new piece (Ok n) =
     (Contains old.failing old.calls → ⊥) × (HasNoRoom old piece → ⊥) × (n ≡ min (length piece) (room_left old)) × (new ≡ after_write old (take n piece))

@@ -1,4 +1,4 @@
--- Reading on lists of bytes: what each method of the reader computes.
+-- Reading on lists of bytes: the result of each method of the reader.
 use Rattle.std.specs.Prelude.{◌≡◌, ℕ, zero, suc, ◌+◌, ◌-◌, ◌*◌, ◌^◌, ◌==◌, ◌&&◌, nat_lt, Bool, if◌then◌else◌, List, [], ◌∷◌, ◌++◌, length, Option, Some, None, Result, Ok, Err, codes, slice_index}
 use Rattle.std.specs.Char.{is_ascii_digit}
 use Rattle.mono_machine.specs.declared.events.Act.{Act}
@@ -15,21 +15,21 @@ use Rattle.mono_machine.specs.declared.events.Event.TheVariants as event
 use Rattle.mono_text.specs.declared.reader.TurnEnd.{TurnEnd}
 use Rattle.mono_text.specs.declared.reader.TurnEnd.TheVariants as found
 
--- a value, and the bytes behind it
+-- a value, and the bytes after it
 abbrev pub Read : Type 0 → Type 0
 Read A = Option (A × List ℕ)
 
--- The value that was returned, and what is left, are those of the reading.
+-- The value that was returned, and the rest, are those of the reading.
 abbrev pub Gives : {A : Type 0} → Option A → List ℕ → Read A → Type 0
 Gives None rest read = read ≡ None
 Gives (Some x) rest read = read ≡ Some (x, rest)
 
--- The same where memory may run out.
+-- The same if memory may run out.
 abbrev pub GivesIf : {A E : Type 0} → Result (Option A) E → List ℕ → Read A → Type 0
 GivesIf (Ok o) rest read = Gives o rest read
 GivesIf (Err e) rest read = Unit {0}
 
--- the bytes behind the word, where they begin with it
+-- the bytes after the word, if they begin with it
 abbrev pub word_at : List ℕ → List ℕ → Option (List ℕ)
 word_at [] bytes = Some bytes
 word_at (w ∷ ws) [] = None
@@ -49,7 +49,7 @@ is_leading_zero value len = nat_lt 0 len && value == 0
 abbrev pub digits_end : ℕ → ℕ → List ℕ → Read ℕ
 digits_end value len rest = if nat_lt 0 len then Some (value, rest) else None
 
--- a number below top, of which len digits, that say value, were read
+-- a number below top, after len digits of it with the value `value`
 unfoldable pub digits_from : ℕ → ℕ → ℕ → List ℕ → Read ℕ
 digits_from top value len [] = digits_end value len []
 digits_from top value len (b ∷ r) =
@@ -63,7 +63,7 @@ number_at bytes = digits_from (2 ^ 64) 0 0 bytes
 abbrev pub nanos_at : List ℕ → Read ℕ
 nanos_at bytes = digits_from (2 ^ 128) 0 0 bytes
 
--- a number behind a blank
+-- a number after a blank
 abbrev pub behind_at : List ℕ → Read ℕ
 behind_at bytes = when (word_at (codes " ") bytes) number_at None
 
@@ -94,7 +94,7 @@ job_act_at bytes =
     (λ r. then_read (number_at r) (λ j rest. when (word_at (codes " ") rest) (λ q. mapped (act.JobEnd j) (how_at q)) None))
     (when (word_at (codes "job-finished ") bytes) (λ r. mapped act.JobFinished (number_at r)) None)
 
--- a reset, behind its word
+-- a reset, after its word
 abbrev pub reset_at : List ℕ → Read Act
 reset_at bytes = then_read (number_at bytes) (λ s rest. when (word_at (codes " ") rest) (λ q. mapped (act.Reset s) (nanos_at q)) None)
 
@@ -128,7 +128,7 @@ step_at bytes =
     else if slice_index bytes 0 == 106 then job_step_at bytes
     else mapped step.Act (act_at bytes)
 
--- where the rest is an end, that end; None where a step has to stand
+-- the end of a turn if it comes next; None if a step has to come
 unfoldable pub end_at : List ℕ → Option (Read End)
 end_at bytes =
     when (word_at (codes "pending") bytes) (λ r. Some (Some (end.Pending, r)))
@@ -143,7 +143,7 @@ abbrev pub ends_or : {A : Type 0} → (End → A) → Option (Read End) → Read
 ends_or f None other = other
 ends_or f (Some e) other = mapped f e
 
--- the parts of a turn, of which some were read, and at most most parts are to come
+-- the parts of a turn, after some parts, with at most `most` parts to come
 unfoldable pub parts_at : ℕ → List TurnStep → List ℕ → Read Event
 parts_at zero front bytes = None
 parts_at (suc most) front bytes =
@@ -159,10 +159,10 @@ event_at bytes =
     (when (word_at (codes "drain") bytes) (λ r. Some (event.Drain, r))
     (mapped event.Act (act_at bytes)))))
 
--- an event and the line feed behind it
+-- an event and the line feed after it
 unfoldable pub line_at : List ℕ → Read Event
 line_at bytes = then_read (event_at bytes) (λ e rest. when (word_at (10 ∷ []) rest) (λ r. Some (e, r)) None)
 
--- a call as `call_at` reads it, and the line feed behind it
+-- a call as `call_at` reads it, and the line feed after it
 abbrev pub call_line_at : {A : Type 0} → (List ℕ → Read A) → List ℕ → Read A
 call_line_at call_at bytes = then_read (call_at bytes) (λ c rest. when (word_at (10 ∷ []) rest) (λ r. Some (c, r)) None)

@@ -1,4 +1,4 @@
--- Why a line may not stand in a script, or which line is missing, by the bytes of the script alone.
+-- Why a line may not follow in a script, or which line is missing, by the bytes of the script alone.
 use Rattle.std.specs.Prelude.{ℕ, ◌==◌, ◌-◌, ◌||◌, ◌&&◌, Bool, true, false, if◌then◌else◌, nat_lt, List, [], ◌∷◌, Option, Some, None, codes}
 use Rattle.mono_text.specs.Lines.{Line, lines}
 use Rattle.mono_text.specs.Memory.{counted}
@@ -11,7 +11,7 @@ use Rattle.mono_text.specs.declared.reasons.Reason.TheVariants.{NoLineFeed, Carr
 abbrev pub seen_of : Bool → ℕ → ℕ → ℕ → ℕ → Seen
 seen_of is_open kinds body tasks jobs = record { is_open = is_open; kinds = kinds; body = body; tasks = tasks; jobs = jobs }
 
--- what is seen behind a line with this first word
+-- the state after a line with this first word
 abbrev pub seen_after : Seen → List ℕ → Seen
 seen_after s word =
     if is_text word (codes "task") then seen_of true (counted s.kinds) 0 0 0
@@ -20,7 +20,7 @@ seen_after s word =
     else if is_text word (codes "block") then seen_of s.is_open s.kinds (counted s.body) s.tasks (counted s.jobs)
     else seen_of s.is_open s.kinds (counted s.body) s.tasks s.jobs
 
--- what is seen before line n, counted from 1
+-- the state before line n, counted from 1
 abbrev pub seen_before : ℕ → List Line → Seen → Seen
 seen_before n [] s = s
 seen_before n (l ∷ ls) s = if nat_lt 1 n then seen_before (n - 1) ls (seen_after s (first_of (words l.bytes))) else s
@@ -28,12 +28,12 @@ seen_before n (l ∷ ls) s = if nat_lt 1 n then seen_before (n - 1) ls (seen_aft
 abbrev pub kinds_with : ℕ → Line → ℕ
 kinds_with count l = if l.is_ended && is_text l.bytes (codes "task") then counted count else count
 
--- how many lines say `task`, beside those that were counted
+-- how many lines are `task`, in addition to those that were counted
 abbrev pub kinds_from : ℕ → List Line → ℕ
 kinds_from count [] = count
 kinds_from count (l ∷ ls) = kinds_from (kinds_with count l) ls
 
--- A kind's line may stand only in a kind, `task` only outside, and `limits` only first.
+-- A kind's line may come only in a kind, `task` only outside, and `limits` only first.
 abbrev pub place_wrong : ℕ → Seen → List ℕ → Option Reason
 place_wrong n seen word =
     if n == 1 then (if is_text word (codes "limits") then None else Some NoLimits)
@@ -69,9 +69,9 @@ abbrev pub or_words : Option Reason → List ℕ → Wrong → Wrong
 or_words None bytes later = later
 or_words (Some r) bytes later = whole r bytes
 
--- The first of these: no line feed ends the line; a carriage return stands before it; its first word is none of a script's;
--- it may not stand here; a later word is wrong; it names no kind, no own task or no own job, or one that is gone; it is in no
--- form of its word.
+-- The first of these: no line feed ends the line; a carriage return precedes it; its first word is none of a script's;
+-- it may not follow here; a later word is wrong; it names no kind, no own task or no own job, or a handle that was
+-- used; it is in no form of its word.
 abbrev pub script_line_wrong : List (List ℕ) → ℕ → ℕ → Seen → Line → Wrong
 script_line_wrong names n kinds seen line =
     if line.is_ended
@@ -85,6 +85,6 @@ abbrev pub script_wrong_in : List (List ℕ) → ℕ → ℕ → Seen → Option
 script_wrong_in names n kinds seen None = wrong_of EndsEarly [] []
 script_wrong_in names n kinds seen (Some line) = script_line_wrong names n kinds seen line
 
--- what is wrong with line n, counted from 1, of the script; a script that has fewer lines ends too early
+-- the fault of line n, counted from 1, of the script; a script with fewer lines ends too early
 abbrev pub script_wrong_at : List (List ℕ) → List ℕ → ℕ → Wrong
 script_wrong_at names input n = script_wrong_in names n (kinds_from 0 (lines input)) (seen_before n (lines input) (seen_of false 0 0 0 0)) (line_at n (lines input))

@@ -10,7 +10,7 @@ use Rattle.std.specs.List.{slice_split}
 use Rattle.mono_text.specs.Lines.{Line}
 use Rattle.mono_text.specs.Parser.{number_at}
 
--- a blank or a semicolon stands between words
+-- a blank or a semicolon is a gap between words
 abbrev pub is_gap : ℕ → Bool
 is_gap b = (b == 32) || (b == 59)
 
@@ -26,7 +26,7 @@ abbrev pub are_digits : List ℕ → Bool
 are_digits [] = true
 are_digits (b ∷ bs) = if is_ascii_digit b then are_digits bs else false
 
--- digits, of which the first is not zero
+-- digits, the first of them not zero
 abbrev pub is_number : List ℕ → Bool
 is_number [] = false
 is_number (b ∷ bs) = if b == 48 then false else are_digits (b ∷ bs)
@@ -38,7 +38,7 @@ is_text word text = pointwise nat_eq word text
 abbrev pub is_plain : List ℕ → Bool
 is_plain word = is_text word (codes "0") || is_number word
 
--- Of two numbers the longer one is greater, and of two that are as long the one that is later in the order of digits.
+-- The longer of two numbers is greater; of two with the same length, the later one in the order of digits.
 abbrev pub is_above : List ℕ → List ℕ → Bool
 is_above top word =
     if is_number word
@@ -57,7 +57,7 @@ abbrev pub if_all : Option (ℕ × List ℕ) → Option ℕ
 if_all None = None
 if_all (Some read) = if_empty read.1 read.0
 
--- the number below 2^64 that is all of the word
+-- the number below 2^64 that is the whole word
 abbrev pub number_of : List ℕ → Option ℕ
 number_of word = if_all (number_at word)
 

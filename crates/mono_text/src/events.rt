@@ -1,4 +1,4 @@
-// The text of an event, at the end of one vector of bytes.
+// The text of an event, appended to a vector of bytes.
 ghost use Rattle.std.specs.Prelude.{◌≡◌, ◌++◌, codes, decimal, OnOk};
 ghost use Rattle.mono_text.specs.LineText.{how_text, act_text, query_text, step_text, end_text, parts_text, event_text};
 
@@ -7,7 +7,7 @@ use itoa::Buffer;
 use mono_machine::{Act, End, Event, How, Query, TurnStep};
 use std::alloc::AllocError;
 
-/// Puts a word, and a number of up to 128 bits behind it, at the end.
+/// Appends a word, and a number of up to 128 bits after it.
 pub fn put_nanos(out: &mut Vec<u8>, text: &[u8], n: u128) -> Result<(), AllocError>
     ensures { OnOk result (out.new.items ≡ out.old.items ++ (text.now ++ decimal n)) }
 {
@@ -25,7 +25,7 @@ fn how_word(how: How) -> &'static [u8]
     }
 }
 
-// The word and a number, and what is behind a second one.
+// Appends the word, a number, and a second number after it.
 fn put_reset(out: &mut Vec<u8>, sleep: u64, n: u128) -> Result<(), AllocError>
     ensures { OnOk result (out.new.items ≡ out.old.items ++ act_text (Act.Reset sleep n)) }
 {
@@ -87,7 +87,7 @@ fn put_end(out: &mut Vec<u8>, end: End) -> Result<(), AllocError>
     }
 }
 
-// One part of a turn.
+// Appends one part of a turn.
 fn put_part(out: &mut Vec<u8>, step: TurnStep) -> Result<(), AllocError>
     ensures { OnOk result (out.new.items ≡ out.old.items ++ (codes "; " ++ step_text step)) }
 {
@@ -95,7 +95,7 @@ fn put_part(out: &mut Vec<u8>, step: TurnStep) -> Result<(), AllocError>
     put_step(out, step)
 }
 
-// The last part of a turn.
+// Appends the last part of a turn.
 fn put_last(out: &mut Vec<u8>, end: End) -> Result<(), AllocError>
     ensures { OnOk result (out.new.items ≡ out.old.items ++ (codes "; " ++ end_text end)) }
 {
@@ -103,7 +103,7 @@ fn put_last(out: &mut Vec<u8>, end: End) -> Result<(), AllocError>
     put_end(out, end)
 }
 
-// The parts of a turn.
+// Appends the parts of a turn.
 fn put_parts(out: &mut Vec<u8>, steps: &[TurnStep], end: End) -> Result<(), AllocError>
     ensures { OnOk result (out.new.items ≡ out.old.items ++ parts_text steps.now end) }
 {
@@ -120,7 +120,7 @@ fn put_turn(out: &mut Vec<u8>, steps: &[TurnStep], end: End) -> Result<(), Alloc
     put_parts(out, steps, end)
 }
 
-/// Puts the text of an event at the end: its one spelling, without a line feed.
+/// Appends the text of an event: its one spelling, without a line feed.
 pub fn put_event(out: &mut Vec<u8>, item: &Event) -> Result<(), AllocError>
     ensures { OnOk result (out.new.items ≡ out.old.items ++ event_text item.now) }
 {

@@ -1,4 +1,4 @@
-// Lines that are answered when they were read.
+// Answers to lines as soon as they were read.
 ghost use Rattle.std.specs.Prelude.{◌≡◌, ◌<◌, true, false, length, IfOk, OnErr};
 ghost use Rattle.mono_text.specs.Services.{StartsWithNone, HasNoFeed};
 ghost use Rattle.mono_text.specs.Follows.{Advances, Answered, HasFollowed, end_of};
@@ -9,12 +9,12 @@ use crate::sink::{Sink, write_all};
 use crate::source::{BLOCK, MAX_INPUT, Source, front_of, zeros};
 use std::alloc::{AllocError, Global};
 
-/// How the answers to lines came to an end.
+/// How the answers to lines ended.
 #[derive(Clone, Copy, Debug, PartialEq, Eq)]
 pub enum FollowEnd {
     /// The input ended after a line.
     Done,
-    /// A line says no call, or the input ended within one.
+    /// A line spells no call, or the input ended within a line.
     BadLine,
     /// A read failed.
     ReadFault,
@@ -26,18 +26,18 @@ pub enum FollowEnd {
     TooLong,
 }
 
-/// How the answers to lines came to an end, and where.
+/// How and where the answers to lines ended.
 #[derive(Drop)]
 pub struct Followed {
     /// The end.
     pub end: FollowEnd,
-    /// How many lines were answered before it; the count ends at 2^64 - 1.
+    /// how many lines were answered before it; the count ends at 2^64 - 1
     pub lines: u64,
-    /// The bytes from the first line on that was not answered, as far as they were read.
+    /// the bytes from the first line that was not answered, as far as they were read
     pub rest: Vec<u8>,
 }
 
-// What is left of some bytes once their whole lines were answered.
+// The rest of some bytes once their whole lines were answered.
 #[derive(Clone, Copy)]
 struct Ready<'a> {
     rest: &'a [u8],
@@ -45,7 +45,7 @@ struct Ready<'a> {
     is_bad: bool,
 }
 
-// Answers the whole lines at the front of the bytes, up to the first that says no call.
+// Answers the whole lines at the front of the bytes, up to the first that spells no call.
 fn answer_ready<'a, S: Service>(
     alloc: Global,
     service: &mut S,
@@ -78,7 +78,7 @@ fn answer_ready<'a, S: Service>(
     })
 }
 
-// What came of the lines of a block: how the answers ended, if they did, how many lines were answered, and what is left.
+// The result of a block: how the answers ended, if they did, how many lines were answered, and the rest.
 #[derive(Drop)]
 struct Block {
     end: Option<FollowEnd>,
@@ -131,7 +131,7 @@ fn answer_block<V: Service, K: Sink>(
     }
 }
 
-// How an input ends behind these bytes.
+// Returns how an input ends after these bytes.
 fn end_behind(pending: &[u8]) -> FollowEnd
     ensures { result ≡ end_of pending.now }
 {
@@ -142,7 +142,7 @@ fn end_behind(pending: &[u8]) -> FollowEnd
     }
 }
 
-// Answers each line that comes through the block.
+// Answers each line that is read through the block.
 fn follow_through<V: Service, S: Source, K: Sink>(
     alloc: Global,
     start: V,
@@ -205,12 +205,12 @@ fn follow_through<V: Service, S: Source, K: Sink>(
     }
 }
 
-/// Answers each line of the source as soon as it was read, and writes the answers before it reads on.
+/// Answers each line of the source as soon as it was read, and writes the answers before it reads more.
 ///
-/// What was written is the answers to lines at the front of the input, by a run from the value that was handed in
-/// (`HasFollowed`): to all lines at the end of the input (`FollowEnd::Done`), to all before the first that says no call
-/// (`FollowEnd::BadLine`), and to some if a call failed, of which a write that failed may have cut the last ones short.
-/// If there is no memory for a block nothing is read or written.
+/// The bytes written are the answers to lines at the front of the input, by a run from the given value (`HasFollowed`).
+/// These are all lines at the end of the input (`FollowEnd::Done`), and all before the first that spells no call
+/// (`FollowEnd::BadLine`). If a call failed, they are some; a failed write may have cut the last answers short. If
+/// there is no memory for a block, nothing is read or written.
 pub fn follow<V: Service, S: Source, K: Sink>(
     alloc: Global,
     start: V,

@@ -1,4 +1,4 @@
-//! Event lines in, report lines out, and the sources and sinks of their bytes.
+//! The text of event lines and report lines, and the sources and sinks of their bytes.
 #![tactic(auto)]
 
 mod events;

@@ -3,7 +3,7 @@ ghost use Rattle.std.specs.Prelude.{◌≡◌, ◌<◌, ◌∷◌, [], true, fal
 ghost use Rattle.mono_text.specs.Lines.{lines};
 ghost use Rattle.mono_text.specs.Words as spec;
 
-/// The first line of what is not empty, and the bytes behind its line feed; none where none ends it.
+/// Returns the first line of bytes that are not empty, and the bytes after its line feed; None if no line feed ends it.
 pub(crate) fn cut_line(bytes: &[u8]) -> (&[u8], Option<&[u8]>)
     requires { 0 < length bytes.now }
     ensures behind { IfSome result.1 (λ rest. lines bytes.now ≡ record { bytes = result.0.now; is_ended = true } ∷ lines rest.now) }
@@ -20,7 +20,7 @@ pub(crate) fn cut_line(bytes: &[u8]) -> (&[u8], Option<&[u8]>)
     (bytes, None)
 }
 
-/// Line n, counted from 1, without its line feed, and whether one ends it.
+/// Returns line n, counted from 1, without its line feed, and whether a line feed ends it.
 pub(crate) fn line_at(input: &[u8], n: usize) -> Option<(&[u8], bool)>
     ensures some { IfSome result (λ found. spec.line_at n (lines input.now) ≡ Some (record { bytes = found.0.now; is_ended = found.1 })) }
     ensures none { IfNone result (spec.line_at n (lines input.now) ≡ None) }

@@ -1,4 +1,4 @@
-// A source and a sink in memory, at which calls can be made to fail.
+// A source and a sink in memory, whose calls can be made to fail.
 ghost use Rattle.std.specs.Prelude.{◌≡◌, ◌+◌, ◌≤◌, ◌<◌, ◌↔◌, ◌++◌, [], Some, length, take, IfOk, OnErr, Contains, vec_capacity, IsTrue};
 ghost use Rattle.mono_text.specs.Environment.{HasCause, Reads, Writes};
 ghost use Rattle.mono_text.specs.Memory.{Feed, Store, IsRead, IsWrite, counted, new_feed, new_store};
@@ -9,14 +9,14 @@ use crate::source::{Source, SourceFault};
 use std::alloc::{AllocError, Global};
 use std::marker::Model;
 
-// One call or fault more; the count ends at 2^64 - 1.
+// Returns the count with one more call or fault; it ends at 2^64 - 1.
 fn count_one(count: u64) -> u64
     ensures { result ≡ counted count }
 {
     count.saturating_add(1)
 }
 
-/// Bytes that are read from the front, and told. The calls whose number is listed fail; they are counted from 0.
+/// A source of bytes in memory, which it exposes. The calls whose number is listed fail; they are counted from 0.
 #[derive(Drop)]
 pub struct MemSource {
     bytes: Vec<u8>,
@@ -38,7 +38,7 @@ impl Model for MemSource {
 }
 
 impl MemSource {
-    /// A source that has these bytes left, and whose calls with these numbers will fail.
+    /// Returns a source with these bytes left, whose calls with these numbers will fail.
     pub fn new(bytes: Vec<u8>, failing: Vec<u64>) -> MemSource
         ensures { result ≡ new_feed bytes.items failing.items }
     {
@@ -78,9 +78,9 @@ impl Source for MemSource {
     }
 }
 
-/// Keeps and tells what is written, up to a room of so many bytes.
+/// A sink that keeps and exposes the written bytes, up to a room of `room` bytes.
 ///
-/// The calls whose number is listed fail, counted from 0, and those that have something to write and find no room. It
+/// The calls whose number is listed fail, counted from 0, and so do those that have bytes to write and find no room. It
 /// takes no memory after it was made.
 #[derive(Drop)]
 pub struct MemSink {
@@ -103,8 +103,8 @@ impl Model for MemSink {
 }
 
 impl MemSink {
-    /// A sink that is empty, has this room, and whose calls with these numbers will fail. Its room is all the memory
-    /// that it takes.
+    /// Returns an empty sink with this room, whose calls with these numbers will fail. Its room is all the memory that
+    /// it takes.
     pub fn new(alloc: Global, room: usize, failing: Vec<u64>) -> Result<MemSink, AllocError>
         ensures { IfOk result (λ sink. sink ≡ new_store room failing.items) }
     {
@@ -118,7 +118,7 @@ impl MemSink {
         })
     }
 
-    /// What was written.
+    /// Returns the bytes that were written.
     pub fn bytes(&self) -> &[u8]
         ensures { result.now ≡ self.now.written }
     {
@@ -126,7 +126,7 @@ impl MemSink {
     }
 }
 
-// Puts the bytes at the end. There is room for them.
+// Appends the bytes, for which there is room.
 fn append(to: &mut Vec<u8>, piece: &[u8])
     requires { length to.old.items + length piece.now ≤ vec_capacity to.old }
     ensures items { to.new.items ≡ to.old.items ++ piece.now }

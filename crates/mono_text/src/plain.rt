@@ -6,7 +6,7 @@ use crate::sink::{Sink, SinkFault};
 use crate::source::{Source, SourceFault};
 use std::marker::Model;
 
-/// Bytes that are read from the front, and told. It never fails: its count of faults is always 0.
+/// A source of bytes in memory, which it exposes. It never fails: its count of faults is always 0.
 #[derive(Drop)]
 pub struct PlainSource {
     bytes: Vec<u8>,
@@ -24,7 +24,7 @@ impl Model for PlainSource {
 }
 
 impl PlainSource {
-    /// A source that has these bytes left.
+    /// Returns a source with these bytes left.
     pub fn new(bytes: Vec<u8>) -> PlainSource
         ensures { result ≡ bytes.items }
     {
@@ -32,7 +32,7 @@ impl PlainSource {
     }
 }
 
-// Copies as many bytes as both have.
+// Copies the bytes that both have room for, and returns how many.
 pub(crate) fn copied(from: &[u8], to: &mut [u8]) -> usize
     ensures count { result ≡ min (length from.now) (length to.old) }
     ensures bytes { take result to.new ≡ take result from.now }
@@ -63,12 +63,12 @@ impl Source for PlainSource {
     }
 }
 
-/// Takes every byte, keeps none and tells none. It never fails: its count of faults is always 0.
+/// A sink that takes every byte, keeps none and exposes none. It never fails: its count of faults is always 0.
 #[derive(Drop)]
 pub struct PlainSink;
 
 impl PlainSink {
-    /// A sink that forgets what is written.
+    /// Returns a sink that forgets each byte.
     pub fn new() -> PlainSink {
         PlainSink
     }

@@ -1,4 +1,4 @@
-// Report lines into one vector of bytes.
+// Report lines, appended to a vector of bytes.
 ghost use Rattle.std.specs.Prelude.{◌≡◌, ◌≤◌, ◌<◌, ◌+◌, ◌-◌, ◌++◌, [], ◌∷◌, codes, decimal, drop, take, flat_map, length, IfSome, OnOk};
 ghost use Rattle.mono_text.specs.LineText.{reply_text, refusal_text, ended_text, any_number, woke_text, reply_part, number_part, report_line};
 
@@ -6,7 +6,7 @@ use itoa::write_digits;
 use mono_machine::{Ended, Refusal, Reply, Report, Woke};
 use std::alloc::AllocError;
 
-/// Puts a word at the end.
+/// Appends a word.
 #[inline(always)]
 pub fn put_word(out: &mut Vec<u8>, word: &[u8]) -> Result<(), AllocError>
     ensures { OnOk result (out.new.items ≡ out.old.items ++ word.now) }
@@ -14,7 +14,7 @@ pub fn put_word(out: &mut Vec<u8>, word: &[u8]) -> Result<(), AllocError>
     out.extend_from_slice(word)
 }
 
-/// Puts a number at the end, in decimal.
+/// Appends a number, in decimal.
 #[inline(always)]
 pub fn put_number(out: &mut Vec<u8>, n: u64) -> Result<(), AllocError>
     ensures { OnOk result (out.new.items ≡ out.old.items ++ decimal n) }
@@ -22,7 +22,7 @@ pub fn put_number(out: &mut Vec<u8>, n: u64) -> Result<(), AllocError>
     front_and_number(out, b"00000000000000000000".as_slice(), 0, n)
 }
 
-// How many digits a number below 10,000 has.
+// Returns how many digits a number below 10,000 has.
 #[inline(always)]
 fn short_count(n: u64) -> usize
     requires { n < 10000 }
@@ -41,7 +41,7 @@ fn short_count(n: u64) -> usize
     4
 }
 
-// How many digits a number has that is not below 100,000,000.
+// Returns how many digits a number from 100,000,000 on has.
 fn long_count(n: u64) -> usize
     requires { 100000000 ≤ n }
     ensures count { result ≡ length (decimal n) }
@@ -56,7 +56,7 @@ fn long_count(n: u64) -> usize
     short_count(n / 10_000_000_000_000_000) + 16
 }
 
-// How many digits a number has. Most often it is short.
+// Returns how many digits a number has. Most numbers are short.
 #[inline(always)]
 fn digit_count(n: u64) -> usize
     ensures count { result ≡ length (decimal n) }
@@ -71,7 +71,7 @@ fn digit_count(n: u64) -> usize
     long_count(n)
 }
 
-// Writes a number's digits over the bytes from a place on, and answers where they end.
+// Writes a number's digits over the bytes from a place on, and returns the place after them.
 #[inline(always)]
 fn write_number(out: &mut Vec<u8>, at: usize, n: u64) -> usize
     requires { at + 20 ≤ length out.old.items }
@@ -84,10 +84,10 @@ fn write_number(out: &mut Vec<u8>, at: usize, n: u64) -> usize
     end
 }
 
-/// Puts the first `len` bytes of a word at the end, and a number's digits after them.
+/// Appends the first `len` bytes of a word, and a number's digits after them.
 ///
 /// The whole word is copied, and the digits are written over its last bytes. The copy takes no loop and no call if the
-/// word's length is known when the code is compiled.
+/// word's length is known at compile time.
 #[inline(always)]
 pub fn front_and_number(
     out: &mut Vec<u8>,
@@ -105,7 +105,7 @@ pub fn front_and_number(
     Ok(())
 }
 
-// Puts a word and a number behind it at the end.
+// Appends a word and a number after it.
 #[inline(always)]
 fn word_and_number(out: &mut Vec<u8>, text: &[u8], n: u64) -> Result<(), AllocError>
     ensures { OnOk result (out.new.items ≡ out.old.items ++ (text.now ++ decimal n)) }
@@ -114,16 +114,16 @@ fn word_and_number(out: &mut Vec<u8>, text: &[u8], n: u64) -> Result<(), AllocEr
     put_number(out, n)
 }
 
-/// Puts a word and a number behind it at the end.
+/// Appends a word and a number after it.
 pub fn put_pair(out: &mut Vec<u8>, text: &[u8], n: u64) -> Result<(), AllocError>
     ensures { OnOk result (out.new.items ≡ out.old.items ++ (text.now ++ decimal n)) }
 {
     word_and_number(out, text, n)
 }
 
-/// Puts the first `len` bytes of a text at the end.
+/// Appends the first `len` bytes of a text.
 ///
-/// The whole text is copied. The copy takes no loop and no call if the text's length is known when the code is compiled.
+/// The whole text is copied. The copy takes no loop and no call if the text's length is known at compile time.
 #[inline(always)]
 pub fn put_front(out: &mut Vec<u8>, text: &[u8], len: usize) -> Result<(), AllocError>
     requires { len ≤ length text.now }
@@ -134,7 +134,7 @@ pub fn put_front(out: &mut Vec<u8>, text: &[u8], len: usize) -> Result<(), Alloc
     Ok(())
 }
 
-// The words below stand beside their length, in 24 bytes each or, where a number may come behind them, in 32.
+// Each word below has its length with it, in 24 bytes or, if a number may follow it, in 32.
 
 fn refused_word(refusal: Refusal) -> (&'static [u8; 32], usize)
     ensures word { take result.1 result.0.now ≡ codes "; refused " ++ refusal_text refusal }
@@ -178,7 +178,7 @@ fn ended_word(ended: Ended) -> (&'static [u8; 24], usize)
     }
 }
 
-// The word of a reply in a turn, behind a semicolon and a blank, and the number behind it, if there is one.
+// Returns the word of a reply in a turn, after a semicolon and a blank, and the number after it, if there is one.
 fn reply_word(reply: Reply) -> (&'static [u8; 32], usize, Option<u64>)
     ensures part { take result.1 result.0.now ++ any_number result.2 ≡ reply_part reply }
     ensures alone { take (result.1 - 2) (drop 2 result.0.now) ++ any_number result.2 ≡ reply_text reply }
@@ -224,7 +224,7 @@ fn part(out: &mut Vec<u8>, item: Reply) -> Result<(), AllocError>
     }
 }
 
-// Writes a number's digits over the bytes from a place on, if there is one, and answers where they end.
+// Writes a number's digits over the bytes from a place on, if there is one, and returns the place after them.
 #[inline(always)]
 fn write_any(out: &mut Vec<u8>, at: usize, n: Option<u64>) -> usize
     requires inside { at < length out.old.items }
@@ -238,7 +238,7 @@ fn write_any(out: &mut Vec<u8>, at: usize, n: Option<u64>) -> usize
     }
 }
 
-// Puts a line feed at a place, behind which nothing stays.
+// Writes a line feed at a place, and drops the bytes after it.
 #[inline(always)]
 fn close(out: &mut Vec<u8>, end: usize)
     requires { end < length out.old.items }
@@ -248,7 +248,7 @@ fn close(out: &mut Vec<u8>, end: usize)
     out.truncate(end + 1);
 }
 
-// Puts the first bytes of a word at the end, a number behind them, if there is one, and a line feed.
+// Appends the first bytes of a word, a number after them, if there is one, and a line feed.
 #[inline(always)]
 fn put_closed(out: &mut Vec<u8>, word: &[u8], len: usize, n: Option<u64>) -> Result<(), AllocError>
     requires inside { len < length word.now }
@@ -262,7 +262,7 @@ fn put_closed(out: &mut Vec<u8>, word: &[u8], len: usize, n: Option<u64>) -> Res
     Ok(())
 }
 
-// A line of one reply.
+// Appends a line of one reply.
 #[inline(always)]
 fn reply_line(out: &mut Vec<u8>, item: Reply) -> Result<(), AllocError>
     ensures { OnOk result (out.new.items ≡ out.old.items ++ (reply_text item ++ 10 ∷ [])) }
@@ -291,7 +291,7 @@ fn numbers(out: &mut Vec<u8>, list: &[u64]) -> Result<(), AllocError>
     Ok(())
 }
 
-// A line of a turn.
+// Appends a line of a turn.
 #[inline(always)]
 fn turn(out: &mut Vec<u8>, task: u64, list: &[Reply], ended: Ended) -> Result<(), AllocError>
     ensures { OnOk result (out.new.items ≡ out.old.items ++ (codes "turn " ++ decimal task ++ flat_map reply_part list.now ++ codes "; " ++ ended_text ended ++ 10 ∷ [])) }
@@ -302,7 +302,7 @@ fn turn(out: &mut Vec<u8>, task: u64, list: &[Reply], ended: Ended) -> Result<()
     put_front(out, word.as_slice(), len)
 }
 
-/// Puts a line of a word and numbers at the end: each number behind a blank, and a line feed.
+/// Appends a line of a word and numbers: each number after a blank, and a line feed.
 pub fn put_list(out: &mut Vec<u8>, text: &[u8], list: &[u64]) -> Result<(), AllocError>
     ensures { OnOk result (out.new.items ≡ out.old.items ++ (text.now ++ flat_map number_part list.now ++ 10 ∷ [])) }
 {
@@ -311,7 +311,7 @@ pub fn put_list(out: &mut Vec<u8>, text: &[u8], list: &[u64]) -> Result<(), Allo
     put_word(out, b"\n".as_slice())
 }
 
-/// Puts the line of a report at the end: its one spelling, and a line feed.
+/// Appends the line of a report: its one spelling, and a line feed.
 #[inline(always)]
 pub fn report_line(out: &mut Vec<u8>, item: &Report) -> Result<(), AllocError>
     ensures { OnOk result (out.new.items ≡ out.old.items ++ report_line item.now) }

@@ -1,4 +1,4 @@
-// One pass over the input by a reader that holds what is left.
+// One pass over the input by a reader that holds the rest of it.
 ghost use Rattle.std.specs.Prelude.{◌≡◌, ◌+◌, ◌-◌, ◌*◌, ◌^◌, ◌<◌, ◌≤◌, ◌↔◌, IfNone, IfSome, IfOk, Some, None, length, IsTrue, if◌then◌else◌, [], ◌++◌, slice_index, nat_lt, drop, decimal, ℕ, false};
 ghost use Rattle.mono_text.specs.Lines.{BeginsWith, BeginsWithNone};
 ghost use Rattle.mono_text.specs.Services.{HasNoFeed};
@@ -9,16 +9,16 @@ use mono_machine::{Act, End, Event, How, List, Query, TurnStep};
 use std::alloc::{AllocError, Global};
 use std::mem;
 
-/// What is left of an input, line by line.
+/// The rest of an input, read line by line.
 #[derive(Drop)]
 pub struct Reader<'a> {
     rest: &'a [u8],
 }
 
-// From here on one digit more might be too much.
+// From this value on one more digit might be too many.
 const LONG: u64 = 1_000_000_000_000_000_000;
 
-// What stands where a step or the end of a turn may stand.
+// A step or the end of a turn, as the reader finds it.
 #[derive(Clone, Copy)]
 enum TurnEnd {
     Ends(End),
@@ -26,7 +26,7 @@ enum TurnEnd {
     IsStep,
 }
 
-// The number `value` with one digit more, if that fits.
+// Returns the number `value` with one more digit, if it fits.
 #[inline(always)]
 fn next_value(value: u64, digit: u8) -> Option<u64>
     requires { 48 ≤ digit }
@@ -37,7 +37,7 @@ fn next_value(value: u64, digit: u8) -> Option<u64>
     tens.checked_add(u64::from(digit - b'0'))
 }
 
-// The same below 2^128.
+// Returns the same for numbers below 2^128.
 #[inline(always)]
 fn next_nanos(value: u128, digit: u8) -> Option<u128>
     requires { 48 ≤ digit }
@@ -48,7 +48,7 @@ fn next_nanos(value: u128, digit: u8) -> Option<u128>
     tens.checked_add(u128::from(digit - b'0'))
 }
 
-// Whether one more digit would stand behind a zero that is the first of them: of the len digits so far the value is 0.
+// Returns whether one more digit would follow a leading zero: the value of the `len` digits so far is 0.
 #[inline(always)]
 fn is_leading_zero(value: u64, len: usize) -> bool
     ensures { result ≡ Reading.is_leading_zero value len }
@@ -56,7 +56,7 @@ fn is_leading_zero(value: u64, len: usize) -> bool
     len > 0 && value == 0
 }
 
-// The same for a long number.
+// Returns the same for a long number.
 #[inline(always)]
 fn is_zero(value: u128, count: usize) -> bool
     ensures { result ≡ Reading.is_leading_zero value count }
@@ -64,7 +64,8 @@ fn is_zero(value: u128, count: usize) -> bool
     count > 0 && value == 0
 }
 
-// Whether the text begins with the word, byte by byte, since a word is short and mostly differs in its first byte.
+// Returns whether the text begins with the word. It compares byte by byte, since a word is short and mostly differs in
+// its first byte.
 #[inline(always)]
 fn begins_with(text: &[u8], word: &[u8]) -> bool
     ensures cut { word_at word.now text.now ≡ (if result then Some (drop (length word.now) text.now) else None) }
@@ -82,14 +83,14 @@ fn begins_with(text: &[u8], word: &[u8]) -> bool
 }
 
 impl<'a> Reader<'a> {
-    /// A reader of this input, from its first line.
+    /// Returns a reader of this input, from its first line.
     pub fn new(input: &'a [u8]) -> Reader<'a>
         ensures { result.rest.now ≡ input.now }
     {
         Reader { rest: input }
     }
 
-    /// Whether no line is left.
+    /// Returns whether no line is left.
     pub fn is_empty(&self) -> bool
         ensures { IsTrue result ↔ length self.now.rest.now ≡ 0 }
     {
@@ -117,7 +118,7 @@ impl<'a> Reader<'a> {
         false
     }
 
-    /// How many bytes are left.
+    /// Returns how many bytes are left.
     #[inline(always)]
     pub fn left(&self) -> usize
         ensures { result ≡ length self.now.rest.now }
@@ -125,7 +126,7 @@ impl<'a> Reader<'a> {
         self.rest.len()
     }
 
-    /// The next byte, or 0 at the end.
+    /// Returns the next byte, or 0 at the end.
     #[inline(always)]
     pub fn first(&self) -> u8
         ensures { result ≡ slice_index self.now.rest.now 0 }
@@ -137,7 +138,7 @@ impl<'a> Reader<'a> {
         }
     }
 
-    /// Goes past the word, where the rest begins with it; else nothing changes.
+    /// Moves past the word if the rest begins with it; else nothing changes.
     #[inline(always)]
     pub fn take(&mut self, word: &[u8]) -> bool
         ensures found { word_at word.now self.old.rest.now ≡ (if result then Some self.new.rest.now else None) }
@@ -150,7 +151,7 @@ impl<'a> Reader<'a> {
         false
     }
 
-    // Goes on behind the digits of the text, of which there are len.
+    // Moves past the `len` digits of the text.
     #[inline(always)]
     fn end<N: Copy>(&mut self, text: &'a [u8], len: usize, value: N) -> Option<N>
         requires { len ≤ length text.now }
@@ -164,8 +165,8 @@ impl<'a> Reader<'a> {
         Some(value)
     }
 
-    /// The number below 2^64 that stands here, in decimal without sign and leading zeros, and goes past it. None where
-    /// none stands here; what is left then is not told.
+    /// Returns the number below 2^64 that comes next, in decimal without sign and leading zeros, and moves past it.
+    /// Returns None if no number comes next; the rest is then not specified.
     pub fn number(&mut self) -> Option<u64>
         ensures { Gives result self.new.rest.now (number_at self.old.rest.now) }
     {
@@ -187,7 +188,7 @@ impl<'a> Reader<'a> {
         self.end(text, text.len(), value)
     }
 
-    /// As [`Reader::number`], below 2^128.
+    /// Returns the next number as [`Reader::number`] does, below 2^128.
     pub fn nanos(&mut self) -> Option<u128>
         ensures { Gives result self.new.rest.now (nanos_at self.old.rest.now) }
     {
@@ -209,7 +210,7 @@ impl<'a> Reader<'a> {
         self.end(text, text.len(), u128::from(value))
     }
 
-    /// The number that stands here behind a blank; as [`Reader::number`].
+    /// Returns the number that comes next after a blank, as [`Reader::number`] does.
     pub fn number_behind(&mut self) -> Option<u64>
         ensures { Gives result self.new.rest.now (behind_at self.old.rest.now) }
     {
@@ -219,7 +220,7 @@ impl<'a> Reader<'a> {
         None
     }
 
-    // As `number`, digit by digit with each test.
+    // Reads as `number` does, digit by digit with each test.
     fn long_number(&mut self, text: &'a [u8]) -> Option<u64>
         ensures { Gives result self.new.rest.now (number_at text.now) }
     {
@@ -240,7 +241,7 @@ impl<'a> Reader<'a> {
         self.end(text, text.len(), value)
     }
 
-    // As `nanos`, digit by digit with each test.
+    // Reads as `nanos` does, digit by digit with each test.
     fn long_nanos(&mut self, text: &'a [u8]) -> Option<u128>
         ensures { Gives result self.new.rest.now (nanos_at text.now) }
     {
@@ -261,7 +262,7 @@ impl<'a> Reader<'a> {
         self.end(text, text.len(), value)
     }
 
-    // An act whose word begins with an s.
+    // Reads an act whose word begins with an s.
     #[inline(always)]
     #[tactic(auto, unfolding(crate::specs::Parser::s_act_at))]
     fn s_act(&mut self) -> Option<Act>
@@ -277,7 +278,7 @@ impl<'a> Reader<'a> {
         None
     }
 
-    // An act that drops a handle or a sleep.
+    // Reads an act that drops a handle or a sleep.
     #[tactic(auto, unfolding(crate::specs::Parser::drop_at))]
     fn drop_act(&mut self) -> Option<Act>
         ensures { Gives result self.new.rest.now (drop_at self.old.rest.now) }
@@ -310,7 +311,7 @@ impl<'a> Reader<'a> {
         None
     }
 
-    // An act on a job whose word begins with that of a job.
+    // Reads an act on a job whose word begins with that of a job.
     #[tactic(auto, unfolding(crate::specs::Parser::job_act_at))]
     fn job_act(&mut self) -> Option<Act>
         ensures { Gives result self.new.rest.now (job_act_at self.old.rest.now) }
@@ -330,7 +331,7 @@ impl<'a> Reader<'a> {
         None
     }
 
-    // The sleep and the deadline of a reset.
+    // Reads the sleep and the deadline of a reset.
     fn reset(&mut self) -> Option<Act>
         ensures { Gives result self.new.rest.now (reset_at self.old.rest.now) }
     {
@@ -342,7 +343,7 @@ impl<'a> Reader<'a> {
         Some(Act::Reset(sleep, n))
     }
 
-    // An act whose first letter no other act has.
+    // Reads an act whose first letter no other act has.
     #[tactic(auto, unfolding(crate::specs::Parser::other_act_at))]
     fn other_act(&mut self) -> Option<Act>
         ensures { Gives result self.new.rest.now (other_act_at self.old.rest.now) }
@@ -369,7 +370,7 @@ impl<'a> Reader<'a> {
         None
     }
 
-    // An act that stands by itself or in a turn.
+    // Reads an act, alone or in a turn.
     #[tactic(auto, unfolding(crate::specs::Parser::act_at))]
     fn act(&mut self) -> Option<Act>
         ensures { Gives result self.new.rest.now (act_at self.old.rest.now) }
@@ -387,7 +388,7 @@ impl<'a> Reader<'a> {
         self.other_act()
     }
 
-    // A poll of a task or a job, or an act on a job.
+    // Reads a poll of a task or a job, or an act on a job.
     #[tactic(auto, unfolding(crate::specs::Parser::job_step_at))]
     fn job_step(&mut self) -> Option<TurnStep>
         ensures { Gives result self.new.rest.now (job_step_at self.old.rest.now) }
@@ -404,7 +405,7 @@ impl<'a> Reader<'a> {
         Some(TurnStep::Act(act))
     }
 
-    // A step of a turn: an act or a poll.
+    // Reads a step of a turn: an act or a poll.
     #[inline(always)]
     #[tactic(auto, unfolding(crate::specs::Parser::step_at))]
     fn step(&mut self) -> Option<TurnStep>
@@ -425,7 +426,7 @@ impl<'a> Reader<'a> {
         Some(TurnStep::Act(act))
     }
 
-    // The end of a turn, where it stands here.
+    // Reads the end of a turn, if it comes next.
     #[inline(always)]
     #[tactic(auto, unfolding(crate::specs::Parser::end_at))]
     fn turn_end(&mut self) -> TurnEnd
@@ -443,7 +444,7 @@ impl<'a> Reader<'a> {
         TurnEnd::IsStep
     }
 
-    // The parts of a turn, behind its word. The list is emptied, and its memory used for the steps.
+    // Reads the parts of a turn, after its word. The list is emptied, and its memory used for the steps.
     #[inline(always)]
     fn parts(&mut self, mut steps: List<TurnStep>) -> Result<Option<Event>, AllocError>
         ensures { GivesIf result self.new.rest.now (parts_at (length self.old.rest.now) [] self.old.rest.now) }
@@ -467,8 +468,8 @@ impl<'a> Reader<'a> {
         Ok(None)
     }
 
-    /// The event that stands here, without a line feed, and goes past it. None where none stands here; what is left then is
-    /// not told. The spare list is used as [`Reader::line`] uses it.
+    /// Returns the event that comes next, without a line feed, and moves past it. Returns None if no event comes next;
+    /// the rest is then not specified. It uses the spare list as [`Reader::line`] does.
     #[inline(always)]
     #[tactic(auto, using(crate::proofs::FirstByteLemmas::event_from_s), unfolding(crate::specs::Parser::event_at))]
     pub fn event(
@@ -509,7 +510,7 @@ impl<'a> Reader<'a> {
         Ok(Some(Event::Act(act)))
     }
 
-    // What the next line is by the definitions of `Reading`.
+    // Returns the next line as the definitions of `Reading` have it.
     #[inline(always)]
     #[tactic(auto, unfolding(crate::specs::Parser::line_at))]
     fn line_read(
@@ -528,10 +529,11 @@ impl<'a> Reader<'a> {
         Ok(None)
     }
 
-    /// The event that the next line says, and goes past the line. None where it says none; what is left then is not told.
+    /// Returns the event that the next line spells, and moves past the line. Returns None if it spells none; the rest
+    /// is then not specified.
     ///
-    /// The spare list is used for the steps of a turn, so that an earlier turn's list can serve again. Nothing else is
-    /// done with it.
+    /// The memory of the spare list is used for the steps of a turn, so the list of an earlier turn can serve again.
+    /// The list has no other use.
     pub fn line(
         &mut self,
         alloc: Global,
@@ -544,7 +546,7 @@ impl<'a> Reader<'a> {
     }
 }
 
-/// The number below 2^64 that is all of the text, in decimal without sign and leading zeros, or none.
+/// Returns the number below 2^64 that is the whole text, in decimal without sign and leading zeros, or None.
 pub fn whole_number(text: &[u8]) -> Option<u64>
     ensures found { IfSome result (λ n. (text.now ≡ decimal n) × (n < 2 ^ 64)) }
     ensures none { IfNone result ((n : ℕ) → n < 2 ^ 64 → text.now ≡ decimal n → ⊥) }

@@ -1,4 +1,4 @@
-// Why a line says no call.
+// Why a line spells no call.
 ghost use Rattle.std.specs.Prelude.{◌≡◌, ◌∷◌, []};
 ghost use Rattle.std.specs.Option.{option_map};
 ghost use Rattle.mono_text.specs.Words.{words};
@@ -8,38 +8,38 @@ ghost use Rattle.mono_text.specs.ReasonTexts.{told};
 use crate::lines::line_at;
 use crate::words::{cut, is_above, is_among, is_plain};
 
-/// Why a line says no call. Where more than one holds it is the first in this order.
+/// The reasons for which a line spells no call. If more than one holds, it is the first in this order.
 #[derive(Clone, Copy, Debug, PartialEq, Eq)]
 pub enum Reason {
     /// No line feed ends it.
     NoLineFeed,
-    /// A carriage return stands before its line feed.
+    /// A carriage return precedes its line feed.
     CarriageReturn,
     /// Its first word is none of those with which a call begins.
     UnknownWord,
-    /// A word that begins a part of a turn is none of those with which a part begins.
+    /// A word that begins a part of a turn is none of the words of parts.
     UnknownPart,
-    /// A word in it is no plain decimal number, and stands where one has to.
+    /// A word in it is no plain decimal number, and its place requires a number.
     NoNumber,
     /// A number in it is above 18446744073709551615.
     GreatNumber,
     /// A number of nanoseconds in it is above 340282366920938463463374607431768211455.
     GreatNanos,
-    /// It is an event of a journal, and no report stands behind it.
+    /// It is an event of a journal, and no report follows it.
     NoReport,
-    /// What stands behind ` -> ` is no report.
+    /// The text after ` -> ` is no report.
     OtherReport,
     /// The script ends before this line.
     EndsEarly,
     /// It is the first line of a script, and not `limits`.
     NoLimits,
-    /// It stands outside of a script's kinds, and is not `task`.
+    /// It is outside of a script's kinds, and is not `task`.
     NoTask,
-    /// It stands in a kind that `done` has not ended.
+    /// It is in a kind that `done` has not ended.
     NoDone,
-    /// It begins a kind behind the 64th.
+    /// It begins a kind after the 64th.
     ManyKinds,
-    /// It stands behind the 127th line of a kind's body.
+    /// It comes after the 127th line of a kind's body.
     LongBody,
     /// It names a kind that the script does not have.
     NoKind,
@@ -53,14 +53,14 @@ pub enum Reason {
     OtherForm,
 }
 
-/// What is wrong with a line: why, the word that shows it, and the word with which that part of the line begins.
+/// The fault of a line: the reason, the word that shows it, and the word with which that part of the line begins.
 #[derive(Clone, Copy, Debug, PartialEq, Eq)]
 pub struct Fault<'a> {
-    /// Why the line says no call.
+    /// why the line spells no call
     pub reason: Reason,
-    /// The word that shows it; the first one if the whole line is at fault.
+    /// the word that shows it; the first one if the whole line is at fault
     pub word: &'a [u8],
-    /// The word whose form the line breaks.
+    /// the word whose form the line breaks
     pub head: &'a [u8],
 }
 
@@ -68,7 +68,7 @@ const GREATEST_NUMBER: &[u8] = b"18446744073709551615";
 
 const GREATEST_NANOS: &[u8] = b"340282366920938463463374607431768211455";
 
-// Whether nanoseconds stand behind these two words.
+// Returns whether nanoseconds follow these two words.
 fn is_for_nanos(older: &[u8], previous: &[u8]) -> bool
     ensures { result ≡ spec.is_for_nanos older.now previous.now }
 {
@@ -77,7 +77,7 @@ fn is_for_nanos(older: &[u8], previous: &[u8]) -> bool
         || older == b"reset".as_slice()
 }
 
-// The reason, where the word is a number that is too great for its place.
+// Returns the reason if the word is a number that is too great for its place.
 fn too_great(is_for_nanos: bool, word: &[u8]) -> Option<Reason>
     ensures { result ≡ spec.too_great is_for_nanos word.now }
 {
@@ -94,14 +94,14 @@ fn too_great(is_for_nanos: bool, word: &[u8]) -> Option<Reason>
     }
 }
 
-// Whether the word tells how a job ended.
+// Returns whether the word names how a job ended.
 fn is_how(older: &[u8], word: &[u8]) -> bool
     ensures { result ≡ spec.is_how older.now word.now }
 {
     older == b"job-end".as_slice() && (word == b"ran".as_slice() || word == b"canceled".as_slice())
 }
 
-// What is wrong with a word that begins a part.
+// Returns the fault of a word that begins a part.
 fn begins_wrong(parts: &[u8], word: &[u8]) -> Option<Reason>
     ensures { result ≡ spec.begins_wrong (words parts.now) word.now }
 {
@@ -112,7 +112,7 @@ fn begins_wrong(parts: &[u8], word: &[u8]) -> Option<Reason>
     }
 }
 
-// What is wrong with a word that stands behind the first one of its part.
+// Returns the fault of a word that follows the first one of its part.
 fn stands_wrong(older: &[u8], word: &[u8]) -> Option<Reason>
     ensures { result ≡ spec.stands_wrong older.now word.now }
 {
@@ -123,7 +123,7 @@ fn stands_wrong(older: &[u8], word: &[u8]) -> Option<Reason>
     }
 }
 
-// What is wrong with a word that is not too great.
+// Returns the fault of a word that is not too great.
 fn other_wrong(parts: &[u8], older: &[u8], previous: &[u8], word: &[u8]) -> Option<Reason>
     ensures { result ≡ spec.other_wrong (words parts.now) older.now previous.now word.now }
 {
@@ -140,7 +140,7 @@ fn other_wrong(parts: &[u8], older: &[u8], previous: &[u8], word: &[u8]) -> Opti
     }
 }
 
-// What is wrong with a word, by the two words before it.
+// Returns the fault of a word, by the two words before it.
 fn word_wrong(parts: &[u8], older: &[u8], previous: &[u8], word: &[u8]) -> Option<Reason>
     ensures { result ≡ spec.word_wrong (words parts.now) older.now previous.now word.now }
 {
@@ -150,7 +150,7 @@ fn word_wrong(parts: &[u8], older: &[u8], previous: &[u8], word: &[u8]) -> Optio
     }
 }
 
-// The word that begins the part in which a word stands.
+// Returns the word that begins the part to which a word belongs.
 fn head_of<'a>(head: &'a [u8], previous: &[u8], word: &'a [u8]) -> &'a [u8]
     ensures { result.now ≡ spec.head_of head.now previous.now word.now }
 {
@@ -161,7 +161,7 @@ fn head_of<'a>(head: &'a [u8], previous: &[u8], word: &'a [u8]) -> &'a [u8]
     }
 }
 
-// The first wrong word of these, behind the first one of the line.
+// Returns the first wrong word of these, after the first one of the line.
 fn first_wrong<'a>(parts: &[u8], first: &'a [u8], others: &'a [u8]) -> Option<Fault<'a>>
     ensures { option_map told result ≡ spec.first_wrong (words parts.now) first.now [] first.now (words others.now) }
 {
@@ -184,7 +184,7 @@ fn first_wrong<'a>(parts: &[u8], first: &'a [u8], others: &'a [u8]) -> Option<Fa
     }
 }
 
-/// The first wrong word behind the line's first one.
+/// Returns the first wrong word after the line's first one.
 pub(crate) fn wrong_among<'a>(parts: &[u8], line: &'a [u8]) -> Option<Fault<'a>>
     ensures { option_map told result ≡ spec.wrong_among (words parts.now) (words line.now) }
 {
@@ -195,7 +195,7 @@ pub(crate) fn wrong_among<'a>(parts: &[u8], line: &'a [u8]) -> Option<Fault<'a>>
     }
 }
 
-/// Whether the last byte is a carriage return.
+/// Returns whether the last byte is a carriage return.
 pub(crate) fn ends_in_return(line: &[u8]) -> bool
     ensures { result ≡ spec.ends_in_return line.now }
 {
@@ -205,7 +205,7 @@ pub(crate) fn ends_in_return(line: &[u8]) -> bool
     }
 }
 
-/// A fault of a whole line.
+/// Returns the fault of a whole line.
 pub(crate) fn whole(reason: Reason, line: &[u8]) -> Fault
     ensures { told result ≡ spec.whole reason line.now }
 {
@@ -217,7 +217,7 @@ pub(crate) fn whole(reason: Reason, line: &[u8]) -> Fault
     }
 }
 
-// The reason of a line whose words are all right.
+// Returns the reason of a line whose words are all right.
 fn form_wrong(has_report: bool) -> Reason
     ensures { result ≡ spec.form_wrong has_report }
 {
@@ -228,7 +228,7 @@ fn form_wrong(has_report: bool) -> Reason
     }
 }
 
-// What is wrong with a line.
+// Returns the fault of a line.
 fn wrong_line<'a>(
     names: &[u8],
     parts: &[u8],
@@ -253,11 +253,11 @@ fn wrong_line<'a>(
     }
 }
 
-/// Returns what is wrong with line n of the input, counted from 1, or none if there is no such line.
+/// Returns the fault of line n of the input, counted from 1, or None if there is no such line.
 ///
-/// A call begins with one of `names`, a step or an end of a turn with one of `parts`, and a line that begins with one of
-/// `pairs` has a report behind it; each is a text of words with blanks between them. The answer goes by the bytes of the
-/// line alone, also for a line that says a call.
+/// A call begins with one of `names`, and a step or an end of a turn with one of `parts`. A line that begins with one
+/// of `pairs` has a report at its end. Each of the three is a text of words with blanks between them. The answer
+/// depends on the bytes of the line alone, also for a line that spells a call.
 pub fn fault_of_line<'a>(
     names: &[u8],
     parts: &[u8],

@@ -1,4 +1,4 @@
-// Why a line may not stand in a script, or which line is missing.
+// Why a line may not follow in a script, or which line is missing.
 ghost use Rattle.std.specs.Prelude.{◌≡◌, ◌∷◌, false};
 ghost use Rattle.std.specs.Option.{option_map};
 ghost use Rattle.mono_text.specs.Lines.{lines};
@@ -12,8 +12,8 @@ use crate::lines::{cut_line, line_at};
 use crate::reasons::{Fault, Reason, ends_in_return, whole, wrong_among};
 use crate::words::{cut, is_among};
 
-/// What the lines before one have made: whether a kind is open, how many kinds there are, and of the last kind how many
-/// lines its body has and how many tasks and jobs it made.
+/// The effect of the lines before one: whether a kind is open, how many kinds there are, and, for the last kind, how
+/// many lines its body has and how many tasks and jobs it made.
 #[derive(Clone, Copy)]
 struct Seen {
     is_open: bool,
@@ -23,14 +23,14 @@ struct Seen {
     jobs: u64,
 }
 
-// One more; the count ends at 2^64 - 1.
+// Returns the count with one more; it ends at 2^64 - 1.
 fn count_one(count: u64) -> u64
     ensures { result ≡ counted count }
 {
     count.saturating_add(1)
 }
 
-// What is seen behind a line with this first word.
+// Returns the state after a line with this first word.
 fn seen_after(seen: Seen, word: &[u8]) -> Seen
     ensures { result ≡ spec.seen_after seen word.now }
 {
@@ -80,7 +80,7 @@ fn seen_after(seen: Seen, word: &[u8]) -> Seen
     }
 }
 
-// What is seen before line n, counted from 1.
+// Returns the state before line n, counted from 1.
 fn seen_before(input: &[u8], n: usize) -> Seen
     ensures { result ≡ spec.seen_before n (lines input.now) (spec.seen_of false 0 0 0 0) }
 {
@@ -108,7 +108,7 @@ fn seen_before(input: &[u8], n: usize) -> Seen
     seen
 }
 
-// The count of kinds with one more line.
+// Returns the count of kinds with one more line.
 fn kinds_with(count: u64, line: &[u8], is_ended: bool) -> u64
     ensures { result ≡ spec.kinds_with count (record { bytes = line.now; is_ended = is_ended }) }
 {
@@ -119,7 +119,7 @@ fn kinds_with(count: u64, line: &[u8], is_ended: bool) -> u64
     }
 }
 
-// How many lines say `task`.
+// Returns how many lines are `task`.
 fn kinds_in(input: &[u8]) -> u64
     ensures { result ≡ spec.kinds_from 0 (lines input.now) }
 {
@@ -136,7 +136,7 @@ fn kinds_in(input: &[u8]) -> u64
     count
 }
 
-// Why a line with this first word may not stand here.
+// Returns why a line with this first word may not follow here.
 fn place_wrong(n: usize, seen: Seen, word: &[u8]) -> Option<Reason>
     ensures { result ≡ spec.place_wrong n seen word.now }
 {
@@ -167,7 +167,7 @@ fn place_wrong(n: usize, seen: Seen, word: &[u8]) -> Option<Reason>
     Some(Reason::NoTask)
 }
 
-// The number below 2^64 that is all of the word.
+// Returns the number below 2^64 that is the whole word.
 fn number_in(word: &[u8]) -> Option<u64>
     ensures { result ≡ number_of word.now }
 {
@@ -180,7 +180,7 @@ fn number_in(word: &[u8]) -> Option<u64>
     }
 }
 
-// What is wrong with the number behind a word.
+// Returns the fault of the number after a word.
 fn number_wrong(kinds: u64, seen: Seen, word: &[u8], number: u64) -> Reason
     ensures { result ≡ spec.number_wrong kinds seen word.now number }
 {
@@ -205,7 +205,7 @@ fn number_wrong(kinds: u64, seen: Seen, word: &[u8], number: u64) -> Reason
     Reason::OtherForm
 }
 
-// What is wrong with what stands behind a word, a number if it is one.
+// Returns the fault of the text after a word, a number if it is one.
 fn any_number_wrong(kinds: u64, seen: Seen, word: &[u8], number: Option<u64>) -> Reason
     ensures { result ≡ spec.any_number_wrong kinds seen word.now number }
 {
@@ -215,7 +215,7 @@ fn any_number_wrong(kinds: u64, seen: Seen, word: &[u8], number: Option<u64>) ->
     }
 }
 
-// What is wrong behind a line's first word. A third word is one too many.
+// Returns the fault after a line's first word. A third word is one too many.
 fn second_wrong<'a>(kinds: u64, seen: Seen, first: &'a [u8], rest: &'a [u8]) -> Fault<'a>
     ensures { told result ≡ spec.own_wrong kinds seen (first.now ∷ words rest.now) }
 {
@@ -234,7 +234,7 @@ fn second_wrong<'a>(kinds: u64, seen: Seen, first: &'a [u8], rest: &'a [u8]) -> 
     }
 }
 
-// What is wrong with a line that may stand here, and whose words are all right.
+// Returns the fault of a line that may follow here, and whose words are all right.
 fn own_wrong<'a>(kinds: u64, seen: Seen, line: &'a [u8]) -> Fault<'a>
     ensures { told result ≡ spec.own_wrong kinds seen (words line.now) }
 {
@@ -249,7 +249,7 @@ fn own_wrong<'a>(kinds: u64, seen: Seen, line: &'a [u8]) -> Fault<'a>
     }
 }
 
-// What is wrong with a line that may stand here.
+// Returns the fault of a line that may follow here.
 fn words_wrong<'a>(kinds: u64, seen: Seen, line: &'a [u8]) -> Fault<'a>
     ensures { told result ≡ spec.words_wrong kinds seen line.now }
 {
@@ -259,7 +259,7 @@ fn words_wrong<'a>(kinds: u64, seen: Seen, line: &'a [u8]) -> Fault<'a>
     }
 }
 
-// What is wrong with a line, from what is seen before it.
+// Returns the fault of a line, by the state before it.
 fn script_line_wrong<'a>(
     names: &[u8],
     n: usize,
@@ -286,10 +286,10 @@ fn script_line_wrong<'a>(
     }
 }
 
-/// Returns what is wrong with line n of a script, counted from 1, or that the script ends before it.
+/// Returns the fault of line n of a script, counted from 1, or that the script ends before it.
 ///
-/// Its lines begin with one of `names`, a text of words with blanks between them. The answer goes by the bytes of the
-/// script alone.
+/// Its lines begin with one of `names`, a text of words with blanks between them. The answer depends on the bytes of
+/// the script alone.
 pub fn fault_of_script<'a>(names: &[u8], input: &'a [u8], n: usize) -> Fault<'a>
     ensures { told result ≡ spec.script_wrong_at (words names.now) input.now n }
 {

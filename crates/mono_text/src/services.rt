@@ -5,10 +5,11 @@ ghost use Rattle.mono_text.specs.Services.{StartsWith, StartsWithNone, Serves, a
 use crate::reader::Reader;
 use std::alloc::{AllocError, Global};
 
-/// A value whose calls are said by lines, each answered by one line.
+/// A value whose calls are spelled by lines, each answered by one line.
 ///
-/// It tells how a call is written (`text`) and within which bounds (`fits`), and what a call may answer and leave
-/// (`answers`): the value before, the call, the bytes of the answer without its line feed, the value afterwards.
+/// It specifies the text of a call (`text`), its bounds (`fits`), and which answers and new values a call may have
+/// (`answers`). The last relates the value before, the call, the bytes of the answer without its line feed, and the
+/// value afterwards.
 pub trait Service: Drop {
     /// A call.
     type Call: Drop;
@@ -19,15 +20,16 @@ pub trait Service: Drop {
     // the numbers of a call that has a line are within their bounds
     ghost fits: { Self.Call → Type 0 };
 
-    // what a call may answer, and the value that it may leave
+    // the answers and the new values that a call may have
     ghost answers: { Self → Self.Call → List ℕ → Self → Type 0 };
 
-    /// The call that the next line says, and goes past the line. None where it says none; what is left then is not told.
+    /// Returns the call that the next line spells, and moves past the line. Returns None if it spells none; the rest is
+    /// then not specified.
     fn read(alloc: Global, reader: &mut Reader) -> Result<Option<Self::Call>, AllocError>
         ensures found { IfOk result (λ found. IfSome found (λ call. StartsWith text fits reader.old.rest.now call reader.new.rest.now)) }
         ensures none { IfOk result (λ found. IfNone found (StartsWithNone text fits reader.old.rest.now)) };
 
-    /// Makes the call, and puts the line of its answer behind `out`.
+    /// Makes the call, and appends the line of its answer to `out`.
     fn answer(
         &mut self,
         alloc: Global,
@@ -37,17 +39,17 @@ pub trait Service: Drop {
         ensures { OnOk result ((answer : List ℕ) × answers self.old call answer self.new × (out.new.items ≡ out.old.items ++ answer_line answer)) };
 }
 
-/// What an input is answered: the number of the first line that says no call, counted from 1, or the lines of the answers.
+/// The answer to an input: the number of the first line that spells no call, counted from 1, or the lines of the
+/// answers.
 #[derive(Drop)]
 pub enum Served {
-    /// The first line that says no call, counted from 1.
+    /// The first line that spells no call, counted from 1.
     BadLine(usize),
     /// The lines of the answers, one for each call.
     Output(Vec<u8>),
 }
 
-/// The answers of a value to an input, one line at a time: read, called and written. At a bad line what was written is
-/// thrown away.
+/// Answers an input by a value, and reads, calls and writes one line at a time. At a bad line it drops the answers.
 pub fn serve<S: Service>(alloc: Global, start: S, input: &[u8]) -> Result<Served, AllocError>
     ensures { IfOk result (λ r. Serves S.text S.fits S.answers start input.now r) }
 {

@@ -1,4 +1,4 @@
-// Where the output goes.
+// The sink of an output.
 ghost use Rattle.std.specs.Prelude.{◌≡◌, ℕ, ◌<◌, ◌≤◌, Option, Some, None, List, length, take, drop, IfOk, OnErr, OnOk};
 ghost use Rattle.mono_text.specs.Environment.{HasCause, HasRisen, Writes, HasWritten, HasWrittenPrefix};
 
@@ -6,18 +6,19 @@ ghost use Rattle.mono_text.specs.Environment.{HasCause, HasRisen, Writes, HasWri
 #[derive(Clone, Copy, Debug, PartialEq, Eq)]
 pub struct SinkFault;
 
-/// Where the output goes.
+/// A sink of bytes.
 ///
-/// A sink has a count of faults, and may tell which bytes were written.
+/// A sink has a count of faults, and may expose which bytes were written.
 pub trait Sink {
-    /// How often a write has failed, which never falls. A count of 2^64 - 1 counts as risen.
+    /// how often a write has failed; it never falls, and a count of 2^64 - 1 counts as risen
     ghost faults: { Self → ℕ };
 
-    /// The bytes that were written, where the sink tells them.
+    /// the bytes that were written, if the sink exposes them
     ghost written: { Self → Option (List ℕ) };
 
-    /// Takes bytes from the front of the piece and answers how many: at least one, where the piece isn't empty. It fails
-    /// only where the count of faults rose in this call, which else stays (`cause`), and then no byte was taken (`none`).
+    /// Takes bytes from the front of the piece and returns how many: at least one if the piece is not empty. It fails
+    /// only if the count of faults rose in this call, and without a failure the count stays (`cause`). After a failure
+    /// no byte was taken (`none`).
     fn write(&mut self, piece: &[u8]) -> Result<usize, SinkFault>
         ensures within { IfOk result (λ n. n ≤ length piece.now) }
         ensures some { IfOk result (λ n. 0 < length piece.now → 0 < n) }
@@ -34,7 +35,7 @@ fn rest_of(bytes: &[u8], done: usize) -> &[u8]
     &bytes[done..]
 }
 
-/// Writes all the bytes, by as many writes as the sink takes. After a fault the first few of them were written.
+/// Writes all the bytes, in the writes that the sink takes. After a fault a beginning of the bytes was written.
 pub fn write_all<K: Sink>(sink: &mut K, bytes: &[u8]) -> Result<(), SinkFault>
     ensures ok { OnOk result (HasWritten (K.written sink.old) (K.written sink.new) bytes.now) }
     ensures some { OnErr result (HasWrittenPrefix (K.written sink.old) (K.written sink.new) bytes.now) }

@@ -1,4 +1,4 @@
-// Where the input comes from.
+// The source of an input.
 ghost use Rattle.std.specs.Prelude.{◌≡◌, ℕ, ◌+◌, ◌<◌, ◌≤◌, ◌⊎◌, Option, Some, None, List, [], length, take, drop, IfOk, IfErr, OnErr, OnOk, IsErrOf, vec_len};
 ghost use Rattle.mono_text.specs.Environment.{HasCause, HasRisen, Reads, HasRead, HasReadAll, IsLongerThan};
 
@@ -8,19 +8,19 @@ use std::alloc::{AllocError, Global};
 #[derive(Clone, Copy, Debug, PartialEq, Eq)]
 pub struct SourceFault;
 
-/// Where the input comes from.
+/// A source of bytes.
 ///
-/// A source has a count of faults, and may tell which bytes it has left.
+/// A source has a count of faults, and may expose which bytes it has left.
 pub trait Source {
-    /// How often a read has failed, which never falls. A count of 2^64 - 1 counts as risen.
+    /// how often a read has failed; it never falls, and a count of 2^64 - 1 counts as risen
     ghost faults: { Self → ℕ };
 
-    /// The bytes that are left, where the source tells them.
+    /// the bytes that are left, if the source exposes them
     ghost left: { Self → Option (List ℕ) };
 
-    /// Puts the next bytes at the front of the buffer and answers how many. 0 for a buffer that isn't empty is the end
-    /// of the input. It fails only where the count of faults rose in this call, which else stays (`cause`), and then no
-    /// byte has moved (`none`).
+    /// Moves the next bytes to the front of the buffer and returns how many. 0 for a buffer that is not empty is the
+    /// end of the input. It fails only if the count of faults rose in this call, and without a failure the count stays
+    /// (`cause`). After a failure no byte has moved (`none`).
     fn read(&mut self, buffer: &mut [u8]) -> Result<usize, SourceFault>
         ensures within { IfOk result (λ n. n ≤ length buffer.old) }
         ensures bytes { IfOk result (λ n. Reads (left self.old) (left self.new) buffer.new n) }
@@ -28,13 +28,13 @@ pub trait Source {
         ensures cause { HasCause (faults self.old) (faults self.new) result };
 }
 
-/// The most bytes that an input may have, 2^24.
+/// The greatest number of bytes of an input, 2^24.
 pub const MAX_INPUT: usize = 16777216;
 
 /// How many bytes are read at a time.
 pub(crate) const BLOCK: usize = 65536;
 
-/// Why there is no input: no memory, a read that failed, or more bytes than an input may have.
+/// Why there is no input: out of memory, a read that failed, or more bytes than an input may have.
 #[derive(Clone, Copy, Debug, PartialEq, Eq)]
 pub enum InputError {
     Memory,
@@ -52,14 +52,14 @@ impl From<AllocError> for InputError {
     }
 }
 
-/// A block of zeros. Its length is all that is told, so that no proof computes the block.
+/// Returns a block of zeros. Its contract specifies its length alone, so that no proof computes the block.
 pub(crate) fn zeros(alloc: Global, len: usize) -> Result<Vec<u8>, AllocError>
     ensures { IfOk result (λ block. length block.items ≡ len) }
 {
     vec![in alloc; 0u8; len]
 }
 
-/// The first bytes of a block.
+/// Returns the first bytes of a block.
 #[inline(always)]
 pub(crate) fn front_of(block: &[u8], n: usize) -> &[u8]
     requires { n ≤ length block.now }
@@ -68,7 +68,7 @@ pub(crate) fn front_of(block: &[u8], n: usize) -> &[u8]
     &block[..n]
 }
 
-// Reads through the block to the end of the input, or past the most bytes that it may have.
+// Reads through the block to the end of the input, or past the greatest number of bytes.
 fn fill<S: Source>(source: &mut S, block: &mut [u8], bytes: &mut Vec<u8>) -> Result<(), InputError>
     requires some { 0 < length block.old }
     requires empty { bytes.old.items ≡ [] }
@@ -90,7 +90,7 @@ fn fill<S: Source>(source: &mut S, block: &mut [u8], bytes: &mut Vec<u8>) -> Res
     Err(InputError::TooLong)
 }
 
-/// All bytes that the source has left, read by blocks of 64 KiB, at most 2^24 bytes.
+/// Returns all bytes that the source has left, at most 2^24, and reads them in blocks of 64 KiB.
 pub fn read_all<S: Source>(alloc: Global, source: &mut S) -> Result<Vec<u8>, InputError>
     ensures ok { IfOk result (λ bytes. HasReadAll (S.left source.old) bytes.items (S.left source.new) × (vec_len bytes ≤ 16777216)) }
     ensures long { IsErrOf result InputError.TooLong → IsLongerThan 16777216 (S.left source.old) }

@@ -7,8 +7,8 @@ use crate::tries::{has_taken, read_again, write_again};
 use std::io;
 use std::rt::{Stdin, Stdout};
 
-/// Standard input. It tells nothing of its bytes, and its count of faults starts at 0. A read that a signal interrupts is
-/// made again.
+/// Standard input. It exposes none of its bytes, and its count of faults starts at 0. A read that a signal interrupts
+/// is repeated.
 #[derive(Drop)]
 pub struct StdinSource {
     stdin: Stdin,
@@ -17,7 +17,7 @@ pub struct StdinSource {
 }
 
 impl StdinSource {
-    /// The source that reads this standard input.
+    /// Returns the source that reads this standard input.
     pub fn new(stdin: Stdin) -> StdinSource
         ensures { result.faults ≡ 0 }
     {
@@ -28,7 +28,7 @@ impl StdinSource {
         }
     }
 
-    /// The system's error of the last read that failed.
+    /// Returns the system's error of the last read that failed.
     pub fn error(&self) -> Option<&io::Error> {
         self.error.as_ref()
     }
@@ -53,10 +53,10 @@ impl Source for StdinSource {
     }
 }
 
-/// Standard output. It tells nothing of its bytes, and its count of faults starts at 0.
+/// Standard output. It exposes none of its bytes, and its count of faults starts at 0.
 ///
-/// A write that a signal interrupts is made again. A write to a closed pipe fails as any other does, and so does one that
-/// takes no byte of a piece that isn't empty.
+/// A write that a signal interrupts is repeated. A write to a closed pipe fails as any other does, and so does a write
+/// that takes no byte of a piece that is not empty.
 #[derive(Drop)]
 pub struct StdoutSink {
     stdout: Stdout,
@@ -65,7 +65,7 @@ pub struct StdoutSink {
 }
 
 impl StdoutSink {
-    /// The sink that writes to this standard output.
+    /// Returns the sink that writes to this standard output.
     pub fn new(stdout: Stdout) -> StdoutSink
         ensures { result.faults ≡ 0 }
     {
@@ -76,7 +76,7 @@ impl StdoutSink {
         }
     }
 
-    /// The system's error of the last write that failed; none where it took no byte.
+    /// Returns the system's error of the last write that failed; None if that write took no byte.
     pub fn error(&self) -> Option<&io::Error> {
         self.error.as_ref()
     }

@@ -1,26 +1,26 @@
-// Calls of the system that are made again while a signal interrupts them.
+// Calls of the system that are repeated while a signal interrupts them.
 ghost use Rattle.std.specs.Prelude.{◌≡◌, ◌<◌, ◌≤◌, ◌↔◌, ◌⊎◌, IfOk, OnErr, IsTrue, take, length};
 ghost use Rattle.std.specs.IoError.{error_kind};
 ghost use Rattle.std.specs.Io.KnownBytes.{Keeps, Appends, Consumes, IsAtEnd};
 
 use std::io::{self, ErrorKind, Read, Write};
 
-/// Returns whether a call that ended with an error of this kind is made again, after so many tries. An interrupted call
-/// is, up to 1,000 times.
+/// Returns whether a call that ended with an error of this kind is repeated after `tries` tries. An interrupted call is
+/// repeated up to 1,000 times.
 pub fn is_tried_again(kind: ErrorKind, tries: u64) -> bool
     ensures { IsTrue result ↔ (kind ≡ ErrorKind.Interrupted) × (tries < 1000) }
 {
     kind == ErrorKind::Interrupted && tries < 1000
 }
 
-/// Returns whether a write that took `n` of `len` bytes went well. One that takes no byte of some has failed.
+/// Returns whether a write that took `n` of `len` bytes succeeded. A write that takes no byte of some has failed.
 pub fn has_taken(n: usize, len: usize) -> bool
     ensures { IsTrue result ↔ (0 < n) ⊎ (len ≡ 0) }
 {
     0 < n || len == 0
 }
 
-/// Reads once, and again after each interruption that `is_tried_again` allows. The end of the input is answered only if
+/// Reads once, and again after each interruption that `is_tried_again` allows. It returns the end of the input only if
 /// the reader is there, and a read that failed has moved nothing.
 pub fn read_again<R: Read>(reader: &mut R, buffer: &mut [u8]) -> io::Result<usize>
     ensures within { IfOk result (λ n. n ≤ length buffer.old) }

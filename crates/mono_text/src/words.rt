@@ -2,14 +2,14 @@
 ghost use Rattle.std.specs.Prelude.{◌≡◌, ◌<◌, ◌∷◌, [], length, IfSome, IfNone};
 ghost use Rattle.mono_text.specs.Words as spec;
 
-// Whether the byte stands between words.
+// Returns whether the byte is a gap between words.
 fn is_gap(byte: u8) -> bool
     ensures { result ≡ spec.is_gap byte }
 {
     byte == b' ' || byte == b';'
 }
 
-/// The first word, and the bytes behind its gap; none where no gap ends it.
+/// Returns the first word, and the bytes after its gap; None if no gap ends it.
 pub(crate) fn cut(bytes: &[u8]) -> (&[u8], Option<&[u8]>)
     ensures behind { IfSome result.1 (λ rest. spec.words bytes.now ≡ result.0.now ∷ spec.words rest.now) }
     ensures last { IfNone result.1 (spec.words bytes.now ≡ result.0.now ∷ []) }
@@ -25,7 +25,7 @@ pub(crate) fn cut(bytes: &[u8]) -> (&[u8], Option<&[u8]>)
     (bytes, None)
 }
 
-/// Whether the word is among those of a text.
+/// Returns whether the word is among those of a text.
 pub(crate) fn is_among(word: &[u8], text: &[u8]) -> bool
     ensures { result ≡ spec.is_among word.now (spec.words text.now) }
 {
@@ -55,7 +55,7 @@ fn are_digits(word: &[u8]) -> bool
     true
 }
 
-// Whether it is a number: digits of which the first is not zero.
+// Returns whether it is a number: digits, the first of them not zero.
 fn is_number(word: &[u8]) -> bool
     ensures { result ≡ spec.is_number word.now }
 {
@@ -65,14 +65,14 @@ fn is_number(word: &[u8]) -> bool
     }
 }
 
-/// Whether it is zero or a number.
+/// Returns whether it is zero or a number.
 pub(crate) fn is_plain(word: &[u8]) -> bool
     ensures { result ≡ spec.is_plain word.now }
 {
     word == b"0".as_slice() || is_number(word)
 }
 
-/// Whether the word is a number above this one.
+/// Returns whether the word is a number above this one.
 pub(crate) fn is_above(top: &[u8], word: &[u8]) -> bool
     ensures { result ≡ spec.is_above top.now word.now }
 {
