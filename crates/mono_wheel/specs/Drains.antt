@@ -1,4 +1,4 @@
--- What taking the chosen nodes out of a list does, step by step and as a whole.
+-- The removal of the chosen nodes from a list, step by step and as a whole.
 use Rattle.std.specs.Prelude.{◌≡◌, ◌<◌, ◌⊎◌, ℕ, Bool, true, false, ◌==◌, if◌then◌else◌, List, [], ◌∷◌, ◌++◌, length, Option, Some, None, MatchOption}
 use Rattle.std.specs.Option.{ForSome}
 use Rattle.std.specs.List.{FoldsTo}
@@ -8,7 +8,7 @@ use Rattle.mono_wheel.specs.Lists.{Lists, list_at, with_list, IsIn}
 use Rattle.mono_wheel.specs.Rings.{Distinct}
 use Rattle.mono_wheel.specs.declared.drain_filter.DrainFilter.{DrainFilter}
 
--- the nodes of a list from this one on, and those before it
+-- The nodes of a list from this one on, and those before it.
 abbrev pub from_node : ℕ → List ℕ → List ℕ
 from_node node [] = []
 from_node node (first ∷ rest) = if node == first then first ∷ rest else from_node node rest
@@ -17,7 +17,7 @@ abbrev pub until_node : ℕ → List ℕ → List ℕ
 until_node node [] = []
 until_node node (first ∷ rest) = if node == first then [] else first ∷ until_node node rest
 
--- the same where no node is named at the end of the list
+-- The same, if no node is named at the end of the list.
 abbrev pub from_place : Option ℕ → List ℕ → List ℕ
 from_place None nodes = []
 from_place (Some node) nodes = from_node node nodes
@@ -27,18 +27,18 @@ until_place None nodes = nodes
 until_place (Some node) nodes = until_node node nodes
 
 module _ {F : Type 0} where
-  -- the list that is gone through
+  -- The list under the iterator.
   abbrev pub whole_of : DrainFilter F → List ℕ
   whole_of s = list_at s.links.now s.list
 
-  -- the nodes that are still to be asked, and those that were spared
+  -- The nodes that are still to be asked, and those that were spared.
   abbrev pub left_of : DrainFilter F → List ℕ
   left_of s = from_place s.at (whole_of s)
 
   abbrev pub spared_of : DrainFilter F → List ℕ
   spared_of s = until_place s.at (whole_of s)
 
-  -- the closure, the table of lists, and the ghost name of the reference to it
+  -- The closure, the table of lists, and the ghost name of the reference to it.
   abbrev pub closure_of : DrainFilter F → F
   closure_of s = s.choose
 
@@ -48,20 +48,20 @@ module _ {F : Type 0} where
   abbrev pub lender_of : DrainFilter F → GName
   lender_of s = s.links.ghost_name
 
-  -- the list exists, and the place is in it
+  -- The list exists, and the place is in it.
   pub record CanStep (s : DrainFilter F) : Type 0 where
     pub exists : s.list < length s.links.now.lists
     pub place : ForSome s.at (λ node. IsIn node (whole_of s))
     pub distinct : Distinct (whole_of s)
 
-  -- the same list of the same table
+  -- The list and its table stay the same.
   pub record Stays (s t : DrainFilter F) : Type 0 where
     pub list : t.list ≡ s.list
     pub reference : t.links.ghost_name ≡ s.links.ghost_name
 
   module _ (asks : F → ℕ → Bool → F → Type 0) where
-    -- one call: the closure was asked about the nodes that were left, in order, up to the first of which it
-    -- answered true; that node is given and leaves its list, and those before it are spared
+    -- One call asks the closure about the remaining nodes, in order, up to the first for which it answers true. That
+    -- node is returned and leaves its list, and those before it are spared.
     abbrev pub DrainSteps : DrainFilter F → Option ℕ → DrainFilter F → Type 0
     DrainSteps s r t =
         (passed : List ℕ) × (last : F) × FoldsTo (λ f node g. asks f node false g) s.choose passed last
@@ -70,16 +70,16 @@ module _ {F : Type 0} where
         ((last ≡ t.choose) × (left_of s ≡ passed) × (left_of t ≡ []) × (t.links.now ≡ s.links.now))
         (λ node. asks last node true t.choose × (left_of s ≡ passed ++ node ∷ left_of t) × (t.links.now ≡ with_list s.links.now s.list (spared_of t ++ left_of t)))
 
-    -- the closure was asked once about each of these nodes, in this order, and is then `g`: it answered true of
-    -- those that were chosen, and false of those that were spared
+    -- The closure was asked once about each of these nodes, in this order, and is then `g`. It answered true for the
+    -- chosen nodes, and false for the spared ones.
     abbrev pub Sifts : F → List ℕ → List ℕ → List ℕ → F → Type 0
     Sifts f [] chosen spared g = (f ≡ g) × (chosen ≡ []) × (spared ≡ [])
     Sifts f (node ∷ rest) chosen spared g =
         ((h : F) × (more : List ℕ) × asks f node true h × (chosen ≡ node ∷ more) × Sifts h rest more spared g)
         ⊎ ((h : F) × (more : List ℕ) × asks f node false h × (spared ≡ node ∷ more) × Sifts h rest chosen more g)
 
-    -- after calls that gave these nodes: so much of the list was asked about, and in its place stand those that
-    -- were spared
+    -- The state after calls that returned these nodes: the closure was asked about a first part of the list, which now
+    -- consists of the spared nodes.
     pub record Drained (old : Lists) (list : ℕ) (choose : F) (given : List ℕ) (t : DrainFilter F) : Type 0 where
       pub asked : List ℕ
       pub spared : List ℕ
@@ -87,7 +87,7 @@ module _ {F : Type 0} where
       pub sifted : Sifts choose asked given spared t.choose
       pub links : t.links.now ≡ with_list old list (spared ++ left_of t)
 
-    -- this holds wherever calls lead, and once a call gave None nothing is left to be asked about
+    -- This holds wherever calls lead. Once a call returned None, no node is left to be asked about.
     pub record Drains (old : Lists) (list : ℕ) (choose : F) (s : DrainFilter F) : Type 0 where
       pub so_far : (given : List ℕ) (t : DrainFilter F) → Yields DrainSteps s given t → Drained old list choose given t × (lender_of t ≡ lender_of s)
       pub whole : (given : List ℕ) (t : DrainFilter F) → YieldsThen DrainSteps s given None t → Drained old list choose given t × (lender_of t ≡ lender_of s) × (left_of t ≡ [])

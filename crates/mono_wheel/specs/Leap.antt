@@ -1,4 +1,4 @@
--- How the clock goes at once over slots of the top level in which no key is due.
+-- The leap of the clock over slots of the top level in which no key is due.
 use Rattle.std.specs.Prelude.{◌≡◌, ℕ, ◌+◌, ◌<◌, ◌≤◌, ◌⊎◌, List, Option, Some, None, slice_index_or}
 use Rattle.mono_wheel.specs.Start.{above, top_level}
 use Rattle.mono_wheel.specs.Model.{Timed}
@@ -6,26 +6,26 @@ use Rattle.mono_wheel.specs.Credit.{takes}
 use Rattle.mono_wheel.specs.Holdings.{timed_in}
 use Rattle.mono_wheel.specs.declared.entry.Entry.{Entry}
 
--- a key that is in is registered at its true tick, in a later slot of the top level than `to`
+-- A key that is in is registered at its true tick, in a later slot of the top level than `to`.
 abbrev pub IsFar : ℕ → Option Timed → Type 0
 IsFar to None = Unit {0}
 IsFar to (Some timed) = (timed.registered ≡ timed.tick) × (above top_level to < above top_level timed.tick)
 
--- the key is far, and is taken `count` times while the clock goes from `begin` to `to`
+-- The key is far, and is taken `count` times while the clock moves from `begin` to `to`.
 pub record Spared (begin to : ℕ) (timed : Option Timed) (count : ℕ) : Type 0 where
   pub far : IsFar to timed
   pub counted : takes begin timed ≡ takes to timed + count
 
--- a key that is in is registered at its true tick, which is not below `least`
+-- A key that is in is registered at its true tick, which is at least `least`.
 abbrev pub IsDueFrom : ℕ → Option Timed → Type 0
 IsDueFrom least None = Unit {0}
 IsDueFrom least (Some timed) = (timed.registered ≡ timed.tick) × (least ≤ timed.tick)
 
--- a key that is in is registered at its true tick, which is not below `limit` unless the key is one of these
+-- A key that is in is registered at its true tick, which is at least `limit` unless the key is one of these.
 abbrev pub IsKnown : ℕ → List ℕ → ℕ → Option Timed → Type 0
 IsKnown limit near key None = Unit {0}
 IsKnown limit near key (Some timed) = (timed.registered ≡ timed.tick) × ((limit ≤ timed.tick) ⊎ ((place : ℕ) × (place < 64) × (slice_index_or near place 0 ≡ key)))
 
--- this holds for each key, unless the limit is 0
+-- This holds for each key, unless the limit is 0.
 abbrev pub Known : ℕ → List ℕ → List Entry → Type 0
 Known limit near entries = 0 < limit → (key : ℕ) → IsKnown limit near key (timed_in entries key)

@@ -1,4 +1,4 @@
--- How far the clock goes on once it came to a slot: to the slot's start, or to the tick of the one key in it.
+-- The tick that the clock reaches once it is at a slot: the slot's start, or the tick of the only key in it.
 use Rattle.std.specs.Prelude.{◌≡◌, ℕ, ◌+◌, ◌^◌, ◌<◌, ◌≤◌, ◌⊎◌, List, [], ◌∷◌, Option, Some}
 use Rattle.mono_wheel.specs.Start.{taken_list}
 use Rattle.mono_wheel.specs.Lists.{Lists, list_at}
@@ -7,12 +7,12 @@ use Rattle.mono_wheel.specs.Credit.{takes}
 use Rattle.mono_wheel.specs.Holdings.{timed_in}
 use Rattle.mono_wheel.specs.declared.entry.Entry.{Entry}
 
--- the ticks of a key that is registered at its true tick
+-- The ticks of a key that is registered at its true tick.
 abbrev pub at_tick : ℕ → Option Timed
 at_tick tick = Some record { tick = tick; registered = tick }
 
--- One key alone waits to be registered anew, and the clock goes on from the start of its slot to a tick within that slot and
--- not after the key's. The steps grow by as often as the key would be taken on the way.
+-- Only one key waits to be registered anew, and the clock moves from the start of its slot to a tick within that slot,
+-- at most the key's. The steps grow by as often as the key would be taken on the way.
 pub record GoesOn (begin now level : ℕ) (entries : List Entry) (links : Lists) (before after to : ℕ) : Type 0 where
   pub key : ℕ
   pub timed : Timed
@@ -24,7 +24,7 @@ pub record GoesOn (begin now level : ℕ) (entries : List Entry) (links : Lists)
   pub waits : to ≤ timed.tick
   pub counted : after + takes to (at_tick timed.tick) ≡ before + takes begin (at_tick timed.tick)
 
--- the clock stays at the start of the slot, and no step is counted, or it goes on for the one key that waits
+-- The clock stays at the start of the slot, and no step is counted, or it moves on for the only key that waits.
 abbrev pub ComesTo : ℕ → ℕ → ℕ → List Entry → Lists → ℕ → ℕ → ℕ → Type 0
 ComesTo begin now level entries links before after to =
     ((to ≡ begin) × (after ≡ before)) ⊎ GoesOn begin now level entries links before after to

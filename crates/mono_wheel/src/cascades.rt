@@ -1,4 +1,4 @@
-//! The keys of a slot that was reached are registered at their true ticks.
+//! The cascade: registers the keys of a slot that was reached at their true ticks.
 ghost use Rattle.std.specs.Prelude.{◌≡◌, ℕ, ◌+◌, ◌<◌, length};
 ghost use Rattle.mono_wheel.specs.Lists.{IsLoose, list_at};
 ghost use Rattle.mono_wheel.specs.Holdings.{Held, Registered, Cascading, Cascaded};
@@ -10,7 +10,7 @@ use crate::numbers::standing;
 use crate::slot_links::SlotLinks;
 use std::sync::ledger::Ledger;
 
-// Registers one key that stands in no list at its true tick.
+// Registers one key that is in no list at its true tick.
 fn register(elapsed: u64, links: &mut SlotLinks, key: usize)
     requires room { key < length links.old.entries }
     requires loose { IsLoose links.old key }

@@ -1,4 +1,4 @@
-//! Taking the nodes out of a list that a closure chooses, one at a time.
+//! Removal of the nodes of a list that a closure chooses, one at a time.
 ghost use Rattle.std.specs.Prelude.{◌≡◌, ◌<◌, length};
 ghost use Rattle.std.specs.Iterator.{at_most};
 ghost use Rattle.mono_wheel.specs.Lists.{list_at};
@@ -7,21 +7,21 @@ ghost use Rattle.mono_wheel.specs.Drains.{left_of, links_of, lender_of, closure_
 use crate::Links;
 use std::iter::Iterator;
 
-/// Removes and gives the nodes of a list that a closure chooses, from front to back.
+/// An iterator that removes and returns the nodes of a list that a closure chooses, from front to back.
 ///
-/// Each node is asked once. The nodes that were not asked stay when this is let go.
+/// It asks the closure once for each node. Nodes for which it was not asked stay when the iterator is dropped.
 #[must_use]
 #[derive(Drop)]
 pub struct DrainFilter<'a, F> {
     links: &'a mut Links,
     list: usize,
-    // The node that is asked next, or None where all were asked.
+    // The node that is asked next, or None if all were asked.
     at: Option<usize>,
     choose: F,
 }
 
 impl Links {
-    /// Removes and gives the nodes of a list for which `choose` answers true, from front to back.
+    /// Removes and returns the nodes of a list for which `choose` returns true, from front to back.
     pub fn drain_filter<F: FnMut(usize) -> bool>(
         &mut self,
         list: usize,

@@ -1,8 +1,8 @@
-//! What a wheel knows of each key.
-/// The ticks of a key, which stand in its node.
+//! The ticks of each key.
+/// The ticks of a key, which its node carries.
 #[derive(Clone, Copy)]
 pub struct Entry {
-    // The true tick, or 0 where the key is not in.
+    // The true tick, or 0 if the key is not in.
     pub tick: u64,
     // The tick that gives the slot.
     pub registered: u64,

@@ -1,4 +1,4 @@
-//! A far step of the clock, over slots of the top level in which no key is due.
+//! A leap of the clock over slots of the top level in which no key is due.
 ghost use Rattle.std.specs.Prelude.{◌≡◌, ◌+◌, ◌<◌, ◌≤◌, ℕ, map};
 ghost use Rattle.mono_wheel.specs.Start.{above, top_level};
 ghost use Rattle.mono_wheel.specs.Credit.{takes, credit_of};
@@ -12,7 +12,7 @@ use crate::level::LEVELS;
 use crate::slot_links::SlotLinks;
 use std::sync::ledger::Ledger;
 
-/// How many of the keys that are due soonest are noted at once.
+/// How many of the keys that are due soonest are recorded at once.
 pub const NEAR: usize = 64;
 
 // How many ticks a slot of the top level covers.
@@ -24,7 +24,7 @@ const FIRST: usize = (LEVELS - 1) * 64;
 /// How many ticks a turn of the top level covers.
 pub const REACH: u64 = 1 << (LEVELS * 6);
 
-// Returns how often a key with this tick is taken while the clock goes on from `start` to `goal`, which lies in an
+// Returns how often a key with this tick is taken while the clock moves from `start` to `goal`, which lies in an
 // earlier slot of the top level than the tick.
 fn far_takes(start: u64, goal: u64, tick: u64) -> u64
     requires ahead { start ≤ goal }
@@ -47,7 +47,7 @@ fn spared_of(start: u64, goal: u64, entry: Entry) -> u64
     far_takes(start, goal, entry.tick)
 }
 
-/// Counts how often all keys together are taken while the clock goes on from `start` to `goal`.
+/// Counts how often all keys together are taken while the clock moves from `start` to `goal`.
 pub fn count_spared<L: Ledger>(start: u64, goal: u64, links: &SlotLinks, steps: &mut Steps<L>)
     requires ahead { start ≤ goal }
     requires far { (key : ℕ) → IsFar goal (timed_in links.now.entries key) }
@@ -58,7 +58,7 @@ pub fn count_spared<L: Ledger>(start: u64, goal: u64, links: &SlotLinks, steps: 
     }
 }
 
-/// Returns whether each key that is ahead stands at the top level, and there is one.
+/// Returns whether some key is ahead and all keys ahead are at the top level.
 pub fn is_high(elapsed: u64, links: &SlotLinks) -> bool {
     match links.first_occupied(elapsed) {
         None => false,
@@ -66,7 +66,7 @@ pub fn is_high(elapsed: u64, links: &SlotLinks) -> bool {
     }
 }
 
-// The place of the greatest of these ticks.
+// Returns the place of the greatest of these ticks.
 fn greatest(ticks: &[u64; NEAR]) -> usize
     ensures { result < 64 }
 {
@@ -79,7 +79,7 @@ fn greatest(ticks: &[u64; NEAR]) -> usize
     found
 }
 
-/// Returns a tick such that no more than `NEAR` keys are due before it, or the greatest number if there are fewer keys.
+/// Returns a tick before which at most `NEAR` keys are due, or the greatest number if there are fewer keys.
 pub fn limit_for(links: &SlotLinks) -> u64 {
     let mut ticks = [u64::MAX; NEAR];
     let mut last = 0;
@@ -93,7 +93,8 @@ pub fn limit_for(links: &SlotLinks) -> u64 {
     ticks[last]
 }
 
-/// Notes the keys that are due before `limit`, as far as there is place, and returns the limit that holds for all others.
+/// Records the keys that are due before `limit`, as far as there is place, and returns the limit that holds for all
+/// others.
 ///
 /// It returns 0 if some key is registered before its tick.
 pub fn survey(limit: u64, near: &mut [usize; NEAR], links: &SlotLinks) -> u64

@@ -2,19 +2,18 @@
 ghost use Rattle.std.specs.Prelude.{◌≡◌};
 ghost use Rattle.mono_wheel.specs.Start.{far_digit, IsLevel, top_level};
 
-/// How many levels there are.
+/// The number of levels.
 pub const LEVELS: usize = 7;
 
 const TOP: usize = LEVELS - 1;
 
-// From here on the bits that differ call for the top level.
+// The bound from which differing bits give the top level.
 const FAR: u64 = (1 << (LEVELS * 6)) - 1;
 
-/// The level, 0 to 6, at which a tick is registered while the wheel stands at `elapsed`.
+/// Returns the level, 0 to 6, at which a tick is registered while the wheel is at `elapsed`.
 ///
-/// It is the highest digit to the base 64 in which the two ticks differ, and 6 where that digit is a
-/// higher one (clause `digit`). In bits, it is a sixth of the place of the highest bit in which they
-/// differ (clause `rule`).
+/// It is the highest digit to the base 64 in which the two ticks differ, and at most 6 (clause `digit`). In bits, it is
+/// a sixth of the place of the highest bit in which they differ (clause `rule`).
 pub fn level_for(elapsed: u64, when: u64) -> usize
     ensures digit { result ≡ far_digit top_level elapsed when }
     ensures rule { IsLevel elapsed when result }

@@ -1,17 +1,17 @@
-//! Slots by numbers: in which list the slot of a tick is, and where it starts.
+//! Slots by numbers: the list of a tick's slot, and the slot's start.
 ghost use Rattle.std.specs.Prelude.{◌≡◌, ℕ, ◌+◌, ◌<◌, ◌≤◌, ◌^◌};
 ghost use Rattle.mono_wheel.specs.Start.{next_turn, slot_of, start, level_count, top_level};
 ghost use Rattle.mono_wheel.specs.Holdings.{place_of, place_in};
 
 use crate::level::{LEVELS, level_for};
 
-/// How many slots there are, whose lists come first.
+/// The number of slots. Their lists come first.
 pub const SLOTS: usize = LEVELS * 64;
 
 /// The pending list, after the slots.
 pub const PENDING: usize = SLOTS;
 
-/// The list of the slot of a tick that lies ahead.
+/// Returns the list of the slot of a tick ahead.
 pub fn place(elapsed: u64, when: u64) -> usize
     ensures { result ≡ place_of elapsed when }
 {
@@ -19,7 +19,7 @@ pub fn place(elapsed: u64, when: u64) -> usize
     level * 64 + slot_at(level, when)
 }
 
-/// The list in which a key stands that is registered at this tick.
+/// Returns the list of a key that is registered at this tick.
 pub fn standing(elapsed: u64, registered: u64) -> usize
     ensures { result ≡ place_in elapsed registered }
 {
@@ -30,7 +30,7 @@ pub fn standing(elapsed: u64, registered: u64) -> usize
     }
 }
 
-/// The slot of a tick at a level.
+/// Returns the slot of a tick at a level.
 pub fn slot_at(level: usize, tick: u64) -> usize
     requires { level < level_count }
     ensures value { result ≡ slot_of level tick }
@@ -39,7 +39,7 @@ pub fn slot_at(level: usize, tick: u64) -> usize
     ((tick >> (level * 6)) % 64) as usize
 }
 
-// The least number above `now` with the last digit of `goal`.
+// Returns the least number above `now` with the last digit of `goal`.
 fn turn_above(now: u64, goal: u64) -> u64
     requires { now < goal }
     ensures { result ≡ next_turn now goal }
@@ -48,7 +48,7 @@ fn turn_above(now: u64, goal: u64) -> u64
     if now < near { near } else { near + 64 }
 }
 
-/// How many ticks a slot of a level covers.
+/// Returns how many ticks a slot of a level covers.
 pub fn slot_size(level: usize) -> u64
     requires { level < level_count }
     ensures value { result ≡ 64 ^ level }
@@ -57,7 +57,7 @@ pub fn slot_size(level: usize) -> u64
     1 << (level * 6)
 }
 
-/// Where the slot of a tick that lies ahead starts.
+/// Returns the start of the slot of a tick ahead.
 pub fn slot_start(elapsed: u64, when: u64) -> u64
     requires { elapsed < when }
     ensures { result ≡ start top_level elapsed when }

@@ -1,4 +1,4 @@
-//! For each slot of a wheel a bit, which says whether its list has a node.
+//! A bit for each slot of a wheel, which says whether its list has a node.
 ghost use Rattle.std.specs.Prelude.{◌≡◌, ℕ, ◌*◌, ◌+◌, ◌<◌};
 ghost use Rattle.mono_wheel.specs.Bits.{occupied_bit, KeepsOthers, IsFirstAfter};
 ghost use Rattle.mono_wheel.specs.Start.{level_count, slot_count};
@@ -6,7 +6,7 @@ ghost use Rattle.mono_wheel.specs.Start.{level_count, slot_count};
 use crate::level::LEVELS;
 use std::marker::Model;
 
-/// One bit for each of the slots: bit `s` of level `l` is that of list `l * 64 + s`.
+/// One bit for each slot: bit `s` of level `l` is that of list `l * 64 + s`.
 #[derive(Drop)]
 pub struct Occupied {
     levels: [u64; LEVELS],
@@ -24,7 +24,7 @@ impl Model for Occupied {
 }
 
 impl Occupied {
-    /// No slot has a node.
+    /// Returns bits for slots without nodes.
     pub fn new() -> Occupied
         ensures { (list : ℕ) → list < slot_count → occupied_bit result list ≡ 0 }
     {
@@ -42,7 +42,7 @@ impl Occupied {
         self.levels[list / 64] |= 1 << (list % 64);
     }
 
-    /// Takes the bit of a slot away.
+    /// Clears the bit of a slot.
     pub fn clear(&mut self, list: usize)
         requires { list < slot_count }
         ensures here { occupied_bit self.new list ≡ 0 }
@@ -51,7 +51,7 @@ impl Occupied {
         self.levels[list / 64] &= !(1 << (list % 64));
     }
 
-    /// The first slot of a level whose bit is set, from the one after this slot on, this slot last.
+    /// Returns the first slot of a level whose bit is set, beginning after this slot and ending with it.
     pub fn first_after(&self, level: usize, slot: usize) -> Option<usize>
         requires level { level < level_count }
         requires slot { slot < 64 }

@@ -1,4 +1,4 @@
-//! The search for the next slot: that of the key whose slot starts first.
+//! The search for the key whose slot starts next.
 ghost use Rattle.std.specs.Prelude.{◌≤◌, MatchOption};
 ghost use Rattle.mono_wheel.specs.Holdings.{Held, IsNextSlot, NoSlots, NoSlotBy};
 
@@ -11,7 +11,7 @@ pub struct NextSlot {
     pub start: u64,
 }
 
-/// The slot that starts first of those that have a key.
+/// Returns the occupied slot that starts first.
 pub fn next_slot(elapsed: u64, links: &SlotLinks) -> Option<NextSlot>
     requires { Held elapsed links.now.entries links.now }
     ensures { MatchOption result (NoSlots elapsed links.now.entries) (λ slot. IsNextSlot elapsed links.now.entries slot.list slot.start) }
@@ -26,7 +26,7 @@ pub fn next_slot(elapsed: u64, links: &SlotLinks) -> Option<NextSlot>
     }
 }
 
-/// The same, where it starts at `now` or before.
+/// Returns the occupied slot that starts first, if it starts at `now` or before.
 pub fn slot_by(elapsed: u64, now: u64, links: &SlotLinks) -> Option<NextSlot>
     requires { Held elapsed links.now.entries links.now }
     ensures { MatchOption result (NoSlotBy elapsed now links.now.entries) (λ slot. IsNextSlot elapsed links.now.entries slot.list slot.start × (slot.start ≤ now)) }

@@ -1,4 +1,4 @@
-//! How far the clock goes on once it came to a slot.
+//! The tick that the clock reaches once it is at a slot.
 ghost use Rattle.std.specs.Prelude.{◌≡◌, ℕ, ◌+◌, ◌/◌, ◌<◌, ◌≤◌};
 ghost use Rattle.mono_wheel.specs.Start.{slot_count};
 ghost use Rattle.mono_wheel.specs.Credit.{takes};
@@ -11,7 +11,7 @@ use crate::search::NextSlot;
 use crate::slot_links::SlotLinks;
 use std::sync::ledger::Ledger;
 
-/// Returns how often a key with this tick is taken from a slot while the clock goes on from `start` to `goal`.
+/// Returns how often a key with this tick is taken from a slot while the clock moves from `start` to `goal`.
 pub fn takes_between(start: u64, goal: u64, tick: u64) -> u64
     requires ahead { start ≤ goal }
     requires within { goal ≤ tick }
@@ -33,7 +33,8 @@ pub fn takes_between(start: u64, goal: u64, tick: u64) -> u64
     count
 }
 
-// The tick of a key that is due in a slot of this start and length, but not above `now` and not past the slot's end.
+// Returns the tick of a key that is due in a slot of this start and length, but at most `now` and not past the slot's
+// end.
 fn within(start: u64, size: u64, tick: u64, now: u64) -> u64
     requires size { 0 < size }
     requires tick { start ≤ tick }
@@ -51,11 +52,10 @@ fn within(start: u64, size: u64, tick: u64, now: u64) -> u64
     }
 }
 
-/// The tick to which the clock goes on from the start of a slot whose list was taken.
+/// Returns the tick to which the clock moves from the start of a slot whose list was taken.
 ///
-/// Where the slot has several keys it is the start. Where it has one alone it is the key's true tick, but not
-/// above `now` and not past the slot's end: no other slot starts before that. The steps that are spared so are
-/// counted here.
+/// If the slot has several keys, this is the start. If it has only one, this is the key's true tick, but at most `now`
+/// and not past the slot's end: no other slot starts before that. It counts the steps that it skips.
 pub fn skip_to<L: Ledger>(slot: NextSlot, now: u64, links: &SlotLinks, steps: &mut Steps<L>) -> u64
     requires cascading { Cascading slot.start links.now.entries links.now }
     requires by { slot.start ≤ now }

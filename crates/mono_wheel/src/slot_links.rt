@@ -1,4 +1,4 @@
-//! The lists of a wheel, and which slots have a node.
+//! The lists of a wheel, and the slots that have a node.
 ghost use Rattle.std.specs.Prelude.{◌≡◌, ◌≢◌, ℕ, ◌+◌, ◌<◌, ◌≤◌, true, false, [], ◌∷◌, ◌++◌, List, replicate, IfOk, OnOk, OnErr, IfSome, is_some, if◌then◌else◌, length};
 ghost use Rattle.mono_wheel.specs.Rings.{Distinct};
 ghost use Rattle.mono_wheel.specs.Lists.{list_at, IsIn, IsLoose, is_node, entry_at, no_entry, with_list, with_entry, without, IsLast, PoppedBack, Added, Freed};
@@ -17,12 +17,11 @@ use std::sync::ledger::Ledger;
 /// The list of the keys that wait to be registered anew.
 pub const TAKEN: usize = PENDING + 1;
 
-// How many lists there are: the slots, the pending list, the taken list.
+// The number of lists: the slots, the pending list, the taken list.
 const LISTS: usize = TAKEN + 1;
 
-/// The lists of a wheel: one for each slot, the pending list, the taken list. A bit for each slot
-/// says whether its list has a node, so that the next slot is found in one look a level. A contract sees
-/// the lists alone.
+/// The lists of a wheel: one for each slot, the pending list, the taken list. A bit for each slot says whether its list
+/// has a node, so that the search looks once at each level. A contract sees the lists alone.
 #[derive(Drop)]
 pub struct SlotLinks {
     links: Links,
@@ -41,7 +40,7 @@ impl Model for SlotLinks {
 }
 
 impl SlotLinks {
-    /// Empty lists, and no node.
+    /// Makes empty lists, and no node.
     pub fn new(alloc: Global) -> Result<SlotLinks, AllocError>
         ensures lists { IfOk result (λ links. links.lists ≡ replicate list_count []) }
         ensures nodes { IfOk result (λ links. (node : ℕ) → is_node links node ≡ false) }
@@ -54,7 +53,7 @@ impl SlotLinks {
         })
     }
 
-    /// No node stands in two lists or twice in one, and each is a known node. Nothing is done.
+    /// Shows that no node is in two lists or twice in one, and that each is a known node. The call does nothing.
     pub fn lists_are_disjoint(&self)
         ensures once { (list : ℕ) → Distinct (list_at self.now list) }
         ensures apart { (list other node : ℕ) → IsIn node (list_at self.now list) → IsIn node (list_at self.now other) → list ≡ other }
@@ -64,7 +63,7 @@ impl SlotLinks {
         self.links.lists_are_disjoint();
     }
 
-    /// The last node of the list, or None exactly where it is empty.
+    /// Returns the last node of the list, or `None` if and only if the list is empty.
     pub fn last(&self, list: usize) -> Option<usize>
         requires { list < list_count }
         ensures { IsLast (list_at self.now list) result }
@@ -72,8 +71,8 @@ impl SlotLinks {
         self.links.last(list)
     }
 
-    /// The list of the first slot that has a node: of each level from the slot after the current one
-    /// on, the current slot last.
+    /// Returns the list of the first occupied slot: in each level from the slot after the current one on, the current
+    /// slot at the end.
     pub fn first_occupied(&self, elapsed: u64) -> Option<usize>
         ensures { IsFirstOccupied elapsed self.now result }
     {
@@ -85,14 +84,14 @@ impl SlotLinks {
         None
     }
 
-    /// Whether this is a known node.
+    /// Returns whether this is a known node.
     pub fn is_node(&self, node: usize) -> bool
         ensures { result ≡ is_node self.now node }
     {
         self.links.is_node(node)
     }
 
-    /// The ticks that a node carries, 0 and 0 where it was given none or is not known.
+    /// Returns the ticks of a node, 0 and 0 if it was given none or is not known.
     pub fn entry(&self, node: usize) -> Entry
         ensures { result ≡ entry_at self.now node }
     {
@@ -106,15 +105,15 @@ impl SlotLinks {
         self.links.end()
     }
 
-    /// Whether a node carries ticks.
+    /// Returns whether a node carries ticks.
     pub fn is_in(&self, node: usize) -> bool
         ensures { result ≡ is_some (timed_in self.now.entries node) }
     {
         self.links.entry(node).tick != 0
     }
 
-    /// The ticks that a known node carries, and nothing changes. It is looked up as for a write, so that a write
-    /// right after it looks for nothing.
+    /// Returns the ticks of a known node; nothing changes. It looks the node up as for a write, so that a write
+    /// directly afterwards looks up nothing.
     pub fn known_entry(&mut self, node: usize) -> Entry
         requires { is_node self.old node ≡ true }
         ensures value { result ≡ entry_at self.old node }
@@ -123,7 +122,7 @@ impl SlotLinks {
         self.links.known_entry(node)
     }
 
-    /// Lets a node carry these ticks.
+    /// Gives a node these ticks.
     pub fn set_entry(&mut self, node: usize, entry: Entry)
         requires { is_node self.old node ≡ true }
         ensures { self.new ≡ with_entry self.old node entry }
@@ -131,7 +130,7 @@ impl SlotLinks {
         self.links.set_entry(node, entry);
     }
 
-    /// Puts a node that is in no list before the first, and lets it carry these ticks.
+    /// Inserts a node that is in no list before the first, and gives it these ticks.
     pub fn put_front(&mut self, list: usize, node: usize, entry: Entry)
         requires list { list < list_count }
         requires loose { IsLoose self.old node }
@@ -143,7 +142,7 @@ impl SlotLinks {
         }
     }
 
-    /// Takes a node out of its list; the order of the others stays.
+    /// Removes a node from its list; the order of the others stays.
     pub fn remove(&mut self, list: usize, node: usize)
         requires list { list < list_count }
         requires within { IsIn node (list_at self.old list) }
@@ -158,14 +157,14 @@ impl SlotLinks {
         }
     }
 
-    /// The node of the taken list where it has one alone, or None where it has none or several.
+    /// Returns the node of the taken list if it has only one, or `None` if it has none or several.
     pub fn only_taken(&self) -> Option<usize>
         ensures { IfSome result (λ node. list_at self.now taken_list ≡ node ∷ []) }
     {
         self.links.only(TAKEN)
     }
 
-    /// Returns the node of a list that has one alone, or None if the list has none or several.
+    /// Returns the node of a list with only one, or `None` if the list has none or several.
     pub fn only_in(&self, list: usize) -> Option<usize>
         requires { list < list_count }
         ensures { IfSome result (λ node. list_at self.now list ≡ node ∷ []) }
@@ -173,8 +172,8 @@ impl SlotLinks {
         self.links.only(list)
     }
 
-    /// Takes the last node of the taken list out, as one step, or answers None exactly where that
-    /// list is empty, as no step.
+    /// Removes and returns the last node of the taken list, as one step, or returns `None` if and only if that list is
+    /// empty, as no step.
     pub fn pop_taken<L: Ledger>(&mut self, steps: &mut Steps<L>) -> Option<usize>
         ensures popped { PoppedBack self.old self.new taken_list result }
         ensures loose { IfSome result (λ node. IsLoose self.new node) }
@@ -183,7 +182,7 @@ impl SlotLinks {
         self.links.pop_back(TAKEN, steps)
     }
 
-    /// Moves the whole list of a slot to the taken list, which is empty, in the time of an exchange.
+    /// Moves the whole list of a slot to the taken list, which is empty, in constant time.
     pub fn take(&mut self, slot: usize)
         requires slot { slot < slot_count }
         requires empty { list_at self.old taken_list ≡ [] }
@@ -193,7 +192,7 @@ impl SlotLinks {
         self.occupied.clear(slot);
     }
 
-    /// A new node, in no list. It takes no memory: there is room for it.
+    /// Adds a node, in no list. It takes no memory: there is room for it.
     pub fn add_node(&mut self) -> usize
         requires { 0 < self.old.room }
         ensures { Added self.old self.new result }
@@ -201,7 +200,7 @@ impl SlotLinks {
         self.links.add_node()
     }
 
-    /// Lets go of a node that is in no list; its room can be used again.
+    /// Frees a node that is in no list; its room can be used again.
     pub fn free_node(&mut self, node: usize)
         requires { IsLoose self.old node }
         ensures { Freed self.old self.new node }
@@ -209,7 +208,7 @@ impl SlotLinks {
         self.links.free_node(node);
     }
 
-    /// Makes sure of memory for so many more nodes, as that of `Links`.
+    /// Reserves memory for `more` nodes, as `Links` does.
     pub fn reserve(&mut self, alloc: Global, more: usize) -> Result<(), AllocError>
         ensures room { OnOk result (more ≤ self.new.room) }
         ensures kept { self.new ≡ record self.old { room = self.new.room } }
