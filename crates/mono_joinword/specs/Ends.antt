@@ -1,4 +1,4 @@
--- What clauses see of the two ends and of their last seats: the views.
+-- The views of the two ends and of their last seats in clauses.
 use Rattle.std.specs.Prelude.{◌≡◌, ℕ, ◌⊎◌, Bool}
 use Rattle.mono_joinword.specs.declared.views.Stage.{Stage}
 use Rattle.mono_joinword.specs.declared.views.Stage.TheVariants.{Working, Completed}
@@ -17,14 +17,14 @@ runner_of (Maker n b) = record { number = n; stage = Working }
 runner_of (Runner r) = r
 runner_of (Joiner j) = record { number = j.number; stage = Working }
 
--- what the runner knows, before its completing step and after it
+-- The runner's view, before its completing step and after it.
 abbrev pub runner_view : {O W : Type 0} → RunnerEnd O W → RunnerView
 runner_view r = runner_of r.seat.me.0
 
 abbrev pub seat_view : {O W : Type 0} → RunnerSeat O W → RunnerView
 seat_view s = runner_of s.seat.me.0
 
--- the word that the completing step found: 0, 8 or 24
+-- The word that the completing step found: 0, 8 or 24.
 abbrev pub found_at : Stage → ℕ
 found_at Working = 0
 found_at (Completed found canceled woke) = found
@@ -34,29 +34,30 @@ abbrev pub woke_at : Stage → ℕ
 woke_at Working = 0
 woke_at (Completed found canceled woke) = woke
 
--- completed, with an output that is Canceled or not
+-- The runner completed, with an output that is Canceled or not.
 abbrev pub IsCompleted : Bool → Stage → Type 0
 IsCompleted canceled s = (s ≡ Completed (found_at s) canceled (woke_at s)) × ((found_at s ≡ 0) ⊎ (found_at s ≡ 8) ⊎ (found_at s ≡ 24))
 
--- what the joiner knows, between two calls and after its last step
+-- The joiner's view, between two calls and after its last step.
 abbrev pub joiner_view : {O W : Type 0} → JoinerEnd O W → JoinerView
 joiner_view j = joiner_of j.seat.me.0
 
 abbrev pub last_view : {O W : Type 0} → JoinerSeat O W → JoinerView
 last_view s = joiner_of s.seat.me.0
 
--- both ends of one word
+-- Both ends are of one word.
 abbrev pub SamePair : {O W : Type 0} → RunnerEnd O W → JoinerEnd O W → Type 0
 SamePair r j = r.seat.table_id ≡ j.seat.table_id
 
--- a joiner before and after a call is on one word
+-- A joiner before and after a call is on one word.
 abbrev pub SameWord : {O W : Type 0} → JoinerEnd O W → JoinerEnd O W → Type 0
 SameWord j k = k.seat.table_id ≡ j.seat.table_id
 
--- The seat that is left has no output and no waker: the completing step left the output for the joiner, or it was taken back; and a waker that the step found was taken.
+-- The remaining seat has no output and no waker. The completing step left the output for the joiner, or it was taken
+-- back. A waker that the step found was taken.
 abbrev pub RunnerLeft : {O W : Type 0} → RunnerEnd O W → RunnerSeat O W → Type 0
 RunnerLeft r s = (s.seat.table_id ≡ r.seat.table_id) × Emptied s.seat.me.1
 
--- The same of the joiner's seat: what it took is handed out or dropped.
+-- The same of the joiner's seat: everything that it took is handed out or dropped.
 abbrev pub JoinerLeft : {O W : Type 0} → JoinerEnd O W → JoinerSeat O W → Type 0
 JoinerLeft j s = (s.seat.table_id ≡ j.seat.table_id) × Emptied s.seat.me.1

@@ -1,4 +1,4 @@
--- What follows from the rule, and that each kind of step keeps it.
+-- The consequences of the rule, and that each kind of step keeps it.
 use Rattle.std.specs.Prelude.{⊤, ◌≡◌, ◌≢◌, ℕ, ◌⊎◌, Bool, true, false, eqb, bit_or, slice_index, List, [], ◌∷◌, Option, Some, Result}
 use mathlib.Core.Option.{none, some}
 use lib.ListN.{get_elem?}
@@ -17,23 +17,24 @@ use Rattle.mono_joinword.specs.Rule.{Joined, Sound}
 use Rattle.mono_joinword.specs.Steps.{My, claims, completes, peeks, looks, clears, places, cancels, tries}
 
 module _ {O W : Type 0} (output_number : O → ℕ) (waker_number : W → ℕ) where
-  -- the seat m may change the word by f, whatever the table is, and the rule holds afterwards
+  -- The seat m may change the word by f, whatever the table is, and the rule holds afterwards.
   abbrev pub May : ℕ → My O W → (ℕ → ℕ) → (My O W → ℕ → My O W → Type 0) → Type 0
   May n m f play = (slots id : ℕ) → Allows (Joined output_number waker_number n) slots id m 0 f (play m)
 
-  -- the maker's load and the split
+  -- The maker's load and the split keep the rule.
   abbrev pub MakingKeeps : Type 0
   MakingKeeps = (n : ℕ) → May n (Maker n false, []) (λ x. x) claims × ((id : ℕ) → Splits (Joined output_number waker_number n) id (Maker n true) (runner_at n Working) (Joiner (fresh n)))
 
-  -- the runner's step, once the output of the pair is in the slot that it has
+  -- The runner's step keeps the rule, once the output of the pair is in its slot.
   abbrev pub CompletingKeeps : Type 0
   CompletingKeeps = (n : ℕ) (r : Result O JoinError) → HasNumber output_number n r → May n (runner_at n Working, (0, Some (Output r)) ∷ []) (λ x. bit_or x 2) (completes waker_number)
 
-  -- a joiner of the pair n that did not cancel, and has the waker slot or not
+  -- A joiner of the pair n that did not cancel, and has the waker slot or not.
   abbrev pub IsOpen : ℕ → Bool → JoinerView → Type 0
   IsOpen n holds j = (j.number ≡ n) × (j.cancelled ≡ false) × (j.took ≡ false) × (j.holds ≡ holds)
 
-  -- The joiner's steps: a load that takes nothing at any time before a cancel, and the steps of a poll and a cancel before it took the output.
+  -- The joiner's steps keep the rule: a load that takes nothing at any time before a cancel, and the steps of a poll
+  -- and a cancel before it took the output.
   abbrev pub PeekingKeeps : Type 0
   PeekingKeeps = (n : ℕ) (j : JoinerView) (list : List (ℕ × Option (Kept O W))) → j.number ≡ n → j.cancelled ≡ false → May n (Joiner j, list) (λ y. y) peeks
 
@@ -49,25 +50,26 @@ module _ {O W : Type 0} (output_number : O → ℕ) (waker_number : W → ℕ) w
   abbrev pub CancellingKeeps : Type 0
   CancellingKeeps = (n : ℕ) (j : JoinerView) → IsOpen n false j → May n (Joiner j, []) (λ y. either (eqb y (bits false j.waker)) 0 y) (cancels output_number)
 
-  -- the same step after the output was taken
+  -- The same step keeps the rule after the output was taken.
   abbrev pub TryingKeeps : Type 0
   TryingKeeps = (n old : ℕ) (j : JoinerView) (list : List (ℕ × Option (Kept O W))) → j.number ≡ n → j.cancelled ≡ false → j.took ≡ true → ((old ≡ 8) ⊎ (old ≡ 24)) → May n (Joiner j, list) (λ y. either (eqb y old) 0 y) tries
 
-  -- between two steps, with the runner at this stage and this joiner
+  -- The state between two steps, with the runner at this stage and this joiner.
   abbrev pub Stands : ℕ → Stage → JoinerView → State (Option (Kept O W)) View → Type 0
   Stands n stage j s = Joined output_number waker_number n s × (s.views ≡ runner_at n stage ∷ Joiner j ∷ [])
 
-  -- A joiner that was told Pending, in a word that is complete: the completing step found its waker and took it.
+  -- If a joiner returned Pending and the word is complete, the completing step found its waker and took it.
   abbrev pub ToldIsWoken : Type 0
   ToldIsWoken = (n found woke : ℕ) (canceled : Bool) (j : JoinerView) (s : State (Option (Kept O W)) View) → Stands n (Completed found canceled woke) j s
       → j.told ≡ true → j.cancelled ≡ false → (found ≡ 24) × (woke ≡ j.waker_number)
 
-  -- A joiner that took the output: the word is complete with interest, so the runner did not take it back; it is Canceled as the runner says; and none is in the slot.
+  -- If a joiner took the output, the word is complete with interest, so the runner did not take it back. The output is
+  -- Canceled as the runner says, and none is in the slot.
   abbrev pub ComesOnce : Type 0
   ComesOnce = (n : ℕ) (stage : Stage) (j : JoinerView) (s : State (Option (Kept O W)) View) → Stands n stage j s → j.took ≡ true
       → (found : ℕ) × (woke : ℕ) × (stage ≡ Completed found j.took_canceled woke) × (found ≢ 0) × (j.saw ≡ true) × (get_elem? s.homes 0 ≡ some none)
 
-  -- before the completing step no output was seen or taken, and none is there for the joiner
+  -- Before the completing step no output was seen or taken, and none is there for the joiner.
   abbrev pub NeverBefore : Type 0
   NeverBefore = (n : ℕ) (j : JoinerView) (s : State (Option (Kept O W)) View) → Stands n Working j s → (j.saw ≡ false) × (j.took ≡ false) × (get_elem? s.homes 0 ≡ some none)
 
@@ -77,7 +79,8 @@ module _ {O W : Type 0} (output_number : O → ℕ) (waker_number : W → ℕ) w
   abbrev pub SixWords : Type 0
   SixWords = (n : ℕ) (s : State (Option (Kept O W)) View) → Joined output_number waker_number n s → OneOfSix (slice_index s.words 0)
 
-  -- A joiner that did not cancel and took no output may not store 0, even where the store tells nothing: it could clear COMPLETE.
+  -- A joiner that did not cancel and took no output may not store 0, even if the store reads nothing: it could clear
+  -- COMPLETE.
   abbrev pub NoStore : Type 0
   NoStore = (n : ℕ) (j : JoinerView) (list : List (ℕ × Option (Kept O W))) → Sound output_number waker_number n j → j.cancelled ≡ false → j.took ≡ false
       → Allows (Joined output_number waker_number n) 2 1 (Joiner j, list) 0 (λ _. 0) (λ found after. ⊤) → ⊥

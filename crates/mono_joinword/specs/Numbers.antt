@@ -1,4 +1,4 @@
--- The number of an output that is yes or no.
+-- The number of a boolean output.
 use Rattle.std.specs.Prelude.{ℕ, Bool, true, false}
 
 abbrev pub bool_number : Bool → ℕ

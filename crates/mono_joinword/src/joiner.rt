@@ -13,7 +13,7 @@ use std::sync::Arc;
 mod calls;
 mod steps;
 
-/// The end of who waits for the job. `placed` is the number of the waker in place.
+/// The end of the party that waits for the job. `placed` is the number of the waker in place.
 #[derive(Drop)]
 pub struct Joiner<O: Outcome + Drop, W: Wakes + Drop> {
     pub(crate) word: Arc<Word<O, W>, Global>,
@@ -25,17 +25,17 @@ pub struct Joiner<O: Outcome + Drop, W: Wakes + Drop> {
     ghost rests: { Rests (arc_value word).shared.key placed taken seat.me },
 }
 
-/// The joiner's seat after its last step. Contracts see its view; it may be let go at any time.
+/// The joiner's seat after its last step. Contracts see its view; it may be dropped at any time.
 #[derive(Drop)]
 pub struct JoinerSeat<O, W> {
     pub(crate) seat: Seat<Option<Kept<O, W>>, View>,
 }
 
-/// What a cancel gave.
+/// The result of a cancel.
 #[derive(Drop)]
 pub struct Cancelled<O, W> {
-    /// The output, exactly where the step found the word complete and the output was not taken.
+    /// The output, if and only if the step found the word complete and the output was not taken.
     pub output: Option<Result<O, JoinError>>,
-    /// What the step saw, for contracts.
+    /// The view of the step, for contracts.
     pub seat: JoinerSeat<O, W>,
 }

@@ -1,5 +1,5 @@
 //! The join word: one atomic word and two slots between the runner of a job and its joiner. One slot keeps the output,
-//! the other the joiner's waker. No call waits, tries a step twice or, but for `pair`, takes memory.
+//! the other the joiner's waker. No call waits or retries a step, and only `pair` takes memory.
 #![tactic(auto)]
 
 mod joiner;

@@ -1,4 +1,4 @@
-// Makes both ends of a word.
+// The call that makes both ends of a word.
 ghost use Rattle.std.specs.Prelude.{◌≡◌, IfOk};
 ghost use Rattle.mono_joinword.specs.Views.{fresh};
 ghost use Rattle.mono_joinword.specs.Ends.{runner_view, joiner_view, SamePair};
@@ -11,8 +11,8 @@ use crate::word::{Claim, Halves, JOIN_INTEREST, Word};
 use std::alloc::{AllocError, Global};
 use std::sync::Arc;
 
-/// Makes the two ends of a new word, for a job whose output will have this number. It takes memory, and the one
-/// refusal is want of memory.
+/// Makes the two ends of a new word, for a job whose output will have this number. It takes memory, and is refused only
+/// if out of memory.
 pub fn pair<O: Outcome + Drop, W: Wakes + Drop>(
     alloc: Global,
     number: u64,

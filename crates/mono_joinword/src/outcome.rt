@@ -1,28 +1,28 @@
 // Outputs and wakers by their numbers, and the one error of a job.
 ghost use Rattle.std.specs.Prelude.{◌≡◌, ℕ};
 
-/// Names a waker: what a contract says of the waker that comes back, it says of this number.
+/// A waker with a number, by which a contract identifies the waker that comes back.
 pub trait Wakes {
     ghost waker_number: { Self → ℕ };
 
-    /// The waker's number, the same at each call.
+    /// Returns the waker's number, the same at each call.
     fn number(&self) -> u64
         ensures { result ≡ waker_number self.now };
 }
 
-/// Numbers an output, so that an output can be told to be that of its pair.
+/// An output with a number, which shows that an output is that of its pair.
 pub trait Outcome {
     ghost output_number: { Self → ℕ };
 
-    /// The output's number, the same at each call.
+    /// Returns the output's number, the same at each call.
     fn number(&self) -> u64
         ensures { result ≡ output_number self.now };
 }
 
-/// Why a job has no output.
+/// The reason why a job has no output.
 #[derive(Clone, Copy, Debug, PartialEq, Eq)]
 pub enum JoinError {
-    /// The job was let go before it was done.
+    /// The job was dropped before it was done.
     Canceled,
 }
 

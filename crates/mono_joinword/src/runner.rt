@@ -13,7 +13,7 @@ use std::sync::Arc;
 
 mod calls;
 
-/// The end of who runs the job. It has the output slot, which is empty, and ends in `complete`.
+/// The end of the party that runs the job. It has the output slot, which is empty, and ends in `complete`.
 pub struct Runner<O: Outcome + Drop, W: Wakes + Drop> {
     pub(crate) word: Arc<Word<O, W>, Global>,
     pub(crate) seat: Seat<Option<Kept<O, W>>, View>,
@@ -22,24 +22,24 @@ pub struct Runner<O: Outcome + Drop, W: Wakes + Drop> {
     ghost works: { seat.me ≡ (runner_at (arc_value word).shared.key Working, (0, None) ∷ []) },
 }
 
-/// The runner's seat after its completing step. Contracts see its view; it may be let go at any time.
+/// The runner's seat after its completing step. Contracts see its view; it may be dropped at any time.
 #[derive(Drop)]
 pub struct RunnerSeat<O, W> {
     pub(crate) seat: Seat<Option<Kept<O, W>>, View>,
 }
 
-/// What the completing step gave.
+/// The result of the completing step.
 #[derive(Drop)]
 pub struct Completed<O, W> {
-    /// The waker, exactly where the step found interest and a waker. It is not woken yet.
+    /// The waker, if and only if the step found interest and a waker. It is not woken yet.
     pub woke: Option<W>,
-    /// Whether the output was dropped: exactly where the step found no interest.
+    /// Whether the output was dropped, which is if and only if the step found no interest.
     pub dropped: bool,
-    /// What the step saw, for contracts.
+    /// The view of the step, for contracts.
     pub seat: RunnerSeat<O, W>,
 }
 
-/// A runner that is let go completes its word with `Canceled`, and wakes nobody.
+/// A runner that is dropped completes its word with `Canceled`, and wakes no task.
 impl<O: Outcome + Drop, W: Wakes + Drop> Drop for Runner<O, W> {
     fn drop(self) {
         drop(self.complete(Err(JoinError::Canceled)));

@@ -1,24 +1,24 @@
-// What stands in a slot, and what each seat knows. Values of the views exist in proofs alone.
+// The content of a slot, and the knowledge of each seat. Values of the views exist in proofs alone.
 use crate::outcome::JoinError;
 use std::collections::LinkedList;
 
-/// What a slot keeps: slot 0 an output, slot 1 a waker.
+/// The content of a slot: an output in slot 0, a waker in slot 1.
 #[derive(Drop)]
 pub enum Kept<O, W> {
     Output(Result<O, JoinError>),
     Waker(W),
 }
 
-/// How far the runner is.
+/// The runner's progress.
 pub enum Stage {
-    /// The completing step was not made. Whether the output is in its slot by now, the runner's seat alone knows.
+    /// The completing step was not made. Only the runner's seat knows whether the output is in its slot by now.
     Working,
     /// The completing step was made: the word that it found, whether the output is Canceled, and the number of the
-    /// waker that it took, where it found one.
+    /// waker that it took, if it found one.
     Completed(u64, bool, u64),
 }
 
-/// What the runner knows: the pair's number, and how far it is.
+/// The runner's knowledge: the pair's number, and its progress.
 pub struct RunnerView {
     pub number: u64,
     pub stage: Stage,
@@ -36,19 +36,19 @@ pub enum Kind {
     Cancel,
 }
 
-/// What the joiner knows.
+/// The joiner's knowledge.
 pub struct JoinerView {
     /// The pair's number.
     pub number: u64,
-    /// Whether it cancelled: its interest is in the word exactly where it did not.
+    /// Whether it cancelled. Its interest is in the word if and only if it did not.
     pub cancelled: bool,
     /// Whether a waker is in place: the word's waker bit.
     pub waker: bool,
-    /// The number of the waker that is in place, or was last.
+    /// The number of the waker that is in place, or was in place last.
     pub waker_number: u64,
     /// Whether its seat has the waker slot.
     pub holds: bool,
-    /// Whether it was told Pending with the waker that is in place.
+    /// Whether it returned Pending with the waker that is in place.
     pub told: bool,
     /// Whether it saw COMPLETE.
     pub saw: bool,
@@ -60,7 +60,7 @@ pub struct JoinerView {
     pub steps: LinkedList<(Kind, u64)>,
 }
 
-/// What a seat of the table knows. The maker's is there before the split, and says whether it has the output slot.
+/// The knowledge of a seat of the table. The maker's exists before the split, and says whether it has the output slot.
 pub enum View {
     Maker(u64, bool),
     Runner(RunnerView),

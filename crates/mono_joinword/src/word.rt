@@ -1,4 +1,4 @@
-// The word with its bits, its rule, and the kinds of step that are made on it.
+// The word with its bits, its rule, and the kinds of its steps.
 ghost use Rattle.mono_joinword.specs.Rule.{Joined};
 ghost use Rattle.mono_joinword.specs.Steps.{first_view, runner_half, joiner_half, claims, completes, peeks, looks, clears, places, cancels, tries};
 
@@ -8,7 +8,7 @@ use atomic_table::{Play, Split, Table, TableRule};
 use std::alloc::Global;
 use std::marker::PhantomData;
 
-/// The job is complete: its output is there for the joiner, or nobody waits for it.
+/// The job is complete: its output is there for the joiner, or no party waits for it.
 pub const COMPLETE: u64 = 2;
 
 /// The joiner did not cancel.
@@ -61,7 +61,7 @@ impl<O, W> Play<Option<Kept<O, W>>, View> for Peek {
     ghost then = { λ st. peeks };
 }
 
-/// A poll's load takes the output where the word is complete, and the waker slot where no waker is in place.
+/// A poll's load takes the output if the word is complete, and the waker slot if no waker is in place.
 pub struct Look;
 
 impl<O: Outcome, W> Play<Option<Kept<O, W>>, View> for Look {

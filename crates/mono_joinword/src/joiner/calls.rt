@@ -12,11 +12,12 @@ use crate::outcome::{JoinError, Outcome, Wakes};
 use mono_model::Poll;
 
 impl<O: Outcome + Drop, W: Wakes + Drop> Joiner<O, W> {
-    /// Asks for the output, which no earlier poll may have given. Ready with it where a step of this call saw the
-    /// word complete. Pending only where the step of this call that placed the waker, or the load that found one
-    /// with its number in place, saw the word incomplete; `pending` says what then is known. A waker with the number
-    /// of the one in place is let go, and one with another number takes its place. `answer` lists each step that the
-    /// call made.
+    /// Polls for the output, which no earlier poll may have returned.
+    ///
+    /// Returns Ready with it if and only if a step of this call saw the word complete. Returns Pending only if the step
+    /// that placed the waker, or the load that found one with its number in place, saw the word incomplete; `pending`
+    /// says what then is known. A waker with the number of the one in place is dropped, and one with another number
+    /// replaces it. `answer` lists each step of the call.
     pub fn poll(&mut self, waker: W) -> Poll<Result<O, JoinError>>
         requires { (joiner_view self.old).took ≡ false }
         ensures word { SameWord self.old self.new }
@@ -33,7 +34,7 @@ impl<O: Outcome + Drop, W: Wakes + Drop> Joiner<O, W> {
         answer
     }
 
-    /// Whether its one load saw the word complete.
+    /// Returns whether its one load saw the word complete.
     pub fn is_finished(&mut self) -> bool
         ensures word { SameWord self.old self.new }
         ensures answer { Peeked (joiner_view self.old) result (joiner_view self.new) }
@@ -41,16 +42,16 @@ impl<O: Outcome + Drop, W: Wakes + Drop> Joiner<O, W> {
         peek_seat(&self.word, &mut self.seat)
     }
 
-    /// Whether a poll answered Ready. It makes no step.
+    /// Returns whether a poll answered Ready. It makes no step.
     pub fn is_taken(&self) -> bool
         ensures { result ≡ (joiner_view self.now).took }
     {
         self.taken
     }
 
-    /// Ends the interest by one step. The output comes back exactly where that step found the word complete and the
-    /// output was not taken; a waker in place is let go where the step found the word incomplete. `seat` says what
-    /// the step saw.
+    /// Ends the interest by one step. The output comes back if and only if that step found the word complete and the
+    /// output was not taken. A waker in place is dropped if the step found the word incomplete. `seat` says what the
+    /// step saw.
     pub fn cancel_with_seat(self) -> Cancelled<O, W>
         ensures answer { Cancels O.output_number (joiner_view self) result.output (last_view result.seat) }
         ensures left { JoinerLeft self result.seat }
@@ -73,7 +74,7 @@ impl<O: Outcome + Drop, W: Wakes + Drop> Joiner<O, W> {
         }
     }
 
-    /// The same, without the seat.
+    /// Ends the interest as `cancel_with_seat` does, without returning the seat.
     pub fn cancel(self) -> Option<Result<O, JoinError>>
         ensures answer { (after : JoinerView) × Cancels O.output_number (joiner_view self) result after }
         ensures number { IfSome result (HasNumber O.output_number (joiner_view self).number) }

@@ -15,7 +15,7 @@ use crate::word::{
 use atomic_table::Seat;
 use mono_model::Poll;
 
-// The output is in the slot that the seat took last.
+// Takes the output from the slot that the seat took last.
 pub(super) fn take_output<O: Outcome + Drop, W: Wakes + Drop>(
     word: &Word<O, W>,
     seat: &mut Seat<Option<Kept<O, W>>, View>,
@@ -29,7 +29,7 @@ pub(super) fn take_output<O: Outcome + Drop, W: Wakes + Drop>(
     r
 }
 
-// The waker is in the slot that the seat took last.
+// Takes the waker from the slot that the seat took last.
 pub(super) fn take_waker<O: Outcome + Drop, W: Wakes + Drop>(
     word: &Word<O, W>,
     seat: &mut Seat<Option<Kept<O, W>>, View>,
@@ -43,7 +43,7 @@ pub(super) fn take_waker<O: Outcome + Drop, W: Wakes + Drop>(
     w
 }
 
-// The seat has the waker slot, and no waker is in place.
+// Places the waker in the waker slot, which the seat has; no waker is in place.
 pub(super) fn place<O: Outcome + Drop, W: Wakes + Drop>(
     word: &Word<O, W>,
     seat: &mut Seat<Option<Kept<O, W>>, View>,
@@ -70,14 +70,15 @@ pub(super) fn place<O: Outcome + Drop, W: Wakes + Drop>(
     Poll::Ready(take_output(word, seat))
 }
 
-// Whether the waker in place has this number.
+// Returns whether the waker in place has this number.
 fn is_placed(placed: Option<u64>, number: u64) -> bool
     ensures { IsTrue result ↔ (placed ≡ Some number) }
 {
     placed == Some(number)
 }
 
-// The load found a waker in place, whose number is `placed`. It stays where the new one has the same number.
+// Replaces the waker in place, whose number is `placed`, which the load found. It stays if the new one has the same
+// number.
 pub(super) fn replace<O: Outcome + Drop, W: Wakes + Drop>(
     word: &Word<O, W>,
     seat: &mut Seat<Option<Kept<O, W>>, View>,
@@ -105,7 +106,7 @@ pub(super) fn replace<O: Outcome + Drop, W: Wakes + Drop>(
     Poll::Ready(take_output(word, seat))
 }
 
-// The joiner took no output, and `placed` is the number of the waker in place.
+// Polls on the seat of a joiner that took no output. `placed` is the number of the waker in place.
 pub(super) fn poll_seat<O: Outcome + Drop, W: Wakes + Drop>(
     word: &Word<O, W>,
     seat: &mut Seat<Option<Kept<O, W>>, View>,
@@ -130,7 +131,7 @@ pub(super) fn poll_seat<O: Outcome + Drop, W: Wakes + Drop>(
     Poll::Ready(take_output(word, seat))
 }
 
-// The word before it is complete.
+// Returns the word before it is complete.
 fn word_with(placed: Option<u64>) -> u64
     ensures { result ≡ bits false (has_waker placed) }
 {
@@ -140,7 +141,7 @@ fn word_with(placed: Option<u64>) -> u64
     }
 }
 
-// One load.
+// Makes one load.
 pub(super) fn peek_seat<O: Outcome + Drop, W: Wakes + Drop>(
     word: &Word<O, W>,
     seat: &mut Seat<Option<Kept<O, W>>, View>,
@@ -155,7 +156,7 @@ pub(super) fn peek_seat<O: Outcome + Drop, W: Wakes + Drop>(
     found & COMPLETE != 0
 }
 
-// One step, which clears both bits where the word is not complete.
+// Makes one step, which clears both bits if the word is not complete.
 pub(super) fn cancel_seat<O: Outcome + Drop, W: Wakes + Drop>(
     word: &Word<O, W>,
     seat: &mut Seat<Option<Kept<O, W>>, View>,
@@ -179,7 +180,7 @@ pub(super) fn cancel_seat<O: Outcome + Drop, W: Wakes + Drop>(
     Some(take_output(word, seat))
 }
 
-// One step after the output was taken, which finds the word complete and gives nothing.
+// Makes one step after the output was taken, which finds the word complete and returns nothing.
 pub(super) fn try_seat<O: Outcome + Drop, W: Wakes + Drop>(
     word: &Word<O, W>,
     seat: &mut Seat<Option<Kept<O, W>>, View>,

@@ -9,10 +9,9 @@ use crate::views::Kept;
 use crate::word::{COMPLETE, Complete, JOIN_INTEREST, JOIN_WAKER};
 
 impl<O: Outcome + Drop, W: Wakes + Drop> Runner<O, W> {
-    /// Ends the job with an output of the pair's number, or with Canceled. One step completes the word. Where it
-    /// found no interest (0) the output is dropped; else the output is left for the joiner. Where it found interest
-    /// and a waker (24) that waker comes back. `seat` says which word the step found and whether the output is
-    /// Canceled.
+    /// Ends the job with an output of the pair's number, or with Canceled. One step completes the word. If it found no
+    /// interest (0), the output is dropped; otherwise it is left for the joiner. If it found interest and a waker (24),
+    /// that waker comes back. `seat` says which word the step found and whether the output is Canceled.
     pub fn complete(self, outcome: Result<O, JoinError>) -> Completed<O, W>
         requires { IfOk outcome (λ o. O.output_number o ≡ (runner_view self).number) }
         ensures seat { ((seat_view result.seat).number ≡ (runner_view self).number) × IsCompleted (is_canceled outcome) (seat_view result.seat).stage }
