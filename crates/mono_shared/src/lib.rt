@@ -1,4 +1,4 @@
-//! A value that the tasks of one runtime share, and the context that lends it to a running task.
+//! A value that the tasks of one runtime share, and the context through which a running task borrows it.
 #![tactic(auto)]
 
 mod context;
