@@ -1,4 +1,4 @@
--- What one poll of a future that waits for another value answers and leaves.
+-- The answer and the effect of one poll of a future that waits for another value.
 use Rattle.std.specs.Prelude.{⊤, ◌≡◌, ◌⊎◌, ℕ, List, Option, Some, None, Result, Ok, Err}
 use Rattle.mono_model.specs.Tasks.{Tasks, all_woken}
 use Rattle.mono_model.specs.declared.poll.Poll.{Poll}
@@ -13,18 +13,19 @@ use Rattle.mono_sync.specs.Watches.{Sends, Changes, GivesUp, Closes}
 use Rattle.mono_sync.specs.Wakes.{tasks_of}
 
 module _ {T C : Type 0} (part : C → Watch T) (number : C → ℕ) (work : C → Tasks ⊤) where
-  -- The answer of the watched value is the future's, and nobody is woken. A pending future stands in the line with its ticket.
+  -- The answer of the watched value is the future's, and no task is woken. A pending future is in the line with its
+  -- ticket.
   abbrev pub ChangedPolls : ℕ → Option ℕ → C → Poll (Result ℕ ChangedError) → Option ℕ → C → Type 0
   ChangedPolls seen ticket c (Ready (Ok v)) left d = Changes (part c) seen ticket (number c) (changing.Changed v) (part d) × (work d ≡ work c)
   ChangedPolls seen ticket c (Ready (Err Closed)) left d = Changes (part c) seen ticket (number c) changing.Closed (part d) × (work d ≡ work c)
   ChangedPolls seen ticket c (Ready (Err Memory)) left d = Changes (part c) seen ticket (number c) changing.Memory (part d) × (work d ≡ work c)
   ChangedPolls seen ticket c Pending left d = ((left ≡ ticket) × Changes (part c) seen ticket (number c) changing.Waits (part d) × (work d ≡ work c)) ⊎ ((t : ℕ) × ((left ≡ Some t) × Changes (part c) seen ticket (number c) (changing.Joined t) (part d) × (work d ≡ work c)))
 
-  -- the value is replaced, and all who wait are woken in order; or it comes back
+  -- The value is replaced and all waiting tasks are woken in order, or the new value comes back.
   abbrev pub SendWakes : C → T → Result T T → C → Type 0
   SendWakes c x (Ok old) d = (r : Replaced T) × (Sends (part c) x (Ok r) (part d) × (old ≡ r.old) × (work d ≡ all_woken (work c) (tasks_of r.woken.items)))
   SendWakes c x (Err y) d = Sends (part c) x (Err y) (part d) × (work d ≡ work c)
 
-  -- all who wait leave the line, and are woken in order
+  -- All waiting tasks leave the line and are woken in order.
   abbrev pub CloseWakes : C → C → Type 0
   CloseWakes c d = (woken : List Waiter) × (Closes (part c) woken (part d) × (work d ≡ all_woken (work c) (tasks_of woken)))

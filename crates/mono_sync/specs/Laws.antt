@@ -1,4 +1,4 @@
--- What holds over any calls of a channel and of a semaphore.
+-- Laws that hold over any calls of a channel and of a semaphore.
 use Rattle.std.specs.Prelude.{⊤, true, false, ◌≡◌, ◌<◌, ◌≤◌, ◌+◌, ℕ, List, [], ◌∷◌, ◌++◌, length, Option, Some, None, Result, Ok, Err}
 use Rattle.mono_sync.specs.declared.lines.Waiter.{Waiter}
 use Rattle.mono_sync.specs.declared.semaphores.Semaphore.{Semaphore}
@@ -7,11 +7,11 @@ use Rattle.mono_sync.specs.Semaphores.{Releases}
 use Rattle.mono_sync.specs.SemaphoreRuns as semaphore
 use Rattle.mono_sync.specs.MpscRuns as channel
 
--- the permits that were given and those that are left are those that there were and those that were put back
+-- The given permits and the remaining ones are those at the start and those put back.
 abbrev pub PermitsAreKept : Type 0
 PermitsAreKept = (es : List semaphore.Event) (a b : Semaphore) → semaphore.Run a es b → semaphore.given es + b.available ≡ a.available + semaphore.put_back es
 
--- those who wait have rising tickets, from the first on, below the next
+-- The waiting tasks have rising tickets, the first at least `low`, the last below the next ticket.
 abbrev pub Rises : ℕ → List Waiter → ℕ → Type 0
 Rises low [] next = low ≤ next
 Rises low (w ∷ ws) next = (low ≤ w.ticket) × (w.ticket < next) × Rises (w.ticket + 1) ws next
@@ -20,14 +20,14 @@ Rises low (w ∷ ws) next = (low ≤ w.ticket) × (w.ticket < next) × Rises (w.
 abbrev pub FirstComeFirstServed : Type 0
 FirstComeFirstServed = (es : List semaphore.Event) (a b c : Semaphore) (w : Waiter) → Rises 0 a.line.waiters.items a.line.next → semaphore.Run a es b → Releases b (Ok (Some w)) c → Rises (w.ticket + 1) c.line.waiters.items c.line.next
 
--- what was received, and then what is queued, is what was queued, and then what was sent
+-- The received messages, followed by the queue at the end, are the queue at the start, followed by the sent messages.
 abbrev pub InOrder : (T : Type 0) → Type 0
 InOrder T = (es : List (channel.Event T)) (a b : Channel T) → channel.Run a es b → channel.received es ++ b.queue.items ≡ a.queue.items ++ channel.sent es
 
--- a closed channel stays closed, and takes nothing
+-- A closed channel stays closed, and takes no message.
 abbrev pub NothingAfterClose : (T : Type 0) → Type 0
 NothingAfterClose T = (es : List (channel.Event T)) (a b : Channel T) → a.is_closed ≡ true → channel.Run a es b → (b.is_closed ≡ true) × (channel.sent es ≡ []) × (channel.received es ++ b.queue.items ≡ a.queue.items)
 
--- the bound stays, and is kept
+-- The bound stays the same, and the channel stays within it.
 abbrev pub StaysBounded : (T : Type 0) → Type 0
 StaysBounded T = (es : List (channel.Event T)) (a b : Channel T) → channel.Run a es b → (b.bound ≡ a.bound) × (length a.queue.items ≤ a.bound → length b.queue.items ≤ b.bound)

@@ -1,4 +1,4 @@
--- Calls of a channel in a row.
+-- A sequence of calls of a channel.
 use Rattle.std.specs.Prelude.{⊤, true, false, ◌≡◌, ◌+◌, ℕ, List, [], ◌∷◌, ◌++◌, Option, Some, None, Result, Ok, Err, refl}
 use Rattle.std.proofs.Common.{subst}
 use Rattle.mono_sync.specs.declared.lines.Waiter.{Waiter}
@@ -11,7 +11,7 @@ use Rattle.mono_sync.specs.declared.mpsc.Receiving.{Receiving}
 use Rattle.mono_sync.specs.declared.mpsc.Receiving.TheVariants as receiving
 use Rattle.mono_sync.specs.Mpsc.{TriesToSend, TriesToReceive, Sends, Receives, GivesUpSend, GivesUpReceive, Closes}
 
--- a call with its answer
+-- A call with its answer.
 pub data Event (T : Type 0) : Type 0 where
   tried_to_send : (message : T) → (answer : Result (Option Waiter) (TrySendError T)) → Event T
   tried_to_receive : (answer : Result (T × Option Waiter) TryRecvError) → Event T
@@ -35,7 +35,7 @@ module _ {T : Type 0} where
   Run a [] b = b ≡ a
   Run a (e ∷ es) b = (m : Channel T) × Step a e m × Run m es b
 
-  -- the message that the call sent, if any
+  -- The message that the call sent, if any.
   abbrev pub sent_by : Event T → List T
   sent_by (tried_to_send x (Ok first)) = x ∷ []
   sent_by (tried_to_send x (Err e)) = []
@@ -54,7 +54,7 @@ module _ {T : Type 0} where
   sent [] = []
   sent (e ∷ es) = sent_by e ++ sent es
 
-  -- the message that the call received, if any
+  -- The message that the call received, if any.
   abbrev pub received_by : Event T → List T
   received_by (tried_to_send x r) = []
   received_by (tried_to_receive (Ok (x, first))) = x ∷ []
@@ -73,7 +73,7 @@ module _ {T : Type 0} where
   received [] = []
   received (e ∷ es) = received_by e ++ received es
 
-  -- some calls lead from the first to the second
+  -- Calls lead from the first to the second.
   pub record Leads (a b : Channel T) : Type 0 where
     pub events : List (Event T)
     pub run : Run a events b
@@ -88,6 +88,6 @@ module _ {T : Type 0} where
   pub leads_on : (a b c : Channel T) → Leads a b → Leads b c → Leads a c
   leads_on a b c p q = record { events = p.events ++ q.events; run = run_on p.events q.events a b c p.run q.run }
 
-  -- one call leads on
+  -- One call leads from the channel before it to the channel after it.
   pub leads_by : (e : Event T) (a b : Channel T) → Step a e b → Leads a b
   leads_by e a b step = record { events = e ∷ []; run = (b, step, refl) }

@@ -1,4 +1,4 @@
--- Calls of a notice, each with its answer.
+-- The calls of a notice, each with its answer.
 use Rattle.std.specs.Prelude.{ℕ, List, Option}
 use Rattle.mono_sync.specs.declared.lines.Waiter.{Waiter}
 use Rattle.mono_sync.specs.declared.notices.Notify.{Notify}

@@ -1,4 +1,4 @@
--- Calls of a channel for one message, each with its answer.
+-- The calls of a channel for one message, each with its answer.
 use Rattle.std.specs.Prelude.{ℕ, Option, Result}
 use Rattle.mono_sync.specs.declared.oneshot.Oneshot.{Oneshot}
 use Rattle.mono_sync.specs.declared.oneshot.TryRecvError.{TryRecvError}

@@ -1,4 +1,4 @@
--- Calls in a row, by what one call does.
+-- A sequence of calls, by the effect of one call.
 use Rattle.std.specs.Prelude.{◌≡◌, List, [], ◌∷◌, ◌++◌, refl}
 use Rattle.std.proofs.Common.{subst}
 
@@ -7,7 +7,7 @@ module _ {S E : Type 0} (Step : S → E → S → Type 0) where
   Run a [] b = b ≡ a
   Run a (e ∷ es) b = (m : S) × Step a e m × Run m es b
 
-  -- some calls lead from the first to the second
+  -- Calls lead from the first to the second.
   pub record Leads (a b : S) : Type 0 where
     pub events : List E
     pub run : Run a events b
@@ -22,6 +22,6 @@ module _ {S E : Type 0} (Step : S → E → S → Type 0) where
   pub leads_on : (a b c : S) → Leads a b → Leads b c → Leads a c
   leads_on a b c p q = record { events = p.events ++ q.events; run = run_on p.events q.events a b c p.run q.run }
 
-  -- one call leads on
+  -- One call leads from the state before it to the state after it.
   pub leads_by : (e : E) (a b : S) → Step a e b → Leads a b
   leads_by e a b step = record { events = e ∷ []; run = (b, step, refl) }

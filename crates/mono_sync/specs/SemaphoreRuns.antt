@@ -1,4 +1,4 @@
--- Calls of a semaphore in a row.
+-- A sequence of calls of a semaphore.
 use Rattle.std.specs.Prelude.{⊤, true, false, ◌≡◌, ◌<◌, ◌≤◌, ◌+◌, ℕ, List, [], ◌∷◌, ◌++◌, Option, Some, None, Result, Ok, Err, refl}
 use Rattle.std.proofs.Common.{subst}
 use Rattle.mono_sync.specs.declared.lines.Waiter.{Waiter}
@@ -9,7 +9,7 @@ use Rattle.mono_sync.specs.declared.semaphores.Acquiring.{Acquiring}
 use Rattle.mono_sync.specs.declared.semaphores.Acquiring.TheVariants as acquiring
 use Rattle.mono_sync.specs.Semaphores.{TriesToAcquire, Acquires, Releases, GivesUp, Closes}
 
--- a call with its answer
+-- A call with its answer.
 pub data Event : Type 0 where
   tried : (answer : Result ⊤ TryAcquireError) → Event
   asked : (ticket : Option ℕ) → (task : ℕ) → (answer : Acquiring) → Event
@@ -28,7 +28,7 @@ abbrev pub Run : Semaphore → List Event → Semaphore → Type 0
 Run a [] b = b ≡ a
 Run a (e ∷ es) b = (m : Semaphore) × Step a e m × Run m es b
 
--- how many permits the call gave
+-- How many permits the call gave.
 abbrev pub given_by : Event → ℕ
 given_by (tried (Ok done)) = 1
 given_by (tried (Err e)) = 0
@@ -45,7 +45,7 @@ abbrev pub given : List Event → ℕ
 given [] = 0
 given (e ∷ es) = given_by e + given es
 
--- how many permits the call put back
+-- How many permits the call put back.
 abbrev pub put_back_by : Event → ℕ
 put_back_by (tried r) = 0
 put_back_by (asked ticket task r) = 0
@@ -58,7 +58,7 @@ abbrev pub put_back : List Event → ℕ
 put_back [] = 0
 put_back (e ∷ es) = put_back_by e + put_back es
 
--- some calls lead from the first to the second
+-- Calls lead from the first to the second.
 pub record Leads (a b : Semaphore) : Type 0 where
   pub events : List Event
   pub run : Run a events b
@@ -73,6 +73,6 @@ run_on (x ∷ xs) ys a b c (m, step, rest) more = (m, step, run_on xs ys m b c r
 pub leads_on : (a b c : Semaphore) → Leads a b → Leads b c → Leads a c
 leads_on a b c p q = record { events = p.events ++ q.events; run = run_on p.events q.events a b c p.run q.run }
 
--- one call leads on
+-- One call leads from the semaphore before it to the semaphore after it.
 pub leads_by : (e : Event) (a b : Semaphore) → Step a e b → Leads a b
 leads_by e a b step = record { events = e ∷ []; run = (b, step, refl) }

@@ -1,4 +1,4 @@
--- A semaphore, and what its calls do to it.
+-- A semaphore, and the effect of its calls.
 use Rattle.std.specs.Prelude.{⊤, Bool, true, false, ◌≡◌, ◌<◌, ◌≤◌, ◌+◌, ◌-◌, ◌^◌, ℕ, List, [], ◌∷◌, ◌++◌, Option, Some, None, Result, Ok, Err, refl}
 use Rattle.std.specs.declared.alloc.AllocError.{AllocError}
 use Rattle.mono_sync.specs.declared.lines.Waiter.{Waiter}
@@ -11,13 +11,13 @@ use Rattle.mono_sync.specs.declared.semaphores.Acquiring.TheVariants as acquirin
 use Rattle.mono_sync.specs.declared.semaphores.TheConstants.{MAX_PERMITS}
 use Rattle.mono_sync.specs.Lines.{stands, still_waits, grants_left, left_by, SameLine, Joins, Serves, Comes}
 
--- One permit fewer, if one is neither taken nor reserved.
+-- There is one permit fewer, if one is neither taken nor reserved.
 abbrev pub TriesToAcquire : Semaphore → Result ⊤ TryAcquireError → Semaphore → Type 0
 TriesToAcquire a (Ok done) b = (a.is_closed ≡ false) × (a.line.granted < a.available) × (b.available + 1 ≡ a.available) × (b.line ≡ a.line) × (b.is_closed ≡ false)
 TriesToAcquire a (Err Closed) b = (a.is_closed ≡ true) × (b ≡ a)
 TriesToAcquire a (Err NoPermits) b = (a.is_closed ≡ false) × (a.available ≤ a.line.granted) × (b ≡ a)
 
--- A future asks. It still waits; or it comes for its permit, or takes a free one, or waits from now on.
+-- A future asks. It still waits, or collects its permit, or takes a free one, or waits from now on.
 abbrev pub Acquires : Semaphore → Option ℕ → ℕ → Acquiring → Semaphore → Type 0
 Acquires a ticket task acquiring.Waits b = (still_waits a.line ticket ≡ true) × (b.available ≡ a.available) × SameLine a.line b.line × (b.is_closed ≡ a.is_closed)
 Acquires a ticket task acquiring.Closed b = (still_waits a.line ticket ≡ false) × (a.is_closed ≡ true) × (b.available ≡ a.available) × Comes a.line ticket b.line × (b.is_closed ≡ true)
@@ -25,15 +25,15 @@ Acquires a ticket task acquiring.Acquired b = (still_waits a.line ticket ≡ fal
 Acquires a ticket task (acquiring.Joined t) b = (still_waits a.line ticket ≡ false) × (a.is_closed ≡ false) × (a.available ≤ grants_left a.line ticket) × (b.available ≡ a.available) × (t ≡ a.line.next) × (b.line.waiters.items ≡ a.line.waiters.items ++ record { ticket = t; task = task } ∷ []) × (b.line.granted ≡ grants_left a.line ticket) × (b.line.next ≡ a.line.next + 1) × (b.is_closed ≡ false)
 Acquires a ticket task acquiring.Memory b = (still_waits a.line ticket ≡ false) × (a.is_closed ≡ false) × (a.available ≤ grants_left a.line ticket) × (b.available ≡ a.available) × Comes a.line ticket b.line × (b.is_closed ≡ false)
 
--- One permit more, which is reserved for the first of those who wait.
+-- There is one more permit, which is reserved for the first waiting task.
 abbrev pub Releases : Semaphore → Result (Option Waiter) TooManyPermits → Semaphore → Type 0
 Releases a (Ok first) b = (a.available < MAX_PERMITS) × (b.available ≡ a.available + 1) × Serves a.line.waiters.items a.line.granted (a.available + 1) first b.line × (b.line.next ≡ a.line.next) × (b.is_closed ≡ a.is_closed)
 Releases a (Err e) b = (MAX_PERMITS ≤ a.available) × (b ≡ a)
 
--- A future leaves the line. A permit that was reserved for it is reserved for the first of those who wait.
+-- A future leaves the line. Its reserved permit, if any, goes to the first waiting task.
 abbrev pub GivesUp : Semaphore → Option ℕ → Option Waiter → Semaphore → Type 0
 GivesUp a ticket first b = (b.available ≡ a.available) × Serves (left_by a.line.waiters.items ticket) (grants_left a.line ticket) a.available first b.line × (b.line.next ≡ a.line.next) × (b.is_closed ≡ a.is_closed)
 
--- No permit is given any more, and all who wait leave the line.
+-- The semaphore gives no further permit, and all waiting tasks leave the line.
 abbrev pub Closes : Semaphore → List Waiter → Semaphore → Type 0
 Closes a woken b = (woken ≡ a.line.waiters.items) × (b.line.waiters.items ≡ []) × (b.line.granted ≡ a.line.granted) × (b.line.next ≡ a.line.next) × (b.available ≡ a.available) × (b.is_closed ≡ true)

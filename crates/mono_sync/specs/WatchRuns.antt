@@ -1,4 +1,4 @@
--- Calls of a watched value, each with its answer.
+-- The calls of a watched value, each with its answer.
 use Rattle.std.specs.Prelude.{ℕ, List, Option, Result}
 use Rattle.mono_sync.specs.declared.lines.Waiter.{Waiter}
 use Rattle.mono_sync.specs.declared.watch.Watch.{Watch}

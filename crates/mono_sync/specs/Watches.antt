@@ -1,4 +1,4 @@
--- A watched value, and what its calls do to it.
+-- A watched value, and the effect of its calls.
 use Rattle.std.specs.Prelude.{true, false, ◌≡◌, ◌≢◌, ◌<◌, ◌≤◌, ◌+◌, ◌⊎◌, ℕ, List, [], ◌∷◌, ◌++◌, Option, Some, None, Result, Ok, Err}
 use Rattle.mono_sync.specs.declared.lines.Waiter.{Waiter}
 use Rattle.mono_sync.specs.declared.watch.Watch.{Watch}
@@ -8,11 +8,11 @@ use Rattle.mono_sync.specs.declared.watch.Changing.TheVariants as changing
 use Rattle.mono_sync.specs.Lines.{still_waits, left_by}
 
 module _ {T : Type 0} where
-  -- the value, its version and whether it was closed stay
+  -- The value and its version stay, and a closed value stays closed, an open one open.
   abbrev pub Kept : Watch T → Watch T → Type 0
   Kept a b = (b.value ≡ a.value) × (b.version ≡ a.version) × (b.is_closed ≡ a.is_closed)
 
-  -- the value is replaced, and all who wait are served; or the value comes back
+  -- The value is replaced and all waiting tasks are served, or the new value comes back.
   abbrev pub Sends : Watch T → T → Result (Replaced T) T → Watch T → Type 0
   Sends a x (Ok r) b = (a.is_closed ≡ false) × (b.value ≡ x) × (r.old ≡ a.value) × (b.version ≡ a.version + 1) × (r.woken.items ≡ a.line.waiters.items) × (b.line.waiters.items ≡ []) × (b.line.next ≡ a.line.next) × (b.is_closed ≡ false)
   Sends a x (Err y) b = (y ≡ x) × (b ≡ a)
@@ -25,10 +25,10 @@ module _ {T : Type 0} where
   Changes a seen ticket task (changing.Joined t) b = (a.version ≡ seen) × (a.is_closed ≡ false) × (still_waits a.line ticket ≡ false) × (t ≡ a.line.next) × (b.line.waiters.items ≡ a.line.waiters.items ++ record { ticket = t; task = task } ∷ []) × (b.line.next ≡ a.line.next + 1) × Kept a b
   Changes a seen ticket task changing.Memory b = (a.version ≡ seen) × (a.is_closed ≡ false) × (still_waits a.line ticket ≡ false) × (b.line.waiters.items ≡ a.line.waiters.items) × (b.line.next ≡ a.line.next) × Kept a b
 
-  -- a future leaves the line
+  -- A future leaves the line.
   abbrev pub GivesUp : Watch T → Option ℕ → Watch T → Type 0
   GivesUp a ticket b = (b.line.waiters.items ≡ left_by a.line.waiters.items ticket) × (b.line.next ≡ a.line.next) × Kept a b
 
-  -- the value changes no more, and all who wait leave the line
+  -- The value no longer changes, and all waiting tasks leave the line.
   abbrev pub Closes : Watch T → List Waiter → Watch T → Type 0
   Closes a woken b = (woken ≡ a.line.waiters.items) × (b.line.waiters.items ≡ []) × (b.line.next ≡ a.line.next) × (b.value ≡ a.value) × (b.version ≡ a.version) × (b.is_closed ≡ true)

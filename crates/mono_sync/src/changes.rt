@@ -1,4 +1,4 @@
-// What a task does with a watched value: it waits for another, and replaces it.
+// The calls of a task on a watched value: it waits for another value, and replaces it.
 ghost use Rattle.std.specs.Prelude.{◌≡◌, false};
 ghost use Rattle.std.specs.declared.option.Option.TheVariants.{None};
 ghost use Rattle.mono_sync.specs.Watches.{Sends, Changes, GivesUp, Closes};
@@ -15,7 +15,7 @@ use std::alloc::Global;
 use std::collections::VecDeque;
 use std::marker::PhantomData;
 
-/// Waits until the watched value that the tasks share has another version than the one that was seen.
+/// A future that waits until the watched value of the tasks has another version than the one it has seen.
 #[derive(Drop)]
 pub struct Changed<W, T> {
     pub(crate) seen: u64,
@@ -25,12 +25,12 @@ pub struct Changed<W, T> {
     value: PhantomData<T>,
 }
 
-/// Why no other value came.
+/// The reason why no other value came.
 #[derive(Debug, Drop)]
 pub enum ChangedError {
     /// The value was closed.
     Closed,
-    /// There was no memory to wait in.
+    /// The allocation of a place in the line failed.
     Memory,
 }
 
@@ -51,7 +51,7 @@ impl<W, T> Changed<W, T> {
     }
 }
 
-// The watched value answers a future of this task.
+// Asks the watched value for a future of this task.
 fn ask_part<T: Drop, W: Holds<Watch<T>>>(
     whole: &mut W,
     seen: u64,
@@ -64,7 +64,7 @@ fn ask_part<T: Drop, W: Holds<Watch<T>>>(
     whole.part_mut().changed(seen, ticket, task)
 }
 
-// A future leaves the line.
+// Takes a future out of the line.
 fn leave_part<T: Drop, W: Holds<Watch<T>>>(whole: &mut W, ticket: Option<u64>)
     ensures answer { GivesUp (W.part whole.old) ticket (W.part whole.new) }
     ensures leads { W.leads whole.old whole.new }
@@ -72,7 +72,7 @@ fn leave_part<T: Drop, W: Holds<Watch<T>>>(whole: &mut W, ticket: Option<u64>)
     whole.part_mut().give_up(ticket)
 }
 
-// The value is replaced.
+// Replaces the value.
 fn send_part<T: Drop, W: Holds<Watch<T>>>(
     whole: &mut W,
     alloc: Global,
@@ -84,7 +84,7 @@ fn send_part<T: Drop, W: Holds<Watch<T>>>(
     whole.part_mut().send(alloc, value)
 }
 
-// The value is closed.
+// Closes the value.
 fn close_part<T: Drop, W: Holds<Watch<T>>>(whole: &mut W, alloc: Global) -> VecDeque<Waiter>
     ensures answer { Closes (W.part whole.old) result.items (W.part whole.new) }
     ensures leads { W.leads whole.old whole.new }
@@ -92,7 +92,7 @@ fn close_part<T: Drop, W: Holds<Watch<T>>>(whole: &mut W, alloc: Global) -> VecD
     whole.part_mut().close(alloc)
 }
 
-// The watched value answers the running task's future.
+// Asks the watched value for the running task's future.
 fn ask<T: Drop, W: Holds<Watch<T>>, C: SharedContext<W>>(
     cx: &mut C,
     seen: u64,
@@ -106,7 +106,7 @@ fn ask<T: Drop, W: Holds<Watch<T>>, C: SharedContext<W>>(
     ask_part::<T, W>(cx.shared_mut(), seen, ticket, me)
 }
 
-// The running task's future leaves the line.
+// Takes the running task's future out of the line.
 fn leave<T: Drop, W: Holds<Watch<T>>, C: SharedContext<W>>(cx: &mut C, ticket: Option<u64>)
     ensures answer { GivesUp (W.part (C.shared cx.old)) ticket (W.part (C.shared cx.new)) }
     ensures work { C.work cx.new ≡ C.work cx.old }
@@ -115,7 +115,7 @@ fn leave<T: Drop, W: Holds<Watch<T>>, C: SharedContext<W>>(cx: &mut C, ticket: O
     leave_part::<T, W>(cx.shared_mut(), ticket)
 }
 
-// The running task replaces the value.
+// Replaces the value for the running task.
 fn replace<T: Drop, W: Holds<Watch<T>>, C: SharedContext<W>>(
     cx: &mut C,
     alloc: Global,
@@ -128,7 +128,7 @@ fn replace<T: Drop, W: Holds<Watch<T>>, C: SharedContext<W>>(
     send_part::<T, W>(cx.shared_mut(), alloc, value)
 }
 
-// The running task closes the value.
+// Closes the value for the running task.
 fn shut<T: Drop, W: Holds<Watch<T>>, C: SharedContext<W>>(
     cx: &mut C,
     alloc: Global,
@@ -140,9 +140,9 @@ fn shut<T: Drop, W: Holds<Watch<T>>, C: SharedContext<W>>(
     close_part::<T, W>(cx.shared_mut(), alloc)
 }
 
-/// Replaces the watched value, wakes all that wait for another, and returns the value before.
+/// Replaces the watched value, wakes all tasks that wait for another, and returns the value before.
 ///
-/// The new value comes back if the watched value was closed, or no version is left.
+/// The new value comes back if the watched value was closed, or if no version is left.
 pub fn send<T: Drop, W: Holds<Watch<T>>, C: SharedContext<W>>(
     alloc: Global,
     cx: &mut C,
@@ -160,7 +160,7 @@ pub fn send<T: Drop, W: Holds<Watch<T>>, C: SharedContext<W>>(
     }
 }
 
-/// Closes the watched value, and wakes all that wait for another.
+/// Closes the watched value, and wakes all tasks that wait for another.
 pub fn close<T: Drop, W: Holds<Watch<T>>, C: SharedContext<W>>(alloc: Global, cx: &mut C)
     ensures wakes { CloseWakes (λ x. W.part (C.shared x)) C.number C.work cx.old cx.new }
     ensures reached { C.reaches cx.old cx.new }
@@ -169,8 +169,8 @@ pub fn close<T: Drop, W: Holds<Watch<T>>, C: SharedContext<W>>(alloc: Global, cx
     wake_all::<W, C>(cx, woken);
 }
 
-/// It answers the version of the last value once it is another than the one that was seen. It fails if the value was closed,
-/// or there was no memory to wait in.
+/// The future answers the version of the last value once it differs from the seen one. It fails if the value was
+/// closed, or if out of memory.
 impl<T: Drop, W: Holds<Watch<T>>, C: SharedContext<W>> TaskFuture<C> for Changed<W, T> {
     type Output = Result<u64, ChangedError>;
 

@@ -1,4 +1,4 @@
-// What a task does with a channel for one message: it sends and receives.
+// The calls of a task on a channel for one message: it sends and receives.
 ghost use Rattle.std.specs.Prelude.{◌≡◌, false};
 ghost use Rattle.mono_sync.specs.Oneshot.{Sends, Receives, Closes, GivesUp};
 ghost use Rattle.mono_sync.specs.Deliveries.{RecvPolls, SendWakes, CloseWakes};
@@ -12,7 +12,7 @@ use mono_task::TaskFuture;
 use std::alloc::Global;
 use std::marker::PhantomData;
 
-/// Receives the one message of the channel that the tasks share, and waits until it was sent.
+/// A future that receives the one message of the tasks' channel, and waits until it was sent.
 #[derive(Drop)]
 pub struct Recv<W, T> {
     pub(crate) has_answered: bool,
@@ -33,7 +33,7 @@ impl<W, T> Recv<W, T> {
     }
 }
 
-// The channel answers a future of this task.
+// Asks the channel for a future of this task.
 fn ask_part<T: Drop, W: Holds<Oneshot<T>>>(whole: &mut W, task: u64) -> Receiving<T>
     ensures answer { Receives (W.part whole.old) task result (W.part whole.new) }
     ensures leads { W.leads whole.old whole.new }
@@ -41,7 +41,7 @@ fn ask_part<T: Drop, W: Holds<Oneshot<T>>>(whole: &mut W, task: u64) -> Receivin
     whole.part_mut().recv(task)
 }
 
-// The future waits no more.
+// Ends the future's wait.
 fn leave_part<T: Drop, W: Holds<Oneshot<T>>>(whole: &mut W)
     ensures answer { GivesUp (W.part whole.old) (W.part whole.new) }
     ensures leads { W.leads whole.old whole.new }
@@ -49,7 +49,7 @@ fn leave_part<T: Drop, W: Holds<Oneshot<T>>>(whole: &mut W)
     whole.part_mut().give_up()
 }
 
-// The message is sent.
+// Sends the message.
 fn send_part<T: Drop, W: Holds<Oneshot<T>>>(whole: &mut W, message: T) -> Result<Option<u64>, T>
     ensures answer { Sends (W.part whole.old) message result (W.part whole.new) }
     ensures leads { W.leads whole.old whole.new }
@@ -57,7 +57,7 @@ fn send_part<T: Drop, W: Holds<Oneshot<T>>>(whole: &mut W, message: T) -> Result
     whole.part_mut().send(message)
 }
 
-// The channel is closed.
+// Closes the channel.
 fn close_part<T: Drop, W: Holds<Oneshot<T>>>(whole: &mut W) -> Option<u64>
     ensures answer { Closes (W.part whole.old) result (W.part whole.new) }
     ensures leads { W.leads whole.old whole.new }
@@ -65,7 +65,7 @@ fn close_part<T: Drop, W: Holds<Oneshot<T>>>(whole: &mut W) -> Option<u64>
     whole.part_mut().close()
 }
 
-// The channel answers the running task's future.
+// Asks the channel for the running task's future.
 fn ask<T: Drop, W: Holds<Oneshot<T>>, C: SharedContext<W>>(cx: &mut C) -> Receiving<T>
     ensures answer { Receives (W.part (C.shared cx.old)) (C.number cx.old) result (W.part (C.shared cx.new)) }
     ensures work { C.work cx.new ≡ C.work cx.old }
@@ -75,7 +75,7 @@ fn ask<T: Drop, W: Holds<Oneshot<T>>, C: SharedContext<W>>(cx: &mut C) -> Receiv
     ask_part::<T, W>(cx.shared_mut(), me)
 }
 
-// The running task's future waits no more.
+// Ends the wait of the running task's future.
 fn leave<T: Drop, W: Holds<Oneshot<T>>, C: SharedContext<W>>(cx: &mut C)
     ensures answer { GivesUp (W.part (C.shared cx.old)) (W.part (C.shared cx.new)) }
     ensures work { C.work cx.new ≡ C.work cx.old }
@@ -84,7 +84,7 @@ fn leave<T: Drop, W: Holds<Oneshot<T>>, C: SharedContext<W>>(cx: &mut C)
     leave_part::<T, W>(cx.shared_mut())
 }
 
-// The running task puts the message into the channel.
+// Puts the running task's message into the channel.
 fn put<T: Drop, W: Holds<Oneshot<T>>, C: SharedContext<W>>(
     cx: &mut C,
     message: T,
@@ -96,7 +96,7 @@ fn put<T: Drop, W: Holds<Oneshot<T>>, C: SharedContext<W>>(
     send_part::<T, W>(cx.shared_mut(), message)
 }
 
-// The running task closes the channel.
+// Closes the channel for the running task.
 fn shut<T: Drop, W: Holds<Oneshot<T>>, C: SharedContext<W>>(cx: &mut C) -> Option<u64>
     ensures answer { Closes (W.part (C.shared cx.old)) result (W.part (C.shared cx.new)) }
     ensures work { C.work cx.new ≡ C.work cx.old }
@@ -132,7 +132,7 @@ pub fn close<T: Drop, W: Holds<Oneshot<T>>, C: SharedContext<W>>(cx: &mut C)
     wake_task::<W, C>(cx, receiver);
 }
 
-/// It answers the message, or none if the channel was closed before one was sent.
+/// The future answers the message, or none if the channel was closed before one was sent.
 impl<T: Drop, W: Holds<Oneshot<T>>, C: SharedContext<W>> TaskFuture<C> for Recv<W, T> {
     type Output = Option<T>;
 

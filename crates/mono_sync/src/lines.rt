@@ -1,4 +1,4 @@
-// The tasks that wait, in the order in which they came.
+// The tasks that wait, in the order of their arrival.
 ghost use Rattle.std.specs.Prelude.{◌≡◌, []};
 ghost use Rattle.mono_sync.specs.Lines.{stands, still_waits, grants_left, left_by, Joins, Pops, Serves, Comes};
 
@@ -6,7 +6,7 @@ use std::alloc::{AllocError, Global};
 use std::collections::VecDeque;
 use std::mem;
 
-/// A task that waits, with the ticket that its future drew.
+/// A waiting task, with the ticket that its future drew.
 #[derive(Clone, Copy)]
 pub struct Waiter {
     pub(crate) ticket: u64,
@@ -24,19 +24,19 @@ impl Waiter {
 
 /// Tasks that wait, first come, first served.
 ///
-/// Each waiting future has a ticket of its own. A future that is served leaves the line at once, and what it was served stays
-/// reserved until it comes for it (`granted`).
+/// Each waiting future has a ticket of its own. A future that is served leaves the line at once, and its grant stays
+/// reserved until it collects it (`granted`).
 #[derive(Drop)]
 pub struct Line {
     pub(crate) waiters: VecDeque<Waiter>,
-    // how many were served and have not come
+    // How many futures were served and have not collected their grant.
     pub(crate) granted: usize,
-    // the next ticket
+    // The next ticket.
     pub(crate) next: u64,
 }
 
 impl Line {
-    /// Returns a line in which nobody waits.
+    /// Returns a line in which no task waits.
     pub fn new(alloc: Global) -> Line
         ensures waiters { result.waiters.items ≡ [] }
         ensures granted { result.granted ≡ 0 }
@@ -66,7 +66,7 @@ impl Line {
         }
     }
 
-    /// Puts a task last, and returns its ticket. Refused if there is no memory, or no ticket is left.
+    /// Appends a task to the line, and returns its ticket. Refused if out of memory, or if no ticket is left.
     pub fn join(&mut self, task: u64) -> Result<u64, AllocError>
         ensures { Joins self.old task result self.new }
     {
@@ -83,14 +83,15 @@ impl Line {
         }
     }
 
-    /// Takes the first out of the line, with nothing reserved for it.
+    /// Removes the first task from the line, with nothing reserved for it.
     pub fn pop(&mut self) -> Option<Waiter>
         ensures pops { Pops self.old result self.new }
     {
         self.waiters.pop_front()
     }
 
-    /// Takes the first out of the line if fewer than `room` were served and have not come.
+    /// Removes the first task from the line and reserves a grant for it, if fewer than `room` grants are not yet
+    /// collected.
     pub fn serve(&mut self, room: usize) -> Option<Waiter>
         ensures serves { Serves self.old.waiters.items self.old.granted room result self.new }
         ensures next { self.new.next ≡ self.old.next }
@@ -107,7 +108,7 @@ impl Line {
         }
     }
 
-    /// Notes that a future comes for what it was served, unless it still waits. Returns whether it still waits.
+    /// Collects a future's grant, unless the future still waits. Returns whether it still waits.
     pub fn redeem(&mut self, ticket: Option<u64>) -> bool
         ensures waits { result ≡ still_waits self.old ticket }
         ensures comes { Comes self.old ticket self.new }
@@ -124,7 +125,7 @@ impl Line {
         }
     }
 
-    /// Takes a future out of the line. If it was served, what it was served is free again.
+    /// Takes a future out of the line. If it was served, its grant is free again.
     pub fn leave(&mut self, ticket: Option<u64>)
         ensures waiters { self.new.waiters.items ≡ left_by self.old.waiters.items ticket }
         ensures granted { self.new.granted ≡ grants_left self.old ticket }
@@ -136,7 +137,7 @@ impl Line {
         }
     }
 
-    /// Takes all out of the line.
+    /// Takes all tasks out of the line.
     pub fn take_all(&mut self, alloc: Global) -> VecDeque<Waiter>
         ensures all { result.items ≡ self.old.waiters.items }
         ensures waiters { self.new.waiters.items ≡ [] }

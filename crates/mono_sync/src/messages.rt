@@ -1,4 +1,4 @@
-// What a task does with a channel: it sends and receives.
+// The calls of a task on a channel: it sends and receives.
 ghost use Rattle.std.specs.Prelude.{◌≡◌, false};
 ghost use Rattle.std.specs.declared.option.Option.TheVariants.{None, Some};
 ghost use Rattle.mono_sync.specs.Mpsc.{TriesToSend, TriesToReceive, Sends, Receives, GivesUpSend, GivesUpReceive, Closes};
@@ -16,16 +16,16 @@ use std::collections::VecDeque;
 use std::marker::PhantomData;
 use std::mem;
 
-/// Sends a message over the channel that the tasks share, and waits while each place is taken.
+/// A future that sends a message over the tasks' channel, and waits while each place is taken.
 #[derive(Drop)]
 pub struct Send<W, T> {
-    // the message, until it is sent
+    // The message, until it is sent.
     pub(crate) message: Option<T>,
     pub(crate) ticket: Option<u64>,
     shared: PhantomData<W>,
 }
 
-/// Receives a message over the channel that the tasks share, and waits while there is none.
+/// A future that receives a message over the tasks' channel, and waits while there is none.
 #[derive(Drop)]
 pub struct Recv<W, T> {
     pub(crate) ticket: Option<u64>,
@@ -34,12 +34,12 @@ pub struct Recv<W, T> {
     message: PhantomData<T>,
 }
 
-/// A message that was not sent. It comes back.
+/// A message that was not sent, and comes back.
 #[derive(Debug, Drop)]
 pub enum SendError<T> {
     /// The channel was closed.
     Closed(T),
-    /// There was no memory.
+    /// The allocation failed.
     Memory(T),
 }
 
@@ -72,7 +72,7 @@ impl<W, T> Recv<W, T> {
     }
 }
 
-// A message is queued at once.
+// Queues a message at once.
 fn try_send_part<T: Drop, W: Holds<Channel<T>>>(
     whole: &mut W,
     message: T,
@@ -83,7 +83,7 @@ fn try_send_part<T: Drop, W: Holds<Channel<T>>>(
     whole.part_mut().try_send(message)
 }
 
-// A message is taken at once.
+// Takes a message at once.
 fn try_recv_part<T: Drop, W: Holds<Channel<T>>>(
     whole: &mut W,
 ) -> Result<(T, Option<Waiter>), TryRecvError>
@@ -93,7 +93,7 @@ fn try_recv_part<T: Drop, W: Holds<Channel<T>>>(
     whole.part_mut().try_recv()
 }
 
-// The channel answers a future of this task that sends.
+// Asks the channel for a future of this task that sends.
 fn send_part<T: Drop, W: Holds<Channel<T>>>(
     whole: &mut W,
     ticket: Option<u64>,
@@ -106,7 +106,7 @@ fn send_part<T: Drop, W: Holds<Channel<T>>>(
     whole.part_mut().send(ticket, message, task)
 }
 
-// The channel answers a future of this task that receives.
+// Asks the channel for a future of this task that receives.
 fn recv_part<T: Drop, W: Holds<Channel<T>>>(
     whole: &mut W,
     ticket: Option<u64>,
@@ -118,7 +118,7 @@ fn recv_part<T: Drop, W: Holds<Channel<T>>>(
     whole.part_mut().recv(ticket, task)
 }
 
-// A future leaves the line of those who wait to send.
+// Takes a future out of the line of senders.
 fn leave_send_part<T: Drop, W: Holds<Channel<T>>>(
     whole: &mut W,
     ticket: Option<u64>,
@@ -129,7 +129,7 @@ fn leave_send_part<T: Drop, W: Holds<Channel<T>>>(
     whole.part_mut().give_up_send(ticket)
 }
 
-// A future leaves the line of those who wait to receive.
+// Takes a future out of the line of receivers.
 fn leave_recv_part<T: Drop, W: Holds<Channel<T>>>(
     whole: &mut W,
     ticket: Option<u64>,
@@ -140,7 +140,7 @@ fn leave_recv_part<T: Drop, W: Holds<Channel<T>>>(
     whole.part_mut().give_up_recv(ticket)
 }
 
-// The channel is closed.
+// Closes the channel.
 fn close_part<T: Drop, W: Holds<Channel<T>>>(
     whole: &mut W,
     alloc: Global,
@@ -151,7 +151,7 @@ fn close_part<T: Drop, W: Holds<Channel<T>>>(
     whole.part_mut().close(alloc)
 }
 
-// The channel answers the running task's future that sends.
+// Asks the channel for the running task's future that sends.
 fn ask_send<T: Drop, W: Holds<Channel<T>>, C: SharedContext<W>>(
     cx: &mut C,
     ticket: Option<u64>,
@@ -165,7 +165,7 @@ fn ask_send<T: Drop, W: Holds<Channel<T>>, C: SharedContext<W>>(
     send_part::<T, W>(cx.shared_mut(), ticket, message, me)
 }
 
-// The channel answers the running task's future that receives.
+// Asks the channel for the running task's future that receives.
 fn ask_recv<T: Drop, W: Holds<Channel<T>>, C: SharedContext<W>>(
     cx: &mut C,
     ticket: Option<u64>,
@@ -178,7 +178,7 @@ fn ask_recv<T: Drop, W: Holds<Channel<T>>, C: SharedContext<W>>(
     recv_part::<T, W>(cx.shared_mut(), ticket, me)
 }
 
-// The running task's future leaves the line of those who wait to send.
+// Takes the running task's future out of the line of senders.
 fn leave_send<T: Drop, W: Holds<Channel<T>>, C: SharedContext<W>>(
     cx: &mut C,
     ticket: Option<u64>,
@@ -190,7 +190,7 @@ fn leave_send<T: Drop, W: Holds<Channel<T>>, C: SharedContext<W>>(
     leave_send_part::<T, W>(cx.shared_mut(), ticket)
 }
 
-// The running task's future leaves the line of those who wait to receive.
+// Takes the running task's future out of the line of receivers.
 fn leave_recv<T: Drop, W: Holds<Channel<T>>, C: SharedContext<W>>(
     cx: &mut C,
     ticket: Option<u64>,
@@ -202,7 +202,7 @@ fn leave_recv<T: Drop, W: Holds<Channel<T>>, C: SharedContext<W>>(
     leave_recv_part::<T, W>(cx.shared_mut(), ticket)
 }
 
-// The running task queues a message at once.
+// Queues a message at once for the running task.
 fn queue<T: Drop, W: Holds<Channel<T>>, C: SharedContext<W>>(
     cx: &mut C,
     message: T,
@@ -214,7 +214,7 @@ fn queue<T: Drop, W: Holds<Channel<T>>, C: SharedContext<W>>(
     try_send_part::<T, W>(cx.shared_mut(), message)
 }
 
-// The running task takes a message at once.
+// Takes a message at once for the running task.
 fn take<T: Drop, W: Holds<Channel<T>>, C: SharedContext<W>>(
     cx: &mut C,
 ) -> Result<(T, Option<Waiter>), TryRecvError>
@@ -225,7 +225,7 @@ fn take<T: Drop, W: Holds<Channel<T>>, C: SharedContext<W>>(
     try_recv_part::<T, W>(cx.shared_mut())
 }
 
-// The running task closes the channel.
+// Closes the channel for the running task.
 fn shut<T: Drop, W: Holds<Channel<T>>, C: SharedContext<W>>(
     cx: &mut C,
     alloc: Global,
@@ -239,8 +239,8 @@ fn shut<T: Drop, W: Holds<Channel<T>>, C: SharedContext<W>>(
 
 /// Sends a message at once, and wakes the first task that waits to receive: the message is promised to it.
 ///
-/// Refused with `Closed` if the channel was closed, with `Full` if no place is free, and with `Memory` if the allocation
-/// failed. A refused message comes back.
+/// Refused with `Closed` if the channel was closed, with `Full` if no place is free, and with `Memory` if the
+/// allocation failed. A refused message comes back.
 pub fn try_send<T: Drop, W: Holds<Channel<T>>, C: SharedContext<W>>(
     cx: &mut C,
     message: T,
@@ -259,8 +259,8 @@ pub fn try_send<T: Drop, W: Holds<Channel<T>>, C: SharedContext<W>>(
 
 /// Receives a message at once, and wakes the first task that waits to send: the place is reserved for it.
 ///
-/// Refused with `Empty` if no message is queued that is not promised, and with `Disconnected` if the channel was closed and
-/// no message is left.
+/// Refused with `Empty` if no message is queued that is not promised, and with `Disconnected` if the channel was closed
+/// and no message is left.
 pub fn try_recv<T: Drop, W: Holds<Channel<T>>, C: SharedContext<W>>(
     cx: &mut C,
 ) -> Result<T, TryRecvError>
@@ -276,9 +276,9 @@ pub fn try_recv<T: Drop, W: Holds<Channel<T>>, C: SharedContext<W>>(
     }
 }
 
-/// Closes the channel, and wakes all that wait to send, and then all that wait to receive.
+/// Closes the channel, wakes all tasks that wait to send, then all that wait to receive.
 ///
-/// The messages that are queued can still be received.
+/// The queued messages can still be received.
 pub fn close<T: Drop, W: Holds<Channel<T>>, C: SharedContext<W>>(alloc: Global, cx: &mut C)
     ensures wakes { CloseWakes (λ x. W.part (C.shared x)) C.number C.work cx.old cx.new }
     ensures reached { C.reaches cx.old cx.new }
@@ -288,7 +288,8 @@ pub fn close<T: Drop, W: Holds<Channel<T>>, C: SharedContext<W>>(alloc: Global, 
     wake_all::<W, C>(cx, receivers);
 }
 
-/// It answers once the message is queued. It fails if the channel was closed, or there was no memory; the message comes back.
+/// The future answers once the message is queued. It fails if the channel was closed, or if out of memory; then the
+/// message comes back.
 impl<T: Drop, W: Holds<Channel<T>>, C: SharedContext<W>> TaskFuture<C> for Send<W, T> {
     type Output = Result<(), SendError<T>>;
 
@@ -344,8 +345,8 @@ impl<T: Drop, W: Holds<Channel<T>>, C: SharedContext<W>> TaskFuture<C> for Send<
     }
 }
 
-/// It answers the first message, or none once the channel was closed and no message is left. It fails if there was no memory
-/// to wait in.
+/// The future answers the first message, or none once the channel was closed and no message is left. It fails if out of
+/// memory.
 impl<T: Drop, W: Holds<Channel<T>>, C: SharedContext<W>> TaskFuture<C> for Recv<W, T> {
     type Output = Result<Option<T>, AllocError>;
 

@@ -12,8 +12,8 @@ use std::collections::VecDeque;
 
 /// At most `bound` messages, the tasks that wait to send one, and the tasks that wait to receive one.
 ///
-/// Both lines are first come, first served. A place that becomes free while tasks wait to send is reserved for the first of
-/// them, and a message that comes while tasks wait to receive is promised to the first of them.
+/// Both lines are first come, first served. A place that becomes free while tasks wait to send is reserved for the
+/// first of them. A message that comes while tasks wait to receive is promised to the first of them.
 #[derive(Drop)]
 pub struct Channel<T> {
     pub(crate) queue: VecDeque<T>,
@@ -23,18 +23,18 @@ pub struct Channel<T> {
     pub(crate) receivers: Line,
 }
 
-/// A message that was not sent at once. It comes back.
+/// A message that was not sent at once, and comes back.
 #[derive(Debug, Drop)]
 pub enum TrySendError<T> {
     /// The channel was closed.
     Closed(T),
-    /// Each place is taken, or is reserved for a task that waited.
+    /// Each place is taken, or reserved for a task that waited.
     Full(T),
-    /// There was no memory.
+    /// The allocation failed.
     Memory(T),
 }
 
-/// Why no message was received at once.
+/// The reason why no message was received at once.
 #[derive(Debug, Drop)]
 pub enum TryRecvError {
     /// No message is queued that is not promised to a task that waited.
@@ -43,37 +43,37 @@ pub enum TryRecvError {
     Disconnected,
 }
 
-/// What a future that sends is answered.
+/// The answer to a future that sends.
 #[derive(Drop)]
 pub enum Sending<T> {
     /// The message is queued. The task that waited to receive, if any, is to be woken.
     Sent(Option<Waiter>),
     /// The channel was closed. The message comes back.
     Closed(T),
-    /// There was no memory. The message comes back, and the task for which its place is reserved now is to be woken.
+    /// The allocation failed. The message comes back, and the task for which its place is now reserved is to be woken.
     Memory(T, Option<Waiter>),
-    /// It waits from now on, with this ticket. The message comes back.
+    /// The future waits from now on, with this ticket. The message comes back.
     Joined(u64, T),
-    /// It still waits. The message comes back.
+    /// The future still waits. The message comes back.
     Waits(T),
 }
 
-/// What a future that receives is answered.
+/// The answer to a future that receives.
 #[derive(Drop)]
 pub enum Receiving<T> {
     /// The first message. The task that waited to send, if any, is to be woken.
     Received(T, Option<Waiter>),
     /// The channel was closed, and no message is left.
     Closed,
-    /// There was no memory to wait in.
+    /// The allocation of a place in the line failed.
     Memory,
-    /// It waits from now on, with this ticket.
+    /// The future waits from now on, with this ticket.
     Joined(u64),
-    /// It still waits.
+    /// The future still waits.
     Waits,
 }
 
-/// Some calls were made, and nothing else was done.
+/// Calls alone lead one channel to another.
 impl<T> SharedState for Channel<T> {
     ghost leads = { Leads };
 
@@ -116,14 +116,15 @@ impl<T: Drop> Channel<T> {
         self.is_closed
     }
 
-    // How many places are not taken by a message.
+    // Returns how many places are not taken by a message.
     fn places(&self) -> usize
         ensures { result ≡ places self.now }
     {
         self.bound.saturating_sub(self.queue.len())
     }
 
-    // Queues a message last. The first task that waits to receive is to be woken. Without memory the message comes back.
+    // Appends a message to the queue. The first task that waits to receive is to be woken. If out of memory, the
+    // message comes back.
     fn push(&mut self, message: T) -> Result<Option<Waiter>, T>
         ensures pushes { MatchResult result (λ first. Pushes self.old message first self.new) (λ y. (y ≡ message) × (self.new.queue.items ≡ self.old.queue.items) × (self.new.receivers ≡ self.old.receivers) × Kept self.old self.new) }
         ensures senders { self.new.senders ≡ self.old.senders }
@@ -169,8 +170,8 @@ impl<T: Drop> Channel<T> {
 
     /// Takes the first message at once, and returns the task that waited to send, if any: it is to be woken.
     ///
-    /// Refused with `Empty` if no message is queued that is not promised, and with `Disconnected` if the channel was closed
-    /// and no message is left.
+    /// Refused with `Empty` if no message is queued that is not promised, and with `Disconnected` if the channel was
+    /// closed and no message is left.
     pub fn try_recv(&mut self) -> Result<(T, Option<Waiter>), TryRecvError>
         ensures { TriesToReceive self.old result self.new }
     {
@@ -183,7 +184,8 @@ impl<T: Drop> Channel<T> {
         }
     }
 
-    /// Sends a message for a future of this task, or lets the future wait. The ticket is the one that the future drew before.
+    /// Sends a message for a future of this task, or makes the future wait. The ticket is the one that the future drew
+    /// before.
     pub fn send(&mut self, ticket: Option<u64>, message: T, task: u64) -> Sending<T>
         ensures { Sends self.old ticket message task result self.new }
     {
@@ -211,8 +213,8 @@ impl<T: Drop> Channel<T> {
         }
     }
 
-    /// Receives a message for a future of this task, or lets the future wait. The ticket is the one that the future drew
-    /// before.
+    /// Receives a message for a future of this task, or makes the future wait. The ticket is the one that the future
+    /// drew before.
     pub fn recv(&mut self, ticket: Option<u64>, task: u64) -> Receiving<T>
         ensures { Receives self.old ticket task result self.new }
     {
@@ -237,8 +239,8 @@ impl<T: Drop> Channel<T> {
         }
     }
 
-    /// Takes a future out of the line of those who wait to send. A place that was reserved for it is reserved for the task
-    /// that is returned, which is to be woken.
+    /// Takes a future out of the line of senders. Its reserved place, if any, goes to the task that is returned, which
+    /// is to be woken.
     pub fn give_up_send(&mut self, ticket: Option<u64>) -> Option<Waiter>
         ensures { GivesUpSend self.old ticket result self.new }
     {
@@ -247,8 +249,8 @@ impl<T: Drop> Channel<T> {
         self.senders.serve(free)
     }
 
-    /// Takes a future out of the line of those who wait to receive. A message that was promised to it is promised to the task
-    /// that is returned, which is to be woken.
+    /// Takes a future out of the line of receivers. Its promised message, if any, goes to the task that is returned,
+    /// which is to be woken.
     pub fn give_up_recv(&mut self, ticket: Option<u64>) -> Option<Waiter>
         ensures { GivesUpReceive self.old ticket result self.new }
     {
@@ -256,9 +258,9 @@ impl<T: Drop> Channel<T> {
         self.receivers.serve(self.queue.len())
     }
 
-    /// Closes the channel, and returns those who wait to send and those who wait to receive: all are to be woken.
+    /// Closes the channel, and returns the tasks that wait to send and those that wait to receive: all are to be woken.
     ///
-    /// The messages that are queued can still be received.
+    /// The queued messages can still be received.
     pub fn close(&mut self, alloc: Global) -> (VecDeque<Waiter>, VecDeque<Waiter>)
         ensures { Closes self.old result.0.items result.1.items self.new }
     {

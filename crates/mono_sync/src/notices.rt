@@ -11,30 +11,30 @@ use std::collections::VecDeque;
 
 /// A notice to one or to all of the tasks that wait for it, first come, first served.
 ///
-/// A notice to one that comes while nobody waits is kept for the next future that asks. At most one is kept.
+/// A notice to one is kept for the next future that asks if no task waits. At most one is kept.
 #[derive(Drop)]
 pub struct Notify {
-    // a notice is kept
+    // Whether a notice is kept.
     pub(crate) is_notified: bool,
     pub(crate) line: Line,
-    // tickets below this one left the line before or at the last notice to all
+    // Tickets below this one left the line before or at the last notice to all.
     pub(crate) cleared: u64,
 }
 
-/// What a future that asks for a notice is answered.
+/// The answer to a future that asks for a notice.
 #[derive(Debug, Drop)]
 pub enum Notifying {
-    /// It was notified.
+    /// The future was notified.
     Notified,
-    /// There was no memory to wait in.
+    /// The allocation of a place in the line failed.
     Memory,
-    /// It waits from now on, with this ticket.
+    /// The future waits from now on, with this ticket.
     Joined(u64),
-    /// It still waits.
+    /// The future still waits.
     Waits,
 }
 
-/// Some calls were made, and nothing else was done.
+/// Calls alone lead one notice to another.
 impl SharedState for Notify {
     ghost leads = { Leads Step };
 
@@ -44,7 +44,7 @@ impl SharedState for Notify {
 }
 
 impl Notify {
-    /// Returns a notice that nobody has given and for which nobody waits.
+    /// Returns a notice that was not given and for which no task waits.
     pub fn new(alloc: Global) -> Notify
         ensures waiters { result.line.waiters.items ≡ [] }
         ensures kept { result.is_notified ≡ false }
@@ -56,7 +56,7 @@ impl Notify {
         }
     }
 
-    /// Notifies the first task that waits, and returns it: it is to be woken. If nobody waits, the notice is kept.
+    /// Notifies the first task that waits, and returns it: it is to be woken. If no task waits, the notice is kept.
     pub fn notify_one(&mut self) -> Option<Waiter>
         ensures { NotifiesOne self.old result self.new }
     {
@@ -69,7 +69,8 @@ impl Notify {
         }
     }
 
-    /// Notifies all that wait, and returns them: they are to be woken. No notice is kept for a future that asks later.
+    /// Notifies all tasks that wait, and returns them: they are to be woken. No notice is kept for a future that asks
+    /// later.
     pub fn notify_waiters(&mut self, alloc: Global) -> VecDeque<Waiter>
         ensures { NotifiesAll self.old result.items self.new }
     {
@@ -77,7 +78,7 @@ impl Notify {
         self.line.take_all(alloc)
     }
 
-    /// Answers a future of this task, or lets it wait. The ticket is the one that the future drew before.
+    /// Answers a future of this task, or makes it wait. The ticket is the one that the future drew before.
     pub fn notified(&mut self, ticket: Option<u64>, task: u64) -> Notifying
         ensures { Awaits self.old ticket task result self.new }
     {
@@ -101,8 +102,8 @@ impl Notify {
         }
     }
 
-    /// Takes a future out of the line. If it was notified by `notify_one`, the notice goes to the task that is returned, which
-    /// is to be woken, or is kept. A future that waited at the last `notify_waiters` hands nothing on.
+    /// Takes a future out of the line. If it was notified by `notify_one`, the notice goes to the task that is
+    /// returned, which is to be woken, or is kept. A future that waited at the last `notify_waiters` passes nothing on.
     pub fn give_up(&mut self, ticket: Option<u64>) -> Option<Waiter>
         ensures { GivesUp self.old ticket result self.new }
     {

@@ -1,4 +1,4 @@
-// What a task does with a notice: it waits, and notifies.
+// The calls of a task on a notice: it waits, and notifies.
 ghost use Rattle.std.specs.Prelude.{◌≡◌, false};
 ghost use Rattle.std.specs.declared.option.Option.TheVariants.{None};
 ghost use Rattle.mono_sync.specs.Notices.{NotifiesOne, NotifiesAll, Awaits, GivesUp};
@@ -15,7 +15,7 @@ use std::alloc::{AllocError, Global};
 use std::collections::VecDeque;
 use std::marker::PhantomData;
 
-/// Waits for a notice that the tasks share.
+/// A future that waits for a notice that the tasks share.
 #[derive(Drop)]
 pub struct Notified<W> {
     pub(crate) ticket: Option<u64>,
@@ -37,7 +37,7 @@ impl<W> Notified<W> {
     }
 }
 
-// The notice answers a future of this task.
+// Asks the notice for a future of this task.
 fn ask_part<W: Holds<Notify>>(whole: &mut W, ticket: Option<u64>, task: u64) -> Notifying
     ensures answer { Awaits (W.part whole.old) ticket task result (W.part whole.new) }
     ensures leads { W.leads whole.old whole.new }
@@ -45,7 +45,7 @@ fn ask_part<W: Holds<Notify>>(whole: &mut W, ticket: Option<u64>, task: u64) -> 
     whole.part_mut().notified(ticket, task)
 }
 
-// A future leaves the line.
+// Takes a future out of the line.
 fn leave_part<W: Holds<Notify>>(whole: &mut W, ticket: Option<u64>) -> Option<Waiter>
     ensures answer { GivesUp (W.part whole.old) ticket result (W.part whole.new) }
     ensures leads { W.leads whole.old whole.new }
@@ -53,7 +53,7 @@ fn leave_part<W: Holds<Notify>>(whole: &mut W, ticket: Option<u64>) -> Option<Wa
     whole.part_mut().give_up(ticket)
 }
 
-// The first that waits is notified.
+// Notifies the first task that waits.
 fn one_part<W: Holds<Notify>>(whole: &mut W) -> Option<Waiter>
     ensures answer { NotifiesOne (W.part whole.old) result (W.part whole.new) }
     ensures leads { W.leads whole.old whole.new }
@@ -61,7 +61,7 @@ fn one_part<W: Holds<Notify>>(whole: &mut W) -> Option<Waiter>
     whole.part_mut().notify_one()
 }
 
-// All that wait are notified.
+// Notifies all tasks that wait.
 fn all_part<W: Holds<Notify>>(whole: &mut W, alloc: Global) -> VecDeque<Waiter>
     ensures answer { NotifiesAll (W.part whole.old) result.items (W.part whole.new) }
     ensures leads { W.leads whole.old whole.new }
@@ -69,7 +69,7 @@ fn all_part<W: Holds<Notify>>(whole: &mut W, alloc: Global) -> VecDeque<Waiter>
     whole.part_mut().notify_waiters(alloc)
 }
 
-// The notice answers the running task's future.
+// Asks the notice for the running task's future.
 fn ask<W: Holds<Notify>, C: SharedContext<W>>(cx: &mut C, ticket: Option<u64>) -> Notifying
     ensures answer { Awaits (W.part (C.shared cx.old)) ticket (C.number cx.old) result (W.part (C.shared cx.new)) }
     ensures work { C.work cx.new ≡ C.work cx.old }
@@ -79,7 +79,7 @@ fn ask<W: Holds<Notify>, C: SharedContext<W>>(cx: &mut C, ticket: Option<u64>) -
     ask_part(cx.shared_mut(), ticket, me)
 }
 
-// The running task's future leaves the line.
+// Takes the running task's future out of the line.
 fn leave<W: Holds<Notify>, C: SharedContext<W>>(cx: &mut C, ticket: Option<u64>) -> Option<Waiter>
     ensures answer { GivesUp (W.part (C.shared cx.old)) ticket result (W.part (C.shared cx.new)) }
     ensures work { C.work cx.new ≡ C.work cx.old }
@@ -88,7 +88,7 @@ fn leave<W: Holds<Notify>, C: SharedContext<W>>(cx: &mut C, ticket: Option<u64>)
     leave_part(cx.shared_mut(), ticket)
 }
 
-// The running task notifies the first that waits.
+// Notifies the first task that waits, for the running task.
 fn one<W: Holds<Notify>, C: SharedContext<W>>(cx: &mut C) -> Option<Waiter>
     ensures answer { NotifiesOne (W.part (C.shared cx.old)) result (W.part (C.shared cx.new)) }
     ensures work { C.work cx.new ≡ C.work cx.old }
@@ -97,7 +97,7 @@ fn one<W: Holds<Notify>, C: SharedContext<W>>(cx: &mut C) -> Option<Waiter>
     one_part(cx.shared_mut())
 }
 
-// The running task notifies all that wait.
+// Notifies all tasks that wait, for the running task.
 fn all<W: Holds<Notify>, C: SharedContext<W>>(cx: &mut C, alloc: Global) -> VecDeque<Waiter>
     ensures answer { NotifiesAll (W.part (C.shared cx.old)) result.items (W.part (C.shared cx.new)) }
     ensures work { C.work cx.new ≡ C.work cx.old }
@@ -106,7 +106,7 @@ fn all<W: Holds<Notify>, C: SharedContext<W>>(cx: &mut C, alloc: Global) -> VecD
     all_part(cx.shared_mut(), alloc)
 }
 
-/// Notifies the first task that waits, and wakes it. If nobody waits, the notice is kept.
+/// Notifies the first task that waits, and wakes it. If no task waits, the notice is kept.
 pub fn notify_one<W: Holds<Notify>, C: SharedContext<W>>(cx: &mut C)
     ensures wakes { OneWakes (λ x. W.part (C.shared x)) C.number C.work cx.old cx.new }
     ensures reached { C.reaches cx.old cx.new }
@@ -115,7 +115,7 @@ pub fn notify_one<W: Holds<Notify>, C: SharedContext<W>>(cx: &mut C)
     wake_first::<W, C>(cx, first);
 }
 
-/// Notifies all that wait, and wakes them. No notice is kept for a future that asks later.
+/// Notifies all tasks that wait, and wakes them. No notice is kept for a future that asks later.
 pub fn notify_waiters<W: Holds<Notify>, C: SharedContext<W>>(alloc: Global, cx: &mut C)
     ensures wakes { AllWakes (λ x. W.part (C.shared x)) C.number C.work cx.old cx.new }
     ensures reached { C.reaches cx.old cx.new }
@@ -124,7 +124,7 @@ pub fn notify_waiters<W: Holds<Notify>, C: SharedContext<W>>(alloc: Global, cx: 
     wake_all::<W, C>(cx, woken);
 }
 
-/// It answers once it was notified. It fails if there was no memory to wait in.
+/// The future answers once it was notified. It fails if out of memory.
 impl<W: Holds<Notify>, C: SharedContext<W>> TaskFuture<C> for Notified<W> {
     type Output = Result<(), AllocError>;
 

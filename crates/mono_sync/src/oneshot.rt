@@ -14,31 +14,31 @@ use std::mem;
 pub struct Oneshot<T> {
     pub(crate) message: Option<T>,
     pub(crate) receiver: Option<u64>,
-    // it takes no message any more
+    // Whether it takes no further message.
     pub(crate) is_closed: bool,
 }
 
-/// Why no message was received at once.
+/// The reason why no message was received at once.
 #[derive(Debug, Drop)]
 pub enum TryRecvError {
-    /// None was sent yet.
+    /// No message was sent yet.
     Empty,
     /// The channel was closed before one was sent, or the message was received.
     Closed,
 }
 
-/// What a future that receives is answered.
+/// The answer to a future that receives.
 #[derive(Drop)]
 pub enum Receiving<T> {
     /// The message.
     Received(T),
-    /// No message comes.
+    /// No message will come.
     Closed,
-    /// It waits.
+    /// The future waits.
     Waits,
 }
 
-/// Some calls were made, and nothing else was done.
+/// Calls alone lead one channel to another.
 impl<T> SharedState for Oneshot<T> {
     ghost leads = { Leads Step };
 
@@ -61,15 +61,15 @@ impl<T: Drop> Oneshot<T> {
         }
     }
 
-    /// Returns whether the channel takes no message any more: one was sent, or it was closed.
+    /// Returns whether the channel takes no further message: one was sent, or it was closed.
     pub fn is_closed(&self) -> bool
         ensures { result ≡ self.now.is_closed }
     {
         self.is_closed
     }
 
-    /// Sends the message, and returns the task that waits for it, if any: it is to be woken. The message comes back if one was
-    /// sent before or the channel was closed.
+    /// Sends the message, and returns the task that waits for it, if any: it is to be woken. The message comes back if
+    /// one was sent before or the channel was closed.
     pub fn send(&mut self, message: T) -> Result<Option<u64>, T>
         ensures { Sends self.old message result self.new }
     {
@@ -81,7 +81,7 @@ impl<T: Drop> Oneshot<T> {
         Ok(mem::replace(&mut self.receiver, None))
     }
 
-    /// Takes the message at once. Refused with `Empty` if none was sent yet, and with `Closed` if none comes.
+    /// Takes the message at once. Refused with `Empty` if none was sent yet, and with `Closed` if none will come.
     pub fn try_recv(&mut self) -> Result<T, TryRecvError>
         ensures { TriesToReceive self.old result self.new }
     {
@@ -92,7 +92,7 @@ impl<T: Drop> Oneshot<T> {
         }
     }
 
-    /// Takes the message for a future of this task, or lets the future wait.
+    /// Takes the message for a future of this task, or makes the future wait.
     pub fn recv(&mut self, task: u64) -> Receiving<T>
         ensures { Receives self.old task result self.new }
     {
@@ -115,7 +115,7 @@ impl<T: Drop> Oneshot<T> {
         mem::replace(&mut self.receiver, None)
     }
 
-    /// Notes that the task waits no more.
+    /// Removes the waiting task.
     pub fn give_up(&mut self)
         ensures { GivesUp self.old self.new }
     {

@@ -6,21 +6,21 @@ use mono_shared::SharedState;
 
 /// A shared value that has an `X` as a part: the value itself, or a field of it.
 pub trait Holds<X: SharedState>: SharedState {
-    // the part
+    // The part.
     ghost part: { Self → X };
 
-    // the value with this part in its place
+    // The value with this part in its place.
     ghost with_part: { Self → X → Self };
 
-    /// Returns the part, to be read and changed. What is left behind the reference is the part afterwards, and nothing else of
-    /// the value changes (`writes_back`).
+    /// Returns the part, to be read and changed. The last value under the reference is the part afterwards, and nothing
+    /// else of the value changes (`writes_back`).
     fn part_mut(&mut self) -> &mut X
         ensures* writes_back { sem 𝓛 (Lends Self.row X.row self.entry result (with_part self.old)) }
         ensures value { result.now ≡ part self.old };
 
     ghost part_with: { (w : Self) (x : X) → part (with_part w x) ≡ x };
 
-    // a value whose part was led is led
+    // The value is led if its part is led.
     ghost leads_with: { (w : Self) (x : X) → X.leads (part w) x → Self.leads w (with_part w x) };
 }
 
@@ -31,7 +31,7 @@ pub struct Only<X> {
     pub part: X,
 }
 
-/// It leads as its part does.
+/// The value is led as its part is.
 impl<X: SharedState> SharedState for Only<X> {
     ghost leads = { λ a b. X.leads a.part b.part };
 

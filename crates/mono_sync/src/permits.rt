@@ -1,4 +1,4 @@
-// What a task does with a semaphore: it acquires and releases.
+// The calls of a task on a semaphore: it acquires and releases.
 ghost use Rattle.std.specs.Prelude.{◌≡◌, false};
 ghost use Rattle.std.specs.declared.option.Option.TheVariants.{None};
 ghost use Rattle.mono_sync.specs.Semaphores.{TriesToAcquire, Acquires, Releases, GivesUp, Closes};
@@ -15,7 +15,7 @@ use std::alloc::Global;
 use std::collections::VecDeque;
 use std::marker::PhantomData;
 
-/// Acquires a permit of the semaphore that the tasks share, and waits for one if none is free.
+/// A future that acquires a permit of the tasks' semaphore, and waits for one if none is free.
 #[derive(Drop)]
 pub struct Acquire<W> {
     pub(crate) ticket: Option<u64>,
@@ -23,12 +23,12 @@ pub struct Acquire<W> {
     shared: PhantomData<W>,
 }
 
-/// Why no permit was acquired.
+/// The reason why no permit was acquired.
 #[derive(Debug, Drop)]
 pub enum AcquireError {
     /// The semaphore was closed.
     Closed,
-    /// There was no memory to wait in.
+    /// The allocation of a place in the line failed.
     Memory,
 }
 
@@ -46,7 +46,7 @@ impl<W> Acquire<W> {
     }
 }
 
-// The semaphore answers a future of this task.
+// Asks the semaphore for a future of this task.
 fn ask_part<W: Holds<Semaphore>>(whole: &mut W, ticket: Option<u64>, task: u64) -> Acquiring
     ensures answer { Acquires (W.part whole.old) ticket task result (W.part whole.new) }
     ensures leads { W.leads whole.old whole.new }
@@ -54,7 +54,7 @@ fn ask_part<W: Holds<Semaphore>>(whole: &mut W, ticket: Option<u64>, task: u64) 
     whole.part_mut().acquire(ticket, task)
 }
 
-// A future leaves the line.
+// Takes a future out of the line.
 fn leave_part<W: Holds<Semaphore>>(whole: &mut W, ticket: Option<u64>) -> Option<Waiter>
     ensures answer { GivesUp (W.part whole.old) ticket result (W.part whole.new) }
     ensures leads { W.leads whole.old whole.new }
@@ -62,7 +62,7 @@ fn leave_part<W: Holds<Semaphore>>(whole: &mut W, ticket: Option<u64>) -> Option
     whole.part_mut().give_up(ticket)
 }
 
-// The semaphore answers the running task's future.
+// Asks the semaphore for the running task's future.
 fn ask<W: Holds<Semaphore>, C: SharedContext<W>>(cx: &mut C, ticket: Option<u64>) -> Acquiring
     ensures answer { Acquires (W.part (C.shared cx.old)) ticket (C.number cx.old) result (W.part (C.shared cx.new)) }
     ensures work { C.work cx.new ≡ C.work cx.old }
@@ -72,7 +72,7 @@ fn ask<W: Holds<Semaphore>, C: SharedContext<W>>(cx: &mut C, ticket: Option<u64>
     ask_part(cx.shared_mut(), ticket, me)
 }
 
-// The running task's future leaves the line.
+// Takes the running task's future out of the line.
 fn leave<W: Holds<Semaphore>, C: SharedContext<W>>(
     cx: &mut C,
     ticket: Option<u64>,
@@ -84,7 +84,7 @@ fn leave<W: Holds<Semaphore>, C: SharedContext<W>>(
     leave_part(cx.shared_mut(), ticket)
 }
 
-// A permit is taken at once.
+// Takes a permit at once.
 fn try_part<W: Holds<Semaphore>>(whole: &mut W) -> Result<(), TryAcquireError>
     ensures answer { TriesToAcquire (W.part whole.old) result (W.part whole.new) }
     ensures leads { W.leads whole.old whole.new }
@@ -92,7 +92,7 @@ fn try_part<W: Holds<Semaphore>>(whole: &mut W) -> Result<(), TryAcquireError>
     whole.part_mut().try_acquire()
 }
 
-// A permit is put back.
+// Puts a permit back.
 fn release_part<W: Holds<Semaphore>>(whole: &mut W) -> Result<Option<Waiter>, TooManyPermits>
     ensures answer { Releases (W.part whole.old) result (W.part whole.new) }
     ensures leads { W.leads whole.old whole.new }
@@ -100,7 +100,7 @@ fn release_part<W: Holds<Semaphore>>(whole: &mut W) -> Result<Option<Waiter>, To
     whole.part_mut().release()
 }
 
-// The semaphore is closed.
+// Closes the semaphore.
 fn close_part<W: Holds<Semaphore>>(whole: &mut W, alloc: Global) -> VecDeque<Waiter>
     ensures answer { Closes (W.part whole.old) result.items (W.part whole.new) }
     ensures leads { W.leads whole.old whole.new }
@@ -108,7 +108,7 @@ fn close_part<W: Holds<Semaphore>>(whole: &mut W, alloc: Global) -> VecDeque<Wai
     whole.part_mut().close(alloc)
 }
 
-// The running task puts a permit back.
+// Puts a permit back for the running task.
 fn put_back<W: Holds<Semaphore>, C: SharedContext<W>>(
     cx: &mut C,
 ) -> Result<Option<Waiter>, TooManyPermits>
@@ -119,7 +119,7 @@ fn put_back<W: Holds<Semaphore>, C: SharedContext<W>>(
     release_part(cx.shared_mut())
 }
 
-// The running task closes the semaphore.
+// Closes the semaphore for the running task.
 fn shut<W: Holds<Semaphore>, C: SharedContext<W>>(cx: &mut C, alloc: Global) -> VecDeque<Waiter>
     ensures answer { Closes (W.part (C.shared cx.old)) result.items (W.part (C.shared cx.new)) }
     ensures work { C.work cx.new ≡ C.work cx.old }
@@ -141,7 +141,7 @@ pub fn try_acquire<W: Holds<Semaphore>, C: SharedContext<W>>(
 
 /// Releases a permit, and wakes the first task that waits for one: the permit is reserved for it.
 ///
-/// Refused if there are as many permits as there may be.
+/// Refused if the permits are at their maximum.
 pub fn release<W: Holds<Semaphore>, C: SharedContext<W>>(cx: &mut C) -> Result<(), TooManyPermits>
     ensures wakes { ReleaseWakes (λ x. W.part (C.shared x)) C.number C.work cx.old result cx.new }
     ensures reached { C.reaches cx.old cx.new }
@@ -155,7 +155,7 @@ pub fn release<W: Holds<Semaphore>, C: SharedContext<W>>(cx: &mut C) -> Result<(
     }
 }
 
-/// Closes the semaphore, and wakes all that wait for a permit. Nobody gets one from now on.
+/// Closes the semaphore, and wakes all tasks that wait for a permit. No task gets one from now on.
 pub fn close<W: Holds<Semaphore>, C: SharedContext<W>>(alloc: Global, cx: &mut C)
     ensures wakes { CloseWakes (λ x. W.part (C.shared x)) C.number C.work cx.old cx.new }
     ensures reached { C.reaches cx.old cx.new }
@@ -164,7 +164,7 @@ pub fn close<W: Holds<Semaphore>, C: SharedContext<W>>(alloc: Global, cx: &mut C
     wake_all::<W, C>(cx, woken);
 }
 
-/// It answers once it has a permit. It fails if the semaphore was closed, or there was no memory to wait in.
+/// The future answers once it has a permit. It fails if the semaphore was closed, or if out of memory.
 impl<W: Holds<Semaphore>, C: SharedContext<W>> TaskFuture<C> for Acquire<W> {
     type Output = Result<(), AcquireError>;
 

@@ -8,49 +8,50 @@ use mono_shared::SharedState;
 use std::alloc::Global;
 use std::collections::VecDeque;
 
-/// The most permits that a semaphore may have.
+/// The greatest number of permits that a semaphore may have.
 pub const MAX_PERMITS: usize = 2305843009213693951;
 
 /// Permits, and the tasks that wait for one, first come, first served.
 ///
-/// A permit that is released while tasks wait is reserved for the first of them. So no task that asks later overtakes it.
+/// A permit that is released while tasks wait is reserved for the first of them. So no task that asks later overtakes
+/// it.
 #[derive(Drop)]
 pub struct Semaphore {
-    // the permits that no one holds, with those that are reserved for tasks that were served
+    // The permits that no task holds, with those that are reserved for tasks that were served.
     pub(crate) available: usize,
     pub(crate) is_closed: bool,
     pub(crate) line: Line,
 }
 
-/// Why no permit was given at once.
+/// The reason why no permit was given at once.
 #[derive(Debug, Drop)]
 pub enum TryAcquireError {
     /// The semaphore was closed.
     Closed,
-    /// Each permit is held, or is reserved for a task that waited.
+    /// Each permit is held, or reserved for a task that waited.
     NoPermits,
 }
 
-/// A permit was released, and there were as many as there may be.
+/// The error of a release while the permits are at their maximum.
 #[derive(Debug, Drop)]
 pub struct TooManyPermits;
 
-/// What a future that asks for a permit is answered.
+/// The answer to a future that asks for a permit.
 #[derive(Debug, Drop)]
 pub enum Acquiring {
-    /// It has a permit.
+    /// The future has a permit.
     Acquired,
     /// The semaphore was closed.
     Closed,
-    /// There was no memory to wait in.
+    /// The allocation of a place in the line failed.
     Memory,
-    /// It waits from now on, with this ticket.
+    /// The future waits from now on, with this ticket.
     Joined(u64),
-    /// It still waits.
+    /// The future still waits.
     Waits,
 }
 
-/// Some calls were made, and nothing else was done.
+/// Calls alone lead one semaphore to another.
 impl SharedState for Semaphore {
     ghost leads = { Leads };
 
@@ -60,7 +61,7 @@ impl SharedState for Semaphore {
 }
 
 impl Semaphore {
-    /// Returns a semaphore with this many permits.
+    /// Returns a semaphore with `permits` permits.
     pub fn new(alloc: Global, permits: usize) -> Semaphore
         ensures available { result.available ≡ permits }
         ensures waiters { result.line.waiters.items ≡ [] }
@@ -102,7 +103,8 @@ impl Semaphore {
         Ok(())
     }
 
-    /// Takes a permit for a future of this task, or lets the future wait. The ticket is the one that the future drew before.
+    /// Takes a permit for a future of this task, or makes the future wait. The ticket is the one that the future drew
+    /// before.
     pub fn acquire(&mut self, ticket: Option<u64>, task: u64) -> Acquiring
         ensures { Acquires self.old ticket task result self.new }
     {
@@ -124,7 +126,7 @@ impl Semaphore {
 
     /// Releases a permit, and returns the first task that waits: the permit is reserved for it, and it is to be woken.
     ///
-    /// Refused if there are as many permits as there may be.
+    /// Refused if the permits are at their maximum.
     pub fn release(&mut self) -> Result<Option<Waiter>, TooManyPermits>
         ensures { Releases self.old result self.new }
     {
@@ -135,8 +137,8 @@ impl Semaphore {
         Ok(self.line.serve(self.available))
     }
 
-    /// Takes a future out of the line. A permit that was reserved for it is reserved for the task that is returned, which is
-    /// to be woken.
+    /// Takes a future out of the line. Its reserved permit, if any, goes to the task that is returned, which is to be
+    /// woken.
     pub fn give_up(&mut self, ticket: Option<u64>) -> Option<Waiter>
         ensures { GivesUp self.old ticket result self.new }
     {
@@ -144,7 +146,7 @@ impl Semaphore {
         self.line.serve(self.available)
     }
 
-    /// Closes the semaphore, and returns all that wait: they are to be woken. Nobody gets a permit from now on.
+    /// Closes the semaphore, and returns all tasks that wait: they are to be woken. No task gets a permit from now on.
     pub fn close(&mut self, alloc: Global) -> VecDeque<Waiter>
         ensures { Closes self.old result.items self.new }
     {

@@ -1,4 +1,4 @@
-// Those who are served are woken.
+// The wakes of tasks that are served.
 ghost use Rattle.std.specs.Prelude.{◌≡◌};
 ghost use Rattle.mono_model.specs.Tasks.{woken_if_any, all_woken};
 ghost use Rattle.mono_sync.specs.Wakes.{task_of, tasks_of};
@@ -18,7 +18,7 @@ pub(crate) fn wake_first<W: SharedState, C: SharedContext<W>>(cx: &mut C, first:
     }
 }
 
-// Wakes all who are served, in order.
+// Wakes all tasks that are served, in order.
 pub(crate) fn wake_all<W: SharedState, C: SharedContext<W>>(cx: &mut C, woken: VecDeque<Waiter>)
     ensures shared { C.shared cx.new ≡ C.shared cx.old }
     ensures work { C.work cx.new ≡ all_woken (C.work cx.old) (tasks_of woken.items) }

@@ -1,4 +1,4 @@
-// A watched value, of which the last one alone is kept.
+// A watched value; only the last one is kept.
 ghost use Rattle.std.specs.Prelude.{◌≡◌, [], false};
 ghost use Rattle.mono_sync.specs.Runs.{Leads, leads_itself, leads_on};
 ghost use Rattle.mono_sync.specs.WatchRuns.{Step};
@@ -20,18 +20,18 @@ pub struct Watch<T> {
     pub(crate) line: Line,
 }
 
-/// What a future that waits for another value is answered.
+/// The answer to a future that waits for another value.
 #[derive(Debug, Drop)]
 pub enum Changing {
     /// There is another value, with this version.
     Changed(u64),
-    /// No other value comes.
+    /// No other value will come.
     Closed,
-    /// There was no memory to wait in.
+    /// The allocation of a place in the line failed.
     Memory,
-    /// It waits from now on, with this ticket.
+    /// The future waits from now on, with this ticket.
     Joined(u64),
-    /// It still waits.
+    /// The future still waits.
     Waits,
 }
 
@@ -40,11 +40,11 @@ pub enum Changing {
 pub struct Replaced<T> {
     /// The value before.
     pub old: T,
-    /// Those who waited.
+    /// The tasks that waited.
     pub woken: VecDeque<Waiter>,
 }
 
-/// Some calls were made, and nothing else was done.
+/// Calls alone lead one watched value to another.
 impl<T> SharedState for Watch<T> {
     ghost leads = { Leads Step };
 
@@ -101,8 +101,8 @@ impl<T: Drop> Watch<T> {
         })
     }
 
-    /// Answers a future of this task that has seen a version, or lets it wait. The ticket is the one that the future drew
-    /// before.
+    /// Answers a future of this task that has seen a version, or makes it wait. The ticket is the one that the future
+    /// drew before.
     pub fn changed(&mut self, seen: u64, ticket: Option<u64>, task: u64) -> Changing
         ensures { Changes self.old seen ticket task result self.new }
     {
@@ -128,7 +128,7 @@ impl<T: Drop> Watch<T> {
         self.line.leave(ticket);
     }
 
-    /// Closes the value, and returns all that wait: they are to be woken.
+    /// Closes the value, and returns all tasks that wait: they are to be woken.
     pub fn close(&mut self, alloc: Global) -> VecDeque<Waiter>
         ensures { Closes self.old result.items self.new }
     {

@@ -14,7 +14,7 @@ use mono_model::Poll;
 impl<O: Outcome + Drop, W: Wakes + Drop> Joiner<O, W> {
     /// Polls for the output, which no earlier poll may have returned.
     ///
-    /// Returns Ready with it if and only if a step of this call saw the word complete. Returns Pending only if the step
+    /// Returns Ready with it if a step of this call saw the word complete. Returns Pending only if the step
     /// that placed the waker, or the load that found one with its number in place, saw the word incomplete; `pending`
     /// says what then is known. A waker with the number of the one in place is dropped, and one with another number
     /// replaces it. `answer` lists each step of the call.
