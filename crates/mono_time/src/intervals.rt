@@ -22,12 +22,16 @@ const LATE: u128 = 5000000;
 ///
 /// ```rust
 /// // from test_futures/src/interval_ticks.rt: at 199 ms, four ticks follow at once
+/// fn ticks_at(cx: &mut Desk, interval: &mut Interval, millis: u32) -> bool {
+///     interval.poll_tick(cx) == Ok(Poll::Ready(at_millis(millis)))
+/// }
+/// // ..
 /// let Ok(mut ticks) = interval(alloc, cx, Duration::from_millis(50)) else {
 ///     return false;
 /// };
 /// go_to(cx, 199);
 /// for millis in [0, 50, 100, 150] {
-///     if ticks.poll_tick(cx) != Ok(Poll::Ready(at_millis(millis))) {
+///     if !ticks_at(cx, &mut ticks, millis) {
 ///         return false;
 ///     }
 /// }
