@@ -1,4 +1,5 @@
--- Worked checks: two sleeps of one tick that were moved there fire in any order, and one that is not armed does not fire.
+-- Examples of checks: two sleeps of one tick that were moved there fire in any order, and a sleep that is not armed
+-- does not fire.
 use Rattle.std.specs.Prelude.{ℕ, List, [], ◌∷◌}
 use Rattle.mono_model.specs.declared.Ended.TheVariants as ended
 use Rattle.mono_machine.specs.Examples.{start, spawn, new_sleep, poll}
@@ -14,7 +15,7 @@ use Rattle.mono_trace.specs.Verdicts.{IsVerdict}
 use Rattle.mono_trace.specs.declared.Verdict.{Verdict}
 use Rattle.mono_trace.specs.declared.Verdict.TheVariants.{Yes, No}
 
--- two sleeps that are polled and then moved to one tick, and the clock at that tick
+-- Two sleeps that are polled and then moved to one tick, and the clock at that tick.
 abbrev pub moved_events : List Event
 moved_events =
     spawn ∷ event.Turn (new_sleep 5000000 ∷ new_sleep 5000000 ∷ poll 0 ∷ poll 1 ∷ step.Act (act.Reset 0 9000000) ∷ step.Act (act.Reset 1 9000000) ∷ []) end.Pending ∷ event.Clock 9000000 ∷ []
@@ -26,7 +27,7 @@ moved_answers fired =
 abbrev pub MovedVerdict : List ℕ → Verdict → Type 0
 MovedVerdict fired verdict = IsVerdict (start 16) moved_events (moved_answers fired) verdict
 
--- in the order of their numbers or the other way round, and not the same sleep twice
+-- They may fire in the order of their numbers or in reverse, and no sleep fires twice.
 abbrev pub OtherWayRound : Type 0
 OtherWayRound = MovedVerdict (1 ∷ 0 ∷ []) Yes
 
@@ -36,7 +37,7 @@ InOrder = MovedVerdict (0 ∷ 1 ∷ []) Yes
 abbrev pub NotTwice : Type 0
 NotTwice = MovedVerdict (0 ∷ 0 ∷ []) (No 2)
 
--- a sleep that was made and not polled is not armed
+-- A sleep that was made and not polled is not armed.
 abbrev pub NotArmed : Type 0
 NotArmed = IsVerdict (start 16)
     (spawn ∷ event.Turn (new_sleep 5 ∷ []) end.Pending ∷ event.Clock 5000000 ∷ [])

@@ -1,4 +1,4 @@
--- How the changes of a queue are taken back.
+-- The undoing of a queue's changes.
 use Rattle.std.specs.Prelude.{ℕ, ◌-◌, List, [], ◌∷◌, length, take}
 use Rattle.mono_trace.specs.declared.queues.Move.{Move}
 use Rattle.mono_trace.specs.declared.queues.Move.TheVariants.{Put, Took}

@@ -1,4 +1,4 @@
--- The machine that a trace stands for.
+-- The machine of which a trace is a view.
 use Rattle.mono_machine.specs.Machine.{Machine}
 use Rattle.mono_trace.specs.declared.traces.Trace.{Trace}
 

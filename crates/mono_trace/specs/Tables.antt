@@ -1,4 +1,4 @@
--- What the tables of a trace stand for.
+-- The views of a trace's tables.
 use Rattle.std.specs.Prelude.{ℕ, List, map, Option, Result, Ok, Err}
 use Rattle.std.specs.Option.{option_map}
 use Rattle.mono_model.specs.Tasks.{Tasks, Task, Phase}
@@ -34,7 +34,7 @@ task_place = option_map task_of
 abbrev pub tasks_of : List (Option CodeTask) → List ℕ → ℕ → Tasks ℕ
 tasks_of places queue limit = record { queue = queue; table = map task_place places; limit = limit }
 
--- the same tasks with another queue
+-- The same tasks with another queue.
 abbrev pub with_queue : Tasks ℕ → List ℕ → Tasks ℕ
 with_queue tasks queue = record { queue = queue; table = tasks.table; limit = tasks.limit }
 

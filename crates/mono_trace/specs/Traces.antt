@@ -1,4 +1,4 @@
--- What one step of a trace answers, and for which machine the trace stands then.
+-- The answer of one step of a trace, and the machine of which the trace is a view then.
 use Rattle.std.specs.Prelude.{◌≡◌, ◌↔◌, ℕ, ◌+◌, Bool, true, false, not, ◌==◌, ◌&&◌, ◌||◌, if◌then◌else◌, List, [], ◌∷◌, Option, Some, None, Result, Ok, Err, nat_lt, nat_le}
 use Rattle.mono_model.specs.Table.{Table, value_at}
 use Rattle.mono_model.specs.Sleeps.{Sleep, Arming, fresh, armed, elapsed, MayFire}
@@ -8,16 +8,16 @@ use Rattle.mono_machine.specs.declared.events.Event.{Event}
 use Rattle.mono_machine.specs.declared.events.Report.{Report}
 use Rattle.mono_trace.specs.Verdicts.{IsNoStep}
 
--- A trace stands for one machine, its arm numbers among the rest: `stands_for` is a function of the trace. At yes it goes on
--- to the machine that the step leaves, and at no it stays. After want of memory nothing is said of it.
+-- A trace is a view of one machine, with its arm numbers: `stands_for` is a function of the trace. At yes the view
+-- becomes the machine after the step, and at no it stays. An out-of-memory error promises nothing.
 module _ {T A : Type 0} (stands_for : T → Machine) where
   abbrev pub Checks : T → Event → Report → Result Bool A → T → Type 0
   Checks old event answer (Ok true) new = Step (stands_for old) event answer (stands_for new)
   Checks old event answer (Ok false) new = IsNoStep (stands_for old) event answer × (stands_for new ≡ stands_for old)
   Checks old event answer (Err error) new = Unit {0}
 
--- How a list of sleeps is tested. Along the list the test keeps the tick of the last sleep, and the least arm number that
--- may follow at this tick, where the arming was not moved.
+-- The test of a list of sleeps. Along the list the test keeps the tick of the last sleep, and the least arm number that
+-- may follow at this tick if the arming was not moved.
 abbrev pub may_follow : ℕ → ℕ → Arming → Bool
 may_follow tick arms a = nat_lt tick a.tick || ((a.tick == tick) && (a.is_moved || nat_le arms a.arm))
 
@@ -61,7 +61,7 @@ is_due g (Some (fresh nanos)) = false
 is_due g (Some (armed a)) = nat_le a.tick g
 is_due g (Some elapsed) = false
 
--- each that is due is listed, of a table whose first place has the number i
+-- Whether the list has each due sleep of a table whose first place has the number i.
 abbrev pub are_all_listed : ℕ → List ℕ → ℕ → Table Sleep → Bool
 are_all_listed g fired i [] = true
 are_all_listed g fired i (x ∷ xs) = (not (is_due g x) || is_listed fired i) && are_all_listed g fired (i + 1) xs
@@ -69,6 +69,6 @@ are_all_listed g fired i (x ∷ xs) = (not (is_due g x) || is_listed fired i) &&
 abbrev pub is_allowed : Table Sleep → ℕ → List ℕ → Bool
 is_allowed table g fired = are_once fired && (are_in_order table g 0 0 fired && are_all_listed g fired 0 table)
 
--- The test is right, both ways.
+-- A list passes the test if and only if a clock step may list it.
 abbrev pub AllowsExactly : Type 0
 AllowsExactly = (table : Table Sleep) (g : ℕ) (fired : List ℕ) → (is_allowed table g fired ≡ true) ↔ MayFire table g fired

@@ -1,4 +1,4 @@
--- A value with what it was when its changes were last kept, so that they can be taken back.
+-- A value with its version when its changes were last kept, so that they can be taken back.
 use Rattle.std.specs.Prelude.{◌-◌, List, [], ◌∷◌, Option, Some, length, slice_set, take}
 use Rattle.mono_trace.specs.declared.places.Change.{Change}
 use Rattle.mono_trace.specs.declared.places.Change.TheVariants.{Added, Had}
@@ -7,15 +7,15 @@ pub record Versions (A : Type 0) : Type 0 where
   pub now : A
   pub before : A
 
--- nothing has changed
+-- The value without changes.
 abbrev pub kept : {A : Type 0} → A → Versions A
 kept x = record { now = x; before = x }
 
--- changed to x, which can be taken back
+-- The value changed to x; the change can be taken back.
 abbrev pub changed : {A : Type 0} → Versions A → A → Versions A
 changed both x = record { now = x; before = both.before }
 
--- how one change of a table is taken back, and several, the last first
+-- A table after one change is taken back, and after several are, the last first.
 abbrev pub without_change : {V : Type 0} → Change V → List (Option V) → List (Option V)
 without_change Added places = take (length places - 1) places
 without_change (Had number value) places = slice_set places number (Some value)

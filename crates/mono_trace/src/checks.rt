@@ -7,11 +7,12 @@ use crate::{Trace, Verdict};
 use mono_machine::{Blocking, Event, Limits, Report};
 use std::alloc::{AllocError, Global};
 
-/// Whether the reports are those of a run of the events, from the start machine with these limits and this strategy.
+/// Returns whether the reports are those of a run of the events, from the start machine with these limits and this
+/// strategy.
 ///
-/// Yes exactly where they are; No with a place exactly where the pairs before that place are those of a run and the pair
-/// at the place is no step from where that run ends (`Checked`; by the law `one_verdict` no other verdict is right). There
-/// are as many reports as events, below 2^63. The only error is want of memory.
+/// The verdict is Yes if and only if they are. It is No with a place if and only if the pairs before that place are
+/// those of a run and that run allows no step with the pair at the place (`Checked`). By the law `one_verdict` no other
+/// verdict is right. The lists have the same length, below 2^63. The only error is out of memory.
 pub fn check(
     alloc: Global,
     limits: Limits,
@@ -27,7 +28,7 @@ pub fn check(
     verdict_on(alloc, &mut trace, events, reports)
 }
 
-/// The verdict on all pairs, from the machine of a trace that has seen no arming yet.
+/// Returns the verdict on all pairs, from the machine of a trace that has seen no arming yet.
 fn verdict_on(
     alloc: Global,
     trace: &mut Trace,

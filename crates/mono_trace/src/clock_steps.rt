@@ -1,4 +1,4 @@
-// A clock step whose list of sleeps is tested, whatever order was chosen within a tick.
+// A test of a clock step's list of sleeps, for any order that was chosen within a tick.
 ghost use Rattle.std.specs.Prelude.{◌≡◌, ◌≤◌, MatchBool, MatchOption, IfOk, OnOk, true, false};
 ghost use Rattle.mono_model.specs.Ticks.{max_nanos};
 ghost use Rattle.mono_model.specs.FireOrder.{IsNoneDue};
@@ -14,15 +14,15 @@ use crate::sleeps::{Arming, Sleep};
 use mono_machine::{MAX_NANOS, Refusal, Reply, Report};
 use std::alloc::AllocError;
 
-/// How far a list of sleeps that fire has come: the tick of the last one, and the arm number of the last there that was
-/// not moved.
+/// The progress in a list of sleeps that fire: the tick of the last sleep, and the arm number of the last sleep there
+/// that was not moved.
 #[derive(Clone, Copy)]
 pub struct Reached {
     pub tick: u128,
     pub last: Option<u128>,
 }
 
-/// Whether a sleep that is armed so may follow.
+/// Returns whether a sleep with this arming may follow.
 fn may_follow(reached: Reached, arming: Arming) -> bool
     ensures { result ≡ may_follow reached.tick (least_after reached.last) (arming_of arming) }
 {
@@ -38,7 +38,7 @@ fn may_follow(reached: Reached, arming: Arming) -> bool
     }
 }
 
-/// How far the list has come with a sleep that is armed so.
+/// Returns the progress after a sleep with this arming.
 fn after(reached: Reached, arming: Arming) -> Reached
     ensures tick { result.tick ≡ arming.tick }
     ensures arms { least_after result.last ≡ arms_after reached.tick (least_after reached.last) (arming_of arming) }
@@ -54,7 +54,7 @@ fn after(reached: Reached, arming: Arming) -> Reached
     Reached { tick, last }
 }
 
-/// How far the list has come with one more sleep, where that may follow.
+/// Returns the progress after one more sleep, if that may follow.
 fn next(reached: Reached, greatest: u128, value: Option<Sleep>) -> Option<Reached>
     ensures { MatchOption result (may_follow_value greatest reached.tick (least_after reached.last) (sleep_place value) ≡ false) (λ n. (may_follow_value greatest reached.tick (least_after reached.last) (sleep_place value) ≡ true) × (n.tick ≡ tick_after_value reached.tick (sleep_place value)) × (least_after n.last ≡ arms_after_value reached.tick (least_after reached.last) (sleep_place value))) }
 {
@@ -71,7 +71,7 @@ fn next(reached: Reached, greatest: u128, value: Option<Sleep>) -> Option<Reache
 }
 
 impl Parts {
-    /// The sleeps of the list fire, one after another, as long as each may follow.
+    /// Fires the sleeps of the list, one after another, as long as each may follow.
     fn fire_all(&mut self, fired: &[u64]) -> Result<bool, AllocError>
         ensures told { IfOk result (λ b. b ≡ are_in_turn self.old.now.sleeps.table self.old.now.sleeps.greatest 0 0 fired.now) }
         ensures machine { IfOk result (λ b. b ≡ true → self.new.now ≡ after_fires self.old.now fired.now) }
@@ -93,14 +93,14 @@ impl Parts {
         Ok(true)
     }
 
-    /// Whether no sleep is due.
+    /// Returns whether no sleep is due.
     fn is_none_due(&self) -> bool
         ensures { MatchBool result (IsNoneDue self.now.now.sleeps.table self.now.now.sleeps.greatest) (IsNoneDue self.now.now.sleeps.table self.now.now.sleeps.greatest → ⊥) }
     {
         self.sleeps.is_none_due()
     }
 
-    /// The clock shows so many nanoseconds, and the sleeps of the list fire, as long as a clock step may list them.
+    /// Sets the clock to `n` nanoseconds, and fires the sleeps of the list if a clock step may list them.
     fn fire_due(&mut self, n: u128, fired: &[u64]) -> Result<bool, AllocError>
         requires { n ≤ max_nanos }
         ensures { IfOk result (λ b. Tried (event.Clock n) (Report.Fired fired.now) self.old self.new b) }
@@ -113,7 +113,7 @@ impl Parts {
         Ok(told)
     }
 
-    /// A clock step, as long as it is one that is told.
+    /// Makes a clock step if the report is a report of that step.
     pub fn clock(&mut self, n: u128, report: &Report) -> Result<bool, AllocError>
         ensures { IfOk result (λ b. Tried (event.Clock n) report.now self.old self.new b) }
     {

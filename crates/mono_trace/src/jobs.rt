@@ -12,8 +12,8 @@ use mono_machine::{How, Refusal, Reply};
 use std::alloc::{AllocError, Global};
 use std::marker::Model;
 
-/// A job whose handle is kept: it runs, with its output to come and the task that waits for it, or it has ended, or what
-/// was known of it was answered already.
+/// A job whose handle is kept. It runs, with its output to come and the task that waits for it; or it has ended; or its
+/// output was taken.
 #[derive(Clone, Copy)]
 pub enum Job {
     Running(u64, Option<u64>),
@@ -22,7 +22,7 @@ pub enum Job {
     Taken,
 }
 
-/// The jobs by their numbers, and how many there may be.
+/// The jobs by their numbers, and their greatest number.
 ///
 /// Contracts see the jobs of the machine, as they are and as they were when their changes were last kept.
 #[derive(Drop)]
@@ -41,7 +41,7 @@ impl Model for Jobs {
     ghost view = { λ a. record { now = jobs_of a.places.now a.limit; before = jobs_of a.places.before a.limit } };
 }
 
-/// What a job is once it has ended so.
+/// Returns the job after it has ended in this way.
 fn ended_as(how: How, output: u64) -> Job
     ensures { job_of result ≡ ended_as how output }
 {
@@ -52,7 +52,7 @@ fn ended_as(how: How, output: u64) -> Job
 }
 
 impl Jobs {
-    /// No job.
+    /// Returns a table without jobs.
     pub fn new(alloc: Global, limit: u64) -> Jobs
         ensures { result ≡ kept (no_jobs limit) }
     {
@@ -62,14 +62,14 @@ impl Jobs {
         }
     }
 
-    /// Whether no further job may be made.
+    /// Returns whether no further job may be made.
     pub fn is_full(&self) -> bool
         ensures { result ≡ is_full self.now.now.table self.now.now.limit }
     {
         self.places.live() >= self.limit || self.places.next_number() == u64::MAX
     }
 
-    /// One more job, with the next number, which is the answer.
+    /// Adds a job, and returns its number, which is the next.
     fn add(&mut self, job: Job) -> Result<u64, AllocError>
         ensures number { IfOk result (λ j. j ≡ next_number self.old.now.table) }
         ensures jobs { OnOk result (self.new ≡ changed self.old (with_next_job self.old.now (job_of job))) }
@@ -79,7 +79,7 @@ impl Jobs {
         Ok(j)
     }
 
-    /// Makes a job that runs elsewhere, and answers its number.
+    /// Adds a job that runs elsewhere, and returns its number.
     pub fn start(&mut self, output: u64) -> Result<u64, AllocError>
         ensures number { IfOk result (λ j. j ≡ next_number self.old.now.table) }
         ensures jobs { OnOk result (self.new ≡ changed self.old (with_next_job self.old.now (running output None))) }
@@ -87,7 +87,7 @@ impl Jobs {
         self.add(Job::Running(output, None))
     }
 
-    /// Makes a job that has run here, and answers its number.
+    /// Adds a job that has run here, and returns its number.
     pub fn run(&mut self, output: u64) -> Result<u64, AllocError>
         ensures number { IfOk result (λ j. j ≡ next_number self.old.now.table) }
         ensures jobs { OnOk result (self.new ≡ changed self.old (with_next_job self.old.now (ended_ok output))) }
@@ -95,7 +95,7 @@ impl Jobs {
         self.add(Job::EndedOk(output))
     }
 
-    /// The job, where its handle is kept.
+    /// Returns the job, if its handle is kept.
     fn kept(&self, j: u64) -> Result<Job, Refusal>
         ensures { found_job result ≡ kept_job self.now.now j }
     {
@@ -108,7 +108,7 @@ impl Jobs {
         }
     }
 
-    /// Writes what has become of a job.
+    /// Stores the new state of a job.
     fn set(&mut self, j: u64, job: Job) -> Result<(), AllocError>
         requires { is_some (value_at self.old.now.table j) ≡ true }
         ensures { OnOk result (self.new ≡ changed self.old (with_job self.old.now j (job_of job))) }
@@ -116,7 +116,7 @@ impl Jobs {
         self.places.set(j, job)
     }
 
-    /// A job is gone.
+    /// Removes a job.
     fn remove(&mut self, j: u64) -> Result<(), AllocError>
         requires { is_some (value_at self.old.now.table j) ≡ true }
         ensures { OnOk result (self.new ≡ changed self.old (without_job self.old.now j)) }
@@ -142,7 +142,7 @@ impl Jobs {
         }
     }
 
-    /// Whether a job has ended.
+    /// Returns whether a job has ended.
     pub fn has_ended(&self, j: u64) -> Reply
         ensures { result ≡ reply_of (finished_answer self.now.now j) }
     {
@@ -153,7 +153,7 @@ impl Jobs {
         }
     }
 
-    /// A job has ended. The answer has the task that waited for it.
+    /// Ends a job. The answer has the task that waited for it.
     pub fn end(&mut self, j: u64, how: How) -> Result<Reply, AllocError>
         ensures reply { IfOk result (λ r. r ≡ reply_of (end_answer self.old.now j)) }
         ensures jobs { OnOk result (self.new ≡ changed self.old (job_ended self.old.now j how)) }
@@ -169,7 +169,7 @@ impl Jobs {
         }
     }
 
-    /// A poll of a job's handle by a task.
+    /// Polls a job's handle for a task.
     pub fn poll(&mut self, j: u64, by: u64) -> Result<Reply, AllocError>
         ensures reply { IfOk result (λ r. r ≡ reply_of (poll_answer self.old.now j)) }
         ensures jobs { OnOk result (self.new ≡ changed self.old (job_polled self.old.now j by)) }
@@ -192,7 +192,7 @@ impl Jobs {
         }
     }
 
-    /// Keeps all changes, so that they are not taken back any more.
+    /// Keeps all changes, so that they cannot be taken back any more.
     pub fn keep(&mut self)
         ensures { self.new ≡ kept self.old.now }
     {

@@ -16,7 +16,8 @@ use std::marker::Model;
 
 /// The tasks, the jobs, the sleeps and the inbox of a trace.
 ///
-/// Contracts see a machine, as it is and as it was when its changes were last kept. The inbox is not taken back.
+/// Contracts see a machine, as it is and as it was when its changes were last kept. Changes of the inbox are not taken
+/// back.
 #[derive(Drop)]
 pub struct Parts {
     pub tasks: Tasks,
@@ -37,7 +38,7 @@ impl Model for Parts {
 }
 
 impl Parts {
-    /// Those of the start machine.
+    /// Returns the parts of the start machine.
     pub fn new(alloc: Global, limits: Limits, blocking: Blocking) -> Parts
         ensures { result ≡ kept (start_machine limits blocking) }
     {
@@ -50,7 +51,7 @@ impl Parts {
         }
     }
 
-    /// A task is made.
+    /// Makes a task.
     fn spawn(&mut self) -> Result<Reply, AllocError>
         ensures reply { IfOk result (λ r. r ≡ (act_outcome Act.Spawn self.old.now).reply) }
         ensures machine { OnOk result (self.new ≡ changed self.old (act_outcome Act.Spawn self.old.now).machine) }
@@ -62,7 +63,7 @@ impl Parts {
         Ok(Reply::Task(t))
     }
 
-    /// A job is made, by the strategy.
+    /// Makes a job, by the strategy.
     fn block(&mut self, output: u64) -> Result<Reply, AllocError>
         ensures reply { IfOk result (λ r. r ≡ (act_outcome (Act.Block output) self.old.now).reply) }
         ensures machine { OnOk result (self.new ≡ changed self.old (act_outcome (Act.Block output) self.old.now).machine) }
@@ -83,7 +84,7 @@ impl Parts {
         }
     }
 
-    /// A sleep is made.
+    /// Makes a sleep.
     fn new_sleep(&mut self, n: u128) -> Result<Reply, AllocError>
         ensures reply { IfOk result (λ r. r ≡ (act_outcome (Act.NewSleep n) self.old.now).reply) }
         ensures machine { OnOk result (self.new ≡ changed self.old (act_outcome (Act.NewSleep n) self.old.now).machine) }
@@ -98,7 +99,7 @@ impl Parts {
         Ok(Reply::Sleep(s))
     }
 
-    /// A sleep is armed at another deadline. Where it elapses at once, its waker is woken.
+    /// Arms a sleep at another deadline. If it elapses at once, its waker is woken.
     fn reset(&mut self, s: u64, n: u128) -> Result<Reply, AllocError>
         requires { self.old.now.sleeps.arm_count < 2 ^ 128 - 1 }
         ensures reply { IfOk result (λ r. r ≡ (act_outcome (Act.Reset s n) self.old.now).reply) }
@@ -116,7 +117,7 @@ impl Parts {
         Ok(reply)
     }
 
-    /// An act is answered as the machine answers it, and leaves the machine's outcome.
+    /// Makes an act: it returns the machine's answer, and the parts become the machine's outcome.
     pub fn act(&mut self, act: Act) -> Result<Reply, AllocError>
         requires { self.old.now.sleeps.arm_count < 2 ^ 128 - 1 }
         ensures reply { IfOk result (λ r. r ≡ (act_outcome act self.old.now).reply) }
@@ -138,7 +139,7 @@ impl Parts {
         }
     }
 
-    /// A poll by the running task.
+    /// Makes a poll by the running task.
     fn query(&mut self, me: u64, query: Query) -> Result<Reply, AllocError>
         requires { self.old.now.sleeps.arm_count < 2 ^ 128 - 1 }
         ensures reply { IfOk result (λ r. r ≡ (query_outcome me query self.old.now).reply) }
@@ -151,7 +152,7 @@ impl Parts {
         }
     }
 
-    /// One step of a turn.
+    /// Makes one step of a turn.
     pub fn step(&mut self, me: u64, step: TurnStep) -> Result<Reply, AllocError>
         requires { self.old.now.sleeps.arm_count < 2 ^ 128 - 1 }
         ensures reply { IfOk result (λ r. r ≡ (step_outcome me step self.old.now).reply) }
@@ -163,14 +164,14 @@ impl Parts {
         }
     }
 
-    /// A turn begins: the front of the queue runs.
+    /// Begins a turn: the front of the queue runs.
     pub fn begin(&mut self) -> Result<Option<u64>, AllocError>
         ensures { IfOk result (λ r. MatchOption r ((self.old.now.tasks.queue ≡ []) × (self.new ≡ self.old)) (λ t. (rest : List ℕ) × (self.old.now.tasks.queue ≡ t ∷ rest) × (self.new ≡ changed self.old (after_begin t rest self.old.now)))) }
     {
         self.tasks.begin()
     }
 
-    /// The turn of a task ends.
+    /// Ends the turn of a task.
     pub fn end(&mut self, me: u64, end: End) -> Result<Ended, AllocError>
         ensures ended { IfOk result (λ e. e ≡ end_answer end me self.old.now) }
         ensures machine { OnOk result (self.new ≡ changed self.old (after_end end me self.old.now)) }
@@ -181,14 +182,14 @@ impl Parts {
         }
     }
 
-    /// The clock shows so many nanoseconds. Nothing fires yet.
+    /// Sets the clock to `n` nanoseconds. Nothing fires yet.
     pub fn at_clock(&mut self, n: u128)
         ensures { self.new ≡ changed self.old (at_clock self.old.now n) }
     {
         self.sleeps.at_clock(n);
     }
 
-    /// A sleep fires: it has elapsed, and its waker is woken.
+    /// Fires a sleep: it has elapsed, and its waker is woken.
     pub fn fire(&mut self, s: u64) -> Result<(), AllocError>
         requires { is_some (value_at self.old.now.sleeps.table s) ≡ true }
         ensures { OnOk result (self.new ≡ changed self.old (after_fire self.old.now s)) }
@@ -198,7 +199,7 @@ impl Parts {
         self.tasks.wake_if_any(waker)
     }
 
-    /// Keeps all changes, so that they are not taken back any more.
+    /// Keeps all changes, so that they cannot be taken back any more.
     pub fn keep(&mut self)
         ensures { self.new ≡ kept self.old.now }
     {

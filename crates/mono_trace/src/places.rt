@@ -13,7 +13,7 @@ pub enum Change<V> {
     Had(u64, V),
 }
 
-/// A table by number: what each number has that was given out, or none once it is gone.
+/// A table by number: the value of each number that was given out, or none once it was removed.
 ///
 /// Contracts see the table as it is and as it was when its changes were last kept.
 #[derive(Drop)]
@@ -57,7 +57,7 @@ fn take_back<V: Copy + Drop>(items: &mut Vec<Option<V>>, changes: &mut Vec<Chang
 }
 
 impl<V: Copy + Drop> Places<V> {
-    /// No number was given out.
+    /// Returns a table in which no number was given out.
     pub fn new(alloc: Global) -> Places<V>
         ensures { result ≡ kept [] }
     {
@@ -69,28 +69,28 @@ impl<V: Copy + Drop> Places<V> {
         }
     }
 
-    /// The number that is given out next.
+    /// Returns the number that is given out next.
     pub fn next_number(&self) -> u64
         ensures { result ≡ next_number self.now.now }
     {
         self.items.len() as u64
     }
 
-    /// How many numbers have a value.
+    /// Returns how many numbers have a value.
     pub fn live(&self) -> u64
         ensures { result ≡ count_of self.now.now }
     {
         self.live
     }
 
-    /// Whether this number was given out.
+    /// Returns whether this number was given out.
     pub fn is_issued(&self, number: u64) -> bool
         ensures { result ≡ is_issued self.now.now number }
     {
         number < self.items.len() as u64
     }
 
-    /// What a number has. None if it was never given out, or is gone.
+    /// Returns the value of a number. Returns `None` if it was never given out, or was removed.
     pub fn get(&self, number: u64) -> Option<V>
         ensures { result ≡ value_at self.now.now number }
     {
@@ -118,7 +118,7 @@ impl<V: Copy + Drop> Places<V> {
         }
     }
 
-    /// A number that has a value gets another.
+    /// Stores another value under a number that has a value.
     pub fn set(&mut self, number: u64, value: V) -> Result<(), AllocError>
         requires { is_some (value_at self.old.now number) ≡ true }
         ensures changed { OnOk result (self.new ≡ changed self.old (with_value self.old.now number value)) }
@@ -131,7 +131,7 @@ impl<V: Copy + Drop> Places<V> {
         Ok(())
     }
 
-    /// A number that has a value is gone.
+    /// Removes the value of a number that has one.
     pub fn remove(&mut self, number: u64) -> Result<(), AllocError>
         requires { is_some (value_at self.old.now number) ≡ true }
         ensures changed { OnOk result (self.new ≡ changed self.old (without self.old.now number)) }
@@ -145,7 +145,7 @@ impl<V: Copy + Drop> Places<V> {
         Ok(())
     }
 
-    /// Keeps all changes, so that they are not taken back any more.
+    /// Keeps all changes, so that they cannot be taken back any more.
     pub fn keep(&mut self)
         ensures { self.new ≡ kept self.old.now }
     {
@@ -161,7 +161,7 @@ impl<V: Copy + Drop> Places<V> {
         self.live = self.live_before;
     }
 
-    /// No number was given out, as far as is told: all are forgotten.
+    /// Forgets all values and changes: no number was given out.
     pub fn clear(&mut self)
         ensures { self.new ≡ kept [] }
     {

@@ -7,7 +7,7 @@ use std::alloc::{AllocError, AllocFailed, Global};
 use std::collections::VecDeque;
 use std::marker::Model;
 
-/// One change of a queue: a number came last, or this one left the front.
+/// One change of a queue: a number was appended, or this one left the front.
 #[derive(Clone, Copy)]
 pub enum Move {
     Put,
@@ -51,7 +51,7 @@ fn take_back(items: &mut VecDeque<u64>, moves: &mut Vec<Move>) -> Result<(), All
 }
 
 impl Queue {
-    /// The empty queue.
+    /// Returns the empty queue.
     pub fn new(alloc: Global) -> Queue
         ensures { result ≡ kept [] }
     {
@@ -61,7 +61,7 @@ impl Queue {
         }
     }
 
-    /// Puts a number at the back.
+    /// Appends a number.
     #[tactic(auto, using(crate::proofs::UndoLemmas::unmoved_put))]
     pub fn put(&mut self, t: u64) -> Result<(), AllocError>
         ensures { OnOk result (self.new ≡ changed self.old (self.old.now ++ t ∷ [])) }
@@ -71,7 +71,7 @@ impl Queue {
         Ok(())
     }
 
-    /// Takes the number at the front, if there is one.
+    /// Removes and returns the number at the front, if there is one.
     #[tactic(auto, using(crate::proofs::UndoLemmas::unmoved_took))]
     pub fn take(&mut self) -> Result<Option<u64>, AllocError>
         ensures { IfOk result (λ r. MatchOption r ((self.old.now ≡ []) × (self.new ≡ self.old)) (λ t. (self.old.now ≡ t ∷ self.new.now) × (self.new.before ≡ self.old.before))) }
@@ -85,7 +85,7 @@ impl Queue {
         }
     }
 
-    /// Keeps all changes, so that they are not taken back any more.
+    /// Keeps all changes, so that they cannot be taken back any more.
     pub fn keep(&mut self)
         ensures { self.new ≡ kept self.old.now }
     {

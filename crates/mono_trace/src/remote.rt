@@ -1,4 +1,4 @@
-// Wakes from other threads, whose reports are compared.
+// Wakes from other threads, with a comparison of their reports.
 ghost use Rattle.std.specs.Prelude.{◌≡◌, IfOk, OnOk};
 ghost use Rattle.mono_model.specs.Tasks.{all_woken};
 ghost use Rattle.mono_model.specs.Inbox.{is_waiting};
@@ -22,7 +22,7 @@ fn wake_all(tasks: &mut Tasks, woken: &[u64]) -> Result<(), AllocError>
     Ok(())
 }
 
-/// Whether a task waits in the inbox.
+/// Returns whether a task waits in the inbox.
 fn is_waiting(inbox: &[u64], t: u64) -> bool
     ensures { result ≡ is_waiting inbox.now t }
 {
@@ -30,7 +30,7 @@ fn is_waiting(inbox: &[u64], t: u64) -> bool
 }
 
 impl Parts {
-    /// Another thread wakes a task, as long as the report is the one that is told.
+    /// Wakes a task from another thread, if the report is the expected one.
     pub fn remote(&mut self, t: u64, report: &Report) -> Result<bool, AllocError>
         ensures { IfOk result (λ b. Told report.now (remote_report self.old.now t) (after_remote self.old.now t) self.old self.new b) }
     {
@@ -47,7 +47,7 @@ impl Parts {
         Ok(true)
     }
 
-    /// Each task that waits in the inbox is woken, as long as the report is the one that is told.
+    /// Wakes each task that waits in the inbox, if the report is the expected one.
     pub fn drain(&mut self, report: &Report) -> Result<bool, AllocError>
         ensures { IfOk result (λ b. Told report.now (Report.Drained self.old.now.inbox) (after_drain self.old.now) self.old self.new b) }
     {

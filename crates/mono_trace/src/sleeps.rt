@@ -15,8 +15,8 @@ use mono_machine::{Refusal, Reply};
 use std::alloc::{AllocError, Global};
 use std::marker::Model;
 
-/// Where a sleep is armed: the tick, the number of its arming, whether it was moved to a later tick since, and the task
-/// that polled it last.
+/// The arming of a sleep: its tick, its arm number, whether it was moved to a later tick since, and the task that
+/// polled it last.
 #[derive(Clone, Copy)]
 pub struct Arming {
     pub tick: u128,
@@ -25,7 +25,7 @@ pub struct Arming {
     pub waker: Option<u64>,
 }
 
-/// A sleep that was never polled, with its deadline, one that is armed, or one that has elapsed.
+/// A sleep: never polled, with its deadline; armed; or elapsed.
 #[derive(Clone, Copy)]
 pub enum Sleep {
     Fresh(u128),
@@ -33,7 +33,8 @@ pub enum Sleep {
     Elapsed,
 }
 
-/// The sleeps by number, the greatest tick of the clock so far, how often a sleep was armed, and how many there may be.
+/// The sleeps by number, the greatest tick of the clock so far, how often a sleep was armed, and the greatest number of
+/// sleeps.
 ///
 /// Contracts see the sleeps of the machine, as they are and as they were when their changes were last kept.
 #[derive(Drop)]
@@ -56,7 +57,7 @@ impl Model for Sleeps {
     ghost view = { λ a. record { now = sleeps_of a.places.now a.greatest a.arms a.limit; before = sleeps_of a.places.before a.greatest_before a.arms_before a.limit } };
 }
 
-/// The tick of a deadline, in nanoseconds: rounded up.
+/// Returns the tick of a deadline in nanoseconds, rounded up.
 pub fn tick_of(nanos: u128) -> u128
     ensures { result ≡ up nanos }
 {
@@ -65,7 +66,7 @@ pub fn tick_of(nanos: u128) -> u128
 }
 
 impl Sleeps {
-    /// No sleep, and a clock at 0.
+    /// Returns a table without sleeps, and a clock at 0.
     pub fn new(alloc: Global, limit: u64) -> Sleeps
         ensures { result ≡ kept (model.no_sleeps limit) }
     {
@@ -79,35 +80,35 @@ impl Sleeps {
         }
     }
 
-    /// How often a sleep was armed.
+    /// Returns how often a sleep was armed.
     pub fn arms(&self) -> u128
         ensures { result ≡ self.now.now.arm_count }
     {
         self.arms
     }
 
-    /// The greatest tick of the clock so far.
+    /// Returns the greatest tick of the clock so far.
     pub fn greatest(&self) -> u128
         ensures { result ≡ self.now.now.greatest }
     {
         self.greatest
     }
 
-    /// Whether no further sleep may be made.
+    /// Returns whether no further sleep may be made.
     pub fn is_full(&self) -> bool
         ensures { result ≡ is_full self.now.now.table self.now.now.limit }
     {
         self.places.live() >= self.limit || self.places.next_number() == u64::MAX
     }
 
-    /// What a number has.
+    /// Returns the sleep with this number.
     pub fn get(&self, s: u64) -> Option<Sleep>
         ensures { sleep_place result ≡ value_at self.now.now.table s }
     {
         self.places.get(s)
     }
 
-    /// One more sleep, with the next number, which is the answer. It was not polled yet.
+    /// Adds a sleep that was never polled, and returns its number, which is the next.
     pub fn add(&mut self, nanos: u128) -> Result<u64, AllocError>
         ensures number { IfOk result (λ s. s ≡ next_number self.old.now.table) }
         ensures sleeps { OnOk result (self.new ≡ changed self.old (sleep.added self.old.now nanos)) }
@@ -117,7 +118,7 @@ impl Sleeps {
         Ok(s)
     }
 
-    /// Writes what has become of a sleep.
+    /// Stores the new state of a sleep.
     fn set(&mut self, s: u64, value: Sleep) -> Result<(), AllocError>
         requires { is_some (value_at self.old.now.table s) ≡ true }
         ensures { OnOk result (self.new ≡ changed self.old (model.with_sleep self.old.now s (sleep_of value))) }
@@ -125,7 +126,7 @@ impl Sleeps {
         self.places.set(s, value)
     }
 
-    /// A sleep is gone.
+    /// Removes a sleep.
     fn discard(&mut self, s: u64) -> Result<(), AllocError>
         requires { is_some (value_at self.old.now.table s) ≡ true }
         ensures { OnOk result (self.new ≡ changed self.old (model.without_sleep self.old.now s)) }
@@ -152,7 +153,7 @@ impl Sleeps {
         )
     }
 
-    /// A poll of a sleep by a task.
+    /// Polls a sleep for a task.
     pub fn poll(&mut self, s: u64, by: u64) -> Result<Reply, AllocError>
         requires { self.old.now.arm_count < 2 ^ 128 - 1 }
         ensures reply { IfOk result (λ r. r ≡ poll_reply (sleep.poll_answer self.old.now s)) }
@@ -184,7 +185,7 @@ impl Sleeps {
         }
     }
 
-    /// The sleep is armed at a tick that has not come.
+    /// Arms the sleep at a tick that has not come.
     fn arm_above(&mut self, s: u64, value: Sleep, tick: u128) -> Result<(), AllocError>
         requires is_there { is_some (value_at self.old.now.table s) ≡ true }
         requires has_number { self.old.now.arm_count < 2 ^ 128 - 1 }
@@ -209,7 +210,7 @@ impl Sleeps {
         }
     }
 
-    /// Arms a sleep at another deadline. The answer is the waker that is to be woken, where it elapses at once.
+    /// Arms a sleep at another deadline. Returns the waker to wake, if it elapses at once.
     pub fn reset(&mut self, s: u64, nanos: u128) -> Result<Option<u64>, AllocError>
         requires { self.old.now.arm_count < 2 ^ 128 - 1 }
         ensures waker { IfOk result (λ w. w ≡ waker_in (sleep.reset_answer self.old.now s nanos)) }
@@ -230,7 +231,7 @@ impl Sleeps {
         }
     }
 
-    /// The reply to the reset of a sleep that is there.
+    /// Returns the reply to the reset of a live sleep.
     pub fn reset_reply(&self, nanos: u128) -> Reply
         ensures { result ≡ reset_reply self.now.now.greatest (up nanos) }
     {
@@ -255,7 +256,7 @@ impl Sleeps {
         }
     }
 
-    /// Whether a sleep has elapsed.
+    /// Returns whether a sleep has elapsed.
     pub fn elapsed(&self, s: u64) -> Reply
         ensures { result ≡ elapsed_reply (sleep.elapsed_answer self.now.now s) }
     {
@@ -266,21 +267,21 @@ impl Sleeps {
         }
     }
 
-    /// Whether no sleep is due.
+    /// Returns whether no sleep is due.
     pub fn is_none_due(&self) -> bool
         ensures { MatchBool result (IsNoneDue self.now.now.table self.now.now.greatest) (IsNoneDue self.now.now.table self.now.now.greatest → ⊥) }
     {
         self.places.is_none_due(self.greatest)
     }
 
-    /// The clock shows so many nanoseconds.
+    /// Sets the clock to `nanos` nanoseconds.
     pub fn at_clock(&mut self, nanos: u128)
         ensures { self.new ≡ changed self.old (sleep.at_clock self.old.now nanos) }
     {
         self.greatest = self.greatest.max(nanos / 1000000);
     }
 
-    /// The waker of a sleep, if it has one.
+    /// Returns the waker of a sleep, if it has one.
     pub fn waker_at(&self, s: u64) -> Option<u64>
         ensures { result ≡ sleep.waker_at self.now.now s }
     {
@@ -290,7 +291,7 @@ impl Sleeps {
         }
     }
 
-    /// A sleep fires.
+    /// Fires a sleep.
     pub fn fire(&mut self, s: u64) -> Result<(), AllocError>
         requires { is_some (value_at self.old.now.table s) ≡ true }
         ensures { OnOk result (self.new ≡ changed self.old (sleep.fired self.old.now s)) }
@@ -298,7 +299,7 @@ impl Sleeps {
         self.set(s, Sleep::Elapsed)
     }
 
-    /// Keeps all changes, so that they are not taken back any more.
+    /// Keeps all changes, so that they cannot be taken back any more.
     pub fn keep(&mut self)
         ensures { self.new ≡ kept self.old.now }
     {
@@ -317,7 +318,7 @@ impl Sleeps {
     }
 }
 
-/// The waker of a sleep. Only an armed one has any.
+/// Returns the waker of a sleep. Only an armed sleep has one.
 pub fn waker_of(value: Sleep) -> Option<u64>
     ensures { result ≡ model.waker_of (sleep_of value) }
 {

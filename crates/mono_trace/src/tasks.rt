@@ -15,7 +15,7 @@ use mono_model::TaskError;
 use std::alloc::{AllocError, Global};
 use std::marker::Model;
 
-/// What a task does now. One that runs is noted once it was woken in its turn.
+/// The state of a task. A running task is noted once it was woken in its turn.
 #[derive(Clone, Copy)]
 pub enum Phase {
     Idle,
@@ -33,7 +33,7 @@ pub struct Task {
     pub waiter: Option<u64>,
 }
 
-/// The tasks by number, the queue, and how many tasks there may be.
+/// The tasks by number, the queue, and the greatest number of tasks.
 ///
 /// Contracts see the tasks of the machine, as they are and as they were when their changes were last kept.
 #[derive(Drop)]
@@ -54,7 +54,7 @@ impl Model for Tasks {
     ghost view = { λ a. record { now = tasks_of a.places.now a.queue.now a.limit; before = tasks_of a.places.before a.queue.before a.limit } };
 }
 
-/// The refusal of a call on a task.
+/// Returns the refusal of a call on a task.
 pub fn refusal_of(error: TaskError) -> Refusal
     ensures { result ≡ refusal_of error }
 {
@@ -67,7 +67,7 @@ pub fn refusal_of(error: TaskError) -> Refusal
 }
 
 impl Tasks {
-    /// No task.
+    /// Returns a table without tasks.
     pub fn new(alloc: Global, limit: u64) -> Tasks
         ensures { result ≡ kept (model.no_tasks limit) }
     {
@@ -78,21 +78,21 @@ impl Tasks {
         }
     }
 
-    /// Whether no further task may be made.
+    /// Returns whether no further task may be made.
     pub fn is_full(&self) -> bool
         ensures { result ≡ is_full self.now.now.table self.now.now.limit }
     {
         self.places.live() >= self.limit || self.places.next_number() == u64::MAX
     }
 
-    /// Whether a task was ever given this number.
+    /// Returns whether a task ever got this number.
     pub fn is_issued(&self, t: u64) -> bool
         ensures { result ≡ is_issued self.now.now.table t }
     {
         self.places.is_issued(t)
     }
 
-    /// Whether no task was given this number, or it has finished.
+    /// Returns whether no task got this number, or it has finished.
     pub fn has_finished(&self, t: u64) -> bool
         ensures { result ≡ has_finished (value_at self.now.now.table t) }
     {
@@ -105,7 +105,7 @@ impl Tasks {
         }
     }
 
-    /// One more task, with the next number, which is queued last.
+    /// Adds a task with the next number, and queues it last.
     pub fn spawn(&mut self) -> Result<u64, AllocError>
         ensures number { IfOk result (λ t. t ≡ next_number self.old.now.table) }
         ensures tasks { OnOk result (self.new ≡ changed self.old (model.spawned self.old.now)) }
@@ -120,7 +120,7 @@ impl Tasks {
         Ok(t)
     }
 
-    /// Writes what has become of a task.
+    /// Stores the new state of a task.
     fn set(&mut self, t: u64, task: Task) -> Result<(), AllocError>
         requires { is_some (value_at self.old.now.table t) ≡ true }
         ensures { OnOk result (self.new ≡ changed self.old (model.with_task self.old.now t (task_of task))) }
@@ -128,7 +128,7 @@ impl Tasks {
         self.places.set(t, task)
     }
 
-    /// A task is gone.
+    /// Removes a task.
     fn remove(&mut self, t: u64) -> Result<(), AllocError>
         requires { is_some (value_at self.old.now.table t) ≡ true }
         ensures { OnOk result (self.new ≡ changed self.old (model.without_task self.old.now t)) }
@@ -136,7 +136,7 @@ impl Tasks {
         self.places.remove(t)
     }
 
-    /// A task is queued, as the last.
+    /// Queues a task as the last.
     fn queue_last(&mut self, t: u64, task: Task) -> Result<(), AllocError>
         requires { is_some (value_at self.old.now.table t) ≡ true }
         ensures { OnOk result (self.new ≡ changed self.old (model.queued_last self.old.now t (task_of task))) }
@@ -151,7 +151,7 @@ impl Tasks {
         self.queue.put(t)
     }
 
-    /// What a number has.
+    /// Returns the task with this number.
     fn get(&self, t: u64) -> Option<Task>
         ensures { task_place result ≡ value_at self.now.now.table t }
     {
@@ -195,7 +195,7 @@ impl Tasks {
         Ok(())
     }
 
-    /// Wakes a task by a number that may be of none.
+    /// Wakes the task with this number, if there is one.
     pub fn wake_by_number(&mut self, t: u64) -> Result<Reply, AllocError>
         ensures reply { IfOk result (λ r. r ≡ wake_reply (join.wake_answer self.old.now t)) }
         ensures tasks { OnOk result (self.new ≡ changed self.old (model.woken self.old.now t)) }
@@ -207,14 +207,14 @@ impl Tasks {
         Ok(Reply::Woke(woke))
     }
 
-    /// The front leaves the queue.
+    /// Removes the front of the queue.
     fn take(&mut self) -> Result<Option<u64>, AllocError>
         ensures { IfOk result (λ r. MatchOption r ((self.old.now.queue ≡ []) × (self.new ≡ self.old)) (λ t. (rest : List ℕ) × (self.old.now.queue ≡ t ∷ rest) × (self.new ≡ changed self.old (with_queue self.old.now rest)))) }
     {
         self.queue.take()
     }
 
-    /// A task runs, and is not noted yet.
+    /// Starts a task: it runs, and is not noted yet.
     fn start(&mut self, t: u64) -> Result<(), AllocError>
         ensures { OnOk result (self.new ≡ changed self.old (model.begun_value (value_at self.old.now.table t) self.old.now t)) }
     {
@@ -230,7 +230,7 @@ impl Tasks {
         }
     }
 
-    /// A turn begins: the front of the queue runs.
+    /// Begins a turn: the front of the queue runs.
     pub fn begin(&mut self) -> Result<Option<u64>, AllocError>
         ensures { IfOk result (λ r. MatchOption r ((self.old.now.queue ≡ []) × (self.new ≡ self.old)) (λ t. (rest : List ℕ) × (self.old.now.queue ≡ t ∷ rest) × (self.new ≡ changed self.old (model.begun self.old.now t rest)))) }
     {
@@ -243,7 +243,7 @@ impl Tasks {
         }
     }
 
-    /// The turn of a task ends pending.
+    /// Ends the turn of a task as pending.
     pub fn pause(&mut self, me: u64) -> Result<Ended, AllocError>
         ensures ended { IfOk result (λ e. e ≡ model.pause_answer (value_at self.old.now.table me)) }
         ensures tasks { OnOk result (self.new ≡ changed self.old (model.paused_value (value_at self.old.now.table me) self.old.now me)) }
@@ -269,7 +269,7 @@ impl Tasks {
         }
     }
 
-    /// The turn of a task ends ready.
+    /// Ends the turn of a task as ready.
     pub fn complete(&mut self, me: u64, output: u64) -> Result<Ended, AllocError>
         ensures ended { IfOk result (λ e. e ≡ model.complete_answer (value_at self.old.now.table me)) }
         ensures tasks { OnOk result (self.new ≡ changed self.old (model.completed_value (value_at self.old.now.table me) self.old.now me output)) }
@@ -296,7 +296,7 @@ impl Tasks {
         }
     }
 
-    /// Keeps all changes, so that they are not taken back any more.
+    /// Keeps all changes, so that they cannot be taken back any more.
     pub fn keep(&mut self)
         ensures { self.new ≡ kept self.old.now }
     {
@@ -315,7 +315,7 @@ impl Tasks {
 
 // The handles of tasks.
 impl Tasks {
-    /// The task, where its handle is kept.
+    /// Returns the task, if its handle is kept.
     fn kept(&self, t: u64) -> Result<Task, TaskError>
         ensures { found_task result ≡ join.kept_task self.now.now t }
     {
@@ -334,7 +334,7 @@ impl Tasks {
         }
     }
 
-    /// Whether a task has finished, for its handle.
+    /// Returns whether a task has finished, for its handle.
     pub fn finished(&self, t: u64) -> Reply
         ensures { result ≡ finished_reply (join.finished_answer self.now.now t) }
     {
@@ -378,7 +378,7 @@ impl Tasks {
         }
     }
 
-    /// A poll of the handle of a task by another.
+    /// Polls the handle of a task for another task.
     pub fn join(&mut self, t: u64, by: u64) -> Result<Reply, AllocError>
         ensures reply { IfOk result (λ r. r ≡ join_reply (join.join_answer self.old.now t)) }
         ensures tasks { OnOk result (self.new ≡ changed self.old (join.joined self.old.now t by)) }

@@ -1,4 +1,4 @@
-// The sleeps by number, with how many of them are armed at each tick.
+// The sleeps by number, with the number of armed sleeps at each tick.
 ghost use Rattle.std.specs.Prelude.{◌≡◌, [], OnOk, Some, is_some, true, map, MatchBool};
 ghost use Rattle.mono_model.specs.Table.{value_at, next_number, with_next, with_value, without, count_of};
 ghost use Rattle.mono_model.specs.FireOrder.{IsNoneDue};
@@ -12,10 +12,10 @@ use crate::ticks::Ticks;
 use std::alloc::{AllocError, Global};
 use std::marker::Model;
 
-/// A table of sleeps, and in the order of ticks how many are armed at each.
+/// A table of sleeps, and the number of armed sleeps at each tick, in the order of ticks.
 ///
-/// Contracts see the table alone, as it is and as it was when its changes were last kept. Want of memory leaves an empty
-/// table.
+/// Contracts see the table alone, as it is and as it was when its changes were last kept. The table is empty once it
+/// was out of memory.
 #[derive(Drop)]
 pub struct SleepPlaces {
     places: Places<Sleep>,
@@ -35,7 +35,7 @@ impl Model for SleepPlaces {
     ghost invariant = { λ a. AreTicks (armed_count a.places.now) (armed_count a.places.before) a.ticks };
 }
 
-/// The tick at which a sleep is armed, if it is.
+/// Returns the tick of an armed sleep.
 fn armed_at(value: Option<Sleep>) -> Option<u128>
     ensures { result ≡ armed_tick value }
 {
@@ -45,7 +45,7 @@ fn armed_at(value: Option<Sleep>) -> Option<u128>
     }
 }
 
-/// A number that has a value gets another, and is counted so.
+/// Stores another value under a number that has a value, and counts it.
 fn set(
     places: &mut Places<Sleep>,
     ticks: &mut Ticks,
@@ -62,7 +62,7 @@ fn set(
     ticks.change(from, armed_at(Some(value)))
 }
 
-/// A number that has a value is gone, and is counted no more.
+/// Removes the value of a number that has one, and no longer counts it.
 fn remove(places: &mut Places<Sleep>, ticks: &mut Ticks, number: u64) -> Result<(), AllocError>
     requires there { is_some (value_at places.old.now number) ≡ true }
     requires ticks { AreTicks (armed_count places.old.now) (armed_count places.old.before) ticks.old }
@@ -75,7 +75,7 @@ fn remove(places: &mut Places<Sleep>, ticks: &mut Ticks, number: u64) -> Result<
 }
 
 impl SleepPlaces {
-    /// No number was given out.
+    /// Returns a table in which no number was given out.
     pub fn new(alloc: Global) -> SleepPlaces
         ensures { result ≡ kept [] }
     {
@@ -85,21 +85,21 @@ impl SleepPlaces {
         }
     }
 
-    /// The number that is given out next.
+    /// Returns the number that is given out next.
     pub fn next_number(&self) -> u64
         ensures { result ≡ next_number self.now.now }
     {
         self.places.next_number()
     }
 
-    /// How many numbers have a value.
+    /// Returns how many numbers have a value.
     pub fn live(&self) -> u64
         ensures { result ≡ count_of self.now.now }
     {
         self.places.live()
     }
 
-    /// What a number has. None if it was never given out, or is gone.
+    /// Returns the sleep with this number. Returns `None` if it was never given out, or was removed.
     pub fn get(&self, number: u64) -> Option<Sleep>
         ensures { result ≡ value_at self.now.now number }
     {
@@ -113,7 +113,7 @@ impl SleepPlaces {
         self.places.push(Sleep::Fresh(nanos))
     }
 
-    /// A number that has a value gets another.
+    /// Stores another value under a number that has a value.
     pub fn set(&mut self, number: u64, value: Sleep) -> Result<(), AllocError>
         requires { is_some (value_at self.old.now number) ≡ true }
         ensures { OnOk result (self.new ≡ changed self.old (with_value self.old.now number value)) }
@@ -128,7 +128,7 @@ impl SleepPlaces {
         }
     }
 
-    /// A number that has a value is gone.
+    /// Removes the value of a number that has one.
     pub fn remove(&mut self, number: u64) -> Result<(), AllocError>
         requires { is_some (value_at self.old.now number) ≡ true }
         ensures { OnOk result (self.new ≡ changed self.old (without self.old.now number)) }
@@ -143,14 +143,14 @@ impl SleepPlaces {
         }
     }
 
-    /// Whether no sleep is armed at a tick that is not above this one.
+    /// Returns whether no sleep is armed at a tick up to this one.
     pub fn is_none_due(&self, greatest: u128) -> bool
         ensures { MatchBool result (IsNoneDue (map sleep_place self.now.now) greatest) (IsNoneDue (map sleep_place self.now.now) greatest → ⊥) }
     {
         self.ticks.are_above(greatest)
     }
 
-    /// Keeps all changes, so that they are not taken back any more.
+    /// Keeps all changes, so that they cannot be taken back any more.
     pub fn keep(&mut self)
         ensures { self.new ≡ kept self.old.now }
     {

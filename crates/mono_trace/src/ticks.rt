@@ -1,12 +1,12 @@
-// At how many ticks sleeps are armed, and how many at each, with changes that can be taken back.
+// The number of armed sleeps at each tick, with changes that can be taken back.
 ghost use Rattle.std.specs.Prelude.{◌≡◌, [], OnOk, MatchBool, ℕ};
 ghost use Rattle.mono_trace.specs.TickCounts.{AreAlike, AreCounts, AreCountsBut, AreTicks, AreNoneUpTo, IsOneUpTo, none_at, one_more, more_at, all_more};
 
 use std::alloc::{AllocError, Global};
 use std::collections::BTreeMap;
 
-/// How many sleeps are armed at each tick, as far as any are, and the ticks that sleeps left and took since the changes
-/// were last kept.
+/// The number of armed sleeps at each tick that has any, and the ticks that sleeps left and took since the changes were
+/// last kept.
 #[derive(Drop)]
 pub struct Ticks {
     pub counts: BTreeMap<u128, u64>,
@@ -14,7 +14,7 @@ pub struct Ticks {
     pub taken: Vec<u128>,
 }
 
-/// One sleep more is armed at a tick. No table has 2^64 sleeps, so that the count is one number.
+/// Counts one more sleep at a tick. No table has 2^64 sleeps, so a `u64` holds the count.
 fn raise(counts: &mut BTreeMap<u128, u64>, tick: u128) -> Result<(), AllocError>
     ensures { OnOk result ((f : ℕ → ℕ) → AreCounts f counts.old → AreCounts (one_more f tick) counts.new) }
 {
@@ -28,7 +28,7 @@ fn raise(counts: &mut BTreeMap<u128, u64>, tick: u128) -> Result<(), AllocError>
     }
 }
 
-/// One sleep less is armed at a tick.
+/// Counts one sleep fewer at a tick.
 fn lower(counts: &mut BTreeMap<u128, u64>, tick: u128)
     ensures { (f : ℕ → ℕ) → AreCounts (one_more f tick) counts.old → AreCounts f counts.new }
 {
@@ -41,7 +41,7 @@ fn lower(counts: &mut BTreeMap<u128, u64>, tick: u128)
     counts.remove(&tick);
 }
 
-/// Each of the ticks that were left has one sleep more again.
+/// Counts one more sleep again at each tick that was left.
 fn raise_all(counts: &mut BTreeMap<u128, u64>, left: &mut Vec<u128>) -> Result<(), AllocError>
     ensures counts { OnOk result ((f : ℕ → ℕ) → AreCountsBut f left.old.items counts.old → AreCounts f counts.new) }
     ensures left { OnOk result (left.new.items ≡ []) }
@@ -52,7 +52,7 @@ fn raise_all(counts: &mut BTreeMap<u128, u64>, left: &mut Vec<u128>) -> Result<(
     Ok(())
 }
 
-/// Each of the ticks that were taken has one sleep less again.
+/// Counts one sleep fewer again at each tick that was taken.
 fn lower_all(counts: &mut BTreeMap<u128, u64>, taken: &mut Vec<u128>)
     ensures counts { (f : ℕ → ℕ) → AreCounts (all_more f taken.old.items) counts.old → AreCounts f counts.new }
     ensures taken { taken.new.items ≡ [] }
@@ -63,7 +63,7 @@ fn lower_all(counts: &mut BTreeMap<u128, u64>, taken: &mut Vec<u128>)
 }
 
 impl Ticks {
-    /// No sleep is armed.
+    /// Returns counts without a sleep.
     pub fn new(alloc: Global) -> Ticks
         ensures { AreTicks none_at none_at result }
     {
@@ -74,7 +74,7 @@ impl Ticks {
         }
     }
 
-    /// A sleep is armed at a tick, if at any.
+    /// Counts a sleep that is armed at this tick, if at any.
     fn take(&mut self, tick: Option<u128>) -> Result<(), AllocError>
         ensures { OnOk result ((now before : ℕ → ℕ) → AreTicks now before self.old → AreTicks (more_at now tick) before self.new) }
     {
@@ -85,7 +85,7 @@ impl Ticks {
         Ok(())
     }
 
-    /// A sleep is armed no more at a tick, if it was at any.
+    /// Counts a sleep no longer at this tick, if it was at any.
     fn leave(&mut self, tick: Option<u128>) -> Result<(), AllocError>
         ensures { OnOk result ((now before : ℕ → ℕ) → AreTicks (more_at now tick) before self.old → AreTicks now before self.new) }
     {
@@ -96,7 +96,7 @@ impl Ticks {
         Ok(())
     }
 
-    /// A sleep that was armed at one tick, if at any, is armed at another, if at any.
+    /// Moves a sleep from one tick, if it was at any, to another tick, if it is at any.
     pub fn change(&mut self, from: Option<u128>, to: Option<u128>) -> Result<(), AllocError>
         ensures { OnOk result ((now after before : ℕ → ℕ) → AreAlike (more_at now to) (more_at after from) → AreTicks now before self.old → AreTicks after before self.new) }
     {
@@ -107,7 +107,7 @@ impl Ticks {
         self.leave(from)
     }
 
-    /// The first tick at which a sleep is armed is above this one, or there is none.
+    /// Returns whether each armed sleep has a tick above this one.
     pub fn are_above(&self, tick: u128) -> bool
         ensures { (now before : ℕ → ℕ) → AreTicks now before self.now → MatchBool result (AreNoneUpTo tick now) (IsOneUpTo tick now) }
     {
@@ -117,7 +117,7 @@ impl Ticks {
         }
     }
 
-    /// Keeps all changes, so that they are not taken back any more.
+    /// Keeps all changes, so that they cannot be taken back any more.
     pub fn keep(&mut self)
         ensures { (now before : ℕ → ℕ) → AreTicks now before self.old → AreTicks now now self.new }
     {
@@ -134,7 +134,7 @@ impl Ticks {
         Ok(())
     }
 
-    /// No sleep is armed any more.
+    /// Forgets all sleeps.
     pub fn clear(&mut self)
         ensures { AreTicks none_at none_at self.new }
     {

@@ -10,7 +10,7 @@ use mono_machine::{Act, Blocking, Event, Limits, Report};
 use std::alloc::{AllocError, Global};
 
 impl Parts {
-    /// An act, as long as its reply is the one that is told.
+    /// Makes an act, if its reply is the expected one.
     fn act_told(&mut self, act: Act, report: &Report) -> Result<bool, AllocError>
         requires { self.old.now.sleeps.arm_count < 2 ^ 127 }
         ensures { IfOk result (λ b. Told report.now (Report.Reply (act_outcome act self.old.now).reply) (act_outcome act self.old.now).machine self.old self.new b) }
@@ -24,7 +24,7 @@ impl Parts {
         }
     }
 
-    /// An event, as long as its report is one that is told.
+    /// Takes an event, if its report is an allowed one.
     fn event(&mut self, event: &Event, report: &Report) -> Result<bool, AllocError>
         requires { self.old.now.sleeps.arm_count < 2 ^ 127 }
         ensures tried { IfOk result (λ b. Tried event.now report.now self.old self.new b) }
@@ -40,9 +40,9 @@ impl Parts {
     }
 }
 
-/// A machine, as far as the events and reports so far have led it.
+/// The machine after the events and reports so far.
 ///
-/// It stands for one machine (`machine_of`), whatever order the sleeps of one tick fired in.
+/// It is a view of one machine (`machine_of`), for any order in which the sleeps of one tick fired.
 #[derive(Drop)]
 pub struct Trace {
     parts: Parts,
@@ -52,7 +52,7 @@ impl Trace {
     ghost use Rattle.mono_trace.specs.Refinement.{machine_of};
     ghost use Rattle.mono_trace.specs.Traces.{Checks};
 
-    /// Stands for the start machine with these limits and this strategy. It takes no memory yet.
+    /// Returns a view of the start machine with these limits and this strategy. It takes no memory yet.
     pub fn new(alloc: Global, limits: Limits, blocking: Blocking) -> Trace
         ensures { machine_of result ≡ start_machine limits blocking }
     {
@@ -61,18 +61,18 @@ impl Trace {
         }
     }
 
-    /// How often a sleep was armed so far.
+    /// Returns how often a sleep was armed so far.
     pub fn arms(&self) -> u128
         ensures { result ≡ (machine_of self.now).sleeps.arm_count }
     {
         self.parts.sleeps.arms()
     }
 
-    /// Takes an event with its report, and answers whether the machine may take the event with this report.
+    /// Takes an event with its report, and returns whether the machine may take the event with this report.
     ///
-    /// True is answered exactly where it may, and then the trace stands for the machine that is left; where it is false,
-    /// the trace stands for the machine that it stood for (`checks`). Arms may not be 2^127 or more, and rise by at most
-    /// 2^63 (`arms`). The only error is want of memory; the trace is given up after it.
+    /// It returns true if and only if the machine may, and the view is then the machine after the step. If it returns
+    /// false, the view stays (`checks`). There must be fewer than 2^127 arms, and they rise by at most 2^63 (`arms`).
+    /// The only error is out of memory; the trace is given up after it.
     pub fn step(
         &mut self,
         _alloc: Global,

@@ -1,4 +1,4 @@
-// A turn whose report is compared, reply by reply.
+// A turn, with a comparison of its report, reply by reply.
 ghost use Rattle.std.specs.Prelude.{◌≡◌, ◌≢◌, ◌<◌, ◌+◌, ◌^◌, length, MatchBool, IfOk, OnOk};
 ghost use Rattle.mono_machine.specs.Turns.{replies_of, after_steps, end_answer, after_end, turn_report, after_turn};
 ghost use Rattle.mono_trace.specs.Trials.{Told};
@@ -9,7 +9,7 @@ use mono_machine::{End, Ended, Refusal, Reply, Report, TurnStep};
 use std::alloc::AllocError;
 
 impl Parts {
-    /// Each step in order, as long as its reply is the one that is told.
+    /// Makes each step in order, as long as its reply is the expected one.
     fn steps(&mut self, me: u64, steps: &[TurnStep], told: &[Reply]) -> Result<bool, AllocError>
         requires same_length { length steps.now ≡ length told.now }
         requires has_numbers { self.old.now.sleeps.arm_count + length steps.now < 2 ^ 128 }
@@ -25,7 +25,7 @@ impl Parts {
         Ok(true)
     }
 
-    /// The turn of the running task, as long as it is the one that is told.
+    /// Makes the turn of the running task, if the report is the expected one.
     fn turn_of(
         &mut self,
         me: u64,
@@ -48,7 +48,7 @@ impl Parts {
         Ok(same_end(ended, found))
     }
 
-    /// A turn of the task at the queue's front, as long as it is the one that is told.
+    /// Makes a turn of the task at the queue's front, if the report is the expected one.
     pub fn turn(
         &mut self,
         steps: &[TurnStep],
