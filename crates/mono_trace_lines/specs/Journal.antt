@@ -1,4 +1,4 @@
--- The lines of a journal, and what a check of them answers.
+-- The lines of a journal, and the answer of a check of them.
 use Rattle.std.specs.Prelude.{◌≡◌, ◌^◌, ◌<◌, ◌+◌, ℕ, zero, suc, true, List, [], ◌∷◌, ◌++◌, codes, decimal}
 use Rattle.mono_machine.specs.declared.events.Limits.{Limits}
 use Rattle.mono_machine.specs.declared.events.Blocking.{Blocking}
@@ -28,13 +28,13 @@ FitsJournal (Now n) = n < 2 ^ 128
 FitsJournal (Park millis) = FitsAny millis
 FitsJournal (Main o) = o < 2 ^ 64
 
--- the line says this
+-- The line has this content.
 pub record IsJournalLine (said : JournalLine) (line : Line) : Type 0 where
   pub fits : FitsJournal said
   pub text : line.bytes ≡ journal_text said
   pub is_ended : line.is_ended ≡ true
 
--- the lines say these, one each
+-- The lines have these contents, one each.
 abbrev pub AreJournalLines : List JournalLine → List Line → Type 0
 AreJournalLines said ls = AreLines IsJournalLine said ls
 
@@ -42,19 +42,19 @@ AreJournalLines said ls = AreLines IsJournalLine said ls
 abbrev pub IsFirstBad : List Line → ℕ → Type 0
 IsFirstBad ls n = IsFirstWrong IsJournalLine ls n
 
--- the bytes begin with a line that says this, and rest is behind it
+-- The bytes begin with a line of this content, followed by the rest.
 abbrev pub BeginsWith : List ℕ → JournalLine → List ℕ → Type 0
 BeginsWith bytes said rest = (bytes ≡ journal_text said ++ 10 ∷ rest) × FitsJournal said
 
--- the bytes begin with no line of a journal
+-- The bytes begin with no line of a journal.
 abbrev pub BeginsWithNone : List ℕ → Type 0
 BeginsWithNone bytes = (said : JournalLine) (rest : List ℕ) → BeginsWith bytes said rest → ⊥
 
--- they begin with one line of a journal at most
+-- They begin with at most one line of a journal.
 abbrev pub OneLine : Type 0
 OneLine = (bytes : List ℕ) (said other : JournalLine) (rest behind : List ℕ) → BeginsWith bytes said rest → BeginsWith bytes other behind → (said ≡ other) × (rest ≡ behind)
 
--- they begin with the line of one report at most
+-- They begin with the line of at most one report.
 abbrev pub OneReport : Type 0
 OneReport = (bytes : List ℕ) (r other : Report) (rest behind : List ℕ) → FitsReport r → FitsReport other
     → bytes ≡ report_text r ++ 10 ∷ rest → bytes ≡ report_text other ++ 10 ∷ behind → (r ≡ other) × (rest ≡ behind)
@@ -75,7 +75,7 @@ reports_in (Now n ∷ said) = reports_in said
 reports_in (Park millis ∷ said) = reports_in said
 reports_in (Main o ∷ said) = reports_in said
 
--- the line of the pair at a place, counted from 1 over all lines; the places of pairs are counted from 0
+-- The line of the pair at a place, counted from 1 over all lines; the places of pairs are counted from 0.
 abbrev pub line_of_pair : List JournalLine → ℕ → ℕ
 line_of_pair [] place = 0
 line_of_pair (Ran e r ∷ said) zero = 1

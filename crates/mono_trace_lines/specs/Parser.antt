@@ -1,4 +1,4 @@
--- Reading on lists of bytes: what each function of the reader computes.
+-- The parser on lists of bytes: the result of each function of the reader.
 use Rattle.std.specs.Prelude.{ℕ, zero, suc, ◌==◌, if◌then◌else◌, List, [], ◌∷◌, ◌++◌, length, Option, Some, None, codes, slice_index}
 use Rattle.mono_model.specs.declared.Woke.TheVariants as woke
 use Rattle.mono_model.specs.declared.Ended.{Ended}
@@ -13,7 +13,7 @@ use Rattle.mono_text.specs.Parser.{Read, when, mapped, then_read, word_at, numbe
 use Rattle.mono_trace_lines.specs.declared.journal.JournalLine.{JournalLine}
 use Rattle.mono_trace_lines.specs.declared.journal.JournalLine.TheVariants as line
 
--- a number behind a space, where there is one
+-- A number after a space, if there is one.
 abbrev pub any_number_at : List ℕ → Read (Option ℕ)
 any_number_at bytes = when (word_at (codes " ") bytes) (λ r. mapped Some (number_at r)) (Some (None, bytes))
 
@@ -29,14 +29,14 @@ refusal_at bytes =
     (when (word_at (codes "no-pool") bytes) (λ r. Some (refusal.NoPool, r))
     (when (word_at (codes "ended") bytes) (λ r. Some (refusal.Ended, r)) None))))))))
 
--- a reply whose word begins with an n
+-- A reply whose word begins with an n.
 unfoldable pub n_reply_at : List ℕ → Read Reply
 n_reply_at bytes =
     when (word_at (codes "noted") bytes) (λ r. Some (reply.Woke woke.Noted, r))
     (when (word_at (codes "nothing") bytes) (λ r. Some (reply.Woke woke.Nothing, r))
     (when (word_at (codes "no") bytes) (λ r. Some (reply.No, r)) None))
 
--- a reply whose word begins with an e
+-- A reply whose word begins with an e.
 unfoldable pub e_reply_at : List ℕ → Read Reply
 e_reply_at bytes =
     when (word_at (codes "elapsed") bytes) (λ r. Some (reply.Elapsed, r))
@@ -46,13 +46,13 @@ abbrev pub ready_with : Option ℕ → Reply
 ready_with None = reply.Ready
 ready_with (Some o) = reply.Output o
 
--- a reply whose word begins with an r
+-- A reply whose word begins with an r.
 unfoldable pub r_reply_at : List ℕ → Read Reply
 r_reply_at bytes =
     when (word_at (codes "ready") bytes) (λ r. mapped ready_with (any_number_at r))
     (when (word_at (codes "refused ") bytes) (λ r. mapped reply.Refused (refusal_at r)) None)
 
--- a reply whose first letter no other reply has
+-- A reply whose first letter no other reply has.
 unfoldable pub other_reply_at : List ℕ → Read Reply
 other_reply_at bytes =
     when (word_at (codes "sleep ") bytes) (λ r. mapped reply.Sleep (number_at r))
@@ -72,7 +72,7 @@ reply_at bytes =
     else if slice_index bytes 0 == 114 then r_reply_at bytes
     else other_reply_at bytes
 
--- how a turn ended, where that stands here; None where a reply has to stand
+-- How a turn ended, if that is here; None if a reply has to come here.
 unfoldable pub ended_at : List ℕ → Read Ended
 ended_at bytes =
     when (word_at (codes "idle") bytes) (λ r. Some (ended.Idle, r))
@@ -84,7 +84,7 @@ abbrev pub mapped_or : {A : Type 0} → (Ended → A) → Read Ended → Read A 
 mapped_or f None other = other
 mapped_or f (Some x) other = Some (f x.0, x.1)
 
--- the parts of a turn's report, of which some were read, and at most most parts are to come
+-- The parts of a turn's report: those read so far, and at most `most` further ones.
 unfoldable pub replies_at : ℕ → ℕ → List Reply → List ℕ → Read Report
 replies_at zero t front bytes = None
 replies_at (suc most) t front bytes =
@@ -92,7 +92,7 @@ replies_at (suc most) t front bytes =
     (λ r. mapped_or (report.Turn t front) (ended_at r) (then_read (reply_at r) (λ x rest. replies_at most t (front ++ x ∷ []) rest)))
     None
 
--- numbers, each behind a space, of which some were read, and at most most are to come
+-- Numbers, each after a space: those read so far, and at most `most` further ones.
 unfoldable pub numbers_at : ℕ → List ℕ → List ℕ → Read (List ℕ)
 numbers_at zero front bytes = Some (front, bytes)
 numbers_at (suc most) front bytes =
@@ -107,7 +107,7 @@ report_at bytes =
     (when (word_at (codes "unlisted") bytes) (λ r. Some (report.Unlisted, r))
     (mapped report.Reply (reply_at bytes))))))
 
--- an event with its report
+-- An event with its report.
 abbrev pub pair_at : List ℕ → Read JournalLine
 pair_at bytes = then_read (event_at bytes) (λ e rest. when (word_at (codes " -> ") rest) (λ q. mapped (line.Ran e) (report_at q)) None)
 
@@ -118,6 +118,6 @@ journal_at bytes =
     (when (word_at (codes "main ") bytes) (λ r. mapped line.Main (number_at r))
     (pair_at bytes)))
 
--- a line of a journal and the line feed behind it
+-- A line of a journal and the line feed after it.
 unfoldable pub line_at : List ℕ → Read JournalLine
 line_at bytes = then_read (journal_at bytes) (λ x rest. when (word_at (10 ∷ []) rest) (λ r. Some (x, r)) None)

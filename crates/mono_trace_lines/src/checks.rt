@@ -11,7 +11,7 @@ use mono_text::Reader;
 use mono_trace::Trace;
 use std::alloc::{AllocError, Global};
 
-/// What a check of a journal answers.
+/// The answer of a check of a journal.
 #[derive(Clone, Copy, Debug, PartialEq, Eq)]
 pub enum Answer {
     /// This line, counted from 1, is the first that is no line of a journal.
@@ -22,14 +22,14 @@ pub enum Answer {
     No(usize),
 }
 
-// A trace of what was read so far, and the line of the pair at which it failed, if it did.
+// A trace of the lines so far, and the line of the pair at which it failed, if it did.
 #[derive(Drop)]
 struct Checking {
     trace: Trace,
     failed: Option<usize>,
 }
 
-// Takes the pair in a line with this number, unless one has failed.
+// Takes the pair in a line with this number, unless an earlier pair has failed.
 #[inline(always)]
 fn take_pair(
     alloc: Global,
@@ -52,7 +52,7 @@ fn take_pair(
     Ok(())
 }
 
-// Takes what a line with this number says: a pair, unless one has failed. The other lines are passed over.
+// Takes the content of the line with this number: a pair, unless an earlier pair has failed. It skips the other lines.
 #[inline(always)]
 fn take_line(
     alloc: Global,
@@ -73,7 +73,7 @@ fn take_line(
     }
 }
 
-// Keeps the list of a turn's steps for the next one.
+// Keeps the list of a turn's steps for the next turn.
 #[inline(always)]
 fn keep_list(item: JournalLine, spare: &mut List<TurnStep>) {
     if let JournalLine::Ran(event, _) = item {
@@ -83,7 +83,7 @@ fn keep_list(item: JournalLine, spare: &mut List<TurnStep>) {
     }
 }
 
-// Takes the next line, which has this number. False where it is no line of a journal.
+// Takes the next line, which has this number. Returns false if it is no line of a journal.
 #[inline(always)]
 fn take_next(
     alloc: Global,
@@ -106,10 +106,10 @@ fn take_next(
     Ok(true)
 }
 
-/// Whether a journal is a run of the machine, from the start machine with these limits and this strategy.
+/// Returns whether a journal is a run of the machine, from the start machine with these limits and this strategy.
 ///
-/// The first line that is no line of a journal is named, wherever it stands. Else the answer is that of
-/// [`mono_trace::check`] on the pairs of events and reports, with the line of the pair in place of its place.
+/// It names the first line that is no line of a journal, anywhere in the input. Otherwise the answer is that of
+/// [`mono_trace::check`] on the pairs of events and reports, with the line of the pair in place of its index.
 pub fn check_lines(
     alloc: Global,
     limits: Limits,

@@ -9,20 +9,20 @@ use mono_machine::{Event, List, Report, TurnStep};
 use mono_text::Reader;
 use std::alloc::{AllocError, Global};
 
-/// What a line of a journal says.
+/// The content of a line of a journal.
 #[derive(Drop)]
 pub enum JournalLine {
     /// An event with its report.
     Ran(Event, Report),
-    /// What the clock showed, in nanoseconds.
+    /// The clock's reading, in nanoseconds.
     Now(u128),
-    /// The driver was parked, for so many milliseconds at most.
+    /// The driver was parked, with a timeout of this number of milliseconds if it has one.
     Park(Option<u64>),
     /// The output of the main task.
     Main(u64),
 }
 
-// An event with its report.
+// Reads an event with its report.
 fn pair(
     alloc: Global,
     reader: &mut Reader,
@@ -42,7 +42,7 @@ fn pair(
     Ok(Some(JournalLine::Ran(event, report)))
 }
 
-// What stands here, without its line feed.
+// Reads the content of a line, without its line feed.
 #[tactic(auto, unfolding(crate::specs::Parser::journal_at))]
 fn journal(
     alloc: Global,
@@ -72,7 +72,7 @@ fn journal(
     pair(alloc, reader, spare)
 }
 
-// What the next line is by the definitions of `Reading`.
+// Reads the next line as the definitions of `Parser` do.
 #[tactic(auto, unfolding(crate::specs::Parser::line_at))]
 fn line_read(
     alloc: Global,
@@ -90,11 +90,11 @@ fn line_read(
     Ok(None)
 }
 
-/// What the next line of a journal says, and goes past the line. None where it is no line of a journal; what is left then
-/// is not told.
+/// Reads the next line of a journal, and moves past it. Returns `None` if it is no line of a journal; the rest of the
+/// input is then unspecified.
 ///
-/// The spare list is used for the steps of a turn, so that an earlier turn's list can serve again. Nothing else is done
-/// with it. By the law `one_line` a written line is read as what was written.
+/// The call stores the steps of a turn in the spare list, so one list serves for all turns. Nothing else happens to it.
+/// By the law `one_line` a written line is read back as the same content.
 pub fn read_line(
     alloc: Global,
     reader: &mut Reader,

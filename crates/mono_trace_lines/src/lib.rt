@@ -1,4 +1,4 @@
-//! Journals as lines of text, and whether they are runs of the machine.
+//! Journals as lines of text, and a check whether they are runs of the machine.
 #![tactic(auto)]
 
 mod checks;

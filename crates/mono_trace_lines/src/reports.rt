@@ -1,4 +1,4 @@
-// Report lines in.
+// The reader of report lines.
 ghost use Rattle.std.specs.Prelude.{◌≡◌, [], None, length};
 ghost use Rattle.mono_text.specs.Parser.{Gives, GivesIf, number_at};
 ghost use Rattle.mono_trace_lines.specs.Parser.{any_number_at, refusal_at, n_reply_at, e_reply_at, r_reply_at, other_reply_at, reply_at, ended_at, replies_at, numbers_at, report_at};
@@ -7,7 +7,7 @@ use mono_machine::{Ended, List, Refusal, Reply, Report, Woke};
 use mono_text::Reader;
 use std::alloc::{AllocError, Global};
 
-/// A number behind a space, or that none is there. No answer where a space stands there and no number behind it.
+/// Reads an optional number after a space. There is no answer if a space is here and no number follows.
 pub(crate) fn any_number(reader: &mut Reader) -> Option<Option<u64>>
     ensures { Gives result reader.new.rest.now (any_number_at reader.old.rest.now) }
 {
@@ -52,7 +52,7 @@ fn refusal(reader: &mut Reader) -> Option<Refusal>
     None
 }
 
-// A reply whose word begins with an n.
+// Reads a reply whose word begins with an n.
 #[tactic(auto, unfolding(crate::specs::Parser::n_reply_at))]
 fn n_reply(reader: &mut Reader) -> Option<Reply>
     ensures { Gives result reader.new.rest.now (n_reply_at reader.old.rest.now) }
@@ -69,7 +69,7 @@ fn n_reply(reader: &mut Reader) -> Option<Reply>
     None
 }
 
-// A reply whose word begins with an e.
+// Reads a reply whose word begins with an e.
 #[tactic(auto, unfolding(crate::specs::Parser::e_reply_at))]
 fn e_reply(reader: &mut Reader) -> Option<Reply>
     ensures { Gives result reader.new.rest.now (e_reply_at reader.old.rest.now) }
@@ -84,7 +84,7 @@ fn e_reply(reader: &mut Reader) -> Option<Reply>
     None
 }
 
-// A reply whose word begins with an r.
+// Reads a reply whose word begins with an r.
 #[tactic(auto, unfolding(crate::specs::Parser::r_reply_at))]
 fn r_reply(reader: &mut Reader) -> Option<Reply>
     ensures { Gives result reader.new.rest.now (r_reply_at reader.old.rest.now) }
@@ -102,7 +102,7 @@ fn r_reply(reader: &mut Reader) -> Option<Reply>
     None
 }
 
-// A reply whose first letter no other reply has.
+// Reads a reply whose first letter no other reply has.
 #[tactic(auto, unfolding(crate::specs::Parser::other_reply_at))]
 fn other_reply(reader: &mut Reader) -> Option<Reply>
     ensures { Gives result reader.new.rest.now (other_reply_at reader.old.rest.now) }
@@ -141,7 +141,7 @@ fn other_reply(reader: &mut Reader) -> Option<Reply>
     None
 }
 
-// The next byte is this one.
+// Reads a reply, by the next byte.
 #[tactic(auto, unfolding(crate::specs::Parser::reply_at))]
 fn reply(reader: &mut Reader) -> Option<Reply>
     ensures { Gives result reader.new.rest.now (reply_at reader.old.rest.now) }
@@ -159,7 +159,7 @@ fn reply(reader: &mut Reader) -> Option<Reply>
     other_reply(reader)
 }
 
-// How a turn ended, where that stands here; else nothing changes.
+// Reads how a turn ended, if that is here; otherwise nothing changes.
 #[tactic(auto, unfolding(crate::specs::Parser::ended_at))]
 fn turn_end(reader: &mut Reader) -> Option<Ended>
     ensures found { Gives result reader.new.rest.now (ended_at reader.old.rest.now) }
@@ -180,7 +180,7 @@ fn turn_end(reader: &mut Reader) -> Option<Ended>
     None
 }
 
-// The parts of the report of a task's turn, behind the task's number.
+// Reads the parts of the report of a task's turn, after the task's number.
 fn replies(alloc: Global, reader: &mut Reader, task: u64) -> Result<Option<Report>, AllocError>
     ensures { GivesIf result reader.new.rest.now (replies_at (length reader.old.rest.now) task [] reader.old.rest.now) }
 {
@@ -200,7 +200,7 @@ fn replies(alloc: Global, reader: &mut Reader, task: u64) -> Result<Option<Repor
     Ok(None)
 }
 
-// Numbers, each behind a space.
+// Reads numbers, each after a space.
 fn numbers(alloc: Global, reader: &mut Reader) -> Result<Option<List<u64>>, AllocError>
     ensures { GivesIf result reader.new.rest.now (numbers_at (length reader.old.rest.now) [] reader.old.rest.now) }
 {
@@ -217,8 +217,8 @@ fn numbers(alloc: Global, reader: &mut Reader) -> Result<Option<List<u64>>, Allo
     Ok(Some(list))
 }
 
-/// The report that stands here, without a line feed, and goes past it. None where none stands here; what is left then is
-/// not told.
+/// Reads a report, without a line feed, and moves past it. Returns `None` if there is none here; the rest of the input
+/// is then unspecified.
 #[tactic(auto, unfolding(crate::specs::Parser::report_at))]
 pub fn read_report(alloc: Global, reader: &mut Reader) -> Result<Option<Report>, AllocError>
     ensures { GivesIf result reader.new.rest.now (report_at reader.old.rest.now) }
