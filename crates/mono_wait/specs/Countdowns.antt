@@ -1,4 +1,4 @@
--- A future that waits so many polls.
+-- A future that waits for a number of polls.
 use Rattle.std.specs.Prelude.{◌≡◌, ℕ, ⊤, true, Option, Some, None}
 use Rattle.mono_model.specs.Tasks.{Tasks, woken}
 use Rattle.mono_model.specs.Poll.{OnPending}

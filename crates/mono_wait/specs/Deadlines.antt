@@ -1,4 +1,4 @@
--- What a value with a deadline waits for.
+-- The sources of a value with a deadline.
 use Rattle.std.specs.Prelude.{◌≡◌, ◌⊎◌, ℕ, ⊤, Option, Result, Ok, Err}
 use Rattle.std.proofs.Common.{inl, inr, sym, ap, ◌∙◌, subst, refl}
 use Rattle.mono_model.specs.Tasks.{Tasks}
@@ -17,7 +17,7 @@ use Rattle.mono_machine.specs.Watches.{Source, of_sleep}
 use Rattle.mono_wait.specs.Sources.{Covers, Heard, heard_on, waker_in}
 use Rattle.mono_wait.specs.Leaves.{SleepNeeds, sleeps_cover}
 
--- what its value waits for, and its delay
+-- the sources of its value, and its delay
 abbrev pub TimeoutNeeds : {T : Type 0} → (T → Source → Type 0) → Timeout T → Source → Type 0
 TimeoutNeeds needs f x = needs f.value x ⊎ SleepNeeds f.delay x
 

@@ -1,4 +1,4 @@
--- What the handle of a task waits for.
+-- The source of a task's handle.
 use Rattle.std.specs.Prelude.{◌≡◌, ℕ, ⊤, true, false, Bool, map, if◌then◌else◌, Option, Some, None, Result, Ok, Err}
 use Rattle.std.proofs.Common.{inl, sym, ap, ◌∙◌, subst, refl}
 use Rattle.mono_model.specs.Tasks.{Tasks}
@@ -23,7 +23,7 @@ module _ {C O : Type 0} (number : C → ℕ) (tasks : C → Tasks O) (work : C �
     since = itself d;
   }
 
-  -- once pending, the running task is the one that waits for the output
+  -- once pending, the running task waits for the output
   pub handles_cover : (h : ℕ) (c d : C) → Ok Pending ≡ join_answer (tasks c) h → tasks d ≡ joined (tasks c) h (number c) → reaches c d → Covers number work reaches watcher c d (λ x. x ≡ of_task h)
   handles_cover h c d told after reached = record {
     some = of_task h;

@@ -1,4 +1,4 @@
--- What a future that keeps its output and a join of two wait for.
+-- The sources of a future that keeps its output, and of a join of two.
 use Rattle.std.specs.Prelude.{◌≡◌, ◌⊎◌, ℕ, ⊤, true, false, Option, Some, None}
 use Rattle.std.proofs.Common.{inl, inr, sym, ap, ◌∙◌, subst, refl}
 use Rattle.mono_model.specs.Tasks.{Tasks}

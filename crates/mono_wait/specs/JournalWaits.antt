@@ -1,4 +1,4 @@
--- Along the entries of a journal: what a task waits for since its last turn.
+-- Along the entries of a journal: the sources for which a task waits since its last turn.
 use Rattle.std.specs.Prelude.{⊤, ◌≡◌, ◌⊎◌, ℕ, Bool, true, false, List, [], ◌∷◌, Option, Some}
 use Rattle.mono_task.specs.Members.{FutureOf}
 use Rattle.mono_model.specs.Table.{value_at}
@@ -29,7 +29,7 @@ module _ {F O P U W J A V : Type 0} (number : O → ℕ) (leads : W → W → Ty
     pub needed : needs g x
     pub kept : drops_in x steps ≡ false
 
-  -- since its last turn nobody took its wait
+  -- since its last turn no call took its wait
   abbrev pub Untaken : Type 0 → Event → Report → Type 0
   Untaken owed e answer = owed × (is_turn_of t answer ≡ false) × (is_taken t x e answer ≡ false)
 
@@ -37,8 +37,8 @@ module _ {F O P U W J A V : Type 0} (number : O → ℕ) (leads : W → W → Ty
   AfterTurn true owed futures left steps e answer = NeedsAfter futures left steps e
   AfterTurn false owed futures left steps e answer = Untaken owed (event.Turn steps e) answer
 
-  -- At each park among these entries the task waits for x or is awaiting, if it has not finished, its future needed x after
-  -- its last turn, and nobody took its wait since.
+  -- At each park among these entries the task waits for x or is awaiting, if it has not finished, its future needed x
+  -- after its last turn, and no call took its wait since.
   abbrev pub Waiting : Type 0 → Machine → List (Option F) → ℕ → List Entry → Type 0
   Waiting owed m futures reading [] = ⊤
   Waiting owed m futures reading (Now n ∷ part) = Waiting owed m futures n part

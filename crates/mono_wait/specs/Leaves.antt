@@ -1,4 +1,4 @@
--- What a sleep waits for.
+-- The source of a sleep.
 use Rattle.std.specs.Prelude.{◌≡◌, ℕ, ⊤, true, false, Bool, Option, Some, None, Result, Ok, Err, nat_le}
 use Rattle.std.proofs.Common.{inl, sym, ap, ◌∙◌, subst, refl}
 use Rattle.mono_model.specs.Tasks.{Tasks}

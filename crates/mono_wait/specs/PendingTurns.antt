@@ -1,4 +1,4 @@
--- What a turn of a future that is pending leaves of its task.
+-- The effect of a pending turn on its task.
 use Rattle.std.specs.Prelude.{◌≡◌, ◌⊎◌, ℕ, true, false, List, ◌++◌, Option, Some}
 use Rattle.mono_model.specs.Table.{value_at}
 use Rattle.mono_model.specs.declared.Ended.{Ended}
@@ -14,20 +14,21 @@ use Rattle.mono_machine.specs.declared.events.Reply.{Reply}
 use Rattle.mono_machine.specs.declared.events.Report.{Report}
 use Rattle.mono_machine.specs.declared.events.Report.TheVariants as report
 
--- what the machine says of a turn that registers
+-- the machine's claim for a turn that registers
 abbrev pub TurnRegisters : Type 0
 TurnRegisters = (before after : List TurnStep) (replies : List Reply) (told : Ended) (old new : Machine) (t : ℕ) (x : Source) → IsValid old → Step old (event.Turn (before ++ after) end.Pending) (report.Turn t replies told) new
     → Hears (after_steps t before (begun_machine old.tasks.queue old)) t x → drops_in x after ≡ false → IsWatched new t x ⊎ (is_awaiting t new ≡ true)
 
--- The turn's acts are some before the task was registered at x and some since. Where none since drops x, the task waits for
--- x or is awaiting after the turn.
+-- The turn's acts are some before the task was registered at x and some since. If none since drops x, the task waits
+-- for x or is awaiting after the turn.
 pub record LeavesAt (m : Machine) (t : ℕ) (steps : List TurnStep) (answer : Report) (x : Source) : Type 0 where
   pub before : List TurnStep
   pub since : List TurnStep
   pub acts : steps ≡ before ++ since
   pub stays : (new : Machine) → IsValid m → Step m (event.Turn steps end.Pending) answer new → drops_in x since ≡ false → IsWatched new t x ⊎ (is_awaiting t new ≡ true)
 
--- What a told turn that ended pending leaves, of its task's future f: a future g, and for each source that g needs the above.
+-- A turn that ended pending, from the task's future f, leaves a future g, and the above holds for each source that g
+-- needs.
 pub record LeavesWaiting {F : Type 0} (is_spent : F → Type 0) (needs : F → Source → Type 0) (m : Machine) (futures left : List (Option F)) (steps : List TurnStep) (answer : Report) : Type 0 where
   pub task : ℕ
   pub replies : List Reply

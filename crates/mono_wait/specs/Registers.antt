@@ -1,4 +1,4 @@
--- What a pending poll leaves of its task in the machine.
+-- The effect of a pending poll on its task in the machine.
 use Rattle.std.specs.Prelude.{◌≡◌, ◌⊎◌, ℕ, true, false, List, ◌++◌}
 use Rattle.mono_model.specs.declared.Ended.{Ended}
 use Rattle.mono_machine.specs.Machine.{Machine, IsValid}
@@ -13,9 +13,9 @@ use Rattle.mono_machine.specs.declared.events.Reply.{Reply}
 use Rattle.mono_machine.specs.declared.events.Report.TheVariants as report
 
 module _ {C : Type 0} (stands : C → Machine → Type 0) (number : C → ℕ) where
-  -- From c to d a poll did these steps, some of them before it was registered at x and the others since. Whatever other
-  -- steps the turn has before and after the poll: where no step since drops x, the task waits for x or is awaiting once
-  -- the turn has ended pending.
+  -- From c to d a poll did these steps, some of them before it was registered at x and the others since. For all steps
+  -- of the turn before and after the poll: if no step since drops x, the task waits for x or is awaiting once the turn
+  -- has ended pending.
   pub record Registers (c d : C) (x : Source) : Type 0 where
     pub before : List TurnStep
     pub since : List TurnStep

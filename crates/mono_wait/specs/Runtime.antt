@@ -1,4 +1,4 @@
--- Who waits, by the parts of a runtime and by the machine for which they stand.
+-- The waiting tasks, by the parts of a runtime and by the machine that they refine.
 use Rattle.std.specs.Prelude.{◌≡◌, ℕ, ⊤, true, zero, suc, map, List, [], ◌∷◌, Option, Some, None}
 use Rattle.std.specs.Option.{option_map}
 use Rattle.std.proofs.Common.{refl, sym, ap, ◌∙◌}

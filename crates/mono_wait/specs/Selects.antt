@@ -1,4 +1,4 @@
--- What a select of two waits for.
+-- The sources of a select of two.
 use Rattle.std.specs.Prelude.{zero, suc, ◌≡◌, ◌⊎◌, ◌||◌, ◌<◌, ◌^◌, ◌*◌, ◌/◌, ◌%◌, ℕ, ⊤, Bool, true, false, List, [], ◌∷◌, Option, Some, None}
 use Rattle.std.specs.List.{FoldsTo}
 use Rattle.std.specs.Fn.{Shared, FnReturnsAt}
@@ -60,7 +60,7 @@ module _ {T C O : Type 0} (future : FutureOf T C O) (reaches : C → C → Type 
 
 module _ {T C O : Type 0} (future : FutureOf T C O) (number : C → ℕ) (work : C → Tasks ⊤) (reaches : C → C → Type 0) (watcher : C → Source → Option ℕ)
     (needs : T → Source → Type 0) (covers : (f : T) (c : C) (g : T) (d : C) → future.polls f c Pending g d → Covers number work reaches watcher c d (needs g)) (says : O → Bool → Type 0) where
-  -- each source that what is left of the branch needs is heard
+  -- each source that the rest of the branch needs is heard
   abbrev pub Hearing : C → Branch T → C → Type 0
   Hearing c b d = (x : Source) → BranchNeeds needs b x → Heard number work reaches watcher c d x
 
@@ -86,7 +86,7 @@ module _ {T C O : Type 0} (future : FutureOf T C O) (number : C → ℕ) (work :
   turn_arms (Out f) c b' d live p = absurd (true-false live)
   turn_arms Gone c b' d live p = absurd (true-false live)
 
--- the rule: where it is pending none passes and one waits, and both have their turns
+-- the rule: if it is pending, none passes, one waits, and both have their turns
 record NonePass {Z : Type 0} (l k : Look Z) : Type 0 where
   first : passes l ≡ false
   second : passes k ≡ false

@@ -1,4 +1,4 @@
--- That the running task is registered at a source, or was woken in its turn.
+-- The running task is registered at a source, or was woken in its turn.
 use Rattle.std.specs.Prelude.{◌≡◌, ◌⊎◌, ℕ, ⊤, Bool, true, false, Option, Some, None}
 use Rattle.mono_model.specs.Table.{value_at}
 use Rattle.mono_model.specs.Tasks.{Tasks, Task}
@@ -18,7 +18,7 @@ module _ {C : Type 0} (number : C → ℕ) (work : C → Tasks ⊤) (reaches : C
   abbrev pub Hears : C → Source → Type 0
   Hears c x = (watcher c x ≡ Some (number c)) ⊎ (is_stirred_in (value_at (work c).table (number c)) ≡ true)
 
-  -- It was so at some moment from c to d, between which only calls of the turn came.
+  -- It was so at some moment from c to d, and only calls of the turn came between.
   pub record Heard (c d : C) (x : Source) : Type 0 where
     pub moment : C
     pub before : reaches c moment
@@ -31,6 +31,6 @@ module _ {C : Type 0} (number : C → ℕ) (work : C → Tasks ⊤) (reaches : C
     pub armed : Heard c d some
     pub each : (x : Source) → needs x → Heard c d x
 
-  -- what was heard stays heard, whatever calls of the turn came before and come after
+  -- a source that was heard stays heard, for all calls of the turn before and after
   pub heard_on : ((a b c : C) → reaches a b → reaches b c → reaches a c) → (a c d e : C) (x : Source) → reaches a c → Heard c d x → reaches d e → Heard a e x
   heard_on on a c d e x first heard more = record { moment = heard.moment; before = on a c heard.moment first heard.before; hears = heard.hears; since = on heard.moment d e heard.since more }

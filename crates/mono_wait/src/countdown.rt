@@ -7,7 +7,7 @@ use mono_model::{Host, Poll};
 use mono_task::{Context, TaskFuture};
 use std::alloc::Global;
 
-/// Waits so many polls, waking its own task in each, and then answers its value.
+/// A future that waits for a number of polls, wakes its own task in each, and then answers its value.
 #[derive(Drop)]
 pub struct Countdown {
     pub left: u64,

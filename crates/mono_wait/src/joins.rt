@@ -1,10 +1,10 @@
-// What a future that keeps its output and a join wait for.
+// The sources of a future that keeps its output, and of a join.
 ghost use Rattle.mono_wait.specs.Joins.{MaybeNeeds, JoinNeeds, maybe_reached, maybe_left, maybe_covers, join_reached, join_left, joins_cover};
 
 use crate::waits::{WaitContext, Waits};
 use mono_combine::{Join2, MaybeDone};
 
-// It needs what its future needs, and nothing once that has answered.
+// It needs the sources of its future, and none once that has answered.
 impl<C: WaitContext, F: Waits<C, Output: Drop>> Waits<C> for MaybeDone<C, F> {
     ghost needs = { MaybeNeeds F.needs };
 
@@ -15,7 +15,7 @@ impl<C: WaitContext, F: Waits<C, Output: Drop>> Waits<C> for MaybeDone<C, F> {
     ghost covers = { maybe_covers F.TaskFuture C.number C.work C.reaches C.watcher C.reaches_itself C.reaches_on F.polls_reach F.cancels_reach F.needs F.covers };
 }
 
-// It needs what each of its unfinished branches needs.
+// It needs the sources of each unfinished branch.
 impl<C: WaitContext, A: Waits<C, Output: Drop>, B: Waits<C, Output: Drop>> Waits<C>
     for Join2<C, A, B> {
     ghost needs = { JoinNeeds A.needs B.needs };

@@ -1,4 +1,4 @@
-//! What a pending poll and a pending turn leave of their task in the machine, as functions that do nothing.
+//! The effects of a pending poll and of a pending turn on their task in the machine, as functions that do nothing.
 ghost use Rattle.std.specs.Prelude.{◌≡◌, ℕ, Bool, false, List, Option};
 ghost use Rattle.mono_model.specs.declared.poll.Poll.{Poll};
 ghost use Rattle.mono_machine.specs.Machine.{Machine, IsValid};
@@ -21,15 +21,15 @@ use mono_machine::laws::what_a_turn_registers_stands;
 use mono_rt::Cx;
 use mono_shared::SharedState;
 
-/// A poll that was pending registers its task at each source that the future needs: once the turn has ended pending, the
-/// task waits for that source or is awaiting, unless a later step of the turn drops the source.
+/// Shows that a pending poll registers its task at each source that the future needs. Once the turn has ended pending,
+/// the task waits for that source or is awaiting, unless a later step of the turn drops the source.
 pub fn a_pending_poll_registers<C: MachineContext, F: Waits<C>>()
     ensures { (f : F) (c : C) (g : F) (d : C) (x : Source) → F.polls f c Poll.Pending g d → F.needs g x → Registers C.stands C.number c d x }
 {
     what_a_turn_registers_stands();
 }
 
-/// A turn of a history that ended pending leaves its task waiting at each source that its future needs, or
+/// Shows that a turn of a history that ended pending leaves its task waiting at each source that its future needs, or
 /// awaiting, unless one of its later acts drops the source.
 pub fn a_pending_turn_leaves_its_task_waiting<F, O, P, U, W>()
 where
@@ -45,9 +45,10 @@ where
     what_a_turn_registers_stands();
 }
 
-/// Along a history whose turns are polls (the clause `polled` of `block_on`), for each task t and each source x: at each park
-/// t waits for x or is awaiting, if it has not finished, its future needed x after its last turn, no act of that turn
-/// dropped x, and nobody took its wait since. Nothing is owed for what the history begins with.
+/// Shows, for a history whose turns are polls (the clause `polled` of `block_on`), that each park finds its tasks
+/// waiting. For each task t and each source x, t waits for x or is awaiting at each park under four conditions: it has
+/// not finished, its future needed x after its last turn, no act of that turn dropped x, and no call took its wait
+/// since. Nothing is claimed for the beginning of the history.
 pub fn each_park_finds_its_tasks_waiting<F, O, P, U, W>()
 where
     F: Waits<Cx<F, O, P, U, W>, Output = O> + Drop,

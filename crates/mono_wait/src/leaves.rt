@@ -22,7 +22,7 @@ impl<C: WaitContext> Waits<C> for Sleep {
     ghost covers = { sleeps_cover C.number C.sleeps C.work C.reaches C.watcher C.reaches_itself C.same_number C.watches_sleeps };
 }
 
-// It needs what its value needs, and its delay.
+// It needs the sources of its value, and its delay.
 impl<C: WaitContext, T: Waits<C>> Waits<C> for Timeout<T> {
     ghost needs = { TimeoutNeeds T.needs };
 
@@ -33,7 +33,7 @@ impl<C: WaitContext, T: Waits<C>> Waits<C> for Timeout<T> {
     ghost covers = { timeouts_cover T.TaskFuture C.number C.sleeps C.work C.reaches C.reaches_on C.watcher C.reaches_itself C.same_number C.watches_sleeps T.needs T.covers T.polls_reach };
 }
 
-/// A future whose relations say that the context is reached, which every poll and every cancel promises.
+/// A future whose relations say that the context is reached, as every poll and every cancel promises.
 #[derive(Drop)]
 pub struct Reaching<T> {
     pub future: T,

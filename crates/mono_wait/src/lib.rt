@@ -1,4 +1,4 @@
-//! What a future waits for once a poll was pending, and that its task is registered there.
+//! The sources for which a future waits after a pending poll, and that its task is registered there.
 #![tactic(auto)]
 
 mod countdown;

@@ -1,4 +1,4 @@
-// A context that stands for the machine.
+// A context that refines the machine.
 ghost use Rattle.std.specs.Prelude.{◌≡◌, List};
 ghost use Rattle.mono_model.specs.Table.{value_at};
 ghost use Rattle.mono_machine.specs.Machine.{Machine};
@@ -9,9 +9,9 @@ ghost use Rattle.mono_machine.specs.declared.events.TurnStep.{TurnStep};
 
 use crate::waits::WaitContext;
 
-/// A context whose calls are steps of the machine, and that tells who waits as the machine does.
+/// A context whose calls are steps of the machine, and whose waiting tasks are the machine's.
 pub trait MachineContext: WaitContext {
-    // the machines for which the context stands
+    // the machines that the context refines
     ghost stands: { Self → Machine → Type 0 };
 
     ghost leads: { (a b : Self) → Self.reaches a b → (steps : List TurnStep) × ((m : Machine) → stands a m → stands b (after_steps (Self.number a) steps m)) };

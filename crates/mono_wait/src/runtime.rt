@@ -1,4 +1,4 @@
-// The runtime's context tells who waits as the machine does.
+// The runtime's context has the machine's waiting tasks.
 ghost use Rattle.std.specs.Prelude.{refl};
 ghost use Rattle.mono_rt.specs.Refinement.{hosting_of, Matches};
 ghost use Rattle.mono_wait.specs.Runtime.{parts_watcher, parts_same_watcher, parts_same_stirred};

@@ -1,10 +1,10 @@
-// What a select waits for.
+// The sources of a select.
 ghost use Rattle.mono_wait.specs.Selects.{SelectNeeds, select_left, select_reached, selects_cover};
 
 use crate::waits::{WaitContext, Waits};
 use mono_combine::Select2;
 
-// It needs what each branch needs that is left in it. One that the mask leaves out needs nothing.
+// It needs the sources of each branch that is left in it. A branch that the mask leaves out needs none.
 impl<C, A, B, G, H> Waits<C> for Select2<A, B, G, H>
 where
     C: WaitContext,

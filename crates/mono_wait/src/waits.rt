@@ -1,4 +1,4 @@
-// What a future waits for.
+// The sources of a future.
 ghost use Rattle.std.specs.Prelude.{◌≡◌, ℕ, Option};
 ghost use Rattle.mono_model.specs.Table.{value_at};
 ghost use Rattle.mono_model.specs.declared.poll.Poll.{Poll};
@@ -8,7 +8,7 @@ ghost use Rattle.mono_wait.specs.Sources.{Covers, waiter_in, waker_in};
 use mono_task::TaskFuture;
 use mono_time::TimeContext;
 
-/// A context that tells which task waits for a source: for a sleep its waker, for a task its waiter.
+/// A context that exposes which task waits for a source: for a sleep its waker, for a task its waiter.
 pub trait WaitContext: TimeContext {
     // the one task that waits for a source
     ghost watcher: { Self → Source → Option ℕ };
@@ -18,20 +18,20 @@ pub trait WaitContext: TimeContext {
     ghost watches_tasks: { (c : Self) (u : ℕ) → watcher c (of_task u) ≡ waiter_in (value_at (Self.work c).table u) };
 }
 
-/// A future that tells what it waits for.
+/// A future that exposes the sources for which it waits.
 ///
-/// Where a poll is pending, the running task was registered at each source that the future needs, and at one at least, or
-/// was woken in its turn. It was so at some moment of the poll, and since then only calls of the turn came (`covers`). So a
-/// later branch of a form changes nothing of it, and owes nothing for it. What a later call of the turn can still undo is a
-/// drop of the source, which is an act of the turn.
+/// If a poll is pending, the running task was registered at each source that the future needs, and at one at least, or
+/// was woken in its turn. It was so at some moment of the poll, and since then only calls of the turn came (`covers`).
+/// So a later branch of a form does not change this, and owes nothing for it. A later call of the turn can undo it only
+/// by a drop of the source, which is an act of the turn.
 pub trait Waits<C: WaitContext>: TaskFuture<C> {
-    // the sources that the future waits for once a poll was pending
+    // the sources for which the future waits after a pending poll
     ghost needs: { Self → Source → Type 0 };
 
     /// Does nothing. An impl with closures among its bounds has to write it out, since it needs one method of its own.
     fn tells_its_needs(&self) {}
 
-    // a poll leads to a context that is reached, and so does giving the future up
+    // a poll leads to a reached context, and so does giving the future up
     ghost polls_reach: { (f : Self) (c : C) (r : Poll Self.Output) (g : Self) (d : C) → Self.polls f c r g d → C.reaches c d };
 
     ghost cancels_reach: { (f : Self) (c d : C) → Self.cancels f c d → C.reaches c d };
