@@ -4,7 +4,7 @@ ghost use Rattle.std.specs.Borrow.{ftrue};
 
 use std::marker::{Model, PhantomData};
 
-/// Which entry a value stands for. The value may hold ghost data, so the entry may be one that memory does not hold.
+/// A value that specifies an entry. The value may hold ghost data, so the entry may be absent from memory.
 pub trait Tells<X, E> {
     /// The entry of this value.
     ghost entry: { X → E };
@@ -40,7 +40,7 @@ impl<E> History<E> {
         History { of: PhantomData }
     }
 
-    /// Returns the history with one more entry, the one that this value stands for.
+    /// Returns the history with one more entry, which this value specifies.
     pub fn told<X, M: Tells<X, E>>(&self, about: &X) -> History<E>
         ensures { result.entries ≡ self.now.entries ++ M.entry about.now ∷ [] }
     {

@@ -1,5 +1,5 @@
-//! A history that exists in proofs alone: a list of entries that takes no memory. What a call did can be said of it,
-//! whether or not anything keeps a record.
+//! A history that exists in proofs alone: a list of entries that takes no memory. A clause can speak of what a call did
+//! even if no journal keeps it.
 #![tactic(auto)]
 
 mod histories;

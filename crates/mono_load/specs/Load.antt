@@ -26,21 +26,21 @@ use Rattle.mono_load.specs.declared.tallies.Tally.{Tally}
 abbrev pub load_limits : ℕ → Limits
 load_limits count = record { tasks = count; jobs = 0; sleeps = count }
 
--- sleep k is made for so many milliseconds, and polled
+-- sleep k is made for this number of milliseconds, and polled
 abbrev pub sleep_turn : ℕ → ℕ → Event
 sleep_turn k millis = event.Turn (step.Act (act.NewSleep (millis * 1000000)) ∷ step.Query (query.Sleep k) ∷ []) end.Pending
 
--- so many tasks from number k on, each with a sleep of as many milliseconds as the generator draws
+-- a number of tasks from number k on, each with a sleep whose milliseconds the generator draws
 abbrev pub sleepers : ℕ → ℕ → FastRand → List Event
 sleepers k zero r = []
 sleepers k (suc n) r = event.Act act.Spawn ∷ sleep_turn k (drawn r) ∷ sleepers (k + 1) n (after_draw r)
 
--- so many clock steps from step j on, of 2 ^ 28 milliseconds each
+-- a number of clock steps from step j on, of 2 ^ 28 milliseconds each
 abbrev pub clocks : ℕ → ℕ → List Event
 clocks j zero = []
 clocks j (suc n) = event.Clock (j * 268435456000000) ∷ clocks (j + 1) n
 
--- so many turns that end at once
+-- a number of turns that end at once
 abbrev pub endings : ℕ → List Event
 endings zero = []
 endings (suc n) = event.Turn [] (end.Ready 0) ∷ endings n
@@ -59,7 +59,7 @@ fired_in report.Listed = []
 fired_in report.Unlisted = []
 fired_in (report.Drained tasks) = []
 
--- the sum of what each item counts for
+-- the sum of the values of all items
 abbrev pub total_of : {A : Type 0} → (A → ℕ) → List A → ℕ
 total_of f [] = 0
 total_of f (x ∷ xs) = f x + total_of f xs
@@ -76,12 +76,12 @@ refusals_in report.Listed = 0
 refusals_in report.Unlisted = 0
 refusals_in (report.Drained tasks) = 0
 
--- a number that tells in which order they fired
+-- a number that depends on the order in which they fired
 abbrev pub order_from : ℕ → List ℕ → ℕ
 order_from x [] = x
 order_from x (s ∷ fired) = order_from ((x * 31 + s + 1) % 2 ^ 64) fired
 
--- What the reports to all events of the load come to.
+-- The summary of the reports to all events of the load.
 pub record IsSummary (seed count : ℕ) (s : Summary) : Type 0 where
   pub reports : List Report
   pub last : Machine
@@ -93,13 +93,13 @@ pub record IsSummary (seed count : ℕ) (s : Summary) : Type 0 where
 
 -- ---- for the running sum
 
--- The sum went on by what these reports come to.
+-- The sum grew by the values of these reports.
 pub record Adds (old : Tally) (fired : List ℕ) (refusals : ℕ) (new : Tally) : Type 0 where
   pub fired_now : new.fired ≡ old.fired + length fired
   pub refused_now : new.refused ≡ old.refused + refusals
   pub order_now : new.order ≡ order_from old.order fired
 
--- The executor and the sum went on by all of these events.
+-- The executor took all of these events, and the sum grew by their reports.
 abbrev pub Goes : Exec → Tally → List Event → Exec → Tally → Type 0
 Goes exec tally events after new =
     (m : Machine) → Stands exec m

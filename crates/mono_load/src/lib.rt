@@ -1,4 +1,4 @@
-//! A load: a long input that a seed gives, replayed, and a summary of its reports.
+//! A load: a long input made from a seed, replayed, and a summary of its reports.
 #![tactic(auto)]
 
 mod loads;

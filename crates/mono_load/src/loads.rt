@@ -11,7 +11,7 @@ use mono_machine::Limits;
 use mono_replay::{Act, Blocking, End, Event, Exec, List, Query, TurnStep};
 use std::alloc::{AllocError, Global};
 
-/// What the reports of a load come to.
+/// The summary of a load's reports.
 #[derive(Clone, Copy, Drop)]
 pub struct Summary {
     /// How many events there were.
@@ -20,7 +20,7 @@ pub struct Summary {
     pub fired: u64,
     /// How many events and steps were refused.
     pub refused: u64,
-    /// A number that tells in which order the sleeps fired.
+    /// A number that depends on the order in which the sleeps fired.
     pub order: u64,
 }
 
@@ -95,7 +95,7 @@ fn all_endings(
     Ok(())
 }
 
-/// The load of this seed and count, event by event, with its reports summed up one by one.
+/// Replays the load of this seed and count, event by event, and sums up its reports one by one.
 fn summary_of(alloc: Global, exec: &mut Exec, seed: u64, count: u64) -> Result<Summary, AllocError>
     requires count { count ≤ 100000 }
     requires start { Stands exec.old (start_machine (load_limits count) Panic) }

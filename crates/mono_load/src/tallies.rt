@@ -64,7 +64,7 @@ fn total(old: u64, more: usize) -> Result<u64, AllocError>
     }
 }
 
-// Adds what the report comes to.
+// Returns the sum with this report added.
 pub(crate) fn added(old: Tally, report: &Report) -> Result<Tally, AllocError>
     ensures { IfOk result (λ new. Adds old (fired_in report.now) (refusals_in report.now) new) }
 {

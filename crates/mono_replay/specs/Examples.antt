@@ -1,4 +1,4 @@
--- An arming for worked changes: its tick and its arm number.
+-- An arming for the examples: its tick and its arm number.
 use Rattle.std.specs.Prelude.{ℕ, false, None}
 use Rattle.mono_model.specs.Sleeps.{Arming}
 

@@ -1,4 +1,4 @@
--- What the places of the table of jobs stand for.
+-- The jobs of the machine that the places of the table represent.
 use Rattle.std.specs.Prelude.{ℕ, map, Option, Result, Ok, Err}
 use Rattle.std.specs.Option.{option_map}
 use Rattle.mono_model.specs.Table.{Table}

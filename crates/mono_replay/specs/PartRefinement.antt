@@ -1,4 +1,4 @@
--- What the parts of an executor have of a machine.
+-- How the parts of an executor refine a machine.
 use Rattle.std.specs.Prelude.{◌≡◌, ℕ, not}
 use Rattle.mono_model.specs.Table.{value_at}
 use Rattle.mono_model.specs.Sleeps.{Sleeps}
@@ -11,12 +11,12 @@ use Rattle.mono_machine.specs.Machine.{Machine}
 use Rattle.mono_machine.specs.Steps.{has_finished}
 use Rattle.mono_replay.specs.declared.parts.Parts.{Parts}
 
--- No clock step is under way: the wheel has gone up to the greatest tick.
+-- No clock step is in progress: the wheel has reached the greatest tick.
 pub record Rests (timers : Timers) (sleeps : Sleeps) : Type 0 where
   pub keeps : Keeps timers sleeps
   pub has_gone : elapsed_tick timers ≡ (sleeps_of timers).greatest
 
--- The sleeps and the tasks are those of the machine, also while a clock step is under way.
+-- The sleeps and the tasks are those of the machine, also during a clock step.
 pub record MatchesInStep (timers : Timers) (tasks : Schedule ℕ) (m : Machine) : Type 0 where
   pub keeps : Keeps timers m.sleeps
   pub same_tasks : tasks.tasks ≡ m.tasks

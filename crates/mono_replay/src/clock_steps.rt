@@ -1,4 +1,4 @@
-// A clock step, at which the sleeps that are due fire.
+// A clock step, at which the due sleeps fire.
 ghost use Rattle.std.specs.Prelude.{◌≡◌, ◌<◌, ◌≤◌, ◌+◌, [], ℕ, IfOk, OnOk, OnErr, vec_len, vec_capacity};
 ghost use Rattle.mono_model.specs.FireOrder.{FireInTurn};
 ghost use Rattle.mono_time.specs.Instants.{nanos_of};
@@ -21,7 +21,7 @@ use std::marker::Brand;
 use std::mem;
 use std::sync::ledger::{Blank, Ledger};
 
-/// All sleeps that are due fire, one after another, and then their wakers are woken in the same order.
+/// Fires all due sleeps, one after another, and then wakes their wakers in the same order.
 fn fire_all<L: Ledger>(
     timers: &mut Timers,
     tasks: &mut Tasks<u64>,
@@ -43,8 +43,8 @@ fn fire_all<L: Ledger>(
 }
 
 impl Parts {
-    /// The clock shows so many nanoseconds. Where memory is refused nothing changes (`memory`), since the room for all that
-    /// may fire is made first, in the lists that are lent.
+    /// Shows the clock a reading, in nanoseconds, and fires the due sleeps. If memory runs out, nothing changes
+    /// (`memory`), since the room for all that may fire is reserved first, in the borrowed lists.
     #[inline(always)]
     pub fn clock(&mut self, alloc: Global, n: u128, lent: &mut Due) -> Result<Report, AllocError>
         ensures steps { IfOk result (λ r. (m : Machine) → Matches self.old m → (new : Machine) × ClockStep m n r new × Matches self.new new) }

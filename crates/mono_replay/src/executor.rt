@@ -12,8 +12,8 @@ use std::mem;
 
 /// An executor: tasks with their queue, jobs, sleeps, and the inbox of wakes from other threads.
 ///
-/// It stands for the plain machine. `Stands` says for which machines one stands; each event leads from any machine for
-/// which it stood to one for which it stands, by a step of that machine.
+/// It refines the reference machine. `Stands` defines which machines it refines. Each event leads from any machine that
+/// it refined to a machine that it refines, by a step of the machine.
 ///
 /// The lists of a clock step are kept for the next one.
 #[derive(Drop)]
@@ -31,8 +31,8 @@ impl Exec {
     ghost use Rattle.mono_replay.specs.Refinement.{Stands, registered_in};
     ghost use Rattle.mono_time.specs.Registrations.{registered_after, IsNext};
 
-    /// An executor with no task, no job, no sleep, an empty inbox and a clock at 0: it stands for the start machine with
-    /// these limits and this strategy. Nothing is registered (`registered`).
+    /// Returns an executor with no task, no job, no sleep, an empty inbox and a clock at 0: it refines the start
+    /// machine with these limits and this strategy. No sleep is registered (`registered`).
     pub fn new(alloc: Global, limits: Limits, blocking: Blocking) -> Result<Exec, AllocError>
         ensures start { IfOk result (λ exec. Stands exec (start_machine limits blocking)) }
         ensures registered { IfOk result (λ exec. (s : ℕ) → registered_in exec s ≡ None) }
@@ -44,12 +44,13 @@ impl Exec {
         })
     }
 
-    /// Takes one event and answers its report.
+    /// Applies one event and returns its report.
     ///
-    /// From each machine for which the executor stood, the machine may take this event with this report, and the executor
-    /// stands for the machine that is then left (`step`). So an event is refused exactly where the machine refuses it,
-    /// and a refused one changes nothing. Where the sleeps are registered in the wheel changes as the wheel's model says
-    /// (`registered`). The only error is want of memory; the executor is given up after it.
+    /// From each machine that the executor refined, the machine may take this event with this report, and the executor
+    /// refines the machine that is then left (`step`). So the executor refuses an event if and only if the machine
+    /// refuses it, and a refused event changes nothing. The registered ticks of the sleeps in the wheel change as the
+    /// wheel's model specifies (`registered`). The only error is out of memory; after it the executor is of no further
+    /// use.
     pub fn apply(&mut self, alloc: Global, event: &Event) -> Result<Report, AllocError>
         ensures step { IfOk result (λ report. (m : Machine) → Stands self.old m → (new : Machine) × Step m event.now report new × Stands self.new new) }
         ensures registered { OnOk result ((m : Machine) → Stands self.old m → (s : ℕ) → registered_in self.new s ≡ registered_after event.now m s (registered_in self.old s)) }
@@ -58,11 +59,11 @@ impl Exec {
         self.apply_reusing(alloc, event, &mut spare)
     }
 
-    /// As `apply`, by the same step of the machine (`step`), which also changes where the sleeps are registered
-    /// (`registered`).
+    /// Applies an event as `apply` does, by the same step of the machine (`step`), which also changes the registered
+    /// ticks of the sleeps (`registered`).
     ///
-    /// The spare list is used for the replies of a turn, so that the list of an earlier report can serve again. Nothing
-    /// else is done with it.
+    /// The memory of the spare list is used for the replies of a turn, so the list of an earlier report can serve
+    /// again. The list has no other use.
     #[inline(always)]
     pub fn apply_reusing(
         &mut self,
@@ -95,11 +96,11 @@ impl Exec {
         }
     }
 
-    /// The table of sleeps, which stands for the machine's sleeps (`sleeps`) with its greatest tick (`greatest`).
+    /// Returns the table of sleeps, which refines the machine's sleeps (`sleeps`) with its greatest tick (`greatest`).
     ///
-    /// No clock step is under way (`rests`). So the table's next expiration is None exactly where nothing is registered, and
-    /// else the least start of a slot over the executor's registered ticks, which are the table's (`next`, `registered`).
-    /// It is above the greatest tick and not above the least armed tick.
+    /// No clock step is in progress (`rests`). So the table's next expiration is None if and only if no sleep is
+    /// registered. Otherwise it is the least start of a slot over the executor's registered ticks, which are the
+    /// table's (`next`, `registered`). It is above the greatest tick and not above the least armed tick.
     pub fn timers(&self) -> &Timers
         ensures sleeps { (m : Machine) → Stands self.now m → StandsForSleeps result.now m.sleeps }
         ensures greatest { (m : Machine) → Stands self.now m → (sleeps_of result.now).greatest ≡ m.sleeps.greatest }

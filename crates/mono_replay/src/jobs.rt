@@ -10,8 +10,8 @@ use mono_table::Table;
 use std::alloc::{AllocError, Global};
 use std::marker::Model;
 
-/// A job whose handle is kept: it runs, with its output to come and the task that waits for it, or it has ended, or what
-/// was known of it was answered already.
+/// A job whose handle is kept: it runs, with its output to come and the task that waits for it, or it has ended, or its
+/// result was taken already.
 #[derive(Clone, Copy, Debug, PartialEq, Eq)]
 pub enum Job {
     Running(u64, Option<u64>),
@@ -20,7 +20,7 @@ pub enum Job {
     Taken,
 }
 
-/// The jobs by their numbers, and how many there may be. Of a job whose handle was dropped nothing is left.
+/// The jobs by their numbers, and how many there may be. A job whose handle was dropped leaves nothing.
 #[derive(Drop)]
 pub struct Jobs {
     places: Table<Job>,
@@ -38,7 +38,7 @@ impl Model for Jobs {
 }
 
 impl Jobs {
-    /// No job.
+    /// Returns the table without jobs.
     pub fn new(alloc: Global, limit: u64) -> Jobs
         ensures { result ≡ no_jobs limit }
     {
@@ -48,7 +48,7 @@ impl Jobs {
         }
     }
 
-    /// Whether no further job may be made. While one may be there is a next number (`room`).
+    /// Returns whether no further job may be made. If one may be made, there is a next number (`room`).
     pub fn is_full(&self) -> bool
         ensures full { result ≡ is_full self.now.table self.now.limit }
         ensures room { result ≡ false → next_number self.now.table < 2 ^ 64 - 1 }
@@ -56,7 +56,7 @@ impl Jobs {
         self.places.count() >= self.limit || self.places.len() == u64::MAX
     }
 
-    /// One more job, with the next number, which is the answer.
+    /// Adds a job with the next number, and returns that number.
     fn add(&mut self, alloc: Global, job: Job) -> Result<u64, AllocError>
         requires { next_number self.old.table < 2 ^ 64 - 1 }
         ensures number { IfOk result (λ j. j ≡ next_number self.old.table) }
@@ -67,7 +67,7 @@ impl Jobs {
         Ok(j)
     }
 
-    /// Makes a job that runs elsewhere, and answers its number.
+    /// Makes a job that runs elsewhere, and returns its number.
     pub fn start(&mut self, alloc: Global, output: u64) -> Result<u64, AllocError>
         requires { next_number self.old.table < 2 ^ 64 - 1 }
         ensures number { IfOk result (λ j. j ≡ next_number self.old.table) }
@@ -76,7 +76,7 @@ impl Jobs {
         self.add(alloc, Job::Running(output, None))
     }
 
-    /// Makes a job that has run here, and answers its number.
+    /// Makes a job that has run here, and returns its number.
     pub fn run(&mut self, alloc: Global, output: u64) -> Result<u64, AllocError>
         requires { next_number self.old.table < 2 ^ 64 - 1 }
         ensures number { IfOk result (λ j. j ≡ next_number self.old.table) }
@@ -85,7 +85,7 @@ impl Jobs {
         self.add(alloc, Job::EndedOk(output))
     }
 
-    /// The job, where its handle is kept.
+    /// Returns the job if its handle is kept.
     fn kept(&self, j: u64) -> Result<Job, Refusal>
         ensures { found_of result ≡ kept_job self.now j }
     {
@@ -98,7 +98,7 @@ impl Jobs {
         }
     }
 
-    /// Writes what has become of a job whose handle is kept.
+    /// Stores the new state of a job whose handle is kept.
     fn set(&mut self, j: u64, job: Job)
         requires { is_some (value_at self.old.table j) ≡ true }
         ensures { self.new ≡ with_job self.old j (job_of job) }
@@ -106,7 +106,7 @@ impl Jobs {
         self.places.set(j, job);
     }
 
-    /// The job is gone. It takes no memory.
+    /// Removes the job. It takes no memory.
     fn remove(&mut self, j: u64)
         requires { is_some (value_at self.old.table j) ≡ true }
         ensures { self.new ≡ without_job self.old j }
@@ -127,7 +127,7 @@ impl Jobs {
         Ok(Reply::Dropped(output))
     }
 
-    /// Whether a job has ended.
+    /// Returns whether a job has ended.
     pub fn has_ended(&self, j: u64) -> Result<Reply, Refusal>
         ensures { result ≡ finished_answer self.now j }
     {
@@ -137,7 +137,7 @@ impl Jobs {
         }
     }
 
-    /// A job has ended. The answer has the task that waited for it.
+    /// Ends a job, and returns the task that waited for it.
     pub fn end(&mut self, j: u64, how: How) -> Result<Reply, Refusal>
         ensures answer { result ≡ end_answer self.old j }
         ensures jobs { self.new ≡ job_ended self.old j how }
@@ -156,7 +156,7 @@ impl Jobs {
         }
     }
 
-    /// A poll of a job's handle by a task.
+    /// Polls a job's handle for a task.
     pub fn poll(&mut self, j: u64, by: u64) -> Result<Reply, Refusal>
         ensures answer { result ≡ poll_answer self.old j }
         ensures jobs { self.new ≡ job_polled self.old j by }

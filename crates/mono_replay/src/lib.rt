@@ -1,4 +1,4 @@
-//! The executor as a machine that takes events one by one and answers a report for each.
+//! The executor as a machine that takes events one by one and returns a report for each.
 #![tactic(auto)]
 
 mod clock_steps;

@@ -8,9 +8,9 @@ use crate::{Blocking, Event, Exec, Report};
 use mono_machine::Limits;
 use std::alloc::{AllocError, Global};
 
-/// Takes all events in order, from a new executor, and answers one report for each.
+/// Applies all events in order, from a new executor, and returns one report for each.
 ///
-/// The reports are those of a run of the plain machine from its start (`Run`). The only error is want of memory.
+/// The reports are those of a run of the reference machine from its start (`Run`). The only error is out of memory.
 pub fn replay(
     alloc: Global,
     limits: Limits,
@@ -23,7 +23,7 @@ pub fn replay(
     report_all(alloc, &mut exec, events)
 }
 
-/// The reports of all events, in order: those of a run from each machine for which the executor stands.
+/// Returns the reports of all events, in order: those of a run from each machine that the executor refines.
 fn report_all(
     alloc: Global,
     exec: &mut Exec,

@@ -18,7 +18,7 @@ use mono_task::{SpawnTask, Tasks};
 use mono_time::Timers;
 use std::alloc::{AllocError, AllocFailed, Global};
 
-/// The tasks, the sleeps, the jobs and the inbox of an executor, while a turn runs or none does.
+/// The tasks, the sleeps, the jobs and the inbox of an executor, in a turn or between two turns.
 ///
 /// The inbox knows exactly the tasks that have not finished.
 #[derive(Drop)]
@@ -31,7 +31,7 @@ pub struct Parts {
 }
 
 impl Parts {
-    /// No task, no job, no sleep, a clock at 0, and no turn that runs.
+    /// Returns parts without tasks, jobs and sleeps, with a clock at 0, outside of a turn.
     pub fn new(alloc: Global, limits: Limits, blocking: Blocking) -> Result<Parts, AllocError>
         ensures matches { IfOk result (λ parts. Matches parts (start_machine limits blocking)) }
         ensures rest { IfOk result (λ parts. parts.tasks.turn ≡ None) }
@@ -49,7 +49,7 @@ impl Parts {
         })
     }
 
-    /// A task is made, and the inbox knows it.
+    /// Makes a task, and makes it known to the inbox.
     fn spawn(&mut self, alloc: Global) -> Result<Reply, AllocError>
         ensures reply { IfOk result (λ r. (m : Machine) → Matches self.old m → r ≡ (act_outcome Act.Spawn m).reply) }
         ensures matches { OnOk result ((m : Machine) → Matches self.old m → Matches self.new (act_outcome Act.Spawn m).machine) }
@@ -66,7 +66,7 @@ impl Parts {
         }
     }
 
-    /// A job is made, by the strategy.
+    /// Makes a job, by the strategy.
     fn block(&mut self, alloc: Global, output: u64) -> Result<Reply, AllocError>
         ensures reply { IfOk result (λ r. (m : Machine) → Matches self.old m → r ≡ (act_outcome (Act.Block output) m).reply) }
         ensures matches { OnOk result ((m : Machine) → Matches self.old m → Matches self.new (act_outcome (Act.Block output) m).machine) }
@@ -89,7 +89,7 @@ impl Parts {
         }
     }
 
-    /// An act is answered as the machine answers it, and leaves the machine's outcome.
+    /// Answers an act as the machine answers it, and leaves the machine's outcome.
     #[inline(always)]
     pub fn act(&mut self, alloc: Global, act: Act) -> Result<Reply, AllocError>
         ensures reply { IfOk result (λ r. (m : Machine) → Matches self.old m → r ≡ (act_outcome act m).reply) }
@@ -114,7 +114,7 @@ impl Parts {
         }
     }
 
-    /// A poll by the running task.
+    /// Polls for the running task.
     fn query(&mut self, me: u64, query: Query) -> Result<Reply, AllocError>
         ensures reply { IfOk result (λ r. (m : Machine) → Matches self.old m → r ≡ (query_outcome me query m).reply) }
         ensures matches { OnOk result ((m : Machine) → Matches self.old m → Matches self.new (query_outcome me query m).machine) }
@@ -129,7 +129,7 @@ impl Parts {
         }
     }
 
-    /// One step of a turn.
+    /// Does one step of a turn.
     #[inline(always)]
     pub fn step(&mut self, alloc: Global, me: u64, step: TurnStep) -> Result<Reply, AllocError>
         ensures reply { IfOk result (λ r. (m : Machine) → Matches self.old m → r ≡ (step_outcome me step m).reply) }

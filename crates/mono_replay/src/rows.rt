@@ -1,15 +1,15 @@
-//! Worked changes of where a sleep is registered in the wheel.
+//! Examples of how the registered tick of a sleep changes.
 ghost use Rattle.std.specs.Prelude.{◌≡◌, None, Some};
 ghost use Rattle.mono_model.specs.Sleeps.{fresh, armed, elapsed};
 ghost use Rattle.mono_time.specs.Registrations.{by_act, by_clock};
 ghost use Rattle.mono_replay.specs.Examples.{arming};
 
-/// A sleep that is armed at tick 100, and is registered there, has its slot start at 64.
+/// Shows a sleep that is armed at tick 100, and is registered there; its slot starts at 64.
 ///
-/// A reset to 130 keeps its arm number and leaves it registered at 100 (`later`), one to 90 registers it there (`earlier`).
-/// A clock step to 63 leaves it (`before`), one to 64 registers it at its own tick (`at_start`), one to 130 lets it fire
-/// (`fired`). A first arming registers it at its tick (`first`), and a sleep that is gone or has elapsed is not registered
-/// (`gone`, `over`).
+/// A reset to 130 keeps its arm number and leaves it registered at 100 (`later`); a reset to 90 registers it there
+/// (`earlier`). A clock step to 63 leaves it (`before`), a step to 64 registers it at its own tick (`at_start`), and a
+/// step to 130 lets it fire (`fired`). A first arming registers it at its tick (`first`). A sleep that was removed or
+/// has elapsed is not registered (`gone`, `over`).
 pub fn registered_ticks()
     ensures first { by_act (Some (fresh 99000001)) (Some (armed (arming 100 0))) None ≡ Some 100 }
     ensures again { by_act (Some elapsed) (Some (armed (arming 100 3))) None ≡ Some 100 }

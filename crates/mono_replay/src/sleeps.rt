@@ -1,4 +1,4 @@
-// Sleeps that are made and that are reset.
+// How sleeps are made and reset.
 ghost use Rattle.std.specs.Prelude.{◌≡◌, ℕ, IfOk, OnOk};
 ghost use Rattle.mono_machine.specs.Machine.{Machine};
 ghost use Rattle.mono_machine.specs.Acts.{act_outcome};
@@ -16,7 +16,7 @@ use mono_time::{Instant, SleepError};
 use std::alloc::{AllocError, Global};
 
 impl Parts {
-    /// A sleep is made.
+    /// Makes a sleep.
     pub fn new_sleep(&mut self, alloc: Global, n: u128) -> Result<Reply, AllocError>
         ensures reply { IfOk result (λ r. (m : Machine) → Matches self.old m → r ≡ (act_outcome (Act.NewSleep n) m).reply) }
         ensures matches { OnOk result ((m : Machine) → Matches self.old m → Matches self.new (act_outcome (Act.NewSleep n) m).machine) }
@@ -38,7 +38,7 @@ impl Parts {
         }
     }
 
-    /// A sleep is armed at another deadline. Where it elapses at once, its waker is woken.
+    /// Arms a sleep at another deadline. If it elapses at once, its waker is woken.
     pub fn reset(&mut self, s: u64, n: u128) -> Reply
         ensures reply { (m : Machine) → Matches self.old m → result ≡ (act_outcome (Act.Reset s n) m).reply }
         ensures matches { (m : Machine) → Matches self.old m → Matches self.new (act_outcome (Act.Reset s n) m).machine }

@@ -12,7 +12,7 @@ use mono_task::Poll;
 use std::alloc::{AllocError, AllocFailed, Global};
 
 impl Parts {
-    /// Each step in order, with its reply. The list is emptied, and its memory used for the replies.
+    /// Does each step in order, and returns its reply. The list is emptied, and its memory used for the replies.
     #[inline(always)]
     fn steps(
         &mut self,
@@ -34,7 +34,7 @@ impl Parts {
         Ok(replies)
     }
 
-    /// The end of the running task's turn. The inbox forgets a task that has finished.
+    /// Ends the running task's turn. The inbox forgets a task that has finished.
     fn end(&mut self, me: u64, end: End) -> Ended
         requires { self.old.tasks.turn ≡ Some me }
         ensures answer { (m : Machine) → Matches self.old m → result ≡ end_answer end me m }
@@ -51,7 +51,7 @@ impl Parts {
         }
     }
 
-    /// The turn of the running task. It ends also where a step found no memory.
+    /// Runs the turn of the running task. It ends also if a step ran out of memory.
     #[inline(always)]
     fn turn_of(
         &mut self,
@@ -72,8 +72,8 @@ impl Parts {
         Ok(Report::Turn(me, replies?, ended))
     }
 
-    /// A turn of the task at the queue's front. Where no task is queued it is refused, and no step is done. The spare list
-    /// is used for the replies.
+    /// Runs a turn of the task at the queue's front. If no task is queued, the turn is refused, and no step is done.
+    /// The memory of the spare list is used for the replies.
     #[inline(always)]
     pub fn turn(
         &mut self,

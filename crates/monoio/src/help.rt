@@ -1,4 +1,4 @@
-// What `monoio --help` and `monoio --version` show, and which words ask for a page.
+// The texts of `monoio --help` and `monoio --version`, and which words ask for a page.
 use crate::pages::page_of;
 
 pub(crate) const HELP: &str = "usage:
@@ -38,7 +38,7 @@ exit status: 0 done, 2 no such command, 3 a bad line, 4 a read failed, 5 a write
 
 pub(crate) const VERSION: &str = "monoio 0.1.0, after the crate monoio 0.2.4";
 
-/// Whether this word stands alone.
+/// Returns whether this word is the only one.
 pub(crate) fn is_only(words: &Vec<String>, word: &str) -> bool {
     match words.as_slice() {
         [one] => one.as_str() == word,
@@ -50,7 +50,7 @@ fn asks(word: &str) -> bool {
     matches!(word, "--help" | "-h" | "help")
 }
 
-/// Returns what is to be shown if the words ask for help: one word that does, such a word behind a command, or `help`
+/// Returns the text to show if the words ask for help: one word that does, such a word after a command, or `help`
 /// before one.
 pub(crate) fn help_of(words: &Vec<String>) -> Option<&'static str> {
     match words.as_slice() {

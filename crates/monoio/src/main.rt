@@ -1,4 +1,4 @@
-//! The program: standard input to standard output, by the words behind its name.
+//! The program: reads standard input and writes standard output, by the words after its name.
 #![tactic(auto)]
 
 mod help;
@@ -15,13 +15,13 @@ use std::process::ExitCode;
 use std::rt::Stdin;
 use std::{env, format, io};
 
-// The words behind the program's name.
+// Returns the words after the program's name.
 fn words(rt: &HostRuntime) -> io::Result<Vec<String>> {
     let words: Vec<String> = env::args(rt)?.collect(rt.alloc())?;
     Ok(words_behind(words))
 }
 
-// Says a cause on standard error, where there was memory for it. A cause that cannot be said changes no status.
+// Prints a cause on standard error, if there was memory for it. A cause that cannot be printed changes no status.
 fn say(rt: &HostRuntime, cause: Result<String, AllocError>) {
     let _ = match cause {
         Ok(cause) => eprintln!(rt; "monoio: {cause}"),
@@ -29,7 +29,7 @@ fn say(rt: &HostRuntime, cause: Result<String, AllocError>) {
     };
 }
 
-// What is wrong with the first bad line of the command.
+// Returns the fault of the first bad line of the command.
 fn bad_line_text(alloc: Global, command: &str, ended: &Ended) -> Result<String, AllocError> {
     match (ended.bad_line(), ended.fault()) {
         (Some(line), Some(fault)) => line_sentence(alloc, command, line, &fault),
@@ -51,7 +51,7 @@ fn is_closed_pipe(error: Option<&io::Error>) -> bool {
     }
 }
 
-// Says why standard output can't be written. A closed pipe is no news.
+// Prints why standard output cannot be written. It prints nothing for a closed pipe.
 fn tell_unwritten(rt: &HostRuntime, error: Option<&io::Error>) {
     if !is_closed_pipe(error) {
         say(
@@ -61,7 +61,7 @@ fn tell_unwritten(rt: &HostRuntime, error: Option<&io::Error>) {
     }
 }
 
-// The status once a text was shown.
+// Returns the status after a text was shown.
 fn shown(rt: &HostRuntime, text: &str) -> u8 {
     match println!(rt; "{text}") {
         Ok(()) => Status::Done.code(),
@@ -72,7 +72,7 @@ fn shown(rt: &HostRuntime, text: &str) -> u8 {
     }
 }
 
-// Says on standard error what the command waits for if a person is at the terminal.
+// Prints on standard error which input the command expects if a person is at the terminal.
 fn tell_waiting(rt: &HostRuntime, words: &Vec<String>, stdin: &Stdin) {
     if reads_lines(first_word(words)) && stdin.is_terminal() {
         let _ = eprintln!(rt;
@@ -81,7 +81,7 @@ fn tell_waiting(rt: &HostRuntime, words: &Vec<String>, stdin: &Stdin) {
     }
 }
 
-// Whether a command of this name reads standard input.
+// Returns whether a command of this name reads standard input.
 fn reads_lines(command: &str) -> bool {
     matches!(
         command,
@@ -89,7 +89,7 @@ fn reads_lines(command: &str) -> bool {
     )
 }
 
-// Says why the command ended so. A closed pipe downstream is no news.
+// Prints why the command ended. It prints nothing for a closed pipe downstream.
 fn tell(rt: &HostRuntime, command: &str, ended: &Ended, source: &StdinSource, sink: &StdoutSink) {
     match ended.status() {
         Status::BadLine => say(rt, bad_line_text(rt.alloc(), command, ended)),
@@ -97,7 +97,7 @@ fn tell(rt: &HostRuntime, command: &str, ended: &Ended, source: &StdinSource, si
     }
 }
 
-// Says what a status means, other than that of a bad line.
+// Prints the meaning of a status, except that of a bad line.
 fn tell_status(rt: &HostRuntime, status: Status, source: &StdinSource, sink: &StdoutSink) {
     let alloc = rt.alloc();
     match status {
@@ -133,7 +133,7 @@ fn tell_status(rt: &HostRuntime, status: Status, source: &StdinSource, sink: &St
     }
 }
 
-// The status of words that ask what the program is, once that is shown; none of other words.
+// Returns the status after the help or the version was shown, or None if the words ask for neither.
 fn shown_of(rt: &HostRuntime, words: &Vec<String>) -> Option<u8> {
     if let Some(page) = help_of(words) {
         return Some(shown(rt, page));
@@ -144,7 +144,7 @@ fn shown_of(rt: &HostRuntime, words: &Vec<String>) -> Option<u8> {
     None
 }
 
-// The first of the words; empty if there is none.
+// Returns the first of the words, or an empty one if there is none.
 fn first_word(words: &Vec<String>) -> &str {
     match words.first() {
         Some(word) => word.as_str(),
@@ -152,7 +152,7 @@ fn first_word(words: &Vec<String>) -> &str {
     }
 }
 
-// Says why the program ends so.
+// Prints why the program ends.
 fn tell_end(
     rt: &HostRuntime,
     words: &Vec<String>,
@@ -166,7 +166,7 @@ fn tell_end(
     }
 }
 
-// The status where the words can't be read.
+// Returns the status if the words cannot be read.
 fn unread(rt: &HostRuntime, error: &io::Error) -> u8 {
     say(
         rt,
@@ -178,7 +178,7 @@ fn unread(rt: &HostRuntime, error: &io::Error) -> u8 {
     }
 }
 
-// The words without `--follow`, where that is the second of them.
+// Returns the words without `--follow`, if that is the second of them.
 fn without_follow(alloc: Global, words: &Vec<String>) -> Result<Option<Vec<String>>, AllocError> {
     match words.get(1) {
         Some(second) if second.as_str() == "--follow" => {}
@@ -193,7 +193,7 @@ fn without_follow(alloc: Global, words: &Vec<String>) -> Result<Option<Vec<Strin
     Ok(Some(others))
 }
 
-// What is wrong with the line at which a command ended that answered each line as it came.
+// Returns the fault of the line at which a following command ended.
 fn bad_line_after(
     alloc: Global,
     command: &str,
@@ -225,7 +225,7 @@ fn follow(rt: &HostRuntime, words: &Vec<String>) -> u8 {
     status.code()
 }
 
-// What is wrong with the words of a command that is to answer each line as it comes.
+// Returns why the words of a following command are wrong.
 fn follow_complaint(alloc: Global, words: &Vec<String>) -> Result<String, AllocError> {
     match first_word(words) {
         "run" | "load" | "check" => String::from_str(

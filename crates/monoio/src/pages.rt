@@ -1,4 +1,4 @@
-// What `monoio COMMAND --help` shows.
+// The texts of `monoio COMMAND --help`.
 
 const REPLAY: &str = "usage: monoio replay [--follow] STRATEGY TASKS JOBS SLEEPS < EVENTS
   applies the events of standard input to an executor, and writes a report line for each
@@ -145,7 +145,7 @@ exit status: 0 it is a run, 2 other words, 3 a bad line, 4 a read failed, 5 a wr
 example: printf 'spawn -> task 0\\n' | monoio check attached 16 16 16
   of a journal that run wrote: STRATEGY is attached, and the limits are the script's";
 
-/// Returns what a command's help shows, or none if the word names no command.
+/// Returns the text of a command's help, or None if the word names no command.
 pub(crate) fn page_of(command: &str) -> Option<&'static str> {
     match command {
         "replay" => Some(REPLAY),
