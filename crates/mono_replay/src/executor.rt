@@ -46,11 +46,10 @@ impl Exec {
 
     /// Applies one event and returns its report.
     ///
-    /// From each machine that the executor refined, the machine may take this event with this report, and the executor
-    /// refines the machine that is then left (`step`). So the executor refuses an event if and only if the machine
-    /// refuses it, and a refused event changes nothing. The registered ticks of the sleeps in the wheel change as the
-    /// wheel's model specifies (`registered`). The only error is out of memory; after it the executor is of no further
-    /// use.
+    /// Leads each machine that the executor refined, by a step with this event and this report, to a machine that the
+    /// executor refines (`step`). So the executor refuses an event if and only if the machine refuses it, and a refused
+    /// event changes nothing. The registered ticks of the sleeps in the wheel change as the wheel's model specifies
+    /// (`registered`). The only error is out of memory; after it the executor is of no further use.
     pub fn apply(&mut self, alloc: Global, event: &Event) -> Result<Report, AllocError>
         ensures step { IfOk result (λ report. (m : Machine) → Stands self.old m → (new : Machine) × Step m event.now report new × Stands self.new new) }
         ensures registered { OnOk result ((m : Machine) → Stands self.old m → (s : ℕ) → registered_in self.new s ≡ registered_after event.now m s (registered_in self.old s)) }

@@ -10,7 +10,7 @@ use std::alloc::{AllocError, Global};
 
 /// Applies all events in order, from a new executor, and returns one report for each.
 ///
-/// The reports are those of a run of the reference machine from its start (`Run`). The only error is out of memory.
+/// Returns the reports of a run of the reference machine from its start (`Run`). The only error is out of memory.
 pub fn replay(
     alloc: Global,
     limits: Limits,

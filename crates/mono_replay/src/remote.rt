@@ -11,7 +11,7 @@ use mono_task::{TaskError, wake_all};
 use std::alloc::{AllocError, Global};
 
 impl Parts {
-    /// Wakes a task from another thread. It takes no memory.
+    /// Puts a task that another thread wakes into the inbox. It takes no memory.
     pub fn remote(&mut self, t: u64) -> Report
         ensures report { (m : Machine) → Matches self.old m → result ≡ remote_report m t }
         ensures matches { (m : Machine) → Matches self.old m → Matches self.new (after_remote m t) }
@@ -30,7 +30,7 @@ impl Parts {
         }
     }
 
-    /// Wakes each task that waits in the inbox, in order. If memory runs out, nothing changes (`refused`).
+    /// Empties the inbox, and wakes each listed task in order. If memory runs out, nothing changes (`refused`).
     pub fn drain(&mut self, alloc: Global) -> Result<Report, AllocError>
         ensures report { IfOk result (λ r. (m : Machine) → Matches self.old m → r ≡ report.Drained m.inbox) }
         ensures matches { OnOk result ((m : Machine) → Matches self.old m → Matches self.new (after_drain m)) }

@@ -6,10 +6,10 @@ ghost use Rattle.mono_replay.specs.Examples.{arming};
 
 /// Shows a sleep that is armed at tick 100, and is registered there; its slot starts at 64.
 ///
-/// A reset to 130 keeps its arm number and leaves it registered at 100 (`later`); a reset to 90 registers it there
-/// (`earlier`). A clock step to 63 leaves it (`before`), a step to 64 registers it at its own tick (`at_start`), and a
-/// step to 130 lets it fire (`fired`). A first arming registers it at its tick (`first`). A sleep that was removed or
-/// has elapsed is not registered (`gone`, `over`).
+/// Shows that a reset to 130 keeps its arm number and leaves it registered at 100 (`later`); a reset to 90 registers it
+/// there (`earlier`). A clock step to 63 leaves it (`before`), a step to 64 registers it at its own tick (`at_start`),
+/// and a step to 130 lets it fire (`fired`). A first arming registers it at its tick (`first`). A sleep that was
+/// removed or has elapsed is not registered (`gone`, `over`).
 pub fn registered_ticks()
     ensures first { by_act (Some (fresh 99000001)) (Some (armed (arming 100 0))) None ≡ Some 100 }
     ensures again { by_act (Some elapsed) (Some (armed (arming 100 3))) None ≡ Some 100 }
