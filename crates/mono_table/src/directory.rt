@@ -13,8 +13,8 @@ use std::marker::Model;
 ///
 /// It reads and writes a number in constant time. The numbers lie in pages of 256, each in one piece of memory, and the
 /// pages in parts of 256. It gives a page back once all 256 numbers were given out and none has a value; the same holds
-/// for a part. So its memory is three things: the pages with a value or with the next number, the heads of the pages of
-/// their parts, 40 bytes each, and 40 bytes for every 65,536 numbers that were given out.
+/// for a part. So its memory is that of the pages with a value or with the next number, and of the heads of the pages
+/// of their parts, 40 bytes each. In addition it takes 40 bytes for every 65,536 numbers that were given out.
 #[derive(Drop)]
 pub struct Table<T> {
     parts: Vec<Part<T>>,

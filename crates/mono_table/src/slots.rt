@@ -93,8 +93,8 @@ impl<T: Drop, W: Drop> Slots<T, W> {
         }
     }
 
-    /// Takes out the value of a number, with the note that is kept with it. The number is lent from now on, if it had a
-    /// value.
+    /// Takes out the value of a number, with the note that is kept with it. The number is taken out from now on
+    /// (`lent`), if it had a value.
     #[inline(always)]
     pub fn take(&mut self, number: u64) -> (Option<T>, Option<W>)
         ensures value { result.0 ≡ value_at self.old.items number }
@@ -110,7 +110,7 @@ impl<T: Drop, W: Drop> Slots<T, W> {
         }
     }
 
-    /// Puts a value back at a number that is lent, with a note to keep with it. It takes no memory.
+    /// Puts a value back at a number that is taken out, with a note to keep with it. It takes no memory.
     #[inline(always)]
     pub fn put(&mut self, number: u64, value: T, beside: Option<W>)
         requires { lent_at self.old number ≡ true }
@@ -120,8 +120,8 @@ impl<T: Drop, W: Drop> Slots<T, W> {
         drop(self.places.replace(number, Slot::Kept(value, beside)));
     }
 
-    /// Removes a number that is lent. It takes no memory. It gives back the memory of a page in which no place is left and
-    /// no further number is given out.
+    /// Removes a number that is taken out. It takes no memory. It gives back the memory of a page in which no place is
+    /// left and no further number is given out.
     #[inline(always)]
     pub fn remove(&mut self, number: u64)
         requires { lent_at self.old number ≡ true }

@@ -9,9 +9,9 @@ use std::alloc::Global;
 
 /// A computation that runs in turns on a context and returns a value at its end.
 ///
-/// A future specifies what one poll may answer and leave (`polls`), what `cancel` may leave (`cancels`), and what it
-/// may answer in the end (`gives`). For every future, poll and cancel promise that they reach the context afterwards
-/// from the one before (`reached`).
+/// A future specifies the answer and the effect of one poll (`polls`), the effect of `cancel` (`cancels`), and its
+/// answers in the end (`gives`). For every future, poll and cancel promise that they reach the context afterwards from
+/// the one before (`reached`).
 pub trait TaskFuture<C: Context>: Drop {
     /// The value that the future returns at its end.
     type Output;

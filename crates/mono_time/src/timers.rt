@@ -232,9 +232,9 @@ impl Timers {
         self.greatest
     }
 
-    /// Shows where sleeps are registered: a sleep is registered if and only if it is armed, and then either it is
-    /// pending, or above the tick that the wheel has reached and at most its own (`registered`). The wheel's tick is at
-    /// most the greatest tick (`behind`). The call does nothing.
+    /// Shows where sleeps are registered. A sleep is registered if and only if it is armed. Then it is pending, or its
+    /// registered tick is above the tick that the wheel has reached and at most its own (`registered`). The wheel's
+    /// tick is at most the greatest tick (`behind`). The call does nothing.
     pub fn registers_armed(&self)
         ensures registered { (s : ℕ) → IsRegistered (elapsed_tick self.now) (value_at (sleeps_of self.now).table s) (registered_of self.now s) }
         ensures behind { elapsed_tick self.now ≤ (sleeps_of self.now).greatest }

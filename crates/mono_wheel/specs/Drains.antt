@@ -78,8 +78,8 @@ module _ {F : Type 0} where
         ((h : F) × (more : List ℕ) × asks f node true h × (chosen ≡ node ∷ more) × Sifts h rest more spared g)
         ⊎ ((h : F) × (more : List ℕ) × asks f node false h × (spared ≡ node ∷ more) × Sifts h rest chosen more g)
 
-    -- The state after calls that returned these nodes: the closure was asked about a first part of the list, which now
-    -- consists of the spared nodes.
+    -- The state after calls that returned these nodes. The closure was asked about the first part of the list, and that
+    -- part now has the spared nodes alone.
     pub record Drained (old : Lists) (list : ℕ) (choose : F) (given : List ℕ) (t : DrainFilter F) : Type 0 where
       pub asked : List ℕ
       pub spared : List ℕ
