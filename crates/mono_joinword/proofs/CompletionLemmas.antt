@@ -1,4 +1,4 @@
--- What the completing step tells, by the word that it found.
+-- The meaning of the completing step, by the word that it found.
 use Rattle.std.proofs.Common.{◌≡◌, ◌≢◌, ℕ, [], ◌∷◌, ⊎_elim, arith, Option, Some}
 use Rattle.atomic_table.specs.Table.{Me}
 use Rattle.mono_joinword.specs.declared.views.Kept.{Kept}

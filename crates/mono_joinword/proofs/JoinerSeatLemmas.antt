@@ -1,4 +1,4 @@
--- The joiner's steps at the seats that the calls have, and what they tell.
+-- The meaning of the joiner's steps at the seats that the calls have.
 use Rattle.std.proofs.Common.{◌≡◌, ◌≢◌, ℕ, ◌⊎◌, Bool, true, false, eqb, List, [], ◌∷◌, sym, ap, ◌∙◌, subst, ⊎_elim, inl, inr, Option, Some, Result}
 use prog.Atomic.{either}
 use Rattle.atomic_table.specs.Table.{Me, Allows}

@@ -58,7 +58,7 @@ module _ {O W : Type 0} (output_number : O → ℕ) (waker_number : W → ℕ) (
   abbrev Rule : State S View → Type 0
   Rule = Joined output_number waker_number n
 
-  -- what a step owes at one state
+  -- The duty of a step at one state.
   abbrev pub Owes : State S View → ℕ → Me S View → (ℕ → ℕ) → (ℕ → Me S View → Type 0) → Type 0
   Owes s id me f then = (w : View) × (a : Act S) × Valid s.homes me.1 a × Rule (stepped s 0 (f (get_or s.words 0 0)) id me.1 w a) × then (get_or s.words 0 0) (w, carried_after me.1 a)
 

@@ -1,4 +1,4 @@
--- Wakes from outside for tasks that each stand once, and then the drain, are a run.
+-- Wakes from outside for a list of tasks without doubles, and then the drain, are a run.
 use Rattle.std.proofs.Common.{◌≡◌, ◌<◌, ◌≢◌, ℕ, suc, true, false, Bool, cond, List, [], ◌∷◌, ◌++◌, length, get_or, refl, ap, sym, subst, ◌∙◌, append_assoc, append-nil, arith}
 use Rattle.std.specs.Prelude.{◌||◌, ◌&&◌, ◌==◌, not, map}
 use Rattle.std.specs.List.{AllPairs, filter}
@@ -16,7 +16,7 @@ use Rattle.mono_machine.specs.declared.events.Report.TheVariants as report
 use Rattle.mono_machine.specs.declared.events.Reply.TheVariants as reply
 use Rattle.mono_machine.specs.declared.events.Refusal.TheVariants as refusal
 
--- the task, where it is listed
+-- The task, if it is listed.
 abbrev only : Bool → ℕ → List ℕ
 only b t = cond b (t ∷ []) []
 
@@ -65,7 +65,7 @@ still_apart b inbox t ts apart once i d inside =
 rest_once : (t : ℕ) (ts : List ℕ) → AllPairs (λ s u. s ≢ u) (t ∷ ts) → AllPairs (λ s u. s ≢ u) ts
 rest_once t ts once i j d below inside = once (suc i) (suc j) d (omega (arith, below)) (omega (arith, inside))
 
--- Each is told, and the unfinished ones stand behind what the inbox had.
+-- Each wake is reported, and the unfinished tasks are appended to the inbox.
 wakes_are : (ts : List ℕ) (m : Machine) (events : List Event) (answers : List Report) (end : Machine) → Apart m.inbox ts → AllPairs (λ s t. s ≢ t) ts
     → Run (with_inbox m (m.inbox ++ unfinished_of m ts)) events answers end → Run m (map event.Remote ts ++ events) (map (told_of m) ts ++ answers) end
 wakes_are [] m events answers end apart once after = subst (λ xs. Run (with_inbox m xs) events answers end) (append-nil m.inbox) after
@@ -81,7 +81,7 @@ wakes_are (t ∷ ts) m events answers end apart once after =
           (subst (λ xs. Run (with_inbox m xs) events answers end) (one_more b m.inbox (unfinished_of m ts) t) after),
     )
 
--- from an empty inbox, with the drain behind them
+-- From an empty inbox, with the drain after them.
 pub wakes_and_a_drain : (old : Machine) (ts : List ℕ) → old.inbox ≡ [] → AllPairs (λ s t. s ≢ t) ts → Run old (wakes_and_drain ts) (told_and_drained old ts) (after_wakes old ts)
 wakes_and_a_drain old ts empty once =
     let listed = unfinished_of old ts in

@@ -1,4 +1,4 @@
--- The queue's first has the next turn, and nobody passes a task that stands in the queue.
+-- The queue's first task has the next turn, and no task passes another in the queue.
 use Rattle.std.proofs.Common.{◌≡◌, ◌<◌, ℕ, zero, suc, true, false, Bool, cond, List, [], ◌∷◌, ◌++◌, length, Some, None, Option, refl, ap, sym, subst, ◌∙◌, arith}
 use Rattle.std.specs.Prelude.{slice_get, Ok, Err, Result, nat_lt, ◌||◌}
 use Rattle.mono_model.specs.Ticks.{max_nanos}
@@ -43,7 +43,7 @@ at_push (x ∷ xs) y zero t e = e
 at_push (x ∷ xs) y (suc p) t e = at_push xs y p t e
 
 module _ (p t : ℕ) where
-  -- t stands at place p of the queue
+  -- t is at place p of the queue.
   abbrev Stands : Tasks ℕ → Type 0
   Stands tasks = slice_get tasks.queue p ≡ Some t
 
@@ -168,7 +168,7 @@ module _ (p t : ℕ) where
   end_stands me end.Pending m stands = paused_stands m.tasks me stands
   end_stands me (end.Ready output) m stands = completed_stands m.tasks me output stands
 
-  -- behind the task that has the turn
+  -- After the front's turn, t is at place p.
   turn_stands : (front : ℕ) (rest : List ℕ) (steps : List TurnStep) (e : End) (m : Machine) → slice_get rest p ≡ Some t → Stands (after_turn_for (front ∷ rest) steps e m).tasks
   turn_stands front rest steps e m stands =
       end_stands front e (after_steps front steps (after_begin front rest m)) (steps_stand front steps (after_begin front rest m) (begun_stands m.tasks front rest stands))

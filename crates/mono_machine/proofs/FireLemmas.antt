@@ -1,4 +1,4 @@
--- Sleeps that fire one after another: one more behind them, and the sleeps and the tasks apart from each other.
+-- Sleeps that fire one after another: one more at the end, and the sleeps and the tasks apart from each other.
 use Rattle.std.proofs.Common.{◌≡◌, ℕ, List, [], ◌∷◌, ◌++◌, Some, None, Option, refl, ap, ◌∙◌}
 use Rattle.mono_model.specs.Tasks.{Tasks, woken_if_any, all_woken}
 use Rattle.mono_model.specs.Sleeps.{Sleeps}

@@ -128,11 +128,11 @@ turn-told table g (s ∷ fired) e =
     } in
     (first, turn-told (with_value table s elapsed) g fired (and_right _ _ e))
 
--- what the test finds may be listed
+-- A list that passes the test may be listed.
 pub fires : (table : Table Sleep) (g : ℕ) (fired : List ℕ) → in_turn table g fired ≡ true → MayFire table g fired
 fires table g fired e = may_fire table g fired (turn-told table g fired e)
 
--- what is not due may not be listed, and what is due may not be left out
+-- A sleep that is not due may not be listed, and a due one may not be left out.
 pub not_listed : (table : Table Sleep) (g s : ℕ) (fired : List ℕ) → MayFire table g fired → Contains fired s → is_due (value_at table s) g ≡ false → ⊥
 not_listed table g s fired may there early = true-false (sym (due-tells (value_at table s) g ((may.all_due s).0 there)) ∙ early)
 

@@ -1,4 +1,4 @@
--- An output is handed out at most once: what is handed out is spent, and what is spent stays so.
+-- An output is handed out at most once: the handout spends it, and a spent output stays spent.
 use Rattle.std.proofs.Common.{◌≡◌, ◌≢◌, ◌≤◌, inl, inr, ℕ, ◌+◌, true, false, Bool, length, set, Some, None, Option, refl, ap, sym, subst, ◌∙◌, arith, eq-eqb, ne_eqb}
 use Rattle.std.specs.Prelude.{not, ◌==◌, ◌&&◌, ◌||◌, nat_lt}
 use Rattle.std.proofs.lemmas.Bool.{cases_eq, cases_lt, lt-ltb, le-ltb}
@@ -7,7 +7,7 @@ use Rattle.mono_model.specs.Table.{Table, value_at, with_next, is_issued}
 use Rattle.mono_model.specs.Valid.{once_if}
 use Rattle.mono_model.proofs.ValidTaskLemmas.{at_given, value_before}
 
--- what is handed out was not spent before, and is afterwards
+-- An output that is handed out was not spent before, and is spent afterwards.
 pub record Spends (handed after before : Bool) : Type 0 where
   pub less : after ≡ true → before ≡ true
   pub from : handed ≡ true → before ≡ true

@@ -407,7 +407,7 @@ turn_kept t steps e m valid kept [] is apart = kept
 turn_kept t steps e m valid kept (front ∷ rest) is apart =
     end_kept t front e _ (steps_valid front steps (after_begin front rest m) (begin_valid m front rest is valid)) (steps_kept t front steps (after_begin front rest m) (begin_kept t m front rest apart kept))
 
--- the end of the turn wakes who waits for the output
+-- The end of the turn wakes the task that waits for the output.
 module _ (me output t : ℕ) (m : Machine) (valid : IsValidDuring (Some me) m) where
   waiter_kept : (next : ℕ) (task : Task ℕ) (w : Option ℕ) → task.waiter ≡ w → is_waker w t ≡ true → IsValidTask next task → task.is_kept ≡ true
   waiter_kept next task None is wakes ok = absurd (false-true wakes)

@@ -168,7 +168,7 @@ module _ (t : ℕ) (m : Machine) where
   step_watch me valid x is (step.Act a) d f = act_watch x is a d f
   step_watch me valid x is (step.Query q) d f = query_watch me valid x is q d
 
-  -- a reset that fires wakes who waits
+  -- A reset that fires wakes the waiting task.
   elapsed_wakes : (v : Option Sleep) (b c : Bool) (after : Machine) → sleep.waker_in v ≡ Some t → says_elapsed (for_sleep v m (cond b (refused refusal.Invalid m) (answered (cond c reply.Elapsed reply.Armed) after))).reply ≡ true
       → (not b && is_waker (waker_in (sleep.of_live v (λ value. cond c (waker_of value) None))) t) ≡ true
   elapsed_wakes None b c after is told = absurd (none-some t is)
@@ -429,7 +429,7 @@ watched_or_awaiting (e ∷ events) (answer ∷ answers) old new t x valid (mid, 
     by_fires true told later = inr (fired_wakes e answer events answers old mid new t x valid is by told run (or_false_right (is_turn_of t answer) _ apart) unfinished)
     by_fires false told later = later (event_watch old e answer mid t x valid by is told (or_false_left (is_taken t x e answer) _ k)) (or_false_right (is_taken t x e answer) _ k) (or_false_right (is_turn_of t answer) _ apart) unfinished
 
--- what the running task registers in its turn
+-- The source that the running task registers in its turn.
 not_dropped : (t : ℕ) (x : Source) (s : TurnStep) → drops_step x s ≡ false → takes t t x s ≡ false
 not_dropped t x (step.Act a) is = is
 not_dropped t x (step.Query q) is = ap (λ b. not b && polls x q) (eq-eqb t t refl)

@@ -1,4 +1,4 @@
--- A test that computes whether a clock step may list what it lists.
+-- A test that computes whether a clock step may list these numbers.
 use Rattle.std.proofs.Common.{◌≡◌, ◌≢◌, ◌<◌, ◌≤◌, ◌⊎◌, inl, inr, ℕ, ◌+◌, zero, suc, true, false, Bool, List, [], ◌∷◌, length, get_or, Some, None, Option, refl, ap, sym, subst, ◌∙◌, arith}
 use Rattle.std.specs.Prelude.{nat_le, ◌==◌, ◌&&◌, ◌||◌, not, AllPairs, Contains}
 use Rattle.std.proofs.lemmas.Bool.Decides.{leb_tells, eqb_tells}
@@ -17,7 +17,7 @@ abbrev are_once : List ℕ → Bool
 are_once [] = true
 are_once (x ∷ xs) = not (is_listed xs x) && are_once xs
 
--- not above, where both wait
+-- The first tick is at most the second, if both wait.
 abbrev is_below : Option ℕ → Option ℕ → Bool
 is_below None b = true
 is_below (Some a) None = true
@@ -35,7 +35,7 @@ abbrev have_come : (ℕ → Option ℕ) → ℕ → List ℕ → Bool
 have_come tick_of g [] = true
 have_come tick_of g (s ∷ ss) = has_come (tick_of s) g && have_come tick_of g ss
 
--- each of a table whose first place has the number i is listed, where its tick has come
+-- Each number of a table is listed if its tick has come. The first place has the number i.
 abbrev none_left_out : {V : Type 0} → (Option V → Option ℕ) → ℕ → List ℕ → ℕ → Table V → Bool
 none_left_out waits g due i [] = true
 none_left_out waits g due i (x ∷ xs) = (not (has_come (waits x) g) || is_listed due i) && none_left_out waits g due (suc i) xs
@@ -139,7 +139,7 @@ left-told waits g due i (x ∷ xs) no_wait e zero come =
 left-told waits g due i (x ∷ xs) no_wait e (suc s) come =
     subst (λ q. is_listed due q ≡ true) (omega arith) (left-told waits g due (suc i) xs no_wait (and_right _ _ e) s come)
 
--- what the test finds may be listed
+-- A list that passes the test may be listed.
 pub may_list : {V : Type 0} (waits : Option V → Option ℕ) (table : Table V) (g : ℕ) (due : List ℕ) → waits None ≡ None → lists waits table g due ≡ true → ListsDue waits table g due
 may_list waits table g due no_wait e =
     let tick_of : ℕ → Option ℕ = λ s. waits (value_at table s) in

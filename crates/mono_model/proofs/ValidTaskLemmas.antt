@@ -114,7 +114,7 @@ next_of_woken {O} (Some task) tasks t = by_phase task.phase
 pub next_number-woken : {O : Type 0} (tasks : Tasks O) (t : ℕ) → next_number (woken tasks t).table ≡ next_number tasks.table
 next_number-woken tasks t = next_of_woken (value_at tasks.table t) tasks t
 
--- a spawn keeps it, where the table is not full
+-- A spawn keeps the invariant if the table is not full.
 pub value_before : {V : Type 0} (table : Table V) (v : V) (q : ℕ) → q ≢ length table → value_at (with_next table v) q ≡ value_at table q
 value_before [] v zero apart = absurd (apart refl)
 value_before [] v (suc q) apart = refl
@@ -175,7 +175,7 @@ pub next_number-all_woken : {O : Type 0} (tasks : Tasks O) (ts : List ℕ) → n
 next_number-all_woken tasks [] = refl
 next_number-all_woken tasks (t ∷ ts) = next_number-all_woken (woken tasks t) ts ∙ next_number-woken tasks t
 
--- the first of a queue without doubles does not stand in the rest
+-- The first of a queue without doubles does not occur in the rest.
 once : (b : Bool) → once_if b ≤ 1
 once true = omega arith
 once false = omega arith
@@ -253,7 +253,7 @@ module _ {O : Type 0} (me : ℕ) (tasks : Tasks O) (valid : AreValidTasks (Some 
   pub valid_paused : AreValidTasks None (paused_value (value_at tasks.table me) tasks me)
   valid_paused = paused_at (value_at tasks.table me) refl
 
--- a task that is gone
+-- A task is removed.
 pub removed : {O : Type 0} (turn after : Option ℕ) (tasks : Tasks O) (t : ℕ) (old : Task O)
     → AreValidTasks turn tasks → value_at tasks.table t ≡ Some old → times tasks.queue t ≡ 0
     → ((q : ℕ) → q ≢ t → turn ≡ Some q → after ≡ Some q) → (after ≡ Some t → ⊥) → ((q : ℕ) → q ≢ t → after ≡ Some q → turn ≡ Some q)
@@ -311,7 +311,7 @@ same_phase turn tasks t old new valid at queues runs new_valid =
     (λ turns. runs ∙ sym (ap (of_task is_running) at) ∙ valid.has_turn t turns) (λ q apart is. is)
     new_valid
 
--- a task that has finished and is gone
+-- A finished task is removed.
 pub finished_gone : {O : Type 0} (turn : Option ℕ) (tasks : Tasks O) (t : ℕ) (old : Task O) → AreValidTasks turn tasks → value_at tasks.table t ≡ Some old
     → is_queued old.phase ≡ false → is_running old.phase ≡ false → AreValidTasks turn (without_task tasks t)
 finished_gone turn tasks t old valid at queues runs =

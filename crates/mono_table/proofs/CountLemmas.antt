@@ -1,4 +1,4 @@
--- How many numbers of a table have a value, after one is written, is gone or comes.
+-- How many numbers of a table have a value, after a write, a removal or an addition.
 use Rattle.std.proofs.Common.{◌≡◌, ◌<◌, ◌+◌, ℕ, zero, suc, true, cond, [], ◌∷◌, length, set, Some, None, Option, refl, ap, sym, ◌∙◌, inl, inr, arith}
 use Rattle.std.specs.Prelude.{is_some}
 use Rattle.std.proofs.lemmas.Bool.{cases_lt}
@@ -40,6 +40,6 @@ counted_none (None ∷ xs) zero none = refl
 counted_none (None ∷ xs) (suc t) none = counted_none xs t none
 counted_none (Some x ∷ xs) t none = absurd (omega (arith, none))
 
--- where no number has a value, none has one
+-- If the count of values is 0, no number has one.
 pub none_of : {V : Type 0} (table : Table V) (t : ℕ) → count_of table ≡ 0 → value_at table t ≡ None
 none_of table t none = counted_none table t (counted-count_of table ∙ none)

@@ -16,7 +16,7 @@ use Rattle.mono_table.proofs.CountLemmas.{some_inside, count_of-same, count_of-g
 false-true : false ≡ true → ⊥
 false-true e = cc
 
--- what holds where a call was not refused
+-- The fact that holds if a call was not refused.
 pub on_ok : {A E : Type 0} (result : Result A E) (Q : Type 0) → false ≡ is_err result → OnOk result Q → Q
 on_ok (Ok value) Q is holds = holds
 on_ok (Err error) Q is holds = absurd (false-true is)
@@ -115,7 +115,7 @@ module _ {V : Type 0} (size : ℕ) (some : 0 < size) (children : List (Table V))
       written = table_of-set (look_in size children) (look_in size after) len t given look_other
           ∙ ap (λ c. set (laid_table size children len) t (value_at c (t % size))) here
 
-      -- as many places, or none where it is closed and nothing lives in it
+      -- The same number of places, or none if the child is closed and without values.
       pub written_laid : (left : ℕ) → left ≡ count_of (laid_table size after len)
           → (length child ≡ length before) ⊎ ((at < len / size) × (child ≡ [])) → (at < len / size → count_of child ≡ 0 → child ≡ [])
           → IsLaid size after room len left
@@ -173,13 +173,13 @@ module _ {V : Type 0} (size : ℕ) (some : 0 < size) (children : List (Table V))
         (inl (ap length is ∙ length-set (child_at children (t / size)) (t % size) (Some value)))
         (λ closed none. absurd (omega (arith, none, same_count, count_of-gone (child_at children (t / size)) (t % size) value_in_child)))
 
-  -- the value is gone, and with it the child, where it is closed and nothing else lives in it
+  -- The value is removed, and with it the child, if it is closed and has no other value.
   module _ (is_closed : Bool) (closed_is : (is_closed ≡ true → t / size < len / size) × (t / size < len / size → is_closed ≡ true))
       (child : Table V) (is : child ≡ left_of is_closed (without (child_at children (t / size)) (t % size))) where
     abbrev emptied : Table V
     emptied = without (child_at children (t / size)) (t % size)
 
-    -- what is left has the same values
+    -- The remaining child has the same values.
     left_values : (b : Bool) (c : Table V) (k : ℕ) → value_at (left_of b c) k ≡ value_at c k
     left_values false c k = refl
     left_values true c k = elim (cases_eq (count_of c) 0) [
@@ -265,7 +265,7 @@ module _ {V : Type 0} (size : ℕ) (some : 0 < size) (children : List (Table V))
   same_number_of : length next ≡ length children
   same_number_of = length-set children place child
 
-  -- what is closed afterwards, and has no value, was closed and empty before
+  -- A child that is closed afterwards and has no value is empty.
   gone_after : (i : ℕ) → i ≤ place → count_of (child_at next i) ≡ 0 → child_at next i ≡ []
   gone_after i below none = elim (cases_eq i place) [
     | inl same ↦ absurd (omega (arith, one_more, ap count_of (sym next_here) ∙ ap (λ x. count_of (child_at next x)) (sym same) ∙ none))

@@ -1,4 +1,4 @@
--- What a place says of its number, and what the view has of it.
+-- The content of a place, and the part that the view shows.
 use Rattle.std.proofs.Common.{◌≡◌, ◌<◌, ℕ, true, false, Some, None, Option, inl, inr, refl, ap, sym, ◌∙◌, length}
 use Rattle.std.specs.Prelude.{IfSome, slice_set, is_some}
 use Rattle.std.proofs.Math.ListN.{get_or-map}
@@ -37,7 +37,7 @@ module _ {V W : Type 0} where
       | inr past ↦ absurd (none-true (value_at table n) (get_or_past table n None past) some)
     ]
 
-    -- what was there is put there
+    -- Writing the old value changes nothing.
     same_items : (x : Option V) → value_in (value_at table n) ≡ x → slice_set (items_of table) n x ≡ items_of table
     same_items x is = ap (slice_set (items_of table) n) (sym (get_or-map value_in table n None ∙ is)) ∙ set-get_or (items_of table) n None
 
@@ -49,6 +49,6 @@ module _ {V W : Type 0} where
     pub now_lent : is_some (value_at table n) ≡ true → lent_in (value_at (with_value table n Lent) n) ≡ true
     now_lent some = ap lent_in (get_or-set_same table n (Some Lent) None (inside some))
 
-    -- a number that is lent
+    -- A number that is taken out.
     pub gone_items : lent_in (value_at table n) ≡ true → items_of (without table n) ≡ items_of table
     gone_items lent = map-set value_in table n None ∙ same_items None (ap value_in (lent_is (value_at table n) lent))

@@ -81,7 +81,7 @@ drop_running (Queued h) = refl
 drop_running (Running h) = refl
 drop_running (Noted h) = refl
 
--- a task that has finished is gone, and any other stays
+-- A finished task is removed, and any other stays.
 drop_gone : {O : Type 0} (e : Entry O) → is_over e ≡ true → (task_of (dropped_entry e) ≡ None) × (is_some (task_of e) ≡ true)
 drop_gone Gone over = cc
 drop_gone Taken over = (refl, refl)
@@ -221,7 +221,7 @@ gives_output queue entries limit t inside e at is =
     let given = output_given e is in
     (given.0, ap drop_value (kept_at queue entries limit t inside ∙ ap (λ x. kept_value (task_of x)) at) ∙ given.1)
 
--- a handle of a task that is gone
+-- A handle of a task that was removed.
 pub joined_gone : {O : Type 0} (queue : List ℕ) (entries : List (Entry O)) (limit t : ℕ) → t < length entries → entry_at entries t ≡ Gone
     → (by : ℕ) → tasks_of queue entries limit ≡ joined (tasks_of queue entries limit) t by
 joined_gone queue entries limit t inside at by = sym (ap (λ k. joined_value k (tasks_of queue entries limit) t by) (kept_at queue entries limit t inside ∙ ap (λ x. kept_value (task_of x)) at))

@@ -1,4 +1,4 @@
--- The place of the task whose turn runs, and what is asked of a place.
+-- The place of the task whose turn runs, and the question that is asked about a place.
 use Rattle.std.proofs.Common.{◌≡◌, ◌≢◌, ◌<◌, ℕ, true, false, cond, List, map, length, Some, Ok, Err, Option, refl, ap, sym, ◌∙◌, inl, inr, arith, ne_eqb, eq-eqb}
 use Rattle.std.specs.Prelude.{nat_lt}
 use Rattle.std.proofs.lemmas.List.{get_or_past, length-map}
@@ -31,7 +31,7 @@ no_turn turn t q turns apart = sym (ap (λ v. has_turn v q) turns ∙ ne_eqb t q
 pub lt_true : (t n : ℕ) → t < n → nat_lt t n ≡ true
 lt_true t n below = grind (arith, below)
 
--- what is asked of a place, as what is asked of the tasks
+-- The question about a place, as the question about the tasks.
 pub kept_at : {O : Type 0} (queue : List ℕ) (entries : List (Entry O)) (limit t : ℕ) → t < length entries
     → kept_task (tasks_of queue entries limit) t ≡ kept_value (task_of (entry_at entries t))
 kept_at {O} queue entries limit t inside =

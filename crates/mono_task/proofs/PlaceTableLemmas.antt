@@ -13,7 +13,7 @@ entry_there [] t = refl
 entry_there (x ∷ xs) zero = refl
 entry_there (x ∷ xs) (suc t) = entry_there xs t
 
--- where the entry says that there is a task, the number has a value
+-- If the entry has a task, the number has a value.
 pub some_of : {O : Type 0} (places : Table (Entry O)) (t : ℕ) (test : Entry O → Bool) → test Gone ≡ false → test (entry_at (entries_of places) t) ≡ true → is_some (value_at places t) ≡ true
 some_of {O} places t test gone is = by (value_at places t) (sym (ap test (entry_there places t)) ∙ is)
   where
@@ -53,7 +53,7 @@ module _ {O : Type 0} (places : Table (Entry O)) (t : ℕ) where
       pub as_many : count_of (with_value places t new) ≡ count_of places
       as_many = count_of-same places t (Some new) (sym there)
 
-      -- what was written is gone
+      -- The written entry is `Gone`.
       pub erased : new ≡ Gone → entries_of (without (with_value places t new) t) ≡ slice_set (entries_of places) t new
       erased gone = ap entries_of (twice places t (Some new) None) ∙ map-set entry_of places t None ∙ ap (λ e. set (entries_of places) t e) (sym gone)
 

@@ -1,4 +1,4 @@
--- Writing one place of a table: how many have a value, and that a place written with what it has changes nothing.
+-- Writing one place of a table: the count of values, and that writing the old value changes nothing.
 use Rattle.std.proofs.Common.{◌≡◌, ◌<◌, ◌+◌, ℕ, zero, suc, true, cond, List, [], ◌∷◌, map, length, get_or, set, Some, None, Option, refl, ap, sym, ◌∙◌, arith}
 use Rattle.std.specs.Prelude.{is_some}
 use Rattle.mono_model.specs.Table.{Table, value_at, count_of, without}

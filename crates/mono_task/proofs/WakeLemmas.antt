@@ -15,7 +15,7 @@ use Rattle.mono_task.proofs.TableWriteLemmas.{value_at-entries, set_same}
 use Rattle.mono_task.proofs.PlaceLemmas.{lt_true}
 use Rattle.mono_task.proofs.InvariantLemmas.{same_tasks, stays_alone, stays_queued, keeps_counts, room_for}
 
--- what a wake answers, where the number was given out
+-- The answer of a wake, if the number was given out.
 pub wake_at : {O : Type 0} (queue : List ℕ) (entries : List (Entry O)) (limit t : ℕ) → t < length entries
     → wake_answer (tasks_of queue entries limit) t ≡ Ok (model.woke_value (task_of (entry_at entries t)))
 wake_at queue entries limit t inside =
@@ -132,6 +132,6 @@ module _ {O : Type 0} (queue : List ℕ) (room : ℕ) (entries : List (Entry O))
         let same : slice_set entries t new ≡ entries = set_same entries t new Gone inside (at ∙ sym (is ∙ woken_stays e nothing)) in
         rw same (keeps, sym (ap (λ v. model.woken_value v (tasks_of queue entries limit) t) (value_at-entries entries t ∙ ap task_of at) ∙ woken_alone e nothing (tasks_of queue entries limit) t))
 
-    -- the wake of a task that is gone leaves all as it is
+    -- The wake of a removed task changes nothing.
     pub gone_stays : entry_at entries t ≡ Gone → tasks_of queue entries limit ≡ model.woken (tasks_of queue entries limit) t
     gone_stays at = sym (ap (λ v. model.woken_value v (tasks_of queue entries limit) t) (value_at-entries entries t ∙ ap task_of at))

@@ -265,7 +265,7 @@ module _ (wheel left : Wheel) (keys : Table ℕ) (entries : List Entry) (greates
         there : (sleep : model.Sleep) × (value_at m.table came-owner.0 ≡ Some sleep) × (seen sleep ≡ kept_in (timed_at wheel k) e.state)
         there = sleep_there wheel keys entries greatest limit m st came-owner.0 (kept_in (timed_at wheel k) e.state) (kept-there wheel keys entries greatest live holds came-owner.0 k e at was)
 
-        -- where it is armed
+        -- The arming of the sleep.
         arming_there : (a : Arming) × (value_at m.table came-owner.0 ≡ Some (model.armed a)) × (a.tick ≡ left.elapsed) × (a.waker ≡ waker_in_state e.state)
         arming_there = by there.0 there.1 (there.2 ∙ fired-kept)
           where

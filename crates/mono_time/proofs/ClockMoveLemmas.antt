@@ -1,4 +1,4 @@
--- Where the sleeps are registered while a clock step goes on: two moves of the clock in a row are one.
+-- The registered ticks of sleeps during a clock step: two moves of the clock in a row are one.
 use Rattle.std.proofs.Common.{◌≡◌, ◌<◌, ◌≤◌, ◌⊎◌, inl, inr, ℕ, true, false, Bool, cond, List, length, Some, None, refl, ap, sym, subst, ◌∙◌, arith}
 use Rattle.std.specs.Prelude.{Option, slice_get, is_some, nat_le}
 use Rattle.std.proofs.lemmas.Bool.{le-leb, lt-leb, leb-true, leb-false, cases_eq, cases_lt}
@@ -21,7 +21,7 @@ not-in : (timed : Option Timed) → is_some timed ≡ false → registered_in ti
 not-in None is = refl
 not-in (Some t) is = absurd (cc)
 
--- what is in the wheel is armed
+-- Each key in the wheel belongs to an armed sleep.
 module _ (wheel : Wheel) (keys : Table ℕ) (entries : List Entry) (greatest live : ℕ) (holds : Holds wheel keys entries greatest live) (fits : AllFit wheel) where
   by-timed : (k : ℕ) (timed : Option Timed) (state : State) → timed_at wheel k ≡ timed → is_some timed ≡ is_armed_state state → IsRegistered wheel.elapsed (Some (kept_in timed state)) (registered_in timed)
   by-timed k timed (Fresh tick) at is = not-in timed is

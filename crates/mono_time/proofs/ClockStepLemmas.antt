@@ -9,7 +9,7 @@ use Rattle.mono_time.specs.Timers.{sleeps_of}
 use Rattle.mono_time.specs.Fires.{FireEach, MachineFires, FiredAll}
 use Rattle.mono_time.specs.declared.timers.Timers.{Timers}
 
--- what fires from here on, fires behind those that have fired
+-- The sleeps that fire from here on are appended to those that have fired.
 pub record SoFar (old now : Timers) (nanos : ℕ) (before after : List (ℕ × Option ℕ)) : Type 0 where
   pub all : List (ℕ × Option ℕ)
   pub behind : after ≡ before ++ all

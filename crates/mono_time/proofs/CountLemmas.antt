@@ -29,7 +29,7 @@ counted-without [] s v at = absurd (none-some v at)
 counted-without (x ∷ xs) zero v at = rw at (omega arith)
 counted-without (x ∷ xs) (suc s) v at = one_more (is_some x) _ _ (counted-without xs s v at)
 
--- one value is gone
+-- One value is removed.
 pub count_of-gone : {V : Type 0} (xs : Table V) (s : ℕ) (v : V) → value_at xs s ≡ Some v → count_of (without xs s) + 1 ≡ count_of xs
 count_of-gone xs s v at = ap (λ n. n + 1) (sym (counted-count_of (without xs s))) ∙ counted-without xs s v at ∙ counted-count_of xs
 

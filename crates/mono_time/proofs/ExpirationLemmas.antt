@@ -15,7 +15,7 @@ use Rattle.mono_time.proofs.ClockCallLemmas.{armed_key, table-at}
 use Rattle.mono_time.proofs.TimersWriteLemmas.{table_kept, entry_there, table-there, is_in-entry}
 
 module _ (wheel : Wheel) (keys : Table ℕ) (entries : List Entry) (greatest live : ℕ) (holds : Holds wheel keys entries greatest live) where
-  -- what is in the wheel is an armed sleep
+  -- Each key in the wheel belongs to an armed sleep.
   in_wheel : (k : ℕ) (timed : Timed) → timed_at wheel k ≡ Some timed → (s : ℕ) × (value_at keys s ≡ Some k) × ((waker : Option ℕ) × (value_at (table_kept wheel keys entries) s ≡ Some (armed timed.tick waker)))
   in_wheel k timed is = by (owner_of (slice_get entries k)) refl (holds.owned k (ap is_some is))
     where

@@ -36,7 +36,7 @@ module _ (wheel left : Wheel) (keys : Table ℕ) (entries : List Entry) (greates
       standing-written wheel left keys entries greatest live limit holds s k e f at was same turned.keeps m st _ (m.arm_count + 1) (omega arith) (sees ∙ sym turned.now_kept)
       (placed-anew wheel left keys entries greatest limit m st s k at tick waker anew (key_apart wheel left keys entries greatest live holds s k e f at was same turned.keeps))
 
-  -- the key stays where it is
+  -- The key stays in its place.
   pub stands-same : (a b : Arming) → value_at m.table s ≡ Some (model.armed a) → b.arm ≡ a.arm → b.tick ≡ a.tick → b.is_moved ≡ a.is_moved → left ≡ wheel → armed b.tick b.waker ≡ kept → StandsAfter (with_sleep m s (model.armed b))
   stands-same a b at_m arm tick moved still sees =
       standing-written wheel left keys entries greatest live limit holds s k e f at was same turned.keeps m st (model.armed b) m.arm_count (omega arith) (sees ∙ sym turned.now_kept)

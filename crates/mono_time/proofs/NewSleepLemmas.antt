@@ -1,4 +1,4 @@
--- One more sleep, or none for want of memory.
+-- One more sleep, or none if out of memory.
 use Rattle.std.proofs.Common.{◌≡◌, ◌≢◌, ◌<◌, ◌⊎◌, ◌^◌, inl, inr, ℕ, ◌+◌, ◌-◌, zero, suc, true, false, List, [], ◌∷◌, ◌++◌, length, set, Some, None, refl, ap, sym, subst, ◌∙◌, arith}
 use Rattle.std.specs.Prelude.{Option, slice_get, is_some, nat_le, ◌==◌, ◌||◌}
 use Rattle.std.specs.Option.{option_map}
@@ -27,7 +27,7 @@ use Rattle.mono_time.proofs.TimersWriteLemmas.{table_kept, key_inside, entry_the
 false-true : false ≡ true → ⊥
 false-true e = cc
 
--- no further sleep is given out exactly where the live ones are at the limit
+-- No further sleep is given out if and only if the live ones are at the limit.
 module _ (wheel : Wheel) (keys : Table ℕ) (entries : List Entry) (greatest live : ℕ) (holds : Holds wheel keys entries greatest live) where
   is_some-kept : (q : ℕ) → is_some (kept_at wheel keys entries q) ≡ is_some (value_at keys q)
   is_some-kept q = by (value_at keys q) refl
@@ -155,7 +155,7 @@ module _ (wheel left : Wheel) (keys : Table ℕ) (entries after : List Entry) (g
         ap (table_of (kept_at left (keys ++ Some k ∷ []) (set after k new_entry))) long
         ∙ table_of-next (kept_at wheel keys entries) (kept_at left (keys ++ Some k ∷ []) (set after k new_entry)) (length keys) (fresh tick) kept_new kept_old
 
-    -- what is armed was there before
+    -- Each armed sleep was there before.
     was_armed : (table : Table model.Sleep) (n q : ℕ) (a : Arming) → value_at (with_next table (model.fresh n)) q ≡ Some (model.armed a) → value_at table q ≡ Some (model.armed a)
     was_armed [] n zero a is = absurd (cc)
     was_armed [] n (suc q) a is = is
@@ -224,7 +224,7 @@ module _ (wheel left : Wheel) (keys : Table ℕ) (entries after : List Entry) (g
           none.same_order i j (st.in_order q p i j a b is_q is_p still_a still_b at_q at_p ticks arms) (none.same_ticks i) (none.same_ticks j);
     }
 
--- what was made, with the keys written out
+-- The made sleep, with the keys written out.
 pub made_at : (wheel left : Wheel) (keys new : Table ℕ) (entries after : List Entry) (k : ℕ) → KeyMade wheel left keys new entries after k → KeyMade wheel left keys (keys ++ Some k ∷ []) entries after k
 made_at wheel left keys new entries after k made = record {
   was_free = made.was_free;

@@ -1,4 +1,4 @@
--- Where a sleep stands in each of the states that a call leaves it in.
+-- The place of a sleep in each of the states in which a call leaves it.
 use Rattle.std.proofs.Common.{◌≡◌, ◌≢◌, ℕ, ◌+◌, true, false, List, Some, ap, sym, subst, ◌∙◌, arith}
 use Rattle.std.specs.Prelude.{Option}
 use Rattle.mono_model.specs.Table.{Table, value_at}
@@ -38,7 +38,7 @@ module _ (wheel left : Wheel) (keys : Table ℕ) (entries : List Entry) (greates
     behind = λ x is still. absurd (true-false (sym moved ∙ ap (λ y. y.is_moved) (armed-same b x is) ∙ still));
   }
 
-  -- one that stays where it is, and may have another waker
+  -- A sleep that keeps its place, and may have another waker.
   pub placed-same : (a b : Arming) → value_at sleeps.table s ≡ Some (model.armed a) → b.arm ≡ a.arm → b.tick ≡ a.tick → b.is_moved ≡ a.is_moved
       → ((tick : ℕ) → timed_at wheel k ≡ Some record { tick = tick; registered = tick } → timed_at left k ≡ Some record { tick = tick; registered = tick })
       → ((j tick : ℕ) → j ≢ k → timed_at wheel k ≡ Some record { tick = tick; registered = tick } → timed_at wheel j ≡ Some record { tick = tick; registered = tick } → Precedes wheel k j → Precedes left k j)
@@ -68,7 +68,7 @@ module _ (wheel left : Wheel) (keys : Table ℕ) (entries : List Entry) (greates
         (st.in_order q s j k y a at_q was still_q old_still at_j at old_tick (omega (arith, less, arm, ap (λ z. z.arm) one)));
   }
 
-  -- one that was armed anew has the greatest arm number, and stands last
+  -- A sleep that was armed anew has the greatest arm number, and is the last at its tick.
   pub placed-anew : (tick : ℕ) (waker : Option ℕ) → ArmedAnew wheel left k tick → ((q j : ℕ) → q ≢ s → value_at keys q ≡ Some j → j ≢ k)
       → Placed left keys sleeps (sleeps.arm_count + 1) s k (model.armed (record { tick = tick; arm = sleeps.arm_count; is_moved = false; waker = waker }))
   placed-anew tick waker anew apart_keys = record {

@@ -1,4 +1,4 @@
--- One sleep of the machine is in another state, and the timers stand for it.
+-- One sleep of the machine is in another state, and the timers refine it.
 use Rattle.std.proofs.Common.{◌≡◌, ◌≢◌, ◌<◌, ◌≤◌, inl, inr, ℕ, false, List, length, get_or, set, Some, None, refl, ap, sym, subst, ◌∙◌, arith}
 use Rattle.std.specs.Prelude.{Option, slice_get}
 use Rattle.std.specs.Option.{option_map}
@@ -17,7 +17,7 @@ use Rattle.mono_time.specs.Refinement.{Standing, seen}
 use Rattle.mono_time.specs.declared.entry.Entry.{Entry}
 use Rattle.mono_time.proofs.SleepChangeLemmas.{some-same, none-some, given_inside, table-written, key_apart}
 
--- where a sleep stands that is in another state
+-- The place of a sleep that is in another state.
 pub record Placed (wheel : Wheel) (keys : Table ℕ) (sleeps : Sleeps) (arms s k : ℕ) (new : model.Sleep) : Type 0 where
   pub below : (a : Arming) → new ≡ model.armed a → a.arm < arms
   pub differ : (a : Arming) → new ≡ model.armed a → (q : ℕ) (b : Arming) → q ≢ s → value_at sleeps.table q ≡ Some (model.armed b) → a.arm ≢ b.arm
@@ -31,14 +31,14 @@ module _ (wheel : Wheel) (keys : Table ℕ) (entries : List Entry) (greatest lim
   pub same_length : length sleeps.table ≡ length keys
   same_length = sym (length-map sleeps.table (option_map seen)) ∙ ap length st.table ∙ length-table_of (kept_at wheel keys entries) (length keys)
 
-  -- what is kept at a number
+  -- The sleep that is kept at a number.
   pub value-seen : (s : ℕ) → option_map seen (value_at sleeps.table s) ≡ kept_at wheel keys entries s
   value-seen s = elim (cases_lt s (length keys)) [
     | inl inside ↦ sym (get_or-map (option_map seen) sleeps.table s None) ∙ ap (λ xs. get_or xs s None) st.table ∙ value_at-table_of (kept_at wheel keys entries) (length keys) s inside
     | inr past ↦ ap (option_map seen) (get_or_past sleeps.table s None (omega (arith, past, same_length))) ∙ sym (ap (kept_under wheel entries) (get_or_past keys s None past))
   ]
 
-  -- where no key is given, the machine has no sleep
+  -- If no key is given, the machine has no sleep.
   pub none_there : (s : ℕ) → value_at keys s ≡ None → value_at sleeps.table s ≡ None
   none_there s at = gone (value_at sleeps.table s) (value-seen s ∙ ap (kept_under wheel entries) at)
     where
@@ -70,7 +70,7 @@ module _ (wheel left : Wheel) (keys : Table ℕ) (entries : List Entry) (greates
   value_other : (q : ℕ) → q ≢ s → value_at written.table q ≡ value_at sleeps.table q
   value_other q apart = get_or-set_other sleeps.table s q (Some new) None apart
 
-  -- what is armed there is the new one, or was there before
+  -- An armed sleep is the new one, or was there before.
   armed_there : (q : ℕ) (a : Arming) → value_at written.table q ≡ Some (model.armed a) → q ≡ s → new ≡ model.armed a
   armed_there q a is here = some-same _ _ (sym value_here ∙ ap (value_at written.table) (sym here) ∙ is)
 

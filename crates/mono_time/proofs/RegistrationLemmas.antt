@@ -1,4 +1,4 @@
--- Where the sleeps are registered after each event.
+-- The registered ticks of sleeps after each event.
 use Rattle.std.proofs.Common.{◌≡◌, ◌≢◌, ◌<◌, ◌≤◌, inl, inr, ℕ, ◌+◌, true, false, Bool, cond, List, [], ◌∷◌, length, drop, get_or, Some, None, Option, refl, ap, sym, subst, ◌∙◌, arith}
 use Rattle.std.specs.Prelude.{nat_lt, nat_le, ◌||◌, slice_set}
 use Rattle.std.specs.Option.{option_map}
@@ -30,7 +30,7 @@ use Rattle.mono_machine.specs.declared.events.TurnStep.{TurnStep}
 use Rattle.mono_time.specs.Registrations.{armed_by_act, by_act, by_clock, registered_by_act, registered_by_steps, registered_after, FollowsAct, IsNext}
 use Rattle.mono_time.proofs.SleepTableLemmas.{value-seen}
 
--- where each sleep is registered exactly while it is armed
+-- Each sleep is registered if and only if it is armed.
 abbrev pub AreRegistered : Timers → Type 0
 AreRegistered timers = (s : ℕ) → IsRegistered (elapsed_tick timers) (value_at (sleeps_of timers).table s) (registered_of timers s)
 

@@ -1,4 +1,4 @@
--- No call leaves a sleep armed at a tick up to the greatest, where none was.
+-- No call leaves a sleep armed at a tick up to the greatest, if none was before.
 use Rattle.std.proofs.Common.{◌≡◌, ◌<◌, inl, inr, ℕ, zero, suc, true, false, Bool, cond, [], ◌∷◌, length, set, Some, None, refl, ap, sym, ◌∙◌, arith}
 use Rattle.std.specs.Prelude.{Option, nat_le}
 use Rattle.std.proofs.lemmas.Bool.{leb-false, cases_eq, cases_lt}

@@ -38,7 +38,7 @@ module _ (wheel : Wheel) (keys : Table ℕ) (entries : List Entry) (greatest liv
   pub fresh_below-entry : fresh_tick e.state < 2 ^ 63
   fresh_below-entry = subst (λ v. fresh_tick_of v < 2 ^ 63) was (holds.fresh_below s k at)
 
-  -- what is kept of the sleep
+  -- The sleep that is kept.
   pub kept-there : kept_at wheel keys entries s ≡ Some (kept_in (timed_at wheel k) e.state)
   kept-there = rw at (ap (kept_of (timed_at wheel k)) was)
 
@@ -52,14 +52,14 @@ module _ (wheel : Wheel) (keys : Table ℕ) (entries : List Entry) (greatest liv
     pub table-turned : table_kept left keys (set entries k f) ≡ with_value (table_kept wheel keys entries) s kept
     table-turned = table-written wheel left keys entries greatest live holds s k e f at was same turned.keeps ∙ ap (λ v. set (table_kept wheel keys entries) s (Some v)) turned.now_kept
 
--- where no sleep has the number
+-- The case that no sleep has the number.
 pub none-there : (wheel : Wheel) (keys : Table ℕ) (entries : List Entry) (s : ℕ) → value_at keys s ≡ None → value_at (table_kept wheel keys entries) s ≡ None
 none-there wheel keys entries s at = elim (cases_lt s (length keys)) [
   | inl inside ↦ value_at-table_of (kept_at wheel keys entries) (length keys) s inside ∙ ap (kept_under wheel entries) at
   | inr past ↦ get_or_past (table_kept wheel keys entries) s None (omega (arith, past, length-table_of (kept_at wheel keys entries) (length keys)))
 ]
 
--- the table has at each number what is kept there
+-- The table has at each number the sleep that is kept there.
 pub value-table : (wheel : Wheel) (keys : Table ℕ) (entries : List Entry) (s : ℕ) → value_at (table_kept wheel keys entries) s ≡ kept_at wheel keys entries s
 value-table wheel keys entries s = elim (cases_lt s (length keys)) [
   | inl inside ↦ value_at-table_of (kept_at wheel keys entries) (length keys) s inside

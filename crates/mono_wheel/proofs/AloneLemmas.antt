@@ -1,4 +1,4 @@
--- A key that stands alone in the next slot is taken out at its tick at once.
+-- A key that is alone in the next slot comes out at its tick at once.
 use Rattle.std.proofs.Common.{arith, ◌≡◌, ◌≢◌, ℕ, ◌+◌, ◌^◌, ◌/◌, ◌<◌, ◌≤◌, inl, inr, length, List, [], ◌∷◌, map, Option, Some, None, get_or, set, ap, refl, sym, ◌∙◌, subst}
 use Rattle.std.proofs.lemmas.Bool.Decides.{eqb_tells}
 use Rattle.mono_wheel.specs.Start.{start, top_level, taken_list}

@@ -1,4 +1,4 @@
--- What each call on the lists owes: that the nodes that it joins are there, and what is seen after it.
+-- The duty of each call on the lists: the nodes that it joins exist. Then the view after the call.
 use Rattle.std.proofs.Common.{rules, arith, ◌≡◌, ◌≢◌, ℕ, ◌-◌, ◌<◌, ◌⊎◌, inl, inr, length, Bool, true, List, [], ◌∷◌, ◌++◌, map, Option, Some, None, IsSome, get_or, set, ap, refl, sym, ◌∙◌, subst}
 use Rattle.std.proofs.lemmas.List.{length-map}
 use Rattle.std.proofs.lemmas.Grind.{get_or_default_zero}
@@ -69,7 +69,7 @@ module _ (slots : Slots) (heads : List ℕ) (lists : List (List ℕ)) (l : ℕ) 
         | inr i ↦ inr (subst (λ zs. IsIn (prev_in slots node) zs) (sym found.2) (is_in-front _ found.0 (node ∷ found.1) i))
       ])
 
--- what a value that is seen says of the slots
+-- The facts about the slots that follow from the view.
 pub seen-below : (slots : Slots) (heads : List ℕ) (room : ℕ) (v : Lists) (l : ℕ) → seen slots heads room ≡ v → l < length v.lists → l < length heads
 seen-below slots heads room v l e b = let h : l < length (map (ring_of slots) heads) = subst (λ w. l < length w.lists) (sym e) b in omega (arith, h, length-map heads (ring_of slots))
 
@@ -82,7 +82,7 @@ seen-loose slots heads room v node e h = (subst (λ w. IsLoose w node) (sym e) h
 pub same_record : (a b : List (List ℕ)) (c d : List Bool) (p q : List Entry) (m n : ℕ) → a ≡ b → c ≡ d → p ≡ q → m ≡ n → (let x : Lists = record { lists = a; nodes = c; entries = p; room = m } in let y : Lists = record { lists = b; nodes = d; entries = q; room = n } in x ≡ y)
 same_record a b c d p q m n e f h g = λ i. record { lists = e i; nodes = f i; entries = h i; room = g i }
 
--- after a change of one list the walks give it, and it is what is seen
+-- After a change of one list, the walks give that list, and the view has it.
 pub cascaded-stand : (s2 : Slots) (heads : List ℕ) (lists : List (List ℕ)) → Stand s2 heads lists → Stand s2 heads (map (ring_of s2) heads)
 cascaded-stand s2 heads lists s = subst (Stand s2 heads) (sym (stand-lists s2 heads lists s)) s
 

@@ -108,7 +108,7 @@ module _ (elapsed : ℕ) (first entries entries2 : List Entry) (start links popp
     elsewhere : (l : ℕ) → l ≢ taken_list → l ≢ place_in elapsed r.entry.tick → list_at links2 l ≡ list_at links l
     elsewhere l ne np = ap (λ w. list_at w l) r.links_are ∙ list-other popped (place_in elapsed r.entry.tick) l _ np ∙ popped-other l ne
 
-    -- who stands in a list that is not the waiting one
+    -- The keys in a list other than the waiting one.
     came : (k l : ℕ) → l ≢ taken_list → IsIn k (list_at links2 l) → ((k ≡ key) × (l ≡ place_in elapsed r.entry.tick)) ⊎ (IsIn k (list_at links l))
     came k l ne i = elim (eqb_tells l (place_in elapsed r.entry.tick)) [
       | inl e ↦ elim (subst (λ zs. IsIn k zs) (ap (list_at links2) e.1 ∙ pushed) i) [

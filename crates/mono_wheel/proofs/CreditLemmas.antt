@@ -50,7 +50,7 @@ set-none [] x = refl
 set-none (o ∷ os) zero = refl
 set-none (o ∷ os) (suc x) = set-none os x
 
--- so many keys have what exactly the keys of a list have
+-- The count of keys with a property that exactly the keys of a list have.
 count-list : (p : Option Timed → Bool) (xs : List ℕ) (os : List (Option Timed)) → p None ≡ false → Distinct xs → ((k : ℕ) → IsIn k xs → p (get_or os k None) ≡ true) → ((k : ℕ) → p (get_or os k None) ≡ true → IsIn k xs) → count p os ≡ length xs
 count-list p [] os none d into back = count-none p os (λ k. elim (bool-cases (p (get_or os k None))) [ inl t ↦ absurd (back k t) | inr f ↦ f ])
 count-list p (x ∷ xs) os none d into back =
@@ -247,7 +247,7 @@ credit-entry elapsed entries nodes nodes2 lines lines2 v key x seen low =
     let wrote = ap (credit_of elapsed) (map-set timed_of entries key x) in
     subst (λ u. CreditFollows u (record { elapsed = elapsed; entries = map timed_of (set entries key x); reserved = nodes2; lines = lines2 }) key) seen (omega (arith, r, here, wrote))
 
--- ---- what a call adds to the credit
+-- ---- the raise of the credit by each call
 credit-none : (e : ℕ) (os : List (Option Timed)) → ((k : ℕ) → get_or os k None ≡ None) → credit_of e os ≡ 0
 credit-none e [] h = refl
 credit-none e (o ∷ os) h = let f : takes e o ≡ 0 = ap (takes e) (h 0) in let r = credit-none e os (λ k. h (suc k)) in omega (arith, f, r)
@@ -297,7 +297,7 @@ raise-reset old new key tick true fits (timed, is, ahead, later, changed) c = by
       | inr e ↦ let m = takes-reset old.elapsed timed.registered timed.tick tick fit.0 fit.1 later in rw e.0 (omega (arith, c, before, after, m))
     ])
 
--- a key that stands alone in a slot that starts at its tick is taken once
+-- A key that is alone in a slot that starts at its tick is taken once.
 pub takes-at-once : (tick : ℕ) → 0 < tick → start top_level 0 tick ≡ tick → takes 0 (Some record { tick = tick; registered = tick }) ≡ 1
 takes-at-once tick ahead starts =
     takes-ahead 0 record { tick = tick; registered = tick } ahead ∙ takes-once top_level 0 tick tick ahead (omega arith)

@@ -55,7 +55,7 @@ cut-after front back (Some node) d is =
     subst (λ zs. (from_node node (front ++ zs) ≡ zs) × (until_node node (front ++ zs) ≡ front)) (sym is.1) found
 
 module _ {F : Type 0} where
-  -- the closure was asked about the first of what was left, and spared it
+  -- The closure was asked about the first nodes of the remaining ones, and spared them.
   pub record Going (asks : F → ℕ → Bool → F → Type 0) (s t : DrainFilter F) : Type 0 where
     pub passed : List ℕ
     pub asked : FoldsTo (λ f node g. asks f node false g) s.choose passed t.choose
@@ -223,7 +223,7 @@ module _ {F : Type 0} (asks : F → ℕ → Bool → F → Type 0) where
   sifts-more (x ∷ xs) f g h chosen spared passed (inl is) more = inl (is.0, is.1, is.2, is.3, sifts-more xs is.0 g h is.1 spared passed is.4 more)
   sifts-more (x ∷ xs) f g h chosen spared passed (inr is) more = inr (is.0, is.1 ++ passed, is.2, ap (λ zs. zs ++ passed) is.3, sifts-more xs is.0 g h chosen is.1 passed is.4 more)
 
-  -- what was done from one state to another
+  -- The calls from one state to another.
   record Ran (s : DrainFilter F) (given : List ℕ) (t : DrainFilter F) : Type 0 where
     asked : List ℕ
     spared : List ℕ
@@ -303,7 +303,7 @@ module _ {F : Type 0} (asks : F → ℕ → Bool → F → Type 0) where
     pub drains : Drains asks old list choose s
     drains = record { so_far = so_far; whole = whole }
 
-  -- what a loop over the iterator leaves behind the reference that it was made from
+  -- The lists after a loop over the iterator, under the reference from which it was made.
   pub drain-leaves : (old : Lists) (list : ℕ) (choose : F) (s s2 t u : DrainFilter F) (given : List ℕ) (name : GName) (x : Lists) →
       Drains asks old list choose s → s2 ≡ s → Yields (DrainSteps asks) s2 given t → DrainSteps asks t None u → lender_of s ≡ name → (name ≡ lender_of u → x ≡ links_of u) →
       (spared : List ℕ) × Sifts asks choose (list_at old list) given spared u.choose × (x ≡ with_list old list spared)

@@ -16,7 +16,7 @@ use Rattle.mono_wheel.proofs.ChainLemmas.{chain-frame, is_in_equal}
 use Rattle.mono_wheel.proofs.RingLemmas.{stand-lists, inner_not_outer, false-true}
 use Rattle.mono_wheel.proofs.CallLemmas.{seen-below, cascaded-stand, same_record, seen-known, seen-loose}
 
--- where an element stood before the i-th and the j-th were exchanged
+-- The place of an element before the i-th and the j-th were exchanged.
 turned : ℕ → ℕ → ℕ → ℕ
 turned i j m = if m == i then j else if m == j then i else m
 
@@ -94,7 +94,7 @@ after-take slots heads v room i j x y e s bi bj ne empty hx hy =
           (same_record _ _ _ _ _ _ _ _ (stand-lists slots _ _ again ∙ ap (λ z. set (set (map (ring_of slots) heads) i z) j (at (map (ring_of slots) heads) i)) none) refl refl refl),
     )
 
--- slots of what is in no ring change
+-- Only slots that are in no ring change.
 stand-kept : (slots s2 : Slots) (heads : List ℕ) (lists : List (List ℕ)) → Stand slots heads lists →
     ((l k : ℕ) → l < length heads → ((k ≡ head_at heads l) ⊎ IsIn k (at lists l)) → get_or s2 k None ≡ get_or slots k None) → Stand s2 heads lists
 stand-kept slots s2 heads lists s same = record {
@@ -235,7 +235,7 @@ stand-listed slots heads lists head s forth back outer fresh =
       ];
     }
 
--- what is seen once a list was added
+-- The view once a list was added.
 pub after-list : (slots s1 s2 : Slots) (heads heads2 : List ℕ) (v : Lists) (room head : ℕ) (x : Node) → seen slots heads room ≡ v → Stand slots heads (map (ring_of slots) heads) → get_or slots head None ≡ None →
     get_or s1 head None ≡ Some x → x.is_end ≡ true → x.entry ≡ no_entry → ((k : ℕ) → k ≢ head → get_or s1 k None ≡ get_or slots k None) → Joined s1 s2 head head → heads2 ≡ heads ++ head ∷ [] →
     Stand s2 heads2 (map (ring_of s2) heads2) × (map (ring_of s2) heads2 ≡ v.lists ++ [] ∷ []) × ((k : ℕ) → get_or (map is_inner s2) k false ≡ is_node v k) × ((k : ℕ) → get_or (map entry_of s2) k no_entry ≡ entry_at v k)
@@ -291,7 +291,7 @@ after-entry slots heads v room room2 node x entry e r s here =
       subst (λ w. seen s2 heads room2 ≡ with_entry w node entry) e (same_record _ _ _ _ _ _ _ _ (stand-lists s2 heads _ stands) inners (map-set entry_of slots node _) r),
     )
 
--- past the lists nothing stands
+-- No list past the last has a node.
 past : (slots : Slots) (heads : List ℕ) (l : ℕ) → length heads ≤ l → at (map (ring_of slots) heads) l ≡ []
 past slots heads l h = get_or_past (map (ring_of slots) heads) l [] (omega (arith, h, length-map heads (ring_of slots)))
 

@@ -14,7 +14,7 @@ use Rattle.mono_wheel.proofs.KeyLemmas.{none_of, some_of, timed-here, timed-othe
 use Rattle.mono_wheel.proofs.OrderLemmas.{behind-pushed, behind-removed}
 use Rattle.mono_wheel.specs.Start.{slot_count, taken_list, list_count}
 
--- one key has other ticks, and the lists have it where they say
+-- One key has other ticks, and is in the list of its ticks.
 held-changed : (elapsed : ℕ) (entries : List Entry) (links new : Lists) (key : ℕ) (x : Entry) → Held elapsed entries links → key < length entries →
     length new.lists ≡ length links.lists → new.nodes ≡ links.nodes →
     ((k l : ℕ) → IsIn k (list_at new l) → ((k ≡ key) × StandsIn elapsed l (timed_of x)) ⊎ ((k ≢ key) × IsIn k (list_at links l))) →
@@ -112,7 +112,7 @@ held-new links e none = record {
   room = λ k n. absurd (true-false (sym n ∙ none k));
 }
 
--- what is seen once one entry was written
+-- The view once one entry was written.
 pub changed-entry : (elapsed : ℕ) (entries : List Entry) (nodes nodes2 : List Bool) (lines lines2 : List (List ℕ)) (v : Wheel) (key : ℕ) (x : Entry) →
     (let w : Wheel = record { elapsed = elapsed; entries = map timed_of entries; reserved = nodes; lines = lines } in w ≡ v) → key < length entries → nodes2 ≡ nodes →
     ((a b l : ℕ) → (a ≡ key → timed_of x ≡ timed_in entries key) → (b ≡ key → timed_of x ≡ timed_in entries key) → StandsBehind (at lines l) a b → StandsBehind (at lines2 l) a b) →
@@ -137,7 +137,7 @@ pub keeps-removed : (lines lines2 : List (List ℕ)) (list key : ℕ) → list <
     (a b l : ℕ) → a ≢ key → b ≢ key → StandsBehind (at lines l) a b → StandsBehind (at lines2 l) a b
 keeps-removed lines lines2 list key low is a b l na nb h = subst (λ ls. StandsBehind (at ls l) a b) (sym is) (behind-removed lines list key a b l low na nb h)
 
--- who is registered at the tick at which a key goes in comes out before it
+-- A key that is registered at the tick of an inserted key comes out before it.
 pub inserted-last : (elapsed : ℕ) (entries : List Entry) (links new : Lists) (v : Wheel) (key list tick : ℕ) → Held elapsed entries links →
     (let w : Wheel = record { elapsed = elapsed; entries = map timed_of entries; reserved = links.nodes; lines = links.lists } in w ≡ v) →
     timed_in entries key ≡ None → key < length entries → elapsed < tick → list ≡ place_of elapsed tick → new ≡ with_list links list (key ∷ list_at links list) →
@@ -155,7 +155,7 @@ inserted-last elapsed entries links new v key list tick h seen out below ahead p
       same = timed-other entries key other _ apart ∙ timed ∙ sym (timed-here entries key record { tick = tick; registered = tick } below ∙ timed-ahead elapsed tick ahead);
     }
 
--- where a key that is in stands
+-- The list of a key that is in.
 pub entry-stands : (elapsed : ℕ) (entries : List Entry) (key list : ℕ) (x : Entry) → (timed_in entries key ≡ None → ⊥) → x ≡ get_or entries key x →
     list ≡ place_in elapsed x.registered →
     StandsIn elapsed list (timed_in entries key) × (list < taken_list) × ((l : ℕ) → StandsIn elapsed l (timed_in entries key) → l ≡ list)

@@ -79,7 +79,7 @@ carried-next slots new node entry c k =
     subst (λ s. next_in s k ≡ next_in slots k) (sym c.2)
     (same_at next_of slots _ None k (map-set_same next_of slots node (Some record { prev = c.0.prev; next = c.0.next; entry = entry; is_end = c.0.is_end }) None (rw c.1 refl)))
 
--- a node that was in no list was put behind the end of one
+-- A node that was in no list was appended to one.
 pub after-put : (slots new : Slots) (heads : List ℕ) (v : Lists) (room room2 l node head : ℕ) (entry : Entry) → seen slots heads room ≡ v → room2 ≡ room →
     Stand slots heads (map (ring_of slots) heads) → l < length v.lists → IsLoose v node → head ≡ head_at heads l → Put slots new head node entry →
     Stand new heads (map (ring_of new) heads) × (seen new heads room2 ≡ with_entry (with_list v l (node ∷ list_at v l)) node entry)

@@ -27,13 +27,13 @@ none_of x e = rw (eq-eqb x.tick 0 e) refl
 pub some_of : (x : Entry) → x.tick ≢ 0 → timed_of x ≡ Some record { tick = x.tick; registered = x.registered }
 some_of x ne = rw (eqb-no x.tick 0 ne) refl
 
--- what is read is the same by any default
+-- The read entry does not depend on the default.
 pub read-in : (entries : List Entry) (key : ℕ) (x d : Entry) → key < length entries → x ≡ get_or entries key d → x ≡ get_or entries key x
 read-in [] key x d b e = absurd (omega (arith, b))
 read-in (y ∷ ys) zero x d b e = e
 read-in (y ∷ ys) (suc k) x d b e = read-in ys k x d (omega (arith, b)) e
 
--- the ticks of a key, by what is read
+-- The ticks of a key, from its entry.
 pub timed-read : (entries : List Entry) (key : ℕ) → timed_in entries key ≡ timed_of (get_or entries key no_entry)
 timed-read entries key = get_or-map_any timed_of entries key no_entry
 
@@ -46,7 +46,7 @@ is-read entries key x e = told x ∙ ap (λ z. is_some (timed_of z)) e ∙ sym (
 pub entry-inside : (entries : List Entry) (key : ℕ) (x : Entry) → key < length entries → x ≡ get_or entries key x → (timed_in entries key ≡ None → ⊥) → x.tick ≢ 0
 entry-inside entries key x below e some z = some (get_or-map-at entries key x below ∙ ap timed_of (sym e) ∙ none_of x z)
 
--- a key that is in has an entry, and stands where its ticks say
+-- A key that is in has an entry, and is in the list of its ticks.
 pub entry-in : (entries : List Entry) (key : ℕ) (x : Entry) → key < length entries → x ≡ get_or entries key x → (timed_in entries key ≡ None → ⊥) →
     timed_in entries key ≡ Some record { tick = x.tick; registered = x.registered }
 entry-in entries key x below e some =

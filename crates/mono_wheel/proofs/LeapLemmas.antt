@@ -122,7 +122,7 @@ leap-more from to front x count more h s = record {
       omega (arith, a, b, c, d);
 }
 
--- the first `key` entries of a table, or all where there are no more
+-- The first `key` entries of a table, or all if there are no more.
 pub record Gone (from to count : ℕ) (entries : List Entry) (key : ℕ) : Type 0 where
   pub front : List Entry
   pub back : List Entry
@@ -287,7 +287,7 @@ noted-end limit near count key entries n low some k = elim (cases_lt k key) [
   | inr b ↦ subst (IsKnown limit near k) (sym (get_or_past (map timed_of entries) k None (let h = length-map entries timed_of in omega (arith, h, low, b)))) tt
 ]
 
--- ---- what is known stays
+-- ---- known keys stay known
 pub known-out : (limit : ℕ) (near : List ℕ) (entries : List Entry) (key : ℕ) (x : Entry) → key < length entries → x.tick ≡ 0 → Known limit near entries → Known limit near (set entries key x)
 known-out limit near entries key x low out h some k = elim (eqb_tells k key) [
   | inl e ↦ subst (IsKnown limit near k) (sym (ap (timed_in (set entries key x)) e.1 ∙ timed-here entries key x low ∙ none_of x out)) tt

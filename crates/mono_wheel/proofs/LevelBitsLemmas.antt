@@ -83,7 +83,7 @@ place_below bit k m l h = elim (cases_lt bit k) [
   | inr at ↦ let p : 2 ^ k ≤ 2 ^ bit = pow_mono {i = k} {j = bit} at in absurd (omega (arith, p, l, h))
 ]
 
--- what the rule gives is the digit
+-- The level of the rule is the digit.
 pub rule-digit : (elapsed tick level : ℕ) → IsLevel elapsed tick level → level ≡ far_digit top_level elapsed tick
 rule-digit elapsed tick level rule =
     let d : ℕ = far_digit top_level elapsed tick in

@@ -1,4 +1,4 @@
--- Who stands behind whom in the lists, after a key goes in or out.
+-- The order of keys in the lists, after a key is inserted or removed.
 use Rattle.std.proofs.Common.{◌≡◌, ◌≢◌, ℕ, ◌<◌, ◌⊎◌, inl, inr, length, List, [], ◌∷◌, ◌++◌, set, sym, ◌∙◌, subst, get_or-set_same, get_or-set_other}
 use Rattle.std.proofs.lemmas.Bool.Decides.{eqb_tells}
 use Rattle.mono_wheel.specs.Lists.{IsIn, without}

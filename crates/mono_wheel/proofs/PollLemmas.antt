@@ -18,7 +18,7 @@ pub none-pending : (elapsed : ℕ) (entries : List Entry) (nodes : List Bool) (l
 none-pending elapsed entries nodes lines v seen none key timed is e =
     subst (λ u. (key : ℕ) → IsPending u key → ⊥) (sym seen) none key (timed, is, e)
 
--- the pending list tells who is pending
+-- The pending list has exactly the pending keys.
 module _ (elapsed : ℕ) (entries : List Entry) (links : Lists) (v : Wheel) (h : Held elapsed entries links)
     (seen : let w : Wheel = record { elapsed = elapsed; entries = map timed_of entries; reserved = links.nodes; lines = links.lists } in w ≡ v) where
   pub some-pending : (key : ℕ) (front : List ℕ) → list_at links pending_list ≡ front ++ key ∷ [] → ((k : ℕ) × IsPending v k) × (elapsed ≡ v.elapsed)
@@ -46,7 +46,7 @@ module _ (elapsed : ℕ) (entries : List Entry) (links : Lists) (v : Wheel) (h :
         },
       )
 
--- a wheel whose clock has gone on since, or not at all
+-- A wheel whose clock has moved since, or not at all.
 abbrev pub Since : Wheel → Wheel → Type 0
 Since old new = (old ≡ new) ⊎ Advanced old new
 
@@ -167,7 +167,7 @@ nothing-due old middle new now s a clock passed =
       reserved = whole.reserved;
     }
 
--- the clock had gone on before a key came out
+-- The clock had moved before a key came out.
 pub came-later : (old middle new : Wheel) (now key : ℕ) → Advanced old middle → AllFit middle → CameOut middle new now key → CameOut old new now key
 came-later old middle new now key a fits c =
     let was = tick-before old.elapsed middle.elapsed (timed_at old key) (timed_at middle key) c.due.0 (a.ticks key) c.due.1 in

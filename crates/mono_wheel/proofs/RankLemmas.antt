@@ -70,7 +70,7 @@ ranked-one elapsed r q e =
     let t : (slot_of (q / 64) elapsed + 1 + q % 64) % 64 < 64 = mod-lt _ (omega arith) in
     rank-whole r ∙ ranked-same elapsed (r / 64) (q / 64) (r % 64) (q % 64) a b (parts-level (r / 64) (q / 64) _ _ s t e) (parts-slot (r / 64) (q / 64) _ _ s t e) ∙ sym (rank-whole q)
 
--- where the slot starts that is so far in the order
+-- The start of the slot at this place of the order.
 abbrev turn_start : ℕ → ℕ → ℕ → ℕ
 turn_start elapsed k o = (above k elapsed + 1 + o) * 64 ^ k
 

@@ -1,4 +1,4 @@
--- What the linked nodes stand for: the lists that are walked, and the lists after each call.
+-- The lists that the linked nodes represent: the lists that are walked, and the lists after each call.
 use Rattle.std.proofs.Common.{arith, ◌≡◌, ◌≢◌, zero, suc, ℕ, ◌<◌, ◌≤◌, inl, inr, length, Bool, true, false, not, ◌||◌, List, [], ◌∷◌, ◌++◌, map, Option, Some, None, get_or, set, ap, refl, sym, ◌∙◌, subst, get_or-set_same, get_or-set_other, length-set}
 use Rattle.std.proofs.lemmas.List.{get_or-map, length-map}
 use Rattle.std.proofs.lemmas.Bool.Decides.{eqb_tells}
@@ -75,7 +75,7 @@ stand-lists slots heads lists s =
     (length-distinct _ _ (s.distinct i below) (λ k h. inner_below slots k (s.inner i k below h)))
     (s.rings i below))
 
--- one list changes, and the links of what is in no ring of it stay
+-- One list changes, and the links of nodes outside its ring stay.
 pub stand-changed : (slots s2 : Slots) (heads : List ℕ) (lists : List (List ℕ)) (l : ℕ) (xs : List ℕ) →
     Stand slots heads lists → l < length heads → SameKinds slots s2 →
     Chain (next_in s2) (prev_in s2) (head_at heads l) xs (head_at heads l) → Distinct xs →

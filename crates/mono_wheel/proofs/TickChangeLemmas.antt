@@ -8,15 +8,15 @@ use Rattle.mono_wheel.specs.Holdings.{wheel_of, timed_of, timed_in, place_in, St
 use Rattle.mono_wheel.specs.declared.entry.Entry.{Entry}
 use Rattle.mono_wheel.proofs.KeyLemmas.{timed-read}
 
--- what is written where the table had these entries
+-- The written lists, if the table had these entries.
 pub written : (mid new : Lists) (entries : List Entry) (key : ℕ) (x : Entry) → mid.entries ≡ entries → new ≡ with_entry mid key x → new ≡ record mid { entries = set entries key x }
 written mid new entries key x same is = is ∙ ap (λ es. record mid { entries = set es key x }) same
 
--- what is written after a reading that changed nothing
+-- The written lists, after a reading that changed nothing.
 pub noted : (read new links : Lists) (key : ℕ) (x : Entry) → read ≡ links → new ≡ with_entry read key x → new ≡ with_entry links key x
 noted read new links key x same is = is ∙ ap (λ ls. with_entry ls key x) same
 
--- who stands where is said of the lists alone
+-- The order of keys depends on the lists alone.
 pub held-as : (elapsed : ℕ) (entries : List Entry) (links : Lists) (others : List Entry) → Held elapsed entries links → Held elapsed entries (record links { entries = others })
 held-as elapsed entries links others h = record { lists = h.lists; within = h.within; found = h.found; fits = h.fits; room = h.room }
 
@@ -24,7 +24,7 @@ pub held-written : (elapsed : ℕ) (entries : List Entry) (mid new : Lists) (key
 held-written elapsed entries mid new key x same is h =
     subst (λ w. Held elapsed w.entries w) (sym (written mid new entries key x same is)) (held-as elapsed (set entries key x) mid (set entries key x) h)
 
--- entries of which each is the same have the same ticks
+-- Entries that are equal one by one have the same ticks.
 pub timed-same : (new old : Lists) → ((k : ℕ) → entry_at new k ≡ entry_at old k) → (k : ℕ) → timed_in new.entries k ≡ timed_in old.entries k
 timed-same new old same k = timed-read new.entries k ∙ ap timed_of (same k) ∙ sym (timed-read old.entries k)
 
@@ -46,7 +46,7 @@ order-kept elapsed links new v seen lists same =
     subst (λ w. KeepsOrder w (wheel_of elapsed new)) seen
     (λ a b p s t. record { line = p.line; behind = subst (λ ls. StandsBehind (at ls p.line) a b) (sym lists) p.behind; same = same a ∙ p.same ∙ sym (same b) })
 
--- a key that is in stands in a list
+-- A key that is in is in a list.
 pub stands-listed : (elapsed : ℕ) (entries : List Entry) (links : Lists) (key : ℕ) → Held elapsed entries links → (timed_in entries key ≡ None → ⊥) → (list : ℕ) × IsIn key (list_at links list)
 stands-listed elapsed entries links key h some = by (timed_in entries key) refl
   where

@@ -11,11 +11,11 @@ use Rattle.mono_time.specs.Refinement.{Keeps}
 use Rattle.mono_time.proofs.ClockMoveLemmas.{Passed}
 use Rattle.mono_time.proofs.due_sleeps.take_due.Given as goal
 
--- there is room for so many more
+-- There is room for this number of further entries.
 abbrev pub HasRoom : ℕ → ℕ → ℕ → Type 0
 HasRoom more length capacity = more + length ≤ capacity
 
--- what fires in turn from here on, fires in turn behind those that have fired
+-- The sleeps that fire in turn from here on fire after those that have fired.
 abbrev pub invariant-loop-s : goal.invariant-loop-s
 invariant-loop-s g l = HasRoom (armed_count (sleeps_of l.timers)) (vec_len l.due.fired) (vec_capacity l.due.fired) × HasRoom (armed_count (sleeps_of l.timers)) (vec_len l.due.wakers) (vec_capacity l.due.wakers) × ((sleeps : Sleeps) → Keeps l.fn.timers sleeps → (before : Sleeps) × Keeps l.timers before
     × (sleep.at_clock before (nanos_of l.now) ≡ all_fired (sleep.at_clock sleeps (nanos_of l.now)) l.due.fired.items)
