@@ -1,4 +1,4 @@
--- A bucket as it is kept: with the tokens that it had once so many of its periods had ended.
+-- A bucket in the table: with the tokens that it had once a number of its periods had ended.
 use Rattle.std.specs.Prelude.{◌≡◌, ◌<◌, ◌≤◌, ℕ, ◌+◌, ◌-◌, ◌/◌, min, true, false, List, length, slice_index_or, Result, Ok, Err, nat_lt}
 use Rattle.mono_limit.specs.Buckets.{Bucket, Takes}
 use Rattle.mono_limit.specs.declared.buckets.StoredBucket.{StoredBucket}
@@ -6,11 +6,11 @@ use Rattle.mono_limit.specs.declared.LimitError.{LimitError}
 use Rattle.mono_limit.specs.declared.LimitError.TheVariants.{TooMany}
 use Rattle.mono_limit.specs.declared.Take.{Take}
 
--- how many of its periods have ended up to the tick g
+-- The number of its periods that have ended up to the tick g.
 abbrev pub ended_at : ℕ → StoredBucket → ℕ
 ended_at g stored = (g - stored.origin) / stored.period
 
--- the bucket at the greatest tick g
+-- The bucket at the greatest tick g.
 abbrev pub bucket_at : ℕ → StoredBucket → Bucket
 bucket_at g stored = record {
   burst = stored.burst;
@@ -19,7 +19,7 @@ bucket_at g stored = record {
   tokens = min stored.burst (stored.tokens + (ended_at g stored - stored.ended));
 }
 
--- What holds of it at the greatest tick g.
+-- The invariant of a stored bucket at the greatest tick g.
 pub record IsStored (g : ℕ) (stored : StoredBucket) : Type 0 where
   pub has_period : 0 < stored.period
   pub holds : stored.tokens ≤ stored.burst

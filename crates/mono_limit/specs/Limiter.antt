@@ -1,4 +1,4 @@
--- The buckets and the retries, and what each call answers and leaves.
+-- The buckets and the retries, and the answer and the outcome of each call.
 use Rattle.std.specs.Prelude.{◌≡◌, ⊤, ℕ, ◌+◌, ◌-◌, ◌^◌, Bool, true, false, ◌==◌, ◌||◌, if◌then◌else◌, [], Option, Some, None, Result, Ok, Err, is_some, nat_lt, nat_le}
 use Rattle.mono_model.specs.Table.{Table, value_at, next_number, with_next, with_value, without, is_full}
 use Rattle.mono_limit.specs.Buckets.{Bucket, full_bucket, Takes}
@@ -11,7 +11,7 @@ use Rattle.mono_limit.specs.declared.Take.{Take}
 use Rattle.mono_limit.specs.declared.Next.{Next}
 use Rattle.mono_limit.specs.declared.Next.TheVariants.{Again, GaveUp}
 
--- the buckets, the live retries, the greatest tick of the clock so far, and how many of each there may be
+-- The buckets, the live retries, the greatest tick of the clock so far, and the greatest number of each.
 pub record Limits : Type 0 where
   pub buckets : Table Bucket
   pub retries : Table Schedule
@@ -28,7 +28,7 @@ with_buckets limits buckets = record { buckets = buckets; retries = limits.retri
 abbrev pub with_retries : Limits → Table Schedule → Limits
 with_retries limits retries = record { buckets = limits.buckets; retries = retries; greatest = limits.greatest; most_buckets = limits.most_buckets; most_retries = limits.most_retries }
 
--- no tick for which a retry waits is above it
+-- The greatest tick for which a retry waits.
 abbrev pub last_tick : ℕ
 last_tick = 2 ^ 63 - 1
 
@@ -50,7 +50,7 @@ abbrev pub with_bucket : Limits → ℕ → ℕ → Limits
 with_bucket limits burst period =
     if_granted (bucket_answer limits burst period) limits (with_buckets limits (with_next limits.buckets (full_bucket burst period limits.greatest)))
 
--- Tokens are taken from a bucket, or its number or their number is refused.
+-- A call takes tokens from a bucket, or is refused for the bucket's number or for the number of tokens.
 abbrev pub TakesFrom : Option Bucket → Limits → ℕ → ℕ → Result Take LimitError → Limits → Type 0
 TakesFrom None old b n result new = (result ≡ Err NoBucket) × (new ≡ old)
 TakesFrom (Some bucket) old b n (Ok take) new =
@@ -70,7 +70,7 @@ abbrev pub with_retry : Limits → ℕ → ℕ → ℕ → Limits
 with_retry limits base cap most =
     if_granted (retry_answer limits base cap most) limits (with_retries limits (with_next limits.retries (new_retry base cap most)))
 
--- A failure: the last that is allowed ends the retry, and after any other it waits.
+-- A failure: the last allowed one ends the retry, and after any other it waits.
 abbrev pub again_at : Schedule → ℕ → ℕ
 again_at retry greatest = greatest + delay retry.base retry.cap (retry.failures + 1)
 
@@ -97,7 +97,7 @@ failed_value (Some retry) (Err error) limits r = limits
 abbrev pub failed : Limits → ℕ → Limits
 failed limits r = failed_value (value_at limits.retries r) (fail_answer limits r) limits r
 
--- The retry has come to its end.
+-- The end of a retry.
 abbrev pub done_value : Option Schedule → Result ⊤ LimitError
 done_value None = Err NoRetry
 done_value (Some retry) = Ok tt

@@ -1,4 +1,4 @@
--- A limiter as its buckets and retries.
+-- The view of a limiter as its buckets and retries.
 use Rattle.std.specs.Prelude.{◌≡◌, ℕ, List, ◌++◌, map, Some}
 use Rattle.mono_model.specs.Table.{Table}
 use Rattle.mono_time.specs.Timers.{credit_left}
@@ -11,7 +11,7 @@ use Rattle.mono_limit.specs.declared.buckets.StoredBucket.{StoredBucket}
 use Rattle.mono_limit.specs.Retries.{greatest_of}
 use Rattle.mono_limit.specs.declared.limiter.Limiter.{Limiter}
 
--- the buckets at the greatest tick g
+-- The buckets at the greatest tick g.
 abbrev pub buckets_at : ℕ → List StoredBucket → Table Bucket
 buckets_at g stored = map (λ b. Some (bucket_at g b)) stored
 
@@ -24,10 +24,10 @@ limits_of limiter = record {
   most_retries = limiter.retries.most;
 }
 
--- how many steps the wheel has still to take for the retries that wait
+-- The number of steps that the wheel has still to take for the waiting retries.
 abbrev pub credit_of : Limiter → ℕ
 credit_of limiter = credit_left limiter.retries.timers
 
--- A clock step lists the retries that are due behind those that stand in a list.
+-- A clock step appends the retries that are due to a list.
 abbrev pub ListsInto : Limits → ℕ → List ℕ → List ℕ → Limits → Type 0
 ListsInto old n before after new = (due : List ℕ) × (after ≡ before ++ due) × ClockStep old n (Due due) new

@@ -1,4 +1,4 @@
--- What one poll of a retry answers and leaves, step by step.
+-- The answer of one poll of a retry and the retry after it, step by step.
 use Rattle.std.specs.Prelude.{◌≡◌, ◌<◌, ◌≤◌, ℕ, zero, suc, ⊤, ◌+◌, ◌-◌, ◌*◌, ◌^◌, Bool, true, false, nat_le, Option, Some, None, Result, Ok, Err, OnOk, OnErr}
 use Rattle.std.specs.Fn.{Mut, Called}
 use Rattle.mono_model.specs.Ticks.{max_nanos}
@@ -27,11 +27,11 @@ new_retry_of make base cap most sleep = record { make = make; stage = stage.Due;
 abbrev pub at_stage : {G F : Type 0} → Retry G F → Stage F → Retry G F
 at_stage retry next = record { make = retry.make; stage = next; tried = retry.tried; left = retry.left; sleep = retry.sleep; base = retry.base; cap = retry.cap }
 
--- its stage was taken out
+-- The retry whose stage was taken out.
 abbrev pub without_stage : {G F : Type 0} → Retry G F → Retry G F
 without_stage retry = at_stage retry stage.Over
 
--- the next attempt was made, and is under way
+-- The retry after the next attempt was made, which is running.
 abbrev pub with_attempt : {G F : Type 0} → Retry G F → F → G → Retry G F
 with_attempt retry attempt make =
     record { make = make; stage = stage.Trying attempt; tried = retry.tried + 1; left = retry.left - 1; sleep = retry.sleep; base = retry.base; cap = retry.cap }
@@ -39,30 +39,30 @@ with_attempt retry attempt make =
 abbrev pub with_sleep : {G F : Type 0} → Retry G F → Sleep → Retry G F
 with_sleep retry sleep = record { make = retry.make; stage = retry.stage; tried = retry.tried; left = retry.left; sleep = sleep; base = retry.base; cap = retry.cap }
 
--- a bound on the steps that a poll may still take
+-- A bound on the steps that a poll may still take.
 abbrev pub rounds_left : {G F : Type 0} → Retry G F → ℕ
 rounds_left retry = 3 * retry.left + place_of retry.stage
 
 module _ {F C Y : Type 0} (future : FutureOf F C Y) where
-  -- it may be polled
+  -- Whether it may be polled.
   abbrev pub IsLive : F → Type 0
   IsLive attempt = (future.is_spent attempt ≡ false) × future.can_poll attempt
 
-  -- the attempt that is under way may be polled
+  -- Whether the running attempt may be polled.
   abbrev pub IsLiveStage : Stage F → Type 0
   IsLiveStage stage.Due = ⊤
   IsLiveStage (stage.Trying attempt) = IsLive attempt
   IsLiveStage stage.Resting = ⊤
   IsLiveStage stage.Over = ⊤
 
-  -- the attempt that is under way is given up, if there is one
+  -- The running attempt is given up, if there is one.
   abbrev pub AttemptCancels : Stage F → C → C → Type 0
   AttemptCancels stage.Due c d = d ≡ c
   AttemptCancels (stage.Trying attempt) c d = future.cancels attempt c d
   AttemptCancels stage.Resting c d = d ≡ c
   AttemptCancels stage.Over c d = d ≡ c
 
--- a further attempt may follow on a rest
+-- A further attempt may follow on a rest.
 abbrev pub HasLeft : {F : Type 0} → Stage F → ℕ → Type 0
 HasLeft stage.Due left = 0 < left
 HasLeft (stage.Trying attempt) left = ⊤
@@ -75,7 +75,7 @@ module _ {G F C Y : Type 0} (call : Mut G (ℕ × Unit {0}) F) (future : FutureO
     pub can_call : (make : G) (k : ℕ) → 0 < k → k ≤ most → call.pre make (k, tt)
     pub live : (make : G) (k : ℕ) (attempt : F) (next : G) → 0 < k → k ≤ most → Called call make (k, tt) attempt next → IsLive future attempt
 
-  -- what a poll asks, and leaves again
+  -- The requirement of a poll, which holds after it again.
   pub record MayGoOn (retry : Retry G F) : Type 0 where
     pub has_base : 0 < retry.base
     pub in_range : retry.tried + retry.left < 2 ^ 32
@@ -95,13 +95,13 @@ module _ {C : Type 0} (sleeps : C → SleepTable) (work : C → Tasks ⊤) (reac
     pub reached : reaches c d
 
 module _ {G F C X E : Type 0} (sleeps : C → SleepTable) (work : C → Tasks ⊤) (reaches : C → C → Type 0) where
-  -- It answers for good, and its sleep is removed.
+  -- The retry answers for good, and its sleep is removed.
   pub record Ends (answer : Result X (RetryError E)) (retry : Retry G F) (c : C) (o : Option (Poll (Result X (RetryError E)))) (s : Retry G F) (d : C) : Type 0 where
     pub answers : o ≡ Some (Ready answer)
     pub over : s ≡ at_stage retry stage.Over
     pub removed : SleepCancels sleeps work reaches retry.sleep c d
 
-  -- The sleep was reset: the retry rests; or that was refused.
+  -- The retry rests if the sleep was reset; otherwise it answers the refusal.
   abbrev pub AfterReset : Result ⊤ Error → Retry G F → C → Option (Poll (Result X (RetryError E))) → Retry G F → C → Type 0
   AfterReset (Ok x) retry c o s d = (o ≡ None) × (s ≡ at_stage retry stage.Resting) × (d ≡ c)
   AfterReset (Err error) retry c o s d = Ends (Err (Timer error)) retry c o s d
@@ -113,8 +113,8 @@ module _ {G F C X E : Type 0} (sleeps : C → SleepTable) (work : C → Tasks �
     pub resets : Resets sleeps work reaches retry.sleep c nanos result sleep middle
     pub rest : AfterReset result (with_sleep retry sleep) middle o s d
 
-  -- The attempt has failed, and the next is due at a moment. It was the last; or that moment is past the last instant; or the
-  -- sleep is reset to it.
+  -- The attempt has failed, and the next is due at a moment. It was the last; or that moment is past the last instant;
+  -- or the sleep is reset to it.
   abbrev pub FailsEarly : Bool → E → ℕ → Retry G F → C → Option (Poll (Result X (RetryError E))) → Retry G F → C → Type 0
   FailsEarly false e due retry c o s d = Ends (Err (Far e)) retry c o s d
   FailsEarly true e due retry c o s d = GoesToRest due retry c o s d
@@ -123,11 +123,11 @@ module _ {G F C X E : Type 0} (sleeps : C → SleepTable) (work : C → Tasks �
   FailsWith zero e due retry c o s d = Ends (Err (Last e)) retry c o s d
   FailsWith (suc more) e due retry c o s d = FailsEarly (nat_le due max_nanos) e due retry c o s d
 
--- when the next attempt is due, after that of this number has failed now
+-- The moment at which the next attempt is due, if that of this number has failed now.
 abbrev pub due_after : {G F : Type 0} → Retry G F → ℕ → ℕ
 due_after retry now = now + 1000000 * delay retry.base retry.cap retry.tried
 
--- the instant of a moment, if it is not past the last one
+-- The instant of a moment, if it is not past the last one.
 abbrev pub IsDeadline : ℕ → Option Instant → Type 0
 IsDeadline due None = nat_le due max_nanos ≡ false
 IsDeadline due (Some deadline) = (nat_le due max_nanos ≡ true) × (nanos_of deadline ≡ due)
@@ -141,7 +141,7 @@ module _ {G F : Type 0} (call : Mut G (ℕ × Unit {0}) F) where
     pub tries : s ≡ with_attempt retry attempt make
 
 module _ {G F C X E : Type 0} (future : FutureOf F C (Result X E)) (nanos : C → ℕ) (sleeps : C → SleepTable) (work : C → Tasks ⊤) (reaches : C → C → Type 0) where
-  -- The attempt was polled. One that answered is cancelled at once.
+  -- The attempt was polled. An attempt that answered is cancelled at once.
   abbrev pub AfterPoll : Poll (Result X E) → F → Retry G F → C → Option (Poll (Result X (RetryError E))) → Retry G F → C → Type 0
   AfterPoll Pending attempt retry c o s d = (o ≡ Some Pending) × (s ≡ at_stage retry (stage.Trying attempt)) × (d ≡ c)
   AfterPoll (Ready (Ok x)) attempt retry c o s d = (middle : C) × future.cancels attempt c middle × Ends sleeps work reaches (Ok x) retry middle o s d
@@ -156,7 +156,7 @@ module _ {G F C X E : Type 0} (future : FutureOf F C (Result X E)) (nanos : C �
     pub rest : AfterPoll answer after retry middle o s d
 
 module _ {G F C X E : Type 0} (number : C → ℕ) (sleeps : C → SleepTable) (work : C → Tasks ⊤) (reaches : C → C → Type 0) where
-  -- The sleep was polled. Where it is ready, the next attempt is due.
+  -- The sleep was polled. If it is ready, the next attempt is due.
   abbrev pub AfterSleep : Poll (Result ⊤ Error) → Retry G F → C → Option (Poll (Result X (RetryError E))) → Retry G F → C → Type 0
   AfterSleep Pending retry c o s d = (o ≡ Some Pending) × (s ≡ at_stage retry stage.Resting) × (d ≡ c)
   AfterSleep (Ready (Ok x)) retry c o s d = (o ≡ None) × (s ≡ at_stage retry stage.Due) × (d ≡ c)
@@ -168,7 +168,7 @@ module _ {G F C X E : Type 0} (number : C → ℕ) (sleeps : C → SleepTable) (
     pub polled : SleepPolls number sleeps work reaches retry.sleep c answer retry.sleep middle
     pub rest : AfterSleep answer retry middle o s d
 
--- A step gave the poll's answer, or the poll goes on.
+-- A step gave the poll's answer, or the poll continues.
 abbrev pub Onward : {G F C A : Type 0} → Option A → Type 0 → Retry G F → C → A → Retry G F → C → Type 0
 Onward None More t m p s d = More
 Onward (Some answer) More t m p s d = (p ≡ answer) × (s ≡ t) × (d ≡ m)
@@ -181,21 +181,21 @@ module _ {G F C X E : Type 0} (call : Mut G (ℕ × Unit {0}) F) (future : Futur
   StepOf stage.Resting retry c o s d = Rests number sleeps work reaches (without_stage retry) c o s d
   StepOf stage.Over retry c o s d = ⊥
 
-  -- So many steps, of which the last gives the answer.
+  -- The given number of steps; the last gives the answer.
   abbrev pub Takes : ℕ → Retry G F → C → Poll (Result X (RetryError E)) → Retry G F → C → Type 0
   Takes zero retry c p s d = ⊥
   Takes (suc n) retry c p s d = (o : Option (Poll (Result X (RetryError E)))) × (t : Retry G F) × (m : C) × StepOf retry.stage retry c o t m × Onward o (Takes n t m p s d) t m p s d
 
-  -- One poll: one step after another, until one gives the answer, and not many.
+  -- One poll: one step after another, until one gives the answer, within the bound.
   abbrev pub RetryPolls : Retry G F → C → Poll (Result X (RetryError E)) → Retry G F → C → Type 0
   RetryPolls retry c p s d = (n : ℕ) × (n ≤ rounds_left retry + 1) × Takes n retry c p s d
 
 module _ {G F C Y : Type 0} (future : FutureOf F C Y) (sleeps : C → SleepTable) (work : C → Tasks ⊤) (reaches : C → C → Type 0) where
-  -- the attempt is given up, and then the sleep
+  -- The attempt is given up, and then the sleep.
   abbrev pub RetryCancels : Retry G F → C → C → Type 0
   RetryCancels retry c d = (middle : C) × AttemptCancels future retry.stage c middle × SleepCancels sleeps work reaches retry.sleep middle d
 
--- What a step leaves: it goes on towards an answer, and a retry that has not answered for good may be polled again.
+-- The retry after a step: it has fewer steps to go, or may be polled again, unless it has answered for good.
 abbrev pub Leaves : {G F A : Type 0} → Option (Poll A) → Retry G F → Retry G F → Type 0
 Leaves None old new = (is_over new.stage ≡ false) × (rounds_left new < rounds_left old)
 Leaves (Some Pending) old new = is_over new.stage ≡ false

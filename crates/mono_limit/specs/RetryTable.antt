@@ -1,11 +1,11 @@
--- How the retries are kept: by number a schedule, and a sleep that is armed while the retry waits.
+-- The table of retries: by number a schedule, and a sleep that is armed while the retry waits.
 use Rattle.std.specs.Prelude.{◌≡◌, ℕ, map, option_map, Option, Some, None}
 use Rattle.mono_model.specs.Table.{Table, value_at, count_of}
 use Rattle.mono_time.specs.Sleeps.{SleepTable, Kept, fresh, armed, elapsed}
 use Rattle.mono_limit.specs.Schedules.{IsSound}
 use Rattle.mono_limit.specs.declared.schedules.Schedule.{Schedule}
 
--- the tick at which a sleep is armed
+-- The tick of an armed sleep.
 abbrev pub armed_tick : Kept → Option ℕ
 armed_tick (fresh tick) = None
 armed_tick (armed tick waker) = Some tick

@@ -9,7 +9,7 @@ is_over (stage.Trying attempt) = false
 is_over stage.Resting = false
 is_over stage.Over = true
 
--- where it stands on the way from one attempt to the next
+-- The stage's place on the way from one attempt to the next.
 abbrev pub place_of : {F : Type 0} → Stage F → ℕ
 place_of stage.Due = 0
 place_of (stage.Trying attempt) = 2

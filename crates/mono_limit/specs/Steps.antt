@@ -1,4 +1,4 @@
--- From old, the limiter may answer the call so and go on to new.
+-- The steps of the limiter: from old it may answer the call like this and become new.
 use Rattle.std.specs.Prelude.{◌≡◌, ◌<◌, ◌≤◌, ℕ, max, List, [], ◌∷◌, map, Option, Some, None, option_map, Result}
 use Rattle.mono_model.specs.Ticks.{max_nanos, down}
 use Rattle.mono_model.specs.Table.{value_at, with_value}
@@ -18,11 +18,11 @@ use Rattle.mono_limit.specs.declared.Take.{Take}
 abbrev pub waiting_at : Limits → ℕ → Option ℕ
 waiting_at limits r = waiting_value (value_at limits.retries r)
 
--- the greatest tick once the clock shows n
+-- The greatest tick once the clock shows n.
 abbrev pub greatest_at : Limits → ℕ → ℕ
 greatest_at limits n = max limits.greatest (down n)
 
--- every bucket goes tick by tick to the tick g, which becomes the greatest
+-- Every bucket fills tick by tick up to the tick g, which becomes the greatest.
 abbrev pub at_tick : Limits → ℕ → Limits
 at_tick limits g = record {
   buckets = map (option_map (filled limits.greatest g)) limits.buckets;
@@ -32,7 +32,7 @@ at_tick limits g = record {
   most_retries = limits.most_retries;
 }
 
--- the waits of these retries have ended
+-- The waits of these retries have ended.
 abbrev pub ended_value : Option Schedule → Limits → ℕ → Limits
 ended_value None limits r = limits
 ended_value (Some retry) limits r = with_retries limits (with_value limits.retries r (at_once retry))
@@ -60,7 +60,7 @@ Step old (call.Fail r) a new = (a ≡ of_fail (fail_answer old r)) × (new ≡ f
 Step old (call.Done r) a new = (a ≡ of_done (done_answer old r)) × (new ≡ done old r)
 Step old (call.Clock n) a new = ClockStep old n a new
 
--- one step after another, with one answer for each call
+-- One step after another, with one answer for each call.
 abbrev pub Run : Limits → List Call → List Answer → Limits → Type 0
 Run old [] [] new = new ≡ old
 Run old (c ∷ calls) (a ∷ answers) new = (mid : Limits) × Step old c a mid × Run mid calls answers new

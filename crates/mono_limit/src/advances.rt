@@ -11,7 +11,7 @@ use std::alloc::{AllocError, Global};
 use std::marker::Brand;
 use std::sync::ledger::{Blank, Ledger};
 
-// Lets all waits end that are due. There is room for them.
+// Ends all waits that are due. There is room for them.
 fn end_each<L: Ledger>(limiter: &mut Limiter, now: Instant, due: &mut Vec<u64>, blank: Blank)
     requires ledger { (blank.name ≡ L.name) × (blank.parts ≡ L.parts) × (0 < L.parts) }
     requires room { vec_len due.old + count_of (limits_of limiter.old).retries ≤ vec_capacity due.old }
@@ -25,8 +25,8 @@ fn end_each<L: Ledger>(limiter: &mut Limiter, now: Instant, due: &mut Vec<u64>, 
 impl Limiter {
     /// Shows the clock a moment, as [`Limiter::clock`] does, and appends the retries whose wait ends to `due` (`due`).
     ///
-    /// Reserves room for all live retries first. If the allocation failed, nothing has changed (`refused`). The steps of the
-    /// wheel are not counted; they are no more than its credit falls by (`credit`).
+    /// It reserves room for all live retries first. If that allocation fails, nothing has changed (`refused`). The
+    /// steps of the wheel are not counted; they are at most the fall of its credit (`credit`).
     pub fn advance(
         &mut self,
         _alloc: Global,

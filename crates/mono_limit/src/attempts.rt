@@ -13,7 +13,7 @@ use mono_task::TaskFuture;
 use mono_time::{Instant, Sleep, TimeContext, sleep_until};
 use std::alloc::Global;
 
-/// What a retry does next: it makes an attempt, goes on with one, or rests; or it has answered for good.
+/// The state of a retry: it makes an attempt next, polls an attempt, or rests; or it has answered for good.
 #[derive(Drop)]
 pub(crate) enum Stage<F> {
     Due,
@@ -22,15 +22,15 @@ pub(crate) enum Stage<F> {
     Over,
 }
 
-/// A future that makes one attempt after another, each a future of a closure's, until one is ready with Ok.
+/// A future that makes one attempt after another until one is ready with Ok. A closure makes each attempt as a future.
 ///
-/// Attempts are counted from 1. After the failure k the next attempt is made once as many milliseconds have gone as the lesser of the cap
-/// and the base times 2^(k-1). The last attempt's failure is the answer.
+/// Attempts are counted from 1. After failure k, the retry waits for the lesser of the cap and the base times 2^(k-1),
+/// in milliseconds, and then makes the next attempt. The failure of the last attempt is the answer.
 #[derive(Drop)]
 pub struct Retry<G, F> {
     pub(crate) make: G,
     pub(crate) stage: Stage<F>,
-    // the number of the attempts that were made, and of those that may follow
+    // The numbers of the attempts that were made, and of those that may follow.
     pub(crate) tried: u64,
     pub(crate) left: u64,
     pub(crate) sleep: Sleep,
@@ -38,21 +38,22 @@ pub struct Retry<G, F> {
     pub(crate) cap: u64,
 }
 
-/// The closure, back from a retry that was refused, and why.
+/// The closure of a retry that was refused, and the cause.
 #[derive(Drop)]
 pub struct RetryRefused<G> {
     /// Why no sleep was made.
     pub cause: SleepError,
-    /// The closure that was handed in.
+    /// The caller's closure.
     pub make: G,
 }
 
 impl<G, F> Retry<G, F> {
-    /// A retry whose first attempt is made at its first poll, of at most so many attempts. The base is not 0, the cap not below
-    /// it, there is an attempt and there are fewer than 2^32. The closure may be called for each attempt from 1 to `most`, and
-    /// no attempt that it makes then is spent (`live`). It is called for no other number.
+    /// Returns a retry of at most `most` attempts, whose first poll makes the first attempt. The base is at least 1 and
+    /// at most the cap, in milliseconds, and `most` is from 1 to 2^32 - 1. The closure may be called for each attempt
+    /// from 1 to `most`, and makes no attempt that is spent (`live`). It is called for no other number.
     ///
-    /// Refused as the context refuses a further sleep for now (`made`, `memory`), and then the closure comes back (`handed_back`).
+    /// It is refused if the context refuses a further sleep whose deadline is now (`made`, `memory`), and then the
+    /// closure comes back (`handed_back`).
     pub fn new<C, X, E>(
         alloc: Global,
         cx: &mut C,
@@ -94,7 +95,7 @@ impl<G, F> Retry<G, F> {
     }
 }
 
-// The attempt that is under way is given up, if there is one.
+// Gives up the running attempt, if there is one.
 fn give_up<C: TimeContext, F: TaskFuture<C>>(stage: Stage<F>, cx: &mut C)
     ensures cancelled { AttemptCancels F.TaskFuture stage cx.old cx.new }
     ensures reached { C.reaches cx.old cx.new }

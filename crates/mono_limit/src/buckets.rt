@@ -1,11 +1,11 @@
-// A bucket of tokens, and what is taken from it.
+// A bucket of tokens, and taking tokens from it.
 ghost use Rattle.std.specs.Prelude.{◌≡◌, ◌<◌, ◌+◌, ◌-◌, ◌*◌};
 ghost use Rattle.mono_limit.specs.BucketTable.{IsStored, TakesOf, bucket_at, ended_at};
 
 use crate::{LimitError, Take};
 
-/// A bucket as it was once so many of its periods had ended. It holds at most its burst of tokens, and its periods count
-/// from the tick of its origin. A clock step does nothing to it.
+/// A bucket as it was once `ended` of its periods had ended. It holds at most its burst of tokens, and its periods
+/// count from the tick of its origin. A clock step does not change it.
 #[derive(Clone, Copy)]
 pub(crate) struct StoredBucket {
     pub(crate) burst: u32,
@@ -30,7 +30,8 @@ impl StoredBucket {
         self.ended = ended;
     }
 
-    /// The tick at which the bucket has n tokens, if nobody takes any: the end of the last of the periods that are wanted.
+    /// Returns the tick at which the bucket has n tokens, if no call takes any: the end of the last of the missing
+    /// periods.
     fn tick_of_enough(&self, n: u64) -> u128
         requires { self.now.tokens < n }
         ensures { result ≡ self.now.origin + (self.now.ended + (n - self.now.tokens)) * self.now.period }
@@ -39,7 +40,7 @@ impl StoredBucket {
         u128::from(self.origin) + wanted * u128::from(self.period)
     }
 
-    /// Takes n tokens at the greatest tick. Refused exactly where n is above the burst (`takes`).
+    /// Takes n tokens at the greatest tick. It is refused if and only if n is above the burst (`takes`).
     pub(crate) fn take(&mut self, greatest: u64, n: u64) -> Result<Take, LimitError>
         requires { IsStored greatest self.old }
         ensures stored { IsStored greatest self.new }

@@ -1,4 +1,4 @@
-//! Buckets that fill with tokens tick by tick, and retries that wait longer and longer.
+//! Buckets that fill with tokens tick by tick, and retries with exponential backoff.
 #![tactic(auto)]
 
 mod advances;
@@ -16,12 +16,12 @@ pub use limiter::Limiter;
 use mono_model::Error;
 pub use rows::{fills, gives_up};
 
-/// Why a call on the limiter was refused. It changed nothing then.
+/// Why a call on the limiter was refused. A refused call changed nothing.
 ///
-/// Where several causes hold, the one that stands first here counts, but that want of memory comes last.
+/// If several causes hold, the first in this order counts, except that `Memory` comes last.
 #[derive(Clone, Copy, Debug, PartialEq, Eq)]
 pub enum LimitError {
-    /// There was no memory.
+    /// An allocation failed.
     Memory,
     /// There is no place for a further bucket or retry.
     AtCapacity,
@@ -29,33 +29,33 @@ pub enum LimitError {
     Invalid,
     /// The burst or the period is 0, or 2^32 or more.
     BadBucket,
-    /// The bucket never has so many tokens.
+    /// The bucket never has this number of tokens.
     TooMany,
     /// The retry waits.
     Waiting,
     /// The base is 0, the cap is below it, or the number of attempts is 0, or 2^32 or more.
     BadRetry,
-    /// There is no bucket of this number.
+    /// No bucket has this number.
     NoBucket,
-    /// There is no retry of this number.
+    /// No retry has this number.
     NoRetry,
 }
 
-/// What a bucket gives.
+/// A bucket's answer to a take.
 #[derive(Clone, Copy, Debug, PartialEq, Eq)]
 pub enum Take {
-    /// The tokens.
+    /// The tokens were taken.
     Granted,
-    /// Too few tokens are there. They are at this tick, if nobody takes any until then.
+    /// The bucket has too few tokens. It has them at this tick, if no call takes any until then.
     Short(u128),
 }
 
-/// What follows on a failure.
+/// The result of a failure.
 #[derive(Clone, Copy, Debug, PartialEq, Eq)]
 pub enum Next {
     /// A further attempt, at this tick.
     Again(u64),
-    /// No further attempt. The retry is gone.
+    /// No further attempt. The retry was removed.
     GaveUp,
 }
 

@@ -16,10 +16,11 @@ use std::sync::ledger::Ledger;
 
 /// Token buckets and retries, by their numbers, on one clock.
 ///
-/// A tick is a millisecond. A bucket fills by one token at the end of each of its periods, up to its burst; it costs nothing
-/// while the clock goes on. A retry that failed waits for its next attempt until a clock step comes to its tick. Of several
-/// causes for a refusal the one that stands first in [`LimitError`] counts, but that want of memory comes last, and a
-/// refused call changes nothing. Only `new`, `bucket` and `retry` take memory. That of the retries follows those that live.
+/// A tick is a millisecond. A bucket gains one token at the end of each of its periods, up to its burst; a clock step
+/// does no work for it. A retry that failed waits for its next attempt until a clock step reaches its tick. If several
+/// causes for a refusal hold, the first in [`LimitError`] counts, except that out of memory comes last. A refused call
+/// changes nothing. Only `new`, `bucket` and `retry` take memory. The memory of the retries follows the number of live
+/// ones.
 #[derive(Drop)]
 pub struct Limiter {
     buckets: Vec<StoredBucket>,
@@ -28,7 +29,7 @@ pub struct Limiter {
     pub ghost are_stored: { AreStored (greatest_of retries) buckets.items },
 }
 
-// 0, or 2^32 or more
+// Returns whether a number is 0, or 2^32 or more.
 fn is_out_of_range(n: u64) -> bool
     ensures { result ≡ is_out_of_range n }
 {
@@ -42,8 +43,8 @@ impl Limiter {
     ghost use Rattle.mono_limit.specs.Limits.{limits_of, credit_of, ListsInto};
     ghost use Rattle.mono_limit.specs.declared.LimitError.TheVariants.{Memory};
 
-    /// A limiter without buckets and retries, for at most so many buckets, and so many retries that live at a time. The
-    /// greatest tick is 0.
+    /// Returns a limiter without buckets and retries, for at most `buckets` buckets, and `retries` retries that live at
+    /// a time. The greatest tick is 0.
     pub fn new(alloc: Global, buckets: u64, retries: u64) -> Result<Limiter, AllocError>
         ensures { IfOk result (λ limiter. limits_of limiter ≡ no_limits buckets retries) }
     {
@@ -55,11 +56,11 @@ impl Limiter {
         })
     }
 
-    /// A further bucket of at most `burst` tokens, which is full, and gains one at the end of each period of so many ticks
-    /// from the greatest tick on. Answers its number, the next one.
+    /// Adds a full bucket of at most `burst` tokens, which gains one at the end of each period of `period_ms` ticks
+    /// from the greatest tick on. Returns its number, which is the next.
     ///
-    /// Refused as at capacity exactly where the buckets are at the limit, and else as a bad bucket exactly where burst or
-    /// period is 0, or 2^32 or more.
+    /// It is refused as `AtCapacity` if and only if the buckets are at the limit. Otherwise it is refused as
+    /// `BadBucket` if and only if burst or period is 0, or 2^32 or more.
     pub fn bucket(&mut self, alloc: Global, burst: u64, period_ms: u64) -> Result<u64, LimitError>
         ensures { OrLacksMemory Memory (bucket_answer (limits_of self.old) burst period_ms) (limits_of self.old) (with_bucket (limits_of self.old) burst period_ms) (λ limits. limits_of self.new ≡ limits) result }
     {
@@ -85,11 +86,11 @@ impl Limiter {
         Ok(number)
     }
 
-    /// Takes n tokens from a bucket, where it has them. Else answers the least tick at which it has them, if nobody takes
-    /// any; it is below 2^128.
+    /// Takes n tokens from a bucket, if it has them. Otherwise it returns the least tick at which the bucket has them,
+    /// if no call takes any; that tick is below 2^128.
     ///
-    /// Refused as too many exactly where there is the bucket and n is above its burst, and as no bucket exactly where
-    /// there is none of the number.
+    /// It is refused as `TooMany` if and only if the bucket exists and n is above its burst. It is refused as
+    /// `NoBucket` if and only if no bucket has the number.
     pub fn take(&mut self, bucket: u64, n: u64) -> Result<Take, LimitError>
         ensures { TakeAnswers (limits_of self.old) bucket n result (limits_of self.new) }
     {
@@ -102,11 +103,13 @@ impl Limiter {
         stored.take(greatest, n)
     }
 
-    /// A further retry, which has not failed yet and does not wait. After its failure k it is to wait for the lesser of
-    /// `cap_ms` and `base_ms` times 2^(k-1) ticks, and at the failure `most` it gives up. Answers its number, the next one.
+    /// Adds a retry, which has not failed yet and does not wait. After its failure k it waits for the lesser of
+    /// `cap_ms` and `base_ms` times 2^(k-1) ticks, and at the failure `most` it gives up. Returns its number, which is
+    /// the next.
     ///
-    /// Refused as at capacity exactly where the live retries are at the limit or the next number is 2^64 - 1, and else as a
-    /// bad retry exactly where the base is 0, the cap is below it, or `most` is 0, or 2^32 or more.
+    /// It is refused as `AtCapacity` if and only if the live retries are at the limit or the next number is 2^64 - 1.
+    /// Otherwise it is refused as `BadRetry` if and only if the base is 0, the cap is below it, or `most` is 0, or 2^32
+    /// or more.
     pub fn retry(
         &mut self,
         alloc: Global,
@@ -135,11 +138,13 @@ impl Limiter {
         }
     }
 
-    /// An attempt of a retry has failed. It gives up, and is gone, exactly where this is its last failure (`answer`). Else
-    /// it waits for the greatest tick plus its delay, and the answer names that tick.
+    /// Records that an attempt of a retry has failed. The retry gives up, and is removed, if and only if this is its
+    /// last failure (`answer`). Otherwise it waits for the greatest tick plus its delay, and the answer names that
+    /// tick.
     ///
-    /// Refused as invalid exactly where the retry does not wait, this is not its last failure, and that tick is above
-    /// 2^63 - 1; as waiting exactly where it waits; and as no retry exactly where none of the number lives.
+    /// It is refused as `Invalid` if and only if the retry does not wait, this is not its last failure, and that tick
+    /// is above 2^63 - 1. It is refused as `Waiting` if and only if it waits, and as `NoRetry` if and only if no live
+    /// retry has the number.
     pub fn fail(&mut self, retry: u64) -> Result<Next, LimitError>
         ensures answer { result ≡ fail_answer (limits_of self.old) retry }
         ensures limits { limits_of self.new ≡ failed (limits_of self.old) retry }
@@ -157,7 +162,7 @@ impl Limiter {
         }
     }
 
-    /// A retry has come to its end, and is gone. Refused as no retry exactly where none of the number lives.
+    /// Ends and removes a retry. It is refused as `NoRetry` if and only if no live retry has the number.
     pub fn done(&mut self, retry: u64) -> Result<(), LimitError>
         ensures answer { result ≡ done_answer (limits_of self.old) retry }
         ensures limits { limits_of self.new ≡ done (limits_of self.old) retry }
@@ -171,16 +176,16 @@ impl Limiter {
         }
     }
 
-    /// How many retries live.
+    /// Returns how many retries live.
     pub fn live(&self) -> usize
         ensures { result ≡ count_of (limits_of self.now).retries }
     {
         self.retries.live()
     }
 
-    /// The clock shows a moment. The greatest tick becomes the greater of itself and the moment's, rounded down. Appends to
-    /// `due` the retries whose wait ends: exactly those that wait for a tick up to the greatest, each once, in ascending
-    /// ticks. Nothing is done for a bucket.
+    /// Shows the clock a moment. The greatest tick becomes the greater of itself and the moment's, rounded down. The
+    /// call appends to `due` exactly the retries that wait for a tick up to the greatest, each once, in ascending
+    /// ticks. Their wait ends. It does no work for a bucket.
     ///
     /// `due` has room for all live retries.
     pub fn clock<L: Ledger>(&mut self, now: Instant, due: &mut Vec<u64>, steps: &mut Steps<L>)

@@ -1,4 +1,4 @@
-// The retries that live, and when their waits end.
+// The live retries, and the ends of their waits.
 ghost use Rattle.std.specs.Prelude.{◌≡◌, ◌<◌, ◌≤◌, ◌+◌, ◌*◌, ◌-◌, ◌++◌, ◌^◌, ℕ, [], List, None, Some, IfOk, OnOk, OnErr, max, vec_len, vec_capacity};
 ghost use Rattle.mono_model.specs.Table.{value_at, next_number, with_next, with_value, without, count_of, is_full};
 ghost use Rattle.mono_model.specs.Ticks.{down};
@@ -15,8 +15,8 @@ use mono_wheel::Steps;
 use std::alloc::{AllocError, Global};
 use std::sync::ledger::Ledger;
 
-/// The retries by their numbers. A retry has the sleep of its number, which is armed while it waits. The memory follows the
-/// retries that live.
+/// The retries by their numbers. A retry has the sleep of its number, which is armed while it waits. The memory follows
+/// the number of live retries.
 #[derive(Drop)]
 pub(crate) struct Retries {
     pub(crate) rows: ReadyTable<Schedule>,
@@ -26,14 +26,14 @@ pub(crate) struct Retries {
     pub ghost holds: { Holds rows.table (sleeps_of timers) live },
 }
 
-/// The retry of a number, while it lives.
+/// Returns the retry of a number, while it lives.
 pub(crate) fn row_at(rows: &ReadyTable<Schedule>, retry: u64) -> Option<Schedule>
     ensures { result ≡ value_at rows.now.table retry }
 {
     rows.get(retry).copied()
 }
 
-/// The moment at which a tick begins.
+/// Returns the moment at which a tick begins.
 fn instant_of(tick: u64) -> Instant
     requires { tick < 2 ^ 63 }
     ensures { nanos_of result ≡ tick * 1000000 }
@@ -44,7 +44,7 @@ fn instant_of(tick: u64) -> Instant
     }
 }
 
-/// The wait of a retry has ended.
+/// Ends the wait of a retry.
 fn end_wait(rows: &mut ReadyTable<Schedule>, retry: u64)
     ensures { rows.new.table ≡ ended_row (value_at rows.old.table retry) rows.old.table retry }
 {
@@ -62,7 +62,7 @@ fn end_wait(rows: &mut ReadyTable<Schedule>, retry: u64)
 impl Retries {
     ghost use Rattle.mono_limit.specs.Retries.{greatest_of};
 
-    /// No retries, of which at most so many may live at a time.
+    /// Returns a table without retries, of which at most `most` may live at a time.
     pub(crate) fn new(alloc: Global, most: u64) -> Result<Retries, AllocError>
         ensures rows { IfOk result (λ retries. retries.rows.table ≡ []) }
         ensures greatest { IfOk result (λ retries. greatest_of retries ≡ 0) }
@@ -77,28 +77,28 @@ impl Retries {
         })
     }
 
-    /// The greatest tick of the clock so far.
+    /// Returns the greatest tick of the clock so far.
     pub(crate) fn greatest(&self) -> u64
         ensures { result ≡ greatest_of self.now }
     {
         self.timers.greatest()
     }
 
-    /// Whether no further retry is given out.
+    /// Returns whether no further retry is given out.
     pub(crate) fn is_full(&self) -> bool
         ensures { result ≡ is_full self.now.rows.table self.now.most }
     {
         self.live >= self.most || self.rows.len() == u64::MAX
     }
 
-    /// How many retries live.
+    /// Returns how many retries live.
     pub(crate) fn live(&self) -> usize
         ensures { result ≡ count_of self.now.rows.table }
     {
         self.live as usize
     }
 
-    /// A further retry, with the next number. Without memory nothing changes.
+    /// Adds a retry, and returns its number, which is the next. Nothing changes if it is out of memory.
     pub(crate) fn add(&mut self, alloc: Global, schedule: Schedule) -> Result<u64, AllocError>
         requires sound { IsSound schedule }
         requires fresh { schedule.waits_for ≡ None }
@@ -119,7 +119,7 @@ impl Retries {
         }
     }
 
-    /// A live retry has failed once more, and waits for a tick above the greatest.
+    /// Records one more failure of a live retry, which waits for a tick above the greatest.
     pub(crate) fn wait(&mut self, retry: u64, schedule: Schedule, tick: u64)
         requires lives { value_at self.old.rows.table retry ≡ Some schedule }
         requires goes_on { schedule.failures + 1 < schedule.most }
@@ -142,7 +142,7 @@ impl Retries {
         );
     }
 
-    /// A live retry is gone.
+    /// Removes a live retry.
     pub(crate) fn remove(&mut self, retry: u64, schedule: Schedule)
         requires lives { value_at self.old.rows.table retry ≡ Some schedule }
         ensures rows { self.new.rows.table ≡ without self.old.rows.table retry }
@@ -155,7 +155,7 @@ impl Retries {
         self.live -= 1;
     }
 
-    /// The clock shows a moment: appends the retries whose wait ends, in ascending ticks.
+    /// Shows the clock a moment, and appends the retries whose wait ends, in ascending ticks.
     pub(crate) fn clock<L: Ledger>(
         &mut self,
         now: Instant,

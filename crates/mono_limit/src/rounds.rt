@@ -14,7 +14,7 @@ use std::alloc::Global;
 use std::mem;
 
 impl<G, F: Drop> Retry<G, F> {
-    /// It answers for good.
+    /// Answers for good.
     fn end<C: TimeContext, X, E>(
         &mut self,
         cx: &mut C,
@@ -28,7 +28,7 @@ impl<G, F: Drop> Retry<G, F> {
         Some(Poll::Ready(answer))
     }
 
-    /// When the next attempt is due, if that is not past the last instant.
+    /// Returns when the next attempt is due, if that is not past the last instant.
     fn deadline<C: TimeContext>(&self, cx: &C) -> Option<Instant>
         requires has_base { 0 < self.now.base }
         requires in_range { self.now.tried < 2 ^ 32 }
@@ -38,7 +38,7 @@ impl<G, F: Drop> Retry<G, F> {
         Instant::from_nanos(Instant::now(cx).as_nanos() + 1000000 * u128::from(wait))
     }
 
-    /// The sleep is reset, and the retry rests.
+    /// Resets the sleep, and rests.
     fn go_to_rest<C: TimeContext, X, E>(
         &mut self,
         cx: &mut C,
@@ -56,7 +56,7 @@ impl<G, F: Drop> Retry<G, F> {
         }
     }
 
-    /// An attempt has failed.
+    /// Handles the failure of an attempt.
     fn fail<C: TimeContext, X, E: Drop>(
         &mut self,
         cx: &mut C,
@@ -76,7 +76,7 @@ impl<G, F: Drop> Retry<G, F> {
         }
     }
 
-    /// The attempt is polled. One that answered is given up at once.
+    /// Polls the attempt. An attempt that answered is given up at once.
     fn go_on<R: Host, C, X, E>(
         &mut self,
         rt: &R,
@@ -112,7 +112,7 @@ impl<G, F: Drop> Retry<G, F> {
         }
     }
 
-    /// The sleep is polled.
+    /// Polls the sleep.
     fn rest<R: Host, C: TimeContext, X, E>(
         &mut self,
         rt: &R,
@@ -135,7 +135,7 @@ impl<G, F: Drop> Retry<G, F> {
         }
     }
 
-    /// The next attempt is made.
+    /// Makes the next attempt.
     fn begin(&mut self)
     where
         G: FnMut(u64) -> F,
@@ -150,7 +150,7 @@ impl<G, F: Drop> Retry<G, F> {
         self.stage = Stage::Trying(attempt);
     }
 
-    /// One step of a poll: the poll's answer, or none where the poll goes on.
+    /// Makes one step of a poll. Returns the poll's answer, or `None` if the poll continues.
     pub(crate) fn step<R: Host, C, X, E>(
         &mut self,
         rt: &R,

@@ -1,4 +1,4 @@
-// How often a retry failed, and when its next attempt is.
+// The schedule of a retry: its failures, and the tick of its next attempt.
 ghost use Rattle.std.specs.Prelude.{◌≡◌, ◌<◌, ◌≤◌};
 ghost use Rattle.mono_limit.specs.Delays.{delay};
 ghost use Rattle.mono_limit.specs.Schedules.{IsSound};
@@ -9,7 +9,8 @@ use crate::{LimitError, Next};
 /// No retry waits for a later tick.
 const LAST_TICK: u128 = (1 << 63) - 1;
 
-/// How often a retry failed, how often it may, and the tick for which it waits. Its delays are from the base to the cap.
+/// How often a retry failed, how often it may, and the tick for which it waits. Its delays are between the base and the
+/// cap.
 #[derive(Clone, Copy)]
 pub(crate) struct Schedule {
     pub(crate) base: u64,
@@ -19,7 +20,8 @@ pub(crate) struct Schedule {
     pub(crate) waits_for: Option<u64>,
 }
 
-/// How many ticks it is from the failure k, counted from 1, to the next attempt: twice as many each time, up to the cap.
+/// Returns the number of ticks from failure k, counted from 1, to the next attempt: it doubles each time, up to the
+/// cap.
 pub(crate) fn delay(base: u64, cap: u64, k: u32) -> u64
     requires { 0 < base }
     ensures { result ≡ delay base cap k }
@@ -33,7 +35,7 @@ pub(crate) fn delay(base: u64, cap: u64, k: u32) -> u64
 }
 
 impl Schedule {
-    /// What follows on a failure at the greatest tick.
+    /// Returns the result of a failure at the greatest tick.
     pub(crate) fn next(&self, greatest: u64) -> Result<Next, LimitError>
         requires { IsSound self.now }
         ensures { result ≡ next_of self.now greatest }
