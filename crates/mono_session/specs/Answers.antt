@@ -1,16 +1,16 @@
--- What the calls on the sessions answer.
+-- The answers of the calls on the sessions.
 use Rattle.std.specs.Prelude.{ℕ, ⊤, Bool, true, false, List, Option, Some, None, Result, Ok, Err}
 use Rattle.mono_session.specs.declared.error.SessionError.{SessionError}
 
 pub data Answer : Type 0 where
   Session : (s : ℕ) → Answer
   Done : Answer
-  -- it is the first in the queue, or waits behind others
+  -- It is the first in the queue, or waits after others.
   Held : Answer
   Waits : Answer
   Owner : (s : ℕ) → Answer
   Free : Answer
-  -- the clock closed these sessions
+  -- The clock closed these sessions.
   Closed : (closed : List ℕ) → Answer
   Refused : (error : SessionError) → Answer
 

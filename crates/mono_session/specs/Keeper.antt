@@ -1,25 +1,25 @@
--- Sessions that are kept open by beats, and the queues of keys in which they stand.
+-- Leases that heartbeats renew, and the queues of keys in which their sessions wait.
 use Rattle.std.specs.Prelude.{ℕ, ⊤, ◌+◌, ◌-◌, ◌^◌, Bool, false, not, ◌==◌, ◌&&◌, ◌||◌, if◌then◌else◌, List, [], ◌∷◌, ◌++◌, length, filter, Option, Some, None, Result, Ok, Err, is_some, nat_lt, nat_le}
 use Rattle.mono_model.specs.Table.{Table, value_at, next_number, with_next, with_value, without, is_full}
 use Rattle.mono_session.specs.declared.error.SessionError.{SessionError}
 use Rattle.mono_session.specs.declared.error.SessionError.TheVariants.{AtCapacity, Invalid, NoSession, ZeroLimit, Doubled, NotIn}
 
--- A session has the tick of its last beat, and for how many ticks it then stays open.
+-- A session has the tick of its last heartbeat, and the number of ticks for which it then stays open.
 pub record Session : Type 0 where
   pub last_beat : ℕ
   pub limit : ℕ
 
--- the tick at which the clock closes it, where no further beat comes
+-- The tick at which the clock closes it, unless a further heartbeat comes.
 abbrev pub closing_tick : Session → ℕ
 closing_tick session = session.last_beat + session.limit
 
--- A session stands in the queue of a key.
+-- A session in the queue of a key.
 pub record Entry : Type 0 where
   pub session : ℕ
   pub key : ℕ
 
 -- The open sessions, the entries of all queues in the order in which they were made, the greatest tick of the clock so
--- far, and how many sessions and entries there may be.
+-- far, and the greatest numbers of sessions and entries.
 pub record Keeper : Type 0 where
   pub sessions : Table Session
   pub entries : List Entry
@@ -30,7 +30,7 @@ pub record Keeper : Type 0 where
 abbrev pub no_sessions : ℕ → ℕ → Keeper
 no_sessions most_sessions most_entries = record { sessions = []; entries = []; greatest = 0; most_sessions = most_sessions; most_entries = most_entries }
 
--- the queue of a key: the sessions that stand in it, the one that has stood there longest first
+-- The queue of a key: its sessions, the session that has been there for the longest time first.
 abbrev pub queue_in : List Entry → ℕ → List ℕ
 queue_in [] key = []
 queue_in (entry ∷ entries) key = if entry.key == key then entry.session ∷ queue_in entries key else queue_in entries key
@@ -38,7 +38,7 @@ queue_in (entry ∷ entries) key = if entry.key == key then entry.session ∷ qu
 abbrev pub queue_of : Keeper → ℕ → List ℕ
 queue_of keeper key = queue_in keeper.entries key
 
--- whether the session stands in the queue of the key
+-- Whether the entry is that of the session in the queue of the key.
 abbrev pub is_entry : ℕ → ℕ → Entry → Bool
 is_entry s key entry = (entry.session == s) && (entry.key == key)
 
@@ -49,7 +49,7 @@ stands_in (entry ∷ entries) s key = is_entry s key entry || stands_in entries 
 abbrev pub is_open : Keeper → ℕ → Bool
 is_open keeper s = is_some (value_at keeper.sessions s)
 
--- no tick is above it
+-- The greatest tick.
 abbrev pub last_tick : ℕ
 last_tick = 2 ^ 63 - 1
 
@@ -67,12 +67,12 @@ abbrev pub if_granted : {A : Type 0} → Result A SessionError → Keeper → Ke
 if_granted (Ok x) before after = after
 if_granted (Err error) before after = before
 
--- what is answered of an open session
+-- The answer for an open session, and a refusal for any other.
 abbrev pub of_open : {A : Type 0} → Option Session → (Session → Result A SessionError) → Result A SessionError
 of_open None answer = Err NoSession
 of_open (Some session) answer = answer session
 
--- A session is opened, and its last beat is now.
+-- A call opens a session, and its last heartbeat is now.
 abbrev pub open_answer : Keeper → ℕ → Result ℕ SessionError
 open_answer keeper limit =
     if is_full keeper.sessions keeper.most_sessions then Err AtCapacity
@@ -84,7 +84,7 @@ abbrev pub opened : Keeper → ℕ → Keeper
 opened keeper limit =
     if_granted (open_answer keeper limit) keeper (with_sessions keeper (with_next keeper.sessions (record { last_beat = keeper.greatest; limit = limit })))
 
--- A beat: the last beat is now.
+-- A heartbeat: the last heartbeat is now.
 abbrev pub beat_answer : Keeper → ℕ → Result ⊤ SessionError
 beat_answer keeper s =
     of_open (value_at keeper.sessions s) (λ session. if nat_lt last_tick (keeper.greatest + session.limit) then Err Invalid else Ok tt)
@@ -106,7 +106,7 @@ without_session keeper s = with_entries (with_sessions keeper (without keeper.se
 abbrev pub closed : Keeper → ℕ → Keeper
 closed keeper s = if_granted (close_answer keeper s) keeper (without_session keeper s)
 
--- A session comes into the queue of a key, last. The answer says whether it is the first there.
+-- A session is appended to the queue of a key. The answer says whether it is the first there.
 abbrev pub acquire_answer : Keeper → ℕ → ℕ → Result Bool SessionError
 acquire_answer keeper s key =
     if nat_le keeper.most_entries (length keeper.entries) then Err AtCapacity
@@ -122,7 +122,7 @@ release_answer keeper s key = of_open (value_at keeper.sessions s) (λ session. 
 abbrev pub released : Keeper → ℕ → ℕ → Keeper
 released keeper s key = if_granted (release_answer keeper s key) keeper (with_entries keeper (filter (λ entry. not (is_entry s key entry)) keeper.entries))
 
--- the first in the queue of a key
+-- The first in the queue of a key.
 abbrev pub first_of : List ℕ → Option ℕ
 first_of [] = None
 first_of (s ∷ queue) = Some s

@@ -1,4 +1,4 @@
--- From old, the sessions may answer the call so and go on to new.
+-- The steps of the sessions: from old they may answer the call like this and become new.
 use Rattle.std.specs.Prelude.{◌≡◌, ◌<◌, ◌≤◌, ℕ, max, List, [], ◌∷◌, Option, Some, None}
 use Rattle.mono_model.specs.Ticks.{max_nanos, down}
 use Rattle.mono_model.specs.Due.{ListsDue}
@@ -9,12 +9,12 @@ use Rattle.mono_session.specs.Answers.{Answer, of_number, of_done, of_first, of_
 use Rattle.mono_session.specs.Answers as answer
 use Rattle.mono_session.specs.declared.error.SessionError.TheVariants as error
 
--- the tick at which the clock closes a session that is open
+-- The tick at which the clock closes an open session.
 abbrev pub closing_value : Option Session → Option ℕ
 closing_value None = None
 closing_value (Some session) = Some (closing_tick session)
 
--- the greatest tick once the clock shows n
+-- The greatest tick once the clock shows n.
 abbrev pub greatest_at : Keeper → ℕ → ℕ
 greatest_at keeper n = max keeper.greatest (down n)
 
@@ -43,7 +43,7 @@ Step old (call.Release s key) a new = (a ≡ of_done (release_answer old s key))
 Step old (call.Owner key) a new = (a ≡ of_owner (owner_answer old key)) × (new ≡ old)
 Step old (call.Clock n) a new = ClockStep old n a new
 
--- one step after another, with one answer for each call
+-- One step after another, with one answer for each call.
 abbrev pub Run : Keeper → List Call → List Answer → Keeper → Type 0
 Run old [] [] new = new ≡ old
 Run old (c ∷ calls) (a ∷ answers) new = (mid : Keeper) × Step old c a mid × Run mid calls answers new

@@ -25,10 +25,11 @@ fn close_each<L: Ledger>(sessions: &mut Sessions, now: Instant, closed: &mut Vec
 }
 
 impl Sessions {
-    /// Shows the clock an instant, as [`Sessions::clock`] does, and appends the sessions that it closes to `closed` (`step`).
+    /// Shows the clock an instant, as [`Sessions::clock`] does, and appends the sessions that it closes to `closed`
+    /// (`step`).
     ///
-    /// Reserves room for all open sessions first. If the allocation failed, nothing has changed (`refused`). The steps of the
-    /// wheel are not counted; they are no more than its steps that are left fall by (`left`).
+    /// It reserves room for all open sessions first. If that allocation fails, nothing has changed (`refused`). The
+    /// steps of the wheel are not counted; they are at most the fall of its remaining steps (`left`).
     pub fn advance(
         &mut self,
         _alloc: Global,

@@ -6,17 +6,17 @@ ghost use Rattle.mono_session.specs.Entries.{Entered, HasPlace};
 use crate::queues::Queues;
 use std::alloc::{AllocError, Global};
 
-/// Which sessions stand in the queue of each key, and for each session in which queues it stands.
+/// The sessions in the queue of each key, and the keys in whose queues each session is.
 #[derive(Drop)]
 pub struct Entries {
-    // by key, the sessions
+    // The sessions, by key.
     queues: Queues,
-    // by session, the keys
+    // The keys, by session.
     keys: Queues,
 }
 
 impl Entries {
-    /// No entries.
+    /// Returns a table without entries.
     pub fn new(alloc: Global) -> Entries
         ensures { Entered result [] }
     {
@@ -26,7 +26,7 @@ impl Entries {
         }
     }
 
-    /// Makes room for one more entry. Refused only for want of memory; all entries stay in either case.
+    /// Reserves room for one more entry. It is refused only if it is out of memory; all entries stay in either case.
     pub fn reserve(&mut self) -> Result<(), AllocError>
         ensures room { OnOk result (HasPlace self.new) }
         ensures kept { (entries : List Entry) → Entered self.old entries → Entered self.new entries }
@@ -35,28 +35,28 @@ impl Entries {
         self.keys.reserve()
     }
 
-    /// How many entries there are.
+    /// Returns how many entries there are.
     pub fn len(&self) -> usize
         ensures { (entries : List Entry) → Entered self.now entries → result ≡ length entries }
     {
         self.queues.len()
     }
 
-    /// Whether the session stands in the queue of the key.
+    /// Returns whether the session is in the queue of the key.
     pub fn contains(&self, session: u64, key: u64) -> bool
         ensures { (entries : List Entry) → Entered self.now entries → result ≡ stands_in entries session key }
     {
         self.queues.contains(key, session)
     }
 
-    /// The first session in the queue of the key.
+    /// Returns the first session in the queue of the key.
     pub fn owner(&self, key: u64) -> Option<u64>
         ensures { (entries : List Entry) → Entered self.now entries → result ≡ first_of (queue_in entries key) }
     {
         self.queues.first(key)
     }
 
-    /// A session that does not stand in the queue of the key comes into it, last. It takes no memory: there is room.
+    /// Appends a session that is not in the queue of the key to it. It takes no memory: there is room.
     pub fn enter(&mut self, session: u64, key: u64)
         requires { HasPlace self.old }
         ensures { (entries : List Entry) → Entered self.old entries → stands_in entries session key ≡ false → Entered self.new (entries ++ record { session = session; key = key } ∷ []) }
@@ -65,7 +65,7 @@ impl Entries {
         self.keys.push_back(session, key);
     }
 
-    /// A session that stands in the queue of the key leaves it.
+    /// Removes a session from the queue of a key in which it is.
     pub fn leave(&mut self, session: u64, key: u64)
         ensures { (entries : List Entry) → Entered self.old entries → stands_in entries session key ≡ true → Entered self.new (filter (λ entry. not (is_entry session key entry)) entries) }
     {
@@ -73,7 +73,7 @@ impl Entries {
         self.keys.remove(session, key);
     }
 
-    /// A session leaves all queues in which it stands.
+    /// Removes a session from all queues in which it is.
     pub fn leave_all(&mut self, session: u64)
         ensures { (entries : List Entry) → Entered self.old entries → Entered self.new (filter (λ entry. not (entry.session == session)) entries) }
     {

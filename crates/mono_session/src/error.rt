@@ -4,12 +4,12 @@ ghost use Rattle.std.specs.Prelude.{◌≡◌};
 use std::alloc::AllocError;
 use thiserror::Error;
 
-/// Why a call on the sessions was refused. It changed nothing then.
+/// Why a call on the sessions was refused. A refused call changed nothing.
 ///
-/// Where several causes hold, the one that stands first here counts, but that want of memory comes last.
+/// If several causes hold, the first in this order counts, except that `Memory` comes last.
 #[derive(Clone, Copy, Debug, PartialEq, Eq, Error)]
 pub enum SessionError {
-    /// There was no memory.
+    /// An allocation failed.
     #[error("out of memory")]
     Memory,
     /// There is no place for a further session, or for a further entry in a queue.
@@ -21,13 +21,13 @@ pub enum SessionError {
     /// No open session has the number.
     #[error("there is no open session of this number")]
     NoSession,
-    /// A session was to be opened for no time.
+    /// The limit of a new session is zero.
     #[error("a session cannot be open for no time")]
     ZeroLimit,
-    /// The session stands in the key's queue already.
+    /// The session is in the key's queue already.
     #[error("the session stands in the queue already")]
     Doubled,
-    /// The session does not stand in the key's queue.
+    /// The session is not in the key's queue.
     #[error("the session does not stand in the queue")]
     NotIn,
 }

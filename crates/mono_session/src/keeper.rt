@@ -21,24 +21,24 @@ use mono_wheel::Steps;
 use std::alloc::{AllocError, Global};
 use std::sync::ledger::Ledger;
 
-/// Sessions that are kept open by beats, and the queues of keys in which they stand.
+/// Leases that heartbeats renew, and the queues of keys in which the sessions wait for locks.
 ///
-/// A session stays open for its limit, in milliseconds, after its last beat; then the clock closes it, and it leaves all
-/// queues. The first in the queue of a key owns the key.
+/// A session stays open for its limit, in milliseconds, after its last heartbeat. Then the clock closes it, and it
+/// leaves all queues. The first session in the queue of a key is the holder of the key's lock.
 ///
-/// A session's number is that of its sleep, so it is never given twice. A beat is noted at the sleep and moves nothing. No
-/// call does work that grows with the sessions, the keys or the entries that it does not touch. A session is looked up in a
-/// table by its number, and the queues of keys in maps.
+/// A session's number is that of its sleep, so it is never given twice. A heartbeat is recorded at the sleep and moves
+/// nothing. No call does work that grows with the sessions, the keys or the entries that it does not touch. A table by
+/// number finds a session, and maps find the queues of keys.
 #[derive(Drop)]
 pub struct Sessions {
     timers: Timers,
-    // for how many ticks each open session stays open after a beat
+    // The number of ticks for which each open session stays open after a heartbeat.
     limits: ReadyTable<u64>,
     entries: Entries,
     most_entries: u64,
 }
 
-// One more number, for which there is room.
+// Appends a number, for which there is room.
 fn put(numbers: &mut Vec<u64>, number: u64)
     requires { vec_len numbers.old + 1 ≤ vec_capacity numbers.old }
     ensures items { numbers.new.items ≡ numbers.old.items ++ number ∷ [] }
@@ -51,7 +51,8 @@ fn put(numbers: &mut Vec<u64>, number: u64)
 }
 
 impl Sessions {
-    /// No sessions, of which at most `sessions` may be open, with at most `entries` entries in all queues.
+    /// Returns a table without sessions, of which at most `sessions` may be open, with at most `entries` entries in all
+    /// queues.
     pub fn new(alloc: Global, sessions: u64, entries: u64) -> Result<Sessions, AllocError>
         ensures stands { IfOk result (λ made. StandsFor made (no_sessions sessions entries)) }
         ensures left { IfOk result (λ made. steps_left made ≡ 0) }
@@ -65,12 +66,12 @@ impl Sessions {
         })
     }
 
-    /// Opens a session with the next number. It stays open for `limit_ms` milliseconds, from 1 on, after its last beat,
-    /// which is now: the greatest tick of the clock so far.
+    /// Opens a session with the next number. It stays open for `limit_ms` milliseconds, from 1 on, after its last
+    /// heartbeat, which is now: the greatest tick of the clock so far.
     ///
-    /// Refused at capacity exactly where the open sessions are at the limit or the next number is 2^64 - 1, then as invalid
-    /// exactly where it would be closed at a tick above 2^63 - 1, then for a limit of zero. Want of memory comes last. No
-    /// refusal changes anything.
+    /// It is refused as `AtCapacity` if and only if the open sessions are at the limit or the next number is 2^64 - 1.
+    /// Then it is refused as `Invalid` if and only if the closing tick would be above 2^63 - 1, then for a limit of
+    /// zero. Out of memory comes last. A refusal changes nothing.
     pub fn open(&mut self, alloc: Global, limit_ms: u64) -> Result<u64, SessionError>
         ensures step { (k : Keeper) → StandsFor self.old k → OrLacksMemory error.Memory (open_answer k limit_ms) k (opened k limit_ms) (StandsFor self.new) result }
         ensures raise { (k : Keeper) → StandsFor self.old k → steps_left self.new ≤ steps_left self.old + most_takes limit_ms }
@@ -94,10 +95,11 @@ impl Sessions {
         }
     }
 
-    /// The last beat of a session is now, the greatest tick of the clock so far.
+    /// Renews a session: its last heartbeat is now, the greatest tick of the clock so far.
     ///
-    /// Refused as invalid exactly where it is open and would be closed at a tick above 2^63 - 1, and exactly where it is not
-    /// open. A refused beat changes nothing, so the wheel may take no step more for it (`refused`).
+    /// It is refused as `Invalid` if and only if the session is open and its closing tick would be above 2^63 - 1. It
+    /// is refused as `NoSession` if and only if the session is not open. A refused heartbeat changes nothing, so the
+    /// wheel takes no further step for it (`refused`).
     pub fn beat(&mut self, session: u64) -> Result<(), SessionError>
         ensures step { (k : Keeper) → StandsFor self.old k → (result ≡ beat_answer k session) × StandsFor self.new (beaten k session) }
         ensures raise { (k : Keeper) (kept : Session) → StandsFor self.old k → value_at k.sessions session ≡ Some kept → steps_left self.new ≤ steps_left self.old + most_takes kept.limit }
@@ -113,7 +115,7 @@ impl Sessions {
         Ok(())
     }
 
-    /// Closes a session: it leaves all queues. Refused exactly where it is not open.
+    /// Closes a session, which leaves all queues. It is refused if and only if the session is not open.
     pub fn close(&mut self, session: u64) -> Result<(), SessionError>
         ensures step { (k : Keeper) → StandsFor self.old k → (result ≡ close_answer k session) × StandsFor self.new (closed k session) }
         ensures raise { steps_left self.new ≤ steps_left self.old }
@@ -125,7 +127,7 @@ impl Sessions {
         Ok(())
     }
 
-    // The session is not open any more. The answer says whether it was.
+    // Removes a session from the table and from all queues. Returns whether it was open.
     fn forget(&mut self, session: u64) -> bool
         ensures was { (k : Keeper) → Beside self.old k → result ≡ is_open k session }
         ensures sleeps { sleeps_of self.new.timers ≡ with_removed_sleep (sleeps_of self.old.timers) session }
@@ -143,10 +145,11 @@ impl Sessions {
         was_open
     }
 
-    /// A session comes into the queue of a key, last. The answer says whether it is the first there.
+    /// Appends a session to the queue of a key. Returns whether it is the first there.
     ///
-    /// Refused at capacity exactly where the entries of all queues are at the limit, then exactly where it is not open, then
-    /// as doubled exactly where it stands there already. Want of memory comes last. No refusal changes anything.
+    /// It is refused as `AtCapacity` if and only if the entries of all queues are at the limit. Then it is refused if
+    /// and only if the session is not open, then as `Doubled` if and only if it is in the queue already. Out of memory
+    /// comes last. A refusal changes nothing.
     pub fn acquire(&mut self, _alloc: Global, session: u64, key: u64) -> Result<bool, SessionError>
         ensures step { (k : Keeper) → StandsFor self.old k → OrLacksMemory error.Memory (acquire_answer k session key) k (acquired k session key) (StandsFor self.new) result }
         ensures raise { steps_left self.new ≡ steps_left self.old }
@@ -166,7 +169,8 @@ impl Sessions {
         Ok(is_first)
     }
 
-    /// A session leaves the queue of a key. Refused exactly where it is not open, then exactly where it does not stand there.
+    /// Removes a session from the queue of a key. It is refused if and only if the session is not open, then if and
+    /// only if it is not in the queue.
     pub fn release(&mut self, session: u64, key: u64) -> Result<(), SessionError>
         ensures step { (k : Keeper) → StandsFor self.old k → (result ≡ release_answer k session key) × StandsFor self.new (released k session key) }
         ensures raise { steps_left self.new ≡ steps_left self.old }
@@ -181,14 +185,15 @@ impl Sessions {
         Ok(())
     }
 
-    /// Who owns a key: the session that has stood longest in its queue. None exactly where the queue is empty.
+    /// Returns the holder of a key: the session that has been in its queue for the longest time. Returns `None` if and
+    /// only if the queue is empty.
     pub fn owner(&self, key: u64) -> Option<u64>
         ensures { (k : Keeper) → StandsFor self.now k → result ≡ owner_answer k key }
     {
         self.entries.owner(key)
     }
 
-    /// How many sessions are open.
+    /// Returns how many sessions are open.
     pub fn open_len(&self) -> usize
         ensures open { (k : Keeper) → StandsFor self.now k → result ≡ count_of k.sessions }
         ensures count { result ≡ open_count self.now }
@@ -196,14 +201,15 @@ impl Sessions {
         self.limits.count() as usize
     }
 
-    /// The clock shows an instant: the greatest tick becomes the greater of itself and the instant's, rounded down. The open
-    /// sessions whose last beat plus limit is not above it are closed, and leave all queues, whose order stays.
+    /// Shows the clock an instant: the greatest tick becomes the greater of itself and the instant's, rounded down. The
+    /// open sessions whose last heartbeat plus limit is at most that tick are closed, and leave all queues, whose order
+    /// stays.
     ///
-    /// Their numbers are appended to `closed`, which has room for all that are open, in the order of the ticks at which they
-    /// are closed; in any order within one tick (`step`).
+    /// Their numbers are appended to `closed`, which has room for all open sessions. They come in ascending closing
+    /// ticks, and in any order within one tick (`step`).
     ///
-    /// The steps of the wheel are no more than its steps that are left fall by (`steps`). They are none at first, and only a
-    /// session that is opened or beaten may raise them, by as many as its limit tells (`raise`).
+    /// The steps of the wheel are at most the fall of its remaining steps (`steps`). These are zero at first. Only
+    /// opening or renewing a session may raise them, by at most a number that its limit determines (`raise`).
     pub fn clock<L: Ledger>(&mut self, now: Instant, closed: &mut Vec<u64>, steps: &mut Steps<L>)
         requires { vec_len closed.old + open_count self.old ≤ vec_capacity closed.old }
         ensures step { (k : Keeper) → StandsFor self.old k → (due : List ℕ) × (closed.new.items ≡ closed.old.items ++ due) × ListsDue closing_value k.sessions (greatest_at k (nanos_of now)) due × StandsFor self.new (without_all (with_greatest k (greatest_at k (nanos_of now))) due) }
@@ -214,7 +220,7 @@ impl Sessions {
         }
     }
 
-    // A session whose time has come is closed and listed, if it was open.
+    // Closes and lists a session whose time has come, if it was open.
     fn close_due(&mut self, session: u64, closed: &mut Vec<u64>)
         requires { vec_len closed.old + open_count self.old ≤ vec_capacity closed.old }
         ensures room { vec_len closed.new + open_count self.new ≤ vec_capacity closed.new }

@@ -1,4 +1,4 @@
-//! Sessions that are kept open by beats, and the queues of keys in which they stand.
+//! Leases that heartbeats renew, and the queues of keys in which their sessions wait for locks.
 #![tactic(auto)]
 
 mod advances;

@@ -12,17 +12,17 @@ pub struct Ends {
     pub last: u64,
 }
 
-/// Between whom a member stands.
+/// The neighbours of a member.
 #[derive(Clone, Copy, Drop)]
 pub struct Place {
     pub before: Option<u64>,
     pub after: Option<u64>,
 }
 
-/// By the queue and the member, between whom the member stands.
+/// The neighbours of each member, by queue and member.
 pub type Places = HashMap<(u64, u64), Place>;
 
-// Another member comes behind this one, if it stands in the queue.
+// Sets the member that follows this one, if this is in the queue.
 fn set_after(places: &mut Places, queue: u64, member: u64, after: Option<u64>)
     ensures places { (q m : ℕ) → get pair_eq places.new (q, m) ≡ cond (nat_eq queue q && nat_eq member m) (with_after after (get pair_eq places.old (q, m))) (get pair_eq places.old (q, m)) }
     ensures len { hash_map_len places.new ≡ hash_map_len places.old }
@@ -32,7 +32,7 @@ fn set_after(places: &mut Places, queue: u64, member: u64, after: Option<u64>)
     }
 }
 
-// Another member comes before this one, if it stands in the queue.
+// Sets the member that precedes this one, if this is in the queue.
 fn set_before(places: &mut Places, queue: u64, member: u64, before: Option<u64>)
     ensures places { (q m : ℕ) → get pair_eq places.new (q, m) ≡ cond (nat_eq queue q && nat_eq member m) (with_before before (get pair_eq places.old (q, m))) (get pair_eq places.old (q, m)) }
     ensures len { hash_map_len places.new ≡ hash_map_len places.old }
@@ -42,7 +42,7 @@ fn set_before(places: &mut Places, queue: u64, member: u64, before: Option<u64>)
     }
 }
 
-/// Another member comes behind this one, if there is one and it stands in the queue.
+/// Sets the member that follows this one, if there is one and it is in the queue.
 pub fn link_after(places: &mut Places, queue: u64, member: Option<u64>, after: Option<u64>)
     ensures places { (q m : ℕ) → get pair_eq places.new (q, m) ≡ cond (nat_eq queue q) (linked_after member m after (get pair_eq places.old (q, m))) (get pair_eq places.old (q, m)) }
     ensures len { hash_map_len places.new ≡ hash_map_len places.old }
@@ -52,7 +52,7 @@ pub fn link_after(places: &mut Places, queue: u64, member: Option<u64>, after: O
     }
 }
 
-/// Another member comes before this one, if there is one and it stands in the queue.
+/// Sets the member that precedes this one, if there is one and it is in the queue.
 pub fn link_before(places: &mut Places, queue: u64, member: Option<u64>, before: Option<u64>)
     ensures places { (q m : ℕ) → get pair_eq places.new (q, m) ≡ cond (nat_eq queue q) (linked_before member m before (get pair_eq places.old (q, m))) (get pair_eq places.old (q, m)) }
     ensures len { hash_map_len places.new ≡ hash_map_len places.old }
@@ -62,7 +62,7 @@ pub fn link_before(places: &mut Places, queue: u64, member: Option<u64>, before:
     }
 }
 
-/// A member comes to the end of a queue. The answer is the one that was the last.
+/// Makes a member the last of a queue, and returns the last member before.
 pub fn put_last(ends: &mut HashMap<u64, Ends>, queue: u64, member: u64) -> Option<u64>
     requires { 0 < spare ends.old }
     ensures last { result ≡ last_end (get nat_eq ends.old queue) }
@@ -83,7 +83,7 @@ pub fn put_last(ends: &mut HashMap<u64, Ends>, queue: u64, member: u64) -> Optio
     old.map(|ends| ends.last)
 }
 
-/// A member has left a queue in which it stood between these two.
+/// Updates the ends of a queue after a member between these two has left it.
 pub fn close_ends(
     ends: &mut HashMap<u64, Ends>,
     queue: u64,

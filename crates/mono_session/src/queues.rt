@@ -8,10 +8,10 @@ use crate::places::{Ends, Place, Places, close_ends, link_after, link_before, pu
 use std::alloc::{AllocError, Global};
 use std::collections::HashMap;
 
-/// For each number a queue of numbers without doubles, all of which are empty at first.
+/// For each number a queue of numbers without doubles, all of them empty at first.
 ///
-/// A queue is a chain through its members: each knows between whom it stands. So it takes a few look-ups to come, to leave
-/// or to see who is first, however many queues and members there are. What is kept is for the members alone.
+/// A queue is a chain through its members: each knows its neighbours. So a member enters or leaves, and a caller sees
+/// the first, with a few look-ups, for any number of queues and members. The memory holds the members alone.
 #[derive(Drop)]
 pub struct Queues {
     ends: HashMap<u64, Ends>,
@@ -19,7 +19,7 @@ pub struct Queues {
 }
 
 impl Queues {
-    /// Empty queues.
+    /// Returns empty queues.
     pub fn new(alloc: Global) -> Queues
         ensures kept { Keeps result no_lists }
         ensures count { member_count result ≡ 0 }
@@ -30,7 +30,7 @@ impl Queues {
         }
     }
 
-    /// Makes room for one more member. Refused only for want of memory; all queues stay in either case.
+    /// Reserves room for one more member. It is refused only if it is out of memory; all queues stay in either case.
     pub fn reserve(&mut self) -> Result<(), AllocError>
         ensures room { OnOk result (HasRoom self.new) }
         ensures kept { (lists : ℕ → List ℕ) → Keeps self.old lists → Keeps self.new lists }
@@ -40,14 +40,14 @@ impl Queues {
         self.places.reserve(1)
     }
 
-    /// Whether the member stands in the queue.
+    /// Returns whether the member is in the queue.
     pub fn contains(&self, queue: u64, member: u64) -> bool
         ensures { (lists : ℕ → List ℕ) → Keeps self.now lists → result ≡ is_in (lists queue) member }
     {
         self.places.contains_key(&(queue, member))
     }
 
-    /// The first in the queue, or None where it is empty.
+    /// Returns the first in the queue, or `None` if it is empty.
     pub fn first(&self, queue: u64) -> Option<u64>
         ensures { (lists : ℕ → List ℕ) → Keeps self.now lists → result ≡ first_of (lists queue) }
     {
@@ -57,7 +57,7 @@ impl Queues {
         }
     }
 
-    /// A member that does not stand in the queue comes to its end. It takes no memory: there is room.
+    /// Appends a member that is not in the queue. It takes no memory: there is room.
     pub fn push_back(&mut self, queue: u64, member: u64)
         requires { HasRoom self.old }
         ensures kept { (lists : ℕ → List ℕ) → Keeps self.old lists → is_in (lists queue) member ≡ false → Keeps self.new (with_last lists queue member) }
@@ -72,7 +72,7 @@ impl Queues {
         link_after(&mut self.places, queue, before, Some(member));
     }
 
-    /// A member leaves the queue, if it stands there; the order of the others stays. The answer says whether it stood there.
+    /// Removes a member from the queue, if it is there; the order of the others stays. Returns whether it was there.
     pub fn remove(&mut self, queue: u64, member: u64) -> bool
         ensures stood { result ≡ is_some (place_at self.old queue member) }
         ensures kept { (lists : ℕ → List ℕ) → Keeps self.old lists → Keeps self.new (without_member lists queue member) }
@@ -88,7 +88,7 @@ impl Queues {
         true
     }
 
-    /// The first member leaves the queue, or None where it is empty.
+    /// Removes and returns the first member, or returns `None` if the queue is empty.
     pub fn pop_first(&mut self, queue: u64) -> Option<u64>
         ensures first { (lists : ℕ → List ℕ) → Keeps self.old lists → result ≡ first_of (lists queue) }
         ensures kept { (lists : ℕ → List ℕ) → Keeps self.old lists → MatchOption result (Keeps self.new lists) (λ member. Keeps self.new (without_member lists queue member)) }
@@ -102,7 +102,7 @@ impl Queues {
         }
     }
 
-    /// How many members stand in all queues.
+    /// Returns how many members are in all queues.
     pub fn len(&self) -> usize
         ensures { result ≡ member_count self.now }
     {
