@@ -1,4 +1,4 @@
--- What is known of keys and ticks before the resets begin.
+-- The conditions on keys and ticks before the resets begin.
 use Rattle.std.specs.Prelude.{◌≡◌, ◌≢◌, ℕ, ◌+◌, ◌<◌, ◌^◌, List, length, None, slice_index_or}
 use Rattle.mono_wheel.specs.Model.{Wheel, timed_at}
 
@@ -10,7 +10,7 @@ AllIn wheel keys = (place : ℕ) → place < length keys → timed_at wheel (sli
 abbrev pub IsRow : ℕ → List ℕ → Type 0
 IsRow base keys = (base + length keys < 2 ^ 64) × ((place : ℕ) → place < length keys → slice_index_or keys place 0 ≡ base + place)
 
--- each of so many keys from this one on is in
+-- each of this number of keys from this one on is in
 abbrev pub RowIn : Wheel → ℕ → ℕ → Type 0
 RowIn wheel base count = (place : ℕ) → place < count → timed_at wheel (base + place) ≢ None
 

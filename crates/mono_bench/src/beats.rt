@@ -1,4 +1,4 @@
-// Sessions that are kept open by beats in turn, while the clock goes on second by second.
+// Sessions that are kept open by beats in turn, while the clock advances second by second.
 ghost use Rattle.std.specs.Prelude.{◌≡◌, ◌<◌};
 
 use mono_session::Sessions;
@@ -9,7 +9,7 @@ use std::io;
 use std::marker::Brand;
 use std::sync::ledger::{Blank, Ledger};
 
-/// The words of this workload, and what it does.
+/// The words of this workload, and its description.
 pub const HELP: &str = "  beats SESSIONS SECONDS
     So many sessions are opened for 30 seconds each, two in the queue of each key. Each second a tenth of them is beaten
     in turn, but for each sixteenth session, and then the clock goes on by a second. Printed are how many beats there
@@ -19,7 +19,7 @@ const LIMIT_MS: u64 = 30000;
 
 const SECOND: u128 = 1000000000;
 
-// What was done so far.
+// The counts of a run so far.
 #[derive(Clone, Copy)]
 struct Tally {
     beats: u64,
@@ -27,7 +27,7 @@ struct Tally {
     order: u64,
 }
 
-// So many sessions, two in the queue of each key.
+// Opens `count` sessions, two in the queue of each key.
 fn open_all(alloc: Global, sessions: &mut Sessions, count: u64) -> Option<()> {
     for i in 0..count {
         let session = sessions.open(alloc, LIMIT_MS).ok()?;
@@ -36,13 +36,13 @@ fn open_all(alloc: Global, sessions: &mut Sessions, count: u64) -> Option<()> {
     Some(())
 }
 
-// The number after one, of so many that go round.
+// Returns the number after one, modulo `count`.
 fn after(number: u64, count: u64) -> u64 {
     let next = number.wrapping_add(1);
     if next < count { next } else { 0 }
 }
 
-// The beats of a second, from one session on. The session with which the next second begins.
+// Makes the beats of a second, from one session on, and returns the session with which the next second begins.
 fn beat_some(sessions: &mut Sessions, count: u64, first: u64, tally: &mut Tally) -> u64 {
     let mut session = first;
     for _ in 0..count / 10 {
@@ -54,7 +54,7 @@ fn beat_some(sessions: &mut Sessions, count: u64, first: u64, tally: &mut Tally)
     session
 }
 
-// The clock goes on to a second, and what it closes is counted.
+// Advances the clock to a second, and counts the sessions that it closes.
 fn clock_step<L: Ledger>(
     sessions: &mut Sessions,
     second: u64,
@@ -77,7 +77,7 @@ fn clock_step<L: Ledger>(
     Some(())
 }
 
-// A sum over the owners of so many keys.
+// Returns a sum over the owners of `keys` keys.
 fn owners(sessions: &Sessions, keys: u64) -> u64 {
     let mut sum = 0u64;
     for key in 0..keys {
@@ -88,7 +88,7 @@ fn owners(sessions: &Sessions, keys: u64) -> u64 {
     sum
 }
 
-// All seconds, once the sessions are open. What was done.
+// Runs all seconds, once the sessions are open, and returns the counts.
 fn keep_all<L: Ledger>(
     alloc: Global,
     sessions: &mut Sessions,
@@ -112,7 +112,7 @@ fn keep_all<L: Ledger>(
     Some(tally)
 }
 
-// The same, and the sum over the owners then.
+// Runs all seconds, and returns the counts with the sum over the owners at the end.
 fn keep_on<L: Ledger>(
     alloc: Global,
     sessions: &mut Sessions,
@@ -130,7 +130,7 @@ fn keep_on<L: Ledger>(
     }
 }
 
-// So many sessions over so many seconds. What was done, and the sum over the owners then.
+// Runs `count` sessions over `seconds` seconds, and returns the counts with the sum over the owners at the end.
 fn keep<L: Ledger>(alloc: Global, count: u64, seconds: u64, blank: Blank) -> Option<(Tally, u64)>
     requires { (blank.name ≡ L.name) × (blank.parts ≡ L.parts) × (0 < L.parts) }
 {
@@ -140,7 +140,7 @@ fn keep<L: Ledger>(alloc: Global, count: u64, seconds: u64, blank: Blank) -> Opt
     }
 }
 
-// The numbers of the words: how many sessions and seconds.
+// Reads the words: how many sessions and seconds.
 fn asked(words: &[String]) -> Option<(u64, u64)> {
     let [count, seconds] = words else {
         return None;
@@ -161,17 +161,17 @@ fn told(rt: &HostRuntime, count: u64, seconds: u64, done: Option<(Tally, u64)>) 
     }
 }
 
-// The same with a ledger of its own.
+// Runs the same with a ledger of its own.
 fn keep_new(alloc: Global, count: u64, seconds: u64) -> Option<(Tally, u64)> {
     keep::<Brand>(alloc, count, seconds, Blank::new(1))
 }
 
-// One run, whose line is printed.
+// Does one run, and prints its line.
 fn run(rt: &HostRuntime, count: u64, seconds: u64) -> io::Result<()> {
     told(rt, count, seconds, keep_new(rt.alloc(), count, seconds))
 }
 
-/// Runs what the words say. False if they say nothing.
+/// Runs the workload of the words. Returns false if they name none.
 pub fn run_words(rt: &HostRuntime, words: &[String]) -> io::Result<bool> {
     let Some((count, seconds)) = asked(words) else {
         return Ok(false);

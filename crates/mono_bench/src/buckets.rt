@@ -9,15 +9,15 @@ use std::io;
 use std::marker::Brand;
 use std::sync::ledger::{Blank, Ledger};
 
-/// The words of this workload, and what it does.
+/// The words of this workload, and its description.
 pub const HELP: &str = "  buckets BUCKETS TAKES STEP
     Makes so many buckets, each of a random burst and period, and takes so often from a random one. After each 1,024
     takes the clock goes on by STEP milliseconds. Printed are the granted takes, and a sum of all answers in their order.";
 
-// So many takes come between two clock steps.
+// How many takes come between two clock steps.
 const BETWEEN: u64 = 1024;
 
-// What is done: the numbers of the words.
+// The numbers of the words.
 #[derive(Clone, Copy)]
 struct Work {
     buckets: u64,
@@ -25,7 +25,7 @@ struct Work {
     step: u64,
 }
 
-// What the takes gave.
+// The counts of the answers to the takes.
 #[derive(Clone, Copy)]
 struct Outcome {
     granted: u64,
@@ -43,7 +43,7 @@ impl Random {
         Random { state: 7 }
     }
 
-    // The next number, below 2^31.
+    // Returns the next number, below 2^31.
     fn next(&mut self) -> u64 {
         self.state = self
             .state
@@ -52,13 +52,13 @@ impl Random {
         self.state >> 33
     }
 
-    // A number below `end`, which is below 2^33; or 0 where that is 0.
+    // Returns a number below `end`, which is below 2^33; or 0 if `end` is 0.
     fn below(&mut self, end: u64) -> u64 {
         self.next().wrapping_mul(end) >> 31
     }
 }
 
-// Buckets of bursts from 1 to 16 and periods from 1 to 1,000.
+// Makes buckets of bursts from 1 to 16 and periods from 1 to 1,000.
 fn fill(alloc: Global, limiter: &mut Limiter, work: Work, random: &mut Random) -> Option<()> {
     for _ in 0..work.buckets {
         let burst = random.below(16).wrapping_add(1);
@@ -68,7 +68,7 @@ fn fill(alloc: Global, limiter: &mut Limiter, work: Work, random: &mut Random) -
     Some(())
 }
 
-// Adds an answer to what the takes gave.
+// Adds an answer to the counts.
 fn add(outcome: &mut Outcome, told: Option<Take>) {
     let value = match told {
         Some(Take::Granted) => {
@@ -81,7 +81,7 @@ fn add(outcome: &mut Outcome, told: Option<Take>) {
     outcome.sum = outcome.sum.wrapping_mul(31).wrapping_add(value);
 }
 
-// The clock goes on. There are no retries, so none is due.
+// Advances the clock. There are no retries, so none is due.
 fn go_on<L: Ledger>(limiter: &mut Limiter, alloc: Global, millis: u64, steps: &mut Steps<L>) {
     let Some(now) = Instant::from_nanos(u128::from(millis).wrapping_mul(1000000)) else {
         return;
@@ -122,7 +122,7 @@ fn run_on(alloc: Global, limiter: &mut Limiter, work: Work) -> Option<Outcome> {
     Some(take_all::<Brand>(limiter, alloc, work, &mut random, Blank::new(1)))
 }
 
-// The same of a new limiter.
+// Runs the same on a new limiter.
 fn outcome_of(alloc: Global, work: Work) -> Option<Outcome> {
     match Limiter::new(alloc, work.buckets, 0) {
         Ok(mut limiter) => run_on(alloc, &mut limiter, work),
@@ -130,7 +130,7 @@ fn outcome_of(alloc: Global, work: Work) -> Option<Outcome> {
     }
 }
 
-// The numbers of the words.
+// Reads the numbers of the words.
 fn asked(words: &[String]) -> Option<Work> {
     let [buckets, takes, step] = words else {
         return None;
@@ -159,12 +159,12 @@ fn told(rt: &HostRuntime, work: Work, outcome: Option<Outcome>) -> io::Result<()
     }
 }
 
-// One run, whose line is printed.
+// Does one run, and prints its line.
 fn run(rt: &HostRuntime, work: Work) -> io::Result<()> {
     told(rt, work, outcome_of(rt.alloc(), work))
 }
 
-/// Runs what the words say. False if they say nothing.
+/// Runs the workload of the words. Returns false if they name none.
 pub fn run_words(rt: &HostRuntime, words: &[String]) -> io::Result<bool> {
     let Some(work) = asked(words) else {
         return Ok(false);

@@ -1,11 +1,11 @@
-// Tasks that come and go, each with a sleep: what is gone is to cost nothing.
+// Tasks that start and end, each with a sleep: ended tasks must cost nothing.
 
 use mono_machine::Limits;
 use mono_replay::{Act, Blocking, End, Event, Exec, List, Query, Reply, Report, TurnStep};
 use std::alloc::{AllocError, Global};
 use std::{io, mem};
 
-/// The words of this workload, and what it does.
+/// The words of this workload, and its description.
 pub const HELP: &str = "  churn TASKS ALIVE
     So many tasks, one every millisecond, each with a sleep of ALIVE milliseconds; the first sleeps until all others are
     gone. Printed is how many sleeps fired, and the sum of their numbers.";
@@ -20,14 +20,14 @@ struct Desk {
     sum: u64,
 }
 
-// Two steps, in the place of those that the list had.
+// Replaces the steps of the list by two.
 fn fill(steps: &mut List<TurnStep>, first: TurnStep, second: TurnStep) -> Result<(), AllocError> {
     steps.clear();
     steps.push(first)?;
     steps.push(second)
 }
 
-// A turn of the steps that stand in the desk's list, of the task at the queue's front.
+// Runs a turn of the task at the queue's front, with the steps in the desk's list.
 fn turn_so(alloc: Global, desk: &mut Desk, end: End) -> Result<(), AllocError> {
     let steps = mem::replace(&mut desk.steps, List::new(alloc));
     let event = Event::Turn(steps, end);
@@ -45,7 +45,7 @@ fn turn_so(alloc: Global, desk: &mut Desk, end: End) -> Result<(), AllocError> {
     }
 }
 
-// A turn of two steps of the task at the queue's front.
+// Runs a turn of two steps of the task at the queue's front.
 fn turn(
     alloc: Global,
     desk: &mut Desk,
@@ -57,7 +57,7 @@ fn turn(
     turn_so(alloc, desk, end)
 }
 
-// A task comes, and sleeps until a tick. It has the number of its sleep.
+// Makes a task that sleeps until a tick. It has the number of its sleep.
 fn come(alloc: Global, desk: &mut Desk, task: u64, tick: u64) -> Result<(), AllocError> {
     let spawn = Event::Act(Act::Spawn);
     desk.exec.apply_reusing(alloc, &spawn, &mut desk.replies)?;
@@ -71,7 +71,7 @@ fn come(alloc: Global, desk: &mut Desk, task: u64, tick: u64) -> Result<(), Allo
     )
 }
 
-// The task of a sleep that fired drops it and its own handle, and is gone.
+// Ends the task of a sleep that fired: it drops the sleep and its own handle.
 fn go(alloc: Global, desk: &mut Desk, sleep: u64) -> Result<(), AllocError> {
     desk.fired = desk.fired.wrapping_add(1);
     desk.sum = desk.sum.wrapping_add(sleep);
@@ -85,7 +85,7 @@ fn go(alloc: Global, desk: &mut Desk, sleep: u64) -> Result<(), AllocError> {
     )
 }
 
-// The clock shows a tick, and the tasks whose sleeps fire go.
+// Shows the clock a tick, and ends the tasks whose sleeps fire.
 fn tick_to(alloc: Global, desk: &mut Desk, tick: u64) -> Result<(), AllocError> {
     let clock = Event::Clock(u128::from(tick) * 1000000);
     let report = desk.exec.apply_reusing(alloc, &clock, &mut desk.replies)?;
@@ -97,7 +97,7 @@ fn tick_to(alloc: Global, desk: &mut Desk, tick: u64) -> Result<(), AllocError> 
     Ok(())
 }
 
-// Each millisecond a task comes, and the one that came so many before goes. The first goes last.
+// Makes a task in each millisecond, and ends the task made `alive` milliseconds before. The first task ends last.
 fn all_come_and_go(
     alloc: Global,
     desk: &mut Desk,
@@ -116,7 +116,7 @@ fn all_come_and_go(
     tick_to(alloc, desk, last)
 }
 
-// How many sleeps of so many tasks fired, and the sum of their numbers.
+// Returns how many sleeps of `tasks` tasks fired, and the sum of their numbers.
 fn counted(
     alloc: Global,
     desk: &mut Desk,
@@ -127,7 +127,7 @@ fn counted(
     Ok((desk.fired, desk.sum))
 }
 
-// The same of a new executor.
+// Runs the same on a new executor.
 fn come_and_go(alloc: Global, tasks: u64, alive: u64) -> Result<(u64, u64), AllocError> {
     let most = alive.saturating_add(2);
     let limits = Limits {
@@ -150,7 +150,7 @@ fn come_and_go(alloc: Global, tasks: u64, alive: u64) -> Result<(u64, u64), Allo
     }
 }
 
-// The numbers of the words: how many tasks, and how long each is alive.
+// Reads the words: how many tasks, and how long each is alive.
 fn asked(words: &[String]) -> Option<(u64, u64)> {
     let [tasks, alive] = words else {
         return None;
@@ -168,12 +168,12 @@ fn told(rt: &HostRuntime, tasks: u64, fired: Result<(u64, u64), AllocError>) -> 
     }
 }
 
-// One run, whose line is printed.
+// Does one run, and prints its line.
 fn run(rt: &HostRuntime, tasks: u64, alive: u64) -> io::Result<()> {
     told(rt, tasks, come_and_go(rt.alloc(), tasks, alive))
 }
 
-/// Runs what the words say. False if they say nothing.
+/// Runs the workload of the words. Returns false if they name none.
 pub fn run_words(rt: &HostRuntime, words: &[String]) -> io::Result<bool> {
     let Some((tasks, alive)) = asked(words) else {
         return Ok(false);

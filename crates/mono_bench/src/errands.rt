@@ -1,4 +1,4 @@
-// Blocking jobs that come and go, each with its word: what is gone is to cost nothing.
+// Blocking jobs that start and end, each with its join word: ended jobs must cost nothing.
 ghost use Rattle.std.specs.Prelude.{◌≡◌};
 
 use mono_blocking::{BlockingHandle, Blockings, DefaultThreadPool, Job, Outcome, ThreadSpawner};
@@ -7,12 +7,12 @@ use mono_model::Host;
 use std::alloc::Global;
 use std::io;
 
-/// The words of this workload, and what it does.
+/// The words of this workload, and its description.
 pub const HELP: &str = "  errands JOBS ALIVE
     So many jobs on a pool without workers, which runs each in the call; each handle is dropped once ALIVE later jobs
     were made, and that of the first one last. Printed is how many outputs came back, and the sum of their numbers.";
 
-// A job that gives its number.
+// A job that returns its number.
 #[derive(Drop)]
 struct Gives(u64);
 
@@ -34,7 +34,7 @@ impl Job for Gives {
     }
 }
 
-// The jobs, and the outputs that came back so far.
+// The jobs, and the outputs that were returned so far.
 #[derive(Drop)]
 struct Desk {
     jobs: Blockings<DefaultThreadPool<Gives>>,
@@ -43,7 +43,7 @@ struct Desk {
 }
 
 impl Desk {
-    // A job comes. False where there was no memory or no place for it, or another number is given.
+    // Makes a job. Returns false if there was no memory or no place for it, or if it has another number.
     fn come<R: Host>(&mut self, rt: &R, alloc: Global, number: u64) -> bool {
         match self.jobs.spawn(rt, alloc, Gives(number)) {
             Ok(handle) => handle.job() == number,
@@ -51,7 +51,7 @@ impl Desk {
         }
     }
 
-    // The handle of a job is dropped, whose output comes back.
+    // Drops the handle of a job, and takes its output.
     fn go(&mut self, number: u64) {
         if let Ok(Some(Ok(output))) = self.jobs.drop_handle(number).answer {
             self.outputs = self.outputs.wrapping_add(1);
@@ -59,7 +59,7 @@ impl Desk {
         }
     }
 
-    // So many jobs come and go. False where one does not come.
+    // Makes and drops `jobs` jobs. Returns false if one is not made.
     fn come_and_go<R: Host>(&mut self, rt: &R, alloc: Global, jobs: u64, alive: u64) -> bool {
         for number in 0..jobs {
             if !self.come(rt, alloc, number) {
@@ -72,7 +72,7 @@ impl Desk {
         true
     }
 
-    // How many outputs of so many jobs came back, and the sum of their numbers.
+    // Returns how many outputs of `jobs` jobs were returned, and the sum of their numbers.
     fn outputs_of<R: Host>(
         &mut self,
         rt: &R,
@@ -92,7 +92,7 @@ impl Desk {
     }
 }
 
-// The same of a new pool, which runs each job in the call.
+// Runs the same on a new pool, which runs each job in the call.
 fn outputs<R: Host + Send + 'static>(
     rt: &R,
     alloc: Global,
@@ -120,7 +120,7 @@ fn told(rt: &HostRuntime, jobs: u64, outputs: Option<(u64, u64)>) -> io::Result<
     }
 }
 
-// One run, whose line is printed.
+// Does one run, and prints its line.
 fn run<R: Host + Send + 'static>(
     rt: &HostRuntime,
     host: &R,
@@ -130,7 +130,7 @@ fn run<R: Host + Send + 'static>(
     told(rt, jobs, outputs(host, rt.alloc(), jobs, alive))
 }
 
-// The numbers of the words: how many jobs, and how many are alive.
+// Reads the words: how many jobs, and how many are alive.
 fn asked(words: &[String]) -> Option<(u64, u64)> {
     let [jobs, alive] = words else {
         return None;
@@ -141,7 +141,7 @@ fn asked(words: &[String]) -> Option<(u64, u64)> {
     }
 }
 
-/// Runs what the words say. False if they say nothing.
+/// Runs the workload of the words. Returns false if they name none.
 pub fn run_words<R: Host + Send + 'static>(
     rt: &HostRuntime,
     host: &R,

@@ -1,4 +1,4 @@
-//! Workloads over the crates, each by a word, which print what was done.
+//! Workloads over the crates, each with a word of its own, which print their counts.
 #![tactic(auto)]
 
 mod beats;
@@ -29,7 +29,7 @@ const HELPS: [&str; 8] = [
     turns::HELP,
 ];
 
-// A small run of each workload.
+// Does a small run of each workload.
 fn run_all<R: Host + Send + 'static>(rt: &HostRuntime, host: &R) -> io::Result<bool> {
     wheel::run_small(rt)?;
     churn::run_small(rt)?;
@@ -42,7 +42,8 @@ fn run_all<R: Host + Send + 'static>(rt: &HostRuntime, host: &R) -> io::Result<b
     Ok(true)
 }
 
-// Runs a workload with the words behind its own. False if there is none, or if the words say nothing to it.
+// Runs a workload with the words after its own. Returns false if there is no such workload, or if the words do not fit
+// it.
 fn run_workload<R: Host + Send + 'static>(
     rt: &HostRuntime,
     host: &R,
@@ -71,7 +72,7 @@ fn print_help(rt: &HostRuntime) -> io::Result<()> {
     Ok(())
 }
 
-// Runs what the words behind the program's name say, or prints which words there are.
+// Runs the workload of the words after the program's name, or prints the words of all workloads.
 fn run_words<R: Host + Send + 'static>(
     rt: &HostRuntime,
     host: &R,

@@ -1,15 +1,15 @@
-// A ring of actors: each hands the message that it gets on to the next, one turn after another.
+// A ring of actors: each sends the message that it gets to the next, one turn after another.
 use mono_actor::{Actors, Got};
 use std::alloc::Global;
 use std::io;
 
-/// The words of this workload, and what it does.
+/// The words of this workload, and its description.
 pub const HELP: &str = "  ring ACTORS TURNS BURST
     Each of so many actors, one after another, gets BURST messages at once and reads them. Then one message goes round
     their ring for so many turns, and counts them. Printed is the sum of each turn's message and actor, bit by bit
     exclusive.";
 
-// One actor gets so many messages at once, and reads them.
+// Sends one actor `messages` messages at once, and reads them.
 fn burst(actors: &mut Actors<u64>, me: u64, messages: u64) -> Option<()> {
     for message in 0..messages {
         actors.send(me, me, message).ok()?;
@@ -27,7 +27,7 @@ fn burst(actors: &mut Actors<u64>, me: u64, messages: u64) -> Option<()> {
     Some(())
 }
 
-// All actors are made, each gets its messages at once, and the first has the message that goes round.
+// Makes all actors, sends each its messages at once, and gives the first the message of the ring.
 fn begin_all(alloc: Global, actors: &mut Actors<u64>, count: u64, messages: u64) -> Option<()> {
     for _ in 0..count {
         actors.spawn(alloc).ok()?;
@@ -39,7 +39,7 @@ fn begin_all(alloc: Global, actors: &mut Actors<u64>, count: u64, messages: u64)
     Some(())
 }
 
-// One turn: the message goes on to the next actor. What it adds to the sum.
+// Does one turn: the message moves to the next actor. Returns its share of the sum.
 fn hand_on(actors: &mut Actors<u64>, count: u64) -> Option<u64> {
     if actors.is_running() {
         return None;
@@ -59,7 +59,7 @@ fn hand_on(actors: &mut Actors<u64>, count: u64) -> Option<u64> {
     Some(message ^ me)
 }
 
-// All turns, after the actors are made. The sum.
+// Makes the actors, does all turns, and returns the sum.
 fn sum_of(
     alloc: Global,
     actors: &mut Actors<u64>,
@@ -75,7 +75,7 @@ fn sum_of(
     Some(sum)
 }
 
-// The same of a new ring.
+// Runs the same on a new ring.
 fn hand_round(alloc: Global, count: u64, turns: u64, messages: u64) -> Option<u64> {
     match Actors::new(alloc, count, messages.max(1)) {
         Ok(mut actors) => sum_of(alloc, &mut actors, count, turns, messages),
@@ -83,7 +83,7 @@ fn hand_round(alloc: Global, count: u64, turns: u64, messages: u64) -> Option<u6
     }
 }
 
-// The numbers of the words: how many actors, turns and messages.
+// Reads the words: how many actors, turns and messages.
 fn asked(words: &[String]) -> Option<(u64, u64, u64)> {
     let [count, turns, messages] = words else {
         return None;
@@ -105,7 +105,7 @@ fn told(rt: &HostRuntime, count: u64, turns: u64, sum: Option<u64>) -> io::Resul
     }
 }
 
-// One run, whose line is printed.
+// Does one run, and prints its line.
 fn run(rt: &HostRuntime, count: u64, turns: u64, messages: u64) -> io::Result<()> {
     told(
         rt,
@@ -115,7 +115,7 @@ fn run(rt: &HostRuntime, count: u64, turns: u64, messages: u64) -> io::Result<()
     )
 }
 
-/// Runs what the words say. False if they say nothing.
+/// Runs the workload of the words. Returns false if they name none.
 pub fn run_words(rt: &HostRuntime, words: &[String]) -> io::Result<bool> {
     let Some((count, turns, messages)) = asked(words) else {
         return Ok(false);

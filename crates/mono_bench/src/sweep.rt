@@ -1,4 +1,4 @@
-// Clock steps with long lists of sleeps, checked: a list is to cost what it has, also where all are of one tick.
+// Clock steps with long lists of sleeps, checked: the cost of a list is its length, also if all sleeps have one tick.
 use mono_machine::{
     Act, Blocking, End, Ended, Event, Limits, List, Query, Reply, Report, TurnStep, Woke,
 };
@@ -6,14 +6,14 @@ use mono_trace::Trace;
 use std::alloc::{AllocError, Global};
 use std::io;
 
-/// The words of this workload, and what it does.
+/// The words of this workload, and its description.
 pub const HELP: &str = "  sweep SLEEPS TICKS
     So many sleeps are polled in turns of a thousand, at so many ticks one after the other, and a clock step comes to the
     last of them. Printed is whether the turns are passed, the clock step with all sleeps but the last, and with all.";
 
 const TURN: u64 = 1000;
 
-// Whether the pair is passed. No journal has so many arms that the trace takes no pair more.
+// Returns whether the trace passes the pair. No journal has enough arms to fill the trace.
 fn passes(
     alloc: Global,
     trace: &mut Trace,
@@ -26,13 +26,13 @@ fn passes(
     trace.step(alloc, event, report)
 }
 
-// The tick of a sleep: the sleeps go through the ticks from 1 on, as many at each.
+// Returns the tick of a sleep: the sleeps cycle through the ticks from 1 on, equally often.
 fn tick(sleep: u64, sleeps: u64, ticks: u64) -> u128 {
     let passed = u128::from(sleep).saturating_mul(u128::from(ticks));
     (passed / u128::from(sleeps.max(1))).saturating_add(1)
 }
 
-// A turn in which the sleeps with these numbers are made and polled.
+// Runs a turn in which the sleeps with these numbers are made and polled.
 fn turn(
     alloc: Global,
     trace: &mut Trace,
@@ -54,19 +54,19 @@ fn turn(
     passes(alloc, trace, &Event::Turn(steps, End::Pending), &report)
 }
 
-// The one task is made.
+// Makes the one task.
 fn spawn(alloc: Global, trace: &mut Trace) -> Result<bool, AllocError> {
     let made = Report::Reply(Reply::Task(0));
     passes(alloc, trace, &Event::Act(Act::Spawn), &made)
 }
 
-// The one task is woken.
+// Wakes the one task.
 fn wake(alloc: Global, trace: &mut Trace) -> Result<bool, AllocError> {
     let queued = Report::Reply(Reply::Woke(Woke::Queued));
     passes(alloc, trace, &Event::Act(Act::Wake(0)), &queued)
 }
 
-// All sleeps are polled, in turns of the one task, which is woken after each.
+// Polls all sleeps, in turns of the one task, which is woken after each.
 fn turns(alloc: Global, trace: &mut Trace, sleeps: u64, ticks: u64) -> Result<bool, AllocError> {
     let mut passed = spawn(alloc, trace)?;
     for part in 0..=sleeps / TURN {
@@ -77,7 +77,7 @@ fn turns(alloc: Global, trace: &mut Trace, sleeps: u64, ticks: u64) -> Result<bo
     Ok(passed)
 }
 
-// A clock step to the last tick, with so many sleeps in its list.
+// Does a clock step to the last tick, with `listed` sleeps in its list.
 fn sweep(alloc: Global, trace: &mut Trace, listed: u64, ticks: u64) -> Result<bool, AllocError> {
     let mut fired = List::new(alloc);
     for sleep in 0..listed {
@@ -87,7 +87,7 @@ fn sweep(alloc: Global, trace: &mut Trace, listed: u64, ticks: u64) -> Result<bo
     passes(alloc, trace, &clock, &Report::Fired(fired))
 }
 
-// Whether the turns are passed, the clock step without its last sleep, and the whole one.
+// Returns whether the trace passes the turns, the clock step without its last sleep, and the whole one.
 fn verdicts_on(
     alloc: Global,
     trace: &mut Trace,
@@ -100,7 +100,7 @@ fn verdicts_on(
     Ok((turned, short, whole))
 }
 
-// The same of a new trace.
+// Runs the same on a new trace.
 fn verdicts(alloc: Global, sleeps: u64, ticks: u64) -> Result<(bool, bool, bool), AllocError> {
     let limits = Limits {
         tasks: 1,
@@ -115,7 +115,7 @@ fn word(passed: bool) -> &'static str {
     if passed { "yes" } else { "no" }
 }
 
-// One run, whose line is printed.
+// Does one run, and prints its line.
 fn run(rt: &HostRuntime, sleeps: u64, ticks: u64) -> io::Result<()> {
     match verdicts(rt.alloc(), sleeps, ticks) {
         Err(_) => println!(rt; "no memory for {sleeps} sleeps"),
@@ -126,7 +126,7 @@ fn run(rt: &HostRuntime, sleeps: u64, ticks: u64) -> io::Result<()> {
     }
 }
 
-// The numbers of the words: how many sleeps and ticks.
+// Reads the words: how many sleeps and ticks.
 fn asked(words: &[String]) -> Option<(u64, u64)> {
     let [sleeps, ticks] = words else {
         return None;
@@ -137,7 +137,7 @@ fn asked(words: &[String]) -> Option<(u64, u64)> {
     }
 }
 
-/// Runs what the words say. False if they say nothing.
+/// Runs the workload of the words. Returns false if they name none.
 pub fn run_words(rt: &HostRuntime, words: &[String]) -> io::Result<bool> {
     let Some((sleeps, ticks)) = asked(words) else {
         return Ok(false);

@@ -1,4 +1,4 @@
-// Tasks of a runtime that are made, woken and put to sleep: what a turn costs.
+// Tasks of a runtime that are made, woken and put to sleep: the cost of a turn.
 mod work;
 
 use mono_blocking::{Job, NoPool};
@@ -11,7 +11,7 @@ use std::alloc::Global;
 use std::io;
 use work::Work;
 
-/// The words of this workload, and what it does.
+/// The words of this workload, and its description.
 pub const HELP: &str = "  turns spawn|pair|sleeps|come N [RUNS]
     spawn: a task makes N tasks, each ready at its first turn, and ends after them
     pair: two tasks wake each other, N turns in all
@@ -41,7 +41,7 @@ impl Job for Idle {
     }
 }
 
-// The work of these words.
+// Returns the work of these words.
 fn chosen(name: &str, count: u64) -> Option<Work> {
     match name {
         "spawn" => Some(Work::Spawns(count)),
@@ -52,7 +52,7 @@ fn chosen(name: &str, count: u64) -> Option<Work> {
     }
 }
 
-// The work, on a runtime of its own; what it answers, or 0 where the runtime gave up.
+// Runs the work on a runtime of its own, and returns its answer, or 0 if the runtime gave up.
 fn answer<R: Host>(rt: &R, alloc: Global, work: Work) -> u64 {
     let driver = TimeDriver::new(StepDriver::new(Vec::new(alloc)));
     match start::<_, _, _, NoPool<Idle>, R>(rt, alloc, driver, work, u64::MAX) {
@@ -61,7 +61,7 @@ fn answer<R: Host>(rt: &R, alloc: Global, work: Work) -> u64 {
     }
 }
 
-// The work so often, each on a new runtime. The answer of the last; none where there is no such work.
+// Runs the work `runs` times, each on a new runtime. Returns the last answer, or None if there is no such work.
 fn answers<R: Host>(rt: &R, alloc: Global, name: &str, count: u64, runs: u64) -> Option<u64> {
     let mut last = None;
     for _ in 0..runs {
@@ -70,7 +70,7 @@ fn answers<R: Host>(rt: &R, alloc: Global, name: &str, count: u64, runs: u64) ->
     last
 }
 
-// Which work, with which N, and how often.
+// Reads the words: which work, with which N, and how often.
 fn asked(words: &[String]) -> Option<(&str, u64, u64)> {
     match words {
         [name, count] => Some((name.as_str(), count.parse::<u64>().ok()?, 1)),
@@ -83,7 +83,7 @@ fn asked(words: &[String]) -> Option<(&str, u64, u64)> {
     }
 }
 
-// The work of these words, whose line is printed. False if there is no such work.
+// Runs the work of these words, and prints its line. Returns false if there is no such work.
 fn run<R: Host>(rt: &HostRuntime, host: &R, name: &str, count: u64, runs: u64) -> io::Result<bool> {
     match answers(host, rt.alloc(), name, count, runs) {
         Some(answer) => {
@@ -94,7 +94,7 @@ fn run<R: Host>(rt: &HostRuntime, host: &R, name: &str, count: u64, runs: u64) -
     }
 }
 
-/// Runs what the words say. False if they say nothing.
+/// Runs the workload of the words. Returns false if they name none.
 pub fn run_words<R: Host>(rt: &HostRuntime, host: &R, words: &[String]) -> io::Result<bool> {
     match asked(words) {
         Some((name, count, runs)) => run(rt, host, name, count, runs),
@@ -102,7 +102,7 @@ pub fn run_words<R: Host>(rt: &HostRuntime, host: &R, words: &[String]) -> io::R
     }
 }
 
-/// Runs the one with 300 tasks that sleep.
+/// Runs the work of 300 tasks that sleep.
 pub fn run_small<R: Host>(rt: &HostRuntime, host: &R) -> io::Result<()> {
     run(rt, host, "sleeps", 300, 1)?;
     Ok(())

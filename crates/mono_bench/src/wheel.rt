@@ -1,4 +1,4 @@
-// Workloads over the wheel. The line of each has a sum that tells whether it fired the same keys in the same order.
+// Workloads over the wheel. The sum in each line depends on which keys fired, in which order.
 ghost use Rattle.std.specs.Prelude.{◌≡◌, ◌<◌};
 
 mod random;
@@ -16,7 +16,7 @@ use table::Table;
 use watch::Watch;
 use work::{Outcome, WORKS, Work, run};
 
-/// The words of this workload, and what it does.
+/// The words of this workload, and its description.
 pub const HELP: &str = "  wheel WORK|all N [timed RUNS]
     WORK: insert_fire, insert_cancel, reset_later, short_ticks, far_jump, next_expiration, far_many
     N: how many keys; the best of RUNS runs is printed in nanoseconds a key where it is asked for";
@@ -43,7 +43,7 @@ fn one<R: Clock, L: Ledger>(
     run(rt, alloc, &mut table, work, ticks, watch)
 }
 
-// One run on a new wheel.
+// Does one run on a new wheel.
 fn run_once(rt: &HostRuntime, work: Work, ticks: &[u64], watch: &mut Watch) -> io::Result<Outcome> {
     one::<HostRuntime, Brand>(rt, rt.alloc(), Blank::new(1), work, ticks, watch)
 }
@@ -56,7 +56,7 @@ fn total(laps: &[u64]) -> u64 {
     sum
 }
 
-// Nanoseconds a key, with one digit after the point.
+// Prints the nanoseconds per key, with one digit after the point.
 fn print_rate(rt: &HostRuntime, nanos: u64, count: usize) -> io::Result<()> {
     if count > 0 {
         let tenths = nanos.saturating_mul(10) / count as u64;
@@ -76,7 +76,8 @@ fn print_sums(rt: &HostRuntime, work: Work, count: usize, outcome: Outcome) -> i
     )
 }
 
-// Runs a workload so often, each on a new wheel, and keeps the laps of the best run. What the last gave.
+// Runs a workload `runs` times, each on a new wheel, and keeps the laps of the best run. Returns the sums of the last
+// run.
 fn best_of(
     rt: &HostRuntime,
     work: Work,
@@ -97,7 +98,7 @@ fn best_of(
     Ok(outcome)
 }
 
-// The time of all phases, and that of each.
+// Prints the time of all phases, and that of each.
 fn print_times(rt: &HostRuntime, laps: &[u64], count: usize) -> io::Result<()> {
     print!(rt; " ns")?;
     print_rate(rt, total(laps), count)?;
@@ -108,7 +109,7 @@ fn print_times(rt: &HostRuntime, laps: &[u64], count: usize) -> io::Result<()> {
     Ok(())
 }
 
-// Runs one workload over these ticks so often, and prints its sums and, where they are asked for, the best times.
+// Runs one workload over these ticks as often as asked, and prints its sums and, if asked, the best times.
 fn measure_over(
     rt: &HostRuntime,
     asked: Asked,
@@ -125,7 +126,7 @@ fn measure_over(
     println!(rt; "")
 }
 
-// The same over the ticks of the workload.
+// Runs one workload over its own ticks.
 fn measure(rt: &HostRuntime, asked: Asked, work: Work) -> io::Result<()> {
     let alloc = rt.alloc();
     let ticks = ticks(alloc, work, asked.count)?;
@@ -134,7 +135,7 @@ fn measure(rt: &HostRuntime, asked: Asked, work: Work) -> io::Result<()> {
     measure_over(rt, asked, work, ticks.as_slice(), &mut watch, &mut best)
 }
 
-// The workloads of a word, one after the other. Whether there is one.
+// Runs the workloads of a word, one after the other. Returns whether there is one.
 fn measure_all(rt: &HostRuntime, asked: Asked, word: &str) -> io::Result<bool> {
     let mut is_any = false;
     for work in WORKS {
@@ -146,7 +147,7 @@ fn measure_all(rt: &HostRuntime, asked: Asked, word: &str) -> io::Result<bool> {
     Ok(is_any)
 }
 
-// What the words behind the workload's say.
+// Reads the words after the workload's.
 fn said(words: &[String]) -> Option<(&str, Asked)> {
     let (name, count, runs, is_timed) = match words {
         [name, count] => (name, count, Ok(1), false),
@@ -168,7 +169,7 @@ fn said(words: &[String]) -> Option<(&str, Asked)> {
     }
 }
 
-/// Runs what the words say. False if they say nothing.
+/// Runs the workload of the words. Returns false if they name none.
 pub fn run_words(rt: &HostRuntime, words: &[String]) -> io::Result<bool> {
     match said(words) {
         Some((word, asked)) => measure_all(rt, asked, word),

@@ -1,4 +1,4 @@
-// What the tasks do, a turn at a time.
+// The tasks of the workload, a turn at a time.
 ghost use Rattle.std.specs.Prelude.{◌≡◌, ⊤, false};
 ghost use Rattle.mono_rt.specs.Reaches.{Reaches};
 
@@ -12,35 +12,35 @@ use mono_task::{Context, Poll, TaskFuture};
 use mono_time::TimeContext;
 use std::alloc::Global;
 
-/// What a task does at its next turn.
+/// The next turn of a task.
 #[derive(Clone, Copy, Drop)]
 pub enum Work {
-    /// It makes so many tasks that are ready at their first turn, and goes behind them.
+    /// It makes this many tasks that are ready at their first turn, and queues itself after them.
     Spawns(u64),
     /// It is ready with this number.
     Ends(u64),
-    /// It makes the other task of a pair that has so many turns in all.
+    /// It makes the other task of a pair that has this many turns in all.
     Opens(u64),
-    /// It wakes the task of this number; so many turns of the pair are left, and so many were done.
+    /// It wakes the task of this number; then how many turns of the pair are left, and how many were done.
     Wakes(u64, u64, u64),
-    /// It makes so many tasks that sleep once, and sleeps longer than they.
+    /// It makes this many tasks that sleep once, and sleeps longer than they.
     Lulls(u64),
     /// It begins a sleep until this millisecond, and then is ready with this number.
     Sleeps(u64, u64),
     /// It drops the sleep of this number, and is ready with the second.
     Rises(u64, u64),
-    /// It lets so many tasks come and go, at most a thousand at a time, and goes behind them.
+    /// It makes this many tasks, at most a thousand alive at a time, and queues itself after them.
     Comes(u64),
-    /// It makes the next of so many tasks that follow one another, itself among them, and is ready.
+    /// It makes the next of this many tasks in a row, itself among them, and is ready.
     Follows(u64),
-    /// It goes to the queue's back so often, and is ready with how many tasks were made before.
+    /// It queues itself this often, and is ready with how many tasks were made before.
     Watches(u64),
 }
 
 // The context of the tasks.
 type Own = Cx<Work, u64, NoPool<Idle>, NoUnpark>;
 
-// One more task, whose handle is dropped. Its number, where there was a place for it.
+// Makes one task, and drops its handle. Returns its number, if there was a place for it.
 fn put(alloc: Global, cx: &mut Own, work: Work) -> Option<u64>
     ensures { Reaches (λ n. n) cx.old cx.new }
 {
@@ -54,7 +54,7 @@ fn put(alloc: Global, cx: &mut Own, work: Work) -> Option<u64>
     }
 }
 
-// So many tasks that are ready at their first turn. How many there was a place for.
+// Makes `count` tasks that are ready at their first turn. Returns how many found a place.
 fn put_ready(alloc: Global, cx: &mut Own, count: u64) -> u64
     ensures { Reaches (λ n. n) cx.old cx.new }
 {
@@ -66,7 +66,7 @@ fn put_ready(alloc: Global, cx: &mut Own, count: u64) -> u64
     made
 }
 
-// So many tasks that sleep once, for a random time. How many there was a place for.
+// Makes `count` tasks that sleep once, for a random time. Returns how many found a place.
 fn put_sleeping(alloc: Global, cx: &mut Own, count: u64) -> u64
     ensures { Reaches (λ n. n) cx.old cx.new }
 {
@@ -80,7 +80,7 @@ fn put_sleeping(alloc: Global, cx: &mut Own, count: u64) -> u64
     made
 }
 
-// The tasks that are ready at once, and the running task behind them.
+// Makes the tasks that are ready at once, and queues the running task after them.
 fn spawn_all(alloc: Global, cx: &mut Own, count: u64) -> Work
     ensures { Reaches (λ n. n) cx.old cx.new }
 {
@@ -90,7 +90,7 @@ fn spawn_all(alloc: Global, cx: &mut Own, count: u64) -> Work
     Work::Ends(made)
 }
 
-// A sleep until this millisecond, for which the running task waits.
+// Begins a sleep until this millisecond, for which the running task waits.
 fn sleep_until<C: TimeContext>(alloc: Global, cx: &mut C, tick: u64, output: u64) -> Work
     ensures { C.reaches cx.old cx.new }
 {
@@ -106,7 +106,7 @@ fn sleep_until<C: TimeContext>(alloc: Global, cx: &mut C, tick: u64, output: u64
     }
 }
 
-// The tasks that sleep, and a sleep of the running task that is longer than theirs.
+// Makes the tasks that sleep, and a longer sleep of the running task.
 fn lull_all(alloc: Global, cx: &mut Own, count: u64) -> Work
     ensures { Reaches (λ n. n) cx.old cx.new }
 {
@@ -114,7 +114,7 @@ fn lull_all(alloc: Global, cx: &mut Own, count: u64) -> Work
     sleep_until(alloc, cx, 1 << 32, made)
 }
 
-// The other task of the pair, which has the first of the turns.
+// Makes the other task of the pair, which has the first of the turns.
 fn open(alloc: Global, cx: &mut Own, turns: u64) -> Work
     ensures { Reaches (λ n. n) cx.old cx.new }
 {
@@ -125,7 +125,7 @@ fn open(alloc: Global, cx: &mut Own, turns: u64) -> Work
     }
 }
 
-// The first of so many tasks that follow one another.
+// Makes the first of `share` tasks in a row.
 fn put_line(alloc: Global, cx: &mut Own, share: u64)
     ensures { Reaches (λ n. n) cx.old cx.new }
 {
@@ -135,7 +135,7 @@ fn put_line(alloc: Global, cx: &mut Own, share: u64)
     let _ = put(alloc, cx, Work::Follows(share));
 }
 
-// A thousand tasks at most, each the first of its share of so many.
+// Makes at most a thousand tasks, each the first of its share of `count`.
 fn put_lines(alloc: Global, cx: &mut Own, count: u64)
     ensures { Reaches (λ n. n) cx.old cx.new }
 {
@@ -144,7 +144,7 @@ fn put_lines(alloc: Global, cx: &mut Own, count: u64)
     }
 }
 
-// The first of the tasks that come and go, and the running task behind them.
+// Makes the first of the tasks in rows, and queues the running task after them.
 fn come_all(alloc: Global, cx: &mut Own, count: u64) -> Work
     ensures { Reaches (λ n. n) cx.old cx.new }
 {
@@ -154,7 +154,7 @@ fn come_all(alloc: Global, cx: &mut Own, count: u64) -> Work
     Work::Watches(count / 1000)
 }
 
-// How many tasks were made so far, beside the main one: the number of one more tells it.
+// Returns how many tasks were made so far, without the main one: the number of one more task.
 fn made(alloc: Global, cx: &mut Own) -> u64
     ensures { Reaches (λ n. n) cx.old cx.new }
 {
@@ -164,7 +164,7 @@ fn made(alloc: Global, cx: &mut Own) -> u64
     }
 }
 
-// The turn's end where something is left to do.
+// Ends the turn if work is left.
 fn later(this: &mut Work, next: Work) -> Poll<u64> {
     *this = next;
     Poll::Pending

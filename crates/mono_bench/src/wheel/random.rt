@@ -10,12 +10,12 @@ pub struct Random {
 }
 
 impl Random {
-    /// The generator of a seed.
+    /// Returns the generator of a seed.
     pub fn new(seed: u32) -> Random {
         Random { one: 0, two: seed }
     }
 
-    /// The next number.
+    /// Returns the next number.
     pub fn next(&mut self) -> u32 {
         let mut old = self.one;
         let last = self.two;
@@ -26,7 +26,7 @@ impl Random {
         old.wrapping_add(last)
     }
 
-    /// A number below `end`, or 0 where that is 0.
+    /// Returns a number below `end`, or 0 if `end` is 0.
     pub fn below(&mut self, end: u32) -> u32 {
         ((u64::from(self.next()).wrapping_mul(u64::from(end))) >> 32) as u32
     }
@@ -52,7 +52,7 @@ fn tick(random: &mut Random, work: Work) -> u64 {
     }
 }
 
-/// So many ticks for a workload.
+/// Returns `count` ticks for a workload.
 pub fn ticks(alloc: Global, work: Work, count: usize) -> Result<Vec<u64>, AllocError> {
     let mut random = Random::new(7);
     let mut all = Vec::with_capacity(alloc, count)?;

@@ -18,7 +18,7 @@ pub struct Table<L: Ledger> {
 }
 
 impl<L: Ledger> Table<L> {
-    /// A new wheel, with nothing in.
+    /// Returns a new wheel without keys.
     pub fn new(alloc: Global, blank: Blank) -> Result<Table<L>, AllocError>
         requires { (blank.name ≡ L.name) × (blank.parts ≡ L.parts) × (0 < L.parts) }
     {
@@ -27,14 +27,14 @@ impl<L: Ledger> Table<L> {
         Ok(Table { wheel, steps })
     }
 
-    /// A new key, which is in to be due at a tick above the elapsed tick.
+    /// Inserts a new key, due at a tick above the elapsed tick.
     pub fn insert(&mut self, alloc: Global, tick: u64) -> Result<usize, AllocError> {
         let key = self.wheel.reserve_entry(alloc)?;
         let _ = self.wheel.insert(key, tick.min(LAST));
         Ok(key)
     }
 
-    /// Takes a key out and gives it back, if it is in.
+    /// Removes a key from the wheel, if it is in.
     pub fn cancel(&mut self, key: usize) {
         if self.wheel.is_in(key) {
             self.wheel.remove(key);
@@ -42,14 +42,14 @@ impl<L: Ledger> Table<L> {
         }
     }
 
-    /// Whether a key is in.
+    /// Returns whether a key is in.
     pub fn is_in(&self, key: usize) -> bool
         ensures { result ≡ true → timed_at self.now.wheel key ≢ None }
     {
         self.wheel.is_in(key)
     }
 
-    /// Lets a key that is in be due later. Each key that is in stays in.
+    /// Moves a key that is in to a later tick. Each key that is in stays in.
     pub fn later(&mut self, key: usize, tick: u64)
         requires within { timed_at self.old.wheel key ≢ None }
         requires range { tick < 2 ^ 63 }
@@ -58,8 +58,8 @@ impl<L: Ledger> Table<L> {
         self.wheel.extend(key, tick);
     }
 
-    /// Lets the clock go on to `now`, or to the next key that is due, which it takes out. Where it answers None,
-    /// each key that was in still is.
+    /// Advances the clock to `now`, or to the next key that is due, and takes that key out. If it returns None, each
+    /// key that was in still is.
     pub fn fire(&mut self, now: u64) -> Option<usize>
         ensures { IfNone result (KeepsAll self.old.wheel self.new.wheel) }
     {
@@ -69,7 +69,7 @@ impl<L: Ledger> Table<L> {
         self.wheel.poll(now, &mut self.steps)
     }
 
-    /// The next tick at which something is to be done.
+    /// Returns the next expiration of the wheel.
     pub fn next(&self) -> Option<u64> {
         self.wheel.next_expiration_time()
     }

@@ -1,10 +1,10 @@
-// The time of each phase of a run, where it is asked for.
+// The time of each phase of a run, if it is asked for.
 use std::alloc::Global;
 use std::io;
 use std::rt::Clock;
 use std::time::Instant;
 
-/// Notes how many nanoseconds each phase took, or nothing.
+/// A watch that records the nanoseconds of each phase, or nothing.
 #[derive(Drop)]
 pub struct Watch {
     since: Option<Instant>,
@@ -13,7 +13,7 @@ pub struct Watch {
 }
 
 impl Watch {
-    /// A watch that notes times where `is_on`, and is never read otherwise.
+    /// Returns a watch that records times if `is_on`, and is never read otherwise.
     pub fn new(alloc: Global, is_on: bool) -> Watch {
         Watch {
             since: None,
@@ -22,7 +22,7 @@ impl Watch {
         }
     }
 
-    /// The first phase begins.
+    /// Starts the first phase.
     pub fn start<R: Clock>(&mut self, rt: &R) -> io::Result<()> {
         self.laps.clear();
         if self.is_on {
@@ -31,7 +31,7 @@ impl Watch {
         Ok(())
     }
 
-    /// A phase ends and the next one begins.
+    /// Ends a phase and starts the next one.
     pub fn lap<R: Clock>(&mut self, rt: &R) -> io::Result<()> {
         if let Some(since) = self.since {
             let now = Instant::now(rt)?;
@@ -42,7 +42,7 @@ impl Watch {
         Ok(())
     }
 
-    /// The nanoseconds of each phase.
+    /// Returns the nanoseconds of each phase.
     pub fn laps(&self) -> &[u64] {
         self.laps.as_slice()
     }

@@ -1,4 +1,4 @@
-// The workloads, and what one run of them gives.
+// The workloads, and the results of one run.
 ghost use Rattle.std.specs.Prelude.{◌≡◌, ◌+◌, ◌<◌, ◌^◌, true, length};
 ghost use Rattle.mono_bench.specs.Bounds.{AllIn, AllLow, IsRow, RowIn};
 
@@ -9,14 +9,14 @@ use std::io;
 use std::rt::Clock;
 use std::sync::ledger::Ledger;
 
-/// What is done to a wheel with so many keys.
+/// A workload on a wheel with a number of keys.
 #[derive(Clone, Copy)]
 pub enum Work {
     /// Random ticks below 2^32, fired in 16 steps of 2^28.
     InsertFire,
-    /// Random ticks below 2^32, all of which are taken out.
+    /// Random ticks below 2^32, each key removed again.
     InsertCancel,
-    /// Each key is let be due 1000 ticks later in each of ten rounds of 1000 ticks.
+    /// Each key is reset to a tick 1000 later in each of ten rounds of 1000 ticks.
     KeepAlive,
     /// Ticks from 1 to 1000, one a step.
     ShortTicks,
@@ -40,7 +40,7 @@ pub const WORKS: [Work; 7] = [
 ];
 
 impl Work {
-    /// The word of a workload.
+    /// Returns the word of a workload.
     pub fn name(self) -> &'static str {
         match self {
             Work::InsertFire => "insert_fire",
@@ -54,8 +54,7 @@ impl Work {
     }
 }
 
-/// What a run gives: how many keys fired, a sum over them in their order, and a sum over the next
-/// expirations.
+/// The result of a run: how many keys fired, a sum over them in their order, and a sum over the next expirations.
 #[derive(Clone, Copy)]
 pub struct Outcome {
     pub fired: u64,
@@ -64,7 +63,7 @@ pub struct Outcome {
 }
 
 impl Outcome {
-    // A key fired, counted from the first.
+    // Adds a key that fired, counted from the first.
     fn note(&mut self, base: usize, key: usize) {
         let number = key.wrapping_sub(base) as u64;
         self.fired = self.fired.wrapping_add(1);
@@ -76,7 +75,7 @@ impl Outcome {
     }
 }
 
-// Fires all that is due up to a tick.
+// Fires all keys that are due up to a tick.
 fn advance<L: Ledger>(table: &mut Table<L>, base: usize, now: u64, outcome: &mut Outcome) {
     for _ in 0..u64::MAX {
         match table.fire(now) {
@@ -111,7 +110,7 @@ fn ask_next<L: Ledger>(
     Ok(())
 }
 
-// Whether the keys are numbers in a row from `base` on.
+// Returns whether the keys are numbers in a row from `base` on.
 fn is_row(keys: &[usize], base: usize) -> bool
     ensures { result ≡ true → IsRow base keys.now }
 {
@@ -126,7 +125,7 @@ fn is_row(keys: &[usize], base: usize) -> bool
     true
 }
 
-// Whether there are as many ticks as keys, each key is in, and each tick is low enough for the resets.
+// Returns whether there is one tick for each key, each key is in, and each tick is low enough for the resets.
 fn is_ready<L: Ledger>(table: &Table<L>, keys: &[usize], ticks: &[u64]) -> bool
     ensures { result ≡ true → (length keys.now ≡ length ticks.now) × (AllIn table.now.wheel keys.now × AllLow ticks.now) }
 {
@@ -141,8 +140,8 @@ fn is_ready<L: Ledger>(table: &Table<L>, keys: &[usize], ticks: &[u64]) -> bool
     true
 }
 
-// Each key of a row, one for each tick, is let be due so much after its first tick. The keys are counted and not read,
-// and there is one loop for all rounds, so that it is aligned as loops are that run often.
+// Resets each key of a row, one for each tick, to a fixed time after its first tick. The keys are counted and not read.
+// One loop does all rounds, so that it is aligned as loops are that run often.
 #[inline(never)]
 fn put_off<L: Ledger>(table: &mut Table<L>, base: usize, ticks: &[u64], later: u64)
     requires row { base + length ticks.now < 2 ^ 64 }
@@ -156,8 +155,8 @@ fn put_off<L: Ledger>(table: &mut Table<L>, base: usize, ticks: &[u64], later: u
     }
 }
 
-// The rounds of resets. They end with the first key that fires, which would be in no more; no tick of the
-// workload is due before the last round.
+// Runs the rounds of resets. They end with the first key that fires, since it is no longer in; no tick of the workload
+// is due before the last round.
 fn keep_alive<L: Ledger>(table: &mut Table<L>, base: usize, ticks: &[u64], outcome: &mut Outcome)
     requires row { base + length ticks.now < 2 ^ 64 }
     requires within { RowIn table.old.wheel base (length ticks.now) }
@@ -173,8 +172,8 @@ fn keep_alive<L: Ledger>(table: &mut Table<L>, base: usize, ticks: &[u64], outco
     }
 }
 
-// Ends the phase of the insertions, and then resets each key. What a reset asks of its key and its tick is
-// known before, and which number each key is, so that the time of the resets is that of the calls.
+// Ends the phase of the insertions, and then resets each key. The condition of a reset on its key and its tick is
+// checked before, and so is the number of each key. So the time of the resets is that of the calls.
 fn reset_all<R: Clock, L: Ledger>(
     rt: &R,
     table: &mut Table<L>,
@@ -214,7 +213,7 @@ fn fire_all<L: Ledger>(table: &mut Table<L>, work: Work, base: usize, outcome: &
     }
 }
 
-// What is done with the keys of these ticks, which are in.
+// Runs the workload on the keys of these ticks, which are in.
 fn run_keys<R: Clock, L: Ledger>(
     rt: &R,
     table: &mut Table<L>,
@@ -240,7 +239,7 @@ fn run_keys<R: Clock, L: Ledger>(
     watch.lap(rt)
 }
 
-/// Runs a workload over these ticks on a new wheel, and notes the time of each phase.
+/// Runs a workload over these ticks on a new wheel, and records the time of each phase.
 pub fn run<R: Clock, L: Ledger>(
     rt: &R,
     alloc: Global,
