@@ -84,7 +84,7 @@ impl Board {
     }
 }
 
-/// A board with room for so many tasks, and nothing on it.
+/// Returns a board with room for `tasks` tasks, and no notes.
 pub(crate) fn empty_board<R: Abort>(rt: &R, alloc: Global, tasks: u64) -> Board
     ensures { result.tasks.turn ≡ None }
 {
@@ -95,7 +95,8 @@ pub(crate) fn empty_board<R: Abort>(rt: &R, alloc: Global, tasks: u64) -> Board
     }
 }
 
-/// A future that waits so many polls and then gives a value. It notes its digit in each poll, and five more in its cancel.
+/// A future that waits for a number of polls and then gives a value. It notes its digit in each poll, and five more in
+/// its cancel.
 #[derive(Drop)]
 pub(crate) struct Step {
     pub(crate) digit: u64,
@@ -130,7 +131,7 @@ impl TaskFuture<Board> for Step {
     }
 }
 
-/// The same, of which one that fails gives its value as the error.
+/// The same future, which may fail: then it gives its value as the error.
 #[derive(Drop)]
 pub(crate) struct Trial {
     pub(crate) step: Step,
@@ -163,7 +164,8 @@ impl TaskFuture<Board> for Trial {
     }
 }
 
-/// Polls a form until it is ready, at most so many times: at which poll it was, counted from 0, and its output.
+/// Polls a form until it is ready, at most `polls` times. Returns its output and the number of that poll, counted from
+/// 0.
 fn first_answer<R: Host, F: TaskFuture<Board>>(
     rt: &R,
     alloc: Global,
@@ -182,7 +184,7 @@ fn first_answer<R: Host, F: TaskFuture<Board>>(
     None
 }
 
-/// The same on a board with no notes, with the notes that then stand there. The form is given up.
+/// Polls it in the same way on a board without notes, and returns the notes, too. Then it gives the form up.
 pub(crate) fn told<R: Host, F: TaskFuture<Board>>(
     rt: &R,
     alloc: Global,

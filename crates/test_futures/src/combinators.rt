@@ -1,4 +1,4 @@
-// The forms of two futures, and what stands beside them, over a small context that notes each poll and each cancel.
+// The forms of two futures, and the small ones, over a context that notes each poll and each cancel.
 use crate::boards::{Board, Step, Trial, empty_board, told};
 use crate::examples::join_waits;
 use mono_combine::{
@@ -8,7 +8,7 @@ use mono_model::{Host, Poll};
 use mono_task::TaskFuture;
 use std::alloc::Global;
 
-/// The two branches of a case: how many polls each waits, and its value.
+/// Returns the two branches of a case, by how many polls each waits, and its value.
 fn branches(waits: (u64, u64), values: (u64, u64)) -> (Step, Step) {
     let a = Step {
         digit: 1,
@@ -23,7 +23,7 @@ fn branches(waits: (u64, u64), values: (u64, u64)) -> (Step, Step) {
     (a, b)
 }
 
-/// The same, of which one fails whose value is above 7.
+/// Returns the same branches; each fails if its value is above 7.
 fn trials(waits: (u64, u64), values: (u64, u64)) -> (Trial, Trial) {
     let (a, b) = branches(waits, values);
     let a = Trial {
@@ -37,7 +37,7 @@ fn trials(waits: (u64, u64), values: (u64, u64)) -> (Trial, Trial) {
     (a, b)
 }
 
-/// At most two polls of a select, of which the first branch passes with an even value.
+/// Polls a select at most twice, whose first branch passes with an even value.
 fn select<R: Host>(
     rt: &R,
     alloc: Global,
@@ -57,8 +57,8 @@ fn select<R: Host>(
     told(rt, alloc, cx, form, 2)
 }
 
-/// The start of a select: biased, or at random. The seed's first number is between a half and two thirds of 2 ^ 32, so the
-/// second branch of two or of three has its turn first.
+/// Returns the start of a select: biased, or at random. The seed's first number is between a half and two thirds of 2 ^
+/// 32, so the second branch of two or of three has its turn first.
 pub(crate) fn start_of(is_random: bool) -> Start {
     if is_random {
         Start::Random(FastRand::new(0x8000_0000_0000_0000))
@@ -91,7 +91,7 @@ const JOINED: [((u64, u64), Option<(u64, (u64, u64))>, u64); 3] = [
 ];
 
 /// The waits and the values of two branches that may fail; the poll and the answer of their join, if it is ready in its
-/// first two polls, and the notes behind its cancel.
+/// first two polls, and the notes after its cancel.
 type Tried = (
     (u64, u64),
     (u64, u64),
@@ -127,7 +127,7 @@ fn selects_and_joins(rt: HostRuntime) {
     }
 }
 
-/// Whether an output is kept, changed where it stands, and taken once.
+/// Returns whether an output is kept, changed in place, and taken once.
 fn is_kept<R: Host>(rt: &R, alloc: Global, cx: &mut Board) -> bool {
     let (a, _) = branches((0, 0), (4, 0));
     let mut kept: MaybeDone<Board, Step> = maybe_done(a);
@@ -141,7 +141,7 @@ fn is_kept<R: Host>(rt: &R, alloc: Global, cx: &mut Board) -> bool {
     (before, output, again) == (None, Some(5), None) && ready.is_ready() && cx.notes == 16
 }
 
-/// Whether a closure greets at its poll.
+/// Returns whether a closure greets at its poll.
 fn greets<R: Host>(rt: &R, alloc: Global, cx: &mut Board) -> bool {
     let mut greeting = poll_fn(|_: &mut Board| Poll::Ready("Hello, World!"));
     match greeting.poll(rt, alloc, cx) {

@@ -7,18 +7,19 @@ use std::marker::Brand;
 use std::sync::ledger::{Blank, Ledger};
 use use_deadlines::Sessions;
 
-// Whether these sessions are gone at a time, of which some were gone before.
+// Returns whether these sessions have expired at a time, after the earlier ones of the list.
 fn expires(sessions: &mut Sessions, millis: u32, gone: &mut Vec<u64>, told: &[u64]) -> bool {
     sessions.expire_all(at_millis(millis), gone).is_ok() && gone.as_slice() == told
 }
 
-// Whether two sessions, the first until 20 ms and the second until 10, are gone in order, while the first is moved.
+// Returns whether two sessions, the first until 20 ms and the second until 10, expire in order, while the first is
+// moved.
 fn expire_in_order(sessions: &mut Sessions, gone: &mut Vec<u64>) -> bool {
-    // none is gone before the first deadline, and the second session at the deadline that the first one had
+    // none has expired before the first deadline, and the second session at the deadline that the first one had
     let none = expires(sessions, 9, gone, &[]);
     let is_moved = sessions.touch(0, at_millis(30)).is_ok();
     let second = expires(sessions, 20, gone, &[1]);
-    // a session that is gone can't be moved, and the other one is gone at its new deadline
+    // a session that has expired cannot be moved, and the other one expires at its new deadline
     let is_refused = sessions.touch(1, at_millis(40)).is_err();
     none && is_moved && second && is_refused && expires(sessions, 30, gone, &[1, 0])
 }
@@ -40,12 +41,13 @@ fn expired<L: Ledger>(sessions: &mut Sessions, millis: u32, blank: Blank) -> Opt
     sessions.expire(at_millis(millis), &mut steps)
 }
 
-// The next session that is gone at a time.
+// Returns the next session that has expired at a time.
 fn next_gone(sessions: &mut Sessions, millis: u32) -> Option<u64> {
     expired::<Brand>(sessions, millis, Blank::new(1))
 }
 
-// Whether a session until 10 ms is gone then, and not before: it can't be moved any more, and no other is gone.
+// Returns whether a session until 10 ms expires then, and not before: it cannot be moved any more, and no other
+// expires.
 fn is_gone(sessions: &mut Sessions) -> bool {
     let none = next_gone(sessions, 9);
     let first = next_gone(sessions, 10);

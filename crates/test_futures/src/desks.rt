@@ -94,7 +94,7 @@ impl TimeContext for Desk {
     ghost wakes_no_sleep = { λ c d t r w. ap (λ x. sleeps_of x.timers) w };
 }
 
-/// The desk of task 7 at a time, with room for four sleeps.
+/// Returns the desk of task 7 at a time, with room for four sleeps.
 pub(crate) fn empty_desk<R: Abort>(rt: &R, alloc: Global, now: Instant) -> Desk
     ensures { (sleeps_of result.timers).greatest ≡ 0 }
 {
@@ -106,7 +106,7 @@ pub(crate) fn empty_desk<R: Abort>(rt: &R, alloc: Global, now: Instant) -> Desk
     }
 }
 
-/// The instant so many milliseconds after the clock's zero.
+/// Returns the instant `millis` milliseconds after the clock's zero.
 pub(crate) fn at_millis(millis: u32) -> Instant {
     match Instant::from_nanos(u128::from(millis) * 1000000) {
         Some(instant) => instant,
@@ -114,7 +114,7 @@ pub(crate) fn at_millis(millis: u32) -> Instant {
     }
 }
 
-/// A future's poll, through its bound.
+/// Polls a future through its bound.
 pub(crate) fn polled<F: TaskFuture<Desk>, R: Host>(
     rt: &R,
     alloc: Global,
@@ -134,7 +134,7 @@ fn fired<L: Ledger>(timers: &mut Timers, now: Instant, blank: Blank) -> Option<(
     timers.clock(now, &mut steps)
 }
 
-/// The next sleep that fires in a clock step.
+/// Returns the next sleep that fires in a clock step.
 pub(crate) fn fires(timers: &mut Timers, now: Instant) -> Option<(u64, Option<u64>)> {
     fired::<Brand>(timers, now, Blank::new(1))
 }

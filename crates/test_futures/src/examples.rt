@@ -15,7 +15,7 @@ pub(crate) struct Countdown {
     has_answered: bool,
 }
 
-/// The future that waits so many polls.
+/// Returns the future that waits for `left` polls.
 pub(crate) fn countdown_of(left: u64) -> Countdown
     ensures left { result.left ≡ left }
     ensures fresh { result.has_answered ≡ false }
@@ -31,7 +31,7 @@ impl<C: Context> TaskFuture<C> for Countdown {
 
     ghost is_spent = { λ f. f.has_answered };
 
-    // it is ready exactly where none are left, and else one fewer is left and its own task is woken
+    // it is ready if and only if none are left; else one fewer is left and its own task is woken
     ghost polls = { λ f c r g d. (is_ready r ≡ (f.left == 0)) × OnPending r (g.left + 1 ≡ f.left) × OnPending r (C.work d ≡ woken (C.work c) (C.number c)) };
 
     ghost cancels = { λ f c d. d ≡ c };
@@ -54,8 +54,8 @@ impl<C: Context> TaskFuture<C> for Countdown {
     fn cancel(self, _cx: &mut C) {}
 }
 
-/// Whether the join of two countdowns waits at its first poll: it does where the first has polls left, whatever the
-/// context is, which is seen from the relations of the forms alone.
+/// Returns whether the join of two countdowns waits at its first poll. It does if the first has polls left, in each
+/// context, as the relations of the forms alone show.
 pub(crate) fn join_waits<C: Context, R: Host>(
     rt: &R,
     alloc: Global,

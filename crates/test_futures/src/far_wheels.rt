@@ -1,4 +1,4 @@
-//! A wheel whose clock goes on over turns of the top level, beside a plain list of keys.
+//! A wheel whose clock passes turns of the top level, compared with a plain list of keys.
 ghost use Rattle.std.specs.Prelude.{◌<◌};
 
 use crate::wheels::{comes_out, extends, put};
@@ -22,7 +22,7 @@ struct Plain {
     rows: Vec<Row>,
 }
 
-// The first tick after `elapsed` that ends in so many zero bits, with the digit of `tick` before them.
+// Returns the first tick after `elapsed` that ends in `zeros` zero bits, with the digit of `tick` before them.
 fn first_after(elapsed: u64, tick: u64, zeros: u32) -> u64
     requires { zeros < 64 }
 {
@@ -36,8 +36,8 @@ fn first_after(elapsed: u64, tick: u64, zeros: u32) -> u64
     0
 }
 
-// Where the slot of a tick that lies ahead starts: at the level of the highest digit to the base 64 in which the tick
-// differs from the clock, of seven levels.
+// Returns the start of the slot of a later tick. The level, of seven, is that of the highest digit to the base 64 in
+// which the tick differs from the clock.
 fn slot_start(elapsed: u64, tick: u64) -> u64 {
     for below in 0..6u32 {
         let zeros = (6 - below) * 6;
@@ -49,7 +49,7 @@ fn slot_start(elapsed: u64, tick: u64) -> u64 {
 }
 
 impl Plain {
-    // The clock's tick if a key is due now, else the first start of a slot.
+    // Returns the clock's tick if a key is due now, else the first start of a slot.
     fn next(&self) -> Option<u64> {
         let mut next: Option<u64> = None;
         for row in &self.rows {
@@ -65,7 +65,7 @@ impl Plain {
         next
     }
 
-    // The first of the keys that are due soonest, up to `now`.
+    // Returns the first of the keys that are due soonest, up to `now`.
     fn due(&self, now: u64) -> Option<Row> {
         let mut due: Option<Row> = None;
         for row in &self.rows {
@@ -80,7 +80,7 @@ impl Plain {
         due
     }
 
-    // The clock comes to a tick, at which a key goes out: each slot that started is gone through.
+    // Moves the clock to a tick, at which a key is removed; each slot that started is cascaded.
     fn go(&mut self, tick: u64, gone: Option<usize>) {
         let before = self.elapsed;
         self.elapsed = tick;
@@ -106,7 +106,7 @@ impl Plain {
     }
 }
 
-// Puts a key into both.
+// Inserts a key into both.
 fn put_both<R: Abort>(rt: &R, alloc: Global, wheel: &mut Wheel, plain: &mut Plain, tick: u64) {
     let key = put(rt, alloc, wheel, tick);
     let row = Row {
@@ -118,7 +118,7 @@ fn put_both<R: Abort>(rt: &R, alloc: Global, wheel: &mut Wheel, plain: &mut Plai
     plain.rows.push(row).expect(rt, "memory");
 }
 
-// Lets the key that went in at a place be due later in both.
+// Moves the key inserted at a place to a later tick in both.
 fn move_both(wheel: &mut Wheel, plain: &mut Plain, place: usize, tick: u64) -> bool {
     match plain.rows.get_mut(place) {
         None => false,
@@ -129,7 +129,7 @@ fn move_both(wheel: &mut Wheel, plain: &mut Plain, place: usize, tick: u64) -> b
     }
 }
 
-// Whether both give the same keys up to `now`, one after the other, with the same next ticks.
+// Returns whether both give the same keys up to `now`, one after the other, with the same next ticks.
 fn same_until(wheel: &mut Wheel, plain: &mut Plain, now: u64) -> bool {
     for _ in 0..200u32 {
         let expected = plain.fire(now);
@@ -159,7 +159,7 @@ const SLOT: u64 = 1 << 36;
 const LAST: u64 = (1 << 63) - 1;
 
 // Ticks in several turns of the top level: in one slot of several turns, in neighbour slots, twice the same, at the
-// start and the end of a slot, and at the end of all.
+// start and the end of a slot, and at the last tick.
 const FAR: [u64; 14] = [
     5,
     70 * TURN + 3 * SLOT + 9,
@@ -215,8 +215,8 @@ fn several_far_steps(rt: HostRuntime) {
     }
 }
 
-// A key that is let be due later stays where it was registered until its slot starts, also in another turn. A key
-// that goes in between two steps is not passed over.
+// A key that is moved later keeps its registered tick until its slot starts, also in another turn. A key that is
+// inserted between two steps is not passed over.
 #[test]
 fn moved_and_later_keys(rt: HostRuntime) {
     let (mut wheel, mut plain) = empty(&rt, rt.alloc());

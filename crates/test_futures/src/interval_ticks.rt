@@ -9,7 +9,7 @@ use std::alloc::Global;
 use std::process::Abort;
 use std::time::Duration;
 
-// Goes to a time, by a clock step in which at most one sleep fires.
+// Moves to a time, by a clock step in which at most one sleep fires.
 fn go_to(cx: &mut Desk, millis: u32) {
     let now = at_millis(millis);
     cx.now = now;
@@ -17,7 +17,7 @@ fn go_to(cx: &mut Desk, millis: u32) {
     let _ = fires(&mut cx.timers, now);
 }
 
-// Whether a poll of the interval answers this tick.
+// Returns whether a poll of the interval answers this tick.
 fn ticks_at(cx: &mut Desk, interval: &mut Interval, millis: u32) -> bool {
     interval.poll_tick(cx) == Ok(Poll::Ready(at_millis(millis)))
 }
@@ -26,7 +26,7 @@ fn waits(cx: &mut Desk, interval: &mut Interval) -> bool {
     interval.poll_tick(cx) == Ok(Poll::Pending)
 }
 
-// Whether the interval ticks at each of these times, and no sooner than then once more.
+// Returns whether the interval ticks once at each of these times, and not before.
 fn ticks_once(cx: &mut Desk, interval: &mut Interval, times: &[u32]) -> bool {
     for millis in times {
         go_to(cx, *millis);
@@ -37,7 +37,7 @@ fn ticks_once(cx: &mut Desk, interval: &mut Interval, times: &[u32]) -> bool {
     true
 }
 
-// An interval from now on, and one from a start.
+// Returns whether an interval from now on, and an interval from a start, tick in time.
 fn in_time(alloc: Global, cx: &mut Desk) -> bool {
     let Ok(mut now) = interval(alloc, cx, Duration::from_millis(10)) else {
         return false;
@@ -48,7 +48,7 @@ fn in_time(alloc: Global, cx: &mut Desk) -> bool {
     ticks_once(cx, &mut now, &[0, 10, 20]) && ticks_once(cx, &mut later, &[50, 60, 70])
 }
 
-// Ticks that were missed follow at once.
+// Returns whether missed ticks follow at once.
 fn burst(alloc: Global, cx: &mut Desk) -> bool {
     let Ok(mut ticks) = interval(alloc, cx, Duration::from_millis(50)) else {
         return false;
@@ -64,7 +64,7 @@ fn burst(alloc: Global, cx: &mut Desk) -> bool {
         && ticks.missed_tick_behavior() == MissedTickBehavior::default()
 }
 
-// Whether an interval of 50 ms from a start, whose first tick is polled at a time, ticks next at that deadline.
+// Returns whether an interval of 50 ms from a start, whose first tick is polled at a time, ticks next at that deadline.
 fn goes_on(
     alloc: Global,
     cx: &mut Desk,
@@ -114,7 +114,7 @@ impl TaskFuture<Desk> for Answer {
     fn cancel(self, _cx: &mut Desk) {}
 }
 
-// Whether a future with a deadline that has come answers this.
+// Returns whether a future with a deadline that has come answers this.
 fn limited<R: Host>(
     rt: &R,
     alloc: Global,
@@ -128,7 +128,7 @@ fn limited<R: Host>(
     }
 }
 
-// Whether a value that is ready is answered, and one that is not has elapsed: its delay stays.
+// Returns whether a value that is ready is answered, and a value that is not has elapsed: its delay stays.
 fn answers_in_time<R: Host>(rt: &R, alloc: Global, cx: &mut Desk) -> bool {
     let late = Err(TimeoutError::Elapsed(Elapsed));
     let is_ready = limited(rt, alloc, cx, Some(5), Ok(5));
@@ -153,9 +153,9 @@ enum Case {
     Ticks,
     // Ticks that were missed follow at once.
     Burst,
-    // How an interval goes on, its start, when the tick of that is polled, and the next deadline.
+    // How an interval continues: its start, when its first tick is polled, and the next deadline.
     GoesOn(MissedTickBehavior, u32, u32, u32),
-    // A value in time, and one that is late.
+    // A value in time, and a late value.
     Timeouts,
     // A future that is taken back.
     TakenBack,
@@ -177,7 +177,7 @@ const CASES: [Case; 12] = [
     Case::TakenBack,
 ];
 
-// Each of these must hold on a new desk.
+// Asserts that each of these holds on a new desk.
 fn all_hold<R: Host + Abort>(rt: &R, alloc: Global, cases: &[Case]) {
     for case in cases {
         let mut cx = empty_desk(rt, alloc, at_millis(0));

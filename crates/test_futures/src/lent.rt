@@ -1,8 +1,9 @@
-// Values that are lent by their numbers, over several pages.
+// Values that are taken out by their numbers, over several pages.
 use mono_table::Slots;
 use std::alloc::Global;
 
-/// So many numbers, each with itself as its value. All but every thousandth are taken at once, and do not come back.
+/// Adds `numbers` numbers, each with itself as its value. All but every thousandth are taken out at once, and are not
+/// put back.
 fn fill(alloc: Global, slots: &mut Slots<u64, u64>, numbers: u64) -> bool {
     for number in 0..numbers {
         if slots.reserve_value(alloc, number).is_err() {
@@ -16,7 +17,8 @@ fn fill(alloc: Global, slots: &mut Slots<u64, u64>, numbers: u64) -> bool {
     true
 }
 
-/// A value is taken, and comes back one greater, with what was there beside it. What stood there and beside it before.
+/// Takes a value out, and puts it back one greater, with the side value. Returns the value and the side value from
+/// before.
 fn raise(slots: &mut Slots<u64, u64>, number: u64) -> Option<(u64, Option<u64>)> {
     let (value, beside) = slots.take(number);
     let was = value?;
@@ -24,7 +26,7 @@ fn raise(slots: &mut Slots<u64, u64>, number: u64) -> Option<(u64, Option<u64>)>
     Some((was, beside))
 }
 
-/// A value is taken, and its place is gone.
+/// Takes a value out, and removes its place.
 fn goes(slots: &mut Slots<u64, u64>, number: u64) -> bool {
     let is_there = slots.take(number).0.is_some();
     if is_there {
@@ -33,7 +35,8 @@ fn goes(slots: &mut Slots<u64, u64>, number: u64) -> bool {
     is_there
 }
 
-/// What stood beside a value comes with it the next time; a number that is gone, and one that was never given, have none.
+/// Returns whether a side value is taken out with its value the next time. A number that was removed, and a number that
+/// was never given, have none.
 fn are_lent(slots: &mut Slots<u64, u64>) -> bool {
     raise(slots, 66_000) == Some((66_000, None))
         && raise(slots, 66_000) == Some((66_001, Some(66_000)))
@@ -52,8 +55,8 @@ fn values_come_back_with_what_stood_beside_them(rt: HostRuntime) {
     assert!(rt; are_lent(&mut slots));
 }
 
-/// A value is reserved and taken back, and no number is given out; it is reserved, and another in its stead, and that one is
-/// accepted as the next number's.
+/// Returns whether reserving works: a value is reserved and aborted, and no number is given out; it is reserved, then
+/// another in its place, and that one is committed under the next number.
 fn is_reserved(alloc: Global, slots: &mut Slots<u64, u64>, next: u64) -> bool {
     if slots.reserve_value(alloc, 1).is_err()
         || slots.abort() != 1
@@ -68,7 +71,7 @@ fn is_reserved(alloc: Global, slots: &mut Slots<u64, u64>, next: u64) -> bool {
     slots.take(next) == (Some(3), None)
 }
 
-/// So many numbers, each with a value that is reserved, taken back and reserved again.
+/// Adds `numbers` numbers, each with a value that is reserved, aborted and reserved again.
 fn offer_twice(alloc: Global, slots: &mut Slots<u64, u64>, numbers: u64) -> bool {
     for number in 0..numbers {
         if slots.reserve_value(alloc, number).is_err() {

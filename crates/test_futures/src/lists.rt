@@ -37,7 +37,7 @@ fn ends(links: &Links) -> (Option<usize>, Option<usize>)
     (links.first(0), links.last(0))
 }
 
-// Three new nodes, the last of them at the back of the first list.
+// Makes three nodes, the last of them at the back of the first list.
 fn put_three(links: &mut Links)
     requires room { 3 ≤ links.old.room }
     requires lists { 0 < length links.old.lists }
@@ -51,7 +51,7 @@ fn put_three(links: &mut Links)
     links.push_back(0, c);
 }
 
-// The odd nodes of the first list, and then the ends of what is left of it, as two digits each.
+// Returns the odd nodes of the first list, and then the ends of the rest, as two digits each.
 fn odd_nodes(links: &mut Links) -> usize
     requires { 0 < length links.old.lists }
 {
@@ -73,7 +73,7 @@ fn drained(rt: HostRuntime) {
     assert!(rt; odd_nodes(&mut links) == 1_03_02_02);
 }
 
-// Ticks, from which and to which a key goes, and its level.
+// The ticks of the clock and of a key, and the key's level.
 const LEVELS: [(u64, u64, usize); 10] = [
     (0, 63, 0),
     (0, 64, 1),
@@ -100,7 +100,7 @@ fn many_keys<R: Abort>(rt: &R, alloc: Global, wheel: &mut Wheel) {
     }
 }
 
-// Room for more nodes, and more keys, than the memory of the lists' ends holds.
+// There is room for more nodes, and more keys, than the memory of the lists' ends holds.
 #[test]
 fn memory_grows(rt: HostRuntime) {
     let mut links = Links::new(rt.alloc(), 1).expect(&rt, "memory");

@@ -1,4 +1,4 @@
-// Forms over lists: small ones, whose notes are told, and 64 futures, the most that there may be, which are ready at
+// Forms over lists: small ones, whose notes are checked, and 64 futures, the most that there may be, which are ready at
 // different polls.
 use crate::boards::{Board, Step, Trial, empty_board, told};
 use crate::combinators::start_of;
@@ -8,7 +8,7 @@ use std::alloc::{AllocError, Global};
 
 type Told<T> = Result<(Option<(u64, T)>, u64), AllocError>;
 
-/// As many branches as are listed, each with the polls that it waits and its value, which note 1, 2 and so on.
+/// Returns the listed branches, each with the polls that it waits and its value; they note 1, 2 and so on.
 fn listed(alloc: Global, branches: &[(u64, u64)]) -> Result<Vec<Step>, AllocError> {
     let mut steps = Vec::new(alloc);
     for (waits, value) in branches {
@@ -21,7 +21,7 @@ fn listed(alloc: Global, branches: &[(u64, u64)]) -> Result<Vec<Step>, AllocErro
     Ok(steps)
 }
 
-/// The same branches, of which those fail whose values are listed.
+/// Returns the same branches; those whose values are listed fail.
 fn trials(
     alloc: Global,
     branches: &[(u64, u64)],
@@ -40,7 +40,7 @@ fn trials(
     Ok(trials)
 }
 
-/// The branches 0 to 63. The branch i is ready with 1000 + i at its poll i mod 5, counted from 0.
+/// Returns the branches 0 to 63. The branch i is ready with 1000 + i at its poll i mod 5, counted from 0.
 fn sixty_four() -> [(u64, u64); 64] {
     let mut branches = [(0, 0); 64];
     for i in 0..64usize {
@@ -49,7 +49,7 @@ fn sixty_four() -> [(u64, u64); 64] {
     branches
 }
 
-/// Whether these are the numbers of the branches 0 to 63, in order.
+/// Returns whether these are the numbers of the branches 0 to 63, in order.
 fn are_all(numbers: &[u64]) -> bool {
     let mut next = 1000u64;
     for number in numbers {
@@ -61,7 +61,7 @@ fn are_all(numbers: &[u64]) -> bool {
     next == 1064
 }
 
-/// What the join of these branches tells.
+/// Returns the poll, the outputs and the notes of the join of these branches.
 fn joined<R: Host>(
     rt: &R,
     alloc: Global,
@@ -78,7 +78,7 @@ fn joined<R: Host>(
     }
 }
 
-/// Whether the join of these branches is ready at this poll with these outputs and notes.
+/// Returns whether the join of these branches is ready at this poll with these outputs and notes.
 fn joins_as<R: Host>(
     rt: &R,
     alloc: Global,
@@ -94,7 +94,7 @@ fn joins_as<R: Host>(
     }
 }
 
-/// Whether a join was ready at this poll with these outputs.
+/// Returns whether a join was ready at this poll with these outputs.
 fn is_told(answer: Option<(u64, Vec<u64>)>, poll: u64, outputs: &[u64]) -> bool {
     match answer {
         Some((at, told)) => at == poll && told.as_slice() == outputs,
@@ -109,7 +109,7 @@ const JOINED: [(&[(u64, u64)], u64, &[u64], u64); 3] = [
     (&[(0, 1), (1, 2)], 1, &[1, 2], 16227),
 ];
 
-/// At which poll the join of all is ready with all numbers in order.
+/// Returns at which poll the join of all is ready with all numbers in order.
 fn joined_all<R: Host>(rt: &R, alloc: Global, cx: &mut Board) -> Option<u64> {
     match joined(rt, alloc, cx, &sixty_four()) {
         Ok((Some((poll, outputs)), _)) if are_all(&outputs) => Some(poll),
@@ -126,7 +126,8 @@ fn joins(rt: HostRuntime) {
     assert!(rt; joined_all(&rt, rt.alloc(), &mut cx) == Some(4));
 }
 
-/// What the join of these branches tells, of which those fail whose values are listed.
+/// Returns the poll, the outputs or the error, and the notes of the join of these branches; those whose values are
+/// listed fail.
 fn tried<R: Host>(
     rt: &R,
     alloc: Global,
@@ -144,8 +145,8 @@ fn tried<R: Host>(
     }
 }
 
-/// The poll, the outputs or the error in a list of one, and the notes of the join of two branches, of which those fail
-/// whose values are above 7.
+/// Returns whether the join of two branches has this poll, these outputs or this error in a list of one, and these
+/// notes; a branch with a value above 7 fails.
 fn tries_as<R: Host>(
     rt: &R,
     alloc: Global,
@@ -161,7 +162,7 @@ fn tries_as<R: Host>(
     }
 }
 
-/// Whether a join of two was ready at this poll, with these outputs or this error.
+/// Returns whether a join of two was ready at this poll, with these outputs or this error.
 fn is_tried(
     told: Option<(u64, Result<Vec<u64>, u64>)>,
     poll: u64,
@@ -180,7 +181,7 @@ fn is_tried(
     at == poll && is_answer
 }
 
-/// Two branches of which those with 8 fail; the poll and the answer of their join, and the notes.
+/// Two branches, which fail with 8; the poll and the answer of their join, and the notes.
 const TRIED: [([(u64, u64); 2], u64, Result<(u64, u64), u64>, u64); 5] = [
     ([(0, 1), (0, 2)], 0, Ok((1, 2)), 1627),
     ([(0, 8), (9, 2)], 0, Err(8), 167),
@@ -189,7 +190,7 @@ const TRIED: [([(u64, u64); 2], u64, Result<(u64, u64), u64>, u64); 5] = [
     ([(0, 8), (1, 2)], 0, Err(8), 167),
 ];
 
-/// The poll and the error of the join of all, of which those fail whose values are listed, or no error where it gave
+/// Returns the poll and the error of the join of all, whose branches with listed values fail, or no error if it gave
 /// all numbers in order.
 fn tried_all<R: Host>(
     rt: &R,
@@ -204,7 +205,7 @@ fn tried_all<R: Host>(
     }
 }
 
-/// Whether the join of all that may fail answers the first error of the first poll in which one fails.
+/// Returns whether the join of all that may fail answers the first error of the first poll in which one fails.
 fn first_fails<R: Host>(rt: &R, alloc: Global, cx: &mut Board) -> bool {
     // 63 is ready at poll 3, 12 and 37 at poll 2, and 4 and 9 at poll 4
     tried_all(rt, alloc, cx, &[]) == Some((4, None))
@@ -222,8 +223,8 @@ fn tried_joins(rt: HostRuntime) {
     assert!(rt; first_fails(&rt, rt.alloc(), &mut cx));
 }
 
-/// What the select of these branches tells, of which those from a number on pass always, and the others with an even
-/// value where that is asked for.
+/// Returns the poll, the answer and the notes of the select of these branches. Those from a number on pass always, and
+/// the others with an even value if that is asked for.
 #[tactic(auto, using(crate::proofs::UnspentFormLemmas::all_masked_can))]
 fn selected<R: Host>(
     rt: &R,
@@ -246,11 +247,11 @@ fn selected<R: Host>(
     }
 }
 
-/// What a select is asked: from which number on branches pass always, whether those with an even value pass too, the mask,
-/// and whether the start is at random; the poll and the answer that it must give, and its notes where they are told.
+/// A select: from which number on branches pass always, whether those with an even value pass too, the mask, and
+/// whether the start is at random; the poll and the expected answer, and its notes if they are checked.
 type Asked = ((u32, bool), u64, bool, (u64, Out<u64>), Option<u64>);
 
-/// Whether the select of these branches gives the answer that is told.
+/// Returns whether the select of these branches gives the expected answer.
 fn selects_as<R: Host>(
     rt: &R,
     alloc: Global,
@@ -268,14 +269,14 @@ fn selects_as<R: Host>(
 const FOUR: [(u64, u64); 4] = [(0, 1), (0, 2), (0, 3), (0, 4)];
 
 const SELECTED: [(&[(u64, u64)], Asked); 9] = [
-    // of four branches that are ready at once, where the count goes from 0 on, the branch i is enabled where it is below
-    // i + 1, and its output is the next count
+    // four branches that are ready at once: the count rises from 0, the branch i is enabled if it is below i + 1, and
+    // its output is the next count
     (&FOUR, ((0, false), 0, false, (0, Out::Picked(0, 1)), None)),
     (&FOUR, ((0, false), 1, false, (0, Out::Picked(1, 2)), None)),
     (&FOUR, ((0, false), 3, false, (0, Out::Picked(2, 3)), None)),
     (&FOUR, ((0, false), 7, false, (0, Out::Picked(3, 4)), None)),
     (&FOUR, ((0, false), 15, false, (0, Out::Disabled), None)),
-    // of three branches the last passes always
+    // the last of three branches passes always
     (
         &[(0, 3), (1, 4), (0, 5)],
         ((2, true), 0, false, (0, Out::Picked(2, 5)), Some(162387)),
@@ -295,7 +296,7 @@ const SELECTED: [(&[(u64, u64)], Asked); 9] = [
     ),
 ];
 
-/// Of all branches.
+/// Selects over all branches.
 const OF_ALL: [Asked; 9] = [
     // from 60 on the first is ready at poll 0, from 61 on at poll 1, and 63 is ready at poll 3
     ((0, false), 0, false, (0, Out::Picked(0, 1000)), None),

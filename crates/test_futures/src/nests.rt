@@ -11,7 +11,7 @@ use mono_time::{Elapsed, Error, Instant, TimeContext, TimeoutError, timeout_at};
 use std::alloc::Global;
 use std::process::Abort;
 
-/// A countdown with a deadline, none of whose polls has answered.
+/// Returns a countdown with a deadline, which has not answered yet.
 fn limited<R: Abort>(
     rt: &R,
     alloc: Global,
@@ -28,8 +28,8 @@ fn limited<R: Abort>(
     }
 }
 
-/// Whether the first poll of a nest waits none of whose deadlines is due, and leaves no sleep. The third countdown waits
-/// so many polls.
+/// Returns whether the first poll of a nest with no due deadline waits, and leaves no sleep. The third countdown waits
+/// for `third` polls.
 fn first_poll<R: Host>(rt: &R, alloc: Global, cx: &mut Desk, third: u64) -> bool
     requires fresh { (sleeps_of cx.old.timers).greatest ≡ 0 }
     requires counts { 0 < third }
@@ -49,7 +49,8 @@ fn begun(rt: HostRuntime) {
     }
 }
 
-/// Two polls of a nest: in the first the fourth is out of time and the others wait, and in the second the first answers.
+/// Polls a nest twice: in the first poll the fourth is out of time and the others wait, and in the second the first
+/// answers.
 fn two_polls<R: Host + Abort>(rt: &R, alloc: Global, cx: &mut Desk) -> bool {
     let a = limited(rt, alloc, cx, 10, 1, 5);
     let b = limited(rt, alloc, cx, 10, 9, 6);

@@ -7,7 +7,7 @@ use std::alloc::Global;
 use std::time::Duration;
 use use_pulse::Pulse;
 
-/// Whether a pulse whose sleep is due at once waits for the one period that it has left, and ends with it.
+/// Returns whether a pulse whose sleep is due at once waits for the one period that it has left, and ends with it.
 fn waits_a_period<R: Host>(rt: &R, alloc: Global, cx: &mut Desk) -> bool {
     let Ok(delay) = sleep(alloc, cx, Duration::from_millis(0)) else {
         return false;

@@ -8,7 +8,7 @@ use mono_stream::{Stream, StreamExt, iter};
 use mono_task::TaskFuture;
 use std::alloc::Global;
 
-/// A future that waits so many polls, in each of which it notes how often a task was woken before.
+/// A future that waits for a number of polls, in each of which it notes how often a task was woken before.
 #[derive(Drop)]
 struct Nothing {
     waits: u64,
@@ -39,7 +39,7 @@ impl TaskFuture<Board> for Nothing {
     fn cancel(self, _cx: &mut Board) {}
 }
 
-/// The next item of a stream that waits at most once for it, through the bound.
+/// Returns the next item of a stream that waits at most once for it, through the bound.
 fn item<S: Stream<Board, Item = u64>, R: Host>(
     rt: &R,
     alloc: Global,
@@ -62,7 +62,7 @@ fn hint<S: Stream<Board>>(stream: &S) -> (usize, Option<usize>) {
     stream.size_hint()
 }
 
-/// Whether three numbers come, each with one added, and what their hints are.
+/// Returns whether three numbers come, each with one added, and whether their hints are right.
 fn adds_one<R: Host>(rt: &R, alloc: Global, cx: &mut Board) -> bool {
     let numbers = iter([1u64, 2, 3]);
     let is_exact = hint(&numbers) == (3, Some(3));
@@ -78,7 +78,7 @@ fn adds_one<R: Host>(rt: &R, alloc: Global, cx: &mut Board) -> bool {
     is_exact && is_open && are_three && last == Poll::Ready(None)
 }
 
-/// Whether the outputs of two futures come, each of which gives twice its digit and waits once, through a reference.
+/// Returns whether the outputs of two futures come, through a reference; each gives twice its digit and waits once.
 fn doubles<R: Host>(rt: &R, alloc: Global, cx: &mut Board) -> bool {
     cx.notes = 0;
     let mut twice = StreamExt::<Board>::then(
@@ -100,8 +100,8 @@ fn doubles<R: Host>(rt: &R, alloc: Global, cx: &mut Board) -> bool {
     first == 2 && second == 4 && last == None && cx.notes == 116227
 }
 
-/// Whether a future that handles 300 items, the last of which waits once, is ready at the third poll, and wakes its own
-/// task once, before that wait.
+/// Returns whether a future that handles 300 items, the last of which waits once, is ready at the third poll, and wakes
+/// its own task once, before that wait.
 fn handles<R: Host>(rt: &R, alloc: Global, cx: &mut Board) -> bool {
     cx.wakes = 0;
     let all = StreamExt::<Board>::for_each(iter(0..300u64), |x: u64| Nothing { waits: x / 299 });

@@ -3,7 +3,7 @@ use mono_table::Table;
 use std::alloc::Global;
 use std::process::Abort;
 
-/// As many numbers, each with itself as its value; all but every thousandth are gone again at once.
+/// Adds `numbers` numbers, each with itself as its value, and removes all but every thousandth at once.
 fn fill<R: Abort>(rt: &R, alloc: Global, table: &mut Table<u64>, numbers: u64) {
     for number in 0..numbers {
         if table.len() == number {
@@ -15,12 +15,12 @@ fn fill<R: Abort>(rt: &R, alloc: Global, table: &mut Table<u64>, numbers: u64) {
     }
 }
 
-/// Whether the table has this value, or none, at a number.
+/// Returns whether the table has this value, or none, at a number.
 fn has(table: &Table<u64>, number: u64, value: Option<u64>) -> bool {
     table.get(number).copied() == value
 }
 
-/// What lives on of 150,000 numbers, and what is gone.
+/// Some of 150,000 numbers, with the values that live on, and None if removed.
 const LEFT: [(u64, Option<u64>); 7] = [
     (0, Some(0)),
     (66_000, Some(66_000)),
@@ -31,7 +31,7 @@ const LEFT: [(u64, Option<u64>); 7] = [
     (150_000, None),
 ];
 
-/// Whether the table has what is left, at each number.
+/// Returns whether the table has these values, at each number.
 fn has_what_is_left(table: &Table<u64>) -> bool {
     for (number, value) in LEFT {
         if !has(table, number, value) {
@@ -41,7 +41,7 @@ fn has_what_is_left(table: &Table<u64>) -> bool {
     true
 }
 
-/// Whether a value is changed where it stands, then in its place, and then gone.
+/// Returns whether a value is changed in place, then replaced, and then removed.
 fn changes(table: &mut Table<u64>, number: u64) -> bool {
     if table.get(number).is_none() {
         return false;
@@ -54,7 +54,7 @@ fn changes(table: &mut Table<u64>, number: u64) -> bool {
     is_changed && is_set && has(table, number, None)
 }
 
-/// Whether every thousandth of 150,000 numbers lives on, and one is changed and then gone.
+/// Returns whether every thousandth of 150,000 numbers lives on, and one is changed and then removed.
 fn lives_on(table: &mut Table<u64>) -> bool {
     table.len() == 150_000
         && table.count() == 150
@@ -63,7 +63,7 @@ fn lives_on(table: &mut Table<u64>) -> bool {
         && table.count() == 149
 }
 
-/// Numbers that live on through pages and parts that were given back.
+/// Numbers live on through pages and parts that were given back.
 #[test]
 fn numbers(rt: HostRuntime) {
     let mut table = Table::new(rt.alloc());

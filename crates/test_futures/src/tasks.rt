@@ -7,7 +7,7 @@ use mono_model::Host;
 use mono_task::{Ended, JoinHandle, Poll, SpawnTask, TaskError, TaskFuture, Tasks, Woke};
 use std::alloc::Global;
 
-/// Whether one task is spawned and a second refused.
+/// Returns whether one task is spawned and a second refused.
 fn spawns_one(alloc: Global, tasks: &mut Tasks<u64>) -> bool
     requires { tasks.old.turn ≡ None }
     ensures { tasks.new.turn ≡ None }
@@ -17,7 +17,8 @@ fn spawns_one(alloc: Global, tasks: &mut Tasks<u64>) -> bool
     first == Ok(0) && second == Err(SpawnTask::AtCapacity) && tasks.queue_len() == 1
 }
 
-/// Whether the first task's turns go on after its own wake, and end with an output, which its handle takes once.
+/// Returns whether the first task has another turn after its own wake, and ends with an output, which its handle takes
+/// once.
 fn ends_once(tasks: &mut Tasks<u64>) -> bool
     requires { tasks.old.turn ≡ None }
 {
@@ -34,7 +35,7 @@ fn ends_once(tasks: &mut Tasks<u64>) -> bool
     are_turns && is_taken_once(tasks)
 }
 
-/// Whether the handle of a task that has ended takes its output once, and is let go once.
+/// Returns whether the handle of a task that has ended takes its output once, and is dropped once.
 fn is_taken_once(tasks: &mut Tasks<u64>) -> bool {
     let finished = tasks.is_finished(0);
     let joined = (tasks.poll_join(0, 0), tasks.poll_join(0, 0));
@@ -53,7 +54,7 @@ fn table(rt: HostRuntime) {
     assert!(rt; spawns_one(rt.alloc(), &mut tasks) && ends_once(&mut tasks));
 }
 
-// As many turns as that, each of the next number and pending; where it is asked for, each task wakes itself meanwhile.
+// Runs `count` turns, each of the next number and pending; if asked, each task wakes itself in its turn.
 fn turns_in_order(tasks: &mut Tasks<u64>, count: u64, again: bool) -> bool
     requires { tasks.old.turn ≡ None }
     ensures { tasks.new.turn ≡ None }
@@ -73,7 +74,7 @@ fn turns_in_order(tasks: &mut Tasks<u64>, count: u64, again: bool) -> bool
     in_order
 }
 
-/// Whether three hundred tasks are spawned in order.
+/// Returns whether three hundred tasks are spawned in order.
 fn spawns_all(alloc: Global, tasks: &mut Tasks<u64>) -> bool
     requires { tasks.old.turn ≡ None }
     ensures { tasks.new.turn ≡ None }
@@ -86,7 +87,7 @@ fn spawns_all(alloc: Global, tasks: &mut Tasks<u64>) -> bool
     true
 }
 
-/// Whether each of three hundred tasks is queued by a wake, and once.
+/// Returns whether each of three hundred tasks is queued by a wake, and once.
 fn wakes_all(tasks: &mut Tasks<u64>) -> bool
     requires { tasks.old.turn ≡ None }
     ensures { tasks.new.turn ≡ None }
@@ -99,7 +100,7 @@ fn wakes_all(tasks: &mut Tasks<u64>) -> bool
     true
 }
 
-/// Whether three hundred tasks wake themselves in their turns, so that the queue goes round, and are woken again.
+/// Returns whether three hundred tasks wake themselves in their turns, so that the queue cycles, and are woken again.
 fn go_round(alloc: Global, tasks: &mut Tasks<u64>) -> bool
     requires { tasks.old.turn ≡ None }
 {
@@ -118,7 +119,7 @@ fn many(rt: HostRuntime) {
     assert!(rt; go_round(rt.alloc(), &mut tasks));
 }
 
-/// Whether the handle of a task that has ended with 5 gives that once.
+/// Returns whether the handle of a task that has ended with 5 gives that once.
 fn is_given_once<R: Host>(
     rt: &R,
     alloc: Global,
@@ -134,7 +135,7 @@ fn is_given_once<R: Host>(
         && dropped == Ok(None)
 }
 
-/// Whether a future makes calls of its own, and the handle of a task that ends gives its output once.
+/// Returns whether a future makes calls of its own, and the handle of a task that ends gives its output once.
 fn two_futures<R: Host>(rt: &R, alloc: Global, cx: &mut Board) -> bool
     requires { cx.old.tasks.turn ≡ None }
 {

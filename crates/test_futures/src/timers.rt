@@ -7,7 +7,7 @@ use std::alloc::Global;
 use std::process::Abort;
 use std::time::Duration;
 
-/// A call on timers, with what it answers. Those that take a time take it from beside the call.
+/// A call on timers, with its answer. A call that takes a time takes the time given with it.
 #[derive(Clone, Copy)]
 enum Call {
     Add(Result<u64, SleepError>),
@@ -20,7 +20,7 @@ enum Call {
     Greatest(u64),
 }
 
-/// Whether a call answers what stands there.
+/// Returns whether a call has its expected answer.
 fn answers(alloc: Global, timers: &mut Timers, at: Instant, call: Call) -> bool {
     match call {
         Call::Add(told) => timers.add(alloc, at) == told,
@@ -34,7 +34,7 @@ fn answers(alloc: Global, timers: &mut Timers, at: Instant, call: Call) -> bool 
     }
 }
 
-/// Whether all of these calls answer what stands there. Each stands behind its time in nanoseconds.
+/// Returns whether all of these calls have their expected answers. Each follows its time in nanoseconds.
 fn all_answer(alloc: Global, timers: &mut Timers, calls: &[(u128, Call)]) -> bool {
     for (nanos, call) in calls {
         let Some(at) = Instant::from_nanos(*nanos) else {
@@ -47,7 +47,7 @@ fn all_answer(alloc: Global, timers: &mut Timers, calls: &[(u128, Call)]) -> boo
     true
 }
 
-/// The same on new timers, if they are there.
+/// Does the same on new timers, if there are any.
 fn all_answer_of<R: Abort>(
     rt: &R,
     alloc: Global,
@@ -71,8 +71,8 @@ const ONE_SLEEP: [(u128, Call); 8] = [
     (0, Call::Add(Ok(1))),
 ];
 
-// Of two sleeps, which tasks 3 and 4 wait for, the second was armed first. Sleeps of one tick fire as they were armed,
-// each with the task that polled it last.
+// Two sleeps, for which tasks 3 and 4 wait; the second was armed first. Sleeps of one tick fire in the order in which
+// they were armed, each with the task that polled it last.
 const TIES: [(u128, Call); 11] = [
     (100000000, Call::Add(Ok(0))),
     (100000000, Call::Add(Ok(1))),
@@ -100,7 +100,7 @@ const MOVES: [(u128, Call); 9] = [
     (80000000, Call::Clock(Some((0, Some(3))))),
 ];
 
-// The clock does not go back, and a sleep that is moved to a tick that has passed hands out its task.
+// The clock does not move back, and a sleep that is moved to a past tick hands out its task.
 const PASSES: [(u128, Call); 8] = [
     (90000000, Call::Add(Ok(0))),
     (90000000, Call::Add(Ok(1))),
@@ -112,7 +112,7 @@ const PASSES: [(u128, Call); 8] = [
     (0, Call::Greatest(80)),
 ];
 
-// Of two sleeps that are far apart the nearer one fires first.
+// The nearer of two sleeps that are far apart fires first.
 const FAR_APART: [(u128, Call); 7] = [
     (0x400_0000_0000 * 1000000, Call::Add(Ok(0))),
     (0x10_0000_0000 * 1000000, Call::Add(Ok(1))),
@@ -181,7 +181,7 @@ fn calls_in_turn(rt: HostRuntime) {
     }
 }
 
-/// Whether a whole clock step fires these sleeps at once, behind what the list has.
+/// Returns whether a whole clock step fires these sleeps at once, after those that the list has.
 fn fire(
     alloc: Global,
     timers: &mut Timers,
@@ -192,7 +192,7 @@ fn fire(
     timers.fire_all(alloc, at_millis(millis), fired).is_ok() && fired.as_slice() == told
 }
 
-// Two sleeps of three, of which the second is due first.
+// Two of three sleeps; the second is due first.
 const TWO_ARMED: [(u128, Call); 4] = [
     (90000000, Call::Add(Ok(0))),
     (80000000, Call::Add(Ok(1))),
@@ -200,7 +200,7 @@ const TWO_ARMED: [(u128, Call); 4] = [
     (0, Call::Poll(0, 3, Ok(Poll::Pending))),
 ];
 
-/// Whether those two fire in whole clock steps, and then no other.
+/// Returns whether those two fire in whole clock steps, and then no other.
 fn fire_both(alloc: Global, timers: &mut Timers, fired: &mut Vec<(u64, Option<u64>)>) -> bool {
     fire(alloc, timers, 85, fired, &[(7, None), (1, Some(4))])
         && fire(
@@ -214,7 +214,7 @@ fn fire_both(alloc: Global, timers: &mut Timers, fired: &mut Vec<(u64, Option<u6
         && fires(timers, at_millis(90)) == None
 }
 
-// A whole clock step at once, behind what the list has.
+// A whole clock step appends to the list.
 #[test]
 fn at_once(rt: HostRuntime) {
     let alloc = rt.alloc();
@@ -225,7 +225,7 @@ fn at_once(rt: HostRuntime) {
     assert!(rt; are_armed && fire_both(alloc, &mut timers, &mut fired));
 }
 
-// Deadlines that are too far off.
+// Returns whether deadlines that are too far off are refused.
 fn far_off(alloc: Global, cx: &mut Desk) -> bool {
     let Ok(far) = sleep(alloc, cx, Duration::MAX) else {
         return false;
@@ -238,7 +238,7 @@ fn far_off(alloc: Global, cx: &mut Desk) -> bool {
         && same.number() == 1
 }
 
-// A sleep that waits, is moved and is given up.
+// Returns whether a sleep waits, is moved and is given up.
 fn sleeps<R: Host>(rt: &R, alloc: Global, cx: &mut Desk) -> bool {
     let Ok(mut short) = sleep(alloc, cx, Duration::from_millis(3)) else {
         return false;

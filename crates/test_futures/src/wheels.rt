@@ -18,12 +18,12 @@ fn polled<L: Ledger>(wheel: &mut Wheel, now: u64, blank: Blank) -> Option<usize>
     wheel.poll(now, &mut steps)
 }
 
-// What comes out up to a tick.
+// Returns the key that fires up to a tick.
 pub fn comes_out(wheel: &mut Wheel, now: u64) -> Option<usize> {
     polled::<Brand>(wheel, now, Blank::new(1))
 }
 
-// A new key that is due at a tick.
+// Inserts a new key that is due at a tick.
 pub fn put<R: Abort>(rt: &R, alloc: Global, wheel: &mut Wheel, tick: u64) -> usize {
     let key = wheel.reserve_entry(alloc).expect(rt, "memory");
     if tick < 1 << 63 {
@@ -32,7 +32,7 @@ pub fn put<R: Abort>(rt: &R, alloc: Global, wheel: &mut Wheel, tick: u64) -> usi
     key
 }
 
-// Takes a key out and gives it back.
+// Removes a key and gives it back.
 fn give_back(wheel: &mut Wheel, key: usize) {
     if wheel.is_in(key) {
         wheel.remove(key);
@@ -40,7 +40,7 @@ fn give_back(wheel: &mut Wheel, key: usize) {
     }
 }
 
-// What is next of a new wheel that was polled to a tick and then has one key at another.
+// Returns the next expiration of a new wheel that was polled to a tick and then has one key at another.
 fn next_after<R: Abort>(rt: &R, alloc: Global, elapsed: u64, tick: u64) -> Option<u64> {
     let mut wheel = Wheel::new(alloc).expect(rt, "memory");
     comes_out(&mut wheel, elapsed);
@@ -48,7 +48,7 @@ fn next_after<R: Abort>(rt: &R, alloc: Global, elapsed: u64, tick: u64) -> Optio
     wheel.next_expiration_time()
 }
 
-// The ticks of a poll and of a key that is then put in, and what is next.
+// The ticks of a poll and of a key that is inserted after it, and the next expiration.
 const NEXT: [(u64, u64, u64); 6] = [
     (0, 100, 64),
     (64, 100, 100),
@@ -65,7 +65,7 @@ fn next_ticks(rt: HostRuntime) {
     }
 }
 
-// A new key that is not put in at the tick 0, and then is at 100.
+// Makes a key that is refused at the tick 0, and is then inserted at 100.
 fn put_late<R: Abort>(rt: &R, alloc: Global, wheel: &mut Wheel) -> Option<usize> {
     let key = wheel.reserve_entry(alloc).expect(rt, "memory");
     if !matches!(wheel.insert(key, 0), Err(InsertError::Elapsed)) {
@@ -77,12 +77,12 @@ fn put_late<R: Abort>(rt: &R, alloc: Global, wheel: &mut Wheel) -> Option<usize>
     Some(key)
 }
 
-// Whether a key is let be due at a tick.
+// Returns whether a key can be reset to a tick.
 pub fn extends(wheel: &mut Wheel, key: usize, tick: u64) -> bool {
     wheel.is_in(key) && tick < 1 << 63 && wheel.extend(key, tick)
 }
 
-// One key that is moved and comes out at its later tick.
+// Returns whether one key is moved and fires at its later tick.
 fn one_key(wheel: &mut Wheel, key: usize) -> bool {
     let next = wheel.next_expiration_time();
     let earlier = extends(wheel, key, 99);
@@ -101,7 +101,7 @@ fn a_key_is_moved(rt: HostRuntime) {
     assert!(rt; one_key(&mut wheel, key));
 }
 
-// Whether two keys come out, the nearer one first, and then none is left.
+// Returns whether two keys fire, the nearer one first, and then none is left.
 fn come_out_in_order(wheel: &mut Wheel, near: usize, far: usize) -> bool {
     let none = comes_out(wheel, 0xf_ffff_ffff);
     let first = comes_out(wheel, 0x10_0000_0000);
@@ -109,7 +109,7 @@ fn come_out_in_order(wheel: &mut Wheel, near: usize, far: usize) -> bool {
     (none, first, second) == (None, Some(near), Some(far)) && wheel.next_expiration_time() == None
 }
 
-// Three keys far apart, of which the nearer one comes first; one is taken out and given back.
+// Returns whether the nearer of three keys far apart fires first; one is removed and given back.
 fn far_keys<R: Abort>(rt: &R, alloc: Global, wheel: &mut Wheel) -> bool {
     let far = put(rt, alloc, wheel, 0x400_0000_0000);
     let near = put(rt, alloc, wheel, 0x10_0000_0000);
@@ -125,7 +125,7 @@ fn keys_far_apart(rt: HostRuntime) {
     assert!(rt; far_keys(&rt, rt.alloc(), &mut wheel));
 }
 
-// An insertion, a reset and a poll.
+// Returns an insertion, a reset and a poll.
 fn three_calls<R: Abort>(rt: &R, alloc: Global, key: usize) -> Vec<WheelCall> {
     let calls = [
         WheelCall::Insert(key, 6 << 36),
@@ -135,7 +135,7 @@ fn three_calls<R: Abort>(rt: &R, alloc: Global, key: usize) -> Vec<WheelCall> {
     Vec::from_array(alloc, calls).expect(rt, "memory")
 }
 
-// A key that came out far ahead in one step, and calls in turn up to one whose condition does not hold.
+// Fires a key far ahead in one step, and makes calls in turn up to one whose condition does not hold.
 fn in_turn<L: Ledger>(
     wheel: &mut Wheel,
     steps: &mut Steps<L>,
@@ -167,7 +167,7 @@ fn calls_in_turn(rt: HostRuntime) {
     assert!(rt; in_turn_on_new::<HostRuntime, Brand>(&rt, rt.alloc(), Blank::new(1)));
 }
 
-// A key for each tick up to 900. Each third of them is listed apart.
+// Inserts a key for each tick up to 900, and lists each third of them apart.
 fn put_thirds<R: Abort>(
     rt: &R,
     alloc: Global,
@@ -185,14 +185,14 @@ fn put_thirds<R: Abort>(
     }
 }
 
-// Takes these keys out and gives them back.
+// Removes these keys and gives them back.
 fn give_all_back(wheel: &mut Wheel, keys: &[usize]) {
     for key in keys {
         give_back(wheel, *key);
     }
 }
 
-// 300 keys more: whether each has a number that was given back.
+// Inserts 300 more keys, and returns whether each has a number that was given back.
 fn put_again<R: Abort>(
     rt: &R,
     alloc: Global,
@@ -210,7 +210,7 @@ fn put_again<R: Abort>(
     true
 }
 
-// Whether these keys come out in this order, and then no other.
+// Returns whether these keys fire in this order, and then no other.
 fn come_out(wheel: &mut Wheel, keys: &[usize]) -> bool {
     for key in keys {
         if comes_out(wheel, 6000) != Some(*key) {
@@ -220,7 +220,7 @@ fn come_out(wheel: &mut Wheel, keys: &[usize]) -> bool {
     comes_out(wheel, 6000) == None
 }
 
-// Of 900 keys each third is given back before 300 more go in, which take no new numbers.
+// Each third of 900 keys is given back before 300 more are inserted, which take no new numbers.
 #[test]
 fn keys_are_given_again(rt: HostRuntime) {
     let alloc = rt.alloc();

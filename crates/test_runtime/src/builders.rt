@@ -1,4 +1,4 @@
-// What a builder sets, and a start on the defaults.
+// The settings of a builder, and a start on the defaults.
 ghost use Rattle.std.specs.Prelude.{◌≡◌, None};
 
 use crate::turns::Gives;
@@ -9,7 +9,7 @@ use mono_rt::{RunError, RuntimeBuilder, StepDriver, TimeDriver, start};
 use std::alloc::Global;
 use std::process::Abort;
 
-/// A builder on a driver that never waits.
+/// Returns a builder on a driver that never waits.
 fn builder(alloc: Global) -> RuntimeBuilder<StepDriver, NoPool<Gives>> {
     RuntimeBuilder::new(StepDriver::new(Vec::new(alloc)))
 }
@@ -23,7 +23,7 @@ fn entries_are_at_least_256(rt: HostRuntime) {
     assert!(rt; builder(alloc).with_entries(100).enable_all().entries() == 256);
 }
 
-/// A built runtime with timers and a journal.
+/// Builds a runtime with timers and a journal.
 fn built<R: Abort>(rt: &R, alloc: Global) -> Worked<TimeDriver<StepDriver>>
     ensures { result.cx.parts.tasks.turn ≡ None }
 {
@@ -35,7 +35,7 @@ fn built<R: Abort>(rt: &R, alloc: Global) -> Worked<TimeDriver<StepDriver>>
         .expect(rt, "memory")
 }
 
-/// Whether a main task on a built runtime is ready with 1, and the journal was kept.
+/// Returns whether a main task on a built runtime is ready with 1, and the journal was kept.
 fn runs<R: Host + Abort>(rt: &R, alloc: Global) -> bool {
     let one = ready(rt, alloc, 1);
     let mut runtime = built(rt, alloc);
@@ -50,7 +50,7 @@ fn a_built_runtime_runs(rt: HostRuntime) {
     assert!(rt; runs(&rt, rt.alloc()));
 }
 
-/// How a main task on a runtime with the defaults ends.
+/// Returns how a main task on a runtime with the defaults ends.
 fn started<R: Host>(rt: &R, alloc: Global, main: Work, units: u64) -> Result<u64, RunError> {
     let driver = StepDriver::new(Vec::new(alloc));
     start::<_, _, _, NoPool<Gives>, _>(rt, alloc, driver, main, units)
@@ -63,7 +63,7 @@ fn a_start_ends_with_the_output_or_the_turns(rt: HostRuntime) {
     assert!(rt; started(&rt, alloc, Work::Waits, 3) == Err(RunError::Turns));
 }
 
-/// How a main task that sleeps ends on a runtime with timers and the defaults.
+/// Returns how a main task that sleeps ends on a runtime with timers and the defaults.
 fn slept<R: Host>(rt: &R, alloc: Global, units: u64) -> Result<u64, RunError> {
     let driver = TimeDriver::new(StepDriver::new(Vec::new(alloc)));
     start::<_, _, _, NoPool<Gives>, _>(rt, alloc, driver, Work::Sleeps(5, None), units)
@@ -75,7 +75,8 @@ fn a_start_has_so_many_units(rt: HostRuntime) {
     assert!(rt; slept(&rt, rt.alloc(), 1) == Err(RunError::Turns));
 }
 
-/// How a main task that wakes itself in each turn ends where the first call of the driver under the timers fails: a submit.
+/// Returns how a main task that wakes itself in each turn ends if the first call of the driver under the timers fails:
+/// a submit.
 fn waked<R: Host + Abort>(rt: &R, alloc: Global) -> Result<u64, RunError> {
     let mut failing = Vec::new(alloc);
     failing.push(0).expect(rt, "memory");

@@ -1,4 +1,4 @@
-// Runs of a runtime whose main task asks for jobs, and what is to be told of them.
+// Runs of a runtime whose main task asks for jobs, and their expected journals.
 use crate::runs::{Sleeping, answer_of, main_task, sleeping};
 use crate::turns::{Keeps, Task, Turns};
 use mono_blocking::{BlockingHandle, BlockingStrategy};
@@ -8,9 +8,9 @@ use std::alloc::Global;
 use std::process::Abort;
 use std::sync::Arc;
 
-/// What is done with jobs.
+/// The treatment of jobs.
 pub(crate) enum Kind {
-    /// They go to a pool that keeps them and refuses the one with this place, counted from 0.
+    /// They go to a pool that keeps them and refuses the job at this place, counted from 0.
     Pool(u64),
     /// They are run on the caller.
     Local,
@@ -18,7 +18,7 @@ pub(crate) enum Kind {
     Panic,
 }
 
-/// The steps of a turn, and the replies to them. A turn without steps is not told.
+/// The steps of a turn, and the replies to them. A turn without steps is not checked.
 pub(crate) struct Turn {
     pub(crate) steps: &'static [TurnStep],
     pub(crate) replies: &'static [Reply],
@@ -29,9 +29,9 @@ pub(crate) const UNTOLD: Turn = Turn {
     replies: &[],
 };
 
-/// A main task, where so many jobs may be kept, and what is to be told of it: the turns at the places 2 and 8 of the
-/// journal, between which it was woken from outside; how many entries the journal has, and whether it is full; and how often
-/// the pool has refused, if there is one.
+/// A main task with a limit of jobs, and its expected journal: the turns at the places 2 and 8, between which it was
+/// woken from outside; how many entries there are, and whether the journal is full. The last number is how often the
+/// pool refused, if there is one.
 pub(crate) struct Case {
     pub(crate) kind: Kind,
     pub(crate) jobs: u64,
@@ -43,7 +43,7 @@ pub(crate) struct Case {
     pub(crate) refusals: Option<u64>,
 }
 
-/// Whether this is the turn at this place of the journal, if it is told.
+/// Returns whether this is the turn at this place of the journal, if it is checked.
 pub(crate) fn is_turn(journal: &Journal, place: usize, turn: &Turn) -> bool {
     match journal.get(place) {
         _ if turn.steps.len() == 0 => true,
@@ -54,7 +54,7 @@ pub(crate) fn is_turn(journal: &Journal, place: usize, turn: &Turn) -> bool {
     }
 }
 
-/// Whether task 0 was woken from outside at this place of the journal.
+/// Returns whether task 0 was woken from outside at this place of the journal.
 pub(crate) fn is_woken(journal: &Journal, place: usize) -> bool {
     match journal.get(place) {
         Some(Entry::Ran(event, report)) => {
@@ -64,7 +64,7 @@ pub(crate) fn is_woken(journal: &Journal, place: usize) -> bool {
     }
 }
 
-/// Whether the inbox was drained at this place of the journal.
+/// Returns whether the inbox was drained at this place of the journal.
 fn is_drained(journal: &Journal, place: usize) -> bool {
     match journal.get(place) {
         Some(Entry::Ran(event, report)) => {
@@ -74,14 +74,14 @@ fn is_drained(journal: &Journal, place: usize) -> bool {
     }
 }
 
-/// Whether the fourth entry is a park without an end, and then task 0 was woken from outside and drained.
+/// Returns whether the fourth entry is a park without an end, and then task 0 was woken from outside and drained.
 fn is_parked(journal: &Journal) -> bool {
     matches!(journal.get(4), Some(Entry::Park(None)))
         && is_woken(journal, 5)
         && is_drained(journal, 6)
 }
 
-/// Whether a journal tells what is to be told.
+/// Returns whether a journal is the expected one.
 fn tells(journal: &Journal, case: &Case) -> bool {
     if journal.len() != case.entries || journal.is_full() != case.is_full {
         return false;
@@ -91,7 +91,7 @@ fn tells(journal: &Journal, case: &Case) -> bool {
         && (case.entries < 7 || is_parked(journal))
 }
 
-/// A pool of this kind, which shares what waits with the task.
+/// Returns a pool of this kind, which shares its waiting jobs with the task.
 fn a_pool<R: Abort>(rt: &R, kind: &Kind, main: &Turns) -> BlockingHandle<Keeps> {
     match kind {
         Kind::Pool(refused) => BlockingHandle::Attached(Keeps {
@@ -105,7 +105,7 @@ fn a_pool<R: Abort>(rt: &R, kind: &Kind, main: &Turns) -> BlockingHandle<Keeps> 
     }
 }
 
-/// How often the pool has refused that a runtime hands back, if it has one.
+/// Returns how often the pool of a runtime has refused, if it has one.
 pub(crate) fn refusals_of(runtime: Sleeping<Keeps>) -> Option<u64> {
     match runtime.into_pool() {
         Some(pool) => Some(pool.refusals),
@@ -113,8 +113,8 @@ pub(crate) fn refusals_of(runtime: Sleeping<Keeps>) -> Option<u64> {
     }
 }
 
-/// Whether a case comes out as it is told: the task had the answers that are told and is ready with 1, the journal tells
-/// what is told, and the pool has refused as often.
+/// Returns whether a case holds: the task had the expected answers and is ready with 1, the journal is the expected
+/// one, and the pool refused as often as expected.
 pub(crate) fn holds<R: Host + Abort>(rt: &R, alloc: Global, case: &Case) -> bool {
     let main = main_task(rt, alloc, case.task);
     let pool = a_pool(rt, &case.kind, &main);

@@ -1,4 +1,4 @@
-// A crowd of tasks whose remote wakers are woken, while they live and after their ends.
+// Many tasks whose remote wakers are woken, while they live and after their ends.
 ghost use Rattle.std.specs.Prelude.{◌≡◌, ⊤, false};
 ghost use Rattle.mono_rt.specs.Reaches.{Reaches};
 
@@ -16,27 +16,28 @@ use std::sync::{Arc, Mutex};
 /// How many tasks there are, far more than are made known at once.
 const CROWD: u64 = 300;
 
-/// For so many turns of the main task all others have ended: more than a round has that began with all of them queued, so
-/// that the inbox was drained since.
+/// For how many turns of the main task all others have ended: more than a round has that began with all of them queued,
+/// so that the inbox was drained since.
 const REST: u64 = 700;
 
-/// The wakers of the crowd, and how many of its tasks have ended.
+/// The wakers of all tasks, and how many tasks have ended.
 #[derive(Drop)]
 struct Shared {
     wakers: Mutex<Vec<RemoteWaker<NoUnpark>>>,
     ended: AtomicU64,
 }
 
-/// What a task does at its next turn.
+/// The next turn of a task.
 #[derive(Clone, Copy, Drop)]
 enum Part {
-    /// The main task makes the crowd.
+    /// The main task makes all tasks.
     Makes,
     /// It wakes each of them.
     Wakes,
-    /// Once all have ended, and so many turns later, it wakes each again. So many wakes were listed before.
+    /// Once all have ended, and a number of turns later, it wakes each again; how many wakes were listed before, and
+    /// how many turns have passed.
     Waits(u64, u64),
-    /// One of the crowd hands its waker out.
+    /// A task hands its waker out.
     Gives,
     /// It ends.
     Ends,
@@ -50,7 +51,7 @@ struct Member {
 
 type Own = Cx<Member, u64, NoPool<Gives>, NoUnpark>;
 
-/// How many of these wakes are listed.
+/// Returns how many of these wakes are listed.
 fn wake_each<R: Host>(rt: &R, shared: &Shared) -> u64 {
     let mut listed = 0u64;
     let wakers = shared.wakers.lock(rt);
@@ -60,7 +61,7 @@ fn wake_each<R: Host>(rt: &R, shared: &Shared) -> u64 {
     listed
 }
 
-/// The waker of the task whose turn runs is kept, where there is one.
+/// Stores the waker of the running task, if there is one.
 fn keep_waker<R: Host>(rt: &R, shared: &Shared, cx: &mut Own)
     ensures { cx.new ≡ cx.old }
 {
@@ -69,7 +70,7 @@ fn keep_waker<R: Host>(rt: &R, shared: &Shared, cx: &mut Own)
     }
 }
 
-/// One more task of the crowd.
+/// Makes one more task.
 fn put(alloc: Global, cx: &mut Own, shared: &Arc<Shared, Global>)
     ensures { Reaches (λ n. n) cx.old cx.new }
 {
@@ -79,7 +80,7 @@ fn put(alloc: Global, cx: &mut Own, shared: &Arc<Shared, Global>)
     }
 }
 
-/// All tasks of the crowd.
+/// Makes all tasks.
 fn put_all(alloc: Global, cx: &mut Own, shared: &Arc<Shared, Global>)
     ensures { Reaches (λ n. n) cx.old cx.new }
 {
@@ -88,7 +89,7 @@ fn put_all(alloc: Global, cx: &mut Own, shared: &Arc<Shared, Global>)
     }
 }
 
-/// What the main task does next, with how many wakes were listed, once all have ended and the inbox was drained.
+/// Returns the main task's next part, with how many wakes were listed, once all have ended and the inbox was drained.
 fn after_rest<R: Host>(rt: &R, shared: &Shared, listed: u64, turns: u64) -> Result<u64, Part> {
     if shared.ended.load(Ordering::SeqCst) < CROWD {
         return Err(Part::Waits(listed, 0));
@@ -104,7 +105,7 @@ fn after_rest<R: Host>(rt: &R, shared: &Shared, listed: u64, turns: u64) -> Resu
 }
 
 impl Member {
-    /// What the task does next, or what it is ready with.
+    /// Returns the task's next part, or its output.
     fn act<R: Host>(&self, rt: &R, alloc: Global, cx: &mut Own) -> Result<u64, Part>
         ensures { Reaches (λ n. n) cx.old cx.new }
     {
@@ -124,7 +125,7 @@ impl Member {
     }
 }
 
-/// A task of the crowd waits for a wake; the main task goes to the queue's back.
+/// Lets a task wait for a wake; the main task queues itself.
 fn goes_on(part: Part, cx: &mut Own)
     ensures { Reaches (λ n. n) cx.old cx.new }
 {

@@ -1,4 +1,4 @@
-// A driver of which a submit or a park fails.
+// A driver whose submit or park fails.
 ghost use Rattle.std.specs.Prelude.{◌≡◌, ⊤, false, None};
 
 use crate::runs::a_runtime;
@@ -18,7 +18,7 @@ const LIMITS: Limits = Limits {
     sleeps: 4,
 };
 
-/// Wakes itself in each of its turns, and is never ready.
+/// A future that wakes itself in each of its turns, and is never ready.
 #[derive(Drop)]
 struct Busy;
 
@@ -44,12 +44,12 @@ impl<C: Context> TaskFuture<C> for Busy {
     fn cancel(self, _cx: &mut C) {}
 }
 
-/// A driver that never waits, of whose calls this one fails.
+/// Returns a driver that never waits, and whose call of this number fails.
 fn failing<R: Abort>(rt: &R, alloc: Global, call: u64) -> StepDriver {
     StepDriver::new(vec![in alloc; call].expect(rt, "memory"))
 }
 
-/// The answer of a busy task as the main one. No clause speaks of it, so that callers have none to carry.
+/// Returns the answer of a busy task as the main one. It has no clauses, so callers have none to carry.
 fn busy_outcome<R: Host>(
     rt: &R,
     alloc: Global,
@@ -60,7 +60,7 @@ fn busy_outcome<R: Host>(
     runtime.block_on(rt, alloc, Busy, 1000)
 }
 
-/// How a busy main task ends whose driver fails at this submit, and how many entries its journal has.
+/// Returns how a busy main task ends if its driver fails at this submit, and how many entries its journal has.
 fn ends_busy<R: Host + Abort>(rt: &R, alloc: Global, call: u64) -> (Result<u64, RunError>, usize) {
     let pool: BlockingHandle<NoPool<Gives>> = BlockingHandle::Empty(BlockingStrategy::Panic);
     let driver = failing(rt, alloc, call);
@@ -71,8 +71,8 @@ fn ends_busy<R: Host + Abort>(rt: &R, alloc: Global, call: u64) -> (Result<u64, 
     (answer, entries)
 }
 
-// A round of one queued task has three turns, each with its reading, and then the driver gets its submit and the inbox is
-// drained. Before the first round stands the spawn, and at the end the drop of the handle.
+// A round of one queued task has three turns, each with its reading. Then the driver gets its submit and the inbox is
+// drained. The spawn comes before the first round, and the drop of the handle at the end.
 #[test]
 fn each_submit_may_fail(rt: HostRuntime) {
     let alloc = rt.alloc();
@@ -81,7 +81,7 @@ fn each_submit_may_fail(rt: HostRuntime) {
     assert_eq!(rt; ends_busy(&rt, alloc, 2), (Err(RunError::Driver), 23));
 }
 
-/// The instant of the clock step at this place of the journal.
+/// Returns the instant of the clock step at this place of the journal.
 fn clock_at(journal: &Journal, place: usize) -> Option<u128> {
     match journal.get(place) {
         Some(Entry::Ran(Event::Clock(nanos), _)) => Some(*nanos),
@@ -89,7 +89,8 @@ fn clock_at(journal: &Journal, place: usize) -> Option<u128> {
     }
 }
 
-/// How a main task that sleeps for 100 ms ends if this park fails, how many entries its journal has, and the last clock step.
+/// Returns how a main task that sleeps for 100 ms ends if this park fails, how many entries its journal has, and the
+/// last clock step.
 fn sleeping<R: Host + Abort>(
     rt: &R,
     alloc: Global,
@@ -106,7 +107,7 @@ fn sleeping<R: Host + Abort>(
     (answer, entries, last)
 }
 
-// The first park is for 64 ms, the second for 36. One that fails moves no time, and its drain and clock step follow.
+// The first park is for 64 ms, the second for 36. A failed park moves no time, and its drain and clock step follow.
 #[test]
 fn each_park_may_fail(rt: HostRuntime) {
     let alloc = rt.alloc();

@@ -1,4 +1,4 @@
-// Tasks that ask for blocking jobs, and what the journal keeps of it.
+// Tasks that ask for blocking jobs, and the journal of it.
 use crate::cases::{Case, Kind, Turn, UNTOLD, holds, refusals_of};
 use crate::runs::{answer_of, main_task, sleeping};
 use crate::turns::{
@@ -32,7 +32,7 @@ const BLOCK_12: TurnStep = TurnStep::Act(Act::Block(12));
 
 const BLOCK_13: TurnStep = TurnStep::Act(Act::Block(13));
 
-/// Cases of a task, most of one turn, of which the journal keeps the spawn, the reading, the turn and the drop of the handle.
+/// Cases of a task, most of one turn, whose journal has the spawn, the reading, the turn and the drop of the handle.
 const CASES: [Case; 16] = [
     // a job on the caller has ended
     Case {
@@ -404,8 +404,8 @@ const CASES: [Case; 16] = [
         is_full: false,
         refusals: Some(0),
     },
-    // one turn in which 300 jobs are made, and the last is polled once all have run: of 301 answers the last two are told,
-    // the number of the last job, and its output
+    // one turn in which 300 jobs are made, and the last is polled once all have run: the last two of 301 answers are
+    // checked, the number of the last job, and its output
     Case {
         kind: Kind::Pool(999),
         jobs: 300,
@@ -423,7 +423,7 @@ const CASES: [Case; 16] = [
         is_full: false,
         refusals: Some(0),
     },
-    // a turn that asks for so many jobs, each of which is refused for want of a pool: so many acts
+    // a turn that asks for this many jobs, each refused since there is no pool: one act each
     Case {
         kind: Kind::Panic,
         jobs: 1,
@@ -441,7 +441,7 @@ const CASES: [Case; 16] = [
         is_full: false,
         refusals: None,
     },
-    // with one act more the journal keeps the spawn and the reading alone
+    // with one more act the journal keeps the spawn and the reading alone
     Case {
         kind: Kind::Panic,
         jobs: 1,
@@ -468,7 +468,7 @@ fn jobs_are_told(rt: HostRuntime) {
     }
 }
 
-/// Whether a journal is empty, or the drop of the first task's handle stands last in it.
+/// Returns whether a journal is empty, or ends with the drop of the first task's handle.
 fn ends_with_the_drop(journal: &Journal) -> bool {
     match journal.len().checked_sub(1) {
         None => true,
@@ -479,7 +479,7 @@ fn ends_with_the_drop(journal: &Journal) -> bool {
     }
 }
 
-/// Makes a job, and asks for a waker and for the job's output.
+/// Returns a task that makes a job, and asks for a waker and for the job's output.
 fn waker_and_poll() -> Task {
     Task {
         calls: &[Call::Block(1), Call::Waker, Call::Poll(0)],
@@ -487,7 +487,7 @@ fn waker_and_poll() -> Task {
     }
 }
 
-/// Whether the journal of such a task ends so, whatever its answer.
+/// Returns whether the journal of such a task ends so, for each answer.
 fn drops_last<R: Host + Abort>(rt: &R, alloc: Global) -> bool {
     let main = main_task(rt, alloc, waker_and_poll());
     let local = BlockingHandle::<Keeps>::Empty(BlockingStrategy::ExecuteLocal);
@@ -497,7 +497,7 @@ fn drops_last<R: Host + Abort>(rt: &R, alloc: Global) -> bool {
     refusals_of(runtime).is_none() && is_so
 }
 
-/// Also where one of the call's allocations fails: `rt try --test --fail-alloc N` lets the Nth one fail.
+/// It holds also if one of the call's allocations fails: `rt try --test --fail-alloc N` lets the Nth one fail.
 #[test]
 fn the_main_handle_is_dropped_last(rt: HostRuntime) {
     assert!(rt; drops_last(&rt, rt.alloc()));

@@ -1,4 +1,4 @@
-// Naps on drivers that park often enough, and on ones that do not.
+// Naps on drivers that park often enough, and on drivers that do not.
 use crate::turns::Gives;
 use mono_blocking::NoPool;
 use mono_model::Host;
@@ -8,7 +8,7 @@ use std::process::Abort;
 use std::time::Duration;
 use use_driver::nap_within;
 
-/// How many parks the journal tells, and for how many milliseconds they were at most.
+/// Returns how many parks the journal has, and for how many milliseconds they were at most.
 fn parks_in(journal: &Journal) -> (u64, u64) {
     let mut parks = 0u64;
     let mut milliseconds = 0u64;
@@ -21,8 +21,8 @@ fn parks_in(journal: &Journal) -> (u64, u64) {
     (parks, milliseconds)
 }
 
-/// Whether a nap of so many milliseconds, within so many parks, ends with this answer, and the journal tells these parks and
-/// the milliseconds of all.
+/// Returns whether a nap of `millis` milliseconds, within at most this many parks, ends with this answer, and the
+/// journal has these parks with these milliseconds in all.
 fn is_nap<R: Host + Abort>(
     rt: &R,
     alloc: Global,

@@ -1,4 +1,4 @@
-// Jobs on the pool of the crates: on the caller where it has no worker, and on a thread of its own.
+// Jobs on the pool of the crates: on the caller if it has no worker, and on a thread of its own.
 use crate::cases::{Turn, is_turn, is_woken};
 use crate::runs::{Sleeping, answer_of, main_task, sleeping};
 use crate::turns::{Call, Gives, IDLE, NO_OUTPUT, PENDING, Task};
@@ -28,7 +28,7 @@ const AT_ONCE: Task = Task {
     ..IDLE
 };
 
-/// Makes a job and waits for its output. It sets the job's flag only once it was told to wait.
+/// Makes a job and waits for its output. It sets the job's flag only after its poll was pending.
 const ON_A_WAKE: Task = Task {
     calls: &[Call::BlockOnFlag(4), Call::Poll(0), Call::SetFlag],
     later: &[Call::Poll(0), Call::Drop(0)],
@@ -53,7 +53,7 @@ const BEFORE: Turn = Turn {
     replies: &[Reply::Job(0), Reply::Pending],
 };
 
-/// The turn behind the wake.
+/// The turn after the wake.
 const AFTER: Turn = Turn {
     steps: &[END, POLL, DROP],
     replies: &[
@@ -63,12 +63,12 @@ const AFTER: Turn = Turn {
     ],
 };
 
-/// Whether the task took the output in its one turn.
+/// Returns whether the task took the output in its one turn.
 fn tells_one_turn(journal: &Journal) -> bool {
     journal.len() == 4 && is_turn(journal, 2, &HERE)
 }
 
-/// Whether the task waited, and took the output once it was woken.
+/// Returns whether the task waited, and took the output once it was woken.
 fn tells_a_wake(journal: &Journal) -> bool {
     let last = journal.len();
     last >= 10
@@ -77,7 +77,7 @@ fn tells_a_wake(journal: &Journal) -> bool {
         && is_turn(journal, last - 2, &AFTER)
 }
 
-/// Whether the runtime handed its pool back, which is closed then.
+/// Returns whether the runtime handed its pool back, which is then closed.
 fn closes<R: Host>(rt: &R, runtime: Sleeping<DefaultThreadPool<Gives>>) -> bool {
     match runtime.into_pool() {
         Some(pool) => {
@@ -88,7 +88,7 @@ fn closes<R: Host>(rt: &R, runtime: Sleeping<DefaultThreadPool<Gives>>) -> bool 
     }
 }
 
-/// Whether the journal tells what is told of a pool with so many workers.
+/// Returns whether the journal is that of a pool with this many workers.
 fn tells(journal: &Journal, workers: usize) -> bool {
     if workers == 0 {
         tells_one_turn(journal)
@@ -97,7 +97,7 @@ fn tells(journal: &Journal, workers: usize) -> bool {
     }
 }
 
-/// Whether a task has its job done by a pool of so many workers.
+/// Returns whether a pool of this many workers runs the job of a task.
 fn is_done<R: Host + Abort + Send + 'static, S: Spawner>(
     rt: &R,
     alloc: Global,

@@ -11,10 +11,10 @@ use std::process::Abort;
 use std::sync::atomic::AtomicU64;
 use std::sync::{Arc, Mutex};
 
-/// A runtime of tasks that ask for jobs, which sleeps by a thread's park.
+/// A runtime of tasks that ask for jobs, whose driver parks its thread.
 pub(crate) type Sleeping<P> = Runtime<Turns, u64, ThreadDriver<ListClock>, P>;
 
-/// A runtime on this driver, whose first instant is 0.
+/// Returns a runtime on this driver, whose first instant is 0.
 pub(crate) fn a_runtime<F: Drop, D: Driver, P: ThreadPool + Drop, R: Abort>(
     rt: &R,
     alloc: Global,
@@ -29,14 +29,14 @@ pub(crate) fn a_runtime<F: Drop, D: Driver, P: ThreadPool + Drop, R: Abort>(
     Runtime::new(alloc, driver, pool, limits, has_timers, start, ()).expect(rt, "memory")
 }
 
-/// A driver that parks its thread, and whose clock always reads 0.
+/// Returns a driver that parks its thread, and whose clock always reads 0.
 fn parking<R: Abort>(rt: &R, alloc: Global) -> ThreadDriver<ListClock> {
     let zero = Instant::from_nanos(0).expect(rt, "an instant");
     let clock = ListClock::new(vec![in alloc; zero].expect(rt, "memory"));
     ThreadDriver::new(alloc, clock).expect(rt, "memory")
 }
 
-/// A runtime that parks its thread, with this pool, where so many jobs may be kept.
+/// Returns a runtime that parks its thread, with this pool and this limit of jobs.
 pub(crate) fn sleeping<P: ThreadPool<Job = Gives> + Drop, R: Abort>(
     rt: &R,
     alloc: Global,
@@ -53,7 +53,7 @@ pub(crate) fn sleeping<P: ThreadPool<Job = Gives> + Drop, R: Abort>(
     a_runtime(rt, alloc, parking(rt, alloc), pool, limits, false)
 }
 
-/// The future of a task, whose pool has no job yet.
+/// Returns the future of a task, whose pool has no job yet.
 pub(crate) fn main_task<R: Abort>(rt: &R, alloc: Global, task: Task) -> Turns {
     let shared = Shared {
         waiting: Mutex::new(Vec::new(alloc)),
@@ -68,7 +68,7 @@ pub(crate) fn main_task<R: Abort>(rt: &R, alloc: Global, task: Task) -> Turns {
     }
 }
 
-/// The answer of a main task with so many units. No clause speaks of it, so that callers have none to carry.
+/// Returns the answer of a main task with a budget of `units` turns. It has no clauses, so callers have none to carry.
 pub(crate) fn answer_of<P: ThreadPool<Job = Gives> + Drop, R: Host>(
     rt: &R,
     alloc: Global,

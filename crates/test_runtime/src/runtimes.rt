@@ -14,7 +14,7 @@ use std::{thread, time};
 
 const WAKES: u64 = 10000;
 
-/// Hands its waker out in its first turn, and is ready in the turn behind the last wake.
+/// Returns a task that hands its waker out in its first turn, and is ready in the turn after the last wake.
 fn woken_task() -> Task {
     Task {
         calls: &[Call::Waker],
@@ -24,7 +24,7 @@ fn woken_task() -> Task {
     }
 }
 
-/// Whether the task has had more turns than this, within some seconds.
+/// Returns whether the task has had more turns than this, within some seconds.
 fn has_had<R: Host>(rt: &R, shared: &Shared, turns: u64) -> bool {
     for look in 0..200000 {
         if shared.turns.load(Ordering::SeqCst) > turns {
@@ -37,7 +37,7 @@ fn has_had<R: Host>(rt: &R, shared: &Shared, turns: u64) -> bool {
     false
 }
 
-/// Whether this has gone on for longer than a busy machine may take.
+/// Returns whether this has lasted longer than a busy machine may take.
 fn is_late<R: Host>(rt: &R, begin: &time::Instant) -> bool {
     match begin.elapsed(rt) {
         Ok(gone) => gone > Duration::from_secs(20),
@@ -45,8 +45,8 @@ fn is_late<R: Host>(rt: &R, begin: &time::Instant) -> bool {
     }
 }
 
-/// Wakes the task, again and again, each time once it had its turn, and stops early on a machine that is too busy. Answers
-/// how often it had no turn in time, though it was woken.
+/// Wakes the task, again and again, each time after its turn, and stops early on a machine that is too busy. Returns
+/// how often a woken task had no turn in time.
 fn lost_of<R: Host>(
     rt: &R,
     shared: &Shared,
@@ -77,7 +77,8 @@ fn wakes<R: Host + Abort>(rt: &R, shared: &Shared) -> u64 {
     lost_of(rt, shared, &waker, &begin)
 }
 
-/// Whether a main task that another thread wakes is ready with 1, how many turns it had, and how often it had none in time.
+/// Returns whether a main task that another thread wakes is ready with 1, how many turns it had, and how often it had
+/// none in time.
 fn woken<R: Host + Abort + Copy + Send + 'static>(rt: R, alloc: Global) -> (bool, u64, u64) {
     let main = main_task(&rt, alloc, woken_task());
     let ours = Arc::try_clone(&main.shared).expect(&rt, "memory");
@@ -104,7 +105,7 @@ const HANDS_OUT: Task = Task {
     ..IDLE
 };
 
-/// Whether the main task's waker lists nothing once its output was answered.
+/// Returns whether the main task's waker lists nothing once its output was returned.
 fn is_unlisted_after<R: Host + Abort>(rt: &R, alloc: Global) -> bool {
     let main = main_task(rt, alloc, HANDS_OUT);
     let shared = Arc::try_clone(&main.shared).expect(rt, "memory");

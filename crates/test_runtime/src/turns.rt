@@ -13,10 +13,10 @@ use std::alloc::{AllocError, Global};
 use std::sync::atomic::{AtomicU64, Ordering};
 use std::sync::{Arc, Mutex};
 
-/// How often a job looks for its flag.
+/// How often a job reads its flag.
 const LOOKS: u64 = 500000000;
 
-/// Gives its number, at once or once its flag is set.
+/// A job that returns its number, at once or once its flag is set.
 #[derive(Drop)]
 pub(crate) struct Gives {
     number: u64,
@@ -48,8 +48,8 @@ impl Job for Gives {
     }
 }
 
-/// What a task shares with a pool and with another thread: the tasks that wait in the pool, which another runs or cancels;
-/// the waker that the task handed out last; and how many turns it has had.
+/// The state that a task shares with a pool and with another thread: the waiting jobs of the pool, which another runs
+/// or cancels; the last waker that the task handed out; and how many turns it has had.
 #[derive(Drop)]
 pub(crate) struct Shared {
     pub(crate) waiting: Mutex<Vec<BlockingTask<Gives>>>,
@@ -57,7 +57,7 @@ pub(crate) struct Shared {
     pub(crate) turns: AtomicU64,
 }
 
-/// Keeps the tasks that it is offered, and refuses one of them, counted from 0.
+/// A pool that keeps the jobs that it gets, and refuses one of them, counted from 0.
 #[derive(Drop)]
 pub(crate) struct Keeps {
     pub(crate) shared: Arc<Shared, Global>,
@@ -97,7 +97,7 @@ impl ThreadPool for Keeps {
     }
 }
 
-/// Runs all tasks that wait, or cancels them.
+/// Runs all waiting jobs, or cancels them.
 fn end_all<R: Host>(rt: &R, shared: &Shared, runs: bool) {
     for _ in 0..1000 {
         let Some(task) = shared.waiting.lock(rt).pop() else {
@@ -111,7 +111,7 @@ fn end_all<R: Host>(rt: &R, shared: &Shared, runs: bool) {
     }
 }
 
-/// One thing that a task does in its turn.
+/// One call of a task in its turn.
 #[derive(Clone, Copy)]
 pub(crate) enum Call {
     /// Makes a job with this number.
@@ -124,9 +124,9 @@ pub(crate) enum Call {
     Drop(u64),
     /// Asks whether a job has ended.
     Finished(u64),
-    /// Another runs all tasks that wait in the pool.
+    /// Another thread runs all waiting jobs of the pool.
     RunAll,
-    /// Another cancels all tasks that wait in the pool.
+    /// Another thread cancels all waiting jobs of the pool.
     CancelAll,
     /// Sets the flag of jobs.
     SetFlag,
@@ -208,9 +208,9 @@ fn of_question(answer: Result<bool, Refusal>) -> u64 {
     }
 }
 
-/// What a task does: so many jobs, numbered from 0, and these calls in its first turn, and the later ones, if there are
-/// any, in a second; it is ready behind these, once it has had so many turns. All answers but so many at first are to be
-/// those that are told.
+/// The calls of a task: how many jobs it has, numbered from 0; its calls in its first turn, and the later ones, if
+/// there are any, in a second. It is ready after these, in its turn of this number. After some first answers, which are
+/// not checked, its answers must be these.
 #[derive(Clone, Copy)]
 pub(crate) struct Task {
     pub(crate) jobs: u64,
@@ -221,7 +221,7 @@ pub(crate) struct Task {
     pub(crate) answers: &'static [u64],
 }
 
-/// A task that does nothing.
+/// A task without calls.
 pub(crate) const IDLE: Task = Task {
     jobs: 0,
     calls: &[],
@@ -231,7 +231,8 @@ pub(crate) const IDLE: Task = Task {
     answers: &[],
 };
 
-/// Does a task's calls, and is ready in its last turn, with 1 where the answers were those that are told, else with 0.
+/// A future that makes a task's calls, and is ready in its last turn, with 1 if the answers were the expected ones,
+/// else with 0.
 #[derive(Drop)]
 pub(crate) struct Turns {
     pub(crate) task: Task,
@@ -241,7 +242,7 @@ pub(crate) struct Turns {
 }
 
 impl Turns {
-    /// The call at this place of a turn.
+    /// Returns the call at this place of a turn.
     fn call_at(&self, place: u64) -> Call {
         match place.checked_sub(self.task.jobs) {
             None => Call::Block(place),
@@ -252,7 +253,7 @@ impl Turns {
         }
     }
 
-    /// A job with this number, which ends at once or once the flag is set.
+    /// Returns a job with this number, which ends at once or once the flag is set.
     fn job(&self, number: u64, waits: bool) -> Gives {
         let flag = if waits {
             Arc::try_clone(&self.flag).ok()
@@ -262,14 +263,14 @@ impl Turns {
         Gives { number, flag }
     }
 
-    /// Keeps an answer.
+    /// Stores an answer.
     fn keep(&mut self, answer: u64) {
         if self.seen.reserve(1).is_ok() {
             self.seen.push_reserved(answer);
         }
     }
 
-    /// Keeps the task of a waker, and hands the waker out.
+    /// Stores the task of a waker, and hands the waker out.
     fn keep_waker<R: Host>(
         &mut self,
         rt: &R,
@@ -284,7 +285,7 @@ impl Turns {
         }
     }
 
-    /// Makes a job with this number, which ends at once or once the flag is set, and keeps the answer.
+    /// Makes a job with this number, which ends at once or once the flag is set, and stores the answer.
     fn block<R: Host, O: Outcome + Drop, P: ThreadPool<Job = Gives> + Drop>(
         &mut self,
         rt: &R,
@@ -300,7 +301,7 @@ impl Turns {
         self.keep(of_spawn(&answer));
     }
 
-    /// One call, whose answer is kept.
+    /// Makes one call, and stores its answer.
     fn ask<R: Host, O: Outcome + Drop, P: ThreadPool<Job = Gives> + Drop>(
         &mut self,
         rt: &R,
@@ -323,7 +324,7 @@ impl Turns {
         }
     }
 
-    /// One call after the other.
+    /// Makes one call after the other.
     fn ask_all<R: Host, O: Outcome + Drop, P: ThreadPool<Job = Gives> + Drop>(
         &mut self,
         rt: &R,
@@ -339,7 +340,7 @@ impl Turns {
         }
     }
 
-    /// The end of a turn.
+    /// Ends a turn.
     fn end(&mut self) -> Poll<u64> {
         let turns = self.shared.turns.fetch_add(1, Ordering::SeqCst);
         let has_later = self.task.later.len() > 0;

@@ -14,8 +14,8 @@ use std::process::Abort;
 use std::rc::Rc;
 use std::time::Duration;
 
-/// Is ready with a number, or waits for ever, or sleeps for so many milliseconds and then is ready with their number. The
-/// output stands in an `Rc`, which no other thread may have.
+/// A future that is ready with a number, or waits for ever, or sleeps for some milliseconds and then is ready with
+/// their number. The output is in an `Rc`, which no other thread may have.
 #[derive(Drop)]
 pub(crate) enum Work {
     Ready(Rc<u64, Global>),
@@ -62,7 +62,7 @@ impl<C: TimeContext> TaskFuture<C> for Work {
     }
 }
 
-/// A sleep of so many milliseconds, which is made at the first poll.
+/// Polls a sleep of this many milliseconds, which is made at the first poll.
 fn poll_sleeping<R: Host, C: TimeContext>(
     rt: &R,
     alloc: Global,
@@ -99,7 +99,8 @@ pub(crate) type Worked<D> = Runtime<Work, u64, D, NoPool<Gives>>;
 /// Such a runtime on a driver that never waits.
 type Quiet = Worked<StepDriver>;
 
-/// The answer of such a task as the main one, with so many units. No clause speaks of it, so that callers have none to carry.
+/// Returns the answer of such a task as the main one, with a budget of `units` turns. It has no clauses, so callers
+/// have none to carry.
 pub(crate) fn outcome_of<D: Driver, R: Host>(
     rt: &R,
     alloc: Global,
@@ -112,7 +113,7 @@ pub(crate) fn outcome_of<D: Driver, R: Host>(
     runtime.block_on(rt, alloc, main, units)
 }
 
-/// A driver that never waits, and whose call with this number fails, if there is one.
+/// Returns a driver that never waits, and whose call with this number fails, if there is one.
 fn stepping<R: Abort>(rt: &R, alloc: Global, fails: Option<u64>) -> StepDriver {
     let mut failing = Vec::new(alloc);
     if let Some(call) = fails {
@@ -121,7 +122,7 @@ fn stepping<R: Abort>(rt: &R, alloc: Global, fails: Option<u64>) -> StepDriver {
     StepDriver::new(failing)
 }
 
-/// A runtime on such a driver.
+/// Returns a runtime on such a driver.
 fn quiet<R: Abort>(rt: &R, alloc: Global, fails: Option<u64>) -> Quiet
     ensures { result.cx.parts.tasks.turn ≡ None }
 {
@@ -129,12 +130,12 @@ fn quiet<R: Abort>(rt: &R, alloc: Global, fails: Option<u64>) -> Quiet
     a_runtime(rt, alloc, stepping(rt, alloc, fails), pool, LIMITS, true)
 }
 
-/// A task that is ready with this number.
+/// Returns a task that is ready with this number.
 pub(crate) fn ready<R: Abort>(rt: &R, alloc: Global, output: u64) -> Work {
     Work::Ready(Rc::new(alloc, output).expect(rt, "memory"))
 }
 
-/// A runtime of which a task that is ready with 2 was spawned.
+/// Returns a runtime with a spawned task that is ready with 2.
 fn with_two<R: Abort>(rt: &R, alloc: Global) -> Quiet
     ensures { result.cx.parts.tasks.turn ≡ None }
 {
@@ -144,7 +145,7 @@ fn with_two<R: Abort>(rt: &R, alloc: Global) -> Quiet
     runtime
 }
 
-/// Whether the spawn after so many is refused as at capacity.
+/// Returns whether the spawn after `spawns` others is refused as at capacity.
 fn is_refused_after<R: Abort>(rt: &R, alloc: Global, spawns: u64) -> bool {
     let mut runtime = quiet(rt, alloc, None);
     for _ in 0..spawns {
@@ -157,7 +158,8 @@ fn is_refused_after<R: Abort>(rt: &R, alloc: Global, spawns: u64) -> bool {
     is_refused
 }
 
-/// Whether a main task with so many units ends so, and the journal then has so many entries, where that is told.
+/// Returns whether a main task with this budget ends so, and the journal then has this many entries, if that is
+/// checked.
 fn ends<R: Host>(
     rt: &R,
     alloc: Global,
@@ -183,7 +185,7 @@ const NO_TASK: Limits = Limits {
     sleeps: 16,
 };
 
-/// Whether a main task that is refused as at capacity is let go: nobody else has its output then.
+/// Returns whether a main task that is refused as at capacity is dropped: its output then has no other holder.
 fn lets_the_refused_go<R: Host + Abort>(rt: &R, alloc: Global, output: &Rc<u64, Global>) -> bool {
     let theirs = Work::Ready(output.clone().expect(rt, "memory"));
     let pool = BlockingHandle::Empty(BlockingStrategy::Panic);
@@ -195,7 +197,7 @@ fn lets_the_refused_go<R: Host + Abort>(rt: &R, alloc: Global, output: &Rc<u64, 
     has_no_pool & (answer == Err(RunError::AtCapacity)) & (owners == 1)
 }
 
-/// How long a park was, at this place of the journal.
+/// Returns how long a park was, at this place of the journal.
 fn park_at(journal: &Journal, place: usize) -> Option<u64> {
     match journal.get(place) {
         Some(Entry::Park(Some(ticks))) => Some(*ticks),
@@ -203,8 +205,8 @@ fn park_at(journal: &Journal, place: usize) -> Option<u64> {
     }
 }
 
-/// Whether a main task that sleeps for so many milliseconds has these two parks. Before the first park stand the spawn, a
-/// turn with its reading, and a reading; behind it a drain, a clock step, and a reading.
+/// Returns whether a main task that sleeps for `ticks` milliseconds has these two parks. A spawn, a turn with its
+/// reading, and a reading come before the first park; a drain, a clock step, and a reading follow it.
 fn has_parks<R: Host + Abort>(rt: &R, alloc: Global, ticks: u64, parks: (u64, u64)) -> bool {
     let mut runtime = quiet(rt, alloc, None);
     let answer = outcome_of(rt, alloc, &mut runtime, Work::Sleeps(ticks, None), 10);
@@ -214,7 +216,7 @@ fn has_parks<R: Host + Abort>(rt: &R, alloc: Global, ticks: u64, parks: (u64, u6
     has_no_pool && answer.is_ok() && told == (Some(parks.0), Some(parks.1))
 }
 
-// A park ends where the slot of the armed tick starts, and a second one at the tick.
+// A park ends at the start of the armed tick's slot, and a second one at the tick.
 #[test]
 fn parks(rt: HostRuntime) {
     let alloc = rt.alloc();
@@ -222,7 +224,7 @@ fn parks(rt: HostRuntime) {
     assert!(rt; has_parks(&rt, alloc, 70866960384, (68719476736, 2147483648)));
 }
 
-/// Whether a main task that waits for ever ends so, with 3 units.
+/// Returns whether a main task that waits for ever ends so, with a budget of 3 turns.
 fn waits<R: Host + Abort>(rt: &R, alloc: Global, fails: Option<u64>, answer: RunError) -> bool {
     let runtime = quiet(rt, alloc, fails);
     ends(rt, alloc, runtime, Work::Waits, 3, Err(answer), None)
@@ -244,7 +246,7 @@ fn blocks(rt: HostRuntime) {
     assert!(rt; ends(&rt, alloc, one, Work::Sleeps(5, None), 10, Ok(5), Some(10)));
 }
 
-/// Whether a main task that wakes itself in each turn ends so, where the first call of the driver fails: that is a submit.
+/// A main task that wakes itself in each turn ends so if the first call of the driver fails, which is a submit.
 #[test]
 fn a_failed_submit_is_told(rt: HostRuntime) {
     let runtime = quiet(&rt, rt.alloc(), Some(0));
@@ -252,8 +254,9 @@ fn a_failed_submit_is_told(rt: HostRuntime) {
     assert!(rt; ends(&rt, rt.alloc(), runtime, Work::Wakes, 100, answer, None));
 }
 
-/// The park that fails, how a main task that sleeps for 100 milliseconds then ends, and how many entries the journal has: a
-/// spawn, a turn with its reading, for each park its reading, a drain and a clock step, and the drop of the handle.
+/// The park that fails, how a main task that sleeps for 100 milliseconds then ends, and how many entries the journal
+/// has. These are a spawn, a turn with its reading, for each park its reading, a drain and a clock step, and the drop
+/// of the handle.
 const PARKS: [(u64, Result<u64, RunError>, usize); 3] = [
     (0, Err(RunError::Driver), 8),
     (1, Err(RunError::Driver), 12),
