@@ -12,7 +12,7 @@ use Rattle.mono_actor.specs.declared.answers.Got.TheVariants.{Message, Timeout}
 use Rattle.mono_actor.specs.declared.answers.After.{After}
 use Rattle.mono_actor.specs.declared.answers.After.TheVariants as after
 
--- what an actor does now: an idle one may wait for a tick
+-- The mode of an actor: an idle one may wait for a tick.
 pub data Mode : Type 0 where
   idle : (waits_for : Option ℕ) → Mode
   queued : Mode
@@ -24,8 +24,8 @@ pub record Actor (M : Type 0) : Type 0 where
   pub mailbox : List (Letter M)
   pub timeout : ℕ
 
--- The live actors, the queue of those that run next, the actor that has its turn, the greatest tick of the clock so far,
--- and how many actors and messages there may be.
+-- The live actors, the queue of those that run next, the actor that has its turn, the greatest tick of the clock so
+-- far, and the greatest numbers of actors and messages.
 pub record Actors (M : Type 0) : Type 0 where
   pub table : Table (Actor M)
   pub queue : List ℕ
@@ -34,11 +34,11 @@ pub record Actors (M : Type 0) : Type 0 where
   pub most_actors : ℕ
   pub most_messages : ℕ
 
--- no tick for which an actor waits is above it
+-- The greatest tick for which an actor waits.
 abbrev pub last_tick : ℕ
 last_tick = 2 ^ 63 - 1
 
--- For which tick an actor waits from now on: for none where it has no timeout, or where that tick is too late.
+-- The tick for which an actor waits from now on: none if it has no timeout, or if that tick is too late.
 abbrev pub wait_from : ℕ → ℕ → Option ℕ
 wait_from now timeout = if timeout == 0 then None else if nat_lt last_tick (now + timeout) then None else Some (now + timeout)
 
@@ -47,13 +47,13 @@ is_idle (idle waits_for) = true
 is_idle queued = false
 is_idle running = false
 
--- what a message does to its receiver
+-- The effect of a message on its receiver.
 abbrev pub sent_in : Mode → Sent
 sent_in (idle waits_for) = Queued
 sent_in queued = Waits
 sent_in running = Waits
 
--- an idle actor waits anew from now
+-- The mode after a new timeout: an idle actor waits anew from now.
 abbrev pub mode_with : ℕ → ℕ → Mode → Mode
 mode_with now timeout (idle waits_for) = idle (wait_from now timeout)
 mode_with now timeout queued = queued
@@ -72,7 +72,7 @@ module _ {M : Type 0} where
   abbrev pub in_mode : Actor M → Mode → Actor M
   in_mode actor mode = record { mode = mode; mailbox = actor.mailbox; timeout = actor.timeout }
 
-  -- the actor becomes queued, and stands last in the queue
+  -- The actors after this one was queued last.
   abbrev pub queued_last : Actors M → ℕ → Actor M → Actors M
   queued_last actors a actor = record {
     table = with_value actors.table a (in_mode actor queued);
@@ -83,7 +83,7 @@ module _ {M : Type 0} where
     most_messages = actors.most_messages;
   }
 
-  -- how many messages are in all mailboxes
+  -- The number of messages in all mailboxes.
   abbrev pub letters_of : Option (Actor M) → ℕ
   letters_of None = 0
   letters_of (Some actor) = length actor.mailbox
@@ -103,7 +103,7 @@ module _ {M : Type 0} where
   abbrev pub spawned : Actors M → Actors M
   spawned actors = if_granted (spawn_answer actors) actors (with_table actors (with_next actors.table (record { mode = idle None; mailbox = []; timeout = 0 })))
 
-  -- A message comes into the mailbox of its receiver, last. A receiver that is idle is queued, and waits no longer.
+  -- A message is appended to the mailbox of its receiver. A receiver that is idle is queued, and waits no longer.
   abbrev pub sent_value : Option (Actor M) → Option (Actor M) → Result Sent ActorError
   sent_value None receiver = Err NoActor
   sent_value (Some sender) None = Err NoActor
@@ -125,7 +125,7 @@ module _ {M : Type 0} where
   abbrev pub sent : Actors M → ℕ → ℕ → M → Actors M
   sent actors from to message = if_granted (send_answer actors from to) actors (received_value (value_at actors.table to) actors from to message)
 
-  -- The receive timeout is set. An idle actor waits anew from now.
+  -- A call sets the receive timeout. An idle actor waits anew from now.
   abbrev pub timeout_answer : Actors M → ℕ → Result ⊤ ActorError
   timeout_answer actors a = if is_some (value_at actors.table a) then Ok tt else Err NoActor
 
@@ -136,7 +136,8 @@ module _ {M : Type 0} where
   abbrev pub timed : Actors M → ℕ → ℕ → Actors M
   timed actors a ms = timed_value (value_at actors.table a) actors a ms
 
-  -- A turn begins: the front of the queue runs. It gets the first message of its mailbox, or a timeout where there is none.
+  -- A turn begins: the front of the queue runs. It gets the first message of its mailbox, or a timeout if there is
+  -- none.
   abbrev pub got_in : List (Letter M) → Got M
   got_in [] = Timeout
   got_in (letter ∷ mailbox) = Message letter.sender letter.message
@@ -174,7 +175,7 @@ module _ {M : Type 0} where
   abbrev pub begun : Actors M → Actors M
   begun actors = begun_for actors.queue actors
 
-  -- A turn ends: the actor is gone, or stands in the queue again where it has messages, or is idle and waits from now.
+  -- A turn ends: the actor is removed, or is queued again if it has messages, or is idle and waits from now.
   abbrev pub end_answer : Bool → Option (Actor M) → After
   end_answer true actor = after.Stopped
   end_answer false None = after.Stopped

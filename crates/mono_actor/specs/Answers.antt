@@ -1,4 +1,4 @@
--- What the calls on the actors answer.
+-- The answers of the calls on the actors.
 use Rattle.std.specs.Prelude.{ℕ, ⊤, List, Result, Ok, Err}
 use Rattle.mono_actor.specs.declared.answers.ActorError.{ActorError}
 use Rattle.mono_actor.specs.declared.answers.Sent.{Sent}
@@ -9,13 +9,13 @@ pub data Answer (M : Type 0) : Type 0 where
   Actor : (a : ℕ) → Answer M
   Posted : (what : Sent) → Answer M
   Done : Answer M
-  -- the actor has its turn
+  -- The actor has its turn.
   Turn : (a : ℕ) → (got : Got M) → Answer M
   Ended : (how : After) → Answer M
-  -- these actors were queued, since their timeouts have come
+  -- These actors were queued, since their timeouts have come.
   Due : (due : List ℕ) → Answer M
   Refused : (error : ActorError) → Answer M
-  -- the clock may not show so much
+  -- The clock may not show this reading.
   Invalid : Answer M
 
 module _ {M : Type 0} where

@@ -1,4 +1,4 @@
--- The actors as their callers see them, and what the calls answer.
+-- The actors as their callers see them, and the answers of the calls.
 use Rattle.std.specs.Prelude.{◌≡◌, ◌⊎◌, ◌++◌, ℕ, List, Result, Ok, Err, IsOk}
 use Rattle.mono_wheel.specs.Credit.{credit}
 use Rattle.mono_actor.specs.Actors as model
@@ -12,7 +12,7 @@ use Rattle.mono_actor.specs.declared.answers.Sent.{Sent}
 use Rattle.mono_actor.specs.declared.answers.SendRefused.{SendRefused}
 use Rattle.mono_actor.specs.declared.table.Actors.{Actors}
 
--- It is what is told, or, where that is no refusal, want of memory.
+-- The answer is the specified one or, if that is no refusal, out of memory.
 abbrev pub OrLacksMemory : {A : Type 0} → Result A ActorError → Result A ActorError → Type 0
 OrLacksMemory told result = (result ≡ told) ⊎ ((result ≡ Err Memory) × IsOk told)
 
@@ -27,16 +27,16 @@ module _ {M : Type 0} where
     most_messages = actors.most_messages;
   }
 
-  -- how many steps the wheel has still to take for the actors that wait
+  -- The number of steps that the wheel has still to take for the waiting actors.
   abbrev pub credit_left : Actors M → ℕ
   credit_left actors = credit actors.timers.wheel
 
-  -- a send's answer without the message that was refused
+  -- A send's answer without the message that was refused.
   abbrev pub without_message : Result Sent (SendRefused M) → Result Sent ActorError
   without_message (Ok sent) = Ok sent
   without_message (Err refused) = Err refused.cause
 
-  -- a clock step to n nanoseconds, whose list of actors was appended
+  -- A clock step to n nanoseconds, with its list of actors appended.
   pub record ListsAndQueues (old : model.Actors M) (n : ℕ) (items with_due : List ℕ) (new : model.Actors M) : Type 0 where
     pub due : List ℕ
     pub appended : with_due ≡ items ++ due

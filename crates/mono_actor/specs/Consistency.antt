@@ -1,4 +1,4 @@
--- What holds between the places, the timers and the counts.
+-- The invariant between the places, the timers and the counts.
 use Rattle.std.specs.Prelude.{◌≡◌, ◌<◌, ◌≤◌, ◌^◌, ℕ, true, List, length, sum_by, Option, Some, None}
 use Rattle.mono_model.specs.Table.{value_at}
 use Rattle.mono_model.specs.Valid.{times, once_if}
@@ -10,7 +10,7 @@ use Rattle.mono_actor.specs.Timers.{tick_at, is_known, number_at}
 use Rattle.mono_actor.specs.declared.timers.Alarms.{Alarms}
 
 module _ {M : Type 0} where
-  -- the key of the actor a is given out to it, and waits for the tick for which the actor waits
+  -- The key of the actor a is given out to it, and waits for the actor's tick.
   pub record Tied (timers : Alarms) (a : ℕ) (place : Place M) : Type 0 where
     pub known : is_known timers place.timer ≡ true
     pub number : number_at timers place.timer ≡ a
@@ -31,7 +31,7 @@ module _ {M : Type 0} where
     pub queue_is : (a : ℕ) → times queue a ≡ once_if (of_actor is_queued (value_at (table_of places) a))
     pub turn_is : (me : ℕ) → turn ≡ Some me → of_actor is_running (value_at (table_of places) me) ≡ true
 
-  -- the counts of the live actors, of the messages and of the queue
+  -- The counts of the live actors, of the messages and of the queue.
   pub record Counts (places : List (Option (Place M))) (queue : List ℕ) (live letters : ℕ) : Type 0 where
     pub live_is : live ≡ sum_by one_if_live (table_of places)
     pub letters_is : letters ≡ sum_by letters_of (table_of places)

@@ -1,4 +1,4 @@
--- What calls make of what is kept of an actor beside its letters.
+-- The effect of calls on the entry of an actor.
 use Rattle.std.specs.Prelude.{ℕ, Bool, ◌==◌, if◌then◌else◌}
 use Rattle.mono_actor.specs.Actors.{wait_from}
 use Rattle.mono_actor.specs.declared.mailboxes.Mailbox.{Mailbox}
@@ -12,7 +12,7 @@ entry_with mailbox entry = record { mode = entry.mode; mailbox = mailbox; timeou
 abbrev pub entry_in : declared.Mode → Entry → Entry
 entry_in mode entry = record { mode = mode; mailbox = entry.mailbox; timeout = entry.timeout; timer = entry.timer }
 
--- an idle actor is queued
+-- The mode after a message: an idle actor is queued.
 abbrev pub notified_mode : declared.Mode → declared.Mode
 notified_mode (place.Idle waits_for) = place.Queued
 notified_mode place.Queued = place.Queued
@@ -21,7 +21,7 @@ notified_mode place.Running = place.Running
 abbrev pub notified : Mailbox → Entry → Entry
 notified mailbox entry = record { mode = notified_mode entry.mode; mailbox = mailbox; timeout = entry.timeout; timer = entry.timer }
 
--- an idle actor waits anew from now
+-- The mode after a new timeout: an idle actor waits anew from now.
 abbrev pub timed_mode : ℕ → ℕ → declared.Mode → declared.Mode
 timed_mode now timeout (place.Idle waits_for) = place.Idle (wait_from now timeout)
 timed_mode now timeout place.Queued = place.Queued
@@ -30,7 +30,7 @@ timed_mode now timeout place.Running = place.Running
 abbrev pub timed_entry : ℕ → ℕ → Entry → Entry
 timed_entry now timeout entry = record { mode = timed_mode now timeout entry.mode; mailbox = entry.mailbox; timeout = timeout; timer = entry.timer }
 
--- after its turn an actor is queued again where it has messages, and else idle
+-- The mode after a turn: an actor is queued again if it has messages, and otherwise idle.
 abbrev pub rested_mode : ℕ → ℕ → Bool → declared.Mode
 rested_mode now timeout empty = if empty then place.Idle (wait_from now timeout) else place.Queued
 

@@ -1,4 +1,4 @@
--- How linked letters in one store stand for the mailboxes of all actors.
+-- The view of linked messages in one store as the mailboxes of all actors.
 use Rattle.std.specs.Prelude.{◌≡◌, ◌≢◌, zero, suc, ℕ, ◌+◌, ◌-◌, ◌<◌, true, ◌==◌, if◌then◌else◌, List, [], ◌∷◌, ◌++◌, map, sum_by, Option, Some, None, is_some, slice_index_or}
 use Rattle.std.specs.Option.{option_map}
 use Rattle.mono_model.specs.Table.{value_at}
@@ -10,18 +10,18 @@ use Rattle.mono_actor.specs.declared.mailboxes.Link.{Link}
 use Rattle.mono_actor.specs.declared.mailboxes.Mailbox.{Mailbox}
 use Rattle.mono_actor.specs.declared.places.Entry.{Entry}
 
--- so many keys, each after the one before it
+-- The given number of keys, each the one after the key before.
 abbrev pub keys_from : (ℕ → ℕ) → ℕ → ℕ → List ℕ
 keys_from next zero first = []
 keys_from next (suc count) first = first ∷ keys_from next count (next first)
 
--- it is the last of them, if there are any
+-- It is the last of them, if there are any.
 abbrev pub EndsAt : ℕ → List ℕ → Type 0
 EndsAt last [] = Unit {0}
 EndsAt last (key ∷ []) = last ≡ key
 EndsAt last (key ∷ other ∷ rest) = EndsAt last (other ∷ rest)
 
--- how many letters are in the mailbox of an actor
+-- The number of messages in the mailbox of an actor.
 abbrev pub count_in : Option Entry → ℕ
 count_in None = 0
 count_in (Some entry) = entry.mailbox.count
@@ -41,12 +41,12 @@ module _ {M : Type 0} where
   letter_of None = []
   letter_of (Some link) = link.letter ∷ []
 
-  -- the letters at these keys
+  -- The messages at these keys.
   abbrev pub letters_at : List (Option (Link M)) → List ℕ → List (Letter M)
   letters_at slots [] = []
   letters_at slots (key ∷ keys) = letter_of (slot_at slots key) ++ letters_at slots keys
 
-  -- where the letters of a mailbox are, the oldest first
+  -- The keys of the messages of a mailbox, the oldest first.
   abbrev pub keys_of : List (Option (Link M)) → Mailbox → List ℕ
   keys_of slots mailbox = keys_from (next_in slots) mailbox.count mailbox.first
 
@@ -54,19 +54,19 @@ module _ {M : Type 0} where
   keys_in slots None = []
   keys_in slots (Some entry) = keys_of slots entry.mailbox
 
-  -- what is kept of an actor says this of it
+  -- The place of an actor, given by its entry.
   abbrev pub place_of : List (Option (Link M)) → Entry → Place M
   place_of slots entry = record { mode = entry.mode; mailbox = letters_at slots (keys_of slots entry.mailbox); timeout = entry.timeout; timer = entry.timer }
 
   abbrev pub places_in : List (Option (Link M)) → List (Option Entry) → List (Option (Place M))
   places_in slots entries = map (option_map (place_of slots)) entries
 
-  -- an actor's last key is the one that its entry names
+  -- An actor's last key is the key that its entry names.
   abbrev pub EndsIn : List (Option (Link M)) → Option Entry → Type 0
   EndsIn slots None = Unit {0}
   EndsIn slots (Some entry) = EndsAt entry.mailbox.last (keys_of slots entry.mailbox)
 
-  -- Each letter of a mailbox is in the store, no two mailboxes share one, and the store has no other.
+  -- Each message of a mailbox is in the store, no two mailboxes share one, and the store has no other.
   pub record Sound (slots : List (Option (Link M))) (count : ℕ) (entries : List (Option Entry)) : Type 0 where
     pub known : (a key : ℕ) → IsIn key (keys_in slots (value_at entries a)) → is_some (slot_at slots key) ≡ true
     pub distinct : (a : ℕ) → Distinct (keys_in slots (value_at entries a))
@@ -74,7 +74,7 @@ module _ {M : Type 0} where
     pub ends : (a : ℕ) → EndsIn slots (value_at entries a)
     pub counted : count ≡ sum_by count_in entries
 
-  -- the letter is in the store, at a key that was free, and comes after the last of this mailbox
+  -- The message is in the store, at a key that was free, and follows the last of this mailbox.
   pub record IsPut (letter : Letter M) (old new : List (Option (Link M))) (before after : Mailbox) : Type 0 where
     pub key : ℕ
     pub fresh : slot_at old key ≡ None
@@ -84,7 +84,7 @@ module _ {M : Type 0} where
     pub nexts : (other : ℕ) → other ≢ key → (0 < before.count → other ≢ before.last) → next_in new other ≡ next_in old other
     pub is : after ≡ record { first = if before.count == 0 then key else before.first; last = key; count = before.count + 1 }
 
-  -- the first letter of this mailbox is no longer in the store
+  -- The first message of this mailbox is no longer in the store.
   pub record IsTaken (letter : Letter M) (old new : List (Option (Link M))) (before after : Mailbox) : Type 0 where
     pub next : ℕ
     pub some : 0 < before.count

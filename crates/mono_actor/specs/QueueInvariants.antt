@@ -1,4 +1,4 @@
--- What holds of the queue, of the actor that runs, and of the counts.
+-- The invariant of the queue, of the running actor, and of the counts.
 use Rattle.std.specs.Prelude.{ℕ, Bool, true, false, Option, Some, None, is_some}
 use Rattle.mono_model.specs.Valid.{once_if}
 use Rattle.mono_actor.specs.Actors.{Mode, idle, queued, running, Actor}
@@ -18,7 +18,7 @@ module _ {M : Type 0} where
   of_actor test None = false
   of_actor test (Some actor) = test actor.mode
 
-  -- one for a queued actor, and for any actor
+  -- One for a queued actor, and for any actor.
   abbrev pub one_if_queued : Option (Actor M) → ℕ
   one_if_queued actor = once_if (of_actor is_queued actor)
 

@@ -1,4 +1,4 @@
--- What the store says of each actor.
+-- The store's view of each actor.
 use Rattle.std.specs.Prelude.{List, Option}
 use Rattle.mono_actor.specs.Places.{Place}
 use Rattle.mono_actor.specs.Mailboxes.{places_in}

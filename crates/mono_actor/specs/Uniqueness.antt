@@ -1,4 +1,4 @@
--- What the store holds has one proof at most, so it may be a ghost field.
+-- The content of the store has at most one proof, so it may be a ghost field.
 use mathlib.Core.HLevel.{Unit-prop, ×_prop}
 use Rattle.std.specs.Prelude.{ℕ, List, [], ◌∷◌, Some, None, Option}
 use Rattle.std.proofs.Props.{props}

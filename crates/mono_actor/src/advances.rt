@@ -24,11 +24,11 @@ fn ring_each<M, L: Ledger>(actors: &mut Actors<M>, now: Instant, due: &mut Vec<u
 }
 
 impl<M> Actors<M> {
-    /// Shows the clock an instant, as [`Actors::clock`] does, and appends the actors whose wait has come to `due` (`queued`).
-    /// No turn may run.
+    /// Shows the clock an instant, as [`Actors::clock`] does, and appends the actors whose wait has come to `due`
+    /// (`queued`). No turn may be running.
     ///
-    /// Reserves room for all live actors first. If the allocation failed, nothing has changed (`refused`). The steps of the
-    /// wheel are not counted; they are no more than its credit falls by (`credit`).
+    /// It reserves room for all live actors first. If that allocation fails, nothing has changed (`refused`). The steps
+    /// of the wheel are not counted; they are at most the fall of its credit (`credit`).
     pub fn advance(
         &mut self,
         _alloc: Global,

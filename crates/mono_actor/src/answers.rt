@@ -1,11 +1,11 @@
-// What the calls on the actors answer.
+// The answers of the calls on the actors.
 
-/// Why a call on the actors was refused. It changed nothing then.
+/// Why a call on the actors was refused. A refused call changed nothing.
 ///
-/// Where several causes hold, the one that stands first here counts, but that want of memory comes last.
+/// If several causes hold, the first in this order counts, except that `Memory` comes last.
 #[derive(Clone, Copy, Debug, PartialEq, Eq, Drop)]
 pub enum ActorError {
-    /// There was no memory.
+    /// An allocation failed.
     Memory,
     /// No actor is queued.
     Idle,
@@ -15,21 +15,21 @@ pub enum ActorError {
     NoActor,
 }
 
-/// What a message did to its receiver.
+/// The effect of a message on its receiver.
 #[derive(Clone, Copy, Debug, PartialEq, Eq, Drop)]
 pub enum Sent {
     /// The receiver was idle, and is queued now.
     Queued,
-    /// The receiver was queued or runs.
+    /// The receiver was queued or running.
     Waits,
 }
 
-/// What an actor gets in its turn.
+/// The input of an actor's turn.
 #[derive(Clone, Copy, Debug, PartialEq, Eq, Drop)]
 pub enum Got<M> {
     /// The first message of its mailbox, with its sender.
     Message(u64, M),
-    /// Nothing came until its timeout.
+    /// No message came until its timeout.
     Timeout,
 }
 
@@ -38,9 +38,9 @@ pub enum Got<M> {
 pub enum After {
     /// The actor waits for a message.
     Idle,
-    /// The actor has messages, and stands in the queue again.
+    /// The actor has messages, and is queued again.
     Again,
-    /// The actor is gone.
+    /// The actor was removed.
     Stopped,
 }
 

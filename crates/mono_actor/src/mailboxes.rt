@@ -1,4 +1,4 @@
-// The letters of all mailboxes, in one store.
+// The messages of all mailboxes, in one store.
 ghost use Rattle.std.specs.Prelude.{◌≡◌, ◌<◌, ◌+◌, ◌^◌, IfOk, IfErr, OnOk, OnErr, OnSome, MatchOption};
 ghost use Rattle.slab.specs.Slab.{ContainsKey, slab_len};
 ghost use Rattle.mono_actor.specs.Mailboxes.{IsPut, IsTaken};
@@ -12,14 +12,14 @@ pub struct Letter<M> {
     pub message: M,
 }
 
-/// A letter in the store, and where the next of its mailbox is.
+/// A message in the store, with the key of the next message of its mailbox.
 #[derive(Drop)]
 pub struct Link<M> {
     pub letter: Letter<M>,
     pub next: usize,
 }
 
-/// So many letters of the store, from the first to the last. Where there is none the ends say nothing.
+/// A number of messages of the store, from the first to the last. The ends have no meaning if there is none.
 #[derive(Clone, Copy, Drop)]
 pub struct Mailbox {
     pub first: usize,
@@ -27,7 +27,7 @@ pub struct Mailbox {
     pub count: usize,
 }
 
-/// The letter comes last. Where memory is refused it comes back.
+/// Appends the message to the mailbox. It comes back if the store is out of memory.
 pub fn put<M>(
     links: &mut Slab<Link<M>>,
     mailbox: Mailbox,
@@ -59,14 +59,14 @@ pub fn put<M>(
     })
 }
 
-/// A letter that was the first of its mailbox, and the mailbox without it.
+/// A message that was the first of its mailbox, and the mailbox without it.
 #[derive(Drop)]
 pub struct Taken<M> {
     pub letter: Letter<M>,
     pub rest: Mailbox,
 }
 
-/// Takes the first letter out, whose memory can be used again. None exactly where there is none.
+/// Removes and returns the first message, whose memory can be used again. Returns `None` if and only if there is none.
 pub fn take<M>(links: &mut Slab<Link<M>>, mailbox: Mailbox) -> Option<Taken<M>>
     requires { 0 < mailbox.count → ContainsKey links.old mailbox.first }
     ensures taken { MatchOption result ((mailbox.count ≡ 0) × (links.new.slots ≡ links.old.slots)) (λ taken. IsTaken taken.letter links.old.slots links.new.slots mailbox taken.rest) }

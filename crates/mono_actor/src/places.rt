@@ -1,4 +1,4 @@
-// What is kept of an actor beside its letters, at its number.
+// The entry of an actor, at its number: all but its messages.
 ghost use Rattle.std.specs.Prelude.{◌≡◌, ◌<◌, ◌^◌, ◌==◌, None, MatchOption};
 ghost use Rattle.mono_model.specs.Ticks.{down};
 ghost use Rattle.mono_time.specs.Instants.{nanos_of};
@@ -12,10 +12,10 @@ use crate::answers::Got;
 use crate::mailboxes::{Letter, Mailbox};
 use mono_time::Instant;
 
-/// The last tick for which an actor may wait.
+/// The greatest tick for which an actor may wait.
 const LAST_TICK: u64 = (1 << 63) - 1;
 
-/// What an actor does now: an idle one may wait for a tick.
+/// The mode of an actor: an idle one may wait for a tick.
 #[derive(Clone, Copy, Drop)]
 pub enum Mode {
     Idle(Option<u64>),
@@ -32,28 +32,28 @@ pub struct Entry {
     pub timer: usize,
 }
 
-/// What a message asks for: that its receiver is queued and its key waits no longer for this tick, or nothing.
+/// The work after a message: its receiver is queued and its key no longer waits for this tick, or nothing.
 #[derive(Clone, Copy, Drop)]
 pub enum Receipt {
     Queues(usize, Option<u64>),
     Waits,
 }
 
-/// What a new timeout asks for: that a key waits no longer for the first tick and waits for the second, or nothing.
+/// The work after a new timeout: a key no longer waits for the first tick and waits for the second, or nothing.
 #[derive(Clone, Copy, Drop)]
 pub enum Timing {
     Rearms(usize, Option<u64>, Option<u64>),
     Keeps,
 }
 
-/// What the end of a turn asks for: that the actor is queued again, or that its key waits for this tick.
+/// The work after a turn: the actor is queued again, or its key waits for this tick.
 #[derive(Clone, Copy, Drop)]
 pub enum Rest {
     Again,
     Waits(usize, Option<u64>),
 }
 
-/// For which tick an actor waits from now on.
+/// Returns the tick for which an actor waits from now on.
 pub fn wait_from(now: u64, timeout: u64) -> Option<u64>
     ensures { result ≡ wait_from now timeout }
 {
@@ -66,7 +66,7 @@ pub fn wait_from(now: u64, timeout: u64) -> Option<u64>
     }
 }
 
-/// A new actor: it is idle and waits for no tick, its mailbox is empty, and it has no timeout.
+/// Returns a new actor: it is idle and waits for no tick, its mailbox is empty, and it has no timeout.
 pub fn new_entry(timer: usize) -> Entry
     ensures { result ≡ record { mode = place.Idle None; mailbox = record { first = 0; last = 0; count = 0 }; timeout = 0; timer = timer } }
 {
@@ -82,7 +82,7 @@ pub fn new_entry(timer: usize) -> Entry
     }
 }
 
-/// The actor has this mailbox.
+/// Stores the actor's mailbox.
 #[inline(always)]
 pub fn set_mailbox(entry: &mut Entry, mailbox: Mailbox)
     ensures { entry.new ≡ entry_with mailbox entry.old }
@@ -90,7 +90,7 @@ pub fn set_mailbox(entry: &mut Entry, mailbox: Mailbox)
     entry.mailbox = mailbox;
 }
 
-/// The actor has this mailbox, with a message more: an idle one is queued.
+/// Stores the actor's mailbox, which has one more message, and queues an idle actor.
 #[inline(always)]
 pub fn notify(entry: &mut Entry, mailbox: Mailbox) -> Receipt
     ensures becomes { entry.new ≡ notified mailbox entry.old }
@@ -106,7 +106,7 @@ pub fn notify(entry: &mut Entry, mailbox: Mailbox) -> Receipt
     }
 }
 
-/// The actor has another timeout. An idle one waits anew from now.
+/// Sets the actor's timeout. An idle actor waits anew from now.
 pub fn set_timeout(entry: &mut Entry, now: u64, timeout: u64) -> Timing
     ensures becomes { entry.new ≡ timed_entry now timeout entry.old }
     ensures timing { result ≡ timing_in now timeout entry.old.timer entry.old.mode }
@@ -122,7 +122,7 @@ pub fn set_timeout(entry: &mut Entry, now: u64, timeout: u64) -> Timing
     }
 }
 
-/// The actor's turn begins.
+/// Begins the actor's turn.
 #[inline(always)]
 pub fn start(entry: &mut Entry)
     ensures { entry.new ≡ entry_in place.Running entry.old }
@@ -130,7 +130,7 @@ pub fn start(entry: &mut Entry)
     entry.mode = Mode::Running;
 }
 
-/// What the actor gets that has its turn: its first message, if any.
+/// Returns the input of an actor's turn: its first message, or a timeout if there is none.
 pub fn got_of<M>(letter: Option<Letter<M>>) -> Got<M>
     ensures { MatchOption letter (result ≡ got.Timeout) (λ l. result ≡ got.Message l.sender l.message) }
 {
@@ -140,7 +140,7 @@ pub fn got_of<M>(letter: Option<Letter<M>>) -> Got<M>
     }
 }
 
-/// How many messages a turn begins with.
+/// Returns how many messages a turn takes at its start.
 pub fn taken<M>(got: &Got<M>) -> u64
     ensures { result ≡ taken_by got.now }
 {
@@ -150,7 +150,7 @@ pub fn taken<M>(got: &Got<M>) -> u64
     }
 }
 
-/// The actor's turn ends, and it goes on.
+/// Ends the actor's turn, and keeps the actor.
 #[inline(always)]
 pub fn end_turn(entry: &mut Entry, now: u64) -> Rest
     ensures becomes { entry.new ≡ rested_entry now entry.old }
@@ -166,14 +166,14 @@ pub fn end_turn(entry: &mut Entry, now: u64) -> Rest
     }
 }
 
-/// What is left of an actor: its key, and how many messages were in its mailbox.
+/// The remains of an actor: its key, and the number of messages in its mailbox.
 #[derive(Clone, Copy, Drop)]
 pub struct Gone {
     pub timer: usize,
     pub letters: u64,
 }
 
-/// The tick of a clock's reading: milliseconds, rounded down.
+/// Returns the tick of a clock's reading: milliseconds, rounded down.
 pub fn clock_tick(now: Instant) -> u64
     ensures tick { result ≡ down (nanos_of now) }
     ensures range { result < 2 ^ 63 }
@@ -181,7 +181,7 @@ pub fn clock_tick(now: Instant) -> u64
     (now.as_nanos() / 1000000) as u64
 }
 
-/// The actor's timeout has come, and it is queued.
+/// Queues the actor, whose timeout has come.
 #[inline(always)]
 pub fn ring(entry: &mut Entry)
     ensures { entry.new ≡ entry_in place.Queued entry.old }

@@ -1,4 +1,4 @@
-// What is kept of all actors: the entry of each, and the letters of all mailboxes in one store.
+// The store of all actors: the entry of each, and the messages of all mailboxes.
 ghost use Rattle.std.specs.Prelude.{◌≡◌, ◌<◌, ◌+◌, ◌-◌, ◌^◌, true, [], ◌∷◌, ◌++◌, None, Some, OnOk, OnErr, IfOk, IfErr, IfSome, is_some, length, slice_set};
 ghost use Rattle.slab.specs.Slab.{slab_len};
 ghost use Rattle.mono_model.specs.Table.{value_at};
@@ -18,10 +18,10 @@ use mono_table::Table;
 use slab::Slab;
 use std::alloc::{AllocError, Global};
 
-/// Actors at their numbers, none where one is gone, and the letters in their mailboxes.
+/// Actors at their numbers, none at the number of a removed one, and the messages in their mailboxes.
 ///
-/// A letter takes memory of the one store for all mailboxes, which can be used again once it is taken out. An actor without
-/// letters takes that of its entry alone, in a table whose memory follows the actors that are live.
+/// A message takes memory of the one store for all mailboxes, which can be used again once it is taken out. An actor
+/// without messages takes that of its entry alone, in a table whose memory follows the number of live actors.
 #[derive(Drop)]
 pub(crate) struct Store<M> {
     entries: Table<Entry>,
@@ -32,7 +32,7 @@ pub(crate) struct Store<M> {
 impl<M> Store<M> {
     ghost use Rattle.mono_actor.specs.Store.{places_of};
 
-    /// No actor.
+    /// Returns a store without actors.
     pub(crate) fn new(alloc: Global) -> Store<M>
         ensures { places_of result ≡ [] }
     {
@@ -42,14 +42,14 @@ impl<M> Store<M> {
         }
     }
 
-    /// How many numbers were given.
+    /// Returns how many numbers were given.
     pub(crate) fn len(&self) -> u64
         ensures { result ≡ length (places_of self.now) }
     {
         self.entries.len()
     }
 
-    /// Whether a number has an actor.
+    /// Returns whether a number has an actor.
     #[inline(always)]
     pub(crate) fn is_there(&self, actor: u64) -> bool
         ensures { result ≡ is_some (value_at (places_of self.now) actor) }
@@ -57,7 +57,8 @@ impl<M> Store<M> {
         self.entries.get(actor).is_some()
     }
 
-    /// A new actor at the next number, with this key. Refused only if the allocation failed; nothing changed then.
+    /// Adds an actor at the next number, with this key. It is refused only if it is out of memory; nothing changed
+    /// then.
     pub(crate) fn push(&mut self, alloc: Global, timer: usize) -> Result<(), AllocError>
         requires { length (places_of self.old) < 2 ^ 64 - 1 }
         ensures after { OnOk result (places_of self.new ≡ places_of self.old ++ Some (record { mode = place.Idle None; mailbox = []; timeout = 0; timer = timer }) ∷ []) }
@@ -66,7 +67,7 @@ impl<M> Store<M> {
         self.entries.push(alloc, new_entry(timer))
     }
 
-    // The mailbox of an actor.
+    // Returns the mailbox of an actor.
     #[inline(always)]
     fn mailbox(&self, actor: u64) -> Mailbox
         requires { is_some (value_at self.now.entries actor) ≡ true }
@@ -78,7 +79,7 @@ impl<M> Store<M> {
         }
     }
 
-    // What is left of an actor once it is gone.
+    // Removes an actor, and returns its remains.
     #[inline(always)]
     fn left(&self, actor: u64) -> Gone
         requires { is_some (value_at self.now.entries actor) ≡ true }
@@ -94,7 +95,7 @@ impl<M> Store<M> {
         }
     }
 
-    // Takes the first letter out, if any.
+    // Removes and returns the first message, if any.
     fn take(&mut self, actor: u64) -> Option<Letter<M>>
         requires { is_some (value_at (places_of self.old) actor) ≡ true }
         ensures taken { Changes unread actor (places_of self.old) (places_of self.new) }
@@ -106,7 +107,7 @@ impl<M> Store<M> {
         Some(taken.letter)
     }
 
-    /// A message comes into the mailbox, last. Where memory is refused it comes back.
+    /// Appends a message to the mailbox. It comes back if the store is out of memory.
     pub(crate) fn receive(&mut self, actor: u64, letter: Letter<M>) -> Result<Receipt, Letter<M>>
         requires there { is_some (value_at (places_of self.old) actor) ≡ true }
         requires few { IfSome (value_at (places_of self.old) actor) (λ p. length p.mailbox + 1 < 2 ^ 64) }
@@ -119,7 +120,7 @@ impl<M> Store<M> {
         Ok(notify(self.entries.value_mut(actor), longer))
     }
 
-    /// The actor has another timeout. An idle one waits anew from now.
+    /// Sets the actor's timeout. An idle actor waits anew from now.
     pub(crate) fn set_timeout(&mut self, actor: u64, now: u64, timeout: u64) -> Timing
         requires { is_some (value_at (places_of self.old) actor) ≡ true }
         ensures becomes { Changes (timed_actor now timeout) actor (places_of self.old) (places_of self.new) }
@@ -128,7 +129,7 @@ impl<M> Store<M> {
         set_timeout(self.entries.value_mut(actor), now, timeout)
     }
 
-    /// The actor's turn begins, with its first message or a timeout.
+    /// Begins the actor's turn, with its first message or a timeout.
     pub(crate) fn begin_turn(&mut self, actor: u64) -> Got<M>
         requires { is_some (value_at (places_of self.old) actor) ≡ true }
         ensures becomes { Changes begun_actor actor (places_of self.old) (places_of self.new) }
@@ -139,7 +140,7 @@ impl<M> Store<M> {
         got_of(letter)
     }
 
-    /// The actor's turn ends, and it goes on.
+    /// Ends the actor's turn, and keeps the actor.
     pub(crate) fn end_turn(&mut self, actor: u64, now: u64) -> Rest
         requires { is_some (value_at (places_of self.old) actor) ≡ true }
         ensures becomes { Changes (rested now) actor (places_of self.old) (places_of self.new) }
@@ -148,7 +149,7 @@ impl<M> Store<M> {
         end_turn(self.entries.value_mut(actor), now)
     }
 
-    /// The actor's timeout has come, and it is queued.
+    /// Queues the actor, whose timeout has come.
     pub(crate) fn ring(&mut self, actor: u64)
         requires { is_some (value_at (places_of self.old) actor) ≡ true }
         ensures { Changes (λ a. in_mode a queued) actor (places_of self.old) (places_of self.new) }
@@ -160,7 +161,7 @@ impl<M> Store<M> {
 impl<M: Drop> Store<M> {
     ghost use Rattle.mono_actor.specs.Store.{places_of};
 
-    /// The actor is gone, and so are the letters in its mailbox, which takes a step each.
+    /// Removes the actor and the messages in its mailbox, which takes a step for each.
     pub(crate) fn take_away(&mut self, actor: u64) -> Gone
         requires { is_some (value_at (places_of self.old) actor) ≡ true }
         ensures gone { places_of self.new ≡ slice_set (places_of self.old) actor None }

@@ -18,19 +18,20 @@ use std::sync::ledger::Ledger;
 
 /// Actors with mailboxes, whose turns come one after another, and their receive timeouts.
 ///
-/// An actor is idle, queued or running. What an actor does in its turn is any code between [`Actors::begin`] and
-/// [`Actors::end`]. Numbers count from 0 and are never given twice. Timeouts are in milliseconds of the clock of
-/// [`Actors::clock`]. Only `new`, `spawn` and `send` take memory; an actor without messages takes that of its entry, and
-/// the memory of all entries follows the actors that are live, not those that were ever made. A
-/// message takes memory of one store for all mailboxes, which can be used again once it is read.
+/// An actor is idle, queued or running. An actor's turn is any code between [`Actors::begin`] and [`Actors::end`].
+/// Numbers count from 0 and are never given twice. Timeouts are in milliseconds of the clock of [`Actors::clock`].
+///
+/// Only `new`, `spawn` and `send` take memory. An actor without messages takes that of its entry, and the memory of all
+/// entries follows the number of live actors. A message takes memory of one store for all mailboxes, which can be used
+/// again once it is read.
 #[derive(Drop)]
 pub struct Actors<M> {
-    // by number, what is kept of the actor while it is live
+    // The entries of the live actors, by number.
     places: Store<M>,
     queue: VecDeque<u64>,
     timers: Alarms,
     turn: Option<u64>,
-    // the greatest tick of the clock so far
+    // The greatest tick of the clock so far.
     greatest: u64,
     most_actors: u64,
     most_messages: u64,
@@ -43,7 +44,7 @@ impl<M> Actors<M> {
     ghost use Rattle.mono_actor.specs.Actors.{no_actors, if_granted, spawn_answer, spawned, send_answer, sent, sent_in, received_value, timeout_answer, timed, begin_answer, begun};
     ghost use Rattle.mono_actor.specs.Callers.{OrLacksMemory, actors_of, without_message};
 
-    /// No actor, with room for so many live ones and so many messages in all mailboxes.
+    /// Returns a table without actors, with room for `actors` live ones and `messages` messages in all mailboxes.
     pub fn new(alloc: Global, actors: u64, messages: u64) -> Result<Actors<M>, AllocError>
         ensures { IfOk result (λ a. actors_of a ≡ no_actors actors messages) }
     {
@@ -61,24 +62,24 @@ impl<M> Actors<M> {
         })
     }
 
-    /// How many actors are live.
+    /// Returns how many actors are live.
     pub fn live(&self) -> usize
         ensures { result ≡ count_of (actors_of self.now).table }
     {
         self.live as usize
     }
 
-    /// Whether a turn runs.
+    /// Returns whether a turn is running.
     pub fn is_running(&self) -> bool
         ensures { result ≡ is_some (actors_of self.now).turn }
     {
         self.turn.is_some()
     }
 
-    /// A new actor, with the next number. It is idle, its mailbox is empty, and it has no timeout.
+    /// Adds an actor with the next number. It is idle, its mailbox is empty, and it has no timeout.
     ///
-    /// Refused at capacity exactly where the live actors are at the limit or the next number is 2^64 - 1, and else for want of
-    /// memory (`answer`). A refusal changes nothing (`after`).
+    /// It is refused as `AtCapacity` if and only if the live actors are at the limit or the next number is 2^64 - 1,
+    /// and otherwise if it is out of memory (`answer`). A refusal changes nothing (`after`).
     pub fn spawn(&mut self, alloc: Global) -> Result<u64, ActorError>
         ensures answer { OrLacksMemory (spawn_answer (actors_of self.old)) result }
         ensures after { actors_of self.new ≡ if_granted result (actors_of self.old) (spawned (actors_of self.old)) }
@@ -96,7 +97,7 @@ impl<M> Actors<M> {
         }
     }
 
-    // A place for a new actor.
+    // Reserves a place for a new actor.
     fn enter(&mut self, alloc: Global) -> Result<(), AllocError>
         requires room { self.old.live < self.old.most_actors }
         requires number { length (places_of self.old.places) < 2 ^ 64 - 1 }
@@ -118,12 +119,12 @@ impl<M> Actors<M> {
         }
     }
 
-    /// Sends a message: it comes into the mailbox of its receiver, last, with its sender. Queued exactly where the receiver
-    /// was idle; it is then queued last, and waits for no tick.
+    /// Sends a message: it is appended to the mailbox of its receiver, with its sender. The answer is `Queued` if and
+    /// only if the receiver was idle; it is then queued last, and waits for no tick.
     ///
-    /// Refused at capacity exactly where the messages in all mailboxes are at the limit, then as no actor exactly where the
-    /// sender or the receiver is not live, and else for want of memory (`answer`). A refusal changes nothing (`after`) and
-    /// hands the message back (`back`).
+    /// It is refused as `AtCapacity` if and only if the messages in all mailboxes are at the limit. Then it is refused
+    /// as `NoActor` if and only if the sender or the receiver is not live, and otherwise if it is out of memory
+    /// (`answer`). A refusal changes nothing (`after`) and returns the message (`back`).
     pub fn send(&mut self, from: u64, to: u64, message: M) -> Result<Sent, SendRefused<M>>
         ensures answer { OrLacksMemory (send_answer (actors_of self.old) from to) (without_message result) }
         ensures after { actors_of self.new ≡ if_granted (without_message result) (actors_of self.old) (sent (actors_of self.old) from to message) }
@@ -154,7 +155,7 @@ impl<M> Actors<M> {
         }
     }
 
-    // A message comes to an actor.
+    // Delivers a message to an actor.
     fn deliver(&mut self, to: u64, letter: Letter<M>) -> Result<Sent, Letter<M>>
         requires there { is_some (value_at (places_of self.old.places) to) ≡ true }
         requires room { self.old.letters < self.old.most_messages }
@@ -174,9 +175,10 @@ impl<M> Actors<M> {
         }
     }
 
-    /// Sets the receive timeout of an actor to so many milliseconds, or to none with 0. An idle actor waits anew from now.
+    /// Sets the receive timeout of an actor to `ms` milliseconds, or to none if that is 0. An idle actor waits anew
+    /// from now.
     ///
-    /// Refused as no actor exactly where no live actor has the number; then nothing changes.
+    /// It is refused as `NoActor` if and only if no live actor has the number; then nothing changes.
     pub fn timeout(&mut self, actor: u64, ms: u64) -> Result<(), ActorError>
         ensures answer { result ≡ timeout_answer (actors_of self.old) actor }
         ensures after { actors_of self.new ≡ timed (actors_of self.old) actor ms }
@@ -194,10 +196,10 @@ impl<M> Actors<M> {
         Ok(())
     }
 
-    /// Begins the turn of the queue's front, which gets the first message of its mailbox, or a timeout exactly where its
-    /// mailbox is empty. No turn may run already.
+    /// Begins the turn of the queue's front. It gets the first message of its mailbox, or a timeout if and only if its
+    /// mailbox is empty. No turn may be running.
     ///
-    /// Refused as idle exactly where the queue is empty; then nothing changes.
+    /// It is refused as `Idle` if and only if the queue is empty; then nothing changes.
     pub fn begin(&mut self) -> Result<(u64, Got<M>), ActorError>
         requires { (actors_of self.old).turn ≡ None }
         ensures answer { result ≡ begin_answer (actors_of self.old) }
@@ -221,8 +223,9 @@ impl<M: Drop> Actors<M> {
     ghost use Rattle.mono_model.specs.Table.{without};
     ghost use Rattle.mono_actor.specs.Callers.{actors_of};
 
-    /// Ends the turn that runs, which one has to. With `stop` the actor and its mailbox are gone (`Stopped`). Else it is queued
-    /// last where its mailbox is not empty (`Again`), and is else idle, and waits for its timeout from now on (`Idle`).
+    /// Ends the running turn; there has to be one. With `stop` the actor and its mailbox are removed (`Stopped`).
+    /// Otherwise it is queued last if its mailbox is not empty (`Again`). If the mailbox is empty, the actor is idle,
+    /// and waits for its timeout from now on (`Idle`).
     pub fn end(&mut self, stop: bool) -> After
         requires { is_some (actors_of self.old).turn ≡ true }
         ensures answer { (me : ℕ) → (actors_of self.old).turn ≡ Some me → result ≡ end_answer stop (value_at (actors_of self.old).table me) }
@@ -240,7 +243,7 @@ impl<M: Drop> Actors<M> {
         self.rest(me)
     }
 
-    // The actor that ran is gone.
+    // Removes the actor that ran.
     fn stop(&mut self, me: u64)
         requires runs { of_actor is_running (value_at (actors_of self.old).table me) ≡ true }
         requires over { (actors_of self.old).turn ≡ None }
@@ -252,7 +255,7 @@ impl<M: Drop> Actors<M> {
         self.live -= 1;
     }
 
-    // The actor that ran goes on.
+    // Keeps the actor that ran.
     fn rest(&mut self, me: u64) -> After
         requires runs { of_actor is_running (value_at (actors_of self.old).table me) ≡ true }
         requires over { (actors_of self.old).turn ≡ None }
@@ -278,9 +281,10 @@ impl<M> Actors<M> {
     ghost use Rattle.mono_actor.specs.ClockSteps.{IsNoneDue, RingsFirst, RingsAll, waiting_count};
     ghost use Rattle.mono_actor.specs.Callers.{actors_of, credit_left, ListsAndQueues};
 
-    /// The clock shows `now`: the greatest tick becomes the greater of itself and the reading's tick, rounded down. The actors
-    /// whose wait has come are queued, in ascending ticks, and their numbers are appended to `due` in that order (`queued`).
-    /// `due` has to have room for all live actors, and no turn may run. The steps are exactly the fall of the wheel's credit.
+    /// Shows the clock `now`: the greatest tick becomes the greater of itself and the reading's tick, rounded down. The
+    /// actors whose wait has come are queued, in ascending ticks, and their numbers are appended to `due` in that order
+    /// (`queued`). `due` has to have room for all live actors, and no turn may be running. The steps are exactly the
+    /// fall of the wheel's credit.
     pub fn clock<L: Ledger>(&mut self, now: Instant, due: &mut Vec<u64>, steps: &mut Steps<L>)
         requires over { (actors_of self.old).turn ≡ None }
         requires room { vec_len due.old + count_of (actors_of self.old).table ≤ vec_capacity due.old }

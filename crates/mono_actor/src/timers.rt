@@ -1,4 +1,4 @@
-// The receive timeouts that run, on a wheel.
+// The running receive timeouts, on a wheel.
 ghost use Rattle.std.specs.Prelude.{◌≡◌, ◌<◌, ◌≤◌, ◌^◌, ℕ, ◌+◌, true, false, None, IfOk, IfSome, OnOk, OnErr, MatchOption, length};
 ghost use Rattle.mono_wheel.specs.Credit.{credit};
 ghost use Rattle.mono_actor.specs.Keys.{number_in, Within};
@@ -15,7 +15,7 @@ pub(crate) struct Alarms {
     pub ghost within: { Within wheel numbers.items },
 }
 
-// A place for the number of this key.
+// Makes a place for the number of this key.
 fn grow(numbers: &mut Vec<u64>, key: usize) -> Result<(), AllocError>
     ensures longer { length numbers.old.items ≤ length numbers.new.items }
     ensures within { OnOk result (key < length numbers.new.items) }
@@ -30,7 +30,7 @@ fn grow(numbers: &mut Vec<u64>, key: usize) -> Result<(), AllocError>
 impl Alarms {
     ghost use Rattle.mono_actor.specs.Timers.{tick_at, is_known, Sets, Added, Stays, Freed, NoneRings, Rings};
 
-    /// No key.
+    /// Returns a wheel without keys.
     pub(crate) fn new(alloc: Global) -> Result<Alarms, AllocError>
         ensures elapsed { IfOk result (λ timers. timers.wheel.elapsed ≡ 0) }
         ensures none { IfOk result (λ timers. (key : ℕ) → tick_at timers key ≡ None) }
@@ -43,7 +43,7 @@ impl Alarms {
         })
     }
 
-    /// A new key for the actor with this number, which waits for no tick. After want of memory all is as before.
+    /// Adds a key for the actor with this number, which waits for no tick. Nothing changes if it is out of memory.
     pub(crate) fn add(&mut self, alloc: Global, number: u64) -> Result<usize, AllocError>
         ensures added { IfOk result (Added self.old self.new number) }
         ensures refused { OnErr result (Stays self.old self.new) }
@@ -61,7 +61,7 @@ impl Alarms {
         }
     }
 
-    /// Lets a key that waits for no tick wait for one, if any.
+    /// Sets the tick of a key that waits for none, if any.
     pub(crate) fn set(&mut self, key: usize, tick: Option<u64>)
         requires known { is_known self.old key ≡ true }
         requires out { tick_at self.old key ≡ None }
@@ -74,7 +74,7 @@ impl Alarms {
         }
     }
 
-    /// Lets a key wait for no tick, which waited for this one, if any.
+    /// Clears the tick of a key, if it waits for any.
     pub(crate) fn clear(&mut self, key: usize, tick: Option<u64>)
         requires { tick_at self.old key ≡ tick }
         ensures { Sets self.old self.new key None }
@@ -84,7 +84,7 @@ impl Alarms {
         }
     }
 
-    /// Gives a key back that waits for no tick.
+    /// Frees a key that waits for no tick.
     pub(crate) fn free(&mut self, key: usize)
         requires known { is_known self.old key ≡ true }
         requires out { tick_at self.old key ≡ None }
@@ -93,8 +93,8 @@ impl Alarms {
         self.wheel.free_entry(key);
     }
 
-    /// Lets the clock go on to `now` or to the first tick up to it for which a key waits, whose number is the answer. It waits
-    /// no longer. None exactly where no key waits for a tick up to `now`.
+    /// Moves the clock to `now`, or to the first tick up to it for which a key waits. Returns the number of that key,
+    /// which no longer waits. Returns `None` if and only if no key waits for a tick up to `now`.
     pub(crate) fn poll<L: Ledger>(&mut self, now: u64, steps: &mut Steps<L>) -> Option<u64>
         requires ahead { self.old.wheel.elapsed ≤ now }
         requires range { now < 2 ^ 63 }
