@@ -1,4 +1,4 @@
--- How the limiter's calls and answers are written. Each has one spelling.
+-- The text of the limiter's calls and answers. Each has one spelling.
 use Rattle.std.specs.Prelude.{◌≡◌, ◌^◌, ◌<◌, ℕ, List, [], ◌++◌, codes, decimal, flat_map, map}
 use Rattle.mono_text.specs.LineText.{number_part}
 use Rattle.mono_text.specs.Services.{answer_line, AnswersAll}
@@ -25,7 +25,7 @@ call_text (call.Fail r) = codes "fail " ++ decimal r
 call_text (call.Done r) = codes "done " ++ decimal r
 call_text (call.Clock n) = codes "clock " ++ decimal n
 
--- the calls that have a line: numbers below 2 ^ 64, and nanoseconds below 2 ^ 128
+-- The calls that have a line: numbers below 2 ^ 64, and nanoseconds below 2 ^ 128.
 abbrev pub FitsCall : Call → Type 0
 FitsCall (call.Bucket burst period) = (burst < 2 ^ 64) × (period < 2 ^ 64)
 FitsCall (call.Take b n) = (b < 2 ^ 64) × (n < 2 ^ 64)
@@ -34,7 +34,7 @@ FitsCall (call.Fail r) = r < 2 ^ 64
 FitsCall (call.Done r) = r < 2 ^ 64
 FitsCall (call.Clock n) = n < 2 ^ 128
 
--- the call that a line of code says
+-- The model's call for a line's call.
 abbrev pub call_of : LimiterCall → Call
 call_of (line.Bucket burst period) = call.Bucket burst period
 call_of (line.Take b n) = call.Take b n
@@ -45,7 +45,7 @@ call_of (line.Clock n) = call.Clock n
 
 -- ---- answers
 
--- Want of memory has no text: no step answers it.
+-- The text of a refusal. Out of memory has none: no step answers it.
 abbrev pub refusal_text : LimitError → List ℕ
 refusal_text error.Memory = []
 refusal_text error.AtCapacity = codes "at-capacity"
@@ -68,11 +68,11 @@ answer_text answer.Done = codes "ok"
 answer_text (answer.Due due) = codes "due" ++ flat_map number_part due
 answer_text (answer.Refused error) = codes "refused " ++ refusal_text error
 
--- From old, the limiter may answer the call by the text and go on to new.
+-- A step whose answer has this text.
 abbrev pub StepByLine : Limits → Call → List ℕ → Limits → Type 0
 StepByLine old c text new = (a : Answer) × Step old c a new × (text ≡ answer_text a)
 
--- The same where the line of the answer was put behind what was written before.
+-- The same, with the answer's line appended to the output.
 abbrev pub StepInto : Limits → Call → List ℕ → List ℕ → Limits → Type 0
 StepInto old c before after new = (text : List ℕ) × StepByLine old c text new × (after ≡ before ++ answer_line text)
 

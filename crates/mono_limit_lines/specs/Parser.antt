@@ -1,10 +1,10 @@
--- Reading on lists of bytes: what each function of the reader computes.
+-- The parser on lists of bytes: the result of each function of the reader.
 use Rattle.std.specs.Prelude.{ℕ, List, None, codes}
 use Rattle.mono_text.specs.Parser.{Read, when, mapped, then_read, word_at, number_at, nanos_at, behind_at}
 use Rattle.mono_limit_lines.specs.declared.calls.LimiterCall.{LimiterCall}
 use Rattle.mono_limit_lines.specs.declared.calls.LimiterCall.TheVariants as line
 
--- two numbers, and three, with blanks between them
+-- Two numbers, and three, with blanks between them.
 abbrev pub bucket_at : List ℕ → Read LimiterCall
 bucket_at bytes = then_read (number_at bytes) (λ burst r. mapped (line.Bucket burst) (behind_at r))
 
@@ -14,7 +14,7 @@ take_at bytes = then_read (number_at bytes) (λ b r. mapped (line.Take b) (behin
 abbrev pub retry_at : List ℕ → Read LimiterCall
 retry_at bytes = then_read (number_at bytes) (λ base r. then_read (behind_at r) (λ cap q. mapped (line.Retry base cap) (behind_at q)))
 
--- a call that makes a bucket or a retry, or ends one
+-- A call that makes a bucket or a retry, or ends one.
 unfoldable pub slow_call_at : List ℕ → Read LimiterCall
 slow_call_at bytes =
     when (word_at (codes "bucket ") bytes) bucket_at

@@ -1,8 +1,8 @@
-// What the lines of a limiter say of it.
+// A law of the lines of a limiter.
 ghost use Rattle.mono_limit_lines.specs.Lines.{LinesAreARun};
 
-/// The lines of the answers to any calls are those of a run of the limiter's model, so that each law of runs is one of
-/// lines.
+/// Shows that the lines of the answers to any calls are those of a run of the limiter's model. So each law of runs is a
+/// law of lines.
 pub fn lines_are_a_run()
     ensures { LinesAreARun }
 {}

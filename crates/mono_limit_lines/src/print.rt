@@ -11,7 +11,7 @@ use mono_limit::{LimitError, Next, Take};
 use mono_text::{put_list, put_pair, put_word};
 use std::alloc::AllocError;
 
-// A word and a number below 2^128.
+// Appends a word and a number below 2^128.
 fn long_number(out: &mut Vec<u8>, text: &[u8], n: u128) -> Result<(), AllocError>
     ensures { OnOk result (out.new.items ≡ out.old.items ++ (text.now ++ decimal n)) }
 {
@@ -20,7 +20,7 @@ fn long_number(out: &mut Vec<u8>, text: &[u8], n: u128) -> Result<(), AllocError
     out.extend_from_slice(buffer.format(n).as_bytes())
 }
 
-// A line of a word and a number.
+// Appends a line of a word and a number.
 fn numbered(out: &mut Vec<u8>, text: &[u8], n: u64) -> Result<(), AllocError>
     ensures { OnOk result (out.new.items ≡ out.old.items ++ answer_line (text.now ++ decimal n)) }
 {
@@ -28,7 +28,7 @@ fn numbered(out: &mut Vec<u8>, text: &[u8], n: u64) -> Result<(), AllocError>
     put_word(out, b"\n".as_slice())
 }
 
-// The line of a refusal. Want of memory has none.
+// Returns the line of a refusal. Out of memory has none.
 fn refusal_word(error: LimitError) -> Result<&'static [u8], AllocError>
     ensures text { IfOk result (λ text. text.now ≡ answer_line (codes "refused " ++ refusal_text error)) }
     ensures memory { OnOk result (error ≢ LimitError.Memory) }
@@ -46,7 +46,7 @@ fn refusal_word(error: LimitError) -> Result<&'static [u8], AllocError>
     }
 }
 
-/// The line of a refusal; want of memory is answered where it is that.
+/// Appends the line of a refusal, or returns an error if that is out of memory.
 pub(crate) fn refused(out: &mut Vec<u8>, error: LimitError) -> Result<(), AllocError>
     ensures text { OnOk result (out.new.items ≡ out.old.items ++ answer_line (answer_text (answers.Refused error))) }
     ensures memory { OnOk result (error ≢ LimitError.Memory) }
@@ -55,7 +55,7 @@ pub(crate) fn refused(out: &mut Vec<u8>, error: LimitError) -> Result<(), AllocE
     put_word(out, text)
 }
 
-/// The line of a further bucket.
+/// Appends the answer's line to `bucket`.
 pub(crate) fn bucket(out: &mut Vec<u8>, told: Result<u64, LimitError>) -> Result<(), AllocError>
     ensures text { OnOk result (out.new.items ≡ out.old.items ++ answer_line (answer_text (of_bucket told))) }
     ensures memory { OnOk result (told ≢ Err LimitError.Memory) }
@@ -66,7 +66,7 @@ pub(crate) fn bucket(out: &mut Vec<u8>, told: Result<u64, LimitError>) -> Result
     }
 }
 
-/// The line of a take.
+/// Appends the answer's line to `take`.
 pub(crate) fn take(out: &mut Vec<u8>, told: Result<Take, LimitError>) -> Result<(), AllocError>
     ensures { OnOk result (out.new.items ≡ out.old.items ++ answer_line (answer_text (of_take told))) }
 {
@@ -80,7 +80,7 @@ pub(crate) fn take(out: &mut Vec<u8>, told: Result<Take, LimitError>) -> Result<
     }
 }
 
-/// The line of a further retry.
+/// Appends the answer's line to `retry`.
 pub(crate) fn retry(out: &mut Vec<u8>, told: Result<u64, LimitError>) -> Result<(), AllocError>
     ensures text { OnOk result (out.new.items ≡ out.old.items ++ answer_line (answer_text (of_retry told))) }
     ensures memory { OnOk result (told ≢ Err LimitError.Memory) }
@@ -91,7 +91,7 @@ pub(crate) fn retry(out: &mut Vec<u8>, told: Result<u64, LimitError>) -> Result<
     }
 }
 
-/// The line of a failure.
+/// Appends the answer's line to `fail`.
 pub(crate) fn fail(out: &mut Vec<u8>, told: Result<Next, LimitError>) -> Result<(), AllocError>
     ensures { OnOk result (out.new.items ≡ out.old.items ++ answer_line (answer_text (of_fail told))) }
 {
@@ -102,7 +102,7 @@ pub(crate) fn fail(out: &mut Vec<u8>, told: Result<Next, LimitError>) -> Result<
     }
 }
 
-/// The line of an end.
+/// Appends the answer's line to `done`.
 pub(crate) fn done(out: &mut Vec<u8>, told: Result<(), LimitError>) -> Result<(), AllocError>
     ensures { OnOk result (out.new.items ≡ out.old.items ++ answer_line (answer_text (of_done told))) }
 {
@@ -112,7 +112,7 @@ pub(crate) fn done(out: &mut Vec<u8>, told: Result<(), LimitError>) -> Result<()
     }
 }
 
-/// The line of a clock step.
+/// Appends the line of a clock step.
 pub(crate) fn due(out: &mut Vec<u8>, list: &[u64]) -> Result<(), AllocError>
     ensures { OnOk result (out.new.items ≡ out.old.items ++ answer_line (answer_text (answers.Due list.now))) }
 {

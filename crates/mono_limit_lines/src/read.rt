@@ -1,11 +1,11 @@
-// The call that a line says.
+// The reader of calls.
 ghost use Rattle.mono_text.specs.Parser.{Gives, call_line_at};
 ghost use Rattle.mono_limit_lines.specs.Parser.{bucket_at, take_at, retry_at, slow_call_at, call_at};
 
 use crate::calls::LimiterCall;
 use mono_text::Reader;
 
-// The burst and the period of a bucket.
+// Reads the burst and the period of a bucket.
 fn bucket(reader: &mut Reader) -> Option<LimiterCall>
     ensures { Gives result reader.new.rest.now (bucket_at reader.old.rest.now) }
 {
@@ -14,7 +14,7 @@ fn bucket(reader: &mut Reader) -> Option<LimiterCall>
     Some(LimiterCall::Bucket(burst, period))
 }
 
-// The bucket and the tokens of a take.
+// Reads the bucket and the tokens of a take.
 #[inline(always)]
 fn take(reader: &mut Reader) -> Option<LimiterCall>
     ensures { Gives result reader.new.rest.now (take_at reader.old.rest.now) }
@@ -24,7 +24,7 @@ fn take(reader: &mut Reader) -> Option<LimiterCall>
     Some(LimiterCall::Take(bucket, n))
 }
 
-// The base, the cap and the number of attempts of a retry.
+// Reads the base, the cap and the number of attempts of a retry.
 fn retry(reader: &mut Reader) -> Option<LimiterCall>
     ensures { Gives result reader.new.rest.now (retry_at reader.old.rest.now) }
 {
@@ -34,7 +34,7 @@ fn retry(reader: &mut Reader) -> Option<LimiterCall>
     Some(LimiterCall::Retry(base, cap, most))
 }
 
-// A call that makes a bucket or a retry, or ends one.
+// Reads a call that makes a bucket or a retry, or ends one.
 #[tactic(auto, unfolding(crate::specs::Parser::slow_call_at))]
 fn slow_call(reader: &mut Reader) -> Option<LimiterCall>
     ensures { Gives result reader.new.rest.now (slow_call_at reader.old.rest.now) }
@@ -52,7 +52,7 @@ fn slow_call(reader: &mut Reader) -> Option<LimiterCall>
     None
 }
 
-// A call, without its line feed.
+// Reads a call, without its line feed.
 #[tactic(auto, unfolding(crate::specs::Parser::call_at))]
 fn call(reader: &mut Reader) -> Option<LimiterCall>
     ensures { Gives result reader.new.rest.now (call_at reader.old.rest.now) }
@@ -71,7 +71,8 @@ fn call(reader: &mut Reader) -> Option<LimiterCall>
     slow_call(reader)
 }
 
-/// The call that the next line says, and goes past the line. None where it says none; what is left then is not told.
+/// Reads the next line's call, and moves past the line. Returns `None` if the line is no call; the rest of the input is
+/// then unspecified.
 #[inline(always)]
 pub(crate) fn line(reader: &mut Reader) -> Option<LimiterCall>
     ensures { Gives result reader.new.rest.now (call_line_at call_at reader.old.rest.now) }

@@ -22,7 +22,8 @@ struct LimiterLines {
 }
 
 impl LimiterLines {
-    // A limiter without buckets and retries, for at most so many buckets, and so many retries that live at a time.
+    // Returns a limiter without buckets and retries, for at most `buckets` buckets, and `retries` retries that live at
+    // a time.
     fn new(alloc: Global, buckets: u64, retries: u64) -> Result<LimiterLines, AllocError>
         ensures { IfOk result (λ lines. limits_of lines.limiter ≡ no_limits buckets retries) }
     {
@@ -123,7 +124,7 @@ impl Service for LimiterLines {
     }
 }
 
-/// The answers of a limiter to an input, one line at a time, or the number of the first line that says no call. The
+/// Returns a limiter's answers to an input, one for each line, or the number of the first line that is no call. The
 /// limiter has no buckets and retries at first, and these limits; its answers are those of its model.
 pub fn limiter(
     alloc: Global,
@@ -137,8 +138,9 @@ pub fn limiter(
     serve(alloc, lines, input)
 }
 
-/// Answers each line of the source as soon as it was read, as [`limiter`] answers a whole input: what was written is the
-/// answers to lines at its front. If there is no memory for the limiter the source is not read and nothing is written.
+/// Answers each line of the source as soon as it was read, as [`limiter`] answers a whole input. The output is always
+/// the answers to lines at the source's front. If the limiter is out of memory, the source is not read and nothing is
+/// written.
 pub fn follow_limiter<S: Source, K: Sink>(
     alloc: Global,
     most_buckets: u64,
