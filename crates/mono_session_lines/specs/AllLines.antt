@@ -7,7 +7,7 @@ use Rattle.mono_session.specs.Steps.{Run}
 use Rattle.mono_session_lines.specs.declared.calls.SessionCall.{SessionCall}
 use Rattle.mono_session_lines.specs.Lines.{call_of, answer_text, StepsAs}
 
--- all that lines are answered is one run of the calls that they say
+-- The answers to the lines are those of one run of the lines' calls.
 abbrev pub AreOneRun : Type 0
 AreOneRun = (old : Keeper) (said : List SessionCall) (texts : List (List ℕ)) (last : Keeper) → AnswersAll StepsAs old said texts last
     → (answers : List Answer) × Run old (map call_of said) answers last × (texts ≡ map answer_text answers)

@@ -1,4 +1,4 @@
--- How the calls on the sessions and their answers are written. Each has one spelling.
+-- The text of the sessions' calls and answers. Each has one spelling.
 use Rattle.std.specs.Prelude.{◌≡◌, ◌<◌, ◌^◌, ℕ, List, [], ◌++◌, codes, decimal, flat_map}
 use Rattle.mono_text.specs.LineText.{number_part}
 use Rattle.mono_session.specs.Keeper.{Keeper}
@@ -12,7 +12,7 @@ use Rattle.mono_session.specs.declared.error.SessionError.TheVariants as error
 use Rattle.mono_session_lines.specs.declared.calls.SessionCall.{SessionCall}
 use Rattle.mono_session_lines.specs.declared.calls.SessionCall.TheVariants as line
 
--- the line of a call, without its line feed
+-- The line of a call, without its line feed.
 abbrev pub call_text : SessionCall → List ℕ
 call_text (line.Open limit) = codes "open " ++ decimal limit
 call_text (line.Beat s) = codes "beat " ++ decimal s
@@ -22,7 +22,7 @@ call_text (line.Release s key) = codes "release " ++ decimal s ++ codes " " ++ d
 call_text (line.Owner key) = codes "owner " ++ decimal key
 call_text (line.Clock n) = codes "clock " ++ decimal n
 
--- the calls that have a line: numbers below 2 ^ 64, and nanoseconds below 2 ^ 128
+-- The calls that have a line: numbers below 2 ^ 64, and nanoseconds below 2 ^ 128.
 abbrev pub FitsCall : SessionCall → Type 0
 FitsCall (line.Open limit) = limit < 2 ^ 64
 FitsCall (line.Beat s) = s < 2 ^ 64
@@ -32,7 +32,7 @@ FitsCall (line.Release s key) = (s < 2 ^ 64) × (key < 2 ^ 64)
 FitsCall (line.Owner key) = key < 2 ^ 64
 FitsCall (line.Clock n) = n < 2 ^ 128
 
--- the call of the sessions that a line says
+-- The model's call for a line's call.
 abbrev pub call_of : SessionCall → Call
 call_of (line.Open limit) = call.Open limit
 call_of (line.Beat s) = call.Beat s
@@ -42,7 +42,7 @@ call_of (line.Release s key) = call.Release s key
 call_of (line.Owner key) = call.Owner key
 call_of (line.Clock n) = call.Clock n
 
--- the name of a refusal; want of memory is never an answer of the sessions
+-- The name of a refusal; the sessions never answer out of memory.
 abbrev pub error_text : SessionError → List ℕ
 error_text error.AtCapacity = codes "at-capacity"
 error_text error.Invalid = codes "invalid"
@@ -52,7 +52,7 @@ error_text error.Doubled = codes "doubled"
 error_text error.NotIn = codes "not-in"
 error_text error.Memory = []
 
--- the line of an answer, without its line feed
+-- The line of an answer, without its line feed.
 abbrev pub answer_text : Answer → List ℕ
 answer_text (answer.Session s) = codes "session " ++ decimal s
 answer_text answer.Done = codes "ok"
@@ -63,6 +63,6 @@ answer_text answer.Free = codes "free"
 answer_text (answer.Closed sessions) = codes "closed" ++ flat_map number_part sessions
 answer_text (answer.Refused e) = codes "refused " ++ error_text e
 
--- The call that a line says is a step of the sessions, and the text is that of its answer.
+-- The line's call is a step of the sessions, and the text is that of its answer.
 abbrev pub StepsAs : Keeper → SessionCall → List ℕ → Keeper → Type 0
 StepsAs old c text new = (a : Answer) × Step old (call_of c) a new × (text ≡ answer_text a)

@@ -1,14 +1,14 @@
--- Reading on lists of bytes: the call that they begin with, and what is behind it.
+-- The parser on lists of bytes: the call at their start, and the rest after it.
 use Rattle.std.specs.Prelude.{ℕ, List, None, codes}
 use Rattle.mono_text.specs.Parser.{Read, when, mapped, then_read, word_at, number_at, nanos_at, behind_at}
 use Rattle.mono_session_lines.specs.declared.calls.SessionCall.{SessionCall}
 use Rattle.mono_session_lines.specs.declared.calls.SessionCall.TheVariants as line
 
--- a session and a key
+-- A session and a key.
 abbrev pub pair_at : (ℕ → ℕ → SessionCall) → List ℕ → Read SessionCall
 pair_at make bytes = then_read (number_at bytes) (λ s rest. mapped (make s) (behind_at rest))
 
--- a call on the queues
+-- A call on the queues.
 unfoldable pub queue_call_at : List ℕ → Read SessionCall
 queue_call_at bytes =
     when (word_at (codes "acquire ") bytes) (λ r. pair_at line.Acquire r)

@@ -1,4 +1,4 @@
--- What the sessions leave and write for a line.
+-- The sessions and the output after a line.
 use Rattle.std.specs.Prelude.{◌≡◌, ◌≢◌, ℕ, List, ◌++◌, Result, Err}
 use Rattle.mono_text.specs.Services.{AnswersAs, answer_line}
 use Rattle.mono_session.specs.Answers.{Answer}
@@ -9,14 +9,14 @@ use Rattle.mono_session.specs.declared.keeper.Sessions.{Sessions}
 use Rattle.mono_session_lines.specs.declared.calls.SessionCall.{SessionCall}
 use Rattle.mono_session_lines.specs.Lines.{StepsAs, answer_text}
 
--- The sessions answered a line's call, and the answer's line was put behind what was written.
+-- The sessions answered a line's call, and the answer's line was appended to the output.
 abbrev pub Tells : Sessions → SessionCall → List ℕ → List ℕ → Sessions → Type 0
 Tells old c out written new = (answer : List ℕ) × AnswersAs StandsFor StepsAs old c answer new × (written ≡ out ++ answer_line answer)
 
--- The line of an answer was put behind what was written.
+-- The line of an answer was appended to the output.
 abbrev pub Wrote : Answer → List ℕ → List ℕ → Type 0
 Wrote a out written = written ≡ out ++ answer_line (answer_text a)
 
--- The same where it was no want of memory.
+-- The same unless the call was out of memory.
 abbrev pub WroteOf : {A : Type 0} → (Result A SessionError → Answer) → Result A SessionError → List ℕ → List ℕ → Type 0
 WroteOf of told out written = (told ≢ Err error.Memory) × Wrote (of told) out written

@@ -1,20 +1,20 @@
-// The calls that lines say.
+// The calls that lines make on the sessions.
 
-/// A call on the sessions, as a line says it.
+/// A call on the sessions, written as a line.
 #[derive(Clone, Copy, Debug, PartialEq, Eq)]
 pub enum SessionCall {
-    /// A session is opened, for so many milliseconds after its last beat.
+    /// Opens a session, for this number of milliseconds after its last heartbeat.
     Open(u64),
-    /// A session is beaten.
+    /// Renews a session.
     Beat(u64),
-    /// A session is closed.
+    /// Closes a session.
     Close(u64),
-    /// A session comes into the queue of a key: the session, and the key.
+    /// Appends a session to the queue of a key: the session, and the key.
     Acquire(u64, u64),
-    /// A session leaves the queue of a key: the session, and the key.
+    /// Removes a session from the queue of a key: the session, and the key.
     Release(u64, u64),
-    /// Who owns a key.
+    /// Asks for the holder of a key.
     Owner(u64),
-    /// The clock shows so many nanoseconds.
+    /// Shows the clock this number of nanoseconds.
     Clock(u128),
 }

@@ -1,4 +1,4 @@
-//! The sessions by lines: each line says a call on them, and is answered by a line.
+//! The sessions by lines: each line is a call on them, and gets a line as its answer.
 #![tactic(auto)]
 
 mod calls;

@@ -1,4 +1,4 @@
-// Answers to lines. Want of memory is no answer.
+// Answers as lines. Out of memory is no answer.
 ghost use Rattle.std.specs.Prelude.{◌≡◌, ◌≢◌, ◌++◌, ◌∷◌, [], codes, decimal, OnOk};
 ghost use Rattle.mono_text.specs.Services.{answer_line};
 ghost use Rattle.mono_session.specs.Answers.{of_number, of_done, of_first, of_owner};
@@ -11,7 +11,7 @@ use mono_session::SessionError;
 use mono_text::{put_pair, put_word};
 use std::alloc::AllocError;
 
-// A word and a number behind it, as a line.
+// Appends a word and then a number, as a line.
 fn number_line(out: &mut Vec<u8>, word: &[u8], n: u64) -> Result<(), AllocError>
     ensures { OnOk result (out.new.items ≡ out.old.items ++ answer_line (word.now ++ decimal n)) }
 {

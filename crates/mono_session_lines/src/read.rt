@@ -1,4 +1,4 @@
-// Lines to calls.
+// The reader of calls.
 ghost use Rattle.mono_text.specs.Parser.{Gives, GivesIf, call_line_at};
 ghost use Rattle.mono_session_lines.specs.Parser.{call_at, pair_at, queue_call_at};
 ghost use Rattle.mono_session_lines.specs.declared.calls.SessionCall.TheVariants as line;
@@ -23,7 +23,7 @@ fn release(reader: &mut Reader) -> Option<SessionCall>
     Some(SessionCall::Release(session, key))
 }
 
-// A call on the queues of keys.
+// Reads a call on the queues of keys.
 #[tactic(auto, unfolding(crate::specs::Parser::queue_call_at))]
 fn queue_call(reader: &mut Reader) -> Option<SessionCall>
     ensures { Gives result reader.new.rest.now (queue_call_at reader.old.rest.now) }
@@ -41,7 +41,7 @@ fn queue_call(reader: &mut Reader) -> Option<SessionCall>
     None
 }
 
-// A call, without its line feed.
+// Reads a call, without its line feed.
 #[tactic(auto, unfolding(crate::specs::Parser::call_at))]
 fn call(reader: &mut Reader) -> Option<SessionCall>
     ensures { Gives result reader.new.rest.now (call_at reader.old.rest.now) }
@@ -65,7 +65,7 @@ fn call(reader: &mut Reader) -> Option<SessionCall>
     queue_call(reader)
 }
 
-// The call that the next line says, or none.
+// Reads the next line's call, if it is one.
 pub(crate) fn call_line(reader: &mut Reader) -> Result<Option<SessionCall>, AllocError>
     ensures { GivesIf result reader.new.rest.now (call_line_at call_at reader.old.rest.now) }
 {

@@ -29,7 +29,7 @@ struct SessionLines {
     closed: Vec<u64>,
 }
 
-// A clock step whose steps are not counted. There is room for the sessions that it closes.
+// Makes a clock step whose steps are not counted. There is room for the sessions that it closes.
 fn clock_step<L: Ledger>(sessions: &mut Sessions, now: Instant, closed: &mut Vec<u64>, blank: Blank)
     requires ledger { (blank.name ≡ L.name) × (blank.parts ≡ L.parts) × (0 < L.parts) }
     requires room { vec_len closed.old + open_count sessions.old ≤ vec_capacity closed.old }
@@ -136,8 +136,9 @@ impl Service for SessionLines {
     }
 }
 
-/// The answers of sessions to an input, a line for each line: at first there are none, and at most `sessions` may be open,
-/// with at most `entries` entries in all queues. At the first line that says no call its number is the answer.
+/// Returns the answers of sessions to an input, a line for each line. At first there are no sessions, and at most
+/// `sessions` may be open, with at most `entries` entries in all queues. If a line is no call, the answer is the number
+/// of the first such line.
 ///
 /// Each answer is that of the call by the rules of the sessions (`Step`), one after another from the empty sessions.
 pub fn sessions(
@@ -156,8 +157,9 @@ pub fn sessions(
     serve(alloc, start, input)
 }
 
-/// Answers each line of the source as soon as it was read, as [`sessions`] answers a whole input: what was written is the
-/// answers to lines at its front. If the sessions can't be made the source is not read and nothing is written.
+/// Answers each line of the source as soon as it was read, as [`sessions`] answers a whole input. The output is always
+/// the answers to lines at the source's front. If the sessions cannot be made, the source is not read and nothing is
+/// written.
 pub fn follow_sessions<S: Source, K: Sink>(
     alloc: Global,
     sessions: u64,
