@@ -11,7 +11,7 @@ use Rattle.mono_actor_lines.specs.declared.words.ActorLine.{ActorLine}
 use Rattle.mono_actor_lines.specs.declared.words.ActorLine.TheVariants as line
 use Rattle.mono_actor_lines.specs.Answers.{answer_text, answer_part, turn_calls, Answers}
 
--- the calls that a line made, by its first answer
+-- The calls that a line made, by its first answer.
 abbrev pub calls_made : ActorLine → Answer ℕ → List (Call ℕ)
 calls_made line.Actor first = call.Spawn ∷ []
 calls_made (line.Send from to message) first = call.Send from to message ∷ []
@@ -20,7 +20,7 @@ calls_made (line.Clock n) first = call.Clock n ∷ []
 calls_made (line.Turn sends stop) (answer.Turn me what) = call.Begin ∷ turn_calls me sends stop
 calls_made (line.Turn sends stop) first = call.Begin ∷ []
 
--- each line made its calls, and its text has their answers
+-- Each line made its calls, and its text has their answers.
 abbrev pub Tells : List ActorLine → List (List ℕ) → List (Call ℕ) → List (Answer ℕ) → Type 0
 Tells [] [] calls answers = (calls ≡ []) × (answers ≡ [])
 Tells (asked ∷ lines) (text ∷ texts) calls answers =
@@ -30,7 +30,7 @@ Tells (asked ∷ lines) (text ∷ texts) calls answers =
 Tells [] (text ∷ texts) calls answers = ⊥
 Tells (asked ∷ lines) [] calls answers = ⊥
 
--- all that lines are answered is one run of the calls that they made
+-- The answers to the lines are those of one run of the calls that the lines made.
 abbrev pub AreOneRun : Type 0
 AreOneRun = (old : Actors ℕ) (lines : List ActorLine) (texts : List (List ℕ)) (last : Actors ℕ) → AnswersAll Answers old lines texts last
     → (calls : List (Call ℕ)) × (answers : List (Answer ℕ)) × Run old calls answers last × Tells lines texts calls answers

@@ -1,4 +1,4 @@
--- What a line is answered.
+-- The answers to a line.
 use Rattle.std.specs.Prelude.{◌≡◌, ℕ, Bool, List, [], ◌∷◌, ◌++◌, map, flat_map, codes, decimal}
 use Rattle.mono_text.specs.LineText.{number_part}
 use Rattle.mono_actor.specs.Actors.{Actors}
@@ -58,11 +58,11 @@ answer_part a = codes "; " ++ answer_text a
 abbrev pub send_from : ℕ → Handed → Call ℕ
 send_from me handed = call.Send me handed.to handed.message
 
--- what an actor does in its turn
+-- The calls of an actor's turn.
 abbrev pub turn_calls : ℕ → List Handed → Bool → List (Call ℕ)
 turn_calls me sends stop = map (send_from me) sends ++ call.End stop ∷ []
 
--- A turn that began goes on with the actor's sends and ends. Where none began there is nothing to go on with.
+-- A turn that began continues with the actor's sends and its end. A turn that did not begin has no more calls.
 abbrev pub GoesOn : List Handed → Bool → Actors ℕ → Answer ℕ → List (Answer ℕ) → Actors ℕ → Type 0
 GoesOn sends stop mid (answer.Turn me what) others new = Run mid (turn_calls me sends stop) others new
 GoesOn sends stop mid (answer.Refused error) others new = (others ≡ []) × (new ≡ mid)
@@ -73,7 +73,7 @@ GoesOn sends stop mid (answer.Ended how) others new = ⊥
 GoesOn sends stop mid (answer.Due due) others new = ⊥
 GoesOn sends stop mid answer.Invalid others new = ⊥
 
--- The line is one call, but that of a turn, which is its beginning, the sends and the end.
+-- The line is one call; the line of a turn is its start, the sends and the end.
 abbrev pub Makes : Actors ℕ → ActorLine → Answer ℕ → List (Answer ℕ) → Actors ℕ → Type 0
 Makes old line.Actor first others new = Step old call.Spawn first new × (others ≡ [])
 Makes old (line.Send from to message) first others new = Step old (call.Send from to message) first new × (others ≡ [])
@@ -81,8 +81,8 @@ Makes old (line.Timeout actor ms) first others new = Step old (call.Timeout acto
 Makes old (line.Clock n) first others new = Step old (call.Clock n) first new × (others ≡ [])
 Makes old (line.Turn sends stop) first others new = (mid : Actors ℕ) × Step old call.Begin first mid × GoesOn sends stop mid first others new
 
--- From old a line may be answered by this text, and leave new: the text has each answer, each further one behind a
--- semicolon and a blank.
+-- From old a line may get this text as its answer, and new is the result. The text has each answer, each further one
+-- after a semicolon and a blank.
 pub record Answers (old : Actors ℕ) (asked : ActorLine) (text : List ℕ) (new : Actors ℕ) : Type 0 where
   pub first : Answer ℕ
   pub others : List (Answer ℕ)

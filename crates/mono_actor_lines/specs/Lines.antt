@@ -1,4 +1,4 @@
--- How calls on actors are written. Each has one spelling.
+-- The text of calls on actors. Each has one spelling.
 use Rattle.std.specs.Prelude.{◌^◌, ◌<◌, ℕ, Bool, true, false, List, [], ◌∷◌, ◌++◌, codes, decimal}
 use Rattle.mono_actor_lines.specs.declared.words.Handed.{Handed}
 use Rattle.mono_actor_lines.specs.declared.words.ActorLine.{ActorLine}
@@ -11,7 +11,7 @@ abbrev pub stop_text : Bool → List ℕ
 stop_text true = codes "stop"
 stop_text false = codes "stay"
 
--- each message that the actor sends and then how its turn ends, each behind a semicolon and a blank
+-- Each message that the actor sends and then how its turn ends, each after a semicolon and a blank.
 abbrev pub parts_text : List Handed → Bool → List ℕ
 parts_text [] stop = codes "; " ++ stop_text stop
 parts_text (handed ∷ sends) stop = codes "; send " ++ handed_text handed ++ parts_text sends stop

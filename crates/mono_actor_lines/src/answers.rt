@@ -14,7 +14,7 @@ use mono_actor::{ActorError, Actors, SendRefused};
 use mono_time::Instant;
 use std::alloc::{AllocError, Global};
 
-/// A new actor. Want of memory is no answer.
+/// Adds an actor. Out of memory is no answer.
 pub fn spawned(alloc: Global, actors: &mut Actors<u64>) -> Result<Told, AllocError>
     ensures step { IfOk result (λ told. Step (actors_of actors.old) call.Spawn (answer_of told) (actors_of actors.new)) }
     ensures turn { (actors_of actors.new).turn ≡ (actors_of actors.old).turn }
@@ -26,7 +26,7 @@ pub fn spawned(alloc: Global, actors: &mut Actors<u64>) -> Result<Told, AllocErr
     }
 }
 
-/// A message. Want of memory is no answer.
+/// Sends a message. Out of memory is no answer.
 pub fn posted(
     actors: &mut Actors<u64>,
     from: u64,
@@ -48,7 +48,7 @@ pub fn posted(
     }
 }
 
-/// A receive timeout.
+/// Sets a receive timeout.
 pub fn timed(actors: &mut Actors<u64>, actor: u64, ms: u64) -> Told
     ensures step { Step (actors_of actors.old) (call.Timeout actor ms) (answer_of result) (actors_of actors.new) }
     ensures turn { (actors_of actors.new).turn ≡ (actors_of actors.old).turn }
@@ -59,7 +59,7 @@ pub fn timed(actors: &mut Actors<u64>, actor: u64, ms: u64) -> Told
     }
 }
 
-// The actors that are due at an instant, in a list that is emptied first.
+// Lists the actors that are due at an instant, in a list that is emptied first.
 fn rung(
     alloc: Global,
     actors: &mut Actors<u64>,
@@ -75,7 +75,7 @@ fn rung(
     Ok(())
 }
 
-/// The clock shows so many nanoseconds, and the answer is put behind the others. The list is for the actors that are due.
+/// Shows the clock `n` nanoseconds, and appends the answer to the output. The list is for the actors that are due.
 pub fn clock(
     alloc: Global,
     actors: &mut Actors<u64>,

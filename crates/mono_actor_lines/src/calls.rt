@@ -10,8 +10,8 @@ use crate::serve::ActorService;
 use mono_text::{Followed, Served, Sink, Source, follow, serve};
 use std::alloc::{AllocError, Global};
 
-/// The answers to the lines of an input, from no actors and with room for so many live ones and so many messages in all
-/// mailboxes; or the first line that says no call. The only error is want of memory.
+/// Returns the answers to the lines of an input, or the first line that is no call. There are no actors at first, with
+/// room for `actors` live ones and `messages` messages in all mailboxes. The only error is out of memory.
 pub fn actors(alloc: Global, actors: u64, messages: u64, input: &[u8]) -> Result<Served, AllocError>
     ensures { IfOk result (λ r. Serves line_text FitsLine Answers (no_actors actors messages) input.now r) }
 {
@@ -19,8 +19,9 @@ pub fn actors(alloc: Global, actors: u64, messages: u64, input: &[u8]) -> Result
     serve(alloc, service, input)
 }
 
-/// Answers each line of the source as soon as it was read, as [`actors`] answers a whole input: what was written is the
-/// answers to lines at its front. If there is no memory for the actors the source is not read and nothing is written.
+/// Answers each line of the source as soon as it was read, as [`actors`] answers a whole input. The output is always
+/// the answers to lines at the source's front. If the actors are out of memory, the source is not read and nothing is
+/// written.
 pub fn follow_actors<S: Source, K: Sink>(
     alloc: Global,
     actors: u64,

@@ -1,8 +1,8 @@
-// A fact about the definitions alone.
+// A law of the definitions alone.
 ghost use Rattle.mono_actor_lines.specs.AllLines.{AreOneRun};
 
-/// All that the lines of an input are answered is one run of the calls that they made. So each law of actors over any
-/// list of calls holds of it.
+/// Shows that the answers to the lines of an input are those of one run of the calls that the lines made. So each law
+/// of actors over any list of calls holds of it.
 pub fn lines_are_one_run()
     ensures { AreOneRun }
 {}

@@ -1,4 +1,4 @@
-//! Lines that say calls on actors, and the lines of their answers.
+//! The lines of calls on actors, and the lines of their answers.
 #![tactic(auto)]
 
 mod answers;

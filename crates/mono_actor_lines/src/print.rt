@@ -21,7 +21,7 @@ pub enum Told {
     Invalid,
 }
 
-/// Puts a word at the end.
+/// Appends a word.
 #[inline(always)]
 pub fn put_word(out: &mut Vec<u8>, word: &[u8]) -> Result<(), AllocError>
     ensures { OnOk result (out.new.items ≡ out.old.items ++ word.now) }
@@ -29,7 +29,7 @@ pub fn put_word(out: &mut Vec<u8>, word: &[u8]) -> Result<(), AllocError>
     out.extend_from_slice(word)
 }
 
-// The words below stand beside their length, in 24 bytes each or, if a number comes after them, in 32.
+// The words below, each with its length, in 24 bytes each or, if a number follows them, in 32.
 
 fn refused_word(error: ActorError) -> (&'static [u8; 24], usize)
     ensures word { take result.1 result.0.now ≡ codes "refused " ++ error_text error }
@@ -82,7 +82,7 @@ fn put_got(out: &mut Vec<u8>, got: Got<u64>) -> Result<(), AllocError>
     }
 }
 
-// The beginning of a turn.
+// Appends the start of a turn.
 #[inline(always)]
 fn put_turn(out: &mut Vec<u8>, me: u64, got: Got<u64>) -> Result<(), AllocError>
     ensures { OnOk result (out.new.items ≡ out.old.items ++ answer_text (answer.Turn me got)) }
@@ -91,7 +91,7 @@ fn put_turn(out: &mut Vec<u8>, me: u64, got: Got<u64>) -> Result<(), AllocError>
     put_got(out, got)
 }
 
-/// Puts an answer's text at the end.
+/// Appends an answer's text.
 #[inline(always)]
 pub fn put_told(out: &mut Vec<u8>, item: Told) -> Result<(), AllocError>
     ensures { OnOk result (out.new.items ≡ out.old.items ++ answer_text (answer_of item)) }
@@ -132,7 +132,7 @@ fn put_numbers(out: &mut Vec<u8>, list: &[u64]) -> Result<(), AllocError>
     Ok(())
 }
 
-/// Puts the text of a list of actors that are due at the end.
+/// Appends the text of a list of actors that are due.
 pub fn put_due(out: &mut Vec<u8>, list: &[u64]) -> Result<(), AllocError>
     ensures { OnOk result (out.new.items ≡ out.old.items ++ answer_text (answer.Due list.now)) }
 {

@@ -1,4 +1,4 @@
-// From a line to the call that it says.
+// The reader of calls.
 ghost use Rattle.std.specs.Prelude.{◌≡◌, IfOk, IfSome, IfNone};
 ghost use Rattle.mono_text.specs.Parser.{Gives, GivesIf};
 ghost use Rattle.mono_text.specs.Services.{StartsWith, StartsWithNone};
@@ -10,7 +10,7 @@ use mono_machine::List;
 use mono_text::Reader;
 use std::alloc::{AllocError, Global};
 
-// The receiver and the message of one that is sent.
+// Reads the receiver and the content of a message.
 #[tactic(auto, unfolding(crate::specs::Parser::handed_at))]
 fn read_handed(reader: &mut Reader) -> Option<Handed>
     ensures { Gives result reader.new.rest.now (handed_at reader.old.rest.now) }
@@ -23,7 +23,7 @@ fn read_handed(reader: &mut Reader) -> Option<Handed>
     Some(Handed { to, message })
 }
 
-// A message from an actor, behind its word.
+// Reads a message from an actor, after its word.
 #[tactic(auto, unfolding(crate::specs::Parser::send_at))]
 fn read_send(reader: &mut Reader) -> Option<ActorLine>
     ensures { Gives result reader.new.rest.now (send_at reader.old.rest.now) }
@@ -36,7 +36,7 @@ fn read_send(reader: &mut Reader) -> Option<ActorLine>
     Some(ActorLine::Send(from, handed.to, handed.message))
 }
 
-// A receive timeout, behind its word.
+// Reads a receive timeout, after its word.
 #[tactic(auto, unfolding(crate::specs::Parser::timeout_at))]
 fn read_timeout(reader: &mut Reader) -> Option<ActorLine>
     ensures { Gives result reader.new.rest.now (timeout_at reader.old.rest.now) }
@@ -49,7 +49,7 @@ fn read_timeout(reader: &mut Reader) -> Option<ActorLine>
     Some(ActorLine::Timeout(actor, ms))
 }
 
-// How a turn ends, where its end stands here: whether the actor stops. Else nothing changes.
+// Reads how a turn ends, if its end is here: whether the actor stops. Otherwise nothing changes.
 #[tactic(auto, unfolding(crate::specs::Parser::stop_at))]
 fn read_stop(reader: &mut Reader) -> Option<bool>
     ensures stop { Gives result reader.new.rest.now (stop_at reader.old.rest.now) }
@@ -64,7 +64,7 @@ fn read_stop(reader: &mut Reader) -> Option<bool>
     None
 }
 
-// A message that the running actor sends.
+// Reads a message that the running actor sends.
 #[tactic(auto, unfolding(crate::specs::Parser::part_at))]
 fn read_part(reader: &mut Reader) -> Option<Handed>
     ensures { Gives result reader.new.rest.now (part_at reader.old.rest.now) }
@@ -75,7 +75,7 @@ fn read_part(reader: &mut Reader) -> Option<Handed>
     None
 }
 
-// The parts of a turn, behind its word.
+// Reads the parts of a turn, after its word.
 fn read_turn(alloc: Global, reader: &mut Reader) -> Result<Option<ActorLine>, AllocError>
     ensures { GivesIf result reader.new.rest.now (turn_at reader.old.rest.now) }
 {
@@ -92,7 +92,7 @@ fn read_turn(alloc: Global, reader: &mut Reader) -> Result<Option<ActorLine>, Al
     Ok(None)
 }
 
-// A call that is no turn.
+// Reads a call that is no turn.
 #[tactic(auto, unfolding(crate::specs::Parser::plain_at))]
 fn read_plain(reader: &mut Reader) -> Option<ActorLine>
     ensures { Gives result reader.new.rest.now (plain_at reader.old.rest.now) }
@@ -113,7 +113,7 @@ fn read_plain(reader: &mut Reader) -> Option<ActorLine>
     None
 }
 
-// A call, without its line feed.
+// Reads a call, without its line feed.
 #[tactic(auto, unfolding(crate::specs::Parser::call_at))]
 fn read_call(alloc: Global, reader: &mut Reader) -> Result<Option<ActorLine>, AllocError>
     ensures { GivesIf result reader.new.rest.now (call_at reader.old.rest.now) }
@@ -124,7 +124,7 @@ fn read_call(alloc: Global, reader: &mut Reader) -> Result<Option<ActorLine>, Al
     Ok(read_plain(reader))
 }
 
-// What the next line is by the definitions of `Reading`.
+// Reads the next line as the definitions of `Parser` do.
 #[tactic(auto, unfolding(crate::specs::Parser::line_at))]
 fn read_line(alloc: Global, reader: &mut Reader) -> Result<Option<ActorLine>, AllocError>
     ensures { GivesIf result reader.new.rest.now (line_at reader.old.rest.now) }
@@ -138,7 +138,8 @@ fn read_line(alloc: Global, reader: &mut Reader) -> Result<Option<ActorLine>, Al
     Ok(None)
 }
 
-/// The call that the next line says, and goes past the line. None where it says none; what is left then is not told.
+/// Reads the next line's call, and moves past the line. Returns `None` if the line is no call; the rest of the input is
+/// then unspecified.
 pub fn next_line(alloc: Global, reader: &mut Reader) -> Result<Option<ActorLine>, AllocError>
     ensures found { IfOk result (λ found. IfSome found (λ call. StartsWith line_text FitsLine reader.old.rest.now call reader.new.rest.now)) }
     ensures none { IfOk result (λ found. IfNone found (StartsWithNone line_text FitsLine reader.old.rest.now)) }

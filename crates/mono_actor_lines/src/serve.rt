@@ -1,4 +1,4 @@
-// Actors whose calls are said by lines.
+// Actors whose calls are lines.
 ghost use Rattle.std.specs.Prelude.{◌≡◌, ◌++◌, ℕ, List, None, IfOk, IfSome, IfNone, OnOk};
 ghost use Rattle.mono_text.specs.Services.{StartsWith, StartsWithNone, answer_line};
 ghost use Rattle.mono_actor.specs.Callers.{actors_of};
@@ -16,11 +16,11 @@ use mono_text::{Reader, Service};
 use std::alloc::{AllocError, Global};
 use std::marker::Model;
 
-/// Actors whose calls are said by lines. Contracts see it as the actors. Between two lines no turn runs.
+/// Actors whose calls are lines. Contracts see it as the actors. Between two lines no turn runs.
 #[derive(Drop)]
 pub struct ActorService {
     actors: Actors<u64>,
-    // for the actors that are due in a clock step
+    // A list for the actors that are due in a clock step.
     due: Vec<u64>,
 }
 
@@ -36,7 +36,7 @@ impl Model for ActorService {
     ghost invariant = { λ a. (actors_of a.actors).turn ≡ None };
 }
 
-// What a line asks for is done, and its answer put behind the others.
+// Makes a line's call, and appends its answer to the output.
 fn made(
     alloc: Global,
     actors: &mut Actors<u64>,
@@ -69,7 +69,7 @@ fn made(
 impl ActorService {
     ghost use Rattle.mono_actor.specs.Actors.{no_actors};
 
-    /// No actor, with room for so many live ones and so many messages in all mailboxes.
+    /// Returns a service without actors, with room for `actors` live ones and `messages` messages in all mailboxes.
     pub fn new(alloc: Global, actors: u64, messages: u64) -> Result<ActorService, AllocError>
         ensures { IfOk result (λ service. service ≡ no_actors actors messages) }
     {

@@ -1,4 +1,4 @@
-// The turn of an actor, as a line says it.
+// The turn of an actor, written as a line.
 ghost use Rattle.std.specs.Prelude.{◌≡◌, ◌++◌, None, OnOk, IsOk};
 ghost use Rattle.mono_actor.specs.Answers as answer;
 ghost use Rattle.mono_actor.specs.Callers.{actors_of};
@@ -13,7 +13,7 @@ use mono_actor::{Actors, After, Got};
 use mono_machine::List;
 use std::alloc::AllocError;
 
-// The actor sends these, and the answer to each is put behind the others.
+// Sends these messages of the actor, and appends the answer to each to the output.
 fn send_all(
     actors: &mut Actors<u64>,
     me: u64,
@@ -31,7 +31,7 @@ fn send_all(
     Ok(())
 }
 
-// The turn that began goes on: its beginning is put behind the others, and then the answer to each send.
+// Continues the turn that began: appends its start to the output, and then the answer to each send.
 fn go_on(
     actors: &mut Actors<u64>,
     begun: (u64, Got<u64>),
@@ -46,7 +46,7 @@ fn go_on(
     send_all(actors, me, sends, out)
 }
 
-// The end of the turn is put behind the others, where what came before it was put there.
+// Appends the end of the turn to the output, if the text before it was appended.
 fn put_end(out: &mut Vec<u8>, sent: Result<(), AllocError>, after: After) -> Result<(), AllocError>
     ensures { OnOk result (IsOk sent × (out.new.items ≡ out.old.items ++ answer_part (answer.Ended after))) }
 {
@@ -55,8 +55,8 @@ fn put_end(out: &mut Vec<u8>, sent: Result<(), AllocError>, after: After) -> Res
     put_told(out, Told::Ended(after))
 }
 
-/// The turn of the queue's front, which sends these and then stops or stays. The answer is put behind the others. The turn
-/// ends also where there was no memory for all.
+/// Runs the turn of the queue's front, which sends these and then stops or stays. The answer is appended to the output.
+/// The turn ends even if it is out of memory for all of them.
 pub fn turn(
     actors: &mut Actors<u64>,
     sends: &List<Handed>,

@@ -1,8 +1,8 @@
-// What a line says.
+// The content of a line.
 
 use mono_machine::List;
 
-/// A message that the actor whose turn runs sends.
+/// A message that the running actor sends.
 #[derive(Clone, Copy, Drop)]
 pub struct Handed {
     /// Its receiver.
@@ -11,17 +11,17 @@ pub struct Handed {
     pub message: u64,
 }
 
-/// A call on actors, as a line says it.
+/// A call on actors, written as a line.
 #[derive(Drop)]
 pub enum ActorLine {
-    /// A new actor.
+    /// Adds an actor.
     Actor,
-    /// A message from the first actor to the second.
+    /// Sends a message from the first actor to the second.
     Send(u64, u64, u64),
-    /// The receive timeout of an actor, in milliseconds, or 0 for none.
+    /// Sets the receive timeout of an actor, in milliseconds, or 0 for none.
     Timeout(u64, u64),
-    /// The clock shows so many nanoseconds.
+    /// Shows the clock this number of nanoseconds.
     Clock(u128),
-    /// The turn of the queue's front, which sends these messages, and then stops or stays.
+    /// Runs the turn of the queue's front, which sends these messages, and then stops or stays.
     Turn(List<Handed>, bool),
 }
