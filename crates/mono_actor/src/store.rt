@@ -79,7 +79,7 @@ impl<M> Store<M> {
         }
     }
 
-    // Removes an actor, and returns its remains.
+    // Returns the key of an actor, and the number of messages in its mailbox.
     #[inline(always)]
     fn left(&self, actor: u64) -> Gone
         requires { is_some (value_at self.now.entries actor) ≡ true }

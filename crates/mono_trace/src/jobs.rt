@@ -22,7 +22,7 @@ pub enum Job {
     Taken,
 }
 
-/// The jobs by their numbers, and their greatest number.
+/// The jobs by their numbers, and the limit on their count.
 ///
 /// Contracts see the jobs of the machine, as they are and as they were when their changes were last kept.
 #[derive(Drop)]

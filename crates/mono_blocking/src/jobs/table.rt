@@ -28,7 +28,7 @@ pub enum Place<J: Job> {
     Taken,
 }
 
-/// The jobs by their numbers, and their greatest number. Nothing remains of a job whose handle was dropped.
+/// The jobs by their numbers, and the limit on their count. Nothing remains of a job whose handle was dropped.
 #[derive(Drop)]
 pub struct JobTable<J: Job> {
     places: ReadyTable<Place<J>>,
