@@ -1,4 +1,4 @@
--- What a call leaves that changes one place: the actors that the code stands for, and what holds of it.
+-- The actors after a call that changes one place, and the invariant of the code.
 use Rattle.std.proofs.Common.{◌≡◌, ◌<◌, ◌≤◌, ◌^◌, ℕ, ◌+◌, true, false, Bool, cond, List, [], ◌∷◌, ◌++◌, length, set, Some, None, Option, refl, ap, sym, subst, ◌∙◌, arith}
 use Rattle.std.proofs.lemmas.List.{length-append}
 use Rattle.mono_model.specs.Table.{value_at}
@@ -26,7 +26,7 @@ none-some x e = cc
 pub true-false : true ≡ false → ⊥
 true-false e = cc
 
--- what a message asks for, by the mode
+-- The work after a message, by the mode.
 receipt-waits : (timer : ℕ) (m : declared.Mode) → receipt.Waits ≡ receipt_in timer m → is_idle (mode_of m) ≡ false
 receipt-waits timer (place.Idle w) e = absurd (cc)
 receipt-waits timer place.Queued e = refl
@@ -69,7 +69,7 @@ queued-timed now ms queued = refl
 queued-timed now ms running = refl
 
 module _ {M : Type 0} where
-  -- the actors that these fields stand for
+  -- The actors that these fields view.
   abbrev pub view : List (Option (Place M)) → List ℕ → Option ℕ → ℕ → ℕ → ℕ → Actors M
   view places queue turn greatest most_actors most_messages = record {
     table = table_of places;
@@ -108,7 +108,7 @@ module _ {M : Type 0} where
       fits = holds.fits;
     }
 
-    -- the queue has room for an actor that does not stand in it
+    -- The queue has room for an actor that is not in it.
     pub queue-room : (a : ℕ) (p : Place M) → value_at places a ≡ Some p → is_queued (mode_of p.mode) ≡ false → length queue < cap
     queue-room a p was not_queued =
         let q : Place M = record { mode = place.Queued; mailbox = p.mailbox; timeout = p.timeout; timer = p.timer } in

@@ -1,4 +1,4 @@
--- What a clock step leaves, one actor after another.
+-- The actors after a clock step, one actor after another.
 use Rattle.std.proofs.Common.{◌≡◌, ◌≢◌, ◌<◌, ◌≤◌, ℕ, ◌+◌, true, false, List, [], ◌∷◌, ◌++◌, length, set, Some, None, Option, refl, ap, sym, subst, ◌∙◌, arith}
 use Rattle.std.specs.Prelude.{is_some, sum_by}
 use Rattle.std.specs.Option.{option_map}
@@ -24,7 +24,7 @@ use Rattle.mono_actor.proofs.CallLemmas.{none-some, view, stands-of, lines-of, h
 same-some : {X : Type 0} (x y : X) → Some x ≡ Some y → x ≡ y
 same-some x y e = cc
 
--- one that waits is idle
+-- A waiting actor is idle.
 waits-idle : (m : Mode) (tick : ℕ) → waiting_in m ≡ Some tick → (is_queued m ≡ false) × (is_running m ≡ false)
 waits-idle (idle w) tick e = (refl, refl)
 waits-idle queued tick e = absurd (none-some tick e)
@@ -145,13 +145,13 @@ module _ {M : Type 0} (places : List (Option (Place M))) (timers : Alarms) (queu
       ring-fewer queue2 = subst (λ x. sum_by one_if_waits (table_of (set places a x)) + 1 ≡ sum_by one_if_waits (table_of places)) (sym b.is) (
           omega (arith, sum-set one_if_waits places a b.before (Some b.after) was, ap one_if_any its_tick, ap (λ (x : Actor M). one_if_any (waiting_in x.mode)) b.actor))
 
--- so far, and what is left
+-- The actors so far, and the remaining ones.
 module _ {M : Type 0} where
   one_turn : (v : Option (Actor M)) (actors : Actors M) (a : ℕ) → ((queued_value v actors a).turn ≡ actors.turn) × ((queued_value v actors a).greatest ≡ actors.greatest)
   one_turn None actors a = (refl, refl)
   one_turn (Some actor) actors a = (refl, refl)
 
-  -- whoever rings is there, waits no longer, and the others are as they were
+  -- An actor that rings exists and waits no longer, and the others are as they were.
   pub record Follows (old new : Actors M) (a : ℕ) : Type 0 where
     pub gone : waiting_value (value_at new.table a) ≡ None
     pub others : (other : ℕ) → other ≢ a → value_at new.table other ≡ value_at old.table other

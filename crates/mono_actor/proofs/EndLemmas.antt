@@ -1,4 +1,4 @@
--- What the end of a turn leaves.
+-- The actors after the end of a turn.
 use Rattle.std.proofs.Common.{◌≡◌, ◌<◌, ◌≤◌, ◌^◌, ℕ, ◌+◌, true, false, Bool, cond, List, [], ◌∷◌, ◌++◌, length, set, Some, None, Option, refl, ap, sym, subst, ◌∙◌, arith}
 use Rattle.std.specs.Prelude.{is_some, ◌==◌, IfSome}
 use Rattle.std.specs.Option.{option_map}
@@ -62,7 +62,7 @@ module _ {M : Type 0} (places : List (Option (Place M))) (timers : Alarms) (queu
   its-mode : (p : Place M) → value_at places me ≡ Some p → (is_queued (mode_of p.mode) ≡ false) × (waiting_in (mode_of p.mode) ≡ None)
   its-mode p was = running-mode (mode_of p.mode) (sym (ap (of_actor is_running) (there places me p was)) ∙ runs)
 
-  -- it is gone
+  -- The actor is removed.
   module _ (p : Place M) (was : value_at places me ≡ Some p) where
     pub gone-frees : (is_known timers p.timer ≡ true) × (tick_at timers p.timer ≡ None) × (length p.mailbox ≤ letters) × (1 ≤ live)
     gone-frees = (
@@ -90,7 +90,7 @@ module _ {M : Type 0} (places : List (Option (Place M))) (timers : Alarms) (queu
       fits = omega (arith, holds.fits, one);
     })
 
-  -- it goes on
+  -- The actor stays.
   module _ (v w : Option (Place M)) (at : value_at places me ≡ v) (b : Becomes (rested greatest) v w) where
     was : value_at places me ≡ Some b.before
     was = at ∙ b.was

@@ -21,7 +21,7 @@ none-some x e = cc
 same-tick : (a b : ℕ) → Some a ≡ Some b → a ≡ b
 same-tick a b e = cc
 
--- what waits from now on waits for a later tick
+-- An actor that waits from now on waits for a later tick.
 abbrev IsLater : ℕ → Option ℕ → Type 0
 IsLater g v = (tick : ℕ) → v ≡ Some tick → g < tick
 
@@ -121,7 +121,7 @@ module _ {M : Type 0} where
       by true = set_early actors.greatest actors.table me (in_mode actor (idle (wait_from actors.greatest actor.timeout))) early (waits_later actors.greatest actor.timeout)
       by false = set_early actors.greatest actors.table me (in_mode actor queued) early (not_waiting actors.greatest)
 
-  -- a clock step: whoever is listed does not wait any more, and the others are not due
+  -- A clock step: a listed actor no longer waits, and the others are not due.
   abbrev Waits : ℕ → List ℕ → Table (Actor M) → Type 0
   Waits g due table = (a : ℕ) (actor : Actor M) → value_at table a ≡ Some actor → IsEarly g actor ⊎ Contains due a
 

@@ -56,7 +56,7 @@ module _ {V : Type 0} (waits : Option V → Option ℕ) (table after : Table V) 
           lists.in_order i j d below inside x y (same_there i d (omega (arith, below, inside)) ∙ at_i) (same_there j d inside ∙ at_j));
     }
 
--- where none has come, nothing is listed
+-- If no tick has come, nothing is listed.
 pub lists-none : {V : Type 0} (waits : Option V → Option ℕ) (table : Table V) (g : ℕ) → ((a : ℕ) → HasCome g (waits (value_at table a)) → ⊥) → ListsDue waits table g []
 lists-none waits table g none = record {
   no_doubles = λ i j d below inside. absurd (omega (arith, inside));

@@ -1,4 +1,4 @@
--- What an actor got is a prefix of what was sent to it.
+-- The messages that an actor got are a prefix of those that were sent to it.
 use Rattle.std.proofs.Common.{◌≡◌, ◌≢◌, ◌<◌, ◌≤◌, inl, inr, ℕ, ◌+◌, zero, suc, true, false, Bool, cond, List, [], ◌∷◌, ◌++◌, length, Some, None, Option, refl, ap, sym, subst, ◌∙◌, arith}
 use Rattle.std.specs.Prelude.{⊤, Result, Ok, Err, ◌==◌, nat_le, filter}
 use Rattle.std.proofs.lemmas.Bool.{cases_eq, cases_lt}
@@ -43,7 +43,7 @@ given : {V : Type 0} (table : Table V) (s : ℕ) (v : V) → value_at table s �
 given table s v at = elim (cases_lt s (length table)) [ inl inside ↦ inside | inr past ↦ absurd (none-some v (sym (get_or_past table s None past) ∙ at)) ]
 
 module _ {M : Type 0} where
-  -- what waits in the mailbox of an actor
+  -- The messages that wait in the mailbox of an actor.
   abbrev pub mail_in : Option (Actor M) → Option (List (Letter M))
   mail_in None = None
   mail_in (Some actor) = Some actor.mailbox
@@ -51,8 +51,8 @@ module _ {M : Type 0} where
   abbrev pub mail : Table (Actor M) → ℕ → Option (List (Letter M))
   mail table a = mail_in (value_at table a)
 
-  -- What was sent is what was got and what waits. Of an actor that is gone the rest is lost, and of one that was not made
-  -- yet all is as at the start.
+  -- The messages sent are those that the actor got and those that wait. The rest is lost for a removed actor, and all
+  -- is as at the start for an actor that was not made yet.
   abbrev pub Told : Option (List (Letter M)) → List (Letter M) → List (Letter M) → Type 0
   Told (Some mailbox) sent_so_far got = sent_so_far ≡ got ++ mailbox
   Told None sent_so_far got = IsPrefix got sent_so_far
@@ -184,7 +184,7 @@ module _ {M : Type 0} where
     of_queue [] old holds = quiet _ a S G [] [] refl refl holds
     of_queue (front ∷ rest) old holds = of_front (value_at old.table front) old.table front refl holds
 
-    -- the actor is gone, or stays
+    -- The actor is removed, or stays.
     of_gone : (table : Table (Actor M)) (me : ℕ) → Holds table a S G → Holds (without table me) a S G
     of_gone table me holds = elim (cases_eq a me) [
       | inr apart ↦ holds_other table me a None S G apart holds

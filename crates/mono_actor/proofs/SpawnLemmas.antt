@@ -1,4 +1,4 @@
--- What a spawn answers and leaves.
+-- The answer of a spawn, and the actors after it.
 use Rattle.std.proofs.Common.{◌≡◌, ◌<◌, ◌≤◌, ◌^◌, ◌-◌, ℕ, ◌+◌, true, false, Bool, cond, List, [], ◌∷◌, ◌++◌, length, Some, None, Option, refl, ap, sym, subst, ◌∙◌, arith, ne_eqb}
 use Rattle.std.specs.Prelude.{◌==◌, ◌||◌, Ok, Err, IsOk}
 use Rattle.std.specs.Option.{option_map}

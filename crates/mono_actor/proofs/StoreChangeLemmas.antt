@@ -108,7 +108,7 @@ module _ {M : Type 0} where
       counted = omega (arith, sum, sound.counted, sum_by-set count_in entries a v None inside);
     }
 
-  -- the links stay, and the actor has no other mailbox, or is gone with an empty one
+  -- The links stay, and the actor has the same mailbox, or was removed with an empty one.
   pub stays : (slots : List (Option (Link M))) (count : ℕ) (entries : List (Option Entry)) (a : ℕ) (v : Option Entry) → Sound slots count entries
       → keys_in slots v ≡ keys_in slots (value_at entries a) → EndsIn slots v → Moves slots slots entries a v
   stays slots count entries a v sound same ends = record {
@@ -240,7 +240,7 @@ module _ {M : Type 0} where
   pub at-places : (slots : List (Option (Link M))) (entries : List (Option Entry)) (a : ℕ) → value_at (places_in slots entries) a ≡ option_map (place_of slots) (value_at entries a)
   at-places slots entries a = get_or-map (option_map (place_of slots)) entries a None
 
-  -- what was said of an entry that changed is said of its actor
+  -- A change of an entry is a change of its actor.
   pub changes : (change : Actor M → Actor M) (old new : List (Option (Link M))) (entries : List (Option Entry)) (a : ℕ) (e f : Entry) → value_at entries a ≡ Some e → Moves old new entries a (Some f)
       → f.timer ≡ e.timer → actor_of (place_of new f) ≡ change (actor_of (place_of old e)) → Changes change a (places_in old entries) (places_in new (set entries a (Some f)))
   changes change old new entries a e f at moves timer actor = record {

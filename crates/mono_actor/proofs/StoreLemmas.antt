@@ -1,4 +1,4 @@
--- What the calls of the store leave.
+-- The store after its calls.
 use Rattle.std.proofs.Common.{◌≡◌, ◌<◌, ◌+◌, ◌^◌, zero, suc, inl, inr, ℕ, true, false, Bool, cond, List, [], ◌∷◌, ◌++◌, length, set, get_or, Some, None, Option, refl, ap, sym, subst, ◌∙◌, arith}
 use Rattle.std.specs.Prelude.{is_some, IfSome, ◌==◌, Result, Ok, Err, OnOk, OnErr}
 use Rattle.std.specs.Option.{option_map}
@@ -71,7 +71,7 @@ module _ {M : Type 0} where
   pub changed-inside : (change : Actor M → Actor M) (a : ℕ) (old new : List (Option (Place M))) → Changes change a old new → a < length old
   changed-inside change a old new c = given old a c.becomes.before c.becomes.was
 
-  -- what is gone afterwards may change before
+  -- An actor that is removed afterwards may change before.
   pub changed-gone : (change : Actor M → Actor M) (a : ℕ) (old new : List (Option (Place M))) → Changes change a old new → set new a None ≡ set old a None
   changed-gone change a old new c = ap (λ xs. set xs a None) c.is ∙ set-set old a c.place None
 
@@ -152,7 +152,7 @@ module _ {M : Type 0} (slots : List (Option (Link M))) (count : ℕ) (entries : 
   reads : (x : Option Entry) → x ≡ get_or entries a x → x ≡ Some mine
   reads x is = is ∙ sym (get_or_default entries a None x inside) ∙ at
 
-  -- what is read of the table
+  -- Reading the table.
   pub is-there : is_some (value_at entries a) ≡ true
   is-there = ap is_some at
 
@@ -174,7 +174,7 @@ module _ {M : Type 0} (slots : List (Option (Link M))) (count : ℕ) (entries : 
   its-count : length (letters_at slots (keys_of slots mine.mailbox)) ≡ mine.mailbox.count
   its-count = mailbox-count slots count entries a mine sound at
 
-  -- what holds of the entry is told of the actor
+  -- A fact about the entry is a fact about the actor.
   tells : (P : Place M → Type 0) → P (place_of slots mine) → IfSome (value_at (places_in slots entries) a) P
   tells P is = subst (λ v. IfSome v P) (sym (at-places slots entries a ∙ ap (option_map (place_of slots)) at)) is
 
@@ -228,11 +228,11 @@ module _ {M : Type 0} (slots : List (Option (Link M))) (count : ℕ) (entries : 
   rests now x result is holds = tells (λ p. result ≡ rest_of_turn now p)
       (of-read (λ e. result ≡ rest_in now e.timer e.timeout (e.mailbox.count == 0)) x is holds ∙ ap (λ n. rest_in now mine.timer mine.timeout (n == 0)) (sym its-count))
 
-  -- what a message asks for
+  -- The work after a message.
   pub receives : (e : Entry) (r : Receipt) → value_at entries a ≡ Some e → r ≡ receipt_in e.timer e.mode → IfSome (value_at (places_in slots entries) a) (λ p. r ≡ receipt_of p)
   receives e r is holds = tells (λ p. r ≡ receipt_of p) (of-read (λ x. r ≡ receipt_in x.timer x.mode) (Some e) (read-value e is) holds)
 
-  -- what is read of a mailbox
+  -- Reading a mailbox.
   module _ (x : Option Entry) (m : Mailbox) (is : x ≡ get_or entries a x) (reading : IfSome x (λ e. m ≡ e.mailbox)) where
     m-is : m ≡ mine.mailbox
     m-is = of-read (λ e. m ≡ e.mailbox) x is reading
@@ -325,7 +325,7 @@ module _ {M : Type 0} (slots : List (Option (Link M))) (count : ℕ) (entries : 
       pub none-first : IfSome (value_at (places_in slots entries) a) (λ p. None ≡ first_of p.mailbox)
       none-first = tells (λ p. None ≡ first_of p.mailbox) (sym (ap first_of no-letters))
 
-  -- an actor whose mailbox is empty is gone
+  -- An actor whose mailbox is empty is removed.
   no-first : (ls : List (Letter M)) → None ≡ first_of ls → length ls ≡ 0
   no-first [] e = refl
   no-first (l ∷ ls) e = absurd (none-some l e)
@@ -343,7 +343,7 @@ module _ {M : Type 0} (slots : List (Option (Link M))) (count : ℕ) (entries : 
     pub gone-places : places_in slots (set entries a None) ≡ set (places_in slots entries) a None
     gone-places = moved-places slots slots entries a None inside gone-moves
 
-  -- what is left of an actor
+  -- The remains of an actor.
   pub left-timer : (x : Option Entry) (timer : ℕ) → x ≡ get_or entries a x → IfSome x (λ e. timer ≡ e.timer) → IfSome (value_at (places_in slots entries) a) (λ p. timer ≡ p.timer)
   left-timer x timer is holds = tells (λ p. timer ≡ p.timer) (of-read (λ e. timer ≡ e.timer) x is holds)
 

@@ -1,4 +1,4 @@
--- A timeout comes only where nothing waits and a clock step has listed the actor.
+-- A timeout comes only if no message waits and a clock step has listed the actor.
 use Rattle.std.proofs.Common.{◌≡◌, ◌≢◌, ◌<◌, ◌≤◌, inl, inr, ℕ, ◌+◌, zero, suc, true, false, Bool, cond, List, [], ◌∷◌, ◌++◌, length, Some, None, Option, refl, ap, sym, subst, ◌∙◌, arith}
 use Rattle.std.specs.Prelude.{⊤, Result, Ok, Err, ◌==◌, ◌||◌, AllPairs, Contains}
 use Rattle.std.proofs.lemmas.Bool.{cases_eq, cases_lt}
@@ -114,7 +114,7 @@ module _ {M : Type 0} where
   pub put_there : (table : Table (Actor M)) (x q : ℕ) (new : Actor M) → q ≢ x → value_at (with_value table x new) q ≡ value_at table q
   put_there table x q new apart = get_or-set_other table x q (Some new) None apart
 
-  -- what a test says of each where one actor changed and the test says the same of it
+  -- The test of each actor after one actor changed with the same test.
   put_same : (test : Mode → Bool) (table : Table (Actor M)) (x q : ℕ) (actor new : Actor M) → value_at table x ≡ Some actor → test new.mode ≡ test actor.mode
       → of_actor test (value_at (with_value table x new) q) ≡ of_actor test (value_at table q)
   put_same test table x q actor new at same = elim (cases_eq q x) [
@@ -137,7 +137,7 @@ module _ {M : Type 0} where
     ];
   }
 
-  -- one that was not queued and did not run is queued last
+  -- An actor that was not queued and did not run is queued last.
   queues : (actors : Actors M) (a : ℕ) (was now : Bool) (x : ℕ) (actor new : Actor M) → value_at actors.table x ≡ Some actor → is_queued actor.mode ≡ false
       → (actors.turn ≡ Some x → ⊥) → (was ≡ true → now ≡ true) → (a ≡ x → new.mailbox ≡ [] → now ≡ true) → Stands actors a was → Stands (queued_last actors x new) a now
   queues actors a was now x actor new at not_queued no_turn grows told stands = record {

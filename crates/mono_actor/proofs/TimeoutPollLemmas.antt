@@ -1,4 +1,4 @@
--- What a poll of the wheel says of the timers.
+-- The timers after a poll of the wheel.
 use Rattle.std.proofs.Common.{◌≡◌, inl, inr, ℕ, true, false, Bool, cond, Some, None, Option, refl, ap, ◌∙◌, arith}
 use Rattle.std.specs.Prelude.{slice_index_or, nat_le}
 use Rattle.std.proofs.lemmas.Bool.{cases_lt}
@@ -14,7 +14,7 @@ none-some x e = cc
 same-some : {X : Type 0} (x y : X) → Some x ≡ Some y → x ≡ y
 same-some x y e = cc
 
--- the clock goes on, and each tick stays
+-- The clock advances, and each tick stays.
 after-tick : (old new : ℕ) (t : Option Timed) → tick_in (timed_after old new t) ≡ tick_in t
 after-tick old new None = refl
 after-tick old new (Some t) = by (nat_le (start top_level old t.registered) new)
@@ -23,7 +23,7 @@ after-tick old new (Some t) = by (nat_le (start top_level old t.registered) new)
     by true = refl
     by false = refl
 
--- what waits is in the wheel
+-- A waiting key is in the wheel.
 timed-of : (v : Option Timed) (tick : ℕ) → tick_in v ≡ Some tick → (timed : Timed) × (v ≡ Some timed) × (timed.tick ≡ tick)
 timed-of None tick at = absurd (none-some tick at)
 timed-of (Some timed) tick at = (timed, refl, same-some timed.tick tick at)

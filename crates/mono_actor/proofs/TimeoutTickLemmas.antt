@@ -1,4 +1,4 @@
--- A timeout comes only where a tick has come for which the actor waited.
+-- A timeout comes only if a tick has come for which the actor waited.
 use Rattle.std.proofs.Common.{◌≡◌, ◌≤◌, ◌⊎◌, inl, inr, ℕ, suc, true, false, Bool, cond, List, [], ◌∷◌, Some, None, Option, refl, ap, sym, ◌∙◌, arith}
 use Rattle.std.specs.Prelude.{⊤, Result, Ok, Err, ◌==◌, ◌||◌, Contains}
 use Rattle.std.proofs.lemmas.Bool.Decides.{eqb_tells}

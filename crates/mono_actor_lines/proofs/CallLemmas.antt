@@ -1,4 +1,4 @@
--- What the calls of a line leave.
+-- The actors after the calls of a line.
 use Rattle.std.proofs.Common.{◌≡◌, ℕ, ◌+◌, ◌==◌, if◌then◌else◌, ◌<◌, ◌≤◌, ◌++◌, Bool, true, false, List, [], ◌∷◌, length, drop, map, flat_map, get_or, Some, None, Option, Result, Ok, Err, refl, sym, ap, subst, ◌∙◌, arith, inl, inr, append_assoc}
 use Rattle.std.specs.Prelude.{IsOk, OnOk, codes}
 use Rattle.std.proofs.lemmas.List.{append-nil, drop_more, drop_all}
@@ -71,7 +71,7 @@ told_is told result (inr e) not = absurd (not e.0)
 
 -- ---- one send after another
 
--- where the rest of the sends leads, all of them lead
+-- If the rest of the sends leads to a state, so do all of them.
 abbrev pub LeadsOn : ℕ → List Handed → Actors ℕ → List ℕ → List Handed → Actors ℕ → List ℕ → Type 0
 LeadsOn me sends old out left now written = (new : Actors ℕ) (last : List ℕ) → SendsAll me left now written new last → SendsAll me sends old out new last
 

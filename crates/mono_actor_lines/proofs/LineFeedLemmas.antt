@@ -38,7 +38,7 @@ digits (c ∷ cs) d =
 number : (n : ℕ) → n < 10 ^ 64 → HasNoFeed (decimal n)
 number n l = digits (decimal n) (decimal_is_IsNumeral_wide n l).0.1
 
--- a text and a number behind it
+-- A text with a number after it.
 behind : (text : List ℕ) (n : ℕ) → HasNoFeed text → n < 10 ^ 64 → HasNoFeed (text ++ decimal n)
 behind text n p l = both text (decimal n) p (number n l)
 

@@ -1,4 +1,4 @@
--- What is read is spelled so, and what is spelled so is read.
+-- Calls are read as they are spelled, and spelled as they are read.
 use Rattle.std.proofs.Common.{◌≡◌, ℕ, zero, suc, ◌^◌, ◌<◌, ◌≤◌, ◌++◌, List, [], ◌∷◌, length, Some, None, Option, Bool, true, false, ◌⊎◌, refl, sym, ap, subst, ◌∙◌, arith, inl, inr, append_assoc, length-append, codes, lit≤, lit<, IfOk, IfSome, IfNone, Result, Ok, Err}
 use Rattle.std.proofs.lemmas.List.{append-nil}
 use Rattle.std.specs.Fmt.{decimal}

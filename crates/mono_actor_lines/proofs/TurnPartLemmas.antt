@@ -9,7 +9,7 @@ use Rattle.mono_actor_lines.specs.Lines.{handed_text}
 use Rattle.mono_actor_lines.specs.Parser.{stop_at, part_at, parts_at, turn_at}
 use Rattle.mono_actor_lines.proofs.SpellingLemmas.{part_found}
 
--- The first parts of the whole were read, and what is left is rest.
+-- The first parts of the whole were read, and `rest` remains.
 pub record PartsRead (whole : List ℕ) (front : List Handed) (rest : List ℕ) : Type 0 where
   pub same : (most : ℕ) → parts_at (most + length front) [] whole ≡ parts_at most front rest
   pub shorter : length rest + length front ≤ length whole
@@ -17,7 +17,7 @@ pub record PartsRead (whole : List ℕ) (front : List Handed) (rest : List ℕ) 
 pub none_read : (whole : List ℕ) → PartsRead whole [] whole
 none_read whole = record { same = λ most. ap (λ n. parts_at n [] whole) (omega arith); shorter = omega arith }
 
--- the turn is what is left says
+-- The turn is that of the remaining parts.
 goes_on : (whole : List ℕ) (front : List Handed) (rest : List ℕ) → PartsRead whole front rest → turn_at whole ≡ parts_at (suc (length whole - length front)) front rest
 goes_on whole front rest p =
     let n : suc (length whole) ≡ suc (length whole - length front) + length front = omega (arith, p.shorter) in

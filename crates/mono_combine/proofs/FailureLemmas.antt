@@ -1,4 +1,4 @@
--- What a try-join answers where a branch has failed.
+-- The answer of a try-join if a branch has failed.
 use Rattle.std.proofs.Common.{◌≡◌, Some, None, Result, Ok, Err, refl}
 use Rattle.mono_task.specs.Members.{FutureOf}
 use Rattle.mono_model.specs.declared.poll.Poll.TheVariants.{Ready}

@@ -1,4 +1,4 @@
--- What branches give: one that gives no more than before, and the outputs and errors of a list.
+-- The outputs that branches give: a branch that gives no more than before, and the outputs and errors of a list.
 use Rattle.std.proofs.Common.{◌≡◌, ℕ, zero, suc, ◌<◌, Bool, true, false, List, [], ◌∷◌, length, get_or, set, Option, Some, None, refl, subst, inl, inr, arith}
 use Rattle.std.specs.Prelude.{Result, Ok, Err}
 use Rattle.std.specs.List.{list_any, filter_map, AllZip}
@@ -41,7 +41,7 @@ module _ {M O : Type 0} (G : M → O → Type 0) where
   narrows_set (x ∷ xs) (y ∷ ys) zero m n less is to h = (λ v k. h.0 v (subst (λ z. G z v) is (to v k)), h.1)
   narrows_set (x ∷ xs) (y ∷ ys) (suc i) m n less is to h = (h.0, narrows_set xs ys i m n (omega arith) is to h.1)
 
-  -- what each branch gives, it gave before
+  -- Each branch gives only outputs that it gave before.
   pub narrows_each : {V : Type 0} (Q : M → V → Type 0) → ((n m : M) (v : V) → Narrows n m → Q n v → Q m v) → (xs ys : List M) (vs : List V) → AllZip Narrows xs ys → AllZip Q xs vs → AllZip Q ys vs
   narrows_each Q to [] [] [] h k = tt
   narrows_each Q to [] [] (v ∷ vs) h k = absurd k
@@ -50,7 +50,7 @@ module _ {M O : Type 0} (G : M → O → Type 0) where
   narrows_each Q to (x ∷ xs) (y ∷ ys) [] h k = absurd k
   narrows_each Q to (x ∷ xs) (y ∷ ys) (v ∷ vs) h k = (to x y v h.0 k.0, narrows_each Q to xs ys vs h.1 k.1)
 
-  -- what the branch in a place gives, the one that was there before gave
+  -- The branch at a place gives only outputs that the branch there gave before.
   pub narrows_at : (xs ys : List M) (i : ℕ) (m d : M) (x : O) → i < length xs → m ≡ get_or xs i m → AllZip Narrows xs ys → G m x → G (get_or ys i d) x
   narrows_at [] ys i m d x less is h k = absurd (omega arith)
   narrows_at (z ∷ xs) [] i m d x less is h k = absurd h
@@ -58,7 +58,7 @@ module _ {M O : Type 0} (G : M → O → Type 0) where
   narrows_at (z ∷ xs) (y ∷ ys) (suc i) m d x less is h k = narrows_at xs ys i m d x (omega arith) is h.1 k
 
 module _ {C T O : Type 0} (future : FutureOf T C O) where
-  -- where none waits, each output is one that its branch has given
+  -- If none waits, its branch has given each output.
   pub all_given : (xs : List (MaybeDone C T O)) → AllMayPoll future xs → list_any is_waiting xs ≡ false → AllZip (MaybeGives future.gives) xs (filter_map output_of xs)
   all_given [] may h = tt
   all_given (Future f ∷ xs) may h = absurd (cc)
@@ -66,7 +66,7 @@ module _ {C T O : Type 0} (future : FutureOf T C O) where
   all_given (Gone ∷ xs) may h = let spent = may.0.0 in absurd (cc)
 
 module _ {C T X E : Type 0} (future : FutureOf T C (Result X E)) where
-  -- where none waits and none has failed, each value is one that its branch has given
+  -- If none waits and none has failed, its branch has given each value.
   pub values_given : (xs : List (MaybeDone C T (Result X E))) → AllMayPoll future xs → list_any has_failed xs ≡ false → list_any is_waiting xs ≡ false → AllZip (GivesValue future.gives) xs (filter_map value_in xs)
   values_given [] may well h = tt
   values_given (Future f ∷ xs) may well h = absurd (cc)
@@ -75,7 +75,7 @@ module _ {C T X E : Type 0} (future : FutureOf T C (Result X E)) where
   values_given (Gone ∷ xs) may well h = let spent = may.0.0 in absurd (cc)
 
 module _ {C T X E : Type 0} (gives : T → Result X E → Type 0) where
-  -- the first error is one that its branch has given
+  -- One of the branches has given the first error.
   pub error_given : (xs : List (MaybeDone C T (Result X E))) (e : E) → first_failure xs ≡ Some e → OneFails gives xs e
   error_given [] e first = absurd (cc)
   error_given (Future f ∷ xs) e first = inr (error_given xs e first)
@@ -91,7 +91,7 @@ module _ {C T X E : Type 0} (gives : T → Result X E → Type 0) where
     | inr later ↦ inr (error_before xs ys e h.1 later)
   ]
 
-  -- an error that was taken is one that the branch has given
+  -- The branch has given an error that was taken.
   pub failure_given : (m : MaybeDone C T (Result X E)) (e : E) → failure_of m ≡ Some e → MaybeGives gives m (Err e)
   failure_given (Future f) e is = absurd (cc)
   failure_given (Done (Ok x)) e is = absurd (cc)
@@ -105,7 +105,7 @@ module _ {C T X E : Type 0} (gives : T → Result X E → Type 0) where
   without_narrows (Done (Err e)) x h = absurd h
   without_narrows Gone x h = absurd h
 
-  -- what the list gives, it gave before
+  -- The list gives only results that it gave before.
   pub result_before : (xs ys : List (MaybeDone C T (Result X E))) (r : Result (List X) E) → AllZip (MaybeNarrows gives) xs ys → TryJoinListGives gives xs r → TryJoinListGives gives ys r
   result_before xs ys (Ok vs) h k = narrows_each (MaybeGives gives) (GivesValue gives) (λ n m x to. to (Ok x)) xs ys vs h k
   result_before xs ys (Err e) h k = error_before xs ys e h k
@@ -120,7 +120,7 @@ try_before a b f g first second (Err e) h = elim h [
 ]
 
 module _ {A B G H X Y : Type 0} (a : A → X → Type 0) (b : B → Y → Type 0) (g : Shared G (Bor X × Unit {0}) Bool) (h : Shared H (Bor Y × Unit {0}) Bool) (s : Select2 A B G H) where
-  -- what is picked where the second had its turn last
+  -- The pick if the second had its turn last.
   pub second_given : (some_wait : Bool) (look : Look Y) → LookGives b (λ y. FnReturnsAt h s.second_test y true) s.second look → PickGives a b g h s (then_look some_wait (as_second look))
   second_given some_wait (Passes y) given = given
   second_given some_wait Waits given = tt

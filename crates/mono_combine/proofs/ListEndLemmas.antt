@@ -1,4 +1,4 @@
--- Whether the branches of a select of a list may have their turns, and what is left where all were given up.
+-- Whether the branches of a select of a list may have their turns, and the list after all were given up.
 use Rattle.std.proofs.Common.{◌≡◌, ℕ, zero, suc, ◌<◌, Bool, false, List, [], ◌∷◌, length, get_or, arith}
 use Rattle.std.specs.List.{list_any, All}
 use Rattle.std.proofs.lemmas.List.Elements.{All-nil, All-cons}

@@ -1,4 +1,4 @@
--- The turns of the branches of a list from a start on, round the end, and what the rule picks of their answers.
+-- The turns of the branches of a list from a start on, around the end, and the rule's pick from their answers.
 use Rattle.std.proofs.Common.{◌≡◌, ◌≢◌, ℕ, zero, suc, ◌≤◌, ◌+◌, ◌-◌, ◌<◌, ◌%◌, ◌⊎◌, inl, inr, subst, ◌||◌, Bool, true, false, List, [], ◌∷◌, ◌++◌, length, get_or, set, map, refl, sym, ◌∙◌, ap, arith, Option, Some, None}
 use Rattle.std.specs.Prelude.{⊤}
 use Rattle.std.specs.List.{list_any, filter_map, range_with_len, cons_option, FoldsTo}
@@ -63,7 +63,7 @@ splits f a i zero j less e = absurd (omega arith)
 splits f a zero (suc n) j less e = let same : a ≡ j = omega arith in (map f (range_with_len (a + 1) n), ap (λ k. f k ∷ map f (range_with_len (a + 1) n)) same)
 splits f a (suc i) (suc n) j less e = let later = splits f (a + 1) i n j (omega arith) (omega arith) in (later.0, ap (λ l. f a ∷ l) later.1)
 
--- an element that is there is the same whatever stands for one that is not
+-- An element that exists is the same for any default.
 element_is : {M : Type 0} (xs : List M) (p : ℕ) (m d : M) → p < length xs → m ≡ get_or xs p m → get_or xs p d ≡ m
 element_is [] p m d less is = absurd (omega arith)
 element_is (x ∷ xs) zero m d less is = sym is
@@ -200,7 +200,7 @@ module _ {T G C O : Type 0} (future : FutureOf T C O) (call : Shared G (ℕ × (
       }
 
   module _ (start : ℕ) (s : Row T C) where
-    -- the turns so far, of which none has passed
+    -- The turns so far, none of which has passed.
     pub record SoFar (turn : ℕ) (t : Row T C) (some_wait : Bool) : Type 0 where
       pub looks : List (Look O)
       pub each : length looks ≡ length s.branches

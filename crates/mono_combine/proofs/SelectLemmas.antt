@@ -1,4 +1,4 @@
--- The turns of two branches, and what the rule picks of their answers.
+-- The turns of two branches, and the rule's pick from their answers.
 use Rattle.std.proofs.Common.{◌≡◌, Bool, true, false, Some, refl}
 use Rattle.std.specs.Fn.{Shared}
 use denote.Ref.{Bor}

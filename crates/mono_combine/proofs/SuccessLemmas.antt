@@ -1,4 +1,4 @@
--- What a try-join answers where both values are there, and what may be polled once an error was taken.
+-- The answer of a try-join if both values have been given, and the form that may be polled after an error was taken.
 use Rattle.std.proofs.Common.{◌≡◌, Result, Ok, Err, refl}
 use Rattle.mono_task.specs.Members.{FutureOf}
 use Rattle.mono_model.specs.declared.poll.Poll.TheVariants.{Ready}

@@ -1,4 +1,4 @@
--- The turns of a try-join over a list, and what it answers.
+-- The turns of a try-join over a list, and its answer.
 use Rattle.std.proofs.Common.{◌≡◌, ℕ, ◌+◌, ◌<◌, Bool, true, false, List, [], ◌∷◌, ◌++◌, length, get_or, take, drop, set, map, refl, sym, ◌∙◌, ap, arith, Option, Some, None, is_none, Result, Ok, Err}
 use Rattle.std.specs.List.{list_any, filter_map}
 use Rattle.std.proofs.lemmas.List.{drop-set-lt, take_more_set, append_assoc, take-append-drop, get_or-set_same}
@@ -43,7 +43,7 @@ module _ {C T X E : Type 0} where
       first_error (Done (Err y) ∷ xs) outputs e first = cc
       first_error (Gone ∷ xs) outputs e first = first_error xs outputs e first
 
-  -- where one has failed there is a first error
+  -- If one has failed there is a first error.
   pub one_fails : (xs : List (MaybeDone C T (Result X E))) → list_any has_failed xs ≡ true → first_failure xs ≡ None → ⊥
   one_fails [] h none = cc
   one_fails (Future f ∷ xs) h none = one_fails xs h none
@@ -62,7 +62,7 @@ module _ {C T X E : Type 0} (future : FutureOf T C (Result X E)) where
   rest_stays [] c = refl
   rest_stays (x ∷ xs) c = (record { one_failed = true; cx = c }, record { advanced = (refl, refl); failed = refl }, rest_stays xs c)
 
-  -- where nothing waits, there is nothing to give up
+  -- If nothing waits, there is nothing to give up.
   pub nothing_left : (xs : List (MaybeDone C T (Result X E))) (c : C) → list_any is_waiting xs ≡ false → AllCancel future xs c c
   nothing_left [] c h = ([], refl)
   nothing_left (Future f ∷ xs) c h = absurd (cc)
@@ -82,7 +82,7 @@ module _ {C T X E : Type 0} (future : FutureOf T C (Result X E)) where
   tries_all xs may well waits = rw (no_errors xs well, missing xs may, waits, values xs) refl
 
 module _ {C T X E : Type 0} where
-  -- what the test said of the branch in its place holds of it
+  -- The test's answer for the branch at its place is right for the branch.
   pub tested : (xs : List (MaybeDone C T (Result X E))) (i : ℕ) (n shown : MaybeDone C T (Result X E)) → i < length xs → shown ≡ get_or (set xs i n) i shown
       → (answer b : Bool) → answer ≡ has_failed shown → answer ≡ b → has_failed n ≡ b
   tested xs i n shown less is answer b says answered = let same = get_or-set_same xs i n shown less in cc
@@ -116,7 +116,7 @@ module _ {C T X E : Type 0} (future : FutureOf T C (Result X E)) (xs : List (May
       so_far (record { advanced = advanced; failed = sym now }) (drop (i + 1) (set xs i n)) (record { one_failed = true; cx = d }) (rest_stays future (drop (i + 1) (set xs i n)) d) in
       rw (take-append-drop (i + 1) (set xs i n)) at ended
 
-  -- all may be polled again where one more was polled
+  -- All may be polled again after one more was polled.
   pub all_may : AllMayPoll future (take (i + 1) (set xs i n)) → AllMayPoll future (drop (i + 1) (set xs i n)) → AllMayPoll future (set xs i n)
   all_may before later = rw (take-append-drop (i + 1) (set xs i n)) at (may_append future (take (i + 1) (set xs i n)) (drop (i + 1) (set xs i n)) before later)
 

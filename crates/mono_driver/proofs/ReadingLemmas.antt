@@ -4,7 +4,7 @@ use Rattle.std.proofs.Math.Seq.{drop-cons}
 use Rattle.std.proofs.lemmas.List.{length-map, get_or-map}
 use Rattle.mono_driver.specs.Drivers.{Reads}
 
--- where one more is left behind the reading at i, that reading goes
+-- The reading at i is removed if another one follows.
 reads_at : (ns : List ℕ) (i : ℕ) → i + 1 < length ns → Reads (Some (drop i ns)) (get_or ns i 0) (Some (drop (i + 1) ns))
 reads_at ns i inside =
     let here : drop i ns ≡ get_or ns i 0 ∷ drop (i + 1) ns =
@@ -12,7 +12,7 @@ reads_at ns i inside =
     let next = drop-cons ns (i + 1) 0 inside in
     subst (λ l. Reads (Some l) (get_or ns i 0) (Some (drop (i + 1) ns))) (sym (here ∙ ap (λ l. get_or ns i 0 ∷ l) next)) (refl, ap Some next)
 
--- the same of a list of which each item has a number
+-- The same for a list whose items have numbers.
 module _ {X : Type 0} (number : X → ℕ) where
   pub reads_one : (xs : List X) (i : ℕ) (x : X) (now : List ℕ) → drop i (map number xs) ≡ now → x ≡ get_or xs i x → i + 1 < length xs →
       Reads (Some now) (number x) (Some (drop (i + 1) (map number xs)))

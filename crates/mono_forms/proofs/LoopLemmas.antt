@@ -1,4 +1,4 @@
--- A loop's turns: what is left of it goes on, and gives no more than before.
+-- A loop's turns: the loop after a turn continues, and gives no more than before.
 use Rattle.std.proofs.Common.{◌≡◌, ℕ, zero, suc, ◌<◌, ◌-◌, List, [], ◌∷◌, Option, Some, refl, inl, inr, arith, false}
 use Rattle.std.specs.Prelude.{⊤, Result}
 use Rattle.std.specs.Fn.{Mut, Called}
@@ -31,7 +31,7 @@ module _ {F S T A : Type 0} (g : Mut F (S × Unit {0}) A) (gives : A → Loop T 
     to_on P s' xs step h =
         record { state = h.state; stepped = ((f', s'), (b, called, step), h.stepped); future = h.future; called = h.called; holds = h.holds }
 
-    -- what the next future and those after it give, this one and those after it do
+    -- This future and those after it give each output of the next future and those after it.
     pub next_gives : (a : A) (x : T) → gives a (Continue s) → LoopGives gives g b f' x → LoopGives gives g a f x
     next_gives a x given h = inr (elim h [
       | inl k ↦ (s, [], given, to_here (λ b. gives b (Break x)) k)
@@ -47,7 +47,7 @@ waited_gives g gives f a b x same h = elim h [
 ]
 
 module _ {A C F S T : Type 0} (future : FutureOf A C (Loop T S)) (call : Mut F (S × Unit {0}) A) (m n : Repeat A F) (a : A) (is : m.future ≡ Some a) (can : CanLoop future call a m.func) where
-  -- the next future stands in place of this one
+  -- The next future takes this one's place.
   pub next_goes_on : (s : S) (b : A) (f' : F) → future.gives a (Continue s) → Called call m.func (s, tt) b f' → n.future ≡ Some b → n.func ≡ f' → GoesOn future call m n
   next_goes_on s b f' given called left func =
       let well = can.1 s given in

@@ -8,13 +8,13 @@ use Rattle.mono_combine.proofs.ListLemmas.{turn_more}
 use Rattle.mono_forms.specs.RaceLists.{Racing, RacesOnce, OneGives}
 
 module _ {T X : Type 0} (gives : T → X → Type 0) where
-  -- what the future in a place gives, the list gives
+  -- The list gives each output of the future at a place.
   pub gives_at : (xs : List T) (i : ℕ) (f : T) → i < length xs → f ≡ get_or xs i f → (x : X) → gives f x → OneGives gives xs x
   gives_at [] i f less is x h = absurd (omega arith)
   gives_at (y ∷ ys) zero f less is x h = inl (subst (λ t. gives t x) is h)
   gives_at (y ∷ ys) (suc i) f less is x h = inr (gives_at ys i f (omega arith) is x h)
 
-  -- a future that gives no more than before stands in its place
+  -- A future that gives no more than before takes its place.
   pub gives_set : (xs : List T) (i : ℕ) (f g : T) → i < length xs → f ≡ get_or xs i f → (x : X) → (gives g x → gives f x) → OneGives gives (set xs i g) x → OneGives gives xs x
   gives_set [] i f g less is x same h = absurd (omega arith)
   gives_set (y ∷ ys) zero f g less is x same h = elim h [

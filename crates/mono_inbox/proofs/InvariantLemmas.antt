@@ -14,7 +14,7 @@ use Rattle.mono_inbox.specs.Invariants.{IsSound}
 use Rattle.mono_inbox.proofs.CountLemmas.{count_where-set, count_where-more, standing_at-more, place_free, has_entry, known_at, known-kept}
 use Rattle.mono_inbox.proofs.ListLemmas.{is_waiting-once}
 
--- one task stands otherwise, and no other
+-- One task has another standing, and no other changes.
 changed : (waiting later : List ℕ) (standings : List Standing) (places after room now t : ℕ) (new : Standing) → IsSound waiting standings places room → t < length standings
     → after + once_if (has_place (standing_at standings t)) ≡ places + once_if (has_place new)
     → length later + once_if (waits (standing_at standings t)) ≡ length waiting + once_if (waits new)
@@ -44,7 +44,7 @@ module _ (waiting : List ℕ) (standings : List Standing) (places room : ℕ) (s
   some_place s at placed = let below = entry_of s at placed in
       omega (arith, sound.placed, count_where-set has_place standings t Unknown below, of_standing has_place s at, ap once_if placed)
 
-  -- whether a wake of the task is listed, by how the task stands
+  -- Whether a wake of the task is listed, by the task's standing.
   unlisted_is : (s : Standing) → standing_at standings t ≡ s → is_unlisted (record { waiting = waiting; known = map knows standings }) t ≡ (not (knows s) || waits s)
   unlisted_is s at =
       ap (λ b. not b || is_waiting waiting t) (known_at standings t ∙ ap knows at)

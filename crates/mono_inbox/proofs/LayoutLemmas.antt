@@ -1,4 +1,4 @@
--- What a write to one child does to the standings that the children lay out.
+-- The effect of a write to one child on the standings that the children lay out.
 use Rattle.std.proofs.Common.{◌≡◌, ◌≢◌, ◌<◌, ◌≤◌, inl, inr, ℕ, ◌+◌, ◌-◌, ◌*◌, ◌/◌, ◌%◌, zero, suc, Bool, true, false, List, [], ◌∷◌, ◌++◌, length, get_or, refl, ap, sym, ◌∙◌, arith, eq-eqb, ne_eqb}
 use Rattle.std.specs.Prelude.{slice_set, replicate, ◌⊎◌, nat_lt}
 use Rattle.std.proofs.lemmas.Bool.{cases_eq, cases_lt}
@@ -55,7 +55,7 @@ pub standings_of-same : (f g : ℕ → Standing) (n : ℕ) → ((q : ℕ) → f 
 standings_of-same f g zero same = refl
 standings_of-same f g (suc n) same = ap (λ xs. xs ++ f n ∷ []) (standings_of-same f g n same) ∙ ap (λ v. standings_of g n ++ v ∷ []) (same n)
 
--- where no task has a place, all are unknown
+-- If no task has a place, all are unknown.
 none_of : (xs : List Standing) (k : ℕ) → count_where has_place xs ≡ 0 → standing_at xs k ≡ Unknown
 none_of [] k none = refl
 none_of (Unknown ∷ xs) zero none = refl
@@ -68,7 +68,7 @@ none_of (Retired ∷ xs) k none = absurd (omega (arith, none))
 some_of : (xs : List Standing) (k : ℕ) → has_place (standing_at xs k) ≡ true → 1 ≤ count_where has_place xs
 some_of xs k placed = omega (arith, count_where-set has_place xs k Unknown (has_entry xs k placed), ap once_if placed)
 
--- what is left of a child has the same standings
+-- The child after a close has the same standings.
 pub left-standing : (b : Bool) (c : List Standing) (k : ℕ) → standing_at (left_of b c) k ≡ standing_at c k
 left-standing false c k = refl
 left-standing true c k = elim (cases_eq (count_where has_place c) 0) [
@@ -97,7 +97,7 @@ mark_here xs t s = get_or-set_same (grown xs t) t s Unknown (grown_below xs t)
 mark_there : (xs : List Standing) (t u : ℕ) (s : Standing) → u ≢ t → standing_at (with_mark xs t s) u ≡ standing_at xs u
 mark_there xs t u s apart = get_or-set_other (grown xs t) t u s Unknown apart ∙ standing_at-more xs (t + 1 - length xs) u
 
--- right behind the entries
+-- Right after the entries.
 pub mark_behind : (xs : List Standing) (t : ℕ) (s : Standing) → t ≡ length xs → with_mark xs t s ≡ xs ++ s ∷ []
 mark_behind xs t s is =
     let one : length xs + 1 - length xs ≡ 1 = omega arith in
@@ -114,7 +114,7 @@ mark-count xs t s at placed =
       ap once_if placed,
     )
 
--- a task with a place stands otherwise
+-- A task with a place gets another standing.
 pub change-count : (xs : List Standing) (t : ℕ) (s : Standing) → has_place (standing_at xs t) ≡ true → count_where has_place (slice_set xs t s) + 1 ≡ count_where has_place xs + once_if (has_place s)
 change-count xs t s placed = omega (arith, count_where-set has_place xs t s (has_entry xs t placed), ap once_if placed)
 
@@ -148,7 +148,7 @@ length-closed children begun at = elim (cases_lt begun at) [
 ]
 
 module _ (size : ℕ) (some : 0 < size) (children : List (List Standing)) (len : ℕ) (laid : IsLaid size children len) where
-  -- how a task stands
+  -- The standing of a task.
   pub standing_is : (t : ℕ) → look_in size children t ≡ standing_at (laid_standings size children len) t
   standing_is t = elim (cases_lt t len) [
     | inl below ↦ sym (standing_at-standings_of (look_in size children) len t below)
@@ -216,7 +216,7 @@ module _ (size : ℕ) (some : 0 < size) (children : List (List Standing)) (len :
           others ∙ laid.gone i closed (ap (count_where has_place) (sym others) ∙ none);
     }
 
-    -- A task that was unknown stands otherwise, in the child at the place.
+    -- A task that was unknown gets another standing, in the child at the place.
     module _ (t : ℕ) (is_at : at ≡ t / size) (inside : at < length after) (standing : Standing) (placed : has_place standing ≡ true)
         (read child : List Standing) (reads : read ≡ get_or after at read) (is : child ≡ with_mark read (t % size) standing) where
       abbrev marked : List (List Standing)
@@ -269,7 +269,7 @@ module _ (size : ℕ) (some : 0 < size) (children : List (List Standing)) (len :
         counted_here : 1 ≤ count_where has_place (child_at marked at)
         counted_here = some_of (child_at marked at) (t % size) (ap (λ c. has_place (standing_at c (t % size))) (mark_child ∙ is) ∙ ap has_place (mark_here read (t % size) standing) ∙ placed)
 
-        -- the child that was open is not closed afterwards, but where a later one was begun
+        -- The child that was open is closed only if a later one was begun.
         open_before : len / size < later / size → len / size ≢ at → len / size < at
         open_before less apart = elim least [
           | inl stays ↦ absurd (omega (arith, ap (λ n. n / size) stays, less))
@@ -297,7 +297,7 @@ module _ (size : ℕ) (some : 0 < size) (children : List (List Standing)) (len :
           ];
         }
 
-  -- A task that has a place stands otherwise.
+  -- A task that has a place gets another standing.
   module _ (t : ℕ) (has : has_place (standing_at (laid_standings size children len) t) ≡ true) where
     pub given : t < len
     given = omega (arith, has_entry (laid_standings size children len) t has, length-standings_of (look_in size children) len)

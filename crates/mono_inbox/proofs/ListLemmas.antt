@@ -1,4 +1,4 @@
--- How often a task stands in a list, whether it stands there, and that it does once at most.
+-- How often a task occurs in a list, whether it occurs, and that it does at most once.
 use Rattle.std.proofs.Common.{◌≡◌, ◌<◌, ◌≤◌, ℕ, ◌+◌, zero, suc, Bool, true, false, List, [], ◌∷◌, length, get_or, refl, ap, arith}
 use Rattle.std.specs.Prelude.{◌==◌, ◌||◌}
 use Rattle.mono_model.specs.Inbox.{is_waiting}
@@ -22,7 +22,7 @@ waiting_once (x ∷ xs) t one =
       | false ↦ λ e. waiting_once xs t (omega (arith, e))
     ] one
 
--- whether a task waits, by how often it stands in the list
+-- Whether a task waits, by how often it occurs in the list.
 pub is_waiting-once : (xs : List ℕ) (t : ℕ) (b : Bool) → times xs t ≡ once_if b → is_waiting xs t ≡ b
 is_waiting-once xs t true e = waiting_once xs t e
 is_waiting-once xs t false e = not_waiting xs t e

@@ -1,4 +1,4 @@
--- A history goes on by one call, and each call on the state goes on as its replay does.
+-- A history grows by one call, and each call on the state corresponds to a call of its replay.
 use Rattle.std.proofs.Common.{◌≡◌, ◌≢◌, ◌<◌, ◌≤◌, ℕ, ◌+◌, Bool, true, false, List, [], ◌∷◌, ◌++◌, length, refl, ap, sym, ◌∙◌, arith, eq-eqb}
 use Rattle.std.specs.Prelude.{◌==◌, ◌||◌, ◌&&◌, not, if◌then◌else◌, slice_index_or, Option, Some, None, MatchOption}
 use Rattle.mono_model.specs.Inbox.{is_waiting, with_waiting}
@@ -43,7 +43,7 @@ replies-push r (x ∷ es) e before right =
     let both = and-both (is_right r x) (replies_from (after r x) es) before in
     rw both.0 (replies-push (after r x) es e both.1 right)
 
--- the call has its reply, and the replay goes on to what the call left
+-- The call has its reply, and the replay continues to the state after the call.
 abbrev pub GoesOn : State → State → CallEntry → Type 0
 GoesOn old new e = (r : Replay) → Agrees r old → (is_right r e ≡ true) × Agrees (after r e) new
 

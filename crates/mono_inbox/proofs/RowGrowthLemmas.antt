@@ -1,4 +1,4 @@
--- Tasks right behind the last are made known, in the child in which the next number comes.
+-- Tasks right after the last are made known, in the child in which the next number is.
 use Rattle.std.proofs.Common.{◌≡◌, ◌≢◌, ◌<◌, ◌≤◌, inl, inr, ℕ, ◌+◌, ◌-◌, ◌*◌, ◌/◌, ◌%◌, zero, suc, false, List, [], ◌∷◌, ◌++◌, length, map, get_or, refl, ap, sym, ◌∙◌, arith}
 use Rattle.std.specs.Prelude.{slice_set, slice_index_or, replicate, ◌||◌}
 use Rattle.std.proofs.lemmas.Bool.{cases_eq, cases_lt}
@@ -15,7 +15,7 @@ use Rattle.mono_inbox.specs.State.{in_row}
 use Rattle.mono_inbox.proofs.CountLemmas.{known_at}
 use Rattle.mono_inbox.proofs.LayoutLemmas.{lt_true, lt_false, div_up, child_is, standing_is, length-standings_of, standing_at-standings_of}
 
--- the entries, and behind them those of so many tasks that are known
+-- The entries, followed by those of `n` known tasks.
 abbrev pub with_row : List Standing → ℕ → List Standing
 with_row xs n = xs ++ replicate n Known
 
@@ -47,7 +47,7 @@ count_waits-row : (xs : List Standing) (n : ℕ) → count_where waits (with_row
 count_waits-row [] n = count-waits n
 count_waits-row (x ∷ xs) n = omega (arith, count_waits-row xs n)
 
--- a number right behind another lies in the same child, as far as that goes
+-- The numbers of a row lie in the same child, up to its end.
 pub same_child : (size len n i : ℕ) → 0 < size → len % size + n ≤ size → len ≤ i → i < len + n → i / size ≡ len / size
 same_child size len n i some fits from below = elim (cases_lt (len / size) (i / size)) [
   | inl more ↦ absurd (omega (arith, below, fits, div-add-mod' i size, div-add-mod' len size, mul-le-mul_left size (above more)))
@@ -117,7 +117,7 @@ module _ (size : ℕ) (some : 0 < size) (children : List (List Standing)) (len :
   extending_is = ext_get_or Unknown (laid_standings size extended (len + n)) (with_row (laid_standings size children len) n)
       (omega (arith, length-standings_of (look_in size extended) (len + n), length-row (laid_standings size children len) n, length-standings_of (look_in size children) len)) each
 
-  -- the child in which the number behind the row comes is the same, or the next
+  -- The number after the row lies in the same child, or in the next.
   next_child : (len + n) / size ≤ len / size + 1
   next_child = elim (cases_lt (len / size + 1) ((len + n) / size)) [
     | inl more ↦ absurd (omega (arith, fits, div-add-mod' (len + n) size, div-add-mod' len size, mul-le-mul_left size (above more)))
@@ -130,7 +130,7 @@ module _ (size : ℕ) (some : 0 < size) (children : List (List Standing)) (len :
   counted : count_where has_place (child_at extended (len / size)) ≡ 0 → n ≡ 0
   counted none = omega (arith, none, count-row read n, ap (count_where has_place) child_here)
 
-  -- where the child is closed afterwards, some task came
+  -- If the child is closed afterwards, some task came.
   some_came : len / size < (len + n) / size → n ≡ 0 → ⊥
   some_came closed none = omega (arith, closed, ap (λ k. (len + k) / size) none, ap (λ k. k / size) (len_is len))
     where
@@ -147,7 +147,7 @@ module _ (size : ℕ) (some : 0 < size) (children : List (List Standing)) (len :
     ];
   }
 
--- how a task stands behind the entries, where a row is made known
+-- Which tasks wait after a row was made known.
 row_waits : (xs : List Standing) (n t : ℕ) → waits (standing_at (with_row xs n) t) ≡ waits (standing_at xs t)
 row_waits xs n t = elim (cases_lt t (length xs)) [
   | inl before ↦ ap waits (row_left xs n t before)

@@ -50,7 +50,7 @@ suc_one i = omega arith
 first_and_rest : (tasks : List ℕ) (i : ℕ) → i < length tasks → drop i tasks ≡ get_or tasks i 0 ∷ drop (i + 1) tasks
 first_and_rest tasks i inside = drop-cons tasks i 0 inside ∙ ap (λ n. get_or tasks i 0 ∷ drop n tasks) (suc_one i)
 
--- with one that is forgotten, the others are left
+-- After one more task is forgotten, the others remain.
 pub forgets_more : (tasks : List ℕ) (i t : ℕ) (now middle all : Bool) → i < length tasks → now ≡ (not (t == get_or tasks i 0) && middle)
     → (not (is_waiting (drop i tasks) t) && middle) ≡ all → (not (is_waiting (drop (i + 1) tasks) t) && now) ≡ all
 forgets_more tasks i t now middle all inside step left =
@@ -94,7 +94,7 @@ either_of false row rest = refl
 after_one : (from n : ℕ) → from + suc n ≡ from + n + 1
 after_one from n = omega arith
 
--- the numbers from a place on are a row and the numbers behind it
+-- The numbers from a place on are a row and the numbers after it.
 pub row_and_rest : (tasks : List ℕ) (at from n t : ℕ) → at + n ≤ length tasks → ((i : ℕ) → i < n → get_or tasks (at + i) 0 ≡ from + i)
     → is_waiting (drop at tasks) t ≡ (in_row from (from + n) t || is_waiting (drop (at + n) tasks) t)
 row_and_rest tasks at from zero t inside row = rw (nothing at, nothing from) (row_start from t (is_waiting (drop at tasks) t))
@@ -116,7 +116,7 @@ one_of_either false true k = refl
 one_of_either true false k = refl
 one_of_either false false k = refl
 
--- with a row that is forgotten, the numbers behind it are left
+-- After a row is forgotten, the numbers after it remain.
 pub forgets_row : (tasks : List ℕ) (at from n t : ℕ) (now middle all : Bool) → at + n ≤ length tasks → ((i : ℕ) → i < n → get_or tasks (at + i) 0 ≡ from + i)
     → now ≡ (not (in_row from (from + n) t) && middle)
     → (not (is_waiting (drop at tasks) t) && middle) ≡ all → (not (is_waiting (drop (at + n) tasks) t) && now) ≡ all

@@ -18,7 +18,7 @@ pub length-without : (xs : List Standing) (from n : ℕ) → length (without_row
 length-without xs from zero = refl
 length-without xs from (suc n) = length-set (without_row xs from n) (from + n) Unknown ∙ length-without xs from n
 
--- how the tasks of the row stand, and the others
+-- The standings of the tasks of the row, and of the others.
 pub without_there : (xs : List Standing) (from n i : ℕ) → (from ≤ i → i < from + n → ⊥) → standing_at (without_row xs from n) i ≡ standing_at xs i
 without_there xs from zero i outside = refl
 without_there xs from (suc n) i outside =
@@ -41,7 +41,7 @@ without_here xs from (suc n) i begun below = elim (cases_eq i (from + n)) [
 shorter : (xs : List Standing) (from n : ℕ) → AreKnown xs from (suc n) → AreKnown xs from n
 shorter xs from n known i begun below = known i begun (omega (arith, below))
 
--- as many tasks fewer stand so as there are in the row
+-- The number of tasks with a place falls by the length of the row.
 pub count-without : (xs : List Standing) (from n : ℕ) → AreKnown xs from n → count_where has_place (without_row xs from n) + n ≡ count_where has_place xs
 count-without xs from zero known = omega arith
 count-without xs from (suc n) known =
@@ -172,7 +172,7 @@ module _ (size : ℕ) (some : 0 < size) (children : List (List Standing)) (len :
     ];
   }
 
--- how a task stands with the list, where a row of tasks that do not wait is made unknown
+-- Which tasks wait after a row of tasks that do not wait was made unknown.
 without_waits : (xs : List Standing) (from n t : ℕ) → AreKnown xs from n → waits (standing_at (without_row xs from n) t) ≡ waits (standing_at xs t)
 without_waits xs from n t known = within from n t (waits (standing_at (without_row xs from n) t) ≡ waits (standing_at xs t))
     (λ begun below. ap waits (without_here xs from n t begun below) ∙ sym (ap waits (known t begun below)))

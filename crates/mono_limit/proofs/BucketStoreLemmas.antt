@@ -36,7 +36,7 @@ stored-push g stored one are is b default inside = elim (cases_lt b (length stor
   | inr last ↦ subst (IsStored g) (sym (get_or_push stored one default b (omega (arith, last, inside, length-append stored (one ∷ []))))) is
 ]
 
--- a further bucket, whose period is in range, stands behind the others
+-- A further bucket, whose period is in range, is appended to the others.
 in-range : (n : ℕ) → is_out_of_range n ≡ false → 0 < n
 in-range zero none = absurd cc
 in-range (suc n) none = omega arith
@@ -109,7 +109,7 @@ after_waits-is limits (r ∷ due) =
 abbrev left_with : Limits → Table Bucket → Table Schedule → ℕ → ℕ → Limits
 left_with old buckets rows greatest most = record { buckets = buckets; retries = rows; greatest = greatest; most_buckets = old.most_buckets; most_retries = most }
 
--- What a clock step leaves: the buckets have filled, and the waits of those that are due have ended.
+-- The limiter after a clock step: the buckets have filled, and the waits of the due retries have ended.
 pub clocked : (old : Limits) (stored : List StoredBucket) (n : ℕ) (due : List ℕ) (rows : Table Schedule) (greatest most : ℕ) → AreStored old.greatest stored → greatest ≡ greatest_at old n
     → rows ≡ ended_rows old.retries due → most ≡ old.most_retries → old.buckets ≡ buckets_at old.greatest stored
     → left_with old (buckets_at greatest stored) rows greatest most ≡ after_waits (at_tick old (greatest_at old n)) due

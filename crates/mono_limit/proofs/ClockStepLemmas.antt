@@ -28,7 +28,7 @@ pub holds_on : (rows : Table Schedule) (sleeps after : SleepTable) (live n : ℕ
 holds_on rows sleeps after live n holds r waker first same left is =
     subst (λ x. Holds x after live) (sym is) (subst (λ x. Holds (ended_row (value_at rows r) rows r) x live) (sym same) (fired_holds rows sleeps live holds r n first.tick waker first.is_armed_there))
 
--- What was listed so far, and what may be listed behind it.
+-- The retries listed so far, and those that may be listed after them.
 pub record IsListed (old rows : Table Schedule) (g : ℕ) (before after : List ℕ) : Type 0 where
   pub due : List ℕ
   pub appended : after ≡ before ++ due

@@ -52,7 +52,7 @@ waits_stay limits (r ∷ due) =
     let one = ended_stays (value_at limits.retries r) limits r in
     (rest.0 ∙ one.0, rest.1 ∙ one.1)
 
--- What is left of a bucket after a step that granted so much.
+-- The bucket after a step that granted `got` tokens.
 pub record Left (old : Limits) (b : ℕ) (bucket : Bucket) (got : ℕ) (new : Limits) : Type 0 where
   pub left : Bucket
   pub at : value_at new.buckets b ≡ Some left
@@ -89,7 +89,7 @@ module _ (old : Limits) (b : ℕ) (bucket : Bucket) (is : value_at old.buckets b
   of_failed (Some retry) (Ok GaveUp) n = same _ is refl
   of_failed (Some retry) (Err e) n = same old is refl
 
-  -- what was granted of this bucket, or of another
+  -- The tokens granted of this bucket, or of another.
   of_takes : (from n : ℕ) (found : Bucket) (take : Take) (after : Bucket) → value_at old.buckets from ≡ Some found → Takes old.greatest found n take after
       → Left old b bucket (granted_by b (call.Take from n) (answer.Took take)) (with_buckets old (with_value old.buckets from after))
   of_takes from n found Granted after at takes = elim (eqb_tells from b) [

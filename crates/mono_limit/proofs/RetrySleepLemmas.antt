@@ -61,7 +61,7 @@ module _ (rows : Table Schedule) (sleeps : SleepTable) (live : ℕ) (holds : Hol
       some_of None w e = absurd (none-some w (sym e))
       some_of (Some kept) w e = (kept, refl)
 
-  -- whoever is armed waits for that tick, and whoever waits is armed
+  -- A retry whose sleep is armed waits for that tick, and the sleep of a waiting retry is armed.
   pub waits_there : (r tick : ℕ) (waker : Option ℕ) → value_at sleeps.table r ≡ Some (armed tick waker) → waiting_value (value_at rows r) ≡ Some tick
   waits_there r tick waker at = wait_is (value_at rows r) (agrees r ∙ ap (option_map armed_tick) at)
     where
@@ -98,7 +98,7 @@ module _ (rows : Table Schedule) (sleeps : SleepTable) (live : ℕ) (holds : Hol
   }
 
   module _ (r : ℕ) (retry : Schedule) (at : value_at rows r ≡ Some retry) where
-    -- a retry is gone, with its sleep
+    -- A retry is removed, with its sleep.
     one_fewer : count_of (without rows r) + 1 ≡ count_of rows
     one_fewer =
         let one : ℕ = cond (Rattle.std.specs.Prelude.is_some (get_or rows r None)) 1 0 in

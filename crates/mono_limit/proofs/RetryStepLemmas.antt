@@ -1,4 +1,4 @@
--- What a step of a retry leaves.
+-- The retry after a step.
 use Rattle.std.proofs.Common.{◌≡◌, ◌<◌, ℕ, ◌+◌, zero, suc, true, false, Bool, Some, None, Option, refl, ap, sym, subst, arith}
 use Rattle.std.specs.Prelude.{⊤, Result, Ok, Err, nat_le}
 use Rattle.std.specs.Fn.{Mut}
@@ -17,7 +17,7 @@ use Rattle.mono_limit.specs.declared.attempts.Stage.{Stage}
 use Rattle.mono_limit.specs.declared.attempts.Stage.TheVariants as stage
 use Rattle.mono_limit.specs.declared.attempts.Retry.{Retry}
 
--- The number of attempts stays, and where one may follow, there is one left.
+-- The number of attempts stays; if one may follow, there is one left.
 abbrev pub Keeps : {G F : Type 0} → Retry G F → Retry G F → Type 0
 Keeps old new = (new.base ≡ old.base) × (new.tried + new.left ≡ old.tried + old.left) × HasLeft new.stage new.left
 
@@ -77,7 +77,7 @@ module _ {G F C X E : Type 0} (call : Mut G (ℕ × Unit {0}) F) (future : Futur
   by_stage stage.Resting at some c d o s rests = (rested rests.answer (ap place_of at) some rests.middle d o s rests.rest).0
   by_stage stage.Over at some c d o s step = absurd step
 
-  -- what a poll asks holds again, and the step goes on
+  -- The requirement of a poll holds again, and the step continues.
   pub stays : (st : Stage F) → old.stage ≡ st → MayGoOn call future old → (c d : C) (o : Option (Poll (Result X (RetryError E)))) (s : Retry G F) → StepOf call future number nanos sleeps work reaches st old c o s d
       → IsLiveStage future s.stage → MayGoOn call future s × Leaves o old s
   stays st at may c d o s step live =
@@ -90,6 +90,6 @@ module _ {G F C X E : Type 0} (call : Mut G (ℕ × Unit {0}) F) (future : Futur
   some_left stage.Resting at has = has
   some_left stage.Over at has = cc
 
-  -- and so where an attempt was made
+  -- The same if an attempt was made.
   pub due_stays : old.stage ≡ stage.Due → MayGoOn call future old → (c : C) (s : Retry G F) → Makes call (without_stage old) s → MayGoOn call future s × Leaves {A = Result X (RetryError E)} None old s
   due_stays at may c s makes = stays stage.Due at may c c None s (refl, makes, refl) (rw makes.tries (may.makes_live.live old.make (old.tried + 1) makes.attempt makes.make (omega arith) (omega (arith, some_left old.stage at may.has_left)) makes.made))

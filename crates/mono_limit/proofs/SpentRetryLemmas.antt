@@ -1,4 +1,4 @@
--- What a retry is once it has answered.
+-- A retry once it has answered.
 use Rattle.std.proofs.Common.{◌≡◌, ℕ, zero, suc, true, false, Bool, Some, None, Option, refl, ap, sym, ◌∙◌}
 use Rattle.std.specs.Prelude.{⊤, Result, Ok, Err, nat_le}
 use Rattle.std.specs.Fn.{Mut}
@@ -17,7 +17,7 @@ use Rattle.mono_limit.specs.declared.attempts.Stage.{Stage}
 use Rattle.mono_limit.specs.declared.attempts.Stage.TheVariants as stage
 use Rattle.mono_limit.specs.declared.attempts.Retry.{Retry}
 
--- Where the answer is ready the retry is over, and where it is that of the last attempt, none is left.
+-- If the answer is ready, the retry is over; if it is that of the last attempt, none is left.
 pub record IsEnded {G F X E : Type 0} (o : Option (Poll (Result X (RetryError E)))) (s : Retry G F) : Type 0 where
   pub over : (x : Result X (RetryError E)) → o ≡ Some (Ready x) → is_over s.stage ≡ true
   pub last : (e : E) → o ≡ Some (Ready (Err (Last e))) → s.left ≡ 0

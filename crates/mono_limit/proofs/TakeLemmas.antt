@@ -1,4 +1,4 @@
--- What is taken from a bucket that is kept.
+-- Taking tokens from a stored bucket.
 use Rattle.std.proofs.Common.{◌≡◌, ◌<◌, ◌≤◌, ℕ, ◌+◌, ◌-◌, ◌*◌, refl, ap, subst, arith}
 use Rattle.std.specs.Prelude.{Ok}
 use Rattle.std.proofs.lemmas.Bool.{le-ltb}

@@ -1,4 +1,4 @@
--- What holds between any two calls, and how a bucket fills that nobody takes from.
+-- The invariant between any two calls, and the filling of a bucket from which no call takes.
 use Rattle.std.proofs.Common.{◌≡◌, ◌<◌, ◌≤◌, inl, inr, ℕ, ◌+◌, ◌-◌, ◌*◌, zero, suc, true, false, Bool, cond, List, [], ◌∷◌, length, Some, None, Option, refl, ap, sym, subst, ◌∙◌, arith}
 use Rattle.std.specs.Prelude.{⊤, Result, Ok, Err, min, max, ◌^◌, ◌==◌, ◌||◌, nat_lt, nat_le, is_some, Contains, IfSome, option_map}
 use Rattle.std.proofs.lemmas.Bool.{cases_eq, cases_lt, lt-ltb}

@@ -19,7 +19,7 @@ same-tick a b e = cc
 abbrev wait_at : Table Schedule → ℕ → Option ℕ
 wait_at rows r = waiting_value (value_at rows r)
 
--- The wait of r ends first: its tick has come, and nobody waits for a lower one.
+-- The wait of r ends first: its tick has come, and no retry waits for a lower one.
 pub record EndsFirst (rows : Table Schedule) (g r : ℕ) : Type 0 where
   pub tick : ℕ
   pub waits : wait_at rows r ≡ Some tick
@@ -106,7 +106,7 @@ module _ (rows : Table Schedule) (g r : ℕ) (first : EndsFirst rows g r) (due :
         (others_after (value_at rows r) rows r (get_or due j d) (apart_of (get_or due j d) (listed_come j d inside)) ∙ at_j));
   }
 
--- nobody is listed where nobody's tick has come
+-- No retry is listed if no tick has come.
 pub none_ends : (rows : Table Schedule) (g : ℕ) → NoneEnds rows g → ListsDue waiting_value rows g []
 none_ends rows g none = record {
   no_doubles = λ i j d below inside. absurd (omega (arith, inside));

@@ -180,7 +180,7 @@ due-done (Err e) r = refl
 none_due : (a b : Answer) (r : ℕ) → a ≡ b → times (due_by b) r ≡ 0 → times (due_by a) r ≡ 0
 none_due a b r same none = ap (λ x. times (due_by x) r) same ∙ none
 
--- the wait goes on, or has ended
+-- The wait continues, or has ended.
 abbrev GoesOn : Limits → ℕ → Answer → Limits → Type 0
 GoesOn old r a mid = (waiting_at mid r ≡ waiting_at old r) × (times (due_by a) r ≡ 0) × (old.greatest ≤ mid.greatest) × ((tick : ℕ) → waiting_at old r ≡ Some tick → old.greatest < tick → mid.greatest < tick)
 

@@ -62,7 +62,7 @@ fn end_wait(rows: &mut ReadyTable<Schedule>, retry: u64)
 impl Retries {
     ghost use Rattle.mono_limit.specs.Retries.{greatest_of};
 
-    /// Returns a table without retries, of which at most `most` may live at a time.
+    /// Returns a table without retries; at most `most` may live at a time.
     pub(crate) fn new(alloc: Global, most: u64) -> Result<Retries, AllocError>
         ensures rows { IfOk result (λ retries. retries.rows.table ≡ []) }
         ensures greatest { IfOk result (λ retries. greatest_of retries ≡ 0) }

@@ -1,4 +1,4 @@
--- What was followed by lines of code, as calls of the model.
+-- The lines that the code followed, as calls of the model.
 use Rattle.std.proofs.Common.{◌≡◌, ℕ, List, [], ◌∷◌, ◌++◌, map, flat_map, Option, Result, Ok, Err, IfOk, refl, sym, ap, subst, ◌∙◌}
 use Rattle.mono_text.specs.Services.{AnswersAll, StartsWithNone}
 use Rattle.mono_text.specs.Follows.{call_line, AllFit, Follows, HasFollowed}

@@ -1,4 +1,4 @@
--- What was served by lines of code, as calls of the model.
+-- The lines that the code served, as calls of the model.
 use Rattle.std.proofs.Common.{◌≡◌, ℕ, List, [], ◌∷◌, map, refl, sym, ap, subst, IfOk, Result, Ok, Err}
 use Rattle.mono_text.specs.Lines.{Line, lines, AreLines}
 use Rattle.mono_text.specs.Services.{Says, AnswersAll, Serves}

@@ -1,4 +1,4 @@
--- What is read is spelled so, and what is spelled so is read.
+-- Calls are read as they are spelled, and spelled as they are read.
 use Rattle.std.proofs.Common.{◌≡◌, ℕ, ◌^◌, ◌++◌, List, ◌∷◌, Some, refl, sym, ap, subst, ◌∙◌, arith, inl, inr, append_assoc, codes, lit<}
 use Rattle.std.specs.Fmt.{decimal}
 use Rattle.mono_text.specs.Parser.{mapped, then_read, word_at, number_at, behind_at}

@@ -35,7 +35,7 @@ stays-added sleeps tick q waits = at (value_at sleeps.table q) refl
     at None is = absurd (cc (ap (λ v. of_live_sleep v (λ k. poll_of (is_kept_ready sleeps.greatest k))) is, waits))
     at (Some kept) is = ap (λ v. of_live_sleep v (λ k. poll_of (is_kept_ready sleeps.greatest k))) (get_or_append_left sleeps.table (Some (fresh tick) ∷ []) None q (given_inside sleeps.table q kept is)) ∙ waits
 
--- what an addition leaves of the others
+-- The other sleeps after an addition.
 pub others-added : (old new : SleepTable) (nanos : ℕ) (result : Result ℕ SleepError) → Added old nanos result new → (t : Limited) → Waits old t → Waits new t
 others-added old new nanos (Ok number) made t waits = record {
   counts = waits.counts;
@@ -82,7 +82,7 @@ stays_gone-next [] kept (suc q) apart gone = refl
 stays_gone-next (x ∷ xs) kept zero apart gone = gone
 stays_gone-next (x ∷ xs) kept (suc q) apart gone = stays_gone-next xs kept q (λ e. apart (ap suc e)) gone
 
--- a sleep that was made is the only one that was not there
+-- A sleep that was made is the only new one.
 pub only-made : (old new : SleepTable) (nanos : ℕ) (sleep : Sleep) → SleepMade old nanos (Ok sleep) new → AddsOnly old new sleep.number
 only-made old new nanos sleep made s apart gone =
     ap (λ sleeps. value_at sleeps.table s) made.1.3

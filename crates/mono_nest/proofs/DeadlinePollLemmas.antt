@@ -59,7 +59,7 @@ module _ {C : Type 0} (number : C → ℕ) (sleeps : C → SleepTable) (work : C
     cancels = TimeoutCancels countdown sleeps work reaches;
   }
 
-  -- what a poll that waits leaves
+  -- The result of a pending poll.
   pub record LimitWaits (t : Limited) (c : C) (r : Poll Answer) (left : Limited) (d : C) : Type 0 where
     pub answer : r ≡ Pending
     pub left_is : left ≡ polled_once t

@@ -1,4 +1,4 @@
--- What the polls and removals of sleeps leave of the others.
+-- The other sleeps after polls and removals.
 use Rattle.std.proofs.Common.{◌≡◌, ◌≢◌, ◌⊎◌, inl, inr, ℕ, true, false, Bool, cond, List, [], ◌∷◌, ◌++◌, set, Some, None, Ok, refl, ap, sym, ◌∙◌}
 use Rattle.std.specs.Prelude.{Option, ⊤, Result}
 use Rattle.std.proofs.lemmas.Bool.{cases_eq}
@@ -25,7 +25,7 @@ kept_waits greatest by (fresh tick) waits = at _ waits
 kept_waits greatest by (armed tick waker) waits = refl
 kept_waits greatest by elapsed waits = absurd (cc)
 
--- a delay that is not due stays so where one is polled
+-- A delay that is not due stays so after a poll of one.
 pub still_waits : (sleeps : SleepTable) (s q by : ℕ) → sleep_poll_answer sleeps q ≡ Ok Pending → sleep_poll_answer (with_polled_sleep sleeps s by) q ≡ Ok Pending
 still_waits sleeps s q by waits = at (value_at sleeps.table s) refl
   where
@@ -40,7 +40,7 @@ still_waits sleeps s q by waits = at (value_at sleeps.table s) refl
       | inr apart ↦ ap (λ v. of_live_sleep v (λ k. poll_of (is_kept_ready sleeps.greatest k))) (get_or-set_other sleeps.table s q (Some (polled_kept sleeps.greatest by kept)) None apart) ∙ waits
     ]
 
--- what is answered of a delay stays where another is polled or removed
+-- The answer for a delay stays after another is polled or removed.
 pub apart-polled : (sleeps : SleepTable) (s q by : ℕ) → q ≢ s → sleep_poll_answer (with_polled_sleep sleeps s by) q ≡ sleep_poll_answer sleeps q
 apart-polled sleeps s q by apart = at (value_at sleeps.table s)
   where
@@ -55,7 +55,7 @@ apart-removed sleeps s q apart = at (value_at sleeps.table s)
     at None = refl
     at (Some kept) = ap (λ v. of_live_sleep v (λ k. poll_of (is_kept_ready sleeps.greatest k))) (get_or-set_other sleeps.table s q None None apart)
 
--- what was removed is gone, and stays so
+-- A removed sleep has no value, and stays so.
 pub gone-removed : (sleeps : SleepTable) (s : ℕ) → value_at (with_removed_sleep sleeps s).table s ≡ None
 gone-removed sleeps s = at (value_at sleeps.table s) refl
   where
@@ -97,7 +97,7 @@ abbrev IsNone : ℕ → List ℕ → Type 0
 IsNone q [] = ⊤
 IsNone q (s ∷ later) = (q ≢ s) × IsNone q later
 
--- what was removed is gone, and what was gone stays so
+-- Removed sleeps have no value, and those without a value stay so.
 gone-all_removed : (sleeps : SleepTable) (delays : List ℕ) (q : ℕ) → (IsNone q delays → value_at sleeps.table q ≡ None) → value_at (all_removed sleeps delays).table q ≡ None
 gone-all_removed sleeps [] q unless = unless tt
 gone-all_removed sleeps (s ∷ later) q unless = gone-all_removed (with_removed_sleep sleeps s) later q (λ none. at (cases_eq q s) none)

@@ -53,7 +53,7 @@ ready-list (Ready (v, w)) x y e = same v w x y (cc) (cc)
     same v w x y first second = ap (λ k. Ready (pair k w)) first ∙ ap (λ k. Ready (pair x k)) second
 ready-list Pending x y e = absurd (cc)
 
--- what is answered of a third delay
+-- The answer for a third delay.
 unmoved : (sleeps : SleepTable) (a b q : ℕ) → q ≢ a → q ≢ b → sleep_poll_answer (with_removed_sleep (with_removed_sleep (with_removed_sleep sleeps a) a) b) q ≡ sleep_poll_answer sleeps q
 unmoved sleeps a b q apart_a apart_b = apart-removed (with_removed_sleep (with_removed_sleep sleeps a) a) b q apart_b ∙ apart-removed (with_removed_sleep sleeps a) a q apart_a ∙ apart-removed sleeps a q apart_a
 

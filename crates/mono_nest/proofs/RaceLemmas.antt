@@ -26,7 +26,7 @@ use Rattle.mono_nest.proofs.DelayLemmas.{still_waits, apart-polled, removed-appe
 use Rattle.mono_nest.proofs.DeadlinePollLemmas.{Answer, limited, limit_waits, limit_ready, limit_late, limit_cancels}
 
 module _ {C : Type 0} (number : C → ℕ) (sleeps : C → SleepTable) (work : C → Tasks ⊤) (wakes : C → ℕ → Result Woke TaskError → C → Type 0) (reaches : C → C → Type 0) where
-  -- what a turn leaves whose branch waits
+  -- The result of a turn whose branch waits.
   pub record TurnWaits (t : Limited) (c : C) (x : Look Answer) (b : Branch Limited) (d : C) : Type 0 where
     pub look_is : x ≡ look.Waits
     pub left_is : b ≡ Live (polled_once t)
@@ -34,7 +34,7 @@ module _ {C : Type 0} (number : C → ℕ) (sleeps : C → SleepTable) (work : C
     pub work_after : work d ≡ woken (work c) (number c)
     pub same_number : number d ≡ number c
 
-  -- what the turns leave where both branches wait
+  -- The result of the turns if both branches wait.
   pub record BothWait (a b : Limited) (c : C) (picked : Poll (Option (Out2 Answer Answer))) (t : Seats Limited Limited C) : Type 0 where
     pub picked_is : picked ≡ Pending
     pub first_is : t.first ≡ Live (polled_once a)
@@ -43,7 +43,7 @@ module _ {C : Type 0} (number : C → ℕ) (sleeps : C → SleepTable) (work : C
     pub work_after : work t.cx ≡ woken (woken (work c) (number c)) (number c)
     pub same_number : number t.cx ≡ number c
 
-  -- what a poll leaves that waits
+  -- The result of a pending poll.
   pub record RaceWaits {G H : Type 0} (a b : Limited) (p : G) (q : H) (c : C) (r : Poll (Out2 Answer Answer)) (s : Select2 Limited Limited G H) (d : C) : Type 0 where
     pub answer : r ≡ Pending
     pub left_is : s ≡ race_of (polled_once a) (polled_once b) p q
@@ -170,7 +170,7 @@ module _ {C : Type 0} (number : C → ℕ) (sleeps : C → SleepTable) (work : C
           ap (λ s. number s.cx) last ∙ k.3,
         )
 
-    -- the second turn, where the first branch waits and the second is out of time
+    -- The second turn, if the first branch waits and the second is out of time.
     second_turn : (x y : Look Answer) (s t : Seats Limited Limited C)
         → HasTurn (limited number sleeps work wakes reaches) g p (Live a) c x s.first s.cx → s.second ≡ Live b → HasTurn (limited number sleeps work wakes reaches) h q s.second s.cx y t.second t.cx
         → Waits (sleeps c) a → IsLate (sleeps c) b → b.delay.number ≢ a.delay.number → Passes h q late

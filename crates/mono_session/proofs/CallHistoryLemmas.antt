@@ -1,4 +1,4 @@
--- The queues are what the calls and their answers say.
+-- The calls and their answers determine the queues.
 use Rattle.std.proofs.Common.{◌≡◌, ◌≢◌, inl, inr, ℕ, true, false, Bool, cond, List, [], ◌∷◌, ◌++◌, Some, None, Option, refl, ap, sym, ◌∙◌}
 use Rattle.std.specs.Prelude.{⊤, Result, Ok, Err, ◌==◌, ◌&&◌, not, filter}
 use Rattle.std.proofs.lemmas.Bool.Decides.{eqb_tells}

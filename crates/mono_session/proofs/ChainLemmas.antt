@@ -9,7 +9,7 @@ use Rattle.mono_session.specs.declared.places.Place.{Place}
 abbrev pub between : Option ℕ → Option ℕ → Place
 between before after = record { before = before; after = after }
 
--- what a map of pairs has where the value of one pair changed
+-- A map of pairs after the value of one pair changed.
 pub changed_here : (change : Option Place → Option Place) (f g : ℕ × ℕ → Option Place) (queue member : ℕ) (w : Place)
     → ((k : ℕ × ℕ) → g k ≡ cond (pair_eq (queue, member) k) (Some w) (f k)) → change (f (queue, member)) ≡ Some w
     → (q m : ℕ) → g (q, m) ≡ cond (nat_eq queue q && nat_eq member m) (change (f (q, m))) (f (q, m))
@@ -69,7 +69,7 @@ pub last-last : (before : Option ℕ) (xs : List ℕ) (m : ℕ) → last_of befo
 last-last before [] m = refl
 last-last before (x ∷ xs) m = last-last (Some x) xs m
 
--- the last of a list stands in it
+-- The last of a list is in it.
 last_within : (x : ℕ) (xs : List ℕ) (l : ℕ) → last_of (Some x) xs ≡ Some l → ((x == l) || is_in xs l) ≡ true
 last_within x [] l e = grind (arith, nat_tests)
 last_within x (y ∷ ys) l e = by (x == l) (last_within y ys l e)
@@ -81,7 +81,7 @@ last_within x (y ∷ ys) l e = by (x == l) (last_within y ys l e)
 clash : (x y l z : ℕ) (xs : List ℕ) → (x == y) ≡ true → (l == y) ≡ true → ((z == l) || is_in xs l) ≡ true → ((z == x) || is_in xs x) ≡ false → ⊥
 clash x y l z xs is f within out = grind (arith, nat_tests)
 
--- The place of each once a last member came: that of the former last has it behind, and the others' stay.
+-- The place of each after a last member came: the former last gets it as its successor, and the others' places stay.
 pub place-last : (before : Option ℕ) (xs : List ℕ) (m y : ℕ) → IsOnce xs → (m == y) ≡ false
     → place_in before (xs ++ m ∷ []) y ≡ linked_after (last_of None xs) y (Some m) (place_in before xs y)
 place-last before [] m y once apart = ap (λ b. cond b (Some (between before None)) None) apart
@@ -142,7 +142,7 @@ once-left m (x ∷ xs) once = by (x == m) (once-left m xs once.1)
     by true rest = rest
     by false rest = (is_in-left m xs x once.0, rest)
 
--- who stands behind a member stands in the list, and so does who stands before it, or it is what stands before the list
+-- A member's successor is in the list. So is its predecessor, unless that is the number before the list.
 after_within : (before : Option ℕ) (xs : List ℕ) (m : ℕ) (p : Place) (c : ℕ) → place_in before xs m ≡ Some p → p.after ≡ Some c → is_in xs c ≡ true
 after_within before [] m p c e at = cc
 after_within before (x ∷ xs) m p c e at = by (x == m) e (after_within (Some x) xs m p c)
@@ -185,7 +185,7 @@ other_before : (o : Option ℕ) (y : ℕ) (before : Option ℕ) (v : Option Plac
 other_before None y before v apart = refl
 other_before (Some c) y before v apart = ap (λ b. cond b (with_before before v) v) (apart c refl)
 
--- what stands before a list does not stand in it
+-- The number before a list is not in it.
 abbrev Outside : Option ℕ → List ℕ → Type 0
 Outside None xs = Unit {0}
 Outside (Some b) xs = is_in xs b ≡ false
@@ -213,7 +213,7 @@ first_before before a (z ∷ zs) y = by (z == y)
     by true = refl
     by false = refl
 
--- What leaves a chain joins its neighbours: the places are those of the list that is left.
+-- A member that leaves a chain joins its neighbours: the places are those of the list without it.
 abbrev pub joined : Place → ℕ → ℕ → Option Place → Option Place
 joined p m y v = linked_before p.after y p.before (linked_after p.before y p.after (cond (m == y) None v))
 
@@ -237,7 +237,7 @@ joined_next p m y a b apart after at =
     ∙ ap (λ t. cond t (with_after p.after v) v) (eq-tells y y refl)
     ∙ ap (λ t. with_after p.after (cond t None (Some (between a b)))) apart
 
--- who stands in a list is not one that does not
+-- A number in a list differs from a number that is not in it.
 differs : (xs : List ℕ) (c y : ℕ) → is_in xs c ≡ true → is_in xs y ≡ false → (c == y) ≡ false
 differs xs c y within out = by (c == y) refl
   where
@@ -260,7 +260,7 @@ after_of p before after e = cc
 before_of : (p : Place) (before after : Option ℕ) → Some (between before after) ≡ Some p → p.before ≡ before
 before_of p before after e = cc
 
--- the place of the first, x, once a member m behind it left
+-- The place of the first, x, after a member m that follows it left.
 first_joined : (before : Option ℕ) (x : ℕ) (xs : List ℕ) (m : ℕ) (p : Place) → is_in xs x ≡ false → IsOnce xs → (m == x) ≡ false → place_in (Some x) xs m ≡ Some p
     → Some (between before (first_of (left_by m xs))) ≡ joined p m x (Some (between before (first_of xs)))
 first_joined before x [] m p out once apart e = cc
@@ -320,7 +320,7 @@ ends-last (x ∷ xs) m = ap (ends_with (Some x)) (last-last (Some x) xs m) ∙ b
     by None some = absurd (some refl)
     by (Some l) some = refl
 
--- who stands behind another has one before it
+-- A member that follows another has a predecessor.
 before_is_some : (b : ℕ) (xs : List ℕ) (m : ℕ) (p : Place) → place_in (Some b) xs m ≡ Some p → p.before ≡ None → ⊥
 before_is_some b [] m p e none = cc
 before_is_some b (x ∷ xs) m p e none = by (x == m) e (before_is_some x xs m p)
@@ -329,7 +329,7 @@ before_is_some b (x ∷ xs) m p e none = by (x == m) e (before_is_some x xs m p)
     by true f rest = some_none b (sym (before_of p (Some b) (first_of xs) f) ∙ none)
     by false f rest = rest f none
 
--- the last once m left: it stays, where m was not the last
+-- The last after m left: it stays if m was not the last.
 abbrev last-from : Option ℕ → Option ℕ → Option ℕ → Option ℕ
 last-from None before last = before
 last-from (Some after) before last = last
@@ -379,7 +379,7 @@ ends-left (x ∷ xs) m p once e = by (x == m) refl e
         ap (ends_with (Some x)) (last-left (Some x) xs m p once.1 f)
         ∙ stays p.before p.after (last_of (Some x) xs) (before_is_some x xs m p f) (last_is_some x xs)
 
--- the place of one that came last
+-- The place of a member that came last.
 pub place-new : (before : Option ℕ) (xs : List ℕ) (m : ℕ) → is_in xs m ≡ false → place_in before (xs ++ m ∷ []) m ≡ Some (between (last_of before xs) None)
 place-new before [] m out = ap (λ b. cond b (Some (between before None)) None) (eq-tells m m refl)
 place-new before (x ∷ xs) m out =

@@ -83,7 +83,7 @@ pub either_way : {A : Type 0} (P : Keeper → Type 0) (r : Result A SessionError
 either_way P (Ok x) before after old new = new
 either_way P (Err e) before after old new = old
 
--- the clock stands, and the session is as it was
+-- The clock and the session are unchanged.
 abbrev Stays : Keeper → ℕ → Option Session → Keeper → Type 0
 Stays old s v new = (value_at new.sessions s ≡ v) × (new.greatest ≡ old.greatest) × (s < length new.sessions)
 

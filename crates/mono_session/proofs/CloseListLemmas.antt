@@ -80,7 +80,7 @@ due_is_listed table g (s ∷ due) turn q is = elim (cases_eq q s) [
   | inr apart ↦ contains_rest s q due (due_is_listed (without table s) g due turn.1 q (subst (λ v. HasCome g (closing_value v)) (sym (others_after table s q apart)) is))
 ]
 
--- one that is listed later is another session
+-- A session that is listed later is another session.
 later_apart : (table : Table Session) (g s : ℕ) (due : List ℕ) → CloseInTurn table g (s ∷ due) → (k d : ℕ) → k < length due → get_or due k d ≢ s
 later_apart table g s due turn k d inside =
     due_apart table g s _ turn.0 (listed_is_due (without table s) g due turn.1 _ (Contains-get_or due k d inside))
@@ -161,7 +161,7 @@ max-again a b = omega arith
 pub clock-again : (k : Keeper) (n s : ℕ) → with_greatest (without_session (with_greatest k (greatest_at k n)) s) (greatest_at (without_session (with_greatest k (greatest_at k n)) s) n) ≡ without_session (with_greatest k (greatest_at k n)) s
 clock-again k n s = ap (λ g. with_greatest (without_session (with_greatest k (greatest_at k n)) s) g) (max-again k.greatest (down n))
 
--- what does not hang on the clock
+-- The parts that do not depend on the clock.
 pub beside_clock : (old new : Sessions) (k : Keeper) (g : ℕ) → new.limits ≡ old.limits → new.entries ≡ old.entries → new.most_entries ≡ old.most_entries → Beside old k → Beside new (with_greatest k g)
 beside_clock old new k g limits entries most beside = record {
   limits = λ q. ap (λ (m : Places ℕ). value_at m.table q) limits ∙ beside.limits q;

@@ -172,7 +172,7 @@ all_stay (e ∷ es) s none = by (e.session == s) none (all_stay es s)
     by true f rest = cc
     by false f rest = ap (λ xs. e ∷ xs) (rest f)
 
--- the first stands there
+-- The first is in the queue.
 first_stands : (xs : List ℕ) (m : ℕ) → Some m ≡ first_of xs → is_in xs m ≡ true
 first_stands [] m e = cc
 first_stands (x ∷ xs) m e = grind (arith, nat_tests)

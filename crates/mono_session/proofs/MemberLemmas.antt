@@ -1,4 +1,4 @@
--- Whoever stands in a queue is open, and stands there once.
+-- Each session in a queue is open, and is there once.
 use Rattle.std.proofs.Common.{◌≡◌, ◌<◌, ◌≤◌, inl, inr, ℕ, ◌+◌, zero, suc, true, false, Bool, cond, List, [], ◌∷◌, ◌++◌, length, Some, None, Option, refl, ap, sym, subst, ◌∙◌, arith}
 use Rattle.std.specs.Prelude.{Ok, Err, ◌==◌, ◌&&◌, ◌||◌, not, nat_le, is_some, filter, set, Contains}
 use Rattle.std.proofs.lemmas.Bool.{cases_eq, cases_lt}
@@ -68,7 +68,7 @@ times-leave_if key x at s xs = by (at == key)
     by true = times-leave xs x s
     by false = omega arith
 
--- who does not stand among the entries does not stand in the queue
+-- A session without an entry is not in the queue.
 times-stands : (es : List Entry) (s key : ℕ) → stands_in es s key ≡ false → times (queue_in es key) s ≡ 0
 times-stands [] s key e = refl
 times-stands (x ∷ es) s key e = by (x.key == key) (x.session == s) refl e (times-stands es s key)
@@ -84,7 +84,7 @@ times-stands (x ∷ es) s key e = by (x.key == key) (x.session == s) refl e (tim
 abbrev Holds : Keeper → Type 0
 Holds keeper = (key s : ℕ) → (times (queue_of keeper key) s ≤ 1) × (0 < times (queue_of keeper key) s → is_open keeper s ≡ true)
 
--- no queue gains anyone, and whoever stays in one stays open
+-- No queue gains a session, and each session that stays in one stays open.
 shrinks : (old new : Keeper) → ((key s : ℕ) → times (queue_of new key) s ≤ times (queue_of old key) s) → ((key s : ℕ) → 0 < times (queue_of new key) s → is_open old s ≡ true → is_open new s ≡ true) → Holds old → Holds new
 shrinks old new fewer stays holds = λ key s. (
   omega (arith, fewer key s, (holds key s).0),

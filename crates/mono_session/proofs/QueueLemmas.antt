@@ -24,7 +24,7 @@ keeps_same queues lists others same keeps = record {
   once = λ q. subst IsOnce (same q) (keeps.once q);
 }
 
--- what is read alike
+-- Queues that read alike.
 pub keeps_alike : (old new : Queues) (lists : ℕ → List ℕ) → ((q : ℕ) → ends_at new q ≡ ends_at old q) → ((q m : ℕ) → place_at new q m ≡ place_at old q m) → Keeps old lists → Keeps new lists
 keeps_alike old new lists ends places keeps = record {
   ends = λ q. ends q ∙ keeps.ends q;
@@ -65,7 +65,7 @@ first_is_none queues lists q e keeps = first-none (lists q) (e ∙ keeps.ends q)
 pub first_is_some : (queues : Queues) (lists : ℕ → List ℕ) (q : ℕ) (ends : Ends) → Some ends ≡ ends_at queues q → Keeps queues lists → Some ends.first ≡ first_of (lists q)
 first_is_some queues lists q ends e keeps = first-some (lists q) ends (e ∙ keeps.ends q)
 
--- what the queues have once a member came behind one
+-- The queues after a member was appended to one.
 pub record CameBehind (old new : Queues) (queue member : ℕ) (before : Option ℕ) : Type 0 where
   pub is_last : before ≡ last_end (ends_at old queue)
   pub ends : (q : ℕ) → ends_at new q ≡ cond (nat_eq queue q) (with_last_end member (ends_at old q)) (ends_at old q)
@@ -113,7 +113,7 @@ pushed old new queue member before lists came keeps out = record {
     places-by q m false is = keeps.places q m
     places-by q m true is = here q m is (member == m) refl
 
--- what the queues have once a member left a place
+-- The queues after a member left a place.
 pub record LeftPlace (old new : Queues) (queue member : ℕ) (place : Place) : Type 0 where
   pub was : Some place ≡ place_at old queue member
   pub ends : (q : ℕ) → ends_at new q ≡ cond (nat_eq queue q) (closed_ends place.before place.after (ends_at old q)) (ends_at old q)
@@ -141,7 +141,7 @@ left_place old new queue member place lists left keeps = record {
     places-by q m true is = ap (joined place member m) (keeps.places q m) ∙ sym (place-left None (lists q) member place m tt (keeps.once q) (place_here q is))
     places-by q m false is = keeps.places q m
 
--- none left, since the member did not stand there
+-- None left, since the member was not there.
 pub none_left : (old : Queues) (queue member : ℕ) (lists : ℕ → List ℕ) → None ≡ place_at old queue member → Keeps old lists → Keeps old (without_member lists queue member)
 none_left old queue member lists none keeps = keeps_same old lists (without_member lists queue member) (λ q. by q (queue == q) refl) keeps
   where

@@ -1,4 +1,4 @@
--- The sleeps of sessions, and what a keeper's tables stand for after a call.
+-- The sleeps of sessions, and the keeper that the tables refine after a call.
 use Rattle.std.proofs.Common.{◌≡◌, ◌≢◌, ◌<◌, ◌≤◌, ◌⊎◌, inl, inr, ℕ, ◌+◌, ◌-◌, ◌^◌, true, false, Bool, cond, [], ◌∷◌, length, Some, None, Option, refl, ap, sym, ◌∙◌, subst, arith}
 use Rattle.std.specs.Prelude.{◌==◌, ◌||◌, not, is_some, nat_eq, nat_lt, nat_le, map, set, Result, Ok, Err, IsOk, IfOk, is_err}
 use Rattle.std.proofs.lemmas.Bool.{cases_eq, cases_lt}

@@ -51,8 +51,7 @@ fn put(numbers: &mut Vec<u64>, number: u64)
 }
 
 impl Sessions {
-    /// Returns a table without sessions, of which at most `sessions` may be open, with at most `entries` entries in all
-    /// queues.
+    /// Returns a table without sessions. At most `sessions` may be open, with at most `entries` entries in all queues.
     pub fn new(alloc: Global, sessions: u64, entries: u64) -> Result<Sessions, AllocError>
         ensures stands { IfOk result (λ made. StandsFor made (no_sessions sessions entries)) }
         ensures left { IfOk result (λ made. steps_left made ≡ 0) }

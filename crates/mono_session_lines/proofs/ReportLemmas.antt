@@ -1,4 +1,4 @@
--- What is served by the tables of the sessions is served by their model.
+-- The answers of the sessions' tables are those of their model.
 use Rattle.std.proofs.Common.{◌≡◌, ◌≤◌, ◌<◌, ℕ, List, ◌++◌, Option, Result, Ok, Err, IfOk, OnOk, codes, flat_map, refl, ap}
 use Rattle.mono_model.specs.Due.{ListsDue}
 use Rattle.mono_model.specs.Ticks.{max_nanos}

@@ -51,7 +51,7 @@ some = (
   ),
 )
 
--- where the answers are given, the first of them is the answer
+-- If the answers are given, the first of them is the answer.
 next : (n : ℕ) (answer : Poll (Option ℕ)) (answers : List (Poll (Option ℕ))) (items : List ℕ) (ended : Bool) (left : List (Poll (Option ℕ)))
     → Gives AnswersNext (suc n) (answer ∷ answers) items ended left → After answer answers (Gives AnswersNext n answers) items ended left
 next n answer answers items ended left (r, mid, polled, after) =

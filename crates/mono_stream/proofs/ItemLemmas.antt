@@ -1,4 +1,4 @@
--- What streams give over polls in a row.
+-- The items that streams give over consecutive polls.
 use Rattle.std.proofs.Common.{◌≡◌, ℕ, zero, suc, Bool, true, false, List, [], ◌∷◌, Option, Some, None, refl, sym, ap, subst, ◌∙◌}
 use Rattle.std.specs.Prelude.{⊤}
 use Rattle.std.specs.Fn.{Mut, Called}
@@ -23,7 +23,7 @@ module _ {S F C X Y : Type 0} (stream : StreamOf S C X) (call : Mut F (X × Unit
   abbrev Mapped : ℕ → S → F → List Y → Bool → S → F → Type 0
   Mapped n s f ys has_ended t g = (items : List X) × Gives stream.polls n s items has_ended t × AreImages call f items ys g
 
-  -- one more poll in front, by what the stream and then the closure answered
+  -- One more poll in front, by the answers of the stream and then of the closure.
   one_more : (n : ℕ) (old mid new : Map S F) (answer : Poll (Option X)) (r : Poll (Option Y)) (ys : List Y) (has_ended : Bool) → IsPolled stream.polls old.stream answer mid.stream → Answers call answer old.f r mid.f
       → ((zs : List Y) → Gives (MapPolls stream call) n mid zs has_ended new → Mapped n mid.stream mid.f zs has_ended new.stream new.f)
       → After r mid (Gives (MapPolls stream call) n mid) ys has_ended new → Mapped (suc n) old.stream old.f ys has_ended new.stream new.f
@@ -157,7 +157,7 @@ module _ {S F Fut C X Y : Type 0} (stream : StreamOf S C X) (future : FutureOf F
       → After r mid (Gives (ThenPolls stream future call) n mid) ys has_ended new → Chained (Some g) mid.stream mid.f ys has_ended new
   finishes n mid new g c d r ys has_ended done later after = goes_on n mid new g done.left c done.middle d done.answer r ys has_ended done.polled done.rest later after
 
-  -- the next item is taken, by what the stream answered
+  -- The next item is taken, by the stream's answer.
   takes : (n : ℕ) (old mid new : Then S F Fut) (answer : Poll (Option X)) (e d : C) (r : Poll (Option Y)) (ys : List Y) (has_ended : Bool) → IsPolled stream.polls old.stream answer mid.stream
       → AfterNext future call answer old.f e r mid.f mid.made d → Later n mid has_ended new → After r mid (Gives (ThenPolls stream future call) n mid) ys has_ended new → Chained None old.stream old.f ys has_ended new
   takes n old mid new (Ready (Some x)) e d r ys has_ended polled (g, called, done) later after =

@@ -1,4 +1,4 @@
--- An answer that is passed on: what the callee's clauses say of it, said in the caller's words.
+-- An answer that is passed on: the callee's clauses about it, in the caller's words.
 use Rattle.std.specs.Prelude.{Option, Some, None, Result, Ok, Err, IfOk, OnOk, MatchOption}
 
 pub on_ok : {A E : Type 0} (r : Result A E) (P Q : Type 0) → OnOk r P → (P → Q) → OnOk r Q

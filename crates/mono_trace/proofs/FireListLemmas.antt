@@ -1,4 +1,4 @@
--- A list of sleeps that fire in turn until none is due is one that a clock step may list, both ways.
+-- A list of sleeps fires in turn until none is due if and only if a clock step may list it.
 use Rattle.std.proofs.Common.{◌≡◌, ◌≢◌, ◌<◌, ◌≤◌, inl, inr, ℕ, true, false, Bool, List, [], ◌∷◌, length, Some, None, Option, refl, ap, sym, subst, ◌∙◌, ne_eqb, arith}
 use Rattle.std.specs.Prelude.{◌&&◌, ◌||◌, ◌==◌, not, MatchBool}
 use Rattle.std.proofs.lemmas.Bool.{cases_eq, cases_lt}
@@ -47,7 +47,7 @@ not_due_after table g s due = elim (cases_lt s (length table)) [
   | inr past ↦ subst (λ v. IsDueSleep v g) (ap (λ xs. value_at xs s) (set_past table s (Some elapsed) past) ∙ get_or_past table s None past) due
 ]
 
--- what the rest of the list is tested for, once a value is read
+-- The test of the rest of the list, once a value is read.
 abbrev rest_in_order : Table Sleep → ℕ → ℕ → ℕ → List ℕ → Option Sleep → Bool
 rest_in_order table g tick arms xs v = may_follow_value g tick arms v && are_in_order table g (tick_after_value tick v) (arms_after_value tick arms v) xs
 
@@ -67,7 +67,7 @@ order_after table g s (x ∷ xs) tick arms inside = elim (cases_eq x s) [
       ∙ sym (ap (λ b. not (b || is_listed xs s) && are_in_order table g tick arms (x ∷ xs)) (ne_eqb x s apart)))
 ]
 
--- one that may follow is there
+-- A sleep that may follow exists.
 follower_inside : (table : Table Sleep) (g tick arms s : ℕ) → may_follow_value g tick arms (value_at table s) ≡ true → s < length table
 follower_inside table g tick arms s may = elim (cases_lt s (length table)) [
   | inl inside ↦ inside

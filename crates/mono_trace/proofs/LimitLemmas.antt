@@ -1,4 +1,4 @@
--- Whether a table is full, told by the places that stand for it.
+-- Whether a table is full, by its places.
 use Rattle.std.proofs.Common.{◌≡◌, ◌<◌, ◌≤◌, ℕ, ◌+◌, List, [], ◌∷◌, length, Some, None, Option, refl, ap, sym, ◌∙◌}
 use Rattle.std.specs.Prelude.{◌-◌, ◌^◌, ◌==◌, ◌||◌, map, nat_le}
 use Rattle.std.specs.Option.{option_map}

@@ -1,4 +1,4 @@
--- What a call on a table leaves, said of plain lists.
+-- The effect of a call on a table, on plain lists.
 use Rattle.std.proofs.Common.{◌≡◌, ◌<◌, inl, inr, ℕ, ◌+◌, ◌-◌, List, [], ◌∷◌, ◌++◌, length, take, set, Some, None, Option, ap, sym, ◌∙◌}
 use Rattle.std.proofs.lemmas.Bool.{cases_lt}
 use Rattle.std.proofs.lemmas.List.{get_or_past}
@@ -42,7 +42,7 @@ module _ {V : Type 0} (items : List (Option V)) (changes log : List (Change V)) 
     pub taken_counts : (live earlier : ℕ) → live ≡ count_of items → earlier ≡ count_of (undone changes items) → (live ≡ count_of popped) × (earlier ≡ count_of (undone log popped))
     taken_counts live earlier counts was = (counts ∙ sym (ap count_of back), was ∙ sym (ap (λ (m : Versions (List (Option V))). count_of m.before) taken_back))
 
-  -- a number that had this value has another, or is gone
+  -- A number that had this value has another, or none.
   module _ (n : ℕ) (old : V) (at : value_at items n ≡ Some old) (logged : log ≡ changes ++ Had n old ∷ []) where
     set_before : (w : Option V) → undone log (set items n w) ≡ undone changes items
     set_before w = ap (λ l. undone l (set items n w)) logged ∙ undone_set changes items n old w at

@@ -53,7 +53,7 @@ some_tells (suc m) n e = (ap (λ o. unwrap_or o 0) e, omega arith)
 pub alike : (f g : ℕ → ℕ) (counts : BTreeMap ℕ ℕ) → AreAlike f g → AreCounts f counts → AreCounts g counts
 alike f g counts same are = λ t. are t ∙ ap some_if_any (same t)
 
--- a map with this at a tick, and at the others what it had
+-- A map with this count at a tick, and the former counts at the others.
 pub written : (f g : ℕ → ℕ) (old new : BTreeMap ℕ ℕ) (tick : ℕ) → AreCounts f old → get nat_cmp new tick ≡ some_if_any (g tick)
     → ((q : ℕ) → is_at (nat_cmp tick) q ≡ false → get nat_cmp new q ≡ get nat_cmp old q) → ((t : ℕ) → tick ≢ t → f t ≡ g t) → AreCounts g new
 written f g old new tick are here others same = λ t. elim (cases_eq tick t) [

@@ -67,7 +67,7 @@ verdict_next : (e : Event) (es : List Event) (a : Report) (rs : List Report) (m 
 verdict_next e es a rs m mid Yes step (new, run) = (new, (mid, step, run))
 verdict_next e es a rs m mid (No place) step fails = (mid, step, fails)
 
--- what the verdict on what is left says of the whole, one pair on
+-- The verdict on the whole, by the verdict on the rest, one pair on.
 pub passed_on : (start m mid : Machine) (events : List Event) (answers : List Report) (i : ℕ) (left rest : List Event) (told others : List Report) (e : Event) (a : Report)
     → left ≡ e ∷ rest → told ≡ a ∷ others → Step m e a mid
     → ((v : Verdict) → IsVerdict m left told v → IsVerdict start events answers (later i v))

@@ -1,4 +1,4 @@
--- The machine of which a trace is a view.
+-- The refinement: the machine that a trace views.
 use Rattle.mono_machine.specs.Machine.{Machine}
 use Rattle.mono_trace.specs.declared.traces.Trace.{Trace}
 

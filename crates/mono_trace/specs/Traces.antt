@@ -1,4 +1,4 @@
--- The answer of one step of a trace, and the machine of which the trace is a view then.
+-- The answer of one step of a trace, and the machine that the trace views then.
 use Rattle.std.specs.Prelude.{◌≡◌, ◌↔◌, ℕ, ◌+◌, Bool, true, false, not, ◌==◌, ◌&&◌, ◌||◌, if◌then◌else◌, List, [], ◌∷◌, Option, Some, None, Result, Ok, Err, nat_lt, nat_le}
 use Rattle.mono_model.specs.Table.{Table, value_at}
 use Rattle.mono_model.specs.Sleeps.{Sleep, Arming, fresh, armed, elapsed, MayFire}

@@ -1,4 +1,4 @@
--- The check so far, and what is left.
+-- The check so far, and the rest of the input.
 use Rattle.std.proofs.Common.{◌≡◌, ℕ, ◌+◌, ◌<◌, ◌≤◌, List, [], ◌∷◌, ◌++◌, length, Option, Some, None, refl, sym, ap, subst, ◌∙◌, arith, append_assoc, length-append}
 use Rattle.std.proofs.lemmas.List.{append-nil}
 use Rattle.mono_machine.specs.Machine.{Machine, start_machine}
@@ -110,7 +110,7 @@ each_more [] (y ∷ ls) x l p q = absurd p
 each_more (y ∷ said) [] x l p q = absurd p
 each_more (y ∷ said) (z ∷ ls) x l p q = (p.0, each_more said ls x l p.1 q)
 
--- so many lines were read, and what is left is rest
+-- The number of lines that were read, and the rest of the input.
 pub record Progress (limits : Limits) (strategy : Blocking) (input : List ℕ) (count : ℕ) (failed : Option ℕ) (m : Machine) (rest : List ℕ) : Type 0 where
   pub said : List JournalLine
   pub good : List Line

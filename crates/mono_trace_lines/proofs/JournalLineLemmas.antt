@@ -1,4 +1,4 @@
--- What is read is spelled so, and what is spelled so is read: lines of a journal. And the lines of an input.
+-- The lines of a journal are read as they are spelled, and spelled as they are read. And the lines of an input.
 use Rattle.std.proofs.Common.{◌≡◌, ℕ, ◌^◌, ◌++◌, List, [], ◌∷◌, Some, None, Option, refl, sym, ap, subst, ◌∙◌, arith, inl, inr, append_assoc, codes, lit<, IfOk, IfSome, IfNone, Result, Ok, Err, flat_map}
 use Rattle.std.specs.Fmt.{decimal}
 use Rattle.mono_model.specs.declared.Woke.TheVariants as woke
@@ -207,7 +207,7 @@ no_feed_journal (Now n) f = no_feed_number (codes "now ") n (refl, (refl, (refl,
 no_feed_journal (Park millis) f = no_feed_any (codes "park") millis (refl, (refl, (refl, (refl, tt)))) f
 no_feed_journal (Main o) f = no_feed_number (codes "main ") o (refl, (refl, (refl, (refl, (refl, tt))))) (omega arith)
 
--- the first line says nothing where the bytes begin with no line of a journal
+-- The first line has no content if the bytes begin with no line of a journal.
 pub no_journal : (bytes : List ℕ) (l : Line) (ls : List Line) → lines bytes ≡ l ∷ ls → BeginsWithNone bytes → (x : JournalLine) → IsJournalLine x l → ⊥
 no_journal bytes l ls is none x line =
     let k = line_in bytes l ls is line.is_ended in

@@ -1,4 +1,4 @@
--- What is spelled so is read: reports.
+-- Reports are read as they are spelled.
 use Rattle.std.proofs.Common.{◌≡◌, ℕ, zero, suc, ◌^◌, ◌<◌, ◌≤◌, ◌++◌, List, [], ◌∷◌, length, Some, None, Option, false, refl, sym, ap, ◌∙◌, arith, append_assoc, length-append, codes, flat_map}
 use Rattle.std.proofs.lemmas.List.{append-nil}
 use Rattle.std.specs.Fmt.{decimal}
@@ -19,7 +19,7 @@ use Rattle.mono_trace_lines.specs.PrintableReports.{FitsAny, FitsReply, FitRepli
 use Rattle.mono_trace_lines.specs.Parser.{any_number_at, refusal_at, n_reply_at, e_reply_at, r_reply_at, other_reply_at, reply_at, ended_at, replies_at, numbers_at, report_at}
 use Rattle.mono_trace_lines.proofs.SpellingLemmas.{turn_parts, regroup, regroup_all}
 
--- With these bytes behind it no word and no number goes on.
+-- No word and no number continues into these bytes.
 pub record Stops (rest : List ℕ) : Type 0 where
   pub digit : starts_digit rest ≡ false
   pub space : word_at (codes " ") rest ≡ None
@@ -77,7 +77,7 @@ ended_again ended.Again rest = refl
 ended_again ended.Done rest = refl
 ended_again ended.Gone rest = refl
 
--- where a reply stands, no end of a turn does
+-- A reply is no end of a turn.
 reply_is_no_end : (x : Reply) (rest : List ℕ) → ended_at (reply_text x ++ rest) ≡ None
 unfolding ended_at
 reply_is_no_end (reply.Task t) rest = refl
@@ -143,7 +143,7 @@ numbers_short [] rest = omega arith
 numbers_short (n ∷ numbers) rest =
     omega (arith, length-append (number_part n ++ flat_map number_part numbers) rest, length-append (number_part n) (flat_map number_part numbers), length-append (flat_map number_part numbers) rest, numbers_short numbers rest)
 
--- where a reply stands, no other report does
+-- A reply is no other report.
 reply_is_no_report : (x : Reply) (rest : List ℕ) → report_at (reply_text x ++ rest) ≡ mapped report.Reply (reply_at (reply_text x ++ rest))
 unfolding report_at
 reply_is_no_report (reply.Task t) rest = refl

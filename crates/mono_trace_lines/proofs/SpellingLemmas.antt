@@ -1,4 +1,4 @@
--- What is read is spelled so, and what is spelled so is read: reports.
+-- Reports are read as they are spelled, and spelled as they are read.
 use Rattle.std.proofs.Common.{◌≡◌, ℕ, zero, suc, ◌^◌, ◌++◌, List, [], ◌∷◌, length, Some, None, Option, ◌⊎◌, refl, sym, ap, subst, ◌∙◌, arith, inl, inr, append_assoc, codes, slice_index, ◌==◌, lit<, flat_map}
 use Rattle.std.proofs.lemmas.List.{append-nil}
 use Rattle.std.specs.Fmt.{decimal}
@@ -21,7 +21,7 @@ use Rattle.mono_trace_lines.specs.Parser.{any_number_at, refusal_at, n_reply_at,
 
 -- ---- tools
 
--- a word that stands for a value
+-- A word that is the text of a value.
 pub word_found : {A : Type 0} (word bytes r : List ℕ) (x y : A) (rest : List ℕ) → word_at word bytes ≡ Some r → ◌≡◌ {A = Read A} (Some (x, r)) (Some (y, rest)) → (x ≡ y) × (bytes ≡ word ++ rest)
 word_found word bytes r x y rest w e =
     let k : (x ≡ y) × (r ≡ rest) = grind (arith, e) in
@@ -37,7 +37,7 @@ any_number_found bytes o rest e = elim (when_cases (word_at (codes " ") bytes) _
       subst (λ x. (bytes ≡ number_text x ++ rest) × FitsAny x) k.0 (k.1, tt)
 ]
 
--- a word with a number behind it, or without one
+-- A word with a number after it, or without one.
 pub with_any_found : {A : Type 0} (word : List ℕ) (make : Option ℕ → A) (bytes r : List ℕ) (y : A) (rest : List ℕ) → word_at word bytes ≡ Some r → mapped make (any_number_at r) ≡ Some (y, rest)
     → (o : Option ℕ) × (make o ≡ y) × (bytes ≡ word ++ number_text o ++ rest) × FitsAny o
 with_any_found word make bytes r y rest w e =
@@ -194,7 +194,7 @@ or_cases f (Some o) other y rest h =
     let k : (f o.0 ≡ y) × (o.1 ≡ rest) = grind (arith, h) in
     inl (o.0, ap (λ r. Some (o.0, r)) k.1, k.0)
 
--- the parts of a turn's report, with what is behind them
+-- The parts of a turn's report, with the bytes after them.
 abbrev pub turn_parts : List Reply → Ended → List ℕ → List ℕ
 turn_parts replies e rest = flat_map reply_part replies ++ codes "; " ++ ended_text e ++ rest
 
@@ -278,7 +278,7 @@ turn_found bytes w r rest h e =
       (d.1, k.fit),
     )
 
--- a word with a list of numbers behind it
+-- A word with a list of numbers after it.
 listed_found : (word : List ℕ) (make : List ℕ → Report) (bytes w : List ℕ) (r : Report) (rest : List ℕ) → word_at word bytes ≡ Some w → mapped make (numbers_at (length w) [] w) ≡ Some (r, rest)
     → (ns : List ℕ) × (make ns ≡ r) × (bytes ≡ word ++ flat_map number_part ns ++ rest) × FitNumbers ns
 listed_found word make bytes w r rest h e =

@@ -5,7 +5,7 @@ use Rattle.mono_combine.specs.ListSelects.{MayLook}
 use Rattle.mono_combine.proofs.RoundLemmas.{SoFar}
 use Rattle.mono_combine.proofs.row.look_round.Given as goal
 
--- the turns so far are those of a poll of which none has passed yet
+-- The turns so far are those of a poll, none of which has passed yet.
 abbrev pub invariant-loop-turn : goal.invariant-loop-turn
 invariant-loop-turn g l = record {
   same_length : length l.branches.items ≡ length l.initial.branches.items;

@@ -5,7 +5,7 @@ use Rattle.mono_combine.specs.BranchLists.{AllMayPoll, EachInTurn}
 use Rattle.mono_combine.specs.TryLists.{TriesOnce, has_failed}
 use Rattle.mono_combine.proofs.try_list.poll_until_failed.Given as goal
 
--- the turns that are still to come go on from those that were taken, of which none has failed
+-- The turns to come continue those that were taken, none of which has failed.
 abbrev pub invariant-loop-i : goal.invariant-loop-i
 invariant-loop-i g l = record {
   same_length : length l.branches.items ≡ length l.initial.branches.items;

@@ -5,7 +5,7 @@ use Rattle.mono_forms.specs.Parts.{MayPoll}
 use Rattle.mono_forms.specs.RaceLists.{RacesOnce, OneGives}
 use Rattle.mono_forms.proofs.race_lists.poll_in_turn.Given as goal
 
--- the turns that are still to come go on from those that were taken, of which none has given an answer
+-- The turns to come continue those that were taken, none of which has given an answer.
 abbrev pub invariant-loop-i : goal.invariant-loop-i
 invariant-loop-i g l = record {
   same_length : length l.futures.items ≡ length l.initial.futures.items;

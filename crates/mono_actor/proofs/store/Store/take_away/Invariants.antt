@@ -4,7 +4,7 @@ use Rattle.mono_actor.specs.Store.{places_of}
 use Rattle.mono_actor.proofs.StoreLemmas.{letters_left}
 use Rattle.mono_actor.proofs.store.Store.take_away.Given as goal
 
--- without the actor, what is kept is as it was
+-- Without the actor, the store is as it was.
 abbrev pub invariant-loop : goal.invariant-loop
 invariant-loop g l = record {
   there : is_some (value_at (places_of l.self) l.actor) ≡ true;

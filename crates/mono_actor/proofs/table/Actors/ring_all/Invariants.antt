@@ -4,7 +4,7 @@ use Rattle.mono_actor.specs.ClockSteps.{RingsAll, waiting_count}
 use Rattle.mono_actor.specs.Callers.{actors_of, credit_left}
 use Rattle.mono_actor.proofs.table.Actors.ring_all.Given as goal
 
--- What is left being a clock step makes the whole one.
+-- If the remaining part is a clock step, so is the whole.
 abbrev pub invariant-loop-actor : goal.invariant-loop-actor
 invariant-loop-actor g l = record {
   over : (actors_of l.self).turn ≡ None;

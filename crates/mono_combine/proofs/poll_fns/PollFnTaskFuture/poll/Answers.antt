@@ -6,7 +6,7 @@ use Rattle.mono_model.specs.declared.poll.Poll.TheVariants.{Ready, Pending}
 use Rattle.mono_combine.specs.PollFns.{Poller, CallGives}
 use Rattle.mono_combine.proofs.poll_fns.PollFnTaskFuture.poll.Goals as goal
 
--- what a call answered, some call may answer
+-- Some call may give the answer that a call gave.
 gives_call : {F C T : Type 0} (g : Poller F C T) (f f' : F) (c d : C) (r : Poll T) → CalledAtMut g f c r f' d → IfReady r (CallGives g)
 gives_call g f f' c d (Ready x) called = (f, c, f', d, called)
 gives_call g f f' c d Pending called = tt

@@ -5,7 +5,7 @@ use denote.Ref.{Bor}
 use Rattle.mono_forms.specs.Inspectors.{Sees}
 use Rattle.mono_forms.proofs.inspectors.InspectTaskFuture.poll.Goals as goal
 
--- the closure that was called is the one that was kept
+-- The closure that was called is the kept one.
 sees : {X F : Type 0} (call : Once F (Bor X × Unit {0}) ⊤) (f f' : F) (x : X) (shown : Bor X) → shown.now ≡ x → f ≡ f' → call.post f (shown, tt) tt → Sees call f' x x
 sees call f f' x shown shows same says = (refl, (shown, subst (λ k. call.post k (shown, tt) tt) same says, shows))
 

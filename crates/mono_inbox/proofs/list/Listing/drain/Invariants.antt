@@ -1,7 +1,7 @@
 use Rattle.std.proofs.Common.{◌≡◌, ◌≤◌, ◌+◌, ◌++◌, length, vec_len, vec_capacity}
 use Rattle.mono_inbox.proofs.list.Listing.drain.Given as goal
 
--- What was appended and what still waits is what waited at first.
+-- The appended tasks and those that still wait are those that waited at first.
 abbrev pub invariant-loop-task : goal.invariant-loop-task
 invariant-loop-task l = record {
   appended : l.into.items ++ l.self.waiting ≡ l.fn.into.items ++ l.fn.self.waiting;

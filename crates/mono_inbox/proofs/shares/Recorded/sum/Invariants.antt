@@ -1,7 +1,7 @@
 use Rattle.std.proofs.Common.{◌≡◌, ◌+◌, sum_by, vec_len}
 use Rattle.mono_inbox.proofs.shares.Recorded.sum.Given as goal
 
--- What was added up and what is left is the sum, and the merged share has for its amount what was added up.
+-- The sum so far and the calls that remain are the whole sum, and the merged share's amount is the sum so far.
 abbrev pub invariant-loop-next : goal.invariant-loop-next
 invariant-loop-next g l = record {
   state : l.self.state ≡ l.fn.self.state;

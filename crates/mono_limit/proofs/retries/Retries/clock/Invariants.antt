@@ -9,7 +9,7 @@ use Rattle.mono_limit.proofs.WaitEndLemmas.{waiting_count}
 use Rattle.mono_limit.proofs.ClockStepLemmas.{IsListed}
 use Rattle.mono_limit.proofs.retries.Retries.clock.Given as goal
 
--- what is due from here on is due behind those that are listed
+-- The retries that are due from here on follow those that are listed.
 abbrev pub invariant-loop-retry : goal.invariant-loop-retry
 invariant-loop-retry g l = record {
   holds : Holds l.self.rows.table (sleeps_of l.self.timers) l.self.live;

@@ -9,7 +9,7 @@ use Rattle.mono_session.specs.Refinement.{Matches, StandsFor, open_count, steps_
 use Rattle.mono_session.proofs.CloseListLemmas.{CloseInTurn}
 use Rattle.mono_session.proofs.keeper.Sessions.clock.Given as goal
 
--- There is room for the open sessions. What is closed in turn from here on, is closed in turn behind those that were closed.
+-- There is room for the open sessions. The sessions closed in turn from here on follow those that were closed.
 abbrev pub invariant-loop-session : goal.invariant-loop-session
 invariant-loop-session g l = record {
   steps : l.steps + steps_left l.self ≤ l.fn.steps + steps_left l.fn.self;

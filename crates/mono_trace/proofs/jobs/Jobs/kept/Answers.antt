@@ -9,7 +9,7 @@ use Rattle.mono_trace.specs.Tables.{job_place, jobs_of}
 use Rattle.mono_trace.specs.declared.jobs.Job.{Job}
 use Rattle.mono_trace.proofs.jobs.Jobs.kept.Goals as goal
 
--- the job where its handle is kept, told by the places
+-- The job if its handle is kept, by the places.
 kept_by : (places : List (Option Job)) (limit j : ℕ) (b : Bool) (v : Option Job) → is_issued places j ≡ b → value_at places j ≡ v → kept_job (jobs_of places limit) j ≡ (if b then kept_value (job_place v) else Err NoTask)
 kept_by places limit j b v issued at = ap (λ n. if nat_lt j n then kept_value (value_at (map job_place places) j) else Err NoTask) (length-map places job_place)
     ∙ ap (λ x. if is_issued places j then kept_value x else Err NoTask) (get_or-map job_place places j None ∙ ap job_place at) ∙ ap (λ x. if x then kept_value (job_place v) else Err NoTask) issued

@@ -3,7 +3,7 @@ use Rattle.std.specs.Prelude.{◌↔◌}
 use Rattle.mono_machine.specs.Turns.{replies_of, after_steps}
 use Rattle.mono_trace.proofs.parts.Parts.steps.Given as goal
 
--- what is told is the replies exactly where what is left of it is those to the steps that are left
+-- The expected list is that of the replies if and only if its rest is that of the replies to the remaining steps.
 abbrev pub invariant-loop-i : goal.invariant-loop-i
 invariant-loop-i l = (l.self.before ≡ l.fn.self.before)
     × (l.self.now.sleeps.arm_count ≤ l.fn.self.now.sleeps.arm_count + l.i)

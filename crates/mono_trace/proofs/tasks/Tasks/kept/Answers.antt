@@ -9,7 +9,7 @@ use Rattle.mono_trace.specs.Tables.{task_of, task_place, tasks_of}
 use Rattle.mono_trace.specs.declared.tasks.Task.{Task}
 use Rattle.mono_trace.proofs.tasks.Tasks.kept.Goals as goal
 
--- the task where its handle is kept, told by the places
+-- The task if its handle is kept, by the places.
 kept_by : (places : List (Option Task)) (queue : List ℕ) (limit t : ℕ) (b : Bool) (v : Option Task) → is_issued places t ≡ b → value_at places t ≡ v → kept_task (tasks_of places queue limit) t ≡ (if b then kept_value (task_place v) else Err NoTask)
 kept_by places queue limit t b v issued at = ap (λ n. if nat_lt t n then kept_value (value_at (map task_place places) t) else Err NoTask) (length-map places task_place)
     ∙ ap (λ x. if is_issued places t then kept_value x else Err NoTask) (get_or-map task_place places t None ∙ ap task_place at) ∙ ap (λ x. if x then kept_value (task_place v) else Err NoTask) issued
