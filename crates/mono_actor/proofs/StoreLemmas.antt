@@ -71,7 +71,7 @@ module _ {M : Type 0} where
   pub changed-inside : (change : Actor M → Actor M) (a : ℕ) (old new : List (Option (Place M))) → Changes change a old new → a < length old
   changed-inside change a old new c = given old a c.becomes.before c.becomes.was
 
-  -- An actor that is removed afterwards may change before.
+  -- A change of an actor that is removed afterwards leaves no trace.
   pub changed-gone : (change : Actor M → Actor M) (a : ℕ) (old new : List (Option (Place M))) → Changes change a old new → set new a None ≡ set old a None
   changed-gone change a old new c = ap (λ xs. set xs a None) c.is ∙ set-set old a c.place None
 
@@ -325,7 +325,7 @@ module _ {M : Type 0} (slots : List (Option (Link M))) (count : ℕ) (entries : 
       pub none-first : IfSome (value_at (places_in slots entries) a) (λ p. None ≡ first_of p.mailbox)
       none-first = tells (λ p. None ≡ first_of p.mailbox) (sym (ap first_of no-letters))
 
-  -- An actor whose mailbox is empty is removed.
+  -- A mailbox without a first message is empty.
   no-first : (ls : List (Letter M)) → None ≡ first_of ls → length ls ≡ 0
   no-first [] e = refl
   no-first (l ∷ ls) e = absurd (none-some l e)

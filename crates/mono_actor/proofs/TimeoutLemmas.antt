@@ -114,7 +114,7 @@ module _ {M : Type 0} where
   pub put_there : (table : Table (Actor M)) (x q : ℕ) (new : Actor M) → q ≢ x → value_at (with_value table x new) q ≡ value_at table q
   put_there table x q new apart = get_or-set_other table x q (Some new) None apart
 
-  -- The test of each actor after one actor changed with the same test.
+  -- The test gives the same for each actor, if one actor changed and the test gives the same for it.
   put_same : (test : Mode → Bool) (table : Table (Actor M)) (x q : ℕ) (actor new : Actor M) → value_at table x ≡ Some actor → test new.mode ≡ test actor.mode
       → of_actor test (value_at (with_value table x new) q) ≡ of_actor test (value_at table q)
   put_same test table x q actor new at same = elim (cases_eq q x) [

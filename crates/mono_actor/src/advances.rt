@@ -27,8 +27,8 @@ impl<M> Actors<M> {
     /// Shows the clock an instant, as [`Actors::clock`] does, and appends the actors whose wait has come to `due`
     /// (`queued`). No turn may be running.
     ///
-    /// It reserves room for all live actors first. If that allocation fails, nothing has changed (`refused`). The steps
-    /// of the wheel are not counted; they are at most the fall of its credit (`credit`).
+    /// Reserves room for all live actors first. If that allocation fails, nothing has changed (`refused`). The steps of
+    /// the wheel are not counted; they are at most the fall of its credit (`credit`).
     pub fn advance(
         &mut self,
         _alloc: Global,

@@ -78,7 +78,7 @@ impl<M> Actors<M> {
 
     /// Adds an actor with the next number. It is idle, its mailbox is empty, and it has no timeout.
     ///
-    /// It is refused as `AtCapacity` if and only if the live actors are at the limit or the next number is 2^64 - 1,
+    /// Refuses the call as `AtCapacity` if and only if the live actors are at the limit or the next number is 2^64 - 1,
     /// and otherwise if it is out of memory (`answer`). A refusal changes nothing (`after`).
     pub fn spawn(&mut self, alloc: Global) -> Result<u64, ActorError>
         ensures answer { OrLacksMemory (spawn_answer (actors_of self.old)) result }
@@ -122,8 +122,8 @@ impl<M> Actors<M> {
     /// Sends a message: it is appended to the mailbox of its receiver, with its sender. The answer is `Queued` if and
     /// only if the receiver was idle; it is then queued last, and waits for no tick.
     ///
-    /// It is refused as `AtCapacity` if and only if the messages in all mailboxes are at the limit. Then it is refused
-    /// as `NoActor` if and only if the sender or the receiver is not live, and otherwise if it is out of memory
+    /// Refuses the call as `AtCapacity` if and only if the messages in all mailboxes are at the limit. Then it is
+    /// refused as `NoActor` if and only if the sender or the receiver is not live, and otherwise if it is out of memory
     /// (`answer`). A refusal changes nothing (`after`) and returns the message (`back`).
     pub fn send(&mut self, from: u64, to: u64, message: M) -> Result<Sent, SendRefused<M>>
         ensures answer { OrLacksMemory (send_answer (actors_of self.old) from to) (without_message result) }
@@ -178,7 +178,7 @@ impl<M> Actors<M> {
     /// Sets the receive timeout of an actor to `ms` milliseconds, or to none if that is 0. An idle actor waits anew
     /// from now.
     ///
-    /// It is refused as `NoActor` if and only if no live actor has the number; then nothing changes.
+    /// Refuses the call as `NoActor` if and only if no live actor has the number; then nothing changes.
     pub fn timeout(&mut self, actor: u64, ms: u64) -> Result<(), ActorError>
         ensures answer { result ≡ timeout_answer (actors_of self.old) actor }
         ensures after { actors_of self.new ≡ timed (actors_of self.old) actor ms }
@@ -199,7 +199,7 @@ impl<M> Actors<M> {
     /// Begins the turn of the queue's front. It gets the first message of its mailbox, or a timeout if and only if its
     /// mailbox is empty. No turn may be running.
     ///
-    /// It is refused as `Idle` if and only if the queue is empty; then nothing changes.
+    /// Refuses the call as `Idle` if and only if the queue is empty; then nothing changes.
     pub fn begin(&mut self) -> Result<(u64, Got<M>), ActorError>
         requires { (actors_of self.old).turn ≡ None }
         ensures answer { result ≡ begin_answer (actors_of self.old) }

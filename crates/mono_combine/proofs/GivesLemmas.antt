@@ -58,7 +58,7 @@ module _ {M O : Type 0} (G : M → O → Type 0) where
   narrows_at (z ∷ xs) (y ∷ ys) (suc i) m d x less is h k = narrows_at xs ys i m d x (omega arith) is h.1 k
 
 module _ {C T O : Type 0} (future : FutureOf T C O) where
-  -- If none waits, its branch has given each output.
+  -- If none waits, each branch has given its output.
   pub all_given : (xs : List (MaybeDone C T O)) → AllMayPoll future xs → list_any is_waiting xs ≡ false → AllZip (MaybeGives future.gives) xs (filter_map output_of xs)
   all_given [] may h = tt
   all_given (Future f ∷ xs) may h = absurd (cc)
@@ -66,7 +66,7 @@ module _ {C T O : Type 0} (future : FutureOf T C O) where
   all_given (Gone ∷ xs) may h = let spent = may.0.0 in absurd (cc)
 
 module _ {C T X E : Type 0} (future : FutureOf T C (Result X E)) where
-  -- If none waits and none has failed, its branch has given each value.
+  -- If none waits and none has failed, each branch has given its value.
   pub values_given : (xs : List (MaybeDone C T (Result X E))) → AllMayPoll future xs → list_any has_failed xs ≡ false → list_any is_waiting xs ≡ false → AllZip (GivesValue future.gives) xs (filter_map value_in xs)
   values_given [] may well h = tt
   values_given (Future f ∷ xs) may well h = absurd (cc)

@@ -147,7 +147,7 @@ module _ (size : ℕ) (some : 0 < size) (children : List (List Standing)) (len :
     ];
   }
 
--- Which tasks wait after a row was made known.
+-- The same tasks wait after a row is made known.
 row_waits : (xs : List Standing) (n t : ℕ) → waits (standing_at (with_row xs n) t) ≡ waits (standing_at xs t)
 row_waits xs n t = elim (cases_lt t (length xs)) [
   | inl before ↦ ap waits (row_left xs n t before)

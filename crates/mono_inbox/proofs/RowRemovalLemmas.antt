@@ -172,7 +172,7 @@ module _ (size : ℕ) (some : 0 < size) (children : List (List Standing)) (len :
     ];
   }
 
--- Which tasks wait after a row of tasks that do not wait was made unknown.
+-- The same tasks wait after a row of tasks that do not wait is made unknown.
 without_waits : (xs : List Standing) (from n t : ℕ) → AreKnown xs from n → waits (standing_at (without_row xs from n) t) ≡ waits (standing_at xs t)
 without_waits xs from n t known = within from n t (waits (standing_at (without_row xs from n) t) ≡ waits (standing_at xs t))
     (λ begun below. ap waits (without_here xs from n t begun below) ∙ sym (ap waits (known t begun below)))

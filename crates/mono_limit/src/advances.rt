@@ -25,8 +25,8 @@ fn end_each<L: Ledger>(limiter: &mut Limiter, now: Instant, due: &mut Vec<u64>, 
 impl Limiter {
     /// Shows the clock a moment, as [`Limiter::clock`] does, and appends the retries whose wait ends to `due` (`due`).
     ///
-    /// It reserves room for all live retries first. If that allocation fails, nothing has changed (`refused`). The
-    /// steps of the wheel are not counted; they are at most the fall of its credit (`credit`).
+    /// Reserves room for all live retries first. If that allocation fails, nothing has changed (`refused`). The steps
+    /// of the wheel are not counted; they are at most the fall of its credit (`credit`).
     pub fn advance(
         &mut self,
         _alloc: Global,

@@ -52,7 +52,7 @@ impl<G, F> Retry<G, F> {
     /// at most the cap, in milliseconds, and `most` is from 1 to 2^32 - 1. The closure may be called for each attempt
     /// from 1 to `most`, and makes no attempt that is spent (`live`). It is called for no other number.
     ///
-    /// It is refused if the context refuses a further sleep whose deadline is now (`made`, `memory`), and then the
+    /// Refuses the call if the context refuses a further sleep whose deadline is now (`made`, `memory`), and then the
     /// closure comes back (`handed_back`).
     pub fn new<C, X, E>(
         alloc: Global,

@@ -59,7 +59,7 @@ impl Limiter {
     /// Adds a full bucket of at most `burst` tokens, which gains one at the end of each period of `period_ms` ticks
     /// from the greatest tick on. Returns its number, which is the next.
     ///
-    /// It is refused as `AtCapacity` if and only if the buckets are at the limit. Otherwise it is refused as
+    /// Refuses the call as `AtCapacity` if and only if the buckets are at the limit. Otherwise it is refused as
     /// `BadBucket` if and only if burst or period is 0, or 2^32 or more.
     pub fn bucket(&mut self, alloc: Global, burst: u64, period_ms: u64) -> Result<u64, LimitError>
         ensures { OrLacksMemory Memory (bucket_answer (limits_of self.old) burst period_ms) (limits_of self.old) (with_bucket (limits_of self.old) burst period_ms) (λ limits. limits_of self.new ≡ limits) result }
@@ -89,7 +89,7 @@ impl Limiter {
     /// Takes n tokens from a bucket, if it has them. Otherwise it returns the least tick at which the bucket has them,
     /// if no call takes any; that tick is below 2^128.
     ///
-    /// It is refused as `TooMany` if and only if the bucket exists and n is above its burst. It is refused as
+    /// Refuses the call as `TooMany` if and only if the bucket exists and n is above its burst. It is refused as
     /// `NoBucket` if and only if no bucket has the number.
     pub fn take(&mut self, bucket: u64, n: u64) -> Result<Take, LimitError>
         ensures { TakeAnswers (limits_of self.old) bucket n result (limits_of self.new) }
@@ -107,9 +107,9 @@ impl Limiter {
     /// `cap_ms` and `base_ms` times 2^(k-1) ticks, and at the failure `most` it gives up. Returns its number, which is
     /// the next.
     ///
-    /// It is refused as `AtCapacity` if and only if the live retries are at the limit or the next number is 2^64 - 1.
-    /// Otherwise it is refused as `BadRetry` if and only if the base is 0, the cap is below it, or `most` is 0, or 2^32
-    /// or more.
+    /// Refuses the call as `AtCapacity` if and only if the next number is 2^64 - 1 or the live retries are at the
+    /// limit. Otherwise it is refused as `BadRetry` if and only if the base is 0, the cap is below it, or `most` is 0,
+    /// or 2^32 or more.
     pub fn retry(
         &mut self,
         alloc: Global,
@@ -142,9 +142,9 @@ impl Limiter {
     /// last failure (`answer`). Otherwise it waits for the greatest tick plus its delay, and the answer names that
     /// tick.
     ///
-    /// It is refused as `Invalid` if and only if the retry does not wait, this is not its last failure, and that tick
-    /// is above 2^63 - 1. It is refused as `Waiting` if and only if it waits, and as `NoRetry` if and only if no live
-    /// retry has the number.
+    /// Refuses the call as `Invalid` if and only if the retry does not wait, this is not its last failure, and that
+    /// tick is above 2^63 - 1. It is refused as `Waiting` if and only if it waits, and as `NoRetry` if and only if no
+    /// live retry has the number.
     pub fn fail(&mut self, retry: u64) -> Result<Next, LimitError>
         ensures answer { result ≡ fail_answer (limits_of self.old) retry }
         ensures limits { limits_of self.new ≡ failed (limits_of self.old) retry }

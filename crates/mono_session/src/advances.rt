@@ -28,8 +28,8 @@ impl Sessions {
     /// Shows the clock an instant, as [`Sessions::clock`] does, and appends the sessions that it closes to `closed`
     /// (`step`).
     ///
-    /// It reserves room for all open sessions first. If that allocation fails, nothing has changed (`refused`). The
-    /// steps of the wheel are not counted; they are at most the fall of its remaining steps (`left`).
+    /// Reserves room for all open sessions first. If that allocation fails, nothing has changed (`refused`). The steps
+    /// of the wheel are not counted; they are at most the fall of its remaining steps (`left`).
     pub fn advance(
         &mut self,
         _alloc: Global,

@@ -68,8 +68,8 @@ impl Sessions {
     /// Opens a session with the next number. It stays open for `limit_ms` milliseconds, from 1 on, after its last
     /// heartbeat, which is now: the greatest tick of the clock so far.
     ///
-    /// It is refused as `AtCapacity` if and only if the open sessions are at the limit or the next number is 2^64 - 1.
-    /// Then it is refused as `Invalid` if and only if the closing tick would be above 2^63 - 1, then for a limit of
+    /// Refuses the call as `AtCapacity` if and only if the open sessions are at the limit or the next number is 2^64 -
+    /// 1. Then it is refused as `Invalid` if and only if the closing tick would be above 2^63 - 1, then for a limit of
     /// zero. Out of memory comes last. A refusal changes nothing.
     pub fn open(&mut self, alloc: Global, limit_ms: u64) -> Result<u64, SessionError>
         ensures step { (k : Keeper) → StandsFor self.old k → OrLacksMemory error.Memory (open_answer k limit_ms) k (opened k limit_ms) (StandsFor self.new) result }
@@ -96,8 +96,8 @@ impl Sessions {
 
     /// Renews a session: its last heartbeat is now, the greatest tick of the clock so far.
     ///
-    /// It is refused as `Invalid` if and only if the session is open and its closing tick would be above 2^63 - 1. It
-    /// is refused as `NoSession` if and only if the session is not open. A refused heartbeat changes nothing, so the
+    /// Refuses the call as `Invalid` if and only if the session is open and its closing tick would be above 2^63 - 1.
+    /// It is refused as `NoSession` if and only if the session is not open. A refused heartbeat changes nothing, so the
     /// wheel takes no further step for it (`refused`).
     pub fn beat(&mut self, session: u64) -> Result<(), SessionError>
         ensures step { (k : Keeper) → StandsFor self.old k → (result ≡ beat_answer k session) × StandsFor self.new (beaten k session) }
@@ -146,9 +146,9 @@ impl Sessions {
 
     /// Appends a session to the queue of a key. Returns whether it is the first there.
     ///
-    /// It is refused as `AtCapacity` if and only if the entries of all queues are at the limit. Then it is refused if
-    /// and only if the session is not open, then as `Doubled` if and only if it is in the queue already. Out of memory
-    /// comes last. A refusal changes nothing.
+    /// Refuses the call as `AtCapacity` if and only if the entries of all queues are at the limit. Then it is refused
+    /// if and only if the session is not open, then as `Doubled` if and only if it is in the queue already. Out of
+    /// memory comes last. A refusal changes nothing.
     pub fn acquire(&mut self, _alloc: Global, session: u64, key: u64) -> Result<bool, SessionError>
         ensures step { (k : Keeper) → StandsFor self.old k → OrLacksMemory error.Memory (acquire_answer k session key) k (acquired k session key) (StandsFor self.new) result }
         ensures raise { steps_left self.new ≡ steps_left self.old }

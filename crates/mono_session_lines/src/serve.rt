@@ -140,7 +140,7 @@ impl Service for SessionLines {
 /// `sessions` may be open, with at most `entries` entries in all queues. If a line is no call, the answer is the number
 /// of the first such line.
 ///
-/// Each answer is that of the call by the rules of the sessions (`Step`), one after another from the empty sessions.
+/// Answers each call by the rules of the sessions (`Step`), one after another from the empty sessions.
 pub fn sessions(
     alloc: Global,
     sessions: u64,

@@ -10,9 +10,9 @@ use std::alloc::{AllocError, Global};
 /// Returns whether the reports are those of a run of the events, from the start machine with these limits and this
 /// strategy.
 ///
-/// The verdict is Yes if and only if they are. It is No with a place if and only if the pairs before that place are
-/// those of a run and that run allows no step with the pair at the place (`Checked`). By the law `one_verdict` no other
-/// verdict is right. The lists have the same length, below 2^63. The only error is out of memory.
+/// Returns Yes if and only if they are. Returns No with a place if and only if the pairs before that place are those of
+/// a run and that run allows no step with the pair at the place (`Checked`). By the law `one_verdict` no other verdict
+/// is right. The lists have the same length, below 2^63. The only error is out of memory.
 pub fn check(
     alloc: Global,
     limits: Limits,

@@ -70,7 +70,7 @@ impl Trace {
 
     /// Takes an event with its report, and returns whether the machine may take the event with this report.
     ///
-    /// It returns true if and only if the machine may, and the view is then the machine after the step. If it returns
+    /// Returns true if and only if the machine may, and the view is then the machine after the step. If it returns
     /// false, the view stays (`checks`). There must be fewer than 2^127 arms, and they rise by at most 2^63 (`arms`).
     /// The only error is out of memory; the trace is given up after it.
     pub fn step(

@@ -108,7 +108,7 @@ fn take_next(
 
 /// Returns whether a journal is a run of the machine, from the start machine with these limits and this strategy.
 ///
-/// It names the first line that is no line of a journal, anywhere in the input. Otherwise the answer is that of
+/// Names the first line that is no line of a journal, anywhere in the input. Otherwise the answer is that of
 /// [`mono_trace::check`] on the pairs of events and reports, with the line of the pair in place of its index.
 pub fn check_lines(
     alloc: Global,

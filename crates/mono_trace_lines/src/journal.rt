@@ -93,8 +93,8 @@ fn line_read(
 /// Reads the next line of a journal, and moves past it. Returns `None` if it is no line of a journal; the rest of the
 /// input is then unspecified.
 ///
-/// The call stores the steps of a turn in the spare list, so one list serves for all turns. Nothing else happens to it.
-/// By the law `one_line` a written line is read back as the same content.
+/// Stores the steps of a turn in the spare list, so one list serves for all turns. Nothing else happens to it. By the
+/// law `one_line` a written line is read back as the same content.
 pub fn read_line(
     alloc: Global,
     reader: &mut Reader,
