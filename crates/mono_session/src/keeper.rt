@@ -68,9 +68,9 @@ impl Sessions {
     /// Opens a session with the next number. It stays open for `limit_ms` milliseconds, from 1 on, after its last
     /// heartbeat, which is now: the greatest tick of the clock so far.
     ///
-    /// Refuses the call as `AtCapacity` if and only if the open sessions are at the limit or the next number is 2^64 -
-    /// 1. Then it is refused as `Invalid` if and only if the closing tick would be above 2^63 - 1, then for a limit of
-    /// zero. Out of memory comes last. A refusal changes nothing.
+    /// Refuses the call as `AtCapacity` if and only if the next number is 2^64 - 1 or the open sessions are at the
+    /// limit. Then it is refused as `Invalid` if and only if the closing tick would be above 2^63 - 1, then for a limit
+    /// of zero. Out of memory comes last. A refusal changes nothing.
     pub fn open(&mut self, alloc: Global, limit_ms: u64) -> Result<u64, SessionError>
         ensures step { (k : Keeper) → StandsFor self.old k → OrLacksMemory error.Memory (open_answer k limit_ms) k (opened k limit_ms) (StandsFor self.new) result }
         ensures raise { (k : Keeper) → StandsFor self.old k → steps_left self.new ≤ steps_left self.old + most_takes limit_ms }
