@@ -44,28 +44,28 @@ pub fn repeat<S, A, F: FnMut(S) -> A>(initial: S, mut func: F) -> Repeat<A, F>
     }
 }
 
-/// Returns the first answer of two; the other is given up. It polls `a` first.
+/// Races two futures: the first answer wins, and the other is given up. It polls `a` first.
 pub fn race<A, B>(a: A, b: B) -> Race<A, B>
     ensures { result.both ≡ Some (a, b) }
 {
     Race { both: Some((a, b)) }
 }
 
-/// Returns the result of a closure, which the first poll calls.
+/// Returns a future of a closure's result; its first poll calls the closure.
 pub fn lazy<T, F: FnOnce() -> T>(func: F) -> Lazy<F>
     ensures { result.func ≡ Some func }
 {
     Lazy { func: Some(func) }
 }
 
-/// Returns the first answer of two unlike futures, on its side; the other is given up. It polls `a` first.
+/// Races two unlike futures: the first answer wins, on its side, and the other is given up. It polls `a` first.
 pub fn race_either<A, B>(a: A, b: B) -> RaceEither<A, B>
     ensures { result.both ≡ Some (a, b) }
 {
     RaceEither { both: Some((a, b)) }
 }
 
-/// Returns the first answer of many futures; the others are given up. It polls them in the written order.
+/// Races many futures: the first answer wins, and the others are given up. It polls them in the written order.
 pub fn race_list<T>(futures: Vec<T>) -> RaceList<T>
     ensures futures { result.futures ≡ futures }
     ensures fresh { result.has_answered ≡ false }

@@ -6,30 +6,30 @@ use crate::either_races::RaceEither;
 use crate::makers::{race, race_either};
 use crate::races::Race;
 
-/// Returns the first answer of three futures; the others are given up. It polls them in the written order.
+/// Races three futures: the first answer wins, and the others are given up. It polls them in the written order.
 pub fn race3<A, B, D>(a: A, b: B, d: D) -> Race<Race<A, B>, D>
     ensures { result.both ≡ Some (record { both = Some (a, b) }, d) }
 {
     race(race(a, b), d)
 }
 
-/// Returns the first answer of three unlike futures, on its side; the others are given up. It polls them in the written
-/// order.
+/// Races three unlike futures: the first answer wins, on its side, and the others are given up. It polls them in the
+/// written order.
 pub fn race_either3<A, B, D>(a: A, b: B, d: D) -> RaceEither<RaceEither<A, B>, D>
     ensures { result.both ≡ Some (record { both = Some (a, b) }, d) }
 {
     race_either(race_either(a, b), d)
 }
 
-/// Returns the first answer of four futures; the others are given up. It polls them in the written order.
+/// Races four futures: the first answer wins, and the others are given up. It polls them in the written order.
 pub fn race4<A, B, D, E>(a: A, b: B, d: D, e: E) -> Race<Race<Race<A, B>, D>, E>
     ensures { result.both ≡ Some (record { both = Some (record { both = Some (a, b) }, d) }, e) }
 {
     race(race3(a, b, d), e)
 }
 
-/// Returns the first answer of four unlike futures, on its side; the others are given up. It polls them in the written
-/// order.
+/// Races four unlike futures: the first answer wins, on its side, and the others are given up. It polls them in the
+/// written order.
 pub fn race_either4<A, B, D, E>(
     a: A,
     b: B,
@@ -41,15 +41,15 @@ pub fn race_either4<A, B, D, E>(
     race_either(race_either3(a, b, d), e)
 }
 
-/// Returns the first answer of five futures; the others are given up. It polls them in the written order.
+/// Races five futures: the first answer wins, and the others are given up. It polls them in the written order.
 pub fn race5<A, B, D, E, F>(a: A, b: B, d: D, e: E, f: F) -> Race<Race<Race<Race<A, B>, D>, E>, F>
     ensures { result.both ≡ Some (record { both = Some (record { both = Some (record { both = Some (a, b) }, d) }, e) }, f) }
 {
     race(race4(a, b, d, e), f)
 }
 
-/// Returns the first answer of five unlike futures, on its side; the others are given up. It polls them in the written
-/// order.
+/// Races five unlike futures: the first answer wins, on its side, and the others are given up. It polls them in the
+/// written order.
 pub fn race_either5<A, B, D, E, F>(
     a: A,
     b: B,
