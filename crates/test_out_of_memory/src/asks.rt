@@ -1,4 +1,4 @@
-// Calls of a running task, each again where memory was refused.
+// Calls of a running task, each repeated after it ran out of memory.
 ghost use Rattle.std.specs.Prelude.{◌≡◌};
 
 use crate::grows::Called;
@@ -6,22 +6,22 @@ use mono_model::Host;
 use mono_task::Context;
 use std::alloc::Global;
 
-/// A call of a running task that takes memory, and that leaves the context as it was where memory is refused. Each call
-/// that is done gives the next number to what it made.
+/// A call of a running task that takes memory, and that leaves the context unchanged if it runs out of memory. Each
+/// completed call gives the next number to its new item.
 pub trait Asks<C: Context> {
-    /// The number that the first call is to give.
+    /// Returns the number that the first call must give.
     fn first(&self) -> u64;
 
-    /// The call that is to give this number.
+    /// Makes the call that must give this number.
     fn ask<R: Host>(&self, rt: &R, alloc: Global, cx: &mut C, number: u64) -> Called
         ensures { C.reaches cx.old cx.new };
 
-    /// Whether there is something of this number.
+    /// Returns whether there is an item of this number.
     fn is_there(&self, cx: &mut C, number: u64) -> bool
         ensures { C.reaches cx.old cx.new };
 }
 
-/// How many of the calls were refused; none where one was not as it should be, as `grows::refusals` says.
+/// Returns how many of the calls were refused, or None if a call went wrong, as `grows::refusals` says.
 pub fn asked<R: Host, C: Context, A: Asks<C>>(
     rt: &R,
     alloc: Global,
@@ -40,7 +40,7 @@ pub fn asked<R: Host, C: Context, A: Asks<C>>(
     refused
 }
 
-// Both together, where there are both.
+// Returns the sum of both, if there are both.
 fn added(one: Option<u64>, other: Option<u64>) -> Option<u64> {
     match (one, other) {
         (Some(one), Some(other)) => Some(one.wrapping_add(other)),
@@ -48,7 +48,7 @@ fn added(one: Option<u64>, other: Option<u64>) -> Option<u64> {
     }
 }
 
-// One call: 0 where it was done at once, 1 where it was done after it had been refused and had left all as it was.
+// Makes one call: returns 0 if it succeeded at once, and 1 if it succeeded after a refusal that changed nothing.
 fn once_more<R: Host, C: Context, A: Asks<C>>(
     rt: &R,
     alloc: Global,
@@ -68,7 +68,7 @@ fn once_more<R: Host, C: Context, A: Asks<C>>(
     }
 }
 
-// One call, and whether what it made is there, or nothing where it was refused.
+// Makes one call, and checks that its new item is there, or nothing new if it was refused.
 fn made<R: Host, C: Context, A: Asks<C>>(
     rt: &R,
     alloc: Global,
@@ -84,7 +84,7 @@ fn made<R: Host, C: Context, A: Asks<C>>(
     as_seen(called, before == number, after.wrapping_sub(number))
 }
 
-// What a call did, before which all was as it should be, and after which so many things more were there.
+// Returns the outcome of a call, before which all was right, and after which there were `more` items.
 fn as_seen(called: Called, is_next: bool, more: u64) -> Called {
     match called {
         Called::Done if is_next && more == 1 => Called::Done,
@@ -93,7 +93,7 @@ fn as_seen(called: Called, is_next: bool, more: u64) -> Called {
     }
 }
 
-// The least number of which there is nothing.
+// Returns the least number without an item.
 fn least_missing<C: Context, A: Asks<C>>(cx: &mut C, call: &A) -> u64
     ensures { C.reaches cx.old cx.new }
 {

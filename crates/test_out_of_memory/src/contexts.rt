@@ -27,7 +27,7 @@ pub struct Keeps {
 }
 
 impl Keeps {
-    /// A pool in which no task waits.
+    /// Returns a pool in which no task waits.
     pub fn new(alloc: Global) -> Keeps {
         Keeps {
             waiting: Vec::new(alloc),
@@ -62,20 +62,20 @@ impl ThreadPool for Keeps {
 /// The context of the tasks.
 pub type Own = Cx<Errand, u64, Keeps, NoUnpark>;
 
-/// Told of calls one of which was not as it should be.
+/// The report of calls that went wrong.
 pub const WENT_WRONG: u64 = u64::MAX;
 
-/// What a task does in its one turn.
+/// A future whose task has one turn.
 #[derive(Drop)]
 pub enum Errand {
     /// It is ready with this number.
     Ready(u64),
-    /// It makes a call so often, and tells how that ended: how many were refused, or `WENT_WRONG`.
+    /// It makes a call this often, and reports how many were refused, or `WENT_WRONG`.
     Asks(Ask, u64, Arc<AtomicU64, Global>),
 }
 
 impl Errand {
-    /// Whether it is ready with this number.
+    /// Returns whether it is ready with this number.
     pub fn is_ready_with(&self, number: u64) -> bool {
         match self {
             Errand::Ready(own) => *own == number,
@@ -154,21 +154,21 @@ impl Asks<Own> for Ask {
     }
 }
 
-// Whether there is a task of this number.
+// Returns whether there is a task of this number.
 fn has_task<C: JoinContext<u64>>(cx: &mut C, number: u64) -> bool
     ensures { C.reaches cx.old cx.new }
 {
     cx.is_finished(number).is_ok()
 }
 
-// Whether there is a sleep of this number.
+// Returns whether there is a sleep of this number.
 fn has_sleep<C: TimeContext>(cx: &mut C, number: u64) -> bool
     ensures { C.reaches cx.old cx.new }
 {
     cx.sleep_elapsed(number).is_ok()
 }
 
-// Whatever has a sleep.
+// Makes the call of each kind that has a sleep.
 fn begin<C: TimeContext>(alloc: Global, cx: &mut C, ask: Ask, number: u64) -> Called
     ensures { C.reaches cx.old cx.new }
 {
@@ -180,7 +180,7 @@ fn begin<C: TimeContext>(alloc: Global, cx: &mut C, ask: Ask, number: u64) -> Ca
     }
 }
 
-// A task that is ready with its number. A future that was refused comes back.
+// Spawns a task that is ready with its number. A refused future is handed back.
 fn spawn_child(alloc: Global, cx: &mut Own, number: u64) -> Called
     ensures { Reaches (λ n. n) cx.old cx.new }
 {
@@ -190,7 +190,7 @@ fn spawn_child(alloc: Global, cx: &mut Own, number: u64) -> Called
     }
 }
 
-/// What a spawn did that was refused the future which is ready with this number.
+/// Returns the outcome of a refused spawn, whose future must be ready with this number.
 pub fn refused_with(refusal: &SpawnRefused<Errand>, number: u64) -> Called {
     match refusal {
         SpawnRefused::Memory(future) => refused_where(future.is_ready_with(number)),
@@ -198,7 +198,7 @@ pub fn refused_with(refusal: &SpawnRefused<Errand>, number: u64) -> Called {
     }
 }
 
-// A job that gives its number. A job that was refused comes back.
+// Spawns a job that returns its number. A refused job is handed back.
 fn spawn_job<R: Host>(rt: &R, alloc: Global, cx: &mut Own, number: u64) -> Called
     ensures { Reaches (λ n. n) cx.old cx.new }
 {
@@ -209,7 +209,7 @@ fn spawn_job<R: Host>(rt: &R, alloc: Global, cx: &mut Own, number: u64) -> Calle
     }
 }
 
-// A sleep for as many milliseconds as its number.
+// Begins a sleep whose milliseconds are its number.
 fn begin_sleep<C: TimeContext>(alloc: Global, cx: &mut C, number: u64) -> Called
     ensures { C.reaches cx.old cx.new }
 {
@@ -219,7 +219,7 @@ fn begin_sleep<C: TimeContext>(alloc: Global, cx: &mut C, number: u64) -> Called
     }
 }
 
-// An interval of a second.
+// Begins an interval of a second.
 fn begin_interval<C: TimeContext>(alloc: Global, cx: &mut C) -> Called
     ensures { C.reaches cx.old cx.new }
 {
@@ -229,7 +229,7 @@ fn begin_interval<C: TimeContext>(alloc: Global, cx: &mut C) -> Called
     }
 }
 
-// A future that is ready with the number, with a deadline. One that was refused comes back.
+// Begins a timeout of a future that is ready with the number. A refused future is handed back.
 fn begin_timeout<C: TimeContext>(alloc: Global, cx: &mut C, number: u64) -> Called
     ensures { C.reaches cx.old cx.new }
 {
@@ -241,7 +241,7 @@ fn begin_timeout<C: TimeContext>(alloc: Global, cx: &mut C, number: u64) -> Call
     }
 }
 
-// A retry whose attempts are ready at once. A closure that was refused comes back.
+// Begins a retry whose attempts are ready at once. A refused closure is handed back.
 fn begin_retry<C: TimeContext>(alloc: Global, cx: &mut C, number: u64) -> Called
     ensures { C.reaches cx.old cx.new }
 {

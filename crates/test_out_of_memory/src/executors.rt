@@ -5,15 +5,15 @@ use mono_model::Host;
 use mono_replay::{Act, Blocking, Event, Exec, Report};
 use std::alloc::Global;
 
-// So many nanoseconds are a millisecond.
+// How many nanoseconds a millisecond has.
 const MILLI: u128 = 1000000;
 
-// When the n-th sleep is due.
+// Returns when the n-th sleep is due, in nanoseconds.
 fn due_at(n: u64) -> u128 {
     MILLI * (1 + u128::from(n))
 }
 
-/// Steps of the clock of an executor with so many sleeps, which are armed at ticks 1, 2, 3 and so on.
+/// Steps the clock of an executor with `sleeps` sleeps, which are armed at ticks 1, 2, 3 and so on.
 pub fn ticked<R: Host>(rt: &R, alloc: Global, sleeps: u64) -> Ended {
     let limits = Limits {
         tasks: 0,
@@ -26,7 +26,7 @@ pub fn ticked<R: Host>(rt: &R, alloc: Global, sleeps: u64) -> Ended {
     }
 }
 
-// The same of an executor without a sleep.
+// Does the same with an executor without sleeps.
 fn ticked_on<R: Host>(rt: &R, alloc: Global, exec: &mut Exec, sleeps: u64) -> Ended {
     if has_armed(alloc, exec, sleeps) {
         Some(refusals(rt, alloc, exec, sleeps))
@@ -35,7 +35,7 @@ fn ticked_on<R: Host>(rt: &R, alloc: Global, exec: &mut Exec, sleeps: u64) -> En
     }
 }
 
-// Whether so many sleeps could be armed.
+// Returns whether `sleeps` sleeps could be armed.
 fn has_armed(alloc: Global, exec: &mut Exec, sleeps: u64) -> bool {
     for n in 0..sleeps {
         let due = due_at(n);
@@ -48,12 +48,12 @@ fn has_armed(alloc: Global, exec: &mut Exec, sleeps: u64) -> bool {
     true
 }
 
-// Whether there was memory for an act.
+// Returns whether there was memory for an act.
 fn has_acted(alloc: Global, exec: &mut Exec, act: Act) -> bool {
     exec.apply(alloc, &Event::Act(act)).is_ok()
 }
 
-// Whether this sleep alone fired.
+// Returns whether this sleep alone fired.
 fn lists_alone(report: &Report, sleep: u64) -> bool {
     match report {
         Report::Fired(fired) => matches!(fired.as_slice(), [only] if *only == sleep),
@@ -61,7 +61,7 @@ fn lists_alone(report: &Report, sleep: u64) -> bool {
     }
 }
 
-// An executor whose sleeps are armed at ticks 1, 2, 3 and so on, by steps of the clock. Each step is to list one of them.
+// An executor whose sleeps are armed at ticks 1, 2, 3 and so on; each clock step must fire one of them.
 impl Grows for Exec {
     fn grow<R: Host>(&mut self, _rt: &R, alloc: Global, n: u64) -> Called {
         match self.apply(alloc, &Event::Clock(due_at(n))) {

@@ -1,4 +1,4 @@
-// Futures that are made of lists of futures.
+// Futures made of lists of futures.
 ghost use Rattle.std.specs.Prelude.{◌≡◌, ◌≤◌, ◌<◌, ⊤, false, vec_len, IfSome};
 
 use crate::contexts::Own;
@@ -32,7 +32,7 @@ impl<C: Context> TaskFuture<C> for Ready {
     fn cancel(self, _cx: &mut C) {}
 }
 
-/// What is made of a list.
+/// A form over a list.
 #[derive(Clone, Copy, Drop)]
 pub enum Form {
     /// A join.
@@ -43,12 +43,12 @@ pub enum Form {
     Select,
 }
 
-// How many futures the n-th list has.
+// Returns how many futures the n-th list has.
 fn count_of(n: u64) -> u64 {
     1 + n % 64
 }
 
-// The futures of the tasks 0 to n, round at 64.
+// Returns the futures of the tasks 0 to n, modulo 64.
 fn numbered(alloc: Global, n: u64) -> Option<Vec<Ready>>
     ensures some { IfSome result (λ list. 0 < vec_len list) }
     ensures few { IfSome result (λ list. vec_len list ≤ 64) }
@@ -62,7 +62,7 @@ fn numbered(alloc: Global, n: u64) -> Option<Vec<Ready>>
     }
 }
 
-// Whether there was memory for all of them.
+// Returns whether there was memory for all of them.
 fn has_numbered(list: &mut Vec<Ready>, n: u64) -> bool {
     for task in 0..count_of(n) {
         if list.push(Ready(task)).is_err() {
@@ -72,7 +72,7 @@ fn has_numbered(list: &mut Vec<Ready>, n: u64) -> bool {
     true
 }
 
-// Whether this is what `numbered` gives.
+// Returns whether this is a list of `numbered`.
 fn are_numbered(list: &Vec<Ready>, n: u64) -> bool {
     let mut task = 0u64;
     for ready in list {
@@ -104,7 +104,7 @@ fn try_join(alloc: Global, list: Vec<Ready>, n: u64) -> Called
     }
 }
 
-// In the predicate's place stands a number, since nobody asks it.
+// Makes a select. A number takes the predicate's place, since it is never called.
 fn select(alloc: Global, list: Vec<Ready>, n: u64) -> Called
     requires some { 0 < vec_len list }
     requires few { vec_len list ≤ 64 }

@@ -1,22 +1,22 @@
-// Calls that are made again and again, each again where memory was refused.
+// Calls that are made again and again, each repeated after it ran out of memory.
 use mono_model::Host;
 use std::alloc::Global;
 
-/// What one call did.
+/// The outcome of one call.
 #[derive(Clone, Copy)]
 pub enum Called {
-    /// It did what it promises.
+    /// It kept its promise.
     Done,
-    /// It found no memory.
+    /// It ran out of memory.
     Refused,
     /// It did something else.
     Otherwise,
 }
 
-/// How a row of calls ended: how many were refused, none where one went wrong. Nothing where there was no object.
+/// How a row of calls ended: how many were refused, None if one went wrong. The outer None: there was no object.
 pub type Ended = Option<Option<u64>>;
 
-/// Done, where this is so.
+/// Returns done if this holds.
 pub fn done_where(is_so: bool) -> Called {
     if is_so {
         Called::Done
@@ -25,7 +25,7 @@ pub fn done_where(is_so: bool) -> Called {
     }
 }
 
-/// Refused, where this is so.
+/// Returns refused if this holds.
 pub fn refused_where(is_so: bool) -> Called {
     if is_so {
         Called::Refused
@@ -34,17 +34,17 @@ pub fn refused_where(is_so: bool) -> Called {
     }
 }
 
-/// An object with a call that takes memory, and that leaves the object as it was where memory is refused.
+/// An object with a call that takes memory, and that leaves the object unchanged if it runs out of memory.
 pub trait Grows {
-    /// The call, for the n-th time, counted from 0. A call that was refused is made once more, with the same n.
+    /// Makes the call for the n-th time, counted from 0. A refused call is repeated with the same n.
     fn grow<R: Host>(&mut self, rt: &R, alloc: Global, n: u64) -> Called;
 
-    /// What is seen of the object, as a number.
+    /// Returns a number that shows the object's state.
     fn seen(&self) -> u64;
 }
 
-/// How many of the calls were refused; none where one was not as it should be: one that changed what is seen although it
-/// was refused, one that was refused twice, one that did not do what it promises.
+/// Returns how many of the calls were refused, or None if a call went wrong: it changed the state although it was
+/// refused, it was refused twice, or it broke its promise.
 pub fn refusals<R: Host, T: Grows>(
     rt: &R,
     alloc: Global,
@@ -58,7 +58,7 @@ pub fn refusals<R: Host, T: Grows>(
     Some(refused)
 }
 
-// One call: 0 where it was done at once, 1 where it was done after it had been refused and had left all as it was.
+// Makes one call: returns 0 if it succeeded at once, and 1 if it succeeded after a refusal that changed nothing.
 fn once_more<R: Host, T: Grows>(rt: &R, alloc: Global, object: &mut T, n: u64) -> Option<u64> {
     let before = object.seen();
     match object.grow(rt, alloc, n) {

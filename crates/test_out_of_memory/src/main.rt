@@ -1,5 +1,5 @@
-//! Calls that take memory and promise to leave their object as it was where memory is refused: each is made many times,
-//! and once more where it was refused. What is refused, a shim before the system's allocator decides.
+//! Calls that take memory and promise to leave their object unchanged if they run out of it: each is made many times,
+//! and repeated after a refusal. A shim before the system's allocator decides which allocation fails.
 #![tactic(auto)]
 
 ghost use Rattle.std.specs.Prelude.{◌≡◌};
@@ -45,10 +45,10 @@ const HELP: &str = "usage: test_out_of_memory CALL CALLS
   open acquire bucket retry hire send tick join try select enter child block sleep interval timeout attempt.
   status 3: a call did not do what it promises; status 6: there was no memory for the first object";
 
-// The end of a program one of whose calls did not do what it promises.
+// The status if a call broke its promise.
 const WRONG: u8 = 3;
 
-// The end of a program that found no memory before the first call.
+// The status if memory ran out before the first call.
 const NO_MEMORY: u8 = 6;
 
 // The calls that may be made.
@@ -85,7 +85,7 @@ enum Call {
     Attempt,
 }
 
-// How each of them is named.
+// The names of the calls.
 const NAMES: [(&str, Call); 29] = [
     ("push", Call::Push),
     ("list", Call::List),
@@ -118,7 +118,7 @@ const NAMES: [(&str, Call); 29] = [
     ("attempt", Call::Attempt),
 ];
 
-// The call of this name.
+// Returns the call of this name.
 fn call_named(name: &str) -> Option<Call> {
     for (other, call) in &NAMES {
         if *other == name {
@@ -128,12 +128,12 @@ fn call_named(name: &str) -> Option<Call> {
     None
 }
 
-// How the calls on an object ended, which is then let go.
+// Returns how the calls on an object ended, and drops the object.
 fn grown<R: Host, T: Grows + Drop>(rt: &R, alloc: Global, mut object: T, calls: u64) -> Ended {
     Some(refusals(rt, alloc, &mut object, calls))
 }
 
-// The same where there was memory for the object.
+// Does the same if there was memory for the object.
 fn grown_if<R: Host, T: Grows + Drop>(
     rt: &R,
     alloc: Global,
@@ -159,7 +159,7 @@ fn of_tables<R: Host>(rt: &R, alloc: Global, call: Call, calls: u64) -> Ended {
     }
 }
 
-// The drains of an inbox.
+// Drains an inbox.
 fn drains<R: Host>(rt: &R, alloc: Global, calls: u64) -> Ended {
     match new_inbox(alloc) {
         Some(inbox) => grown(rt, alloc, Drained::new(inbox), calls),
@@ -167,7 +167,7 @@ fn drains<R: Host>(rt: &R, alloc: Global, calls: u64) -> Ended {
     }
 }
 
-// The drains of a recorded inbox.
+// Drains a recorded inbox.
 fn drains_recorded<L: Ledger, R: Host>(rt: &R, alloc: Global, calls: u64, blank: Blank) -> Ended
     requires { (blank.name ≡ L.name) × (blank.parts ≡ L.parts) × (blank.parts ≡ 0) }
 {
@@ -212,7 +212,7 @@ fn of_futures<R: Host>(rt: &R, alloc: Global, call: Call, calls: u64) -> Ended {
     }
 }
 
-// The call of a running task.
+// Returns the call of a running task.
 fn asked(call: Call) -> Ask {
     match call {
         Call::Child => Ask::Child,
@@ -224,7 +224,7 @@ fn asked(call: Call) -> Ask {
     }
 }
 
-// The status of a program whose calls ended so.
+// Returns the status of a program whose calls ended so.
 fn status_of(ended: Ended) -> u8 {
     match ended {
         None => NO_MEMORY,
@@ -241,19 +241,19 @@ fn told(rt: &HostRuntime, name: &str, ended: Ended) -> io::Result<()> {
     }
 }
 
-// What the program says, and its status.
+// Prints the result of the program, and returns its status.
 fn shown(rt: &HostRuntime, name: &str, ended: Ended) -> io::Result<ExitCode> {
     told(rt, name, ended)?;
     Ok(ExitCode::from(status_of(ended)))
 }
 
-// Says what the words are to be.
+// Prints the expected words.
 fn helped(rt: &HostRuntime) -> io::Result<ExitCode> {
     println!(rt; "{HELP}")?;
     Ok(ExitCode::from(2))
 }
 
-// The call that the words name, and how often it is made.
+// Returns the call that the words name, and how often it is made.
 fn said(words: &[String]) -> Option<(&str, Call, u64)> {
     let [_, name, calls] = words else {
         return None;

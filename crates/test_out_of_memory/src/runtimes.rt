@@ -21,7 +21,7 @@ fn running(alloc: Global) -> Result<Running, AllocError>
     builder.attach_thread_pool(Keeps::new(alloc)).build(alloc)
 }
 
-/// A runtime without a task, by so many calls.
+/// Spawns tasks on a new runtime, `calls` times.
 pub fn entered<R: Host>(rt: &R, alloc: Global, calls: u64) -> Ended {
     match running(alloc) {
         Ok(mut runtime) => Some(refusals(rt, alloc, &mut runtime, calls)),
@@ -29,7 +29,7 @@ pub fn entered<R: Host>(rt: &R, alloc: Global, calls: u64) -> Ended {
     }
 }
 
-// A runtime, by tasks that are made outside of a turn.
+// A runtime; each call makes a task outside of a turn.
 impl Grows for Running {
     fn grow<R: Host>(&mut self, _rt: &R, alloc: Global, n: u64) -> Called {
         match self.spawn(alloc, Errand::Ready(n)) {
@@ -38,7 +38,7 @@ impl Grows for Running {
         }
     }
 
-    // The least number of which there is no task.
+    // Returns the least number without a task.
     fn seen(&self) -> u64 {
         let cx = self.context();
         for number in 0..u64::MAX {
@@ -50,10 +50,10 @@ impl Grows for Running {
     }
 }
 
-// Told of calls that were not made.
+// The report of calls that were not made.
 const UNTOLD: u64 = WENT_WRONG - 1;
 
-/// A running task that makes a call on its context so often.
+/// Runs a task that makes a call on its context `calls` times.
 pub fn had<R: Host>(rt: &R, alloc: Global, ask: Ask, calls: u64) -> Ended {
     match Arc::new(alloc, AtomicU64::new(UNTOLD)) {
         Ok(told) => had_on(rt, alloc, ask, calls, &told),
@@ -61,7 +61,7 @@ pub fn had<R: Host>(rt: &R, alloc: Global, ask: Ask, calls: u64) -> Ended {
     }
 }
 
-// The same, of a task that tells it here, on a runtime that is made for it.
+// Does the same on a new runtime, with a task that reports into this count.
 fn had_on<R: Host>(
     rt: &R,
     alloc: Global,
@@ -75,8 +75,8 @@ fn had_on<R: Host>(
     }
 }
 
-// What the task told after its turn; none where there was no memory for the turn to begin. Where a call was refused
-// memory the runtime says so, and may then be used again.
+// Returns the task's report after its turn, or None if there was no memory for the turn to begin. If a call ran out of
+// memory, the runtime answers so, and may then be used again.
 fn had_turn<R: Host>(
     rt: &R,
     alloc: Global,
@@ -99,7 +99,7 @@ fn had_turn<R: Host>(
     Some(as_told(refused, says_so && is_usable))
 }
 
-// Whether the runtime says after the errand's turn that a call was refused memory.
+// Returns whether the runtime answers out of memory after the errand's turn.
 fn says_memory<R: Host>(rt: &R, alloc: Global, runtime: &mut Running, errand: Errand) -> bool
     requires rests { runtime.old.cx.parts.tasks.turn ≡ None }
     ensures rests { runtime.new.cx.parts.tasks.turn ≡ None }
@@ -110,7 +110,7 @@ fn says_memory<R: Host>(rt: &R, alloc: Global, runtime: &mut Running, errand: Er
     )
 }
 
-// Whether a further task on the runtime gives what it is to give.
+// Returns whether another task on the runtime has its expected output.
 fn is_usable<R: Host>(rt: &R, alloc: Global, runtime: &mut Running) -> bool
     requires rests { runtime.old.cx.parts.tasks.turn ≡ None }
 {
@@ -120,7 +120,7 @@ fn is_usable<R: Host>(rt: &R, alloc: Global, runtime: &mut Running) -> bool
     )
 }
 
-// How many calls were refused, as it was told; none where one went wrong, or where what came after was not right.
+// Returns how many calls were refused, as reported, or None if one went wrong, or the state after them was wrong.
 fn as_told(refused: u64, is_right: bool) -> Option<u64> {
     if refused == WENT_WRONG || refused > 0 && !is_right {
         None

@@ -6,7 +6,7 @@ use mono_model::Host;
 use mono_session::{SessionError, Sessions};
 use std::alloc::{AllocError, Global};
 
-// A keeper of sessions, by sessions that are opened.
+// Sessions; each call opens one.
 impl Grows for Sessions {
     fn grow<R: Host>(&mut self, _rt: &R, alloc: Global, n: u64) -> Called {
         match self.open(alloc, 1000) {
@@ -20,11 +20,11 @@ impl Grows for Sessions {
     }
 }
 
-/// A keeper with two sessions, by keys that are acquired by the first and then awaited by the second.
+/// Two sessions; each call acquires a key for the first, and then for the second, which waits.
 #[derive(Drop)]
 pub struct Acquired(Sessions);
 
-/// Two sessions, which may stand in so many queues each, by so many calls.
+/// Makes `keys` calls on two sessions, which may be in this many queues each.
 pub fn acquires<R: Host>(rt: &R, alloc: Global, keys: u64) -> Ended {
     match Sessions::new(alloc, 2, keys.wrapping_mul(2)) {
         Ok(sessions) => {
@@ -35,7 +35,7 @@ pub fn acquires<R: Host>(rt: &R, alloc: Global, keys: u64) -> Ended {
     }
 }
 
-// The same of a keeper without a session.
+// Makes the same calls, and opens the sessions first.
 fn acquires_on<R: Host>(rt: &R, alloc: Global, both: &mut Acquired, calls: u64) -> Ended {
     if has_opened(alloc, &mut both.0) && has_opened(alloc, &mut both.0) {
         Some(refusals(rt, alloc, both, calls))
@@ -44,7 +44,7 @@ fn acquires_on<R: Host>(rt: &R, alloc: Global, both: &mut Acquired, calls: u64) 
     }
 }
 
-// Whether a session could be opened.
+// Returns whether a session could be opened.
 fn has_opened(alloc: Global, sessions: &mut Sessions) -> bool {
     sessions.open(alloc, 1000).is_ok()
 }
@@ -61,7 +61,7 @@ impl Grows for Acquired {
     }
 }
 
-// What an acquire did, by the first session or by the second, after which the key has this owner.
+// Returns the outcome of an acquire, by the first session or by the second, after which the key has this owner.
 fn as_acquired(answer: Result<bool, SessionError>, is_first: bool, owner: Option<u64>) -> Called {
     match answer {
         Ok(owns) => done_where(owns == is_first && matches!(owner, Some(0))),
@@ -69,12 +69,12 @@ fn as_acquired(answer: Result<bool, SessionError>, is_first: bool, owner: Option
     }
 }
 
-/// A limiter, by buckets.
+/// A limiter; each call makes a bucket.
 #[derive(Drop)]
 pub struct Buckets(Limiter);
 
 impl Buckets {
-    /// A limiter for so many buckets.
+    /// Returns a limiter for `buckets` buckets.
     pub fn new(alloc: Global, buckets: u64) -> Result<Buckets, AllocError> {
         match Limiter::new(alloc, buckets, 0) {
             Ok(limiter) => Ok(Buckets(limiter)),
@@ -93,7 +93,7 @@ impl Grows for Buckets {
     }
 }
 
-// What a call on a limiter did that is to give this number.
+// Returns the outcome of a call on a limiter that must give this number.
 fn as_limited(answer: Result<u64, LimitError>, n: u64) -> Called {
     match answer {
         Ok(number) => done_where(number == n),
@@ -101,7 +101,7 @@ fn as_limited(answer: Result<u64, LimitError>, n: u64) -> Called {
     }
 }
 
-// A limiter, by retries.
+// A limiter; each call makes a retry.
 impl Grows for Limiter {
     fn grow<R: Host>(&mut self, _rt: &R, alloc: Global, n: u64) -> Called {
         as_limited(self.retry(alloc, 4, 16, 3), n)
@@ -112,7 +112,7 @@ impl Grows for Limiter {
     }
 }
 
-// Actors, by spawns.
+// Actors; each call spawns one.
 impl Grows for Actors<u64> {
     fn grow<R: Host>(&mut self, _rt: &R, alloc: Global, n: u64) -> Called {
         match self.spawn(alloc) {
@@ -126,11 +126,11 @@ impl Grows for Actors<u64> {
     }
 }
 
-/// Two actors, by messages that the first sends to the second. A refused message comes back.
+/// Two actors; in each call the first sends the second a message. A refused message is handed back.
 #[derive(Drop)]
 pub struct Written(Actors<u64>);
 
-/// Two actors, for which so many messages may wait, by so many calls.
+/// Makes `messages` calls on two actors, for which this many messages may wait.
 pub fn sends<R: Host>(rt: &R, alloc: Global, messages: u64) -> Ended {
     match Actors::new(alloc, 2, messages) {
         Ok(actors) => {
@@ -141,7 +141,7 @@ pub fn sends<R: Host>(rt: &R, alloc: Global, messages: u64) -> Ended {
     }
 }
 
-// The same of no actor.
+// Makes the same calls, and spawns the actors first.
 fn sends_on<R: Host>(rt: &R, alloc: Global, both: &mut Written, calls: u64) -> Ended {
     if has_hired(alloc, &mut both.0) && has_hired(alloc, &mut both.0) {
         Some(refusals(rt, alloc, both, calls))
@@ -150,7 +150,7 @@ fn sends_on<R: Host>(rt: &R, alloc: Global, both: &mut Written, calls: u64) -> E
     }
 }
 
-// Whether an actor could be spawned.
+// Returns whether an actor could be spawned.
 fn has_hired(alloc: Global, actors: &mut Actors<u64>) -> bool {
     actors.spawn(alloc).is_ok()
 }

@@ -7,7 +7,7 @@ use mono_task::{SpawnTask, Tasks};
 use mono_time::{Instant, SleepError, Timers};
 use std::alloc::{AllocError, Global};
 
-// What a push did, after which the item is or is not at its place.
+// Returns the outcome of a push, after which the item is or is not at its place.
 fn as_pushed(answer: Result<(), AllocError>, is_there: bool) -> Called {
     match answer {
         Ok(()) => done_where(is_there),
@@ -15,7 +15,7 @@ fn as_pushed(answer: Result<(), AllocError>, is_there: bool) -> Called {
     }
 }
 
-// A table, by pushes.
+// A table; each call pushes a value.
 impl Grows for Table<u64> {
     fn grow<R: Host>(&mut self, _rt: &R, alloc: Global, n: u64) -> Called {
         if self.len() != n || n == u64::MAX {
@@ -30,7 +30,7 @@ impl Grows for Table<u64> {
     }
 }
 
-// Whether this is there, and is this.
+// Returns whether this item was found.
 fn has(found: Option<&u64>, item: u64) -> bool {
     match found {
         Some(found) => *found == item,
@@ -38,7 +38,7 @@ fn has(found: Option<&u64>, item: u64) -> bool {
     }
 }
 
-// A list, by pushes.
+// A list; each call pushes an item.
 impl Grows for List<u64> {
     fn grow<R: Host>(&mut self, _rt: &R, _alloc: Global, n: u64) -> Called {
         let answer = self.push(n ^ 3);
@@ -54,7 +54,7 @@ impl Grows for List<u64> {
     }
 }
 
-// Tasks, by spawns.
+// Tasks; each call spawns one.
 impl Grows for Tasks<u64> {
     fn grow<R: Host>(&mut self, _rt: &R, alloc: Global, n: u64) -> Called {
         match self.spawn(alloc) {
@@ -68,12 +68,12 @@ impl Grows for Tasks<u64> {
     }
 }
 
-// The instant of so many milliseconds.
+// Returns the instant at `millis` milliseconds.
 fn at_millis(millis: u64) -> Option<Instant> {
     Instant::from_nanos(u128::from(millis).wrapping_mul(1000000))
 }
 
-// Sleeps, by additions.
+// Sleeps; each call adds one.
 impl Grows for Timers {
     fn grow<R: Host>(&mut self, _rt: &R, alloc: Global, n: u64) -> Called {
         let Some(deadline) = at_millis(n) else {
@@ -90,11 +90,11 @@ impl Grows for Timers {
     }
 }
 
-/// Sleeps that are armed at ticks 1, 2, 3 and so on, by steps of the clock. Each step is to give one of them.
+/// Sleeps that are armed at ticks 1, 2, 3 and so on; each clock step must fire one of them.
 #[derive(Drop)]
 pub struct Fired(Timers);
 
-/// So many sleeps, armed, by so many calls.
+/// Arms `sleeps` sleeps, and steps the clock as often.
 pub fn fires<R: Host>(rt: &R, alloc: Global, sleeps: u64) -> Ended {
     match Timers::new(alloc, sleeps, true) {
         Ok(timers) => {
@@ -105,7 +105,7 @@ pub fn fires<R: Host>(rt: &R, alloc: Global, sleeps: u64) -> Ended {
     }
 }
 
-// The same of no sleep.
+// Does the same from no sleep on.
 fn fires_on<R: Host>(rt: &R, alloc: Global, timers: &mut Fired, sleeps: u64) -> Ended {
     if has_armed(alloc, &mut timers.0, sleeps) {
         Some(refusals(rt, alloc, timers, sleeps))
@@ -114,7 +114,7 @@ fn fires_on<R: Host>(rt: &R, alloc: Global, timers: &mut Fired, sleeps: u64) -> 
     }
 }
 
-// Whether so many sleeps could be armed.
+// Returns whether `sleeps` sleeps could be armed.
 fn has_armed(alloc: Global, timers: &mut Timers, sleeps: u64) -> bool {
     for n in 0..sleeps {
         if !arms(alloc, timers, n.wrapping_add(1)) {
@@ -124,7 +124,7 @@ fn has_armed(alloc: Global, timers: &mut Timers, sleeps: u64) -> bool {
     true
 }
 
-// Whether a sleep could be armed at so many milliseconds, which wakes the task of its own number.
+// Returns whether a sleep could be armed at `millis` milliseconds, which wakes the task of its own number.
 fn arms(alloc: Global, timers: &mut Timers, millis: u64) -> bool {
     let Some(deadline) = at_millis(millis) else {
         return false;
@@ -135,7 +135,7 @@ fn arms(alloc: Global, timers: &mut Timers, millis: u64) -> bool {
     }
 }
 
-// What a step of the clock did that was to give this sleep alone.
+// Returns the outcome of a clock step that had to fire this sleep alone.
 fn as_fired(answer: Result<(), AllocError>, fired: &[(u64, Option<u64>)], sleep: u64) -> Called {
     match answer {
         Ok(()) => done_where(matches!(fired, [(it, Some(task))] if *it == sleep && *task == sleep)),

@@ -9,7 +9,7 @@ use std::alloc::{AllocError, Global};
 use std::sync::Arc;
 use std::sync::ledger::{Blank, Ledger};
 
-// The state of an inbox, by tasks that it comes to know and that then wait.
+// The state of an inbox; each call makes a task known, which then waits.
 impl Grows for InboxState {
     fn grow<R: Host>(&mut self, _rt: &R, alloc: Global, n: u64) -> Called {
         let answer = self.know(alloc, n);
@@ -25,12 +25,12 @@ impl Grows for InboxState {
     }
 }
 
-/// An inbox whose tasks are woken, and that is drained.
+/// An inbox whose tasks are woken, and then drained.
 pub trait Drains {
-    /// Wakes a task; false where there was no memory for its waker.
+    /// Wakes a task; returns false if there was no memory for its waker.
     fn wakes<R: Host>(&self, rt: &R, alloc: Global, task: u64) -> bool;
 
-    /// Puts the woken tasks behind a list.
+    /// Appends the woken tasks to a list.
     fn drains<R: Host>(
         &mut self,
         rt: &R,
@@ -81,12 +81,13 @@ impl<L: Ledger> Drains for RecordedInbox<NoUnpark, L> {
     }
 }
 
-/// An inbox in which no task waits, if there is memory for it.
+/// Returns an inbox in which no task waits, if there is memory for it.
 pub fn new_inbox(alloc: Global) -> Option<Inbox<NoUnpark>> {
     Inbox::new(alloc, 0, NoUnpark).ok()
 }
 
-/// A recorded inbox in which no task waits, which keeps so many calls. Its wakes are counted in no share.
+/// Returns a recorded inbox in which no task waits, and which keeps up to this many calls. Its wakes are counted in no
+/// share.
 pub fn new_recorded<L: Ledger>(
     alloc: Global,
     calls: u64,
@@ -101,7 +102,7 @@ pub fn new_recorded<L: Ledger>(
     }
 }
 
-// A list of this one number, with no room for another.
+// Returns a list of this one number, without room for another.
 fn lone(alloc: Global, number: u64) -> Option<Vec<u64>> {
     let mut numbers = Vec::with_capacity(alloc, 1).ok()?;
     match numbers.push(number) {
@@ -110,16 +111,16 @@ fn lone(alloc: Global, number: u64) -> Option<Vec<u64>> {
     }
 }
 
-/// An inbox, by drains. Each task is woken once: a drain that was refused leaves it waiting.
+/// An inbox; each call drains it. Each task is woken once: a refused drain leaves it waiting.
 #[derive(Drop)]
 pub struct Drained<I: Drop> {
     inbox: I,
-    // So many tasks were woken, the first of all.
+    // How many tasks were woken, from the first on.
     woken: u64,
 }
 
 impl<I: Drop> Drained<I> {
-    /// An inbox none of whose tasks was woken.
+    /// Returns an inbox none of whose tasks was woken.
     pub fn new(inbox: I) -> Drained<I> {
         Drained { inbox, woken: 0 }
     }
@@ -141,7 +142,7 @@ impl<I: Drains + Drop> Grows for Drained<I> {
     }
 }
 
-// A drain that is to put the task `n` behind a list of another.
+// Makes a drain that must append the task `n` to a list of another.
 fn drain_of<R: Host, I: Drains>(rt: &R, alloc: Global, inbox: &mut I, n: u64) -> Called {
     let Some(mut list) = lone(alloc, n ^ 1) else {
         return Called::Refused;
@@ -150,7 +151,7 @@ fn drain_of<R: Host, I: Drains>(rt: &R, alloc: Global, inbox: &mut I, n: u64) ->
     as_drained(answer, list.as_slice(), n)
 }
 
-// What a drain did that was to put the task `n` behind a list of another.
+// Returns the outcome of a drain that had to append the task `n` to a list of another.
 fn as_drained(answer: Result<(), AllocError>, list: &[u64], n: u64) -> Called {
     match answer {
         Ok(()) => done_where(matches!(list, [one, other] if *one == n ^ 1 && *other == n)),
@@ -158,13 +159,13 @@ fn as_drained(answer: Result<(), AllocError>, list: &[u64], n: u64) -> Called {
     }
 }
 
-// An inbox that may be shared, if there is memory for it.
+// Returns an inbox that may be shared, if there is memory for it.
 fn shared_inbox(alloc: Global) -> Option<Arc<Inbox<NoUnpark>, Global>> {
     let inbox = new_inbox(alloc)?;
     Arc::new(alloc, inbox).ok()
 }
 
-// A registry, by inboxes. Numbers count from 16.
+// A registry; each call registers an inbox. Numbers count from 16.
 impl Grows for Registry<NoUnpark> {
     fn grow<R: Host>(&mut self, rt: &R, alloc: Global, n: u64) -> Called {
         let Some(shared) = shared_inbox(alloc) else {
@@ -181,7 +182,7 @@ impl Grows for Registry<NoUnpark> {
     }
 }
 
-/// A job that gives its number.
+/// A job that returns its number.
 #[derive(Drop)]
 pub struct Gives(pub u64);
 
@@ -203,7 +204,7 @@ impl Job for Gives {
     }
 }
 
-/// Tasks of blocking jobs, each made and let go. A job whose task was refused comes back.
+/// Tasks of blocking jobs, each made and dropped. If its task was refused, the job is handed back.
 #[derive(Clone, Copy, Drop)]
 pub struct Made;
 

@@ -6,7 +6,7 @@ use mono_model::Host;
 use mono_wheel::{Links, Wheel};
 use std::alloc::{AllocError, Global};
 
-/// One list of nodes, by room for one more node, which is then made and put last.
+/// A list of nodes; each call reserves room for one more node, makes it and puts it last.
 #[derive(Drop)]
 pub struct Linked {
     links: Links,
@@ -14,7 +14,7 @@ pub struct Linked {
 }
 
 impl Linked {
-    /// The list without a node.
+    /// Returns the list without nodes.
     pub fn new(alloc: Global) -> Result<Linked, AllocError> {
         match Links::new(alloc, 1) {
             Ok(links) => Ok(Linked { links }),
@@ -41,7 +41,7 @@ impl Grows for Linked {
     }
 }
 
-/// A wheel, by keys, each of which is then put in.
+/// A wheel; each call makes a key, which is then inserted.
 #[derive(Drop)]
 pub struct Keyed {
     wheel: Wheel,
@@ -51,7 +51,7 @@ pub struct Keyed {
     last: usize,
 }
 
-/// A wheel with one key, by so many calls.
+/// Makes `calls` calls on a wheel with one key.
 pub fn adds_keys<R: Host>(rt: &R, alloc: Global, calls: u64) -> Ended {
     match Wheel::new(alloc) {
         Ok(wheel) => {
@@ -66,7 +66,7 @@ pub fn adds_keys<R: Host>(rt: &R, alloc: Global, calls: u64) -> Ended {
     }
 }
 
-// The same of a wheel without a key.
+// Makes the same calls, and makes the first key before.
 fn adds_keys_on<R: Host>(rt: &R, alloc: Global, keyed: &mut Keyed, calls: u64) -> Ended {
     match keyed.wheel.reserve_entry(alloc) {
         Ok(first) => {
@@ -91,7 +91,7 @@ impl Grows for Keyed {
         done_where((key as u64).wrapping_sub(self.first as u64) == n.wrapping_add(1))
     }
 
-    // How many keys are in, up to the first that was never made, and when the next is due.
+    // Returns a number for which keys are in, up to the first that was never made, and for the next expiration.
     fn seen(&self) -> u64 {
         let mut seen = self.wheel.next_expiration_time().unwrap_or(0);
         for key in self.first..self.last.saturating_add(2) {

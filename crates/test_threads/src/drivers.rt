@@ -9,7 +9,7 @@ use std::sync::atomic::Ordering;
 use std::time;
 use std::time::Duration;
 
-/// A clock with these readings.
+/// Returns a clock with these readings.
 fn clock_of<R: Abort>(rt: &R, alloc: Global, readings: &[u128]) -> ListClock {
     let mut instants = Vec::new(alloc);
     for nanos in readings {
@@ -28,7 +28,7 @@ fn a_list_clock_reads_its_list(rt: HostRuntime) {
     }
 }
 
-/// Each call of a driver once, and what it then reads. The park was unparked before.
+/// Makes each call of a driver once, and returns its reading then. The park was unparked before.
 fn calls_all<R: Host + Abort, D: Driver>(rt: &R, driver: &mut D) -> u128 {
     driver.unpark().expect(rt, "memory").unpark(rt);
     let are_ok = driver.submit(rt).is_ok() & driver.park(rt).is_ok();
@@ -66,11 +66,11 @@ const MANY: u64 = 400;
 enum Call {
     Submit,
     Park,
-    /// For so many seconds.
+    /// A park of at most this many seconds.
     ParkTimeout(u64),
 }
 
-/// Makes the call: whether it is answered so, and then reads so many nanoseconds.
+/// Makes the call, and returns whether it has this answer and the driver then reads this many nanoseconds.
 fn answers<R: Host, D: Driver>(
     rt: &R,
     driver: &mut D,
@@ -86,7 +86,7 @@ fn answers<R: Host, D: Driver>(
     answer.is_ok() == is_ok && driver.now().as_nanos() == nanos
 }
 
-/// The calls before those that all fail, the second of which is listed as one that fails.
+/// The calls before those that all fail; the second of these four is listed to fail.
 const FIRST_CALLS: [(Call, bool, u128); 4] = [
     (Call::Submit, true, 0),
     (Call::ParkTimeout(1), false, 0),
@@ -113,7 +113,7 @@ fn listed_calls_fail(rt: HostRuntime) {
     assert!(rt; are_so & answers(&rt, &mut driver, last, true, MAX_NANOS));
 }
 
-/// Whether a park sees the flag that another thread sets before it unparks.
+/// Returns whether a park sees the flag that another thread sets before it unparks.
 fn parks_for_the_flag<R: Host + Abort + Copy + Send + 'static>(
     rt: R,
     alloc: Global,

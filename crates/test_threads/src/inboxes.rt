@@ -5,10 +5,10 @@ use std::alloc::Global;
 use std::process::Abort;
 use std::sync::Arc;
 
-/// An inbox that unparks nobody.
+/// An inbox without a thread to unpark.
 type Plain = Inbox<NoUnpark>;
 
-/// Drains the inbox behind what was drained before: whether all drained tasks are these.
+/// Drains the inbox after an earlier list, and returns whether all drained tasks are these.
 fn has_drained<R: Host + Abort>(
     rt: &R,
     alloc: Global,
@@ -20,8 +20,8 @@ fn has_drained<R: Host + Abort>(
     tasks.as_slice() == expected
 }
 
-/// Wakes tasks 3 and 5, and task 3 again by a further waker, and both once more when task 3 is retired: whether they are
-/// drained in this order.
+/// Wakes tasks 3 and 5, and task 3 again by another waker, and both once more after task 3 was retired. Returns whether
+/// they are drained in this order.
 fn drains_in_order<R: Host + Abort>(
     rt: &R,
     alloc: Global,
@@ -42,7 +42,7 @@ fn drains_in_order<R: Host + Abort>(
 /// More tasks than an inbox makes room for at once.
 const MANY: u64 = 300;
 
-/// Makes a waker of each task, which then wakes it: whether a drain takes all.
+/// Makes a waker of each task, which then wakes it, and returns whether a drain takes all.
 fn drains_all<R: Host + Abort>(rt: &R, alloc: Global, inbox: &Plain, tasks: &mut Vec<u64>) -> bool {
     let mut are_listed = true;
     for task in 0..MANY {
@@ -53,7 +53,7 @@ fn drains_all<R: Host + Abort>(rt: &R, alloc: Global, inbox: &Plain, tasks: &mut
     are_listed & (tasks.len() as u64 == MANY)
 }
 
-/// Whether an inbox with room for so many drains all of many tasks, or some in order.
+/// Returns whether an inbox with room for `room` tasks drains all of many tasks, or some in order.
 fn drains<R: Host + Abort>(rt: &R, alloc: Global, room: usize, is_many: bool) -> bool {
     let mut tasks = Vec::new(alloc);
     let inbox = Inbox::new(alloc, room, NoUnpark).expect(rt, "memory");
@@ -69,10 +69,10 @@ fn an_inbox_drains_all_in_order(rt: HostRuntime) {
     assert!(rt; drains(&rt, rt.alloc(), 16, false) & drains(&rt, rt.alloc(), 0, true));
 }
 
-/// A registry of inboxes that unpark nobody.
+/// A registry of inboxes without a thread to unpark.
 type Inboxes = Registry<NoUnpark>;
 
-/// Registers one more inbox, which must get this number: a waker of its task 2.
+/// Registers one more inbox, which must get this number, and returns a waker of its task 2.
 fn registered<R: Host + Abort>(
     rt: &R,
     alloc: Global,
@@ -86,7 +86,7 @@ fn registered<R: Host + Abort>(
     waker
 }
 
-/// The inbox of this number, where it is in the registry.
+/// Returns the inbox of this number, if it is in the registry.
 fn inbox_of<R: Host + Abort>(
     rt: &R,
     registry: &Inboxes,
@@ -95,7 +95,7 @@ fn inbox_of<R: Host + Abort>(
     registry.get(rt, number).expect(rt, "memory")
 }
 
-/// Whether the inbox of this number takes the wakes of this waker.
+/// Returns whether the inbox of this number takes the wakes of this waker.
 fn takes_the_wake<R: Host + Abort>(
     rt: &R,
     alloc: Global,
@@ -109,7 +109,7 @@ fn takes_the_wake<R: Host + Abort>(
     is_listed & has_drained(rt, alloc, &inbox, &mut tasks, &[2])
 }
 
-/// Registers two inboxes: whether each takes the wakes of its waker.
+/// Registers two inboxes, and returns whether each takes the wakes of its waker.
 fn are_registered<R: Host + Abort>(rt: &R, alloc: Global, registry: &Inboxes) -> bool {
     let first = registered(rt, alloc, registry, 16);
     let second = registered(rt, alloc, registry, 17);
@@ -117,7 +117,7 @@ fn are_registered<R: Host + Abort>(rt: &R, alloc: Global, registry: &Inboxes) ->
         & takes_the_wake(rt, alloc, registry, 17, &second)
 }
 
-/// Whether the inbox of this number goes, once.
+/// Returns whether the inbox of this number can be removed once.
 fn goes_once<R: Host + Abort>(rt: &R, registry: &Inboxes, number: u64) -> bool {
     let goes = registry.unregister(rt, number);
     let is_gone = inbox_of(rt, registry, number).is_none();
@@ -131,7 +131,7 @@ fn a_registry_counts_from_sixteen(rt: HostRuntime) {
     registered(&rt, rt.alloc(), &registry, 18);
 }
 
-/// Whether the second of two inboxes goes and the first one stays, and the second then gets a new number.
+/// Returns whether the second of two inboxes is removed and the first one stays, and the second then gets a new number.
 fn tells_apart<R: Host + Abort>(rt: &R, alloc: Global, registry: &Inboxes) -> bool {
     let second = inbox_of(rt, registry, 17).expect(rt, "an inbox");
     let goes = goes_once(rt, registry, 17);

@@ -12,33 +12,33 @@ use std::process::Abort;
 enum Call {
     /// Makes a job with this output.
     Spawn(u64),
-    /// Whether the job has ended.
+    /// Asks whether the job has ended.
     HasEnded(u64),
     /// Polls the job for this task.
     Poll(u64, u64),
     /// Drops the job's handle.
     Drop(u64),
-    /// Runs all tasks that wait.
+    /// Runs all waiting tasks.
     RunAll,
 }
 
-/// A call, what it must answer, and the end of a job that it must see.
+/// A call, its expected answer, and the end of a job that it must see.
 type Row = (Call, Reply, Option<End>);
 
-/// The end of a job that was run, and for which nobody waited.
+/// The end of a job that was run, and for which no task waited.
 const RAN: Option<End> = Some(End {
     how: How::Ran,
     waiter: None,
 });
 
-/// The same of one for which task 7 waited.
+/// The end of a job that was run, and for which task 7 waited.
 const RAN_FOR_SEVEN: Option<End> = Some(End {
     how: How::Ran,
     waiter: Some(7),
 });
 
-/// What a spawn answers: `Canceled` where the pool refused the job. One that comes back must be the one with this output,
-/// and any other answer is `Pending`, which no test expects.
+/// Returns the answer of a spawn: `Canceled` if the pool refused the job. A refused job must have this output, and any
+/// other answer is `Pending`, which no test expects.
 fn spawned(answer: Result<JobHandle, SpawnError<Gives>>, output: u64) -> Reply {
     match answer {
         Ok(handle) => Reply::Job(handle.job()),
@@ -49,7 +49,7 @@ fn spawned(answer: Result<JobHandle, SpawnError<Gives>>, output: u64) -> Reply {
     }
 }
 
-/// What the question whether a job has ended answers.
+/// Returns the answer to the question whether a job has ended.
 fn asked(answer: Result<bool, Refusal>) -> Reply {
     match answer {
         Ok(true) => Reply::Yes,
@@ -58,7 +58,7 @@ fn asked(answer: Result<bool, Refusal>) -> Reply {
     }
 }
 
-/// What a poll answers.
+/// Returns the answer of a poll.
 fn polled(answer: Result<Poll<Result<u64, JoinError>>, Refusal>) -> Reply {
     match answer {
         Ok(Poll::Pending) => Reply::Pending,
@@ -68,7 +68,7 @@ fn polled(answer: Result<Poll<Result<u64, JoinError>>, Refusal>) -> Reply {
     }
 }
 
-/// What the drop of a handle answers.
+/// Returns the answer of the drop of a handle.
 fn dropped(answer: Result<Option<Result<u64, JoinError>>, Refusal>) -> Reply {
     match answer {
         Ok(Some(Ok(output))) => Reply::Dropped(Some(output)),
@@ -78,7 +78,7 @@ fn dropped(answer: Result<Option<Result<u64, JoinError>>, Refusal>) -> Reply {
     }
 }
 
-/// Makes one call: what it answers, and the end that it saw.
+/// Makes one call, and returns its answer and the end that it saw.
 fn answer<R: Host + Abort>(
     rt: &R,
     alloc: Global,
@@ -107,7 +107,7 @@ fn answer<R: Host + Abort>(
     }
 }
 
-/// Makes the calls in turn: each must answer so.
+/// Makes the calls in turn, and asserts their answers.
 fn all_answer<R: Host + Abort>(
     rt: &R,
     alloc: Global,
@@ -121,7 +121,7 @@ fn all_answer<R: Host + Abort>(
     }
 }
 
-/// The calls on new jobs with this limit, by a strategy: the pool, where there is one.
+/// Makes the calls on new jobs with this limit, by a strategy, and returns the pool, if there is one.
 fn all_answer_by<R: Host + Abort>(
     rt: &R,
     alloc: Global,
@@ -135,7 +135,7 @@ fn all_answer_by<R: Host + Abort>(
     jobs.into_pool()
 }
 
-/// The same without a pool.
+/// Makes the calls without a pool.
 fn all_answer_without<R: Host + Abort>(
     rt: &R,
     alloc: Global,
@@ -166,7 +166,7 @@ const ON_THE_CALLER: [Row; 10] = [
     (Call::HasEnded(2), Reply::Refused(Refusal::NoTask), None),
 ];
 
-// No pool comes after at capacity.
+// No pool is refused after at capacity.
 const WITH_ROOM: [Row; 1] = [(Call::Spawn(4), Reply::Refused(Refusal::NoPool), None)];
 
 const WITHOUT_ROOM: [Row; 1] = [(Call::Spawn(4), Reply::Refused(Refusal::AtCapacity), None)];
@@ -205,13 +205,14 @@ const SEEN_BY_EACH: [Row; 7] = [
     (Call::Drop(1), Reply::Dropped(Some(5)), RAN),
 ];
 
-/// Which task a pool refuses, counted from 0, if any, and the calls; how often it refused, and how many tasks then wait there.
+/// The task that a pool refuses, counted from 0, if any, and the calls; how often it refused, and how many tasks then
+/// wait in it.
 const ON_A_POOL: [(u64, &[Row], u64, usize); 2] = [
     (1, &ONE_REFUSED, 1, 2),
     (u64::MAX, &SEEN_BY_EACH, 0, 0),
 ];
 
-/// The calls on new jobs on such a pool: how often it refused, and how many tasks then wait there.
+/// Makes the calls on new jobs on such a pool, and returns how often it refused, and how many tasks then wait in it.
 fn all_answer_on_a_pool<R: Host + Abort>(
     rt: &R,
     alloc: Global,
@@ -232,7 +233,7 @@ fn jobs_on_a_pool(rt: HostRuntime) {
     }
 }
 
-/// Jobs on a pool that refuses none of their tasks, and the tasks that wait there.
+/// Returns jobs on a pool that refuses none of their tasks, and its waiting tasks.
 fn jobs_on<R: Abort>(rt: &R, alloc: Global, limit: u64) -> (Blockings<Keeps>, Waiting) {
     let (pool, waiting) = pool_refusing(rt, alloc, u64::MAX);
     let jobs = Blockings::new(alloc, BlockingHandle::Attached(pool), limit);
@@ -242,10 +243,10 @@ fn jobs_on<R: Abort>(rt: &R, alloc: Global, limit: u64) -> (Blockings<Keeps>, Wa
 /// Jobs past the second page of the table.
 const THROUGH: u64 = 600;
 
-/// How many jobs live beside the first one, once that many were made.
+/// How many jobs live in addition to the first one, once this many were made.
 const ALIVE: u64 = 10;
 
-/// The output that a drop hands back, or 0.
+/// Returns the output that a drop hands back, or 0.
 fn output_of(answer: Result<Option<Result<u64, JoinError>>, Refusal>) -> u64 {
     match answer {
         Ok(Some(Ok(output))) => output,
@@ -253,8 +254,8 @@ fn output_of(answer: Result<Option<Result<u64, JoinError>>, Refusal>) -> u64 {
     }
 }
 
-/// One more job, which is run, and the drop of the one that was made so many before: its output, or 0 where there was none,
-/// or where it is not gone.
+/// Makes and runs one job, and drops the job made `ALIVE` jobs before. Returns its output, or 0 if there was none or if
+/// it is still there.
 fn one_comes_one_goes<R: Host + Abort>(
     rt: &R,
     alloc: Global,
@@ -315,7 +316,8 @@ fn the_first_job_outlives_pages(rt: HostRuntime) {
     all_answer(&rt, alloc, &mut jobs, &waiting, &AFTER_ALL);
 }
 
-/// What a job answers before it was run and after it: its end is seen once, with who waited, and the drop after it sees none.
+/// Returns the calls on a job before it ran and after it: its end is seen once, with its waiter, and the drop after it
+/// sees none.
 fn rows_of(number: u64) -> ([Row; 2], [Row; 4]) {
     let before = [
         (Call::Poll(number, 7), Reply::Pending, None),

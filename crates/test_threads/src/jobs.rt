@@ -1,11 +1,11 @@
-// A task and its joiner: each public function on its happy path, and what a drop does.
+// A task and its joiner: each public function on its happy path, and the effect of a drop.
 use mono_blocking::*;
 use mono_inbox::{Inbox, NoUnpark, RemoteWaker};
 use mono_model::{Host, Poll};
 use std::alloc::Global;
 use std::process::Abort;
 
-/// Gives its number.
+/// A job that returns its number.
 #[derive(Drop)]
 pub(crate) struct Gives(pub(crate) u64);
 
@@ -27,13 +27,13 @@ impl Job for Gives {
     }
 }
 
-/// A waker of this task of an inbox of its own, for a joiner.
+/// Returns a waker of this task of an inbox of its own, for a joiner.
 pub(crate) fn waker<R: Host + Abort>(rt: &R, alloc: Global, task: u64) -> JobWaker<NoUnpark> {
     let inbox = Inbox::new(alloc, 1, NoUnpark).expect(rt, "memory");
     JobWaker::new(inbox.waker(rt, alloc, task).expect(rt, "memory"))
 }
 
-/// A task, its joiner, which waits with a waker, and a further one of that waker.
+/// A task, its joiner, which waits with a waker, and another waker of the same task.
 type Awaited = (BlockingTask<Gives>, JobJoiner<Gives>, RemoteWaker<NoUnpark>);
 
 fn awaited<R: Host + Abort>(rt: &R, alloc: Global) -> Awaited {
@@ -46,7 +46,7 @@ fn awaited<R: Host + Abort>(rt: &R, alloc: Global) -> Awaited {
     (task, joiner, other)
 }
 
-/// Polls the joiner, which must give this.
+/// Polls the joiner, and asserts this answer.
 pub(crate) fn ends<R: Abort>(
     rt: &R,
     mut joiner: JobJoiner<Gives>,
@@ -57,7 +57,7 @@ pub(crate) fn ends<R: Abort>(
     assert!(rt; joiner.poll(waker) == Poll::Ready(output));
 }
 
-/// The end of a job must have woken its joiner's task or not, and gives this.
+/// Asserts that the end of a job woke its joiner's task or not, and has this answer.
 fn ends_waking<R: Host + Abort>(
     rt: &R,
     joiner: JobJoiner<Gives>,

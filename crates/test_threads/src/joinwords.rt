@@ -16,7 +16,7 @@ impl Wakes for Named {
     }
 }
 
-// The number of the waker that a completion hands back, or 0 where it hands back none.
+// Returns the number of the waker that a completion hands back, or 0 if it hands back none.
 fn woken(waker: Option<Named>) -> u64 {
     match waker {
         Some(Named(number)) => number,
@@ -73,7 +73,7 @@ fn the_latest_waker_alone_comes_back(rt: HostRuntime) {
     assert!(rt; joiner.cancel_with_seat().output == Some(Ok(true)));
 }
 
-// An output that counts how often one is let go.
+// An output that counts how often one is dropped.
 struct Counted {
     number: u64,
     drops: Arc<AtomicU64, Global>,
@@ -94,7 +94,7 @@ impl Drop for Counted {
     }
 }
 
-// A joiner, and the thread on which its runner completes. Where it waits, the waker 7 is in place before.
+// A joiner, and the thread on which its runner completes. If it waits, the waker 7 was stored before.
 type Racing = (
     Joiner<Counted, Named>,
     JoinHandle<Completed<Counted, Named>>,
@@ -121,12 +121,12 @@ fn start_completing<R: Threads + Abort>(
     (joiner, child)
 }
 
-// Whether this is the output of those jobs.
+// Returns whether this is the output of those jobs.
 fn is_theirs(output: Result<Counted, JoinError>) -> bool {
     matches!(output, Ok(Counted { number: 4, .. }))
 }
 
-// Whether the joiner gets the output once, which polls with the waker 8 while another thread completes.
+// Returns whether the joiner gets the output once, if it polls with the waker 8 while another thread completes.
 fn poll_in_time<R: Threads + Abort>(
     rt: &R,
     alloc: Global,
@@ -149,7 +149,7 @@ fn poll_in_time<R: Threads + Abort>(
     is_told & !done.dropped & joiner.is_taken() & joiner.cancel().is_none()
 }
 
-// Whether the output is handed out or dropped, where the joiner cancels while another thread completes.
+// Returns whether the output is handed out or dropped if the joiner cancels while another thread completes.
 fn cancel_in_time<R: Threads + Abort>(
     rt: &R,
     alloc: Global,

@@ -10,10 +10,10 @@ use std::alloc::Global;
 use std::process::Abort;
 use std::sync::{Arc, Mutex};
 
-/// Tasks that wait.
+/// The waiting tasks.
 pub(crate) type Waiting = Arc<Mutex<Vec<BlockingTask<Gives>>>, Global>;
 
-/// Keeps the tasks that it is offered, and refuses one of them, counted from 0.
+/// A pool that keeps the tasks that it gets, and refuses one of them, counted from 0.
 #[derive(Drop)]
 pub(crate) struct Keeps {
     waiting: Waiting,
@@ -53,7 +53,7 @@ impl ThreadPool for Keeps {
     }
 }
 
-/// A pool that refuses this task, and the tasks that wait there.
+/// Returns a pool that refuses this task, and its waiting tasks.
 pub(crate) fn pool_refusing<R: Abort>(rt: &R, alloc: Global, refused: u64) -> (Keeps, Waiting) {
     let waiting = Arc::new(alloc, Mutex::new(Vec::new(alloc))).expect(rt, "memory");
     let pool = Keeps {
@@ -65,7 +65,7 @@ pub(crate) fn pool_refusing<R: Abort>(rt: &R, alloc: Global, refused: u64) -> (K
     (pool, waiting)
 }
 
-/// Runs all tasks that wait, or so many.
+/// Runs the waiting tasks, at most `most`.
 pub(crate) fn run_all<R: Host>(rt: &R, waiting: &Waiting, most: u64) {
     for _ in 0..most {
         let Some(task) = waiting.lock(rt).pop() else {

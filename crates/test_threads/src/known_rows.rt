@@ -1,10 +1,10 @@
-// Tasks that an inbox learns of in rows, and forgets together.
+// Tasks that an inbox knows in rows, and forgets together.
 use mono_inbox::{Inbox, NoUnpark};
 use mono_model::Host;
 use std::alloc::Global;
 use std::process::Abort;
 
-/// Whether each of these tasks' wakes, in order, is listed as said. The waker of one task serves the next.
+/// Returns whether each of these tasks' wakes, in order, is listed as expected. The waker of one task serves the next.
 fn is_listed_so<R: Host + Abort>(rt: &R, inbox: &Inbox<NoUnpark>, wakes: &[(u64, bool)]) -> bool {
     let mut waker = inbox.waker_of_known(0).expect(rt, "an owner more");
     for (task, listed) in wakes {
@@ -16,7 +16,7 @@ fn is_listed_so<R: Host + Abort>(rt: &R, inbox: &Inbox<NoUnpark>, wakes: &[(u64,
     true
 }
 
-/// Whether these tasks wait in the inbox, in order. They are taken.
+/// Takes the list of the inbox, and returns whether these tasks waited in it, in order.
 fn takes<R: Host + Abort>(rt: &R, alloc: Global, inbox: &Inbox<NoUnpark>, waiting: &[u64]) -> bool {
     let mut tasks = Vec::new(alloc);
     inbox.drain(rt, alloc, &mut tasks).expect(rt, "memory");
@@ -42,7 +42,7 @@ const FORGOTTEN: &[(u64, bool)] = &[
     (4096, true),
 ];
 
-/// Whether a row is known, of which all that was woken is taken.
+/// Returns whether a row is known, and all woken tasks are taken.
 fn is_known<R: Host + Abort>(rt: &R, alloc: Global, inbox: &Inbox<NoUnpark>) -> bool {
     let first = inbox.know_row(rt, alloc, 3, 10000);
     let second = inbox.know_row(rt, alloc, 7, 7);
@@ -51,7 +51,7 @@ fn is_known<R: Host + Abort>(rt: &R, alloc: Global, inbox: &Inbox<NoUnpark>) -> 
     are_known & is_listed_so(rt, inbox, KNOWN) & takes(rt, alloc, inbox, &[3, 9999, 4096])
 }
 
-/// Whether some of it is forgotten, of which one waits.
+/// Returns whether some of the row is forgotten, and one task waits.
 fn is_forgotten<R: Host + Abort>(rt: &R, alloc: Global, inbox: &Inbox<NoUnpark>) -> bool {
     let waits = is_listed_so(rt, inbox, &[(9999, true)]);
     inbox.retire_all(rt, &[3, 5000, 9999]);
@@ -65,14 +65,14 @@ fn a_row_is_known_and_some_of_it_is_forgotten(rt: HostRuntime) {
     assert!(rt; is_known(&rt, alloc, &inbox) && is_forgotten(&rt, alloc, &inbox));
 }
 
-/// The tasks from the first number to that before the end, appended in order.
+/// Appends the tasks from the first number to that before the end, in order.
 fn add_row<R: Host + Abort>(rt: &R, tasks: &mut Vec<u64>, from: u64, until: u64) {
     for task in from..until {
         tasks.push(task).expect(rt, "memory");
     }
 }
 
-/// Five tasks that wait when they are forgotten, on both sides of where a page of marks ends.
+/// Five tasks that wait when they are forgotten, on both sides of the end of a page of marks.
 const WAITING: &[(u64, bool)] = &[
     (10, true),
     (11, true),
@@ -81,7 +81,8 @@ const WAITING: &[(u64, bool)] = &[
     (7000, true),
 ];
 
-/// Of a row from 0 to 10,000 these are forgotten: 9,000 to the end, 5 to 3,000, 7,000, and 4,000 to 6,000.
+/// The tasks of a row from 0 to 10,000 after these were forgotten: 9,000 to the end, 5 to 3,000, 7,000, and 4,000 to
+/// 6,000.
 const AFTER_ROWS: &[(u64, bool)] = &[
     (4, true),
     (5, false),
@@ -104,12 +105,12 @@ const AFTER_ROWS: &[(u64, bool)] = &[
     (9999, false),
 ];
 
-/// What waited, and then what was listed since.
+/// The tasks that waited, and then those listed since.
 const LEFT: &[u64] = &[
     10, 11, 4095, 4096, 7000, 4, 3000, 3999, 6000, 6999, 7001, 8999,
 ];
 
-/// What is listed once all are known again.
+/// The tasks listed once all are known again.
 const AGAIN: &[(u64, bool)] = &[(5, true), (4096, true), (9999, true), (10, true)];
 
 /// Forgets the rows, one after the other and under one lock.
@@ -122,7 +123,7 @@ fn forget_rows<R: Host + Abort>(rt: &R, alloc: Global, inbox: &Inbox<NoUnpark>) 
     inbox.retire_all(rt, tasks.as_slice());
 }
 
-/// Whether rows of known tasks are forgotten, some of which wait.
+/// Returns whether rows of known tasks are forgotten, some of which wait.
 fn are_forgotten<R: Host + Abort>(rt: &R, alloc: Global, inbox: &Inbox<NoUnpark>) -> bool {
     let known = inbox.know_row(rt, alloc, 0, 10000);
     let wait = is_listed_so(rt, inbox, WAITING);
@@ -130,7 +131,7 @@ fn are_forgotten<R: Host + Abort>(rt: &R, alloc: Global, inbox: &Inbox<NoUnpark>
     (known == 10000) & wait & is_listed_so(rt, inbox, AFTER_ROWS) & takes(rt, alloc, inbox, LEFT)
 }
 
-/// Whether all of them are known again.
+/// Returns whether all of them are known again.
 fn are_known_again<R: Host + Abort>(rt: &R, alloc: Global, inbox: &Inbox<NoUnpark>) -> bool {
     let known = inbox.know_row(rt, alloc, 0, 10000);
     let are_listed = is_listed_so(rt, inbox, AGAIN);

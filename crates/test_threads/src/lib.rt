@@ -1,4 +1,5 @@
-//! Tests of join words, inboxes, recorded ones, parkers, registries, blocking jobs, their table and pools, and of drivers, over their public calls.
+//! Tests of join words, inboxes, recorded inboxes, parkers, registries, blocking jobs, their table and pools, and of
+//! drivers, over their public calls.
 #![tactic(auto)]
 
 #[cfg(test)]

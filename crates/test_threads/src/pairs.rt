@@ -4,7 +4,7 @@ use mono_inbox::{Inbox, Parker, UnparkHandle};
 use mono_joinword::Outcome;
 use use_pair::both;
 
-/// Gives its number.
+/// A job that returns its number.
 #[derive(Drop)]
 struct Gives(u64);
 

@@ -20,7 +20,7 @@ fn a_token_is_taken_once(rt: HostRuntime) {
     assert!(rt; !early & first & !second);
 }
 
-/// A handle that ends a park of this parker.
+/// Returns a handle that ends a park of this parker.
 pub(crate) fn handle_of<R: Abort>(rt: &R, parker: &Parker) -> UnparkHandle {
     parker.handle().expect(rt, "memory")
 }
@@ -36,7 +36,7 @@ fn a_park_takes_the_token(rt: HostRuntime) {
     parker.park_timeout(&rt, Duration::from_millis(1));
 }
 
-/// A thread that sets a flag after so long and then unparks, and the flag.
+/// Starts a thread that sets a flag after a while and then unparks, and returns the flag, too.
 pub(crate) fn start_setting<R: Host + Abort + Copy + Send + 'static>(
     rt: R,
     alloc: Global,
@@ -53,7 +53,7 @@ pub(crate) fn start_setting<R: Host + Abort + Copy + Send + 'static>(
     (flag, thread.ok().expect(&rt, "a thread"))
 }
 
-/// Whether a park sees the flag that another thread sets before it unparks.
+/// Returns whether a park sees the flag that another thread sets before it unparks.
 fn parks_for_the_flag<R: Host + Abort + Copy + Send + 'static>(
     rt: R,
     alloc: Global,
@@ -92,13 +92,13 @@ fn a_park_that_returns_took_the_token(rt: HostRuntime) {
     }
 }
 
-/// How often a token is handed to and fro: far more often than a wake that is lost now and then would stay unseen.
+/// How often a token is handed to and fro: often enough to catch a wake that is lost now and then.
 const TURNS: u64 = 100_000;
 
 /// The longest that a park may wait for a token that is on its way, in seconds.
 const LATE: u64 = 10;
 
-/// Waits for the token, counts it and hands it back, so many times.
+/// Waits for the token, counts it and hands it back, `TURNS` times.
 fn hands_back<R: Host>(rt: &R, mine: &Parker, other: &UnparkHandle, count: &AtomicU64) {
     for turn in 0..TURNS {
         mine.park_timeout(rt, Duration::from_secs(LATE));
@@ -107,7 +107,7 @@ fn hands_back<R: Host>(rt: &R, mine: &Parker, other: &UnparkHandle, count: &Atom
     }
 }
 
-/// Hands the token over and waits until it is back: whether it was counted each time before it came back.
+/// Hands the token over and waits until it is back. Returns whether it was counted each time before it was back.
 fn hands_over<R: Host>(rt: &R, mine: &Parker, other: &UnparkHandle, count: &AtomicU64) -> bool {
     for turn in 0..TURNS {
         other.unpark(rt);
@@ -119,7 +119,7 @@ fn hands_over<R: Host>(rt: &R, mine: &Parker, other: &UnparkHandle, count: &Atom
     true
 }
 
-/// Whether each token that is handed to another thread was counted there before it came back.
+/// Returns whether each token that is handed to another thread was counted there before it was back.
 fn goes_to_and_fro<R: Host + Abort + Copy + Send + 'static>(
     rt: R,
     alloc: Global,
@@ -145,7 +145,7 @@ fn a_token_goes_to_and_fro(rt: HostRuntime) {
     assert!(rt; goes_to_and_fro(rt, rt.alloc(), &mine, theirs));
 }
 
-/// How long a park takes, of at most so many milliseconds, that nobody ends.
+/// Returns how long a park of at most `milliseconds` takes that no call ends.
 fn gone_of<R: Host + Abort>(rt: &R, parker: &Parker, milliseconds: u64) -> Duration {
     let begin = time::Instant::now(rt).expect(rt, "a clock");
     parker.park_timeout(rt, Duration::from_millis(milliseconds));

@@ -1,4 +1,4 @@
-// Pools: without workers, with two, with a spawner of its own, and one that refuses.
+// Pools: without workers, with two, with a spawner of its own, and with a spawner that refuses.
 ghost use Rattle.std.specs.Prelude.{◌≡◌, ◌<◌, IfNone, IfSome};
 ghost use Rattle.std.specs.Vec.{vec_len, vec_capacity};
 ghost use Rattle.mono_blocking.specs.Counts.{counted_by};
@@ -16,7 +16,7 @@ use std::thread;
 use std::thread::JoinHandle;
 use std::time::Duration;
 
-/// A task that gives 4, and its joiner.
+/// Returns a task whose output is 4, and its joiner.
 fn gives_four<R: Abort>(rt: &R, alloc: Global) -> (BlockingTask<Gives>, JobJoiner<Gives>) {
     let made = BlockingTask::new(alloc, Gives(4));
     made.ok().expect(rt, "memory")
@@ -34,7 +34,7 @@ fn a_pool_without_workers_runs_on_the_caller(rt: HostRuntime) {
     pool.close(&rt);
 }
 
-/// The first job looks for a flag, and any other one adds one to it.
+/// A job: the first reads a flag until it is set, and each other job adds one to it.
 #[derive(Drop)]
 struct Meets {
     number: u64,
@@ -49,7 +49,7 @@ impl Outcome for Meets {
     }
 }
 
-/// Looks for the flag until it counts so many. A pool that never sets it hangs the test.
+/// Reads the flag until it counts `count`. A pool that never sets it hangs the test.
 fn looks(flag: &AtomicU64, count: u64) {
     for _ in 0..u64::MAX {
         if flag.load(Ordering::SeqCst) >= count {
@@ -73,16 +73,16 @@ impl Job for Meets {
     }
 }
 
-/// What is done between the last job and the close of the pool.
+/// The step between the last job and the close of the pool.
 enum Between {
     Nothing,
     /// The flag is set.
     Sets,
-    /// The flag is looked for, and must come to be set.
+    /// The flag is read until it is set.
     Looks,
 }
 
-/// How a pool is used: so many workers get, after so many milliseconds, so many jobs, which are numbered from here on.
+/// A use of a pool: how many workers get, after how many milliseconds, how many jobs, which are numbered from here on.
 struct Plan {
     workers: usize,
     after: u64,
@@ -91,7 +91,7 @@ struct Plan {
     between: Between,
 }
 
-/// Gives the pool the jobs of the plan, and hands out their joiners.
+/// Gives the pool the jobs of the plan, and returns their joiners.
 fn give_all<R: Host + Abort>(
     rt: &R,
     alloc: Global,
@@ -134,7 +134,7 @@ fn use_pool<R: Host + Abort + Send + 'static, P: Spawner>(
     joiners
 }
 
-/// How many jobs are done, each with its own number, from the first one on.
+/// Returns how many jobs are done, each with its own number, from the first one on.
 fn count_met<R: Host + Abort>(
     rt: &R,
     alloc: Global,
@@ -149,7 +149,7 @@ fn count_met<R: Host + Abort>(
     number.wrapping_sub(first)
 }
 
-/// How many jobs of the plan the workers have run when the pool was closed.
+/// Returns how many jobs of the plan the workers have run when the pool was closed.
 fn run_by<R: Host + Abort + Send + 'static>(rt: &R, alloc: Global, plan: &Plan) -> u64 {
     let flag = Arc::new(alloc, AtomicU64::new(0)).expect(rt, "memory");
     let mut spawner = ThreadSpawner::new(alloc);
@@ -158,18 +158,18 @@ fn run_by<R: Host + Abort + Send + 'static>(rt: &R, alloc: Global, plan: &Plan) 
     count_met(rt, alloc, joiners, plan.first)
 }
 
-/// Uses a pool as each plan says: the workers must have run all its jobs.
+/// Uses a pool as each plan says, and asserts that the workers have run all its jobs.
 fn run_all_by<R: Host + Abort + Send + 'static>(rt: &R, alloc: Global, plans: &[Plan]) {
     for plan in plans {
         assert!(rt; run_by(rt, alloc, plan) == plan.jobs);
     }
 }
 
-/// How long workers are given to begin to wait, in milliseconds.
+/// How long the workers have to begin to wait, in milliseconds.
 const A_WHILE: u64 = 50;
 
 const PLANS: [Plan; 8] = [
-    // two workers run two jobs at once, of which the first looks for the flag and the second sets it
+    // two workers run two jobs at once; the first reads the flag and the second sets it
     Plan {
         workers: 2,
         after: 0,
@@ -200,7 +200,7 @@ const PLANS: [Plan; 8] = [
         jobs: 0,
         between: Between::Nothing,
     },
-    // a worker that waits is told of a job
+    // a waiting worker is notified of a job
     Plan {
         workers: 1,
         after: A_WHILE,
@@ -208,7 +208,7 @@ const PLANS: [Plan; 8] = [
         jobs: 1,
         between: Between::Looks,
     },
-    // two workers that wait are both told, before the close: the first job looks for the flag, and the second sets it
+    // two waiting workers are both notified, before the close: the first job reads the flag, and the second sets it
     Plan {
         workers: 2,
         after: A_WHILE,
@@ -224,7 +224,7 @@ const PLANS: [Plan; 8] = [
         jobs: 1,
         between: Between::Looks,
     },
-    // one worker leaves the caller free, who sets the flag for which the job looks
+    // one worker leaves the caller free, and the caller sets the flag that the job reads
     Plan {
         workers: 1,
         after: 0,
@@ -239,7 +239,7 @@ fn workers_run_all(rt: HostRuntime) {
     run_all_by(&rt, rt.alloc(), &PLANS);
 }
 
-/// Sets the flag.
+/// A job that sets the flag.
 #[derive(Drop)]
 struct Sets(Arc<AtomicU64, Global>);
 
@@ -249,7 +249,7 @@ impl Entry for Sets {
     }
 }
 
-/// Starts threads that set a flag before they run their worker.
+/// A spawner of threads that set a flag before they run their worker.
 #[derive(Drop)]
 struct SetsFirst {
     inner: ThreadSpawner,
@@ -296,7 +296,7 @@ impl Spawner for SetsFirst {
     }
 }
 
-/// The job looks for the flag, which its thread has set.
+/// The job reads the flag, which its thread has set.
 const ENTERED: Plan = Plan {
     workers: 1,
     after: 0,
@@ -319,10 +319,10 @@ fn a_thread_enters_before_its_worker(rt: HostRuntime) {
     assert!(rt; count_met(&rt, alloc, joiners, 1) == 1);
 }
 
-/// How many jobs are handed over one by one: so many that a wake which is lost now and then does not stay unseen.
+/// How many jobs are handed over one by one: enough to catch a wake that is lost now and then.
 const HANDED: u64 = 100_000;
 
-/// Hands jobs to the pool one by one, each once the last one has run. A wake that is lost hangs the test.
+/// Hands jobs to the pool one by one, each once the last one has run. A lost wake hangs the test.
 fn hand_over<R: Host + Abort>(
     rt: &R,
     alloc: Global,
@@ -355,7 +355,7 @@ fn each_job_wakes_a_worker_that_waits(rt: HostRuntime) {
     spawner.join(&rt);
 }
 
-/// Gives the spawner a thread that adds one to a count after so many milliseconds.
+/// Gives the spawner a thread that adds one to a count after some milliseconds.
 fn keep_late<R: Host + Abort + Copy + Send + 'static>(
     rt: R,
     spawner: &mut ThreadSpawner,

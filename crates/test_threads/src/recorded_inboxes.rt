@@ -1,4 +1,4 @@
-// The recorded inbox: what is kept, and how many wakes the shares count.
+// The recorded inbox: which calls it keeps, and how many wakes the shares count.
 ghost use Rattle.std.specs.Prelude.{◌≡◌};
 
 use mono_inbox::*;
@@ -10,7 +10,7 @@ use std::sync::ledger::{Blank, Ledger};
 use std::thread;
 use std::thread::JoinHandle;
 
-/// A recorded inbox that keeps so many calls, and the shares of its callers.
+/// A recorded inbox that keeps up to a number of calls, and the shares of its callers.
 type Opened<L> = (RecordedInbox<NoUnpark, L>, Vec<CallShare<L>>);
 
 fn opened<L: Ledger, R: Abort>(
@@ -59,7 +59,7 @@ fn a_recorded_inbox_drains_in_order(rt: HostRuntime) {
 /// How often each caller wakes its task.
 const WAKES: u64 = 100;
 
-/// How many wakes are kept, of which the first alone is listed, up to one that is not.
+/// Returns how many wakes are kept, up to the first that is not; the first alone is listed.
 fn wake_often<L: Ledger, R: Host>(
     rt: &R,
     waker: &RecordedWaker<NoUnpark, L>,
@@ -76,7 +76,7 @@ fn wake_often<L: Ledger, R: Host>(
 /// A thread that wakes the task often with the share, and hands it back.
 type Waking<L> = JoinHandle<(CallShare<L>, u64)>;
 
-/// A thread that wakes the task of the last share's number with that share.
+/// Starts a thread that wakes the task of the last share's number with that share.
 fn start<L: Ledger + Send + Sync + 'static, R: Host + Abort + Copy + Send + 'static>(
     rt: R,
     alloc: Global,
@@ -94,7 +94,7 @@ fn start<L: Ledger + Send + Sync + 'static, R: Host + Abort + Copy + Send + 'sta
     thread.ok().expect(&rt, "a thread")
 }
 
-/// The share that a thread hands back, behind all its wakes.
+/// Returns the share that a thread hands back, after all its wakes.
 fn joined<L: Ledger + Send + Sync + 'static, R: Host + Abort>(
     rt: &R,
     waking: Waking<L>,
@@ -104,7 +104,7 @@ fn joined<L: Ledger + Send + Sync + 'static, R: Host + Abort>(
     share
 }
 
-/// How many wakes of the task were kept.
+/// Returns how many wakes of the task were kept.
 fn kept_puts(history: &Vec<CallEntry>, task: u64) -> u64 {
     let mut puts = 0u64;
     for entry in history {
@@ -115,7 +115,7 @@ fn kept_puts(history: &Vec<CallEntry>, task: u64) -> u64 {
     puts
 }
 
-/// Whether the state kept each wake of both tasks, and counted as many with a share as were gathered.
+/// Returns whether the state kept each wake of both tasks, and counted the same number with a share as were gathered.
 fn keeps_all(state: &InboxState, gathered: u64) -> bool {
     kept_puts(state.history(), 0) == WAKES
         && kept_puts(state.history(), 1) == WAKES
@@ -149,7 +149,7 @@ fn two_threads_count_their_wakes(rt: HostRuntime) {
     assert!(rt; two_callers::<Brand, _>(rt, rt.alloc(), Blank::new(2)) == 200);
 }
 
-/// Whether the first wake is kept and counted, and the second is not, since the state then keeps no more calls.
+/// Returns whether the first wake is kept and counted, and the second is not, since the state then keeps no more calls.
 fn counts_one<L: Ledger, R: Host>(
     rt: &R,
     waker: &RecordedWaker<NoUnpark, L>,
@@ -180,7 +180,7 @@ fn a_full_state_counts_no_more(rt: HostRuntime) {
     full_state::<Brand, _>(&rt, rt.alloc(), Blank::new(1));
 }
 
-/// A wake ends a park, without a share and with one.
+/// Asserts that a wake ends a park, without a share and with one.
 fn wakes_end_parks<L: Ledger, R: Host + Abort>(rt: &R, alloc: Global, blank: Blank)
     requires { (blank.name ≡ L.name) × (blank.parts ≡ L.parts) × (blank.parts ≡ 1) }
 {

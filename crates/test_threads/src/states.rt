@@ -1,9 +1,9 @@
-// The state of an inbox: each test is a table of calls with the replies that they must have.
+// The state of an inbox: each test is a table of calls with their expected replies.
 use mono_inbox::{CallEntry, InboxState};
 use std::alloc::Global;
 use std::process::Abort;
 
-/// One call on a state, with what it answers.
+/// One call on a state, with its answer.
 #[derive(Clone, Copy)]
 enum Call {
     /// The task is made known, or is not.
@@ -16,13 +16,13 @@ enum Call {
     Drains(u64),
     /// The task is made unknown.
     Retires(u64),
-    /// So many tasks wait.
+    /// This many tasks wait.
     Waits(usize),
     /// Whether the state keeps no more calls.
     IsFull(bool),
 }
 
-/// Whether this task is all that waits. It is taken.
+/// Drains, and returns whether this task was the only waiting one.
 fn drains_alone<R: Abort>(rt: &R, alloc: Global, state: &mut InboxState, task: u64) -> bool {
     let mut tasks = Vec::new(alloc);
     tasks.reserve(state.waiting()).expect(rt, "memory");
@@ -30,7 +30,7 @@ fn drains_alone<R: Abort>(rt: &R, alloc: Global, state: &mut InboxState, task: u
     tasks.as_slice() == [task].as_slice()
 }
 
-/// Makes one call: whether it answers so.
+/// Makes one call, and returns whether it has this answer.
 fn answers<R: Abort>(rt: &R, alloc: Global, state: &mut InboxState, call: Call) -> bool {
     match call {
         Call::Knows(task, known) => state.know(alloc, task).is_ok() == known,
@@ -46,7 +46,7 @@ fn answers<R: Abort>(rt: &R, alloc: Global, state: &mut InboxState, call: Call) 
     }
 }
 
-/// Makes the calls in turn: each must answer so.
+/// Makes the calls in turn, and asserts their answers.
 fn all_answer<R: Abort>(rt: &R, alloc: Global, state: &mut InboxState, calls: &[Call]) {
     for call in calls {
         assert!(rt; answers(rt, alloc, state, *call));
@@ -56,7 +56,8 @@ fn all_answer<R: Abort>(rt: &R, alloc: Global, state: &mut InboxState, calls: &[
 /// How far apart two tasks that are made known are, so that few calls reach all pages and parts of an inbox's marks.
 const STEP: u64 = 50;
 
-/// Every `STEP`th task below a number is made known in turn, woken, taken and retired; every 100,000th is not retired.
+/// Makes every `STEP`th task below a number known in turn, wakes it, takes and retires it; every 100,000th is not
+/// retired.
 fn come_and_go(alloc: Global, state: &mut InboxState, end: u64) -> bool {
     let mut all_listed = true;
     for at in 0..end / STEP {
@@ -71,7 +72,7 @@ fn come_and_go(alloc: Global, state: &mut InboxState, end: u64) -> bool {
     all_listed
 }
 
-/// The calls on a new state with this room, after tasks below a number have come and gone.
+/// Makes the calls on a new state with this room, after tasks below a number were made known and retired.
 fn all_answer_behind<R: Abort>(rt: &R, alloc: Global, room: usize, end: u64, calls: &[Call]) {
     let mut state = InboxState::new(alloc, room).expect(rt, "memory");
     assert!(rt; come_and_go(alloc, &mut state, end));
@@ -154,7 +155,7 @@ const KEPT_MARKS: [Call; 40] = [
     Call::DrainsOne(None),
 ];
 
-// A number that went is known anew.
+// A retired number is known anew.
 const KNOWN_ANEW: [Call; 18] = [
     Call::Puts(9_950, false),
     Call::Knows(9_950, true),
@@ -176,7 +177,7 @@ const KNOWN_ANEW: [Call; 18] = [
     Call::Puts(0, true),
 ];
 
-/// The room of a new state, the number below which tasks come and go there, and the calls after them.
+/// The room of a new state, the number below which tasks were known and retired, and the calls after them.
 const CASES: [(usize, u64, &[Call]); 5] = [
     (0, 0, &LISTED_ONCE),
     (2, 0, &RETIRED),
@@ -208,7 +209,7 @@ const RECORDED: [Call; 13] = [
     Call::Puts(3, true),
 ];
 
-/// What is kept of these calls.
+/// The record of these calls.
 const KEPT: [CallEntry; 9] = [
     CallEntry::Know(3),
     CallEntry::Know(5),

@@ -15,7 +15,7 @@ const TASKS: usize = 8;
 
 const ROUNDS: u64 = 500;
 
-/// Wakes each task so many times, and answers how many wakes were listed.
+/// Wakes each task `rounds` times, and returns how many wakes were listed.
 fn wake_often<U: Unpark, R: Host>(rt: &R, wakers: &Vec<RemoteWaker<U>>, rounds: u64) -> u64 {
     let mut listed = 0u64;
     for _ in 0..rounds {
@@ -28,7 +28,7 @@ fn wake_often<U: Unpark, R: Host>(rt: &R, wakers: &Vec<RemoteWaker<U>>, rounds: 
     listed
 }
 
-/// A thread that wakes all tasks so many times, then tells that it has finished, and then unparks.
+/// Starts a thread that wakes all tasks `rounds` times, then sets that it has finished, and then unparks.
 fn start_waking<U: Unpark + 'static, R: Host + Abort + Copy + Send + 'static>(
     rt: R,
     wakers: Vec<RemoteWaker<U>>,
@@ -46,7 +46,7 @@ fn start_waking<U: Unpark + 'static, R: Host + Abort + Copy + Send + 'static>(
     thread.ok().expect(&rt, "a thread")
 }
 
-/// Starts all threads, each with further wakers of the same tasks.
+/// Starts all threads, each with wakers of its own for the same tasks.
 fn start_all<R: Host + Abort + Copy + Send + 'static>(
     rt: R,
     alloc: Global,
@@ -63,7 +63,7 @@ fn start_all<R: Host + Abort + Copy + Send + 'static>(
     threads
 }
 
-/// Counts each task of one drain. False where one stands there twice, or was never woken.
+/// Counts each task of one drain. Returns false if a task occurs twice, or was never woken.
 fn count_drained(tasks: &[u64], counts: &mut [u64; TASKS]) -> bool {
     let mut seen = [false; TASKS];
     for task in tasks {
@@ -77,7 +77,7 @@ fn count_drained(tasks: &[u64], counts: &mut [u64; TASKS]) -> bool {
     true
 }
 
-/// Drains until all threads have finished, and once more. No drain may have a task twice or a strange one.
+/// Drains until all threads have finished, and once more. No drain may have a task twice or an unknown one.
 fn drain_until_all_finished<R: Host + Abort>(
     rt: &R,
     alloc: Global,
@@ -99,7 +99,7 @@ fn drain_until_all_finished<R: Host + Abort>(
     }
 }
 
-/// Whether each task was drained, and all of them as often as the threads' wakes were listed.
+/// Returns whether each task was drained, and all of them as often as the threads' wakes were listed.
 fn all_were_drained<R: Host>(rt: &R, threads: Vec<JoinHandle<u64>>, counts: &[u64; TASKS]) -> bool {
     let mut listed = 0u64;
     for thread in threads {
@@ -114,7 +114,7 @@ fn all_were_drained<R: Host>(rt: &R, threads: Vec<JoinHandle<u64>>, counts: &[u6
     is_each & (drained == listed)
 }
 
-/// A waker of each task.
+/// Returns a waker of each task.
 fn wakers_of<R: Host + Abort>(
     rt: &R,
     alloc: Global,
@@ -128,7 +128,7 @@ fn wakers_of<R: Host + Abort>(
     wakers
 }
 
-/// Has all threads wake all tasks, and drains them.
+/// Lets all threads wake all tasks, and drains them.
 fn wake_and_drain<R: Host + Abort + Copy + Send + 'static>(
     rt: R,
     alloc: Global,
@@ -154,7 +154,7 @@ fn four_threads_wake_eight_tasks(rt: HostRuntime) {
     wake_and_drain(rt, rt.alloc(), &inbox, &parker, &mut tasks);
 }
 
-/// Unparks the thread that drains, and waits until that has drained.
+/// A handle that unparks the thread that drains, and waits until that has drained.
 #[derive(Drop)]
 struct UnparksAndWaits {
     drainer: UnparkHandle,
@@ -177,7 +177,7 @@ impl Unpark for UnparksAndWaits {
     }
 }
 
-/// An inbox whose wakes unpark the one and wait for the other.
+/// Returns an inbox whose wakes unpark the first parker and wait for the second.
 fn waiting_inbox<R: Abort>(
     rt: &R,
     alloc: Global,
@@ -191,7 +191,7 @@ fn waiting_inbox<R: Abort>(
     Inbox::new(alloc, 0, unpark).expect(rt, "memory")
 }
 
-/// One wake of task 3 by another thread, which ends once its task was drained.
+/// Wakes task 3 once by another thread, which ends once its task was drained.
 fn wake_and_wait<R: Host + Abort + Copy + Send + 'static>(
     rt: R,
     alloc: Global,
