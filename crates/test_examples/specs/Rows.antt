@@ -1,7 +1,7 @@
 -- A row of a table as text.
 use Rattle.std.specs.Prelude.{ℕ, List, ◌∷◌, [], ◌++◌, Option, Some, None}
 
--- what stands behind a row's words: nothing where it has no input, else a line feed and the input's lines
+-- the text after a row's words: nothing if it has no input, else a line feed and the input's lines
 abbrev pub behind_words : Option (List ℕ) → List ℕ
 behind_words None = []
 behind_words (Some lines) = 10 ∷ lines

@@ -1,5 +1,5 @@
-//! Worked rows through the top call: standard input holds the title, the words and the input of each row, and standard
-//! output gets for each its title, its words, what the top call writes, and the status that it answers.
+//! Examples through the top call. Standard input holds the title, the words and the input of each example. Standard
+//! output gets for each its title, its words, the bytes that the top call writes, and its status.
 #![tactic(auto)]
 
 mod rows;
@@ -30,7 +30,7 @@ fn input_of(alloc: Global, lines: Option<&str>) -> Result<Vec<u8>, AllocError> {
     Ok(input)
 }
 
-// A clock that always reads its beginning.
+// Returns a clock that always reads its beginning.
 fn still_clock(alloc: Global) -> Option<ListClock> {
     let mut readings = Vec::new(alloc);
     readings.push(Instant::from_nanos(0)?).ok()?;
@@ -44,7 +44,7 @@ fn put(sink: &mut StdoutSink, parts: &[&str]) -> Option<()> {
     Some(())
 }
 
-// What the top call answers; it writes to the sink.
+// Returns the status of the top call, which writes to the sink.
 fn status_of<R: Host + Send + 'static>(
     rt: &R,
     alloc: Global,
@@ -70,7 +70,7 @@ fn answer<R: Host + Send + 'static>(
     put(sink, &["= ", buffer.format(status), "\n"])
 }
 
-// Each row of the table, in order. None where the table has another form, or where memory or the sink gives out.
+// Answers each row of the table, in order. Returns None if the table has another form, or if memory or the sink ends.
 fn answer_all<R: Host + Send + 'static>(
     rt: &R,
     alloc: Global,

@@ -2,13 +2,13 @@
 ghost use Rattle.std.specs.Prelude.{◌≡◌, IfSome, option_map};
 ghost use Rattle.test_examples.specs.Rows.{row_text};
 
-/// What stands before the first row's title, and behind a line feed before each other's.
+/// The mark before each row's title; a line feed precedes it except in the first row.
 pub(crate) const MARK: &str = "== ";
 
-/// What stands between two rows: the last line feed of the one, and the mark of the other.
+/// The text between two rows: the last line feed of the one, and the mark of the other.
 pub(crate) const BETWEEN: &str = "\n== ";
 
-/// A row: its title, the words, and the lines of its input without the last line feed, where it has any.
+/// A row: its title, the words, and the lines of its input without the last line feed, if it has any.
 #[derive(Clone, Copy)]
 pub(crate) struct Row<'a> {
     pub title: &'a str,
@@ -16,8 +16,8 @@ pub(crate) struct Row<'a> {
     pub lines: Option<&'a str>,
 }
 
-/// The row that this text says, from behind its mark to before its last line feed. Title, words and lines are all of it,
-/// in this order.
+/// Returns the row that this text spells, from after its mark to before its last line feed. Title, words and lines are
+/// all of it, in this order.
 pub(crate) fn row_of<'a>(text: &'a str) -> Option<Row<'a>>
     ensures { IfSome result (λ r. text.now ≡ row_text r.title.now r.words.now (option_map (λ l. l.now) r.lines)) }
 {

@@ -37,7 +37,7 @@ impl Job for NoJob {
     }
 }
 
-/// How many turns, parks and milliseconds of parks a journal tells.
+/// Returns how many turns, parks and milliseconds of parks a journal has.
 fn told_in(journal: &Journal) -> (u64, u64, u64) {
     let mut turns = 0u64;
     let mut parks = 0u64;
@@ -55,7 +55,7 @@ fn told_in(journal: &Journal) -> (u64, u64, u64) {
     (turns, parks, milliseconds)
 }
 
-/// The answer of a main task on a runtime of its own, and what its journal tells.
+/// Runs a main task on a runtime of its own, and returns its answer and the counts of its journal.
 fn run<F, R: Host + Abort>(
     rt: &R,
     alloc: Global,
@@ -79,7 +79,7 @@ where
     (answer, told_in(&journal))
 }
 
-/// The answer of a main task beside a task that was spawned before it, and what the journal tells.
+/// Runs a main task with a task that was spawned before it, and returns its answer and the counts of its journal.
 fn run_beside<F, R: Host + Abort>(
     rt: &R,
     alloc: Global,
@@ -147,7 +147,7 @@ fn tasks_of_two_kinds_stand_in_one_table(rt: HostRuntime) {
         .and_then(|_: ()| sleep_for(Duration::from_millis(3)))
         .map(|_: Result<(), SleepError>| 8u64)
         .right_future();
-    // The task beside wakes at 1 ms, and the main task at 2 ms and at 5 ms.
+    // The other task wakes at 1 ms, and the main task at 2 ms and at 5 ms.
     assert_eq!(rt;
         run_beside(&rt, rt.alloc(), beside, main),
         (Ok(8), (5, 3, 5))

@@ -1,4 +1,4 @@
-// A context that logs what its futures do, and futures that write there.
+// A context that logs the calls of its futures, and futures that write to its log.
 ghost use Rattle.std.specs.Prelude.{◌≡◌, ⊤, false};
 ghost use Rattle.std.proofs.Common.{refl, ◌∙◌};
 ghost use Rattle.mono_model.specs.Tasks.{no_tasks};
@@ -8,7 +8,7 @@ use mono_model::{Host, Poll};
 use mono_task::{Context, TaskError, TaskFuture, Woke};
 use std::alloc::Global;
 
-/// A context whose log has a letter for each thing that its futures did: a small one for a poll, the same large for what was
+/// A context whose log has a letter for each call of its futures: a small one for a poll, the same large when it is
 /// given up, `!` for a wake, and `.` for the end of a poll from outside.
 #[derive(Drop)]
 pub(crate) struct Log {
@@ -61,7 +61,7 @@ impl Context for Log {
     ghost stays_out_of_memory = { λ a b r h. h };
 }
 
-/// A future that waits for so many polls and then answers a value, each time that it is polled.
+/// A future that waits for a number of polls and then answers a value, each time that it is polled.
 #[derive(Clone, Copy, Drop)]
 pub(crate) struct Part<X> {
     name: char,
@@ -110,7 +110,7 @@ impl<X: Copy + Drop> TaskFuture<Log> for Part<X> {
     }
 }
 
-/// Polls a future at most so many times, until it answers, and gives it up. Returns its answer and the log.
+/// Polls a future at most `polls` times, until it answers, and gives it up. Returns its answer and the log.
 pub(crate) fn drive<A: TaskFuture<Log>, R: Host>(
     rt: &R,
     alloc: Global,

@@ -1,6 +1,6 @@
-// Each form on each of its ways, and what it gives up after each number of polls.
-// The expected logs follow the rules of the crate `futures`: a form polls in the written order, the next part has its first
-// poll as soon as the one before has answered, and a part that has answered is dropped.
+// Each form on each of its ways, and the futures that it gives up after each number of polls. The expected logs follow
+// the rules of the crate `futures`. A form polls in the written order. The next part has its first poll as soon as the
+// one before has answered. A part that has answered is dropped.
 use crate::logs::{Part, drive, make_part};
 use mono_combine::{TryJoin2, join3};
 use mono_forms::{
@@ -8,7 +8,7 @@ use mono_forms::{
     ready, repeat, yield_now,
 };
 
-/// A value that is an error from 100 on.
+/// Returns a value, which is an error from 100 on.
 fn tried(x: u64) -> Result<u64, u64> {
     if x < 100 { Ok(x) } else { Err(x) }
 }

@@ -1,8 +1,8 @@
-// What is said of words that are no command.
+// The complaints about words that are no command.
 use mono_script::complaint;
 use std::alloc::Global;
 
-// The words of a text. Where memory ends they are fewer.
+// Returns the words of a text, or fewer if memory runs out.
 fn words_of(alloc: Global, text: &str) -> Vec<String> {
     let mut words = Vec::new(alloc);
     for word in text.split(' ') {
@@ -15,7 +15,7 @@ fn words_of(alloc: Global, text: &str) -> Vec<String> {
     words
 }
 
-// Whether this sentence is said of the words.
+// Returns whether this sentence is the complaint about the words.
 fn says(alloc: Global, words: &Vec<String>, sentence: &str) -> bool {
     match complaint(alloc, words) {
         Ok(said) => said.as_str() == sentence,
@@ -23,7 +23,7 @@ fn says(alloc: Global, words: &Vec<String>, sentence: &str) -> bool {
     }
 }
 
-// Words, and what is said of them.
+// Words, and the complaints about them.
 const CASES: [(&str, &str); 18] = [
     (
         "",

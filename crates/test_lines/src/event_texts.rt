@@ -3,7 +3,7 @@ use mono_machine::{Act, End, Event, How, List, Query, TurnStep};
 use mono_text::put_event;
 use std::alloc::Global;
 
-// The text of an event. Where memory ends it is shorter.
+// Returns the text of an event, or a shorter one if memory runs out.
 fn text_of(alloc: Global, event: &Event) -> Vec<u8> {
     let mut out = Vec::new(alloc);
     let _ = put_event(&mut out, event);
@@ -46,7 +46,7 @@ fn events_have_their_texts(rt: HostRuntime) {
     assert!(&rt; have_theirs == [true; 3]);
 }
 
-// A turn of so many times these steps. Where memory ends it has fewer.
+// Returns a turn of `times` times these steps, or of fewer if memory runs out.
 fn turn(alloc: Global, steps: &[TurnStep], times: usize, end: End) -> Event {
     let mut list = List::new(alloc);
     for _ in 0..times {
@@ -57,7 +57,7 @@ fn turn(alloc: Global, steps: &[TurnStep], times: usize, end: End) -> Event {
     Event::Turn(list, end)
 }
 
-// Whether this text is that of a turn of so many times these steps.
+// Returns whether this text is that of a turn of `times` times these steps.
 fn tells(alloc: Global, steps: &[TurnStep], times: usize, end: End, text: &[u8]) -> bool {
     has(alloc, &turn(alloc, steps, times, end), text)
 }

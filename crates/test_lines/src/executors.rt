@@ -1,4 +1,4 @@
-// The executor: its lists, its next expirations and where a sleep is registered.
+// The executor: its lists, its next expirations and the registered ticks of its sleeps.
 use mono_machine::Limits;
 use mono_replay::{Act, Blocking, End, Event, Exec, List, Query, Reply, Report, TurnStep};
 use std::alloc::Global;
@@ -28,7 +28,7 @@ fn lists_of_items(rt: HostRuntime) {
     assert!(rt; List::from(items).as_slice() == [5].as_slice());
 }
 
-// A turn that makes a sleep and polls it. Where memory ends it has fewer steps.
+// Returns a turn that makes a sleep and polls it. If memory runs out, it has fewer steps.
 fn sleeps_until(alloc: Global, nanos: u128) -> Event {
     let mut steps = List::new(alloc);
     let _ = steps.push(TurnStep::Act(Act::NewSleep(nanos)));
@@ -36,7 +36,7 @@ fn sleeps_until(alloc: Global, nanos: u128) -> Event {
     Event::Turn(steps, End::Pending)
 }
 
-// What an executor answers to an act.
+// Returns the executor's answer to an act.
 fn act(alloc: Global, exec: &mut Exec, asked: Act) -> Option<Reply> {
     match exec.apply(alloc, &Event::Act(asked)) {
         Ok(Report::Reply(told)) => Some(told),
@@ -44,7 +44,7 @@ fn act(alloc: Global, exec: &mut Exec, asked: Act) -> Option<Reply> {
     }
 }
 
-// Whether exactly these sleeps fire at a clock step to so many nanoseconds.
+// Returns whether exactly these sleeps fire at a clock step to this many nanoseconds.
 fn fires(alloc: Global, exec: &mut Exec, nanos: u128, sleeps: &[u64]) -> bool {
     match exec.apply(alloc, &Event::Clock(nanos)) {
         Ok(Report::Fired(told)) => told.as_slice() == sleeps,
@@ -52,12 +52,12 @@ fn fires(alloc: Global, exec: &mut Exec, nanos: u128, sleeps: &[u64]) -> bool {
     }
 }
 
-// The next expiration.
+// Returns the next expiration.
 fn next(exec: &Exec) -> Option<u64> {
     exec.timers().next_expiration_time()
 }
 
-// Whether a task is spawned, the clock goes to a time in nanoseconds, and the task then sleeps to a later one.
+// Returns whether a task is spawned, the clock moves to a time in nanoseconds, and the task then sleeps to a later one.
 fn arm(alloc: Global, exec: &mut Exec, elapsed: u128, nanos: u128) -> bool {
     let spawned = act(alloc, exec, Act::Spawn);
     let is_there = fires(alloc, exec, elapsed, &[]);
@@ -65,7 +65,7 @@ fn arm(alloc: Global, exec: &mut Exec, elapsed: u128, nanos: u128) -> bool {
     spawned == Some(Reply::Task(0)) && is_there && is_taken
 }
 
-// Whether a sleep just above a millisecond is next, until it fires at the second.
+// Returns whether a sleep just above a millisecond is next, until it fires at the second.
 fn fires_at_next(alloc: Global, exec: &mut Exec) -> bool {
     let is_armed = arm(alloc, exec, 0, 1000001);
     let first = next(exec);
@@ -80,7 +80,8 @@ fn next_expiration(rt: HostRuntime) {
     assert!(rt; fires_at_next(rt.alloc(), &mut exec));
 }
 
-// The next expiration of a new executor whose clock goes to a tick, and where a sleep is then armed at a later one.
+// Returns the next expiration of a new executor whose clock moves to a tick, and whose sleep is then armed at a later
+// one.
 fn next_of_armed(alloc: Global, elapsed: u64, tick: u64) -> Option<u64> {
     let Ok(mut exec) = Exec::new(alloc, LIMITS, Blocking::Attached) else {
         return None;
@@ -110,8 +111,8 @@ fn next_expirations(rt: HostRuntime) {
     }
 }
 
-// Whether a sleep at tick 100 that is reset to a later tick stays where it is registered, until the clock comes to the
-// start of its slot, and fires at an earlier one.
+// Returns whether a sleep at tick 100 that is reset to a later tick keeps its registered tick until the clock reaches
+// the start of its slot, and fires at an earlier tick if reset to that.
 fn stays_registered(alloc: Global, exec: &mut Exec) -> bool {
     let is_armed = arm(alloc, exec, 0, 100000000);
     let later = act(alloc, exec, Act::Reset(0, 130000000)).is_some();

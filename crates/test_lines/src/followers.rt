@@ -1,4 +1,4 @@
-// Commands that answer each line when it was read.
+// Commands that answer each line as soon as it was read.
 use mono_model::Host;
 use mono_script::{
     Instant, ListClock, MemSink, MemSource, NoSpawner, Reason, Status, follow_command, program,
@@ -23,7 +23,7 @@ fn listed(alloc: Global, call: Option<u64>) -> Result<Vec<u64>, AllocError> {
     Ok(calls)
 }
 
-// Words and an input, which read and which write fails, and the status, the next line and the output that are to come.
+// Words and an input, which read and which write fails, and the expected status, next line and output.
 #[derive(Clone, Copy)]
 struct Case {
     words: &'static str,
@@ -101,7 +101,7 @@ const CASES: [Case; 7] = [
     },
 ];
 
-// Whether the case ends as it is to.
+// Returns whether the case ends as expected.
 fn ends_so(alloc: Global, case: &Case) -> Option<bool> {
     let words = split(alloc, case.words).ok()?;
     let input = Vec::from_slice(alloc, case.input).ok()?;
@@ -118,7 +118,7 @@ fn lines_are_answered_up_to_the_first_bad_one(rt: HostRuntime) {
     }
 }
 
-// Whether words are no command whose lines are answered as they come.
+// Returns whether words are no command whose lines are answered as soon as they were read.
 fn is_none(alloc: Global, words: &str) -> Option<bool> {
     let words = split(alloc, words).ok()?;
     let mut source = MemSource::new(Vec::new(alloc), Vec::new(alloc));
@@ -139,7 +139,7 @@ fn other_commands_do_not_follow(rt: HostRuntime) {
     }
 }
 
-// So many lines that make tasks.
+// Returns `count` lines that make tasks.
 fn spawns(alloc: Global, count: usize) -> Result<Vec<u8>, AllocError> {
     let mut input = Vec::new(alloc);
     for _ in 0..count {
@@ -148,7 +148,7 @@ fn spawns(alloc: Global, count: usize) -> Result<Vec<u8>, AllocError> {
     Ok(input)
 }
 
-// Whether an input of several blocks is answered as a whole one.
+// Returns whether an input of several blocks is answered as a whole one.
 fn answers_alike<R: Host + Send + 'static>(rt: &R, alloc: Global) -> Option<bool> {
     let words = split(alloc, "replay attached 30000 1 1").ok()?;
     let input = spawns(alloc, 30000).ok()?;
@@ -183,7 +183,7 @@ fn blocks_are_answered_as_a_whole_input(rt: HostRuntime) {
     assert!(&rt; answers_alike(&rt, rt.alloc()) == Some(true));
 }
 
-// The reason of the line at which the words over the input end.
+// Returns the reason of the line at which the words over the input end.
 fn reason_of(alloc: Global, words: &str, input: &[u8]) -> Option<Reason> {
     let words = split(alloc, words).ok()?;
     let mut source = MemSource::new(Vec::from_slice(alloc, input).ok()?, Vec::new(alloc));

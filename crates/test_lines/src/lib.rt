@@ -1,4 +1,5 @@
-//! Tests of the executor, of lines in and out, of the reader of scripts, of events as text, and of what is said of wrong lines and words, over their public calls.
+//! Tests of the executor, of the text of lines, of the reader of scripts, of events as text, and of the sentences about
+//! wrong lines and words, over their public calls.
 #![tactic(auto)]
 
 #[cfg(test)]

@@ -1,4 +1,4 @@
-// Each public call once, but for `program`, which has its rows in a crate above.
+// Each public call once, except `program`, whose tests are in a crate above.
 use mono_machine::{List, Reply, Report};
 use mono_text::{
     MemSink, PlainSink, PlainSource, Reader, put_list, put_number, put_pair, put_word, read_all,

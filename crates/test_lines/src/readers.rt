@@ -1,8 +1,8 @@
-// An input that is a script, and the first bad line of one that lacks its last line feed.
+// A script, and the first bad line of an input that lacks its last line feed.
 use mono_run::{BodyLine, Script, ScriptRead, read_script};
 use std::alloc::Global;
 
-// Whether these are the limits and the two kinds of the script below.
+// Returns whether these are the limits and the two kinds of the script below.
 fn is_as_spelled(script: &Script) -> bool {
     let limits = [
         script.limits.tasks,
@@ -28,7 +28,7 @@ fn is_as_spelled(script: &Script) -> bool {
     }
 }
 
-// Whether it is read so.
+// Returns whether it is read so.
 fn is_read(alloc: Global, input: &[u8]) -> bool {
     match read_script(alloc, input) {
         Ok(ScriptRead::Script(script)) => is_as_spelled(&script),
@@ -43,7 +43,7 @@ fn a_script_is_read(rt: HostRuntime) {
     assert!(&rt; is_read(rt.alloc(), input));
 }
 
-// The number of the first bad line, or 0 where the input spells a script; the greatest number where there is no memory.
+// Returns the number of the first bad line, or 0 if the input spells a script; the greatest number if memory runs out.
 fn bad_line_of(alloc: Global, input: &[u8]) -> usize {
     match read_script(alloc, input) {
         Ok(ScriptRead::Script(_)) => 0,

@@ -5,7 +5,7 @@ const NAMES: &[u8] = b"spawn wake sleep reset job-end clock turn";
 
 const PARTS: &[u8] = b"spawn wake sleep poll pending ready";
 
-// The reason of line n of an input that has no reports.
+// Returns the reason of line n of an input that has no reports.
 fn reason_of(input: &[u8], n: usize) -> Option<Reason> {
     match fault_of_line(NAMES, PARTS, b"", input, n) {
         Some(fault) => Some(fault.reason),

@@ -2,7 +2,7 @@
 use mono_text::{has_taken, read_again, write_again};
 use std::io::{self, ErrorKind, Read, Write};
 
-/// Moves a byte after so many interruptions.
+/// A reader or writer that moves a byte after a number of interruptions.
 #[derive(Drop)]
 struct Faltering {
     left: u64,
@@ -36,13 +36,13 @@ impl Write for Faltering {
     }
 }
 
-// How many bytes a read moves after so many interruptions; none if it fails.
+// Returns how many bytes a read moves after `left` interruptions; None if it fails.
 fn read_after(left: u64) -> Option<usize> {
     let mut buffer = [0u8; 4];
     read_again(&mut Faltering { left }, &mut buffer).ok()
 }
 
-// How many bytes a write takes after so many interruptions; none if it fails.
+// Returns how many bytes a write takes after `left` interruptions; None if it fails.
 fn written_after(left: u64) -> Option<usize> {
     write_again(&mut Faltering { left }, b"abcd").ok()
 }

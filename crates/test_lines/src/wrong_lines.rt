@@ -1,4 +1,4 @@
-// Wrong inputs of each command, and the sentence that is said of each.
+// Wrong inputs of each command, and the sentence about each.
 use mono_model::Host;
 use mono_script::{
     Instant, ListClock, NoSpawner, PlainSink, PlainSource, explained, line_sentence,
@@ -13,7 +13,7 @@ fn split(alloc: Global, text: &str) -> Result<Vec<String>, AllocError> {
     Ok(words)
 }
 
-// A clock that always reads its beginning.
+// Returns a clock that always reads its beginning.
 fn still_clock(alloc: Global) -> Option<ListClock> {
     let mut readings = Vec::new(alloc);
     readings.push(Instant::from_nanos(0)?).ok()?;
@@ -32,7 +32,7 @@ enum Words {
 }
 
 impl Words {
-    // The words of the command.
+    // Returns the words of the command.
     fn text(self) -> &'static str {
         match self {
             Words::Replay => "replay attached 16 16 16",
@@ -45,7 +45,7 @@ impl Words {
     }
 }
 
-// Whether this sentence is said of the input of a command with these words.
+// Returns whether this sentence is printed about the input of a command with these words.
 fn says<R: Host + Send + 'static>(
     rt: &R,
     alloc: Global,
@@ -85,7 +85,7 @@ const LIMITER: Words = Words::Limiter;
 
 const ACTORS: Words = Words::Actors;
 
-// The words of a command, an input, and what is said of its first bad line.
+// The words of a command, an input, and the sentence about its first bad line.
 const CASES: [(Words, &[u8], &[u8]); 52] = [
     (REPLAY, b"spawn\nspawn", b"line 2: no line feed at the end"),
     (

@@ -12,10 +12,10 @@ use mono_model::Host;
 use mono_script::{Clock, PlainSink, PlainSource, Spawner, program};
 use std::alloc::Global;
 
-/// The status of the top call over an input in memory, whose output is thrown away.
+/// Returns the status of the top call over an input in memory, and drops its output.
 ///
-/// Such a source and such a sink never fail, so no fault is answered (`no_read_fault`, `no_write_fault`), and a good
-/// command over good input ends with 0, or with 6 where memory is refused (`complete`).
+/// Returns no fault, since such a source and such a sink never fail (`no_read_fault`, `no_write_fault`). A good
+/// command over good input ends with 0, or with 6 if memory runs out (`complete`).
 pub fn status_of<C: Clock + Drop, P: Spawner, R: Host + Send + 'static>(
     rt: &R,
     alloc: Global,

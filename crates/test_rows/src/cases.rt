@@ -1,5 +1,5 @@
-// What the top call answers where a read or a write fails, where the room ends, where an input is no text or lacks its last
-// line feed, and where the clock is read; and the longest input.
+// The answers of the top call if a read or a write fails, if the room ends, if an input is no text or lacks its last
+// line feed, and if the clock is read; and the longest input.
 use crate::runs::{Outside, PLAIN, ROOM, ends_so};
 use mono_model::Host;
 use std::alloc::{AllocError, Global};
@@ -25,7 +25,7 @@ const DONE: &[u8] = b"task 0\nturn 0; sleep 0; ready; done\n";
 const AWAITED: &[u8] =
     b"spawn -> task 0\nnow 0\nturn; sleep 100000000; poll 0; pending -> turn 0; sleep 0; pending; idle\nnow 0\npark 64\ndrain -> drained\nclock 64000000 -> fired\nnow 64000000\npark 36\ndrain -> drained\nclock 100000000 -> fired 0\nnow 100000000\nturn; poll 0; drop-sleep 0; ready 5 -> turn 0; ready; dropped; done\ndrop-join 0 -> dropped 5\nmain 5\n";
 
-/// Words and an input, what is outside, and the status and the output that are to come.
+/// Words and an input, the failures outside, and the expected status and output.
 #[derive(Clone, Copy)]
 struct Case {
     words: &'static str,
@@ -35,7 +35,7 @@ struct Case {
     output: &'static [u8],
 }
 
-/// The read with this number fails.
+/// Returns a case whose read with this number fails.
 fn unread(
     words: &'static str,
     input: &'static [u8],
@@ -57,7 +57,7 @@ fn unread(
     }
 }
 
-/// The write with this number fails, or the room is this.
+/// Returns a case whose write with this number fails, or whose room is this.
 fn unwritten(
     words: &'static str,
     input: &'static [u8],
@@ -80,7 +80,7 @@ fn unwritten(
     }
 }
 
-/// A line says nothing.
+/// Returns a case with a bad line.
 fn bad(words: &'static str, input: &'static [u8], output: &'static [u8]) -> Case {
     Case {
         words,
@@ -91,7 +91,8 @@ fn bad(words: &'static str, input: &'static [u8], output: &'static [u8]) -> Case
     }
 }
 
-/// The read with this number fails, and the write: the second read sees the end of the input, and one write is enough.
+/// Returns a case whose read and write with this number fail: the second read sees the end of the input, and one write
+/// is enough.
 fn fault_at(
     words: &'static str,
     input: &'static [u8],
@@ -146,7 +147,7 @@ fn bytes() -> [Case; 10] {
         bad("limiter 4 4", b"take 0 1\r\n", b"bad line 1\n"),
         // a byte above 127
         bad(REPLAY, b"spawn\nspawn\xff\n", b"bad line 2\n"),
-        // with a worker the handed clock is read
+        // with a worker the given clock is read
         Case {
             words: "run 1 10",
             input: b"limits 1 1 1\ntask\ndone 1\n",
@@ -162,7 +163,7 @@ fn bytes() -> [Case; 10] {
     ]
 }
 
-// The first of the cases that does not end so.
+// Returns the first of the cases that does not end as expected.
 fn first_that_differs<R: Host + Send + 'static>(
     rt: &R,
     alloc: Global,
@@ -211,7 +212,7 @@ fn each_read_and_write_fails(rt: HostRuntime) {
     }
 }
 
-// So many line feeds end so.
+// Returns whether an input of this many line feeds ends so.
 fn feeds_end_so<R: Host + Send + 'static>(
     rt: &R,
     alloc: Global,
@@ -225,7 +226,7 @@ fn feeds_end_so<R: Host + Send + 'static>(
     ends_so(rt, alloc, words, input, outside, output, status)
 }
 
-/// The read with this number fails, and nothing else.
+/// Returns failures outside of the read with this number alone.
 fn unread_at(call: u64) -> Outside {
     Outside {
         read: Some(call),

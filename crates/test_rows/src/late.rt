@@ -12,10 +12,10 @@ use std::sync::Arc;
 use std::sync::atomic::{AtomicU64, Ordering};
 use std::thread::JoinHandle;
 
-/// The clock's reading right before the first park: one stands before the first turn.
+/// The clock's reading right before the first park: one reading comes before the first turn.
 const BEFORE_THE_PARK: u64 = 2;
 
-/// Always reads the first instant, and counts its readings.
+/// A clock that always reads the first instant, and counts its readings.
 #[derive(Drop)]
 struct CountingClock {
     first: Instant,
@@ -29,7 +29,7 @@ impl Clock for CountingClock {
     }
 }
 
-/// Waits until the runtime is about to park.
+/// A job that waits until the runtime is about to park.
 #[derive(Drop)]
 struct WaitsFirst(Arc<AtomicU64, Global>);
 
@@ -43,7 +43,7 @@ impl Entry for WaitsFirst {
     }
 }
 
-/// Starts threads that begin late.
+/// A spawner of threads that begin late.
 #[derive(Drop)]
 struct LateSpawner {
     inner: ThreadSpawner,
@@ -90,7 +90,7 @@ impl Spawner for LateSpawner {
     }
 }
 
-/// A script whose main task waits for a job, and the park that its journal shows.
+/// A script whose main task waits for a job, and the park in its journal.
 #[derive(Clone, Copy)]
 struct Case {
     script: &'static [u8],
@@ -103,14 +103,14 @@ const CASES: [Case; 2] = [
         script: b"limits 8 8 8\ntask\nspawn 1\nblock 4\nawait-job 0\ndone 1\ntask\nawait-sleep 3407872000000\ndone 2\n",
         park: "\npark 3407872\n",
     },
-    // nobody sleeps, so the park has no end
+    // no task sleeps, so the park has no end
     Case {
         script: b"limits 8 8 8\ntask\nblock 4\nawait-job 0\ndone 1\n",
         park: "\npark\n",
     },
 ];
 
-// Whether the run parks so, its worker's wake is listed, and it ends with its main task's output.
+// Returns whether the run parks so, its worker's wake is listed, and it ends with its main task's output.
 fn is_woken<R: Host + Send + 'static>(
     rt: &R,
     alloc: Global,

@@ -1,5 +1,6 @@
-//! Bytes to bytes: what a caller of the top call may rely on, and as tests what no plain row says: calls that fail, inputs
-//! that are no text or have no end, long inputs, a clock that is read, and a worker that begins late.
+//! The top call from bytes to bytes: the promises on which a caller may rely, and tests that no plain example has.
+//! These are calls that fail, inputs that are no text or have no end, long inputs, a clock that is read, and a worker
+//! that begins late.
 #![tactic(auto)]
 
 mod caller;

@@ -4,7 +4,7 @@ use mono_model::Host;
 use mono_text::put_number;
 use std::alloc::{AllocError, Global};
 
-/// A text for each number of a range: in it `@` stands for the number, and `#` for the number behind it.
+/// A text for each number of a range: in it `@` is replaced by the number, and `#` by the number after it.
 #[derive(Clone, Copy)]
 struct Part {
     from: u64,
@@ -12,17 +12,17 @@ struct Part {
     text: &'static [u8],
 }
 
-/// A text for each number below this one.
+/// Returns a text for each number below this one.
 fn each(to: u64, text: &'static [u8]) -> Part {
     Part { from: 0, to, text }
 }
 
-/// A text for each number from 1 to below this one.
+/// Returns a text for each number from 1 to below this one.
 fn other(to: u64, text: &'static [u8]) -> Part {
     Part { from: 1, to, text }
 }
 
-/// The text as it stands.
+/// Returns the text unchanged.
 fn once(text: &'static [u8]) -> Part {
     Part {
         from: 0,
@@ -57,7 +57,7 @@ fn spelled(alloc: Global, parts: &[Part]) -> Option<Vec<u8>> {
     Some(out)
 }
 
-// Whether the call ends with status 0 and this output.
+// Returns whether the call ends with status 0 and this output.
 fn is_answered<R: Host + Send + 'static>(
     rt: &R,
     alloc: Global,
@@ -70,8 +70,8 @@ fn is_answered<R: Host + Send + 'static>(
     ends_so(rt, alloc, words, input, &PLAIN, &output, 0)
 }
 
-// The first of so many actors sends a message to each and one more to itself in its turn; only it is not idle while it
-// sends, and it is queued again behind all others.
+// The first of many actors sends a message to each and one more to itself in its turn. It alone is not idle while it
+// sends, and it is queued again after all others.
 #[test]
 fn many_actors(rt: HostRuntime) {
     let n = 1000;
@@ -98,7 +98,7 @@ fn many_actors(rt: HostRuntime) {
     );
 }
 
-// So many buckets and retries, each of which fails once, and a clock step to all their ticks.
+// Many buckets and retries, each of which fails once, and a clock step to all their ticks.
 #[test]
 fn many_buckets_and_retries(rt: HostRuntime) {
     let n = 1000;
@@ -120,7 +120,7 @@ fn many_buckets_and_retries(rt: HostRuntime) {
     );
 }
 
-// Sessions, each behind the others in one queue and closed in a tick of its own.
+// Sessions, each after the others in one queue and closed in a tick of its own.
 #[test]
 fn many_sessions(rt: HostRuntime) {
     let n = 300;

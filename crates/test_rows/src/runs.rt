@@ -3,10 +3,10 @@ use mono_model::Host;
 use mono_script::{Instant, ListClock, MemSink, MemSource, NoSpawner, Spawner, program};
 use std::alloc::{AllocError, Global};
 
-/// The room for the output where it is to be enough.
+/// The room for the output if it must be enough.
 pub(crate) const ROOM: usize = 1048576;
 
-/// The words of a text, with one blank between two.
+/// Returns the words of a text, with one blank between two.
 pub(crate) fn split(alloc: Global, text: &str) -> Result<Vec<String>, AllocError> {
     let mut words = Vec::new(alloc);
     for word in text.split(' ') {
@@ -23,7 +23,7 @@ fn listed(alloc: Global, call: Option<u64>) -> Result<Vec<u64>, AllocError> {
     Ok(calls)
 }
 
-// A clock that always reads so many milliseconds.
+// Returns a clock that always reads `millis` milliseconds.
 fn clock_at(alloc: Global, millis: u64) -> Option<ListClock> {
     let instant = Instant::from_nanos(u128::from(millis) * 1000000)?;
     let mut readings = Vec::new(alloc);
@@ -31,7 +31,7 @@ fn clock_at(alloc: Global, millis: u64) -> Option<ListClock> {
     Some(ListClock::new(readings))
 }
 
-/// Which read and which write fail, the room for the output, and what the clock reads in milliseconds.
+/// Which read and which write fail, the room for the output, and the clock's reading in milliseconds.
 #[derive(Clone, Copy)]
 pub(crate) struct Outside {
     pub read: Option<u64>,
@@ -48,7 +48,7 @@ pub(crate) const PLAIN: Outside = Outside {
     millis: 0,
 };
 
-/// What the top call answers with these words over this source, to this sink.
+/// Returns the status of the top call with these words over this source, to this sink.
 pub(crate) fn status_on<R: Host + Send + 'static, P: Spawner>(
     rt: &R,
     alloc: Global,
@@ -63,7 +63,7 @@ pub(crate) fn status_on<R: Host + Send + 'static, P: Spawner>(
     Some(program(rt, alloc, &words, source, sink, clock, spawner))
 }
 
-/// Whether the top call, without threads, answers this status and writes this output.
+/// Returns whether the top call, without threads, returns this status and writes this output.
 pub(crate) fn ends_so<R: Host + Send + 'static>(
     rt: &R,
     alloc: Global,

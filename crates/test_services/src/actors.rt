@@ -1,4 +1,4 @@
-//! Actors that wait, so many that memory grows past its first slack.
+//! Waiting actors, enough that memory grows past its first slack.
 ghost use Rattle.std.specs.Prelude.{◌≡◌, ◌<◌};
 
 use mono_actor::Actors;
@@ -8,7 +8,7 @@ use std::alloc::Global;
 use std::marker::Brand;
 use std::sync::ledger::{Blank, Ledger};
 
-// 300 actors, of which a third each waits for one, two and three milliseconds.
+// Spawns 300 actors; a third each waits for one, two and three milliseconds.
 fn are_spawned(actors: &mut Actors<u64>, alloc: Global) -> bool {
     let mut is_right = true;
     for actor in 0..300u64 {
@@ -18,7 +18,7 @@ fn are_spawned(actors: &mut Actors<u64>, alloc: Global) -> bool {
     is_right && actors.live() == 300
 }
 
-// Whether these are so many actors, each hundred those of one third, from this third on.
+// Returns whether these are `count` actors, each hundred those of one third, from this third on.
 fn are_thirds(due: &[u64], count: usize, third: u64) -> bool {
     let mut is_right = due.len() == count;
     for (place, actor) in due.iter().enumerate() {
@@ -28,7 +28,7 @@ fn are_thirds(due: &[u64], count: usize, third: u64) -> bool {
     is_right
 }
 
-// Whether such actors are due where the clock shows so many nanoseconds.
+// Returns whether these actors are due when the clock shows this many nanoseconds.
 fn are_due<L: Ledger>(
     actors: &mut Actors<u64>,
     alloc: Global,

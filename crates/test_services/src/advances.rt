@@ -1,4 +1,4 @@
-//! Clock steps that do not count their steps: each appends what is due to a list that has something already, and lists
+//! Clock steps without a count of their steps: each appends the due items to a list with earlier items, and lists
 //! nothing a tick early.
 use mono_actor::Actors;
 use mono_limit::{Limiter, Next};
@@ -6,14 +6,14 @@ use mono_session::Sessions;
 use mono_time::Instant;
 use std::alloc::Global;
 
-// A list of one number.
+// Returns a list of one number.
 fn seven(alloc: Global) -> Option<Vec<u64>> {
     let mut list = Vec::new(alloc);
     list.push(7).ok()?;
     Some(list)
 }
 
-// What a session of five milliseconds is told at 4 and at 5.
+// Returns how long the list is for a session of five milliseconds, at 4 and at 5.
 fn closed(alloc: Global, early: Instant, late: Instant) -> Option<[usize; 2]> {
     let mut sessions = Sessions::new(alloc, 1, 0).ok()?;
     sessions.open(alloc, 5).ok()?;
@@ -29,7 +29,7 @@ fn closed(alloc: Global, early: Instant, late: Instant) -> Option<[usize; 2]> {
     }
 }
 
-// The same of a retry that failed once.
+// Returns the same for a retry that failed once.
 fn ended(alloc: Global, early: Instant, late: Instant) -> Option<[usize; 2]> {
     let mut limiter = Limiter::new(alloc, 0, 1).ok()?;
     limiter.retry(alloc, 5, 5, 2).ok()?;
@@ -46,7 +46,7 @@ fn ended(alloc: Global, early: Instant, late: Instant) -> Option<[usize; 2]> {
     }
 }
 
-// Advances actors of which none runs.
+// Advances actors, none of them in its turn.
 fn advanced(
     actors: &mut Actors<u64>,
     alloc: Global,
@@ -60,7 +60,7 @@ fn advanced(
     Some(due.len())
 }
 
-// The same of an actor that waits.
+// Returns the same for an actor that waits.
 fn rung(alloc: Global, early: Instant, late: Instant) -> Option<[usize; 2]> {
     let mut actors: Actors<u64> = Actors::new(alloc, 1, 0).ok()?;
     actors.spawn(alloc).ok()?;
@@ -75,7 +75,7 @@ fn rung(alloc: Global, early: Instant, late: Instant) -> Option<[usize; 2]> {
     }
 }
 
-// All three at one nanosecond before 5 milliseconds, and at 5.
+// Advances all three to one nanosecond before 5 milliseconds, and to 5.
 fn advances(alloc: Global) -> Option<[[usize; 2]; 3]> {
     let early = Instant::from_nanos(4999999)?;
     let late = Instant::from_nanos(5000000)?;
@@ -91,7 +91,7 @@ fn clock_steps_without_a_count(rt: HostRuntime) {
     assert!(rt; advances(rt.alloc()) == Some([[1, 2]; 3]));
 }
 
-// Actors that come and go, a hundred thousand of them, each with a number of its own.
+// Spawns and ends a hundred thousand actors, each with a number of its own.
 fn come_and_go(actors: &mut Actors<u64>, alloc: Global) -> bool {
     let mut is_right = true;
     for actor in 0..100000u64 {
@@ -111,7 +111,7 @@ fn actors_that_come_and_go(rt: HostRuntime) {
     assert!(rt; come_and_go(&mut actors, rt.alloc()));
 }
 
-// Retries that come and go, a hundred thousand of them.
+// Makes and ends a hundred thousand retries.
 fn retry_and_go(limiter: &mut Limiter, alloc: Global) -> bool {
     let mut is_right = true;
     for retry in 0..100000u64 {

@@ -18,7 +18,7 @@ const YES: Option<Verdict> = Some(Verdict::Yes);
 // The third pair, a clock step, is the first that no step allows.
 const NOT_THE_CLOCK: Option<Verdict> = Some(Verdict::No(2));
 
-// A list of these items. Where memory ends it is shorter, and is no list that a test expects.
+// Returns a list of these items. If memory runs out, it is shorter, and is no list that a test expects.
 fn list<T: Copy>(alloc: Global, items: &[T]) -> List<T> {
     let mut list = List::new(alloc);
     for item in items {
@@ -27,7 +27,7 @@ fn list<T: Copy>(alloc: Global, items: &[T]) -> List<T> {
     list
 }
 
-// The steps of a turn that makes so many sleeps of one tick, polls each, and perhaps moves it to another.
+// Returns the steps of a turn that makes `count` sleeps of one tick, polls each, and moves it to another if `moves`.
 fn polls(alloc: Global, count: u64, moves: bool) -> List<TurnStep> {
     let mut steps = List::new(alloc);
     for s in 0..count {
@@ -40,7 +40,7 @@ fn polls(alloc: Global, count: u64, moves: bool) -> List<TurnStep> {
     steps
 }
 
-// The replies where none is moved.
+// Returns the replies if none is moved.
 fn told_of_polls(alloc: Global, count: u64) -> List<Reply> {
     let mut replies = List::new(alloc);
     for s in 0..count {
@@ -59,7 +59,7 @@ enum Order {
     Swapped(u64),
 }
 
-// The number at a place of an order.
+// Returns the number at a place of an order.
 fn number_at(order: Order, count: u64, place: u64) -> u64 {
     match order {
         Order::LastFirst => count.saturating_sub(1).saturating_sub(place),
@@ -68,7 +68,7 @@ fn number_at(order: Order, count: u64, place: u64) -> u64 {
     }
 }
 
-// The numbers below a count in an order.
+// Returns the numbers below a count in an order.
 fn numbers(alloc: Global, count: u64, order: Order) -> List<u64> {
     let mut list = List::new(alloc);
     for place in 0..count {
@@ -77,7 +77,7 @@ fn numbers(alloc: Global, count: u64, order: Order) -> List<u64> {
     list
 }
 
-// A spawn, a turn that makes so many sleeps of one tick and polls each, and a clock step there.
+// Returns a spawn, a turn that makes `count` sleeps of one tick and polls each, and a clock step to that tick.
 fn events(alloc: Global, count: u64) -> Vec<Event> {
     let mut events = Vec::new(alloc);
     let _ = events.push(Event::Act(Act::Spawn));
@@ -86,7 +86,7 @@ fn events(alloc: Global, count: u64) -> Vec<Event> {
     events
 }
 
-// What is told of them: so many of the sleeps have fired, in an order.
+// Returns their reports: `told` of the sleeps have fired, in an order.
 fn reports(alloc: Global, count: u64, told: u64, order: Order) -> Vec<Report> {
     let mut reports = Vec::new(alloc);
     let _ = reports.push(Report::Reply(Reply::Task(0)));
@@ -95,7 +95,7 @@ fn reports(alloc: Global, count: u64, told: u64, order: Order) -> Vec<Report> {
     reports
 }
 
-// The verdict on three pairs; none where there are more or fewer.
+// Returns the verdict on three pairs; None if there are more or fewer.
 fn judged(alloc: Global, events: &Vec<Event>, reports: &Vec<Report>) -> Option<Verdict> {
     if events.len() != 3 || reports.len() != 3 {
         return None;
@@ -103,7 +103,7 @@ fn judged(alloc: Global, events: &Vec<Event>, reports: &Vec<Report>) -> Option<V
     check(alloc, LIMITS, Blocking::Attached, events, reports).ok()
 }
 
-// The verdict on so many sleeps of one tick, of which so many are told to fire, in an order.
+// Returns the verdict on `count` sleeps of one tick, if `told` of them are reported to fire, in an order.
 fn verdict(alloc: Global, count: u64, told: u64, order: Order) -> Option<Verdict> {
     judged(
         alloc,
@@ -126,7 +126,7 @@ fn long_lists_of_one_tick(rt: HostRuntime) {
     }
 }
 
-// Whether the pair is taken, and how many sleeps were armed then.
+// Returns whether the pair is accepted, and how many sleeps were armed then.
 fn taken(alloc: Global, trace: &mut Trace, event: &Event, report: &Report) -> Option<(bool, u128)> {
     if trace.arms() > 1000000 {
         return None;
@@ -135,13 +135,13 @@ fn taken(alloc: Global, trace: &mut Trace, event: &Event, report: &Report) -> Op
     Some((is_taken, trace.arms()))
 }
 
-// Whether the pair of a spawn, told to make this task, is taken.
+// Returns whether the pair of a spawn, whose report has this task, is accepted.
 fn takes_spawn(alloc: Global, trace: &mut Trace, task: u64) -> Option<(bool, u128)> {
     let report = Report::Reply(Reply::Task(task));
     taken(alloc, trace, &Event::Act(Act::Spawn), &report)
 }
 
-// The same of a turn of a job, a sleep and a wake of its own task, where this is told of its wake and its end.
+// Returns the same for a turn of a job, a sleep and a wake of its own task, with this report of its wake and its end.
 fn takes_works(alloc: Global, trace: &mut Trace, woke: Woke, ended: Ended) -> Option<(bool, u128)> {
     let steps = [
         TurnStep::Act(Act::Block(3)),
@@ -162,7 +162,7 @@ fn takes_works(alloc: Global, trace: &mut Trace, woke: Woke, ended: Ended) -> Op
     taken(alloc, trace, &event, &report)
 }
 
-// Whether a spawn and a turn are taken where each is told wrongly first.
+// Returns whether a spawn and a turn are accepted after a wrong report of each.
 fn are_taken_at_last(alloc: Global, trace: &mut Trace) -> bool {
     let answers = [
         takes_spawn(alloc, trace, 1),
@@ -185,7 +185,7 @@ const BLOCK: TurnStep = TurnStep::Act(Act::Block(3));
 
 const POLL: TurnStep = TurnStep::Query(Query::Job(0));
 
-// The events of a job that ends, of its waiter and of the inbox.
+// Returns the events of a job that ends, of its waiter and of the inbox.
 fn event_at(alloc: Global, place: u64) -> Event {
     match place {
         0 => Event::Act(Act::Spawn),
@@ -199,7 +199,7 @@ fn event_at(alloc: Global, place: u64) -> Event {
     }
 }
 
-// What is told of each.
+// Returns the report of each.
 fn report_at(alloc: Global, place: u64) -> Report {
     match place {
         0 => Report::Reply(Reply::Task(0)),
@@ -218,7 +218,7 @@ fn report_at(alloc: Global, place: u64) -> Report {
     }
 }
 
-// Whether the pair at a place is taken and no sleep was armed.
+// Returns whether the pair at a place is accepted and no sleep was armed.
 fn takes(alloc: Global, trace: &mut Trace, place: u64) -> bool {
     let told = report_at(alloc, place);
     taken(alloc, trace, &event_at(alloc, place), &told) == Some((true, 0))
@@ -238,7 +238,7 @@ fn jobs_and_the_inbox(rt: HostRuntime) {
     assert!(rt; takes_each(rt.alloc(), &mut trace));
 }
 
-// Moves, a clock step before them and one at them, a drain, and a job, which is made under one strategy alone.
+// Returns moves, a clock step before them and one at them, a drain, and a job, which is made under one strategy alone.
 fn moves(alloc: Global) -> Vec<Event> {
     let mut events = Vec::new(alloc);
     let _ = events.push(Event::Act(Act::Spawn));
@@ -250,7 +250,7 @@ fn moves(alloc: Global) -> Vec<Event> {
     events
 }
 
-// The verdict on what the executor answers to six events; none where there are more or fewer.
+// Returns the verdict on the executor's reports to six events; None if there are more or fewer.
 fn replayed(alloc: Global, events: &Vec<Event>) -> Option<Verdict> {
     if events.len() != 6 {
         return None;

@@ -1,4 +1,4 @@
-//! Buckets and retries, so many that memory grows past its first slack.
+//! Buckets and retries, enough that memory grows past its first slack.
 ghost use Rattle.std.specs.Prelude.{◌≡◌, ◌<◌};
 
 use mono_limit::{LimitError, Limiter, Next, Take};
@@ -8,7 +8,7 @@ use std::alloc::Global;
 use std::marker::Brand;
 use std::sync::ledger::{Blank, Ledger};
 
-// How many waits end where the clock shows n nanoseconds; none where there was no clock step.
+// Returns how many waits end when the clock shows n nanoseconds; None if there was no clock step.
 fn due_at<L: Ledger>(limiter: &mut Limiter, alloc: Global, n: u128, blank: Blank) -> Option<usize>
     requires { (blank.name ≡ L.name) × (blank.parts ≡ L.parts) × (0 < L.parts) }
 {
@@ -19,7 +19,7 @@ fn due_at<L: Ledger>(limiter: &mut Limiter, alloc: Global, n: u128, blank: Blank
     Some(due.len())
 }
 
-// Whether so many buckets and retries, each of which has failed once, have their numbers.
+// Returns whether `n` buckets and retries, each of which has failed once, have their numbers.
 fn fail_each(limiter: &mut Limiter, alloc: Global, n: u64) -> bool {
     let mut is_right = true;
     for i in 0..n {
@@ -32,7 +32,7 @@ fn fail_each(limiter: &mut Limiter, alloc: Global, n: u64) -> bool {
     is_right
 }
 
-// What is answered once the waits of 300 retries have ended, beside 300 full buckets.
+// Returns the answers once the waits of 300 retries have ended, with 300 full buckets.
 fn answers_then(limiter: &mut Limiter, alloc: Global) -> bool {
     let taken = [limiter.take(299, 300), limiter.take(299, 1)];
     let lives = limiter.live();

@@ -90,7 +90,7 @@ impl TimeContext for Desk {
     ghost wakes_no_sleep = { λ c d t r w. ap (λ x. sleeps_of x.timers) w };
 }
 
-/// An attempt that answers its number at once: as Ok where that is the good one, and else as Err.
+/// An attempt that answers its number at once: as Ok if it is the good one, and else as Err.
 #[derive(Drop)]
 struct Attempt {
     number: u64,
@@ -121,10 +121,10 @@ impl<C: TimeContext> TaskFuture<C> for Attempt {
     fn cancel(self, _cx: &mut C) {}
 }
 
-// What a poll of a retry answers; none where it was not polled.
+// The answer of a poll of a retry; None if it was not polled.
 type Answer = Option<Poll<Result<u64, RetryError<u64>>>>;
 
-// A poll of a future that has not answered for good.
+// Polls a future that has not answered for good.
 fn polled<R: Host, F: TaskFuture<Desk, Output = Result<u64, RetryError<u64>>>>(
     rt: &R,
     alloc: Global,
@@ -140,7 +140,8 @@ fn polled<R: Host, F: TaskFuture<Desk, Output = Result<u64, RetryError<u64>>>>(
     Some(future.poll(rt, alloc, cx))
 }
 
-// Goes to a time, by a clock step. Where memory ends no sleep fires, and the next attempt that a test expects is not made.
+// Moves to a time, by a clock step. If memory runs out, no sleep fires, and the next attempt that a test expects is not
+// made.
 fn go_to(cx: &mut Desk, alloc: Global, nanos: u128) {
     if let Some(now) = Instant::from_nanos(nanos) {
         let mut fired = Vec::new(alloc);
@@ -149,7 +150,7 @@ fn go_to(cx: &mut Desk, alloc: Global, nanos: u128) {
     }
 }
 
-// The polls of a retry at 0, 99, 100 and 300 ms.
+// Returns the polls of a retry at 0, 99, 100 and 300 ms.
 fn polled_in_time<R: Host, F: TaskFuture<Desk, Output = Result<u64, RetryError<u64>>>>(
     rt: &R,
     alloc: Global,
@@ -168,8 +169,8 @@ fn polled_in_time<R: Host, F: TaskFuture<Desk, Output = Result<u64, RetryError<u
     [first, early, second, polled(rt, alloc, cx, retry)]
 }
 
-// Whether a retry of at most three attempts, where this one is the good one, answers so at the last of these polls alone,
-// and its sleep is gone then.
+// Returns whether a retry of at most three attempts, with this good one, answers so at the last of these polls alone,
+// and its sleep has been dropped then.
 fn ends_so<R: Host>(rt: &R, alloc: Global, cx: &mut Desk, good: u64, last: Answer) -> bool {
     let make = |number| Attempt { number, good };
     let Ok(mut retry) = Retry::new(alloc, cx, make, 100, 250, 3) else {
@@ -181,7 +182,7 @@ fn ends_so<R: Host>(rt: &R, alloc: Global, cx: &mut Desk, good: u64, last: Answe
     is_gone && answers == [WAIT, WAIT, WAIT, last]
 }
 
-// Whether the next attempt is told to be too far.
+// Returns whether the next attempt is reported as too far.
 fn is_far<R: Host>(rt: &R, alloc: Global, cx: &mut Desk) -> bool {
     let make = |number| Attempt { number, good: 0 };
     let Ok(mut retry) = Retry::new(alloc, cx, make, 1, 1, 2) else {
@@ -192,7 +193,7 @@ fn is_far<R: Host>(rt: &R, alloc: Global, cx: &mut Desk) -> bool {
     answer == Some(Poll::Ready(Err(RetryError::Far(1))))
 }
 
-// A desk at a time.
+// Returns a desk at a time.
 fn desk_at(alloc: Global, nanos: u128) -> Option<Desk> {
     let now = Instant::from_nanos(nanos)?;
     let timers = Timers::new(alloc, 4, true).ok()?;
@@ -209,7 +210,7 @@ const LAST: Answer = Some(Poll::Ready(Err(RetryError::Last(3))));
 
 const WELL: Answer = Some(Poll::Ready(Ok(3)));
 
-// One gives up, and one goes well at its third attempt.
+// One retry gives up, and one succeeds at its third attempt.
 #[test]
 fn retries_that_end(rt: HostRuntime) {
     for (good, last) in [(0, LAST), (3, WELL)] {

@@ -15,9 +15,9 @@ enum Call {
     IsShut(u64),
     /// This message is received at once, and this task is woken, if any.
     Receives(u64, Option<u64>),
-    /// Nothing is there for who asks.
+    /// There is no message for the caller.
     IsEmpty,
-    /// Nothing comes any more.
+    /// There will be no more messages.
     IsOver,
     /// A task's future with this ticket sends a message, and the last task is woken, if any.
     Puts(Option<u64>, u64, u64, Option<u64>),
@@ -39,7 +39,7 @@ enum Call {
     LeavesReceivers(Option<u64>, Option<u64>),
     /// It is closed: the first sender and the first receiver that are woken.
     Closes(Option<u64>, Option<u64>),
-    /// So many messages are queued.
+    /// This many messages are queued.
     Has(usize),
 }
 
@@ -50,7 +50,7 @@ fn task(waiter: Option<Waiter>) -> Option<u64> {
     }
 }
 
-/// Makes one call that waits for nothing: whether it answers so.
+/// Makes one call that does not wait, and returns whether it has this answer.
 fn answers_at_once(alloc: Global, channel: &mut Channel<u64>, call: Call) -> bool {
     match call {
         Call::Sends(message, woken) => match channel.try_send(message) {
@@ -80,7 +80,7 @@ fn answers_at_once(alloc: Global, channel: &mut Channel<u64>, call: Call) -> boo
     }
 }
 
-/// Makes one call: whether it answers so.
+/// Makes one call, and returns whether it has this answer.
 fn answers(alloc: Global, channel: &mut Channel<u64>, call: Call) -> bool {
     match call {
         Call::Puts(ticket, message, by, woken) => match channel.send(ticket, message, by) {
@@ -111,7 +111,7 @@ fn answers(alloc: Global, channel: &mut Channel<u64>, call: Call) -> bool {
     }
 }
 
-/// Makes the calls in turn on a channel of this many places: each must answer so.
+/// Makes the calls in turn on a channel of this many places, and asserts their answers.
 fn all_answer<R: Abort>(rt: &R, alloc: Global, bound: usize, calls: &[Call]) {
     let mut channel = Channel::new(alloc, bound);
     for call in calls {
@@ -139,7 +139,7 @@ fn messages_in_order(rt: HostRuntime) {
     );
 }
 
-// A place that becomes free is reserved for the first that waits: nobody sends past it.
+// A place that becomes free is reserved for the first that waits: no task sends past it.
 #[test]
 fn senders_in_order(rt: HostRuntime) {
     all_answer(
@@ -165,7 +165,7 @@ fn senders_in_order(rt: HostRuntime) {
     );
 }
 
-// A message is promised to the first that waits: nobody receives past it.
+// A message is promised to the first that waits: no task receives past it.
 #[test]
 fn receivers_in_order(rt: HostRuntime) {
     all_answer(
@@ -190,7 +190,7 @@ fn receivers_in_order(rt: HostRuntime) {
     );
 }
 
-// A receiver closes while senders wait: they get their messages back, and what was queued is received.
+// A receiver closes while senders wait: they get their messages back, and the queued messages are received.
 #[test]
 fn closed_while_senders_wait(rt: HostRuntime) {
     all_answer(

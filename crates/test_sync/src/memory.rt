@@ -1,5 +1,5 @@
-// Each call that takes memory, once more if it was refused: what it found is as it was. The tests hold with and without a
-// refusal; run them with each allocation refused in turn.
+// Each call that takes memory, repeated after a refusal: the refused call changed nothing. The tests hold with and
+// without a refusal; run them with each allocation refused in turn.
 use mono_sync::mpsc::{Channel, Receiving, Sending, TrySendError};
 use mono_sync::watch::{Changing, Watch};
 use mono_sync::{Acquiring, Notify, Notifying, Semaphore};

@@ -8,7 +8,7 @@ fn task(waiter: Option<Waiter>) -> Option<u64> {
     }
 }
 
-// The ticket of a future of this task that waits from now on.
+// Returns the ticket of a future of this task that waits from now on.
 fn drawn(notify: &mut Notify, by: u64) -> Option<u64> {
     match notify.notified(None, by) {
         Notifying::Joined(ticket) => Some(ticket),
@@ -20,7 +20,7 @@ fn has(notify: &mut Notify, ticket: Option<u64>) -> bool {
     matches!(notify.notified(ticket, 0), Notifying::Notified)
 }
 
-// One notice is kept while nobody waits, and no more than one.
+// One notice is kept while no task waits, and no more than one.
 #[test]
 fn one_is_kept(rt: HostRuntime) {
     let mut notify = Notify::new(rt.alloc());
@@ -30,7 +30,7 @@ fn one_is_kept(rt: HostRuntime) {
     assert_eq!(rt; drawn(&mut notify, 1), Some(0));
 }
 
-// The one that has waited longest is notified.
+// The task that has waited longest is notified.
 #[test]
 fn first_come_first_served(rt: HostRuntime) {
     let mut notify = Notify::new(rt.alloc());

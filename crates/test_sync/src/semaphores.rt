@@ -26,7 +26,7 @@ enum Call {
     Leaves(Option<u64>, Option<u64>),
     /// It is closed, and these two tasks are woken.
     Closes(u64, u64),
-    /// So many permits are free.
+    /// This many permits are free.
     Has(usize),
 }
 
@@ -37,7 +37,7 @@ fn task(waiter: Option<Waiter>) -> Option<u64> {
     }
 }
 
-/// Makes one call: whether it answers so.
+/// Makes one call, and returns whether it has this answer.
 fn answers(alloc: Global, semaphore: &mut Semaphore, call: Call) -> bool {
     match call {
         Call::Takes => semaphore.try_acquire().is_ok(),
@@ -65,7 +65,7 @@ fn answers(alloc: Global, semaphore: &mut Semaphore, call: Call) -> bool {
     }
 }
 
-/// Makes the calls in turn on a semaphore with this many permits: each must answer so.
+/// Makes the calls in turn on a semaphore with this many permits, and asserts their answers.
 fn all_answer<R: Abort>(rt: &R, alloc: Global, permits: usize, calls: &[Call]) {
     let mut semaphore = Semaphore::new(alloc, permits);
     for call in calls {

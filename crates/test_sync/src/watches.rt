@@ -27,7 +27,7 @@ fn the_last_value(rt: HostRuntime) {
     assert!(rt; matches!(watch.changed(2, None, 1), Changing::Joined(2)));
 }
 
-// A value that was closed does not change; who has not seen the last one still does.
+// A value that was closed does not change; a future that has not seen the last value still sees it.
 #[test]
 fn closed(rt: HostRuntime) {
     let alloc = rt.alloc();

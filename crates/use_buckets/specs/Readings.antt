@@ -1,4 +1,4 @@
--- What calls of a limiter lead its buckets to.
+-- The effect of calls on a limiter's buckets.
 use Rattle.std.specs.Prelude.{◌≡◌, ℕ, ◌+◌, ◌-◌, ◌≤◌, List, [], ◌∷◌, ◌++◌, Some, Result, refl}
 use Rattle.std.proofs.Common.{sym, subst}
 use Rattle.mono_model.specs.Table.{value_at}
@@ -37,8 +37,8 @@ called_clock u v n due step = record { calls = call.Clock n ∷ []; answers = an
 pub called_take : (u v : Limits) (b n : ℕ) (result : Result Take LimitError) → TakeAnswers u b n result v → Called u v
 called_take u v b n result answers = record { calls = call.Take b n ∷ []; answers = of_take result ∷ []; run = (v, (result, refl, answers), refl) }
 
--- Over some calls, all that were made in between, no more of a bucket was granted than it had before, and one token for each
--- period that has ended.
+-- Over some calls, all that were made in between, the tokens granted of a bucket are at most those that it had before,
+-- and one for each period that has ended.
 pub record KeepsRate (u v : Limits) : Type 0 where
   pub called : Called u v
   pub rate : (b : ℕ) (bucket : Bucket) → AreValid u → value_at u.buckets b ≡ Some bucket → granted b called.calls called.answers ≤ bucket.tokens + (periods_at bucket v.greatest - periods_at bucket u.greatest)

@@ -1,4 +1,4 @@
-// Buckets of tokens as what the tasks share, and a take from one.
+// Buckets of tokens that tasks share, and a take from one.
 ghost use Rattle.std.specs.Prelude.{◌≡◌, ◌<◌, ⊤, false};
 ghost use Rattle.mono_model.specs.Poll.{OnPending};
 ghost use Rattle.mono_limit.specs.Limits.{limits_of};
@@ -31,19 +31,19 @@ impl SharedState for Buckets {
     ghost leads_on = { λ a b c. called_on (limits_of a.limiter) (limits_of b.limiter) (limits_of c.limiter) };
 }
 
-/// What a take is told.
+/// The answer to a take.
 #[derive(Clone, Copy)]
 pub enum Told {
     /// The tokens are the task's.
     Granted,
-    /// The tokens are there at this instant, if nobody takes any until then.
+    /// The tokens are there at this instant, if no task takes any until then.
     At(Instant),
-    /// They never are.
+    /// The bucket never has them.
     Never,
 }
 
 impl Buckets {
-    /// One bucket of so many tokens, which gains one in each period of so many milliseconds.
+    /// Makes one bucket of `burst` tokens, which gains one in each period of `period_ms` milliseconds.
     pub fn new(alloc: Global, burst: u64, period_ms: u64) -> Result<Buckets, AllocError> {
         let mut limiter = Limiter::new(alloc, 1, 0)?;
         match limiter.bucket(alloc, burst, period_ms) {
@@ -61,7 +61,7 @@ impl Buckets {
     }
 }
 
-// What the answer tells a task.
+// Returns the answer to a task.
 fn answer_to(answer: Result<Take, LimitError>) -> Told {
     match answer {
         Ok(Take::Granted) => Told::Granted,
@@ -73,7 +73,7 @@ fn answer_to(answer: Result<Take, LimitError>) -> Told {
     }
 }
 
-// The clock goes on. There are no retries, so none is due.
+// Advances the clock. There are no retries, so none is due.
 fn go_on<L: Ledger>(limiter: &mut Limiter, alloc: Global, now: Instant, blank: Blank)
     requires { (blank.name ≡ L.name) × (blank.parts ≡ L.parts) × (0 < L.parts) }
     ensures { Called (limits_of limiter.old) (limits_of limiter.new) }
@@ -85,7 +85,8 @@ fn go_on<L: Ledger>(limiter: &mut Limiter, alloc: Global, now: Instant, blank: B
     }
 }
 
-/// Takes n tokens of a bucket that the tasks share, and sleeps until the told instant where it has too few.
+/// A future that takes n tokens of a bucket that the tasks share, and sleeps until the given instant if the bucket has
+/// too few.
 #[derive(Drop)]
 pub enum Taking {
     /// It asks: the bucket, and how many tokens.
@@ -96,7 +97,7 @@ pub enum Taking {
     Over,
 }
 
-// The limiter is asked at the turn's clock.
+// Asks the limiter at the turn's clock.
 fn asked<C: SharedContext<Buckets>>(alloc: Global, cx: &mut C, bucket: u64, n: u64) -> Told
     ensures { C.reaches cx.old cx.new }
 {
@@ -105,7 +106,7 @@ fn asked<C: SharedContext<Buckets>>(alloc: Global, cx: &mut C, bucket: u64, n: u
 }
 
 impl Taking {
-    // Takes, or sleeps until the told instant.
+    // Takes, or sleeps until the given instant.
     fn ask<C: TimeContext + SharedContext<Buckets>>(
         &mut self,
         alloc: Global,

@@ -1,4 +1,4 @@
-//! Two tasks of one runtime that take from a bucket which they share.
+//! Two tasks of one runtime that take from a shared bucket.
 #![tactic(auto)]
 
 ghost use Rattle.std.specs.Prelude.{◌≡◌, None};
@@ -44,8 +44,8 @@ impl Job for Idle {
 
 type Running = Runtime<Taker, u64, TimeDriver<StepDriver>, NoPool<Idle>, Buckets>;
 
-// Runs a taker beside those that were spawned. Whatever they do, and in whatever order, no more tokens of a bucket are granted
-// than it had before, and one for each period that has ended.
+// Runs a taker together with those that were spawned. In each order of their calls, no more tokens of a bucket are
+// granted than it had before, and one for each period that has ended.
 fn run_taker<R: Host>(rt: &R, alloc: Global, runtime: &mut Running, taker: Taker) -> Option<u64>
     requires { runtime.old.cx.parts.tasks.turn ≡ None }
     ensures rate { KeepsRate (limits_of runtime.old.cx.shared.limiter) (limits_of runtime.new.cx.shared.limiter) }
@@ -55,7 +55,7 @@ fn run_taker<R: Host>(rt: &R, alloc: Global, runtime: &mut Running, taker: Taker
     runtime.block_on(rt, alloc, taker, 100000).ok()
 }
 
-// Two tasks that take so often from one bucket: at which millisecond the second one is done.
+// Runs two tasks that take `each` times from one bucket, and returns at which millisecond the second one is done.
 fn done_at<R: Host>(rt: &R, alloc: Global, burst: u64, period_ms: u64, each: u64) -> Option<u64> {
     let driver = TimeDriver::new(StepDriver::new(Vec::new(alloc)));
     let builder: RuntimeBuilder<TimeDriver<StepDriver>, NoPool<Idle>> = RuntimeBuilder::new(driver);

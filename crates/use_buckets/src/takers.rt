@@ -9,7 +9,7 @@ use mono_task::TaskFuture;
 use mono_time::TimeContext;
 use std::alloc::Global;
 
-/// Takes n tokens so often, and answers the millisecond at which it was done; 0 where it never can.
+/// A future that takes n tokens `often` times, and answers the millisecond at which it was done; 0 if it never can.
 #[derive(Drop)]
 pub struct Taker {
     pub(crate) taking: Taking,
@@ -18,7 +18,7 @@ pub struct Taker {
 }
 
 impl Taker {
-    /// Takes n tokens so often.
+    /// Returns a future that takes n tokens `often` times.
     pub fn new(n: u64, often: u64) -> Taker {
         Taker {
             taking: Taking::Asks(0, n),

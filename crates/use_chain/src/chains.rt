@@ -9,7 +9,7 @@ use mono_time::{SleepError, TimeContext, sleep_for};
 use std::alloc::Global;
 use std::time::Duration;
 
-/// Polls a future at most so many times, one poll after another, until it is ready. Then it is given up.
+/// Polls a future at most `polls` times, one poll after another, until it is ready, and then gives it up.
 pub fn poll_up_to<C: Context, A: TaskFuture<C>, R: Host>(
     rt: &R,
     alloc: Global,
@@ -38,7 +38,7 @@ pub fn poll_up_to<C: Context, A: TaskFuture<C>, R: Host>(
     Poll::Pending
 }
 
-/// A task that sleeps, counts and sleeps again, polled at most so many times: it answers the count, or 0 where a sleep was
+/// Polls a task that sleeps, counts and sleeps again, at most `polls` times. It answers the count, or 0 if a sleep was
 /// refused.
 pub fn counts_once<C: TimeContext, R: Host>(
     rt: &R,
@@ -64,7 +64,8 @@ pub fn counts_once<C: TimeContext, R: Host>(
     poll_up_to(rt, alloc, cx, task, polls)
 }
 
-/// As [`poll_up_to`], for a future whose type may be polled in any state, as a runtime asks it of its futures.
+/// Polls as [`poll_up_to`] does, for a future whose type may be polled in any state, as a runtime asks it of its
+/// futures.
 pub fn poll_any<C: Context, A: TaskFuture<C>, R: Host>(
     rt: &R,
     alloc: Global,
@@ -80,7 +81,7 @@ pub fn poll_any<C: Context, A: TaskFuture<C>, R: Host>(
     poll_up_to(rt, alloc, cx, future, polls)
 }
 
-/// A task that sleeps, counts and sleeps again, as a runtime's tasks are: its closures ask for nothing.
+/// Polls a task that sleeps, counts and sleeps again, as a runtime's tasks are: its closures require nothing.
 pub fn counts_twice<C: TimeContext, R: Host>(
     rt: &R,
     alloc: Global,

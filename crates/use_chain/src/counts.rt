@@ -1,4 +1,4 @@
-// A fact of the answer that goes through a runtime, by the output's type.
+// A fact about the answer that passes through a runtime, by the output's type.
 ghost use Rattle.std.specs.Prelude.{◌≡◌, ◌==◌, ◌||◌, true, IfOk};
 
 use crate::chains::poll_any;
@@ -8,7 +8,7 @@ use mono_time::{SleepError, TimeContext, sleep_for};
 use std::alloc::Global;
 use std::time::Duration;
 
-/// How often a task has slept: twice, or never where a sleep was refused.
+/// How often a task has slept: twice, or never if a sleep was refused.
 #[derive(Drop)]
 pub struct Slept {
     times: u64,
@@ -16,7 +16,7 @@ pub struct Slept {
 }
 
 impl Slept {
-    /// How often.
+    /// Returns how often the task has slept.
     pub fn times(&self) -> u64
         ensures { (result == 2 || result == 0) ≡ true }
     {
@@ -24,7 +24,7 @@ impl Slept {
     }
 }
 
-/// A task that sleeps, counts and sleeps again. Whoever runs it has a `Slept`, whose type says how often.
+/// Returns the output of a task that sleeps, counts and sleeps again: a `Slept`, whose type says how often.
 pub fn sleeps_twice<C: TimeContext, R: Host>(
     rt: &R,
     alloc: Global,

@@ -1,4 +1,4 @@
-//! A task that sleeps, counts and sleeps again, written by forms alone, and what it answers.
+//! A task that sleeps, counts and sleeps again, written by forms alone, and its answer.
 #![tactic(auto)]
 
 mod chains;

@@ -6,8 +6,8 @@ use mono_time::{SleepError, TimeContext, sleep_for};
 use std::alloc::Global;
 use std::time::Duration;
 
-/// A task that sleeps again and again, polled at most so many times: it answers how often it has slept. That each turn may be
-/// made and polled is found with no proof file.
+/// Polls a task that sleeps again and again, at most `polls` times. It answers how often it has slept. No proof file is
+/// needed to show that each turn may be made and polled.
 pub fn sleeps_often<C: TimeContext, R: Host>(
     rt: &R,
     alloc: Global,

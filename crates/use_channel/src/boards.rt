@@ -1,4 +1,4 @@
-// What the tasks share.
+// The shared value of the tasks.
 ghost use Rattle.std.specs.Prelude.{◌≡◌, refl};
 ghost use Rattle.mono_sync.specs.MpscRuns as channel;
 ghost use Rattle.mono_sync.specs.SemaphoreRuns as semaphore;
@@ -7,7 +7,7 @@ use mono_shared::SharedState;
 use mono_sync::mpsc::Channel;
 use mono_sync::{Holds, Semaphore};
 
-/// A channel of numbers, and a permit for each number that may be under way.
+/// A channel of numbers, and a permit for each number that may be in transit.
 #[derive(Drop)]
 pub struct Board {
     /// The numbers.

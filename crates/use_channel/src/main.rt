@@ -1,4 +1,4 @@
-//! Tasks of one runtime that send and receive over a channel which they share, with a permit for each message.
+//! Tasks of one runtime that send and receive over a shared channel, with a permit for each message.
 #![tactic(auto)]
 
 ghost use Rattle.std.specs.Prelude.{◌≤◌, IfSome};
@@ -44,8 +44,8 @@ impl Job for Idle {
 
 type Running = Runtime<Party, u64, TimeDriver<StepDriver>, NoPool<Idle>, Board>;
 
-// A consumer of all that two producers send, over a channel of so many places: the sum of its messages, each times its place,
-// and how many messages are left. As many at most as there are places, whatever the tasks did.
+// Runs a consumer of all that two producers send, over a channel of `most` places. Returns the sum of its messages,
+// each times its place, and how many messages are left: at most the number of places, for each order of the tasks.
 fn sum_of<R: Host>(
     rt: &R,
     alloc: Global,

@@ -1,4 +1,4 @@
-// Who sends, and who receives.
+// The sender and the receiver.
 ghost use Rattle.std.specs.Prelude.{⊤};
 ghost use Rattle.use_channel.specs.Parties.{is_over};
 
@@ -11,32 +11,32 @@ use mono_task::TaskFuture;
 use std::alloc::Global;
 use std::mem;
 
-/// A task that sends numbers, or one that receives them.
+/// A task that sends numbers, or a task that receives them.
 #[derive(Drop)]
 pub enum Party {
-    /// It waits for a permit to send this number, and then so many more.
+    /// It waits for a permit to send this number, and then this many more.
     Asks(Acquire<Board>, u64, u64),
-    /// It sends this number, and then so many more.
+    /// It sends this number, and then this many more.
     Sends(Send<Board, u64>, u64, u64),
-    /// It receives, and then so many more; the sum so far, and how many it has received.
+    /// It receives, and then this many more; the sum so far, and how many it has received.
     Receives(Recv<Board, u64>, u64, u64, u64),
     /// It has answered.
     Over,
 }
 
 impl Party {
-    /// Sends so many numbers from the first on, each with a permit.
+    /// Returns a task that sends `count` numbers from the first on, each with a permit.
     pub fn producer(first: u64, count: u64) -> Party {
         Party::Asks(Acquire::new(), first, count.saturating_sub(1))
     }
 
-    /// Receives so many numbers, and releases a permit for each.
+    /// Returns a task that receives `count` numbers, and releases a permit for each.
     pub fn consumer(count: u64) -> Party {
         Party::Receives(Recv::new(), count.saturating_sub(1), 0, 0)
     }
 }
 
-// The running task runs again after its turn.
+// Queues the running task again after its turn.
 fn again<C: SharedContext<Board>>(cx: &mut C)
     ensures { C.reaches cx.old cx.new }
 {
@@ -44,7 +44,7 @@ fn again<C: SharedContext<Board>>(cx: &mut C)
     let _ = cx.wake(me);
 }
 
-// A number was received: its permit is released, and the task runs again if some are left.
+// Releases the permit of a number that was received, and queues the task again if some are left.
 fn received<C: SharedContext<Board>>(cx: &mut C, left: u64)
     ensures { C.reaches cx.old cx.new }
 {

@@ -1,4 +1,4 @@
-//! What the executor answers is what the checker passes.
+//! The checker accepts the executor's reports.
 #![tactic(auto)]
 
 ghost use Rattle.std.specs.Prelude.{◌≡◌, IfOk};
@@ -7,9 +7,8 @@ use mono_machine::{Blocking, Event, Limits};
 use mono_trace::{Verdict, check};
 use std::alloc::{AllocError, Global};
 
-/// Takes all events by a new executor, and checks its reports with the same limits and strategy: the verdict is yes.
-///
-/// The only error is want of memory.
+/// Applies all events to a new executor, and checks its reports with the same limits and strategy: the verdict is yes.
+/// The only error is out of memory.
 pub fn checked_replay(
     alloc: Global,
     limits: Limits,

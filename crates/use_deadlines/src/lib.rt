@@ -22,7 +22,7 @@ pub struct Sessions {
 }
 
 impl Sessions {
-    /// No session, and room for so many.
+    /// Returns an empty set of sessions, with room for `limit`.
     pub fn new(alloc: Global, limit: u64) -> Result<Sessions, AllocError>
         ensures { IfOk result (λ s. sleeps_of s.timers ≡ spec.empty_sleep_table limit true) }
     {
@@ -31,7 +31,7 @@ impl Sessions {
         })
     }
 
-    /// A new session with a deadline, which is armed at once.
+    /// Opens a session with a deadline, which is armed at once.
     pub fn open(&mut self, alloc: Global, deadline: Instant) -> Result<u64, SleepError>
         ensures opened { IfOk result (λ s. sleeps_of self.new.timers ≡ with_polled_sleep (with_added_sleep (sleeps_of self.old.timers) (up (nanos_of deadline))) s s) }
         ensures refused { OnErr result (sleeps_of self.new.timers ≡ sleeps_of self.old.timers) }
@@ -41,7 +41,7 @@ impl Sessions {
         Ok(session)
     }
 
-    /// Moves the session's deadline. Refused exactly where there is no such session.
+    /// Moves the session's deadline. Refused if and only if there is no such session.
     pub fn touch(&mut self, session: u64, deadline: Instant) -> Result<(), Error>
         ensures moved { sleeps_of self.new.timers ≡ with_reset_sleep (sleeps_of self.old.timers) session (nanos_of deadline) }
         ensures answer { result ≡ without_waker (sleep_reset_answer (sleeps_of self.old.timers) session (nanos_of deadline)) }
@@ -52,7 +52,8 @@ impl Sessions {
         }
     }
 
-    /// The next session whose deadline has come at the clock's reading. It is gone then. None where there is none.
+    /// Returns the next session whose deadline has come at the clock's reading, and removes it. Returns None if there
+    /// is none.
     pub fn expire<L: Ledger>(&mut self, now: Instant, steps: &mut Steps<L>) -> Option<u64>
         ensures due { IfSome result (λ s. (waker : Option ℕ) × IsFiredFirst (at_clock_tick (sleeps_of self.old.timers) (nanos_of now)) s waker) }
         ensures gone { IfSome result (λ s. sleeps_of self.new.timers ≡ with_removed_sleep (with_fired_sleep (at_clock_tick (sleeps_of self.old.timers) (nanos_of now)) s) s) }
@@ -80,8 +81,7 @@ impl Sessions {
         Ok(())
     }
 
-    /// All sessions whose deadline has come go, and `into` has their numbers behind what it had. Afterwards no session is
-    /// due.
+    /// Removes all sessions whose deadline has come, and appends their numbers to `into`. Afterwards no session is due.
     pub fn expire_all(&mut self, now: Instant, into: &mut Vec<u64>) -> Result<(), AllocError>
         ensures none { OnOk result (IsNoneArmedUpTo (sleeps_of self.new.timers)) }
     {

@@ -7,10 +7,10 @@ use mono_rt::{Buildable, Clock, Driver, DriverFault, Instant};
 use std::alloc::AllocError;
 use std::time::Duration;
 
-/// Passes all calls on to its driver, but for parks behind the last that is left: these fail at once.
+/// A driver that passes all calls on to its driver, except the parks after the last that is left: these fail at once.
 ///
-/// So a runtime whose tasks wait for ever comes back, with the answer `Driver`. Its count of faults is that of its driver
-/// and its own together; a park that failed here moves no time.
+/// So a runtime whose tasks wait for ever returns the answer `Driver`. Its count of faults is the sum of its driver's
+/// and its own; a park that failed here moves no time.
 #[derive(Drop)]
 pub struct Bounded<D> {
     driver: D,
@@ -20,7 +20,7 @@ pub struct Bounded<D> {
 }
 
 impl<D: Drop> Bounded<D> {
-    /// The driver with so many parks left.
+    /// Returns the driver with `parks` parks left.
     pub fn new(driver: D, parks: u64) -> Bounded<D>
         ensures { result ≡ record { driver = driver; left = parks; parks = 0; refused = 0 } }
     {
@@ -32,7 +32,7 @@ impl<D: Drop> Bounded<D> {
         }
     }
 
-    // One more park; whether one was left for it.
+    // Counts one more park, and returns whether one was left for it.
     fn may_park(&mut self) -> bool
         ensures parks { self.new.parks ≡ one_more self.old.parks }
         ensures driver { self.new.driver ≡ self.old.driver }

@@ -1,4 +1,4 @@
-//! A runtime on a driver of one's own: one that parks a given number of times, and then fails.
+//! A runtime on a driver of one's own, which parks a given number of times, and then fails.
 #![tactic(auto)]
 
 mod bounds;

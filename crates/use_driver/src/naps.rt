@@ -15,7 +15,7 @@ use mono_time::{Sleep, TimeContext, sleep};
 use std::alloc::{AllocError, Global};
 use std::time::Duration;
 
-/// Sleeps for a while, and is ready with 1; with 0 where it could not.
+/// A future that sleeps for a while, and is ready with 1, or with 0 if it could not sleep.
 #[derive(Drop)]
 pub struct Nap {
     length: Duration,
@@ -24,7 +24,7 @@ pub struct Nap {
 }
 
 impl Nap {
-    /// A nap of this length, which begins at the first poll.
+    /// Returns a nap of this length, which begins at the first poll.
     pub fn new(length: Duration) -> Nap
         ensures { result.has_answered ≡ false }
     {
@@ -78,8 +78,8 @@ impl<C: TimeContext> TaskFuture<C> for Nap {
     }
 }
 
-/// One nap on a runtime of its own, whose driver parks at most so many times: the answer, and the journal, whose history is
-/// a run of the plain machine (`run`).
+/// Runs one nap on a runtime of its own, whose driver parks at most `parks` times. Returns the answer, and the journal,
+/// whose history is a run of the reference machine (`run`).
 pub fn nap_within<D: Driver, P: ThreadPool + Drop, R: Host>(
     rt: &R,
     alloc: Global,

@@ -1,4 +1,4 @@
-//! A chain by forms as the main task of a runtime, and what its answer is.
+//! A chain by forms as the main task of a runtime, and its answer.
 #![tactic(auto)]
 
 mod sleeper;

@@ -10,7 +10,7 @@ use mono_time::{SleepError, sleep_for};
 use std::alloc::{AllocError, Global};
 use std::time::Duration;
 
-/// How often a task has slept: twice, or never where a sleep was refused.
+/// How often a task has slept: twice, or never if a sleep was refused.
 #[derive(Drop)]
 pub struct Slept {
     times: u64,
@@ -18,7 +18,7 @@ pub struct Slept {
 }
 
 impl Slept {
-    /// How often.
+    /// Returns how often the task has slept.
     pub fn times(&self) -> u64
         ensures { (result == 2 || result == 0) ≡ true }
     {
@@ -34,7 +34,7 @@ impl Outcome for Slept {
     }
 }
 
-/// Sleeps, counts and sleeps again, on a runtime of its own: how often it has slept, which is twice, or never where a sleep
+/// Sleeps, counts and sleeps again, on a runtime of its own. Returns how often it has slept: twice, or never if a sleep
 /// was refused.
 pub fn sleep_twice<D: Driver, P: ThreadPool + Drop, R: Host>(
     rt: &R,

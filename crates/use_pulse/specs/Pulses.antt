@@ -1,4 +1,4 @@
--- A future that waits for a sleep so many times: what one poll of it answers and leaves.
+-- A future that waits for a number of elapses of a sleep: the answer and the effect of one poll.
 use Rattle.std.specs.Prelude.{◌≡◌, ℕ, ◌-◌, ⊤, Bool, true, false, Result, Ok, Err}
 use Rattle.mono_model.specs.Tasks.{Tasks}
 use Rattle.mono_model.specs.Poll.{OnPending, OnReady}

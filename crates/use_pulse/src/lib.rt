@@ -1,4 +1,4 @@
-//! A future that waits for a sleep so many times, and its poll under a timeout.
+//! A future that waits for a number of elapses of a sleep, and its poll under a timeout.
 #![tactic(auto)]
 
 ghost use Rattle.std.specs.Prelude.{◌≡◌, ◌≢◌, true, false, Ok};
@@ -13,7 +13,7 @@ use mono_time::{Error, Sleep, TimeContext, Timeout, TimeoutError};
 use std::alloc::Global;
 use std::time::Duration;
 
-/// Waits until its sleep has elapsed so many times, a period apart.
+/// A future that waits until its sleep has elapsed a number of times, a period apart.
 #[derive(Drop)]
 pub struct Pulse {
     delay: Sleep,
@@ -23,7 +23,7 @@ pub struct Pulse {
 }
 
 impl Pulse {
-    /// A pulse that waits for this sleep, and then for so many periods more.
+    /// Returns a pulse that waits for this sleep, and then for `left` more periods.
     pub fn new(delay: Sleep, period: Duration, left: u64) -> Pulse
         ensures { result ≡ record { delay = delay; period = period; left = left; has_answered = false } }
     {
@@ -86,7 +86,8 @@ impl<C: TimeContext> TaskFuture<C> for Pulse {
     }
 }
 
-/// Polls a pulse with a deadline: whether its time has elapsed. It has where the pulse waits and the deadline has come.
+/// Polls a pulse with a deadline, and returns whether its time has elapsed. It has if the pulse waits and the deadline
+/// has come.
 pub fn is_late<C: TimeContext, R: Host>(
     rt: &R,
     alloc: Global,
