@@ -1,4 +1,4 @@
--- Runs one behind another, with their sums.
+-- Runs in sequence, with their sums.
 use Rattle.std.proofs.Common.{◌≡◌, ℕ, zero, suc, ◌+◌, ◌*◌, ◌-◌, ◌%◌, ◌^◌, ◌<◌, ◌≤◌, List, [], ◌∷◌, ◌++◌, length, flat_map, refl, sym, ap, subst, ◌∙◌, arith, append_assoc, length-append, drop}
 use Rattle.std.proofs.lemmas.List.{append-nil}
 use Rattle.mono_machine.specs.Machine.{Machine, start_machine}
@@ -58,14 +58,14 @@ both x y z a b c es fs p q = λ m s.
     let adds = adds_more a b c (flat_map fired_in k.0) (flat_map fired_in l.0) (total_of refusals_in k.0) (total_of refusals_in l.0) k.4 l.4 in
     (k.0 ++ l.0, l.1, run_all m k.1 l.1 es fs k.0 l.0 k.2 l.2, l.3, rw (fired_all k.0 l.0, refused_all k.0 l.0) adds)
 
--- what is left of so many, one less
+-- the rest of a number of items, one less
 pub one_less : (n k : ℕ) → k < n → n - k ≡ suc (n - (k + 1))
 one_less n k l = omega (arith, l)
 
 pub none_left : (n k : ℕ) → n ≤ k → n - k ≡ 0
 none_left n k l = omega (arith, l)
 
--- the three parts one behind another
+-- the three parts in sequence
 pub summed : (seed count : ℕ) (x y z w : Exec) (b c d : Tally) → Stands x (start_machine (load_limits count) blocking.Panic)
     → Goes x (record { fired = 0; refused = 0; order = 0 }) (sleepers 0 count (seeded seed)) y b → Goes y b (clocks 1 16) z c → Goes z c (endings count) w d
     → IsSummary seed count (record { events = 3 * count + 16; fired = d.fired; refused = d.refused; order = d.order })

@@ -103,7 +103,7 @@ never_there table t is = elim (cases_lt t (length table)) [
     true-false : true ≡ false → ⊥
     true-false e = cc
 
--- a wake that is not listed changes nothing, also where the task was never given out
+-- a wake that is not listed changes nothing, even if the task was never given out
 abbrev put : Bool → Machine → ℕ → Machine
 put b m t = cond b m (with_inbox m (with_waiting m.inbox t))
 
@@ -156,7 +156,7 @@ begun_matches parts m s me rest st valid queue is =
     let begins : s.tasks ≡ begun parts.tasks.tasks me rest = ap (λ x. x.tasks) is ∙ ap (λ q. (schedule.begun_by q parts.tasks).tasks) (ap (λ x. x.queue) st.tasks ∙ queue) in
     other_tasks parts m s (begun m.tasks me rest) st (begins ∙ ap (λ x. begun x me rest) st.tasks) (alike_begun m.tasks me rest queue valid.tasks)
 
--- the executor stands for the machine that a step leaves
+-- the executor refines the machine that a step leaves
 pub act_done : (exec : Exec) (m : Machine) (a : Act) (answer : Report) → IsValid m → answer ≡ report.Reply (act_outcome a m).reply → Matches exec.parts (act_outcome a m).machine → (left : Machine) × Step m (event.Act a) answer left × Stands exec left
 act_done exec m a answer valid is st = (_, (is, refl), record { matches = st; valid = step_is_valid m (event.Act a) answer _ valid (is, refl) })
 

@@ -31,7 +31,7 @@ rests old new before after table st is alike gone stands = record {
   has_gone = gone ∙ st.has_gone ∙ sym alike.greatest ∙ sym (ap (λ x. x.greatest) is);
 }
 
--- with other timers, where they stand for the sleeps that are left
+-- with other timers, if they refine the sleeps that are left
 abbrev pub with_timers : Parts → Timers → Parts
 with_timers parts timers = record { tasks = parts.tasks; timers = timers; jobs = parts.jobs; inbox = parts.inbox; blocking = parts.blocking }
 

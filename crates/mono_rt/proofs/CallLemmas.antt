@@ -36,7 +36,7 @@ use Rattle.mono_rt.specs.Leads.{Leads, by_act, by_nothing}
 use Rattle.mono_rt.specs.declared.parts.state.Parts.{Parts}
 use Rattle.mono_rt.proofs.NumberLemmas.{numbered-woken_if_any, numbered-spawned, next_numbered, full_numbered}
 
--- where a task was made there was room for it
+-- if a task was made, there was room for it
 not_both : (r : Result ℕ SpawnTask) (t : ℕ) → r ≡ Ok t → r ≡ Err AtCapacity → ⊥
 not_both r t p q = cc
 
@@ -166,7 +166,7 @@ module _ {O B : Type 0} (number : O → ℕ) (hosting : B → Hosting) where
   pub by_refusal : (c : Parts O B) (s : Schedule O) → s ≡ c.tasks → Leads number hosting c (with_memory c s c.timers true)
   by_refusal c s is = by_nothing number hosting c (with_memory c s c.timers true) refl (λ m st. same_machine c (with_memory c s c.timers true) m is refl refl refl st) (λ q. refl) refl refl (ap (λ x. x.turn) is) (ap (λ x. x.turns) is) refl (λ h. refl)
 
-  -- the table of sleeps stands for the machine's as before
+  -- the table of sleeps refines the machine's sleeps as before
   pub by_no_sleep : (c : Parts O B) (timers : Timers) (is_out : Bool) → sleeps_of timers ≡ sleeps_of c.timers → elapsed_tick timers ≡ elapsed_tick c.timers → ((m : Sleeps) → StandsForSleeps c.timers m → StandsForSleeps timers m)
       → ((s : ℕ) → registered_of timers s ≡ registered_of c.timers s) → (c.is_out_of_memory ≡ true → is_out ≡ true) → Leads number hosting c (with_memory c c.tasks timers is_out)
   by_no_sleep c timers is_out same gone stands stays memory =

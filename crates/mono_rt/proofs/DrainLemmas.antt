@@ -1,5 +1,5 @@
--- The wakes from outside of tasks that each stand once, and then the drain, are a run: the drain lists those that are given
--- out and unfinished, in order, and each of these is woken.
+-- The wakes from outside of distinct tasks, and then the drain, are a run: the drain lists those that are given out and
+-- unfinished, in order, and each of these is woken.
 use Rattle.std.proofs.Common.{◌≡◌, ◌<◌, ◌≤◌, ◌≢◌, ℕ, ◌+◌, suc, true, false, Bool, cond, List, [], ◌∷◌, ◌++◌, length, get_or, drop, Some, None, Option, refl, ap, sym, subst, ◌∙◌, append_assoc, append-nil, arith}
 use Rattle.std.specs.Prelude.{◌||◌, ◌==◌, Result, Ok, Err, AllPairs, nat_lt}
 use Rattle.std.specs.Option.{option_map}
@@ -111,7 +111,7 @@ still_apart a inbox t ts apart once i d inside =
 rest_once : (t : ℕ) (ts : List ℕ) → AllPairs (λ s u. s ≢ u) (t ∷ ts) → AllPairs (λ s u. s ≢ u) ts
 rest_once t ts once i j d below inside = once (suc i) (suc j) d (omega (arith, below)) (omega (arith, inside))
 
--- Each is told, and the inbox has those that are listed behind what it had.
+-- Each task is recorded, and the inbox has the listed ones after its earlier list.
 pub remotes_are : (ts : List ℕ) (m : Machine) (rest : List Entry) → Apart m.inbox ts → AllPairs (λ s t. s ≢ t) ts → Remotes ts m (remotes m.tasks ts ++ rest) (with_inbox m (m.inbox ++ listed m.tasks ts)) rest
 remotes_are [] m rest apart once = (refl, ap (with_inbox m) (append-nil m.inbox))
 remotes_are (t ∷ ts) m rest apart once =
@@ -150,7 +150,7 @@ drained_is ts m rest empty once =
       step = (ap report.Drained (sym all), ap (with_inbox (with_tasks m (all_woken m.tasks (listed m.tasks ts)))) empty ∙ ap (λ xs. with_inbox (with_tasks m (all_woken m.tasks xs)) []) (sym all));
     }
 
--- what is drained leads the machine on
+-- a drain is a run of the machine
 remotes_follow : (ts : List ℕ) (old new end : Machine) (part rest : List Entry) → Remotes ts old part new rest → Follows new rest end → Follows old part end
 remotes_follow [] old new end part rest (same, is) after = subst (λ xs. Follows old xs end) (sym same) (subst (λ m. Follows m rest end) is after)
 remotes_follow (t ∷ ts) old new end part rest (told, (mid, (left, (entry, step, more)))) after =
@@ -160,7 +160,7 @@ pub drained_follow : (old new end : Machine) (part rest : List Entry) → Draine
 drained_follow old new end part rest is after =
     remotes_follow is.taken old is.mid end part is.left is.remotes (subst (λ xs. Follows is.mid xs end) (sym is.entry) (new, is.step, after))
 
--- one more of the tasks is told
+-- one more of the tasks is recorded
 pub remotes_more : {O : Type 0} (tasks : Tasks O) (ts : List ℕ) (i d : ℕ) (now next all : List Entry) → i < length ts
     → next ≡ now ++ Ran (event.Remote (get_or ts i d)) (told_by (over_answer tasks (get_or ts i d))) ∷ [] → now ++ remotes tasks (drop i ts) ≡ all → next ++ remotes tasks (drop (i + 1) ts) ≡ all
 remotes_more tasks ts i d now next all inside is told =

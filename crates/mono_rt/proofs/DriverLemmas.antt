@@ -1,4 +1,4 @@
--- What the driver tells, piece by piece.
+-- The readings and parks of a driver, piece by piece.
 use Rattle.std.proofs.Common.{◌≡◌, ◌*◌, ℕ, true, false, Bool, List, [], ◌∷◌, ◌++◌, Some, None, Option, Ok, Err, refl, ap, sym, subst, ◌∙◌, append_assoc, append-nil}
 use Rattle.std.specs.Prelude.{⊤, Result, is_err}
 use Rattle.mono_driver.specs.Drivers.{moved}
@@ -58,7 +58,7 @@ telling_on {Ends} {a} {b} {c} {p} {q} {i} {j} {k} f g = record {
       );
 }
 
--- what follows of how it ended
+-- the facts that follow from how the call ended
 pub telling_more : {P Q : Course → Type 0} {a b : Told} {p : Course} {j k : Journal} → ((x : Course) → P x → Q x) → Telling P a p j k b → Telling Q a p j k b
 telling_more {P} {Q} {a} {b} {p} {j} {k} law f = record {
   tells =
@@ -86,12 +86,12 @@ telling_past {P} {a} {b} {c} {p} {i} {j} {k} f g = record {
       );
 }
 
--- wakes from outside tell nothing of it
+-- wakes from outside do not affect it
 pub remotes_tell : {O : Type 0} (tasks : Tasks O) (ts : List ℕ) (a : Told) (p : Course) → Tells a p (remotes tasks ts) a p
 remotes_tell tasks [] a p = (refl, refl)
 remotes_tell tasks (t ∷ ts) a p = (a, (p, ((refl, refl), remotes_tell tasks ts a p)))
 
--- the time after a park with an end is the one that the driver tells
+-- the time after a park with an end is the driver's
 pub parked_is : (r : Result ⊤ DriverFault) (time : Option ℕ) (v nanos : ℕ) (has_failed : Bool) → has_failed ≡ is_err r → nanos ≡ v * 1000000 → moved time nanos r ≡ parked_time has_failed (Some v) time
 parked_is r None v nanos has_failed is at = refl
 parked_is (Ok x) (Some t) v nanos has_failed is at = ap (λ d. moved (Some t) d (Ok x)) at ∙ ap (λ f. parked_time f (Some v) (Some t)) (sym is)
@@ -114,7 +114,7 @@ pub drained_wait : (has_failed : Bool) → IsDrained (after_park has_failed) (af
 drained_wait true = refl
 drained_wait false = refl
 
--- the same driver tells the same
+-- the same driver exposes the same
 pub same_told : {D : Type 0} (r : D → Option (List ℕ)) (t : D → Option ℕ) (p : D → ℕ) {x y : D} → x ≡ y → telling (r x) (t x) (p x) ≡ telling (r y) (t y) (p y)
 same_told r t p same = ap (λ d. telling (r d) (t d) (p d)) same
 
@@ -131,7 +131,7 @@ tells_kept {a} {b} {j} {k} steps e r same kept = record {
   tells = (Ran (event.Turn steps e) r ∷ [], (going, (kept, (refl, (b, (going, ((same, refl), (refl, refl))))))));
 }
 
--- from an empty history, what it then has
+-- from an empty history, the entries that it has then
 pub told_in : {A : Type 0} {answer : Result A RunError} {a b : Told} {j k : Journal} (l : Journal) → j.history.entries ≡ [] → l ≡ k → Telling (EndsSo answer) a going j k b → IsTold answer a l.history.entries
 told_in {A} {answer} {a} {b} {j} {k} l empty same f =
     let first = f.tells in

@@ -13,7 +13,7 @@ pub rises_by : (r : Result ⊤ DriverFault) (b : Bool) (x y : ℕ) → b ≡ is_
 rises_by (Ok z) b x y is faults = subst (λ v. RisesIf v x y) (sym is) faults
 rises_by (Err e) b x y is faults = subst (λ v. RisesIf v x y) (sym is) faults.1
 
--- what leaves the count stands before it, or after it
+-- a call that keeps the count precedes it, or follows it
 pub rises_after : (b : Bool) (x y z : ℕ) → y ≡ x → RisesIf b y z → RisesIf b x z
 rises_after b x y z same rises = subst (λ n. RisesIf b n z) same rises
 
@@ -23,7 +23,7 @@ rises_before b x y z rises same = subst (λ n. RisesIf b x n) (sym same) rises
 pub faults_after : (e : RunError) (x y z : ℕ) → y ≡ x → FaultsOn e y z → FaultsOn e x z
 faults_after e x y z same faults = subst (λ n. FaultsOn e n z) same faults
 
--- a call that failed, and then what leaves the count
+-- a call that failed, and then a call that keeps the count
 pub risen_before : (x y z : ℕ) → HasRisen x y → z ≡ y → HasRisen x z
 risen_before x y z risen same = subst (λ n. HasRisen x n) (sym same) risen
 

@@ -36,7 +36,7 @@ on_main (Err error.Driver) p q law is = law is
 on_main (Err error.AtCapacity) p q law is = tt
 on_main (Err error.Memory) p q law is = tt
 
--- where it ended by this error, whatever it would have answered
+-- if it ended by this error, for each answer
 pub same_error : (X Y : Type 0) (e : RunError) (p : Type 0) → OnMain {A = X} (Err e) p → OnMain {A = Y} (Err e) p
 same_error X Y error.Turns p is = is
 same_error X Y error.Driver p is = is
@@ -51,7 +51,7 @@ none_made X error.Driver p q is = absurd is
 none_made X error.Turns p q is = absurd is
 
 module _ {F O P U W J A V : Type 0} (number : O → ℕ) (leads : W → W → Type 0) (future : FutureOf F (Cx F O P U W J A V) O) (h : Bool) where
-  -- what is done between two rounds leaves the futures
+  -- the entries between two rounds leave the futures
   module _ (fs : List (Option F)) where
     abbrev Is : Machine → List Entry → Type 0
     Is m part = (reading : ℕ) → Polled number leads future h m fs reading part

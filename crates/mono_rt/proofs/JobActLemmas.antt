@@ -112,7 +112,7 @@ module _ {O P : Type 0} (number : O → ℕ) where
       let last = by_jobs mid d.blocking acts asked (reply_of answer) refl told (ap strategy_of is.pool) in
       subst (Leads number hosting_of c) (sym is.parts) (leads_on number hosting_of c mid (with_blocking mid d.blocking acts mid.is_out_of_memory) (end_leads c j is.end is.is_end) last)
 
-  -- what the machine does with a job that is asked for
+  -- the machine's answer to the spawn of a job
   block_at : (c : Parts O (Seen P)) (m : Machine) (n : ℕ) (b : Bool) → Matches number hosting_of c m → is_full c.blocking.table.jobs.table c.blocking.table.jobs.limit ≡ b
       → act_outcome (act.Block n) m ≡ cond b (refused refusal.AtCapacity m) (block (strategy_of c.blocking.pool) n m)
   block_at c m n b st full =

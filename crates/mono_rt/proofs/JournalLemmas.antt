@@ -1,4 +1,4 @@
--- What a runtime did, piece by piece.
+-- The history of a runtime, piece by piece.
 use Rattle.std.proofs.Common.{◌≡◌, ◌≤◌, ℕ, true, false, Bool, cond, List, [], ◌∷◌, ◌++◌, None, Option, refl, ap, sym, subst, ◌∙◌, append_assoc, append-nil}
 use Rattle.mono_model.specs.Ticks.{max_nanos}
 use Rattle.mono_model.specs.Tasks.{all_woken, spawned}
@@ -90,7 +90,7 @@ module _ {O P : Type 0} (number : O → ℕ) where
     };
   }
 
-  -- what was done are steps of the machine
+  -- the new entries are steps of the machine
   pub does_led : (c d : Parts O (Seen P)) (j k : Journal) → Goes number c d j k → Does number Led c d j k
   does_led c d j k p = record {
     did = λ m st. let went : Went number c d j k m = p.went m st in record { went = went; is = λ rest. (went.part, (refl, went.follows)) };
@@ -204,14 +204,14 @@ module _ {O P : Type 0} (number : O → ℕ) where
       ))
       (λ m st. stays_registered c.timers d.timers m.sleeps _ timers refl)
 
-  -- from an empty history, what it then has is a run
+  -- the entries after an empty history are a run
   pub run_of : (c d : Parts O (Seen P)) (j k l : Journal) (m : Machine) → Matches number hosting_of c m → j.history.entries ≡ [] → l ≡ k → Goes number c d j k → (new : Machine) × Run m (events_in l.history.entries) (reports_in l.history.entries) new
   run_of c d j k l m st empty same goes =
       let went = goes.went m st in
       let part : went.part ≡ l.history.entries = sym (ap (λ x. x.history.entries) same ∙ went.grew ∙ ap (λ xs. xs ++ went.part) empty) in
       (went.new, subst (λ xs. Run m (events_in xs) (reports_in xs) went.new) part (follows_run m went.new went.part went.follows))
 
-  -- and the parks are those of the wheel, where nothing was registered
+  -- and the parks are those of the wheel, if no sleep was registered
   pub registers_of : (c d : Parts O (Seen P)) (j k l : Journal) (m : Machine) → Matches number hosting_of c m → j.history.entries ≡ [] → l ≡ k → ((s : ℕ) → registered_of c.timers s ≡ None) → Goes number c d j k
       → (new : Machine) × ((left : ℕ → Option ℕ) × Registers None m (λ s. None) l.history.entries new left)
   registers_of c d j k l m st empty same none goes =

@@ -26,7 +26,7 @@ either true b is = inl refl
 either false b is = inr (refl, is)
 
 module _ {F O P U W J A V : Type 0} (number : O → ℕ) (leads : W → W → Type 0) (future : FutureOf F (Cx F O P U W J A V) O) where
-  -- what leaves it as it was
+  -- a call that leaves it unchanged
   pub fills_not : (c : Cx F O P U W J A V) (j k : Journal) → k.is_full ≡ j.is_full → Fills number leads future c j k
   fills_not c j k same full = inl (sym same ∙ full)
 

@@ -1,4 +1,4 @@
--- What memory keeps stays the history, or a beginning of it.
+-- The entries in memory stay the history, or a beginning of it.
 use Rattle.std.proofs.Common.{◌≡◌, Bool, true, false, List, [], ◌∷◌, ◌++◌, ap, sym, ◌∙◌, append_assoc, append-nil}
 use mathlib.Core.List.{IsPrefix}
 use mathlib.Core.Logic.{∥∥₁_map}

@@ -1,4 +1,4 @@
--- What the driver told is what the journal's readings are.
+-- The journal's readings are those of the driver.
 use Rattle.std.proofs.Common.{◌≡◌, ◌≤◌, ◌+◌, ◌*◌, ℕ, true, false, List, [], ◌∷◌, Some, None, Option, refl, ap, sym, subst, ◌∙◌, arith}
 use Rattle.std.specs.Prelude.{min}
 use Rattle.mono_model.specs.Ticks.{max_nanos}

@@ -1,4 +1,4 @@
--- Where the sleeps are registered, piece by piece.
+-- The registered ticks of the sleeps, piece by piece.
 use Rattle.std.proofs.Common.{◌≡◌, ℕ, List, [], ◌∷◌, ◌++◌, Some, None, Option, inl, inr, refl, ap, sym, subst, ◌∙◌, arith}
 use Rattle.std.specs.Prelude.{IfSome}
 use Rattle.mono_model.specs.Sleeps.{Sleeps}
@@ -17,7 +17,7 @@ use Rattle.mono_rt.specs.Rounds.{Remotes, Drained}
 use Rattle.mono_rt.specs.declared.parts.journals.Entry.{Entry}
 use Rattle.mono_rt.specs.declared.parts.journals.Entry.TheVariants.{Ran, Now, Park}
 
--- Where a park stands behind a reading of its own, an earlier reading says nothing.
+-- If a park follows a reading of its own, an earlier reading has no effect.
 any_reading : (reading : Option ℕ) (m : Machine) (r : ℕ → Option ℕ) (xs : List Entry) (new : Machine) (l : ℕ → Option ℕ) → Registers None m r xs new l → Registers reading m r xs new l
 any_reading reading m r [] new l is = is
 any_reading reading m r (Ran e a ∷ xs) new l (mid, step, rest) = (mid, step, any_reading reading mid (λ s. registered_after e m s (r s)) xs new l rest)
@@ -52,7 +52,7 @@ registers_on reading a b c q r l (Now n ∷ xs) ys is more = registers_on (Some 
 registers_on reading a b c q r l (Park None ∷ xs) ys is more = registers_on reading a b c q r l xs ys is more
 registers_on reading a b c q r l (Park (Some v) ∷ xs) ys (waits, is) more = (waits, registers_on reading a b c q r l xs ys is more)
 
--- what is drained
+-- the drained tasks
 remotes_register : (ts : List ℕ) (old new end : Machine) (r l : ℕ → Option ℕ) (part rest : List Entry) → Remotes ts old part new rest → Registers None new r rest end l → Registers None old r part end l
 remotes_register [] old new end r l part rest (same, is) after = subst (λ xs. Registers None old r xs end l) (sym same) (subst (λ m. Registers None m r rest end l) is after)
 remotes_register (t ∷ ts) old new end r l part rest (told, (mid, (left, (entry, step, more)))) after =

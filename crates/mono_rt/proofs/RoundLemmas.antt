@@ -1,4 +1,4 @@
--- What a runtime did stands in a relation, piece by piece.
+-- The history of a runtime is in a relation, piece by piece.
 use Rattle.std.proofs.Common.{◌≡◌, ◌≤◌, ℕ, true, false, Bool, List, [], ◌∷◌, ◌++◌, refl, ap, sym, subst, ◌∙◌, append_assoc, append-nil}
 use Rattle.std.specs.Prelude.{AllPairs, ◌≢◌, ◌<◌, ◌^◌, ◌+◌, ◌-◌, ◌*◌, ◌⊎◌, min, length}
 use Rattle.std.proofs.Common.{inl, inr, suc, arith}
@@ -108,7 +108,7 @@ module _ {O P : Type 0} (number : O → ℕ) where
         };
   }
 
-  -- what follows from a relation
+  -- consequences of a relation
   pub does_more : (R T : Relation) (c d : Parts O (Seen P)) (j k : Journal)
       → ((m new : Machine) (xs zs : List Entry) → Matches number hosting_of c m → Matches number hosting_of d new → R m xs new zs → T m xs new zs)
       → Does number R c d j k → Does number T c d j k
@@ -118,11 +118,11 @@ module _ {O P : Type 0} (number : O → ℕ) where
         record { went = first.went; is = λ rest. law m first.went.new (first.went.part ++ rest) rest st first.went.matches (first.is rest) };
   }
 
-  -- where nothing was done before, or after
+  -- if nothing was done before, or after
   pub stay_on : (T : Relation) (a b c : Parts O (Seen P)) (i j k : Journal) → Does number Stays a b i j → Does number T b c j k → Does number T a c i k
   stay_on T a b c i j k p q = does_on Stays T T a b c i j k (λ m mid new xs ys zs stm std stn is t. subst (λ x. T x xs new zs) is.1 (subst (λ w. T mid w new zs) (sym is.0) t)) p q
 
-  -- what waited is drained
+  -- the waiting tasks are drained
   pub does_drain : (c d : Parts O (Seen P)) (j k l : Journal) (ts woken : List ℕ) → AllPairs (λ s t. s ≢ t) ts
       → k.history.entries ≡ j.history.entries ++ remotes c.tasks.tasks ts → woken ≡ listed c.tasks.tasks ts
       → l.history.entries ≡ k.history.entries ++ (drain_of woken) ∷ []
@@ -271,7 +271,7 @@ module _ {O P : Type 0} (number : O → ℕ) where
   pass_breaks error.Turns h units c d j k p = does_more (PauseEnds h (Err error.Turns)) (PassEnds h units (Err error.Turns)) c d j k (λ m new xs zs stm stn is. absurd is) p
   pass_breaks error.AtCapacity h units c d j k p = does_more (PauseEnds h (Err error.AtCapacity)) (PassEnds h units (Err error.AtCapacity)) c d j k (λ m new xs zs stm stn is. absurd is) p
 
-  -- what the drop of the main task's handle gave
+  -- the output that the drop of the main task's handle gave
   pub drops_for : (main : ℕ) (w : Option ℕ) (c d : Parts O (Seen P)) (j k : Journal) → Does number (IsStep (event.Act (act.DropJoin main)) (report.Reply (reply.Dropped w))) c d j k → Does number (DropsFor main w) c d j k
   drops_for main (Some n) c d j k p = p
   drops_for main None c d j k p = does_more (IsStep (event.Act (act.DropJoin main)) (report.Reply (reply.Dropped None))) (DropsFor main None) c d j k (λ m new xs zs stm stn is. (reply.Dropped None, is)) p
@@ -303,7 +303,7 @@ module _ {O P : Type 0} (number : O → ℕ) where
   blocks_refused error.Turns h units c d j k stays p = absurd p
   blocks_refused error.Driver h units c d j k stays p = absurd p
 
-  -- from an empty history, what it then has stands in the relation
+  -- the entries after an empty history are in the relation
   pub relation_of : (R : Relation) (c d : Parts O (Seen P)) (j k l : Journal) (m : Machine) → Matches number hosting_of c m → j.history.entries ≡ [] → l ≡ k → Does number R c d j k → (new : Machine) × R m l.history.entries new []
   relation_of R c d j k l m st empty same does =
       let did = does.did m st in

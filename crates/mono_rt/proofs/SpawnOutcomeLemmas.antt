@@ -1,4 +1,4 @@
--- A task is made outside of a turn, or is refused: what is left for each machine.
+-- A task is made outside of a turn, or is refused: the effect on each machine.
 use Rattle.std.proofs.Common.{◌≡◌, ℕ, true, false, cond, ap, sym, subst, ◌∙◌}
 use Rattle.mono_model.specs.Table.{next_number, is_full}
 use Rattle.mono_model.specs.Tasks.{spawned}

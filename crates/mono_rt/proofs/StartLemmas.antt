@@ -1,4 +1,4 @@
--- What one call on a new runtime did, from what the runtime's call promises.
+-- The history of one call on a new runtime, from the clauses of the runtime's call.
 use Rattle.std.proofs.Common.{◌≡◌, ◌∙◌, ℕ, Bool, [], refl, ap, subst, inl, Err}
 use Rattle.std.specs.Prelude.{Result}
 use Rattle.mono_blocking.specs.declared.strategy.BlockingHandle.{BlockingHandle}

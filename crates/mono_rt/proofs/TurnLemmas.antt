@@ -62,7 +62,7 @@ module _ {F O P U W J A V : Type 0} (number : O → ℕ) (leads : W → W → Ty
   same_has_timers None b d t e ended runs = runs.1.parts.has_timers
   same_has_timers (Some f) b d t e ended runs = spent_timers (future.is_spent f) b d t f e ended runs
 
-  -- what the tasks share was led
+  -- the shared value was led
   by_same : ((w : W) → leads w w) → (u v : W) → v ≡ u → leads u v
   by_same itself u v same = subst (λ w. leads u w) (sym same) (itself u)
 

@@ -25,7 +25,7 @@ armed_by (Some (model.armed a)) tick waker is = (a, refl)
 armed_by (Some model.elapsed) tick waker is = absurd (cc)
 
 module _ {O P : Type 0} (number : O → ℕ) where
-  -- what the table of sleeps has at a number
+  -- the value of the table of sleeps at a number
   value_seen : (c : Parts O (Seen P)) (m : Machine) → Matches number hosting_of c m → (s : ℕ) → value_at (sleeps_of c.timers).table s ≡ option_map seen (value_at m.sleeps.table s)
   value_seen c m st s = ap (λ xs. value_at xs s) (sym st.sleeps.table) ∙ get_or-map (option_map seen) m.sleeps.table s None
 

@@ -5,7 +5,7 @@ use Rattle.std.proofs.lemmas.Bool.{cases_lt}
 use Rattle.mono_text.specs.Lines.{Line}
 use Rattle.mono_run.specs.Beginnings.{Begins, IsFirstOut, wrong, missing}
 
--- the front of what is in the form is a beginning
+-- the front of lines in the form is a beginning
 front_of_whole : (Form : List Line → Type 0) (all : List Line) (n : ℕ) → Form all → Begins Form (take n all)
 front_of_whole Form all n f = (drop n all, subst Form (sym (take-append-drop n all)) f)
 

@@ -1,4 +1,4 @@
--- What was told of a run is what the runtime's call tells.
+-- The result of a run follows from the clauses of the runtime's call.
 use Rattle.std.proofs.Common.{◌∙◌, ap, ◌≡◌, ℕ, zero, suc, true, false, Bool, List, [], length, map, Option, Some, None, Result, Ok, Err, IfOk, OnOk, refl, sym, subst, arith}
 use Rattle.std.specs.Prelude.{⊤}
 use Rattle.mono_machine.specs.Machine.{Machine, start_machine}
@@ -45,7 +45,7 @@ whole run limits turns part answer b is text =
     let same = subst (λ a. Blocked true turns a (start_machine limits strategy.Attached) part b.0 []) (same_answer answer) b.1 in
     (record { entries = part; last = b.0; blocked = subst (λ a. Blocked true turns a (start_machine limits strategy.Attached) part b.0 []) is same; text = text }, refl)
 
--- what is printed are the lines of the history
+-- the printed lines are those of the history
 by_history : (j : Journal) (run : ScriptRun) → j.is_full ≡ false → run.text.items ≡ journal_text (map told j.entries.items) (output_in (answer_of run.end)) → run.text.items ≡ journal_text (map told j.history.entries) (output_in (answer_of run.end))
 by_history j run unfull text = text ∙ ap (λ es. journal_text (map told es) (output_in (answer_of run.end))) (j.kept unfull)
 
@@ -62,7 +62,7 @@ going_by (ran.Output o) x is = is
 going_by ran.Turns x is = is
 going_by ran.Capacity x is = is
 
--- what the driver told is what the readings are
+-- the readings are those of the driver
 reads_so : (workers : ℕ) (readings : Option (List ℕ)) (new : Told) (part : List Entry) → Tells (told_first workers readings) going part new going → ReadsSo workers readings part
 reads_so zero readings new part tells = sums_from (told_first zero readings) new going 0 part (omega arith) refl tells
 reads_so (suc n) None new part tells = tt
@@ -108,7 +108,7 @@ driven_by future unspent polls cancels ran.Capacity s turns main left answer par
     let b = subst (λ a. (new : Machine) × Blocked true turns (answer_numbered (λ n. n) a) (start_machine s.limits strategy.Attached) part new []) is blocked in
     subst (λ xs. Driven s (map told xs)) (sym b.1.0) tt
 
--- The same from what the runtime's call tells of its futures, in a journal that was empty before it.
+-- The same from the clauses of the runtime's call about its futures, in a journal that was empty before it.
 pub driven_does : {P U J A V Q : Type 0} (future : FutureOf ScriptTask (Cx ScriptTask ℕ P U ⊤ J A V) ℕ) (h : Bool) (main : ScriptTask) (had left : List (Option ScriptTask)) (c d : Parts ℕ (Seen Q)) (j k : Journal)
     → (unspent : (f : ScriptTask) → future.is_spent f ≡ false)
     → (polls : (f : ScriptTask) (x : Cx ScriptTask ℕ P U ⊤ J A V) (a : Poll ℕ) (g : ScriptTask) (y : Cx ScriptTask ℕ P U ⊤ J A V) → future.polls f x a g y → PollsTask f x a g y)

@@ -4,7 +4,7 @@ use Rattle.std.proofs.lemmas.List.{drop_more, drop_all}
 use Rattle.mono_run.specs.Script.{count_in}
 use Rattle.mono_run.specs.declared.scripts.body.BodyLine.{BodyLine}
 
--- of the lines before place i so many were counted, and none gives its handle away
+-- the count of the lines before place i, none of which gives its handle away
 pub record Counted (makes ends : BodyLine → ℕ) (lines : List BodyLine) (i made : ℕ) : Type 0 where
   pub made_so_far : count_in makes lines ≡ made + count_in makes (drop i lines)
   pub none_so_far : count_in ends lines ≡ count_in ends (drop i lines)

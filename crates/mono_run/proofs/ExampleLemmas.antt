@@ -33,7 +33,7 @@ no_sleep d = d
 pub not_its_turn : NotItsTurn
 not_its_turn d = cc d.0
 
--- ---- numbers as text, by what reading them gives
+-- ---- numbers as text, by reading them
 
 number : (text : List ℕ) (n : ℕ) → digits_from (2 ^ 64) 0 0 text ≡ Some (n, []) → decimal n ≡ text
 number text n e = sym ((digits_found (2 ^ 64) text n [] (lit< tt) (lit≤ tt) e).0 ∙ append-nil (decimal n))

@@ -1,4 +1,4 @@
--- The first bad line of a script, by what may stand there.
+-- The first bad line of a script, by the lines that may follow there.
 use Rattle.std.proofs.Common.{◌≡◌, ℕ, ◌+◌, ◌-◌, ◌<◌, ◌≤◌, List, [], ◌∷◌, ◌++◌, length, map, take, flat_map, append_assoc, length-append, sym, ap, subst, ◌∙◌, arith, codes, lit<}
 use Rattle.std.proofs.lemmas.List.{append-nil, map-append}
 use Rattle.std.proofs.lemmas.Grind.{flat_map-append}
@@ -17,7 +17,7 @@ pub sound_more : (kinds : ℕ) (ks : List Kind) (k : Kind) → AreSoundKinds kin
 sound_more kinds [] k m s = (s, tt)
 sound_more kinds (j ∷ ks) k m s = (m.0, sound_more kinds ks k m.1 s)
 
--- the front with `done 0` behind it is a script
+-- the front and then `done 0` is a script
 closed : (x : Limits) (ks : List Kind) (bs : List BodyLine) → front_texts x ks bs ++ done_text 0 ∷ [] ≡ script_texts (record { limits = x; kinds = ks ++ record { body = bs; output = 0 } ∷ [] })
 closed x ks bs =
     let k : Kind = record { body = bs; output = 0 } in
@@ -39,7 +39,7 @@ begins kinds x ks bs fit sound may few short =
     sym (map-append ended (front_texts x ks bs) (done_text 0 ∷ [])) ∙ ap (map ended) (closed x ks bs) in
     (ended (done_text 0) ∷ [], (s, good, text))
 
--- Behind a good front, a line that may not stand there is the first bad one.
+-- After a good front, a line that may not follow is the first bad one.
 pub bad_in_kind : (input : List ℕ) (x : Limits) (ks : List Kind) (bs : List BodyLine) (l : Line) (rest : List Line) → FitLimits x
     → AreSoundKinds (task_lines (lines input)) ks → AllMayStand (task_lines (lines input)) [] bs → length ks < 64 → length bs ≤ 127
     → lines input ≡ map ended (front_texts x ks bs) ++ l ∷ rest → (MayFollow (task_lines (lines input)) bs l → ⊥)

@@ -1,4 +1,4 @@
--- The front of a script: how it goes on, which line is the first bad one behind it, and when it is a whole script.
+-- The front of a script: how it continues, which line is the first bad one after it, and when it is a whole script.
 use Rattle.std.proofs.Common.{◌≡◌, ℕ, ◌+◌, ◌-◌, ◌^◌, ◌<◌, ◌≤◌, inl, inr, List, [], ◌∷◌, ◌++◌, length, map, take, flat_map, Option, Some, None, refl, sym, ap, subst, ◌∙◌, arith, append_assoc, length-append, codes, lit<, lit≤, get_or, drop}
 use Rattle.std.proofs.lemmas.Bool.{cases_lt}
 use Rattle.std.proofs.lemmas.List.{append-nil, map-append, length-map}
@@ -201,7 +201,7 @@ pub missing_first : (input : List ℕ) → length input ≡ 0 → IsFirstBad inp
 missing_first [] e = missing refl (begins_nothing 0) (λ script. omega (arith, ap length script.2))
 missing_first (b ∷ input) e = absurd (omega (arith, e))
 
--- ---- what was read so far
+-- ---- the part that was read so far
 
 pub record Progress (input : List ℕ) (kinds : ℕ) (f : Front) (count : ℕ) (rest : List ℕ) : Type 0 where
   pub kinds_are : kinds ≡ task_lines (lines input)
@@ -278,7 +278,7 @@ pub wrong_first : (input text rest : List ℕ) → input ≡ text ++ 10 ∷ rest
 wrong_first input text rest cut none other =
     bad_first input (ended text) (lines rest) (ap lines cut ∙ line_front text rest none) (λ x fit e. other x fit (ap (λ (l : Line). l.bytes) e))
 
--- ---- what a line does to a front, as the code says it
+-- ---- the effect of a line on a front, as the code has it
 
 pub same_front : (f : Front) (bs : List BodyLine) → f.inside ≡ Some bs → front f.limits f.kinds (Some bs) ≡ f
 same_front f bs e = sym (with_known f (Some bs) e)
@@ -304,7 +304,7 @@ same_fits body.Yield f = tt
 some_same : (bs cs : List BodyLine) → ◌≡◌ {A = Option (List BodyLine)} (Some bs) (Some cs) → bs ≡ cs
 some_same bs cs e = grind (arith, e)
 
--- a body line that is one too many, or may not stand there
+-- a body line that is one too many, or may not follow
 pub never_so : (kinds : ℕ) (x : Limits) (ks : List Kind) (bs : List BodyLine) (text : List ℕ) (c : BodyLine) → Fits c → text ≡ body_text c → ((n : ℕ) → n < 2 ^ 64 → text ≡ codes "done " ++ decimal n → ⊥)
     → ((127 ≤ length bs) ⊎ (MayStand kinds bs c → ⊥)) → ContinuesNever kinds (front x ks (Some bs)) text
 never_so kinds x ks bs text c fits is none not g (fronts.opens i t few e) = cc i

@@ -12,7 +12,7 @@ use Rattle.mono_run.specs.RunRecord.{told, main_text}
 abbrev pub left_of : List Entry → ℕ → List ℕ
 left_of entries i = flat_map entry_line (map told (drop i entries))
 
--- out has all but what is left of the entries, the next of which was put behind it
+-- out has all entries before the remaining ones, whose next one was appended
 pub entry_written : (entries : List Entry) (i : ℕ) (x : Entry) (all out new : List ℕ) → slice_get entries i ≡ Some x → out ++ left_of entries i ≡ all
     → new ≡ out ++ entry_line (told x) → new ++ left_of entries (i + 1) ≡ all
 entry_written entries i x all out new is before put =

@@ -43,7 +43,7 @@ not_same xs ys n = elim (cases_Bool (same_text xs ys)) [
   | inr other ↦ other
 ]
 
--- the lines before what is left are counted
+-- the lines before the rest are counted
 pub record Counted (input : List ℕ) (count : ℕ) (rest : List ℕ) : Type 0 where
   pub all : task_lines (lines input) ≡ count + task_lines (lines rest)
   pub shorter : count + length rest ≤ length input
@@ -59,7 +59,7 @@ no_task input count rest text behind c e none other =
     let line : task_lines (lines rest) ≡ 0 + task_lines (lines behind) = ap (λ x. task_lines (lines x)) e ∙ ap task_lines (line_front text behind none) ∙ one in
     record { all = omega (arith, c.all, line); shorter = omega (arith, c.shorter, ap length e, length-append text (10 ∷ behind)) }
 
--- bytes without a line feed are no line, or one that has not ended
+-- bytes without a line feed are no line, or a line that has not ended
 last_line : (bytes : List ℕ) → HasNoFeed bytes → (lines bytes ≡ []) ⊎ ((text : List ℕ) × (lines bytes ≡ record { bytes = text; is_ended = false } ∷ []))
 last_line [] none = inl refl
 last_line (b ∷ bytes) none = elim (last_line bytes none.1) [
@@ -86,7 +86,7 @@ feed_inside : (text rest : List ℕ) → HasNoFeed (text ++ 10 ∷ rest) → ⊥
 feed_inside [] rest none = cc none.0
 feed_inside (b ∷ text) rest none = feed_inside text rest none.1
 
--- the first line of bytes without a line feed, of which there are some
+-- the first line of some bytes without a line feed
 pub record Unended (bytes : List ℕ) : Type 0 where
   pub first : Line
   pub more : List Line

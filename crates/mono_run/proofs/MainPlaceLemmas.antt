@@ -20,7 +20,7 @@ use Rattle.mono_run.specs.declared.runs.RunEnd.TheVariants as ran
 abbrev limits_of : ℕ → ℕ → ℕ → Limits
 limits_of t j s = record { tasks = t; jobs = j; sleeps = s }
 
--- what the first spawn of all is answered
+-- the answer to the first spawn of all
 abbrev first_reply : Limits → Reply
 first_reply limits = (act_outcome act.Spawn (start_machine limits strategy.Attached)).reply
 

@@ -1,4 +1,4 @@
--- What is left of the turn behind a line.
+-- The rest of the turn after a line.
 use Rattle.std.proofs.Common.{◌≡◌, ℕ, Bool, true, false, List, ◌∷◌, Option, Some, None, refl, ap, sym, ◌∙◌, subst}
 use Rattle.std.specs.Prelude.{⊤}
 use Rattle.mono_rt.specs.declared.contexts.Cx.{Cx}
@@ -12,7 +12,7 @@ use Rattle.mono_run.proofs.SegmentLemmas.{goes_on, goes_to}
 abbrev pub slept : Own → Option ℕ → Own
 slept own sleeping = record { tasks = own.tasks; jobs = own.jobs; sleeping = sleeping }
 
--- the own sleep is waited for where the line stands that made it
+-- the task waits for its own sleep at the line that made it
 abbrev pub waits_for : List BodyLine → ℕ → Own → Rest → Option ℕ → Rest
 waits_for left o own f h = with_handle h (λ s u. sleep_steps s (place left o own.tasks own.jobs (Some s)) f u) f
 
@@ -43,7 +43,7 @@ module _ {P U J A V : Type 0} (task : ScriptTask) where
   behind_sleep c d line left me t o own new g true is goes = goes_to task g _ _ c d (ap (λ x. turn_from left me t o x.tasks x.jobs) (sym is)) goes
   behind_sleep c d line left me t o own new g false is goes = goes
 
-  -- a line that waits for what a line before made
+  -- a line that waits for a task or job of an earlier line
   pub behind_wait : (c d : Cx ScriptTask ℕ P U ⊤ J A V) (line : BodyLine) (left : List BodyLine) (me t o : ℕ) (own : Own) (g : Rest) (over : Bool) → own.sleeping ≡ None
       → Goes task g (if_over over (turn_from left me t o own.tasks own.jobs) (place (line ∷ left) o own.tasks own.jobs None)) c d → Goes task g (behind_line (next_if over) line left me t o own) c d
   behind_wait c d line left me t o own g true rests goes = goes

@@ -85,7 +85,7 @@ no_done l o f e =
     let same : ◌≡◌ {A = Option BodyLine} (Some l) None = sym (read_back l f) ∙ ap body_of e in
     cc same
 
--- ---- the lines of a kind, with others behind them
+-- ---- the lines of a kind, and others after them
 
 abbrev pub AllFit : List BodyLine → Type 0
 AllFit [] = Unit {0}
@@ -105,7 +105,7 @@ pub record SameKind (bs cs : List BodyLine) (o p : ℕ) (r q : List (List ℕ)) 
   pub same_output : o ≡ p
   pub same_rest : r ≡ q
 
--- Two bodies with their outputs, and other lines behind them: where the texts are the same, all of them are.
+-- Two bodies with their outputs, and other lines after them: if the texts are the same, all of them are.
 pub kind_once : (bs cs : List BodyLine) (o p : ℕ) (r q : List (List ℕ)) → AllFit bs → AllFit cs → o < 2 ^ 64 → p < 2 ^ 64
     → map body_text bs ++ done_text o ∷ r ≡ map body_text cs ++ done_text p ∷ q → SameKind bs cs o p r q
 kind_once [] [] o p r q f g fo fp e = record {
@@ -122,7 +122,7 @@ kind_once (b ∷ bs) (c ∷ cs) o p r q f g fo fp e =
 
 -- ---- one line more, inside a kind
 
--- what the next line of a kind may be, behind these body lines
+-- the next line of a kind after these body lines
 pub data Next (bs cs : List BodyLine) (l : List ℕ) (p : ℕ) : Type 0 where
   a_line : (c : BodyLine) → (rest : List BodyLine) → cs ≡ bs ++ c ∷ rest → l ≡ body_text c → Next bs cs l p
   its_end : cs ≡ bs → l ≡ done_text p → Next bs cs l p
@@ -164,7 +164,7 @@ kinds_front (k ∷ ks) (j ∷ js) r f g e =
     let kind : k ≡ j = λ i. record { body = same.same_body i; output = same.same_output i } in
     (below.0, cons_same j k js (ks ++ below.0) (sym kind) below.1, below.2)
 
--- ---- what may come next in a script, whatever stands behind
+-- ---- the lines that may come next in a script, for each rest
 
 -- the numbers of sound lines are in range
 pub may_fit : (kinds : ℕ) (before : List BodyLine) (l : BodyLine) → MayStand kinds before l → Fits l
@@ -185,7 +185,7 @@ pub kinds_fit : (kinds : ℕ) (ks : List Kind) → AreSoundKinds kinds ks → Al
 kinds_fit kinds [] m = tt
 kinds_fit kinds (k ∷ ks) m = ((all_may_fit kinds [] k.body m.0.each, m.0.output), kinds_fit kinds ks m.1)
 
--- the line at this place may stand there
+-- the line at this place may follow there
 stands_at : (kinds : ℕ) (before bs : List BodyLine) (c : BodyLine) (rest : List BodyLine) → AllMayStand kinds before (bs ++ c ∷ rest) → MayStand kinds (before ++ bs) c
 stands_at kinds before [] c rest m = rw (append-nil before) m.0
 stands_at kinds before (b ∷ bs) c rest m = subst (λ x. MayStand kinds x c) (append_assoc before (b ∷ []) bs) (stands_at kinds (before ++ b ∷ []) bs c rest m.1)
@@ -209,7 +209,7 @@ follows kinds bs j t sound (a_line c rest e is) =
     goes_on c (ap ended is) (stands_at kinds [] bs c rest (subst (AllMayStand kinds []) e sound.each)) (omega (arith, sound.few, ap length e, length-append bs (c ∷ rest)))
 follows kinds bs j t sound (its_end e is) = ends j.output (ap ended is) sound.output
 
--- behind whole kinds and the front of one more
+-- after whole kinds and the front of one more
 in_kinds : (kinds : ℕ) (js : List Kind) (bs : List BodyLine) (t : List ℕ) (r : List (List ℕ)) → AllFit bs → AreSoundKinds kinds js
     → codes "task" ∷ (map body_text bs ++ t ∷ r) ≡ flat_map kind_texts js → MayFollow kinds bs (ended t)
 in_kinds kinds [] bs t r f sound e = absurd (omega (arith, ap length e))
@@ -220,7 +220,7 @@ line_first : (l : Line) (more : List Line) (rest : List (List ℕ)) → l ∷ mo
 line_first l more [] e = absurd (omega (arith, ap length e))
 line_first l more (t ∷ r) e = (t, r, refl, ap (λ zs. get_or zs 0 l) e)
 
--- Behind the limits, whole kinds and the front of one more: what is no such line is the first bad one.
+-- After the limits, whole kinds and the front of one more, any other line is the first bad one.
 pub in_kind : (kinds : ℕ) (x : Limits) (ks : List Kind) (bs : List BodyLine) (l : Line) (more : List Line) → AllKindsFit ks → AllFit bs
     → IsScript kinds (map ended (limits_text x ∷ (flat_map kind_texts ks ++ codes "task" ∷ map body_text bs)) ++ l ∷ more) → MayFollow kinds bs l
 in_kind kinds x ks bs l more fk fb script =

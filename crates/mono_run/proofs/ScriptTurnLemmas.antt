@@ -64,7 +64,7 @@ use Rattle.mono_run.proofs.SpawnCountLemmas.{is_spawn, is_task, made_by, made_in
 abbrev pub Futures : Type 0
 Futures = List (Option ScriptTask)
 
--- where the tasks stand
+-- the places of the tasks
 abbrev pub place_in : Option ScriptTask → Option Place
 place_in None = None
 place_in (Some f) = Some (place_of f)
@@ -85,7 +85,7 @@ abbrev pub AreOurs : List Kind → Futures → Type 0
 AreOurs kinds [] = ⊤
 AreOurs kinds (f ∷ fs) = IfOurs kinds f × AreOurs kinds fs
 
--- a task whose future is gone has no turn any more
+-- a task whose future was removed has no more turns
 abbrev pub HaveEnded : Futures → List Report → Type 0
 HaveEnded fs answers = (t : ℕ) → t < length fs → value_at fs t ≡ None → has_turn_of t answers ≡ false
 
@@ -149,7 +149,7 @@ left_below n at [] k below = tt
 left_below n at (kind ∷ kinds) zero below = drop_below n at kind.body below.0
 left_below n at (kind ∷ kinds) (suc k) below = left_below n at kinds k below.1
 
--- which turn a report tells
+-- the turn that a report records
 abbrev turn_in : Report → ℕ
 turn_in (report.Turn t replies ended) = t
 turn_in other = 0
@@ -218,7 +218,7 @@ module _ {P U J A V : Type 0} where
 gives_turn : (o : Option Turned) (turned : Turned) (steps : List TurnStep) (e : End) (rest : Turned → Type 0) → o ≡ Some turned → steps ≡ turned.steps → e ≡ turned.e → rest turned → Gives o steps e rest
 gives_turn o turned steps e rest is own ends holds = subst (λ x. Gives x steps e rest) (sym is) (own, ends, holds)
 
--- what else is done gives out no number of a task
+-- all other entries give out no number of a task
 no_spawn : (a : Act) → MakesNoTask a → is_spawn (step.Act a) ≡ false
 no_spawn act.Spawn none = absurd none
 no_spawn (act.Wake t) none = refl
@@ -319,7 +319,7 @@ module _ {P U J A V : Type 0} (future : FutureOf ScriptTask (Cx ScriptTask ℕ P
   by_future kinds t reading steps replies e ended fs gs f false c d is_unread spent ours below taken is none me now timers stands memory steps_are replies_are runs =
       by_rest kinds t reading steps replies e ended fs gs f c runs.middle d runs.answer runs.left is_unread ours below taken is none me now timers stands memory steps_are replies_are runs.is_end runs.polled runs.reached runs.rest
 
-  -- what one turn leaves
+  -- the effect of one turn
   record TurnsOn (kinds : List Kind) (m mid : Machine) (fs gs : Futures) (reading : ℕ) (steps : List TurnStep) (e : End) (answer : Report) : Type 0 where
     task : ℕ
     replies : List Reply
@@ -408,7 +408,7 @@ module _ {P U J A V : Type 0} (future : FutureOf ScriptTask (Cx ScriptTask ℕ P
   new_there f (k ∷ ks) zero below none = none-some (new_task f k) (sym none)
   new_there f (k ∷ ks) (suc i) below none = new_there f ks i (omega (arith, below)) none
 
-  -- and those whose futures are gone still have no turn
+  -- and those whose futures were removed still have no turn
   ended_after : (kinds : List Kind) (m mid : Machine) (fs gs : Futures) (reading : ℕ) (steps : List TurnStep) (e : End) (answer : Report) (answers : List Report) → (one : TurnsOn kinds m mid fs gs reading steps e answer) → HaveEnded fs (answer ∷ answers)
       → (IsOver one.task mid.tasks → has_turn_of one.task answers ≡ false) → HaveEnded gs answers
   ended_after kinds m mid fs gs reading steps e answer answers one ended over t below none = elim (cases_eq t one.task) [

@@ -90,7 +90,7 @@ grew_by q c d x r own is = record {
 pub grew_one : (c d : Record) (x : TurnStep) (r : Reply) → is_job_end x ≡ false → d ≡ noted c x r → Grew c d (x ∷ []) (r ∷ [])
 grew_one c d x r own is = grew_by false c d x r own is
 
--- an act, perhaps behind the end of a job
+-- an act, perhaps after the end of a job
 pub grew_job : (c d : Record) (j : ℕ) (end : Option job.End) (x : TurnStep) (r : Reply) → is_job_end x ≡ false → d ≡ noted (noted_end c j end) x r → Grew c d (x ∷ []) (r ∷ [])
 grew_job c d j None x r own is = grew_one c d x r own is
 grew_job c d j (Some e) x r own is =
@@ -157,7 +157,7 @@ module _ {P U J A V : Type 0} where
       → ((rest : List Reply) → f (r ∷ rest) ≡ with_step x [] (g rest)) → Goes task f g c d
   goes_by_one task f g c d x r grew same is = goes_making task f g [] c d x r grew (same ∙ sym (append-nil c.futures.items)) is
 
-  -- a poll that has to wait, and one that has not
+  -- a poll that has to wait, and a poll that has not
   pub goes_pending : (task : ScriptTask) (f : Rest) (here : Place) (c d : Cx ScriptTask ℕ P U ⊤ J A V) (x last : TurnStep) (r : Reply) → Grew c.parts.acts d.parts.acts (x ∷ []) (r ∷ []) → d.futures.items ≡ c.futures.items
       → is_pending r ≡ true → Goes task (awaited x last here f) (stops_at here) c d
   goes_pending task f here c d x last r grew same is = goes_by_one task (awaited x last here f) (stops_at here) c d x r grew same (λ rest. ap (λ b. with_step x [] (if b then stops_at here rest else acted last f rest)) is)
@@ -169,7 +169,7 @@ module _ {P U J A V : Type 0} where
   pub goes_acted : (task : ScriptTask) (f : Rest) (c d : Cx ScriptTask ℕ P U ⊤ J A V) (x : TurnStep) (r : Reply) → Grew c.parts.acts d.parts.acts (x ∷ []) (r ∷ []) → d.futures.items ≡ c.futures.items → Goes task (acted x f) f c d
   goes_acted task f c d x r grew same = goes_by_one task (acted x f) f c d x r grew same (λ rest. refl)
 
-  -- the turn has come to its end
+  -- the turn has reached its end
   pub ends_with : (task left : ScriptTask) (g : Rest) (answer : Poll ℕ) (c d : Cx ScriptTask ℕ P U ⊤ J A V) → g [] ≡ Some (record { steps = []; e = end_of (λ n. n) answer; after = stands_at answer left; made = [] })
       → left.kinds ≡ task.kinds → left.kind ≡ task.kind → Fits left → Goes task (turn_of (place_of task) c.parts.me (nanos_of c.parts.now)) g c d → RunsLines task c answer left d
   ends_with task left g answer c d is kinds kind fits a = record {

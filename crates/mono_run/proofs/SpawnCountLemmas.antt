@@ -1,4 +1,4 @@
--- How many tasks a turn makes, by the script's lines and by the machine, and of which kinds they are.
+-- How many tasks a turn makes, by the script's lines and by the machine, and their kinds.
 use Rattle.std.proofs.Common.{◌≡◌, ◌<◌, ◌≤◌, ◌+◌, ℕ, true, false, Bool, cond, List, [], ◌∷◌, ◌++◌, length, Some, None, Option, refl, ap, sym, subst, ◌∙◌, arith}
 use Rattle.std.specs.Prelude.{⊤, nat_lt, slice_index_or}
 use Rattle.std.proofs.lemmas.List.{length-append}
@@ -142,7 +142,7 @@ pub turn_made : (t : ℕ) (rest : List ℕ) (steps : List TurnStep) (e : End) (m
 turn_made t rest steps e m =
     end_made t e (after_steps t steps (after_begin t rest m)) ∙ steps_made t steps (after_begin t rest m) ∙ ap (λ n. n + made_in steps (replies_of t steps (after_begin t rest m))) (next_number-begun m.tasks t rest)
 
--- by the lines: as many as it tells, and of kinds that are there
+-- by the lines: the recorded number, and of existing kinds
 abbrev pub AllBelow : ℕ → List ℕ → Type 0
 AllBelow n [] = ⊤
 AllBelow n (k ∷ ks) = (k < n) × AllBelow n ks

@@ -1,4 +1,4 @@
--- What a line says is spelled so, and what is spelled so is said.
+-- Each line read is spelled so, and each spelling is read so.
 use Rattle.std.proofs.Common.{◌≡◌, ℕ, ◌^◌, ◌<◌, ◌≤◌, ◌++◌, List, [], ◌∷◌, length, Some, None, Option, IfNone, ◌⊎◌, refl, sym, ap, subst, ◌∙◌, arith, inl, inr, append_assoc, codes, lit≤, lit<, nat_eq, true}
 use Rattle.std.proofs.lemmas.Bool.{eq-eqb}
 use Rattle.std.proofs.lemmas.List.{append-nil}
@@ -60,7 +60,7 @@ then_some (Some x) f y e = (x.0, x.1, refl, e)
 regroup : (a b c d e f : List ℕ) → a ++ (b ++ (c ++ (d ++ (e ++ f)))) ≡ a ++ b ++ c ++ d ++ e ++ f
 regroup a b c d e f = grind (arith, append_assoc)
 
--- what was read is the text of the limits, where nothing is left
+-- the bytes read are the text of the limits, if nothing is left
 pub limits_found : (text : List ℕ) (x : Limits) (left : List ℕ) → limits_at text ≡ Some (x, left) → length left ≡ 0 → (text ≡ limits_text x) × FitLimits x
 unfolding limits_at
 limits_found text x (b ∷ left) e none = absurd (omega (arith, none))

@@ -1,4 +1,4 @@
--- What each call of a script's task does to what is left of the turn.
+-- The effect of each call of a script's task on the rest of the turn.
 use Rattle.std.proofs.Common.{◌≡◌, ℕ, Bool, true, false, [], ◌∷◌, ◌++◌, Option, Some, None, inl, inr, refl, ap, sym, ◌∙◌, arith}
 use Rattle.std.specs.Prelude.{⊤, Result, Ok, Err}
 use Rattle.mono_model.specs.declared.Woke.{Woke}

@@ -27,7 +27,7 @@ pub none_left : {A : Type 0} (r : Option A) (Q : Type 0) → ((x : A) → r ≡ 
 none_left None Q never q = q
 none_left (Some x) Q never q = absurd (never x refl)
 
--- the task behind one line of its own, at this place
+-- the task after one line of its own, at this place
 abbrev pub at_line : ScriptTask → ℕ → Own → ScriptTask
 at_line task at own = record { kinds = task.kinds; kind = task.kind; at = at; own = own }
 
@@ -66,7 +66,7 @@ module _ {P U J A V : Type 0} where
     abbrev Begun : Bool → Cx ScriptTask ℕ P U ⊤ J A V → Type 0
     Begun over d = (maker : ScriptTask) (here : Place) (f : Rest) → HasKept d.parts → Goes maker (with_handle task.own.sleeping (λ s q. sleep_steps s here f q) f) (if_over over f here) c d
 
-    -- the lines of the task, from where it stood
+    -- the lines of the task, from its place on
     abbrev lines_from : Own → Rest
     lines_from own = turn_from (left_of (kind_of task) task.at) c.parts.me (nanos_of c.parts.now) (output_of (kind_of task)) own.tasks own.jobs
 

@@ -23,7 +23,7 @@ named_line m (Ok o) input n first is line =
     subst (λ s. IsLine m input s o.bad_line) (sym is) (subst (λ l. IsLine m input status.BadLine l) (sym line) first)
 named_line m (Err e) input n first is line = tt
 
--- nobody was asked before a bad line is named
+-- no thread was asked for before a bad line is named
 pub named_asks : {E : Type 0} (workers : ℕ) (made : Result Output E) (starts : ℕ) → IfOk made (λ o. o.status ≡ status.BadLine) → IfOk made (λ o. Asks (Some workers) starts starts o.status)
 named_asks workers (Ok o) starts is = subst (Asks (Some workers) starts starts) (sym is) refl
 named_asks workers (Err e) starts is = tt

@@ -1,4 +1,4 @@
--- What is owed of the meaning of a check.
+-- The meaning of a check, as its command owes it.
 use Rattle.std.proofs.Common.{ℕ, List}
 use Rattle.mono_machine.specs.declared.events.Limits.{Limits}
 use Rattle.mono_machine.specs.declared.events.Blocking.{Blocking}

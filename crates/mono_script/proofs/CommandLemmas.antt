@@ -38,12 +38,12 @@ pub not_two : (name word first second : List ℕ) → ((a b : ℕ) → a < 2 ^ 6
     → (a b : ℕ) → SayTwo name (word ∷ first ∷ second ∷ []) a b → ⊥
 not_two name word first second none a b say = none a b say.first_fits say.second_fits (ap (λ ws. get_or ws 1 first) say.text) (ap (λ ws. get_or ws 2 first) say.text)
 
--- the first number is told by the words
+-- the words determine the first number
 pub first_once : (name other : List ℕ) (words : List (List ℕ)) (a b c d : ℕ) → SayTwo name words a b → words ≡ two_words other c d → c < 2 ^ 64 → a ≡ c
 first_once name other words a b c d say text fits =
     decimal_injective a c (omega (arith, say.first_fits)) (omega (arith, fits)) (ap (λ ws. get_or ws 1 name) (sym say.text ∙ text))
 
--- the second number is told by the words
+-- the words determine the second number
 pub second_once : (name other : List ℕ) (words : List (List ℕ)) (a b c d : ℕ) → SayTwo name words a b → words ≡ two_words other c d → d < 2 ^ 64 → b ≡ d
 second_once name other words a b c d say text fits =
     decimal_injective b d (omega (arith, say.second_fits)) (omega (arith, fits)) (ap (λ ws. get_or ws 2 name) (sym say.text ∙ text))

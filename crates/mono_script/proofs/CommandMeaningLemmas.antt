@@ -1,4 +1,4 @@
--- What is owed of a command's meaning.
+-- The facts that each command owes of its meaning.
 use Rattle.std.proofs.Common.{ℕ, List}
 use Rattle.mono_script.specs.Endings.{Meaning}
 use Rattle.mono_script.specs.declared.ends.Status.{Status}

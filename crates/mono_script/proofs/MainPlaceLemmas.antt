@@ -1,4 +1,4 @@
--- Status 10 comes exactly where the script has no place for a task.
+-- The status is 10 if and only if the script has no place for a task.
 use Rattle.std.proofs.Common.{◌≡◌, ◌≢◌, ◌↔◌, ◌^◌, ◌≤◌, ◌++◌, ◌∷◌, ℕ, true, List, [], Option, Some, None, codes, length, refl, sym, ap, ◌∙◌, arith, append_assoc, lit≤}
 use Rattle.std.specs.Prelude.{decimal}
 use Rattle.mono_machine.specs.declared.events.Limits.{Limits}

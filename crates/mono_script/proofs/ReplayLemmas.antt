@@ -1,4 +1,4 @@
--- The answer so far, and what is left.
+-- The answer so far, and the rest.
 use Rattle.std.proofs.Common.{◌≡◌, ℕ, ◌+◌, ◌<◌, ◌≤◌, List, [], ◌∷◌, ◌++◌, length, flat_map, refl, sym, ap, subst, ◌∙◌, arith, append_assoc, length-append}
 use Rattle.std.proofs.lemmas.List.{append-nil}
 use Rattle.mono_machine.specs.declared.events.Event.{Event}
@@ -25,7 +25,7 @@ text_more : (reports : List Report) (r : Report) → flat_map report_line (repor
 text_more [] r = append-nil (report_line r)
 text_more (a ∷ reports) r = ap (λ x. report_line a ++ x) (text_more reports r) ∙ sym (append_assoc (report_line a) (flat_map report_line reports) (report_line r))
 
--- so many lines were read, and what is left is rest
+-- this number of lines was read, and rest is left
 pub record Progress (limits : Limits) (strategy : Blocking) (input : List ℕ) (count : ℕ) (exec : Exec) (out rest : List ℕ) : Type 0 where
   pub events : List Event
   pub good : List Line

@@ -1,4 +1,4 @@
--- What was served is an output of the command whose calls and answers these are.
+-- The result of serving is an output of the command whose calls and answers these are.
 use Rattle.std.proofs.Common.{ℕ, List, Option, Result, Ok, Err, IfOk, refl, subst, sym}
 use Rattle.mono_text.specs.Lines.{lines}
 use Rattle.mono_text.specs.Services.{Says, Serves}
@@ -13,14 +13,14 @@ use Rattle.mono_script.specs.Services.{serving, IsToldAs, IsLineOf}
 use Rattle.mono_script.proofs.CommandMeaningLemmas.{Sound}
 
 module _ {S A : Type 0} (text : A → List ℕ) (Fits : A → Type 0) (Answers : S → A → List ℕ → S → Type 0) (start : S) where
-  -- what is owed of the meaning of such a command
+  -- the facts that such a command owes of its meaning
   pub sound_serving : Sound (serving text Fits Answers start)
   sound_serving = record {
     apart = λ input n good bad. not_both_of (Says text Fits) good.0 (lines input) n good.1 bad;
     good = λ input s output a. (a.1.calls, a.1.are_lines);
   }
 
-  -- what was served, told as a status and bytes, is an output of such a command
+  -- the result of serving, as a status and bytes, is an output of such a command
   pub as_output : (input : List ℕ) (r : Served) (s : Status) (output : List ℕ) → Serves text Fits Answers start input r → IsToldAs r s output
       → IsOutput (serving text Fits Answers start) input s output
   as_output input (served.BadLine n) s output serves told =
@@ -33,7 +33,7 @@ module _ {S A : Type 0} (text : A → List ℕ) (Fits : A → Type 0) (Answers :
   if_output input r (Ok o) serves told = as_output input r o.status o.text.items serves told
   if_output input r (Err e) serves told = tt
 
-  -- the line that is named beside it
+  -- the line that is named with it
   as_line : (input : List ℕ) (r : Served) (s : Status) (output : List ℕ) (line : Option ℕ) → Serves text Fits Answers start input r → IsToldAs r s output → IsLineOf r line
       → IsLine (serving text Fits Answers start) input s line
   as_line input (served.BadLine n) s output line serves told is =

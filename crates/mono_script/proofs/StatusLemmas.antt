@@ -1,4 +1,4 @@
--- What each status number says, from what the status says; for every command.
+-- The meaning of each status number, from that of the status, for every command.
 use Rattle.std.proofs.Common.{◌≡◌, ◌≢◌, ◌↔◌, ◌⊎◌, ℕ, ◌<◌, ◌≤◌, Bool, true, false, List, Option, Some, length, refl, sym, ap, subst, ◌∙◌, arith, inl, inr}
 use Rattle.mono_script.specs.declared.command.Command.{Command}
 use Rattle.mono_script.specs.declared.command.Command.TheVariants as command
@@ -22,7 +22,7 @@ use Rattle.mono_actor_lines.specs.Lines.{line_text, FitsLine}
 use Rattle.mono_actor_lines.specs.Answers.{Answers}
 use Rattle.mono_script.proofs.CheckLemmas.{sound_checking}
 
--- ---- each command: what is owed of its meaning
+-- ---- each command: the facts that it owes of its meaning
 
 pub sound : (readings : Option (List ℕ)) (c : Command) → Sound (meaning readings c)
 sound readings (command.Replay l g) = record {
@@ -116,12 +116,12 @@ capacity status.TooLong e = absurd (omega (arith, e))
 capacity status.Turns e = absurd (omega (arith, e))
 capacity status.NotARun e = absurd (omega (arith, e))
 
--- ---- where a status comes
+-- ---- when a status is returned
 
 longer : (left : Option (List ℕ)) (input : List ℕ) → left ≡ Some input → IsLongerThan max_input left → max_input < length input
 longer left input told long = subst (IsLongerThan max_input) told long
 
--- what was read is the input, which is not too long
+-- the bytes read are the input, which is not too long
 had : (reads : Bool) (left : Option (List ℕ)) (input bytes : List ℕ) (rest : Option (List ℕ)) → IsInput reads left input → HasInput reads left bytes rest
     → (input ≡ bytes) × (length input ≤ max_input)
 had true left input bytes rest told read =
@@ -201,7 +201,7 @@ completed m sound left rest b a R W input status.ReadFault p told short good no_
 completed m sound left rest b a R W input status.WriteFault p told short good no_read no_write = absurd (no_write p.0)
 completed m sound left rest b a R W input status.Usage p told short good no_read no_write = absurd p
 
--- a good input, of which all was read and written, has an answer that goes with the status
+-- a good input that was all read, with all output written, has an answer with the status
 pub answer_to_good : (m : Meaning) → Sound m → (left rest before after : Option (List ℕ)) (R W : Type 0) (input : List ℕ) (s : Status)
     → Ends m left rest before after R W s → IsInput m.reads left input → length input ≤ max_input → m.IsGood input → IsRead (status_code s) → status_code s ≢ 5
     → (output : List ℕ) × m.Answers input s output
@@ -234,7 +234,7 @@ no_usage m left rest b a R W status.Turns p e = omega (arith, e)
 no_usage m left rest b a R W status.Capacity p e = omega (arith, e)
 no_usage m left rest b a R W status.NotARun p e = omega (arith, e)
 
--- ---- where the count of faults rose
+-- ---- when the count of faults rose
 
 pub rose_in_reading : (s : Status) (old new : ℕ) → (s ≢ status.ReadFault → new ≡ old) → old < new → status_code s ≡ 4
 rose_in_reading status.ReadFault old new stays less = refl
@@ -260,7 +260,7 @@ rose_in_writing status.NotARun old new stays less = absurd (omega (arith, less, 
 rose_in_writing status.Turns old new stays less = absurd (omega (arith, less, stays (λ e. omega (arith, ap status_code e))))
 rose_in_writing status.Capacity old new stays less = absurd (omega (arith, less, stays (λ e. omega (arith, ap status_code e))))
 
--- ---- what a number says
+-- ---- the meaning of a number
 
 pub says : (m : Meaning) (left rest before after : Option (List ℕ)) (R W : Type 0) (code n : ℕ) (s t : Status)
     → code ≡ status_code s → Ends m left rest before after R W s → code ≡ n → (status_code s ≡ n → s ≡ t) → Ends m left rest before after R W t

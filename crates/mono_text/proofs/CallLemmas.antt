@@ -1,4 +1,5 @@
--- Lines that say calls: what is read is written so, and what is written so is read. For the services of other crates.
+-- Lines that spell calls: each line read is written so, and each line written is read so. For the services of other
+-- crates.
 use Rattle.std.proofs.Common.{◌≡◌, ℕ, ◌^◌, ◌<◌, ◌≤◌, List, [], ◌∷◌, ◌++◌, Option, Some, None, Result, Ok, Err, IfOk, IfSome, IfNone, false, codes, refl, sym, ap, subst, ◌∙◌, arith, inl, inr, append_assoc, lit≤, lit<}
 use Rattle.std.specs.Fmt.{decimal}
 use Rattle.mono_text.specs.Parser.{Read, GivesIf, when, mapped, then_read, word_at, number_at, behind_at, call_line_at}
@@ -30,7 +31,7 @@ behind_found bytes v rest e = elim (when_cases (word_at (codes " ") bytes) _ _ _
   | inr w ↦ cc w.1
 ]
 
--- two numbers behind a word
+-- two numbers after a word
 pub record TwoFound {A : Type 0} (word : List ℕ) (make : ℕ → ℕ → A) (bytes : List ℕ) (y : A) (rest : List ℕ) : Type 0 where
   pub first : ℕ
   pub second : ℕ

@@ -1,4 +1,4 @@
--- How many digits a number has, and where they stand once they are written over other bytes.
+-- How many digits a number has, and their places once they are written over other bytes.
 use Rattle.std.proofs.Common.{◌≡◌, ℕ, ◌+◌, ◌/◌, ◌^◌, ◌<◌, ◌≤◌, ◌++◌, List, length, take, drop, arith, ap, ◌∙◌, append_assoc, take-take}
 use Rattle.std.proofs.lemmas.List.{take-append-le}
 use Rattle.std.proofs.Math.Seq.{take-add, take-append-add, take-append_seam}
@@ -33,7 +33,7 @@ sixteen_more n low fits =
     let k : length (decimal (n / 1000000000000)) ≡ length (decimal (n / 10000000000000000)) + 4 = rw (length_four (n / 1000000000000) (omega arith) (omega arith), e) in
     omega (arith, twelve_more n (omega arith) fits, k)
 
--- what a slice of a vector leaves of the vector's first bytes
+-- the first bytes of a vector after a slice of it was taken
 pub of_slice : (stop len : ℕ) (slice items : List ℕ) → stop ≤ len → stop ≤ length slice → take stop (take len (slice ++ drop (length slice) items)) ≡ take stop slice
 of_slice stop len slice items inside short = take-take stop len _ inside ∙ take-append-le stop slice _ short
 
@@ -46,7 +46,7 @@ written_over at start stop digits before after behind same e rest front =
     ∙ ap (λ xs. take start before ++ take (length digits) xs) rest ∙ ap (λ xs. take start before ++ xs) (take-append_seam digits behind)
     ∙ ap (λ i. take i before ++ digits) same
 
--- the first bytes of a word, behind what was there, and digits behind them
+-- the earlier bytes, the first bytes of a word, and digits after them
 pub front_kept : (old word all digits : List ℕ) (at len : ℕ) → at ≡ length old + len → all ≡ old ++ word → take at all ++ digits ≡ old ++ (take len word ++ digits)
 front_kept old word all digits at len e whole =
     ap (λ xs. take at xs ++ digits) whole ∙ ap (λ i. take i (old ++ word) ++ digits) e ∙ ap (λ xs. xs ++ digits) (take-append-add old word len) ∙ append_assoc old (take len word) digits

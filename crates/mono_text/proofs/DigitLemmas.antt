@@ -10,7 +10,7 @@ use Rattle.mono_text.specs.Parser.{digits_end, digits_from, is_leading_zero, Rea
 pub gives-same : {A : Type 0} (o : Option A) (rest : List ℕ) (r s : Read A) → s ≡ r → Gives o rest r → Gives o rest s
 gives-same o rest r s e g = rw e g
 
--- ---- what each turn of the loop does, at place i
+-- ---- the effect of each turn of the loop, at place i
 
 pub digits-stop : (top value n : ℕ) (xs : List ℕ) (i : ℕ) → i < length xs → is_ascii_digit (slice_index xs i) ≡ false
     → digits_from top value n (drop i xs) ≡ digits_end value n (drop i xs)
@@ -44,7 +44,7 @@ plain_digit value len some = elim (cases_lt 0 len) [
   | inr none ↦ rw (le-ltb _ _ none) refl
 ]
 
--- a digit more says more than 0 where the first one is no zero
+-- a number with one more digit is above 0 if its first digit is not zero
 pub more_digit : (value : ℕ) (xs : List ℕ) (i : ℕ) → (0 < i → 0 < value) → (slice_index xs 0 ≡ 48 → ⊥) → is_ascii_digit (slice_index xs i) ≡ true
     → 0 < value * 10 + (slice_index xs i - 48)
 more_digit value xs i some first d = elim (cases_lt 0 i) [
@@ -81,7 +81,7 @@ ends_all top value len xs rest o all e same behind =
     let d : drop len xs ≡ [] = drop_all len xs (omega arith) in
     ends_give top value len xs rest o (e ∙ rw d refl) (rw all same) (rw all behind)
 
--- ---- what was read is the text of it
+-- ---- the bytes read are the text of the number
 
 digits_end-some : (value len : ℕ) (xs : List ℕ) (v : ℕ) (rest : List ℕ) → digits_end value len xs ≡ Some (v, rest)
     → (0 < len) × (value ≡ v) × (xs ≡ rest)
@@ -139,7 +139,7 @@ digits-text top value len (b ∷ r) front v rest bound start run fits h =
           (rw (run d.0, d.1, d.2) refl, rw (← d.1) fits)
     ]
 
--- a number that was read is the text of its value, with the rest behind it
+-- a number that was read is the text of its value, with the rest after it
 pub digits_found : (top : ℕ) (xs : List ℕ) (v : ℕ) (rest : List ℕ) → 0 < top → top ≤ 10 ^ 64 → digits_from top 0 0 xs ≡ Some (v, rest)
     → (xs ≡ decimal v ++ rest) × (v < top)
 digits_found top xs v rest some bound h = digits-text top 0 0 xs [] v rest bound (λ _. (refl, refl)) (λ e. absurd (omega arith)) some h

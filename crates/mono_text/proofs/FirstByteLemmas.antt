@@ -1,4 +1,4 @@
--- What the first byte of a line tells.
+-- The lines that a first byte allows.
 use Rattle.std.proofs.Common.{◌≡◌, ℕ, List, [], ◌∷◌, refl, sym, subst, arith}
 use Rattle.std.specs.Prelude.{slice_index}
 use Rattle.mono_machine.specs.declared.events.Event.TheVariants as event

@@ -1,4 +1,4 @@
--- Lines that were answered one after another, and what was read and written for them.
+-- Lines that were answered in sequence, and the bytes read and written for them.
 use Rattle.std.proofs.Common.{◌≡◌, ℕ, suc, ◌+◌, ◌<◌, List, [], ◌∷◌, ◌++◌, length, take, flat_map, Option, Some, None, refl, sym, ap, subst, ◌∙◌, arith, append_assoc, length-append}
 use Rattle.std.proofs.lemmas.List.{append-nil, take_all}
 use Rattle.mono_text.specs.Environment.{HasRead, HasReadAll, Reads, HasWritten, HasWrittenPrefix}
@@ -65,7 +65,7 @@ module _ {S A : Type 0} (text : A → List ℕ) (Fits : A → Type 0) (Answers :
   pub from_empty : (start : S) (bytes before : List ℕ) (now : S) (rest after : List ℕ) → before ≡ [] → Advances text Fits Answers start bytes before now rest after → Advances text Fits Answers start bytes [] now rest after
   from_empty start bytes before now rest after e p = subst (λ x. Advances text Fits Answers start bytes x now rest after) e p
 
-  -- the lines that were answered, and the bytes behind them that were read
+  -- the lines that were answered, and the bytes read after them
   pub record Standing (start now : S) (pending : List ℕ) (left mid before written : Option (List ℕ)) : Type 0 where
     pub taken : List ℕ
     pub output : List ℕ
@@ -257,7 +257,7 @@ module _ {S A : Type 0} (text : A → List ℕ) (Fits : A → Type 0) (Answers :
   unread start now pending left mid next before written p is =
       subst (λ x. HasFollowed text Fits Answers start end.ReadFault pending left x before written) (sym is) (failed end.ReadFault tt start now pending pending left mid before written p)
 
--- ---- from a value to the model for which it stands
+-- ---- from a value to the model that it refines
 
 module _ {S K A : Type 0} (Stands : S → K → Type 0) (Allowed : K → A → List ℕ → K → Type 0) where
   pub followed_through : (text : A → List ℕ) (Fits : A → Type 0) (start : S) (first : K) (e : FollowEnd) (rest : List ℕ) (left now before after : Option (List ℕ)) → Stands start first

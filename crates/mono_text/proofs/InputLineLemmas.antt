@@ -1,4 +1,4 @@
--- What the lines of an input say.
+-- The meaning of an input's lines.
 use Rattle.std.proofs.Common.{◌≡◌, ℕ, ◌<◌, ◌^◌, List, [], ◌∷◌, ◌++◌, true, false, nat_eq, refl, sym, ap, subst, ◌∙◌, arith, inl, inr, codes}
 use Rattle.std.proofs.lemmas.Bool.{cases_Bool, eqb-true}
 use Rattle.std.proofs.lemmas.Fmt.{decimal_is_IsNumeral_wide}
@@ -122,7 +122,7 @@ line_in (b ∷ bytes) l ls e t = elim (cases_Bool (nat_eq b 10)) [
         let in_rest = below first more m (ap (λ (x : Line). x.is_ended) is ∙ t) in
         (in_rest.0, ap (λ x. b ∷ x) in_rest.1 ∙ ap (λ (x : Line). x.bytes ++ 10 ∷ in_rest.0) is)
 
--- the first line says no event where the bytes begin with none
+-- the first line spells no event if the bytes begin with none
 pub no_event : (bytes : List ℕ) (l : Line) (ls : List Line) → lines bytes ≡ l ∷ ls → BeginsWithNone bytes → (e : Event) → IsEventLine e l → ⊥
 no_event bytes l ls is none e line =
     let k = line_in bytes l ls is line.is_ended in

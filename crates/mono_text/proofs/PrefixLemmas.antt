@@ -1,4 +1,4 @@
--- What a test for a prefix says of the bytes behind it.
+-- The bytes after a prefix, by a test for it.
 use Rattle.std.proofs.Common.{◌≡◌, ℕ, ◌+◌, ◌<◌, false, Some, None, List, [], ◌∷◌, ◌++◌, length, drop, refl, arith, inl, inr, nat_eq, slice_index}
 use Rattle.std.proofs.lemmas.Bool.{cases_Bool, eqb-true, eq-eqb}
 use Rattle.std.proofs.lemmas.List.{drop_more, drop_all}
@@ -25,7 +25,7 @@ word_ends word bytes i in_word in_bytes other = rw (drop_more word i 0 in_word, 
 pub word_through : (word bytes : List ℕ) (i : ℕ) → i ≡ length word → word_at (drop i word) (drop i bytes) ≡ Some (drop (length word) bytes)
 word_through word bytes i e = rw (e, drop_all (length word) word (omega arith)) refl
 
--- the bytes are the word and what is behind it
+-- the bytes are the word and the bytes after it
 pub word_is : (word bytes rest : List ℕ) → word_at word bytes ≡ Some rest → bytes ≡ word ++ rest
 word_is [] bytes rest e = grind arith
 word_is (w ∷ ws) [] rest e = cc e

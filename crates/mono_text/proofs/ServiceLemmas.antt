@@ -1,4 +1,4 @@
--- The answers so far, and what is left.
+-- The answers so far, and the rest.
 use Rattle.std.proofs.Common.{◌≡◌, ℕ, ◌+◌, ◌<◌, ◌≤◌, List, [], ◌∷◌, ◌++◌, length, flat_map, refl, sym, ap, subst, ◌∙◌, arith, append_assoc, length-append}
 use Rattle.std.proofs.lemmas.List.{append-nil}
 use Rattle.mono_text.specs.Lines.{Line, lines, AreLines, IsFirstWrong}
@@ -29,7 +29,7 @@ text_more [] answer = append-nil (answer_line answer)
 text_more (a ∷ answers) answer = ap (λ x. answer_line a ++ x) (text_more answers answer) ∙ sym (append_assoc (answer_line a) (flat_map answer_line answers) (answer_line answer))
 
 module _ {S A : Type 0} (text : A → List ℕ) (Fits : A → Type 0) (Answers : S → A → List ℕ → S → Type 0) (start : S) (input : List ℕ) where
-  -- so many lines were read, and what is left is rest
+  -- this number of lines was read, and rest is left
   pub record Progress (count : ℕ) (service : S) (out rest : List ℕ) : Type 0 where
     pub calls : List A
     pub good : List Line
@@ -77,7 +77,7 @@ module _ {S A : Type 0} (text : A → List ℕ) (Fits : A → Type 0) (Answers :
       let f = first_line b rest in
       (p.calls, p.good, f.0, f.1, p.split ∙ ap (λ x. p.good ++ x) f.2, p.each, omega (arith, p.counted), no_call (b ∷ rest) f.0 f.1 f.2 none)
 
--- ---- from a value to the model for which it stands
+-- ---- from a value to the model that it refines
 
 module _ {S K A : Type 0} (Stands : S → K → Type 0) (Allowed : K → A → List ℕ → K → Type 0) where
   pub run_through : (old new : S) (model : K) (calls : List A) (answers : List (List ℕ)) → AnswersAll (AnswersAs Stands Allowed) old calls answers new → Stands old model
@@ -90,7 +90,7 @@ module _ {S K A : Type 0} (Stands : S → K → Type 0) (Allowed : K → A → L
       let rest = run_through run.0 new k.0 calls answers run.2 k.2 in
       (rest.0, (k.0, k.1, rest.1))
 
-  -- what the value serves is served by the model
+  -- the model serves each call that the value serves
   pub serves_through : (text : A → List ℕ) (Fits : A → Type 0) (start : S) (first : K) (input : List ℕ) (r : Served) → Stands start first
       → Serves text Fits (AnswersAs Stands Allowed) start input r → Serves text Fits Allowed first input r
   serves_through text Fits start first input (served.BadLine n) stands s = s

@@ -1,4 +1,4 @@
--- What is read is spelled so, and what is spelled so is read.
+-- Each event read is spelled so, and each spelling is read so.
 use Rattle.std.proofs.Common.{◌≡◌, ℕ, zero, suc, ◌^◌, ◌<◌, ◌≤◌, ◌++◌, List, [], ◌∷◌, length, Some, None, Option, Bool, true, false, ◌⊎◌, if◌then◌else◌, refl, sym, ap, subst, ◌∙◌, arith, inl, inr, append_assoc, length-append, codes, slice_index, ◌==◌, lit≤, lit<, IfOk, IfSome, IfNone, Result, Ok, Err}
 use Rattle.std.proofs.lemmas.List.{append-nil}
 use Rattle.std.specs.Fmt.{decimal}
@@ -42,7 +42,7 @@ pub then_some : {A B : Type 0} (o : Read A) (f : A → List ℕ → Read B) (y :
 then_some None f y e = cc e
 then_some (Some x) f y e = (x.0, x.1, refl, e)
 
--- a number behind its word
+-- a number after its word
 pub numbered_found : {A : Type 0} (top : ℕ) (word : List ℕ) (make : ℕ → A) (bytes r : List ℕ) (y : A) (rest : List ℕ) → 0 < top → top ≤ 10 ^ 64
     → word_at word bytes ≡ Some r → mapped make (digits_from top 0 0 r) ≡ Some (y, rest)
     → (v : ℕ) × (make v ≡ y) × (bytes ≡ word ++ decimal v ++ rest) × (v < top)
@@ -60,7 +60,7 @@ small = lit≤ tt
 pub large : 2 ^ 128 ≤ 10 ^ 64
 large = lit≤ tt
 
--- ---- what is read is spelled so
+-- ---- each event read is spelled so
 
 abbrev ActIs : List ℕ → List ℕ → Act → Type 0
 ActIs bytes rest a = (bytes ≡ act_text a ++ rest) × FitsAct a
@@ -330,7 +330,7 @@ line_found bytes e rest h =
       | inr w ↦ cc w.1
     ]
 
--- ---- what is spelled so is read
+-- ---- each spelling is read so
 
 how_again : (h : How) (rest : List ℕ) → how_at (how_text h ++ rest) ≡ Some (h, rest)
 how_again how.Ran rest = refl
@@ -355,7 +355,7 @@ act_again (act.JobEnd j h) rest f d =
     ap act_at (sym (regroup (codes "job-end ") (decimal j) (codes " ") (how_text h) rest))
     ∙ rw (digits_again (2 ^ 64) j (codes " " ++ how_text h ++ rest) small f refl, how_again h rest) refl
 
--- where an act stands, no other word does
+-- the text of an act begins with no other word
 act_is_no_poll : (a : Act) (rest : List ℕ) → FitsAct a → step_at (act_text a ++ rest) ≡ mapped step.Act (act_at (act_text a ++ rest))
 unfolding step_at job_step_at act_at
 act_is_no_poll act.Spawn rest f = refl
@@ -458,7 +458,7 @@ one_event bytes e other rest behind b c =
     let same : ◌≡◌ {A = Read Event} (Some (e, rest)) (Some (other, behind)) = sym (ap line_at b.0 ∙ line_again e rest b.1) ∙ (ap line_at c.0 ∙ line_again other behind c.1) in
     grind (arith, same)
 
--- ---- both for what a line of code gave
+-- ---- both for the result of a line of code
 
 pub found_line : {E : Type 0} (r : Result (Option Event) E) (bytes rest : List ℕ) → GivesIf r rest (line_at bytes) → IfOk r (λ found. IfSome found (λ e. BeginsWith bytes e rest))
 found_line (Ok None) bytes rest g = tt

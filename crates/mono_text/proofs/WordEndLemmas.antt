@@ -1,4 +1,4 @@
--- Where a word and where a line ends.
+-- The ends of a word and of a line.
 use Rattle.std.proofs.Common.{◌≡◌, ◌<◌, ◌≤◌, ℕ, zero, suc, ◌+◌, ◌-◌, Bool, true, false, List, [], ◌∷◌, ◌++◌, length, get_or, take, drop, refl, sym, ap, subst, ◌∙◌, arith, cond, eq-eqb}
 use Rattle.std.specs.Prelude.{◌==◌, nat_lt}
 use Rattle.std.specs.List.{slice_split, position_or_len}
@@ -13,7 +13,7 @@ use Rattle.mono_text.specs.Lines.{lines, onto_first}
 use Rattle.mono_text.specs.Words.{is_gap, words, is_number, is_above}
 use Rattle.mono_text.specs.Reasons.{ends_in_return}
 
--- what stands behind place i, up to the end
+-- the bytes after place i, up to the end
 pub all_behind : (xs : List ℕ) (i : ℕ) → take (length xs - (i + 1)) (drop (i + 1) xs) ≡ drop (i + 1) xs
 all_behind xs i = take_all (length xs - (i + 1)) (drop (i + 1) xs) (omega (arith, length-drop (i + 1) xs))
 

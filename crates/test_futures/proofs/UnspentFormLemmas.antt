@@ -17,7 +17,7 @@ pub none_in_map : {A B : Type 0} (p : B → Bool) (h : A → B) → ((a : A) →
 none_in_map p h none [] = refl
 none_in_map p h none (x ∷ xs) = ap (λ b. b || list_any p (map h xs)) (none x) ∙ none_in_map p h none xs
 
--- what these futures tell
+-- the facts that these futures expose
 abbrev pub never : {T C O : Type 0} → FutureOf T C O
 never = record { is_spent = λ f. false; can_poll = λ f. ⊤; polls = λ f c r g d. ⊤; gives = λ f x. ⊤; cancels = λ f c d. ⊤ }
 

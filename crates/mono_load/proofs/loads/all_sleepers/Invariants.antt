@@ -4,7 +4,7 @@ use Rattle.mono_load.specs.Load.{Goes, sleepers}
 use Rattle.mono_load.specs.declared.tallies.Tally.{Tally}
 use Rattle.mono_load.proofs.loads.all_sleepers.Given as goal
 
--- what goes on by the sleepers that are left has gone by all of them
+-- a run continued by the remaining sleepers is a run of all of them
 abbrev pub invariant-sleepers : goal.invariant-sleepers
 invariant-sleepers l = (z : Exec) (c : Tally) → Goes l.exec l.sum (sleepers l.k (l.fn.count - l.k) l.draws) z c → Goes l.fn.exec l.fn.sum (sleepers 0 l.fn.count l.fn.random) z c
 

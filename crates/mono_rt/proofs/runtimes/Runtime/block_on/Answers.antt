@@ -12,7 +12,7 @@ use Rattle.mono_rt.proofs.JournalRoomLemmas.{fills_on, fills_not, fills_still}
 use Rattle.mono_rt.proofs.FaultLemmas.{capacity_faults, faults_after}
 use Rattle.mono_rt.proofs.runtimes.Runtime.block_on.Goals as goal
 
--- where the main task has its output, the drop of its handle gives it
+-- if the main task has its output, the drop of its handle gives it
 none_given : {A : Type 0} (v : Option A) (x : A) → v ≡ None → v ≡ Some x → ⊥
 none_given v x none given = cc
 

@@ -6,7 +6,7 @@ use Rattle.mono_rt.specs.JournalRoom.{Fills}
 use Rattle.mono_rt.specs.DriverReadings.{telling, Telling, Still, going}
 use Rattle.mono_rt.proofs.runtimes.Runtime.round.Given as goal
 
--- what was done so far is in the journal
+-- the steps so far are in the journal
 abbrev pub invariant-loop-done : goal.invariant-loop-done
 invariant-loop-done g l = Goes g.O.Outcome.output_number l.initial.self.cx.parts l.self.cx.parts l.initial.self.journal l.self.journal × (l.self.cx.parts.tasks.turn ≡ None)
     × (l.done ≡ 0 → l.self.cx.parts.tasks.tasks.queue ≡ l.initial.self.cx.parts.tasks.tasks.queue)

@@ -6,7 +6,7 @@ use Rattle.mono_rt.specs.JournalRoom.{Fills}
 use Rattle.mono_rt.specs.DriverReadings.{telling, Telling, Still, going}
 use Rattle.mono_rt.proofs.runtimes.Runtime.run.Given as goal
 
--- what was done so far are rounds
+-- the steps so far are rounds
 abbrev pub invariant-loop-units : goal.invariant-loop-units
 invariant-loop-units g l = Does g.O.Outcome.output_number (Rounds l.fn.self.cx.parts.has_timers l.main l.turns l.units) l.fn.self.cx.parts l.self.cx.parts l.fn.self.journal l.self.journal
     × (l.self.cx.parts.tasks.turn ≡ None) × (l.self.cx.parts.has_timers ≡ l.fn.self.cx.parts.has_timers)

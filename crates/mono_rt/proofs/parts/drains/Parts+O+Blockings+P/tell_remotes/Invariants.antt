@@ -3,7 +3,7 @@ use Rattle.std.specs.Prelude.{vec_len, vec_capacity}
 use Rattle.mono_rt.specs.Drains.{remotes, listed}
 use Rattle.mono_rt.proofs.parts.drains.Parts+O+Blockings+P.tell_remotes.Given as goal
 
--- with those that are left all are told, and there is room for these
+-- after the remaining tasks all are recorded, and there is room for these
 abbrev pub invariant-loop-t : goal.invariant-loop-t
 invariant-loop-t g l = (l.journal.is_full ≡ l.fn.journal.is_full)
     × (l.journal.history.entries ++ remotes l.fn.self.tasks.tasks (drop l.t-index l.taken) ≡ l.fn.journal.history.entries ++ remotes l.fn.self.tasks.tasks l.taken)
