@@ -20,7 +20,7 @@ pub record Told : Type 0 where
 abbrev pub telling : Option (List ℕ) → Option ℕ → ℕ → Told
 telling readings time parks = record { readings = readings; time = time; parks = parks }
 
--- The state of the calls to the driver: none failed; it was parked, and the inbox is to be drained; or its last call
+-- The state of the calls to the driver. None failed; or it was parked, and the inbox is to be drained; or its last call
 -- failed, after which it is neither parked nor read for a turn.
 pub data Course : Type 0 where
   going : Course

@@ -1,4 +1,4 @@
--- How a call on a job changes the parts of a runtime, and what it adds to the record of the turn.
+-- How a call on a job changes the parts of a runtime, and its effect on the record of the turn.
 use Rattle.std.specs.Prelude.{◌≡◌, ℕ, Bool, true, Option, Some, None, Result, Ok, Err}
 use Rattle.mono_model.specs.Jobs.{Jobs}
 use Rattle.mono_model.specs.declared.poll.Poll.{Poll}

@@ -33,7 +33,7 @@ module _ {F O P U W J A V : Type 0} (number : O → ℕ) (leads : W → W → Ty
     -- the running task finds its own place again
     pub lent : KeepsLent c.futures.lent d.futures.lent
     pub same_waker : d.waker ≡ c.waker
-    -- what the tasks share was led
+    -- the shared value was led
     pub shared : leads c.shared d.shared
 
   pub sharing_itself : ((w : W) → leads w w) → (c : Cx F O P U W J A V) → ReachesSharing c c
@@ -60,7 +60,7 @@ module _ {F O P U W J A V : Type 0} (number : O → ℕ) (leads : W → W → Ty
     shared = shared;
   }
 
-  -- what the tasks share was changed, and nothing else
+  -- the shared value was changed, and nothing else
   pub by_shared : (c : Cx F O P U W J A V) (w : W) → leads c.shared w → ReachesSharing c (record c { shared = w })
   by_shared c w shared = record {
     parts = leads_itself number hosting_of c.parts;

@@ -36,7 +36,7 @@ pub struct Cx<F, O, P: ThreadPool, U: Unpark, W = ()> {
     pub(crate) wakers: Wakers<U>,
     // the waker of the task whose turn runs, unless it ran out of memory
     pub(crate) waker: Option<RemoteWaker<U>>,
-    // what the tasks share
+    // the shared value of the tasks
     pub(crate) shared: W,
 }
 

@@ -75,8 +75,8 @@ impl<F: Drop, O: Outcome + Drop, P: ThreadPool + Drop, U: Unpark, W: SharedState
         ended
     }
 
-    /// Ends the running turn ready, and removes the task's place (`gone`). Other threads know the task until the next
-    /// tasks end, or until the inbox is drained.
+    /// Ends the running turn ready, and removes the task's place (`gone`). The inbox knows the task until the next
+    /// tasks end, or until it is drained.
     fn complete_turn<R: Host>(&mut self, rt: &R, task: u64, output: O) -> Ended
         requires runs { is_some self.old.parts.tasks.turn ≡ true }
         requires lent { lent_at self.old.futures task ≡ true }

@@ -6,7 +6,7 @@ use Rattle.mono_text.specs.Lines.{Line}
 abbrev pub Begins : (List Line → Type 0) → List Line → Type 0
 Begins Form ls = (more : List Line) × Form (ls ++ more)
 
--- Line n, counted from 1, is the first such that the lines up to it are no beginning of the form; or the lines are a
+-- Line n, counted from 1, is the first such that the lines up to it are no beginning of the form. Or the lines are a
 -- beginning and not all of it, and n is the missing line.
 pub data IsFirstOut (Form : List Line → Type 0) (all : List Line) (n : ℕ) : Type 0 where
   wrong : 1 ≤ n → n ≤ length all → Begins Form (take (n - 1) all) → (Begins Form (take n all) → ⊥) → IsFirstOut Form all n

@@ -1,4 +1,4 @@
--- The outside: where bytes come from and go to, and how often that failed.
+-- The outside: the sources and sinks of bytes, and how often their calls failed.
 use Rattle.std.specs.Prelude.{◌≡◌, ℕ, ◌-◌, ◌^◌, ◌<◌, ◌≤◌, ◌⊎◌, List, [], ◌++◌, length, take, drop, Option, Some, None, Result, Ok, Err}
 
 -- The count of faults is higher than before; a count that cannot rise counts as risen.

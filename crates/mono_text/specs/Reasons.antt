@@ -94,9 +94,9 @@ abbrev pub form_wrong : Bool → Reason
 form_wrong true = NoReport
 form_wrong false = OtherForm
 
--- The first of these: no line feed ends the line; a carriage return precedes it; its first word is none of those with
--- which a call begins; a later word is wrong; a report is missing after its event; it is in no form of its word. The
--- words of `parts` begin a step of a turn, and a line with a word of `pairs` has a report.
+-- The first of these faults. No line feed ends the line; a carriage return precedes it; its first word is none of those
+-- with which a call begins. A later word is wrong; a report is missing after its event; it is in no form of its word.
+-- The words of `parts` begin a step of a turn, and a line with a word of `pairs` has a report.
 abbrev pub wrong_line : List (List ℕ) → List (List ℕ) → List (List ℕ) → Line → Wrong
 wrong_line names parts pairs line =
     if line.is_ended

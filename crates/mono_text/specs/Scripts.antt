@@ -69,9 +69,9 @@ abbrev pub or_words : Option Reason → List ℕ → Wrong → Wrong
 or_words None bytes later = later
 or_words (Some r) bytes later = whole r bytes
 
--- The first of these: no line feed ends the line; a carriage return precedes it; its first word is none of a script's;
--- it may not follow here; a later word is wrong; it names no kind, no own task or no own job, or a handle that was
--- used; it is in no form of its word.
+-- The first of these faults. No line feed ends the line; a carriage return precedes it; its first word is none of a
+-- script's; it may not follow here. A later word is wrong; it names no kind, no own task or no own job, or a handle
+-- that was used. It is in no form of its word.
 abbrev pub script_line_wrong : List (List ℕ) → ℕ → ℕ → Seen → Line → Wrong
 script_line_wrong names n kinds seen line =
     if line.is_ended

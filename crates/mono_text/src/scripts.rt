@@ -12,7 +12,7 @@ use crate::lines::{cut_line, line_at};
 use crate::reasons::{Fault, Reason, ends_in_return, whole, wrong_among};
 use crate::words::{cut, is_among};
 
-/// The effect of the lines before one: whether a kind is open, how many kinds there are, and, for the last kind, how
+/// The effect of the lines before one: whether a kind is open, and how many kinds there are. For the last kind: how
 /// many lines its body has and how many tasks and jobs it made.
 #[derive(Clone, Copy)]
 struct Seen {

@@ -46,9 +46,9 @@ where
 }
 
 /// Shows, for a history whose turns are polls (the clause `polled` of `block_on`), that each park finds its tasks
-/// waiting. For each task t and each source x, t waits for x or is awaiting at each park under four conditions: it has
-/// not finished, its future needed x after its last turn, no act of that turn dropped x, and no call took its wait
-/// since. Nothing is claimed for the beginning of the history.
+/// waiting. At each park, a task t waits for a source x or is awaiting under four conditions. It has not finished; its
+/// future needed x after its last turn; no act of that turn dropped x; no call took its wait since. Nothing is claimed
+/// for the beginning of the history.
 pub fn each_park_finds_its_tasks_waiting<F, O, P, U, W>()
 where
     F: Waits<Cx<F, O, P, U, W>, Output = O> + Drop,

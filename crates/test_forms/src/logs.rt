@@ -8,8 +8,8 @@ use mono_model::{Host, Poll};
 use mono_task::{Context, TaskError, TaskFuture, Woke};
 use std::alloc::Global;
 
-/// A context whose log has a letter for each call of its futures: a small one for a poll, the same large when it is
-/// given up, `!` for a wake, and `.` for the end of a poll from outside.
+/// A context whose log has a letter for each call of its futures. A small letter is a poll, and the same large means
+/// that the future is given up. `!` is a wake, and `.` the end of a poll from outside.
 #[derive(Drop)]
 pub(crate) struct Log {
     pub(crate) me: u64,

@@ -248,7 +248,7 @@ fn selected<R: Host>(
 }
 
 /// A select: from which number on branches pass always, whether those with an even value pass too, the mask, and
-/// whether the start is at random; the poll and the expected answer, and its notes if they are checked.
+/// whether the start is at random. Then the poll, the expected answer, and its notes if they are checked.
 type Asked = ((u32, bool), u64, bool, (u64, Out<u64>), Option<u64>);
 
 /// Returns whether the select of these branches gives the expected answer.

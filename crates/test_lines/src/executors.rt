@@ -112,7 +112,7 @@ fn next_expirations(rt: HostRuntime) {
 }
 
 // Returns whether a sleep at tick 100 that is reset to a later tick keeps its registered tick until the clock reaches
-// the start of its slot, and fires at an earlier tick if reset to that.
+// the start of its slot. Reset to an earlier tick, it fires there.
 fn stays_registered(alloc: Global, exec: &mut Exec) -> bool {
     let is_armed = arm(alloc, exec, 0, 100000000);
     let later = act(alloc, exec, Act::Reset(0, 130000000)).is_some();

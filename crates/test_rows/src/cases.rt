@@ -1,5 +1,5 @@
-// The answers of the top call if a read or a write fails, if the room ends, if an input is no text or lacks its last
-// line feed, and if the clock is read; and the longest input.
+// The answers of the top call if a read or a write fails, and if the room ends. Inputs that are no text or lack their
+// last line feed, a clock that is read, and the longest input.
 use crate::runs::{Outside, PLAIN, ROOM, ends_so};
 use mono_model::Host;
 use std::alloc::{AllocError, Global};

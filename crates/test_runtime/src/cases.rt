@@ -29,9 +29,9 @@ pub(crate) const UNTOLD: Turn = Turn {
     replies: &[],
 };
 
-/// A main task with a limit of jobs, and its expected journal: the turns at the places 2 and 8, between which it was
-/// woken from outside; how many entries there are, and whether the journal is full. The last number is how often the
-/// pool refused, if there is one.
+/// A main task with a limit of jobs, and its expected journal. First the turns at the places 2 and 8, between which it
+/// was woken from outside; then how many entries there are, and whether the journal is full. The last number is how
+/// often the pool refused, if there is one.
 pub(crate) struct Case {
     pub(crate) kind: Kind,
     pub(crate) jobs: u64,

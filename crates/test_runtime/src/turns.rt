@@ -48,8 +48,8 @@ impl Job for Gives {
     }
 }
 
-/// The state that a task shares with a pool and with another thread: the waiting jobs of the pool, which another runs
-/// or cancels; the last waker that the task handed out; and how many turns it has had.
+/// The state that a task shares with a pool and with another thread. It has the waiting jobs of the pool, which another
+/// thread runs or cancels; the last waker that the task handed out; and how many turns it has had.
 #[derive(Drop)]
 pub(crate) struct Shared {
     pub(crate) waiting: Mutex<Vec<BlockingTask<Gives>>>,
