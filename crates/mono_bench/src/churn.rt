@@ -10,7 +10,7 @@ pub const HELP: &str = "  churn TASKS ALIVE
     So many tasks, one every millisecond, each with a sleep of ALIVE milliseconds; the first sleeps until all others are
     gone. Printed is how many sleeps fired, and the sum of their numbers.";
 
-// An executor, the lists of its turns, and what fired so far.
+// An executor, the lists of its turns, and the sleeps that fired so far.
 #[derive(Drop)]
 struct Desk {
     exec: Exec,

@@ -71,7 +71,7 @@ module _ {F O P U W J A V : Type 0} (number : O → ℕ) (leads : W → W → Ty
     shared = shared;
   }
 
--- the same where nothing is shared
+-- the same if nothing is shared
 module _ {F O P U J A V : Type 0} (number : O → ℕ) where
   abbrev pub Reaches : Cx F O P U ⊤ J A V → Cx F O P U ⊤ J A V → Type 0
   Reaches = ReachesSharing number (λ a b. ⊤)

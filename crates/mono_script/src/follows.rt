@@ -51,7 +51,7 @@ impl FollowedCommand {
         self.followed.lines.saturating_add(1) as usize
     }
 
-    /// Returns what is wrong with the first line that was not answered, by its bytes alone.
+    /// Returns the fault of the first line that was not answered, by its bytes alone.
     pub fn fault(&self) -> Option<Fault>
         ensures { option_map told result ≡ fault_at self.now.command self.now.followed.rest.items 1 }
     {

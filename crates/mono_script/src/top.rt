@@ -178,17 +178,17 @@ pub fn explained<S: Source, K: Sink, C: Clock + Drop, P: Spawner, R: Host + Send
 /// One record (`Meaning`) defines a command. It says whether the command reads, and for how many threads it asks; which
 /// input is good, and which line of another is the first bad one. It also says which status and output answer a good
 /// input, if the clock exposes these readings. Each status has a clause of its name that gives its meaning, for every
-/// command. The clauses `usage`, `too_long_where` and `bad_line_where` give the conditions, as an if and only if, in the
-/// order of usage, reading, bad line, writing.
+/// command. The clauses `usage`, `too_long_where` and `bad_line_where` give the conditions, as an if and only if, in
+/// the order of usage, reading, bad line, writing.
 ///
 /// A read or a write fault is returned only if the count of that object rose in this call, and whenever it rose
 /// (`read_fault_where`, `write_fault_where`). It may run out of memory at any time before the first write. `complete`
 /// says that a good command over good input ends with an answer, unless a fault came or memory ran out.
 /// `capacity_where` says that a run ends with 10 if and only if its script's limit of tasks is 0.
 ///
-/// `starts` says by the status how often the spawner was asked for a thread. A run that is answered asked for each of its
-/// workers, a run that ended before that asked for none, and no other command asks. Words that are no command ask for
-/// none (`no_starts`).
+/// `starts` says by the status how often the spawner was asked for a thread. A run that is answered asked for each of
+/// its workers, a run that ended before that asked for none, and no other command asks. Words that are no command ask
+/// for none (`no_starts`).
 pub fn program<S: Source, K: Sink, C: Clock + Drop, P: Spawner, R: Host + Send + 'static>(
     rt: &R,
     alloc: Global,
