@@ -4,21 +4,23 @@
 #                    kept as bin/monoio-unproved
 #   make run         proves and builds the program where that is not done, and replays the example
 #   make build       proves and builds the program, and leaves it as bin/monoio
-#   make test        the gate: every proof, wrong body, test and program; it ends in `rt ci`
+#   make test        the gate: every proof, mutant, test and program; it ends in `rt ci`
 #   make examples    builds the program, and compares each example's reports with those stored beside it, and the
 #                    manual page with --help
 #   make soak        random inputs for a minute (SECONDS=n), each report checked by an independent machine; their journals
 #                    too; then each allocation, read and write fails in turn, scripts run with workers, and each library
 #                    call that leaves its object as it was is refused memory
-#   make planted     tries the wrong bodies of crates/*/planted on a copy (CRATE=name: of one crate)
+#   make bench       measures the programs next to plain Rust programs, and prints the tables of docs/PERFORMANCE.md
+#   make planted     tries the mutants of crates/*/planted on a copy (CRATE=name: of one crate)
 #   make gate-times  the gate from nothing, with the processor seconds of each crate
 
 WORDS = replay attached 16 16 16
 EXAMPLE = examples/both_roundings.events
 CRATE =
 SECONDS = 60
+SIZE =
 
-.PHONY: help run build has-rt test examples soak try planted gate-times
+.PHONY: help run build has-rt test examples soak try bench planted gate-times
 
 help:
 	@sed -n 's/^#   //p' Makefile
@@ -58,6 +60,10 @@ soak: build
 try: has-rt
 	@echo 'unproved: this runs the program before any proof'
 	@python3 tools/unproved.py bin/monoio-unproved $(WORDS) < $(EXAMPLE)
+
+bench: build
+	cd crates/mono_bench && rt run -- all > /dev/null
+	@python3 tools/bench/run.py bin/monoio crates/mono_bench/out/mono_bench $(SIZE)
 
 planted: has-rt
 	python3 tools/planted.py $(CRATE)

@@ -1,0 +1,159 @@
+#!/usr/bin/env python3
+"""Measures the programs of this tree next to plain Rust programs, and prints the tables of docs/PERFORMANCE.md.
+
+usage: tools/bench/run.py PROGRAM BENCH [quick]
+
+PROGRAM is `monoio`, BENCH is `mono_bench`. rustc builds the plain programs of tools/bench. Runs of both sides alternate.
+A time is processor time (user and system) of the best run at the allocator's defaults; peak memory is the largest resident
+set. `quick` takes inputs of a sixteenth and two runs.
+
+The environment's ANCHORS names the program of the original's wheel, if there is one. It is not in the repository: put the
+crate's own wheel and slab behind `fn register, remove, reset, poll`, with the words `bench WORKLOAD orig-packed N`.
+"""
+import os
+import subprocess
+import sys
+import tempfile
+
+sys.dont_write_bytecode = True
+import inputs
+
+HERE = os.path.dirname(os.path.abspath(__file__))
+CAP = 16 * 1024 * 1024
+LIMITS = ["4194304"] * 3
+
+
+class Bench:
+    """The two programs, the folder of inputs and plain programs, and how much is run."""
+
+    def __init__(self, program, bench, folder, quick):
+        self.program, self.bench = os.path.abspath(program), os.path.abspath(bench)
+        self.folder, self.quick = folder, quick
+        self.runs, self.by = (2, 16) if quick else (7, 1)
+
+    def path(self, name):
+        return os.path.join(self.folder, name)
+
+    def build(self):
+        for name in ("replay", "services", "beats", "limiter", "ring", "turns"):
+            source = os.path.join(HERE, f"{name}.rs")
+            command = ["rustc", "--edition", "2021", "-C", "opt-level=3", "-A", "warnings", source, "-o", self.path(name)]
+            subprocess.run(command, check=True)
+
+    def once(self, words, source, sink=os.devnull):
+        """Runs a program; returns its processor time in seconds and its peak memory in KiB."""
+        with open(source or os.devnull, "rb") as into, open(sink, "wb") as out:
+            child = subprocess.Popen(words, stdin=into, stdout=out, stderr=subprocess.DEVNULL)
+            _, status, used = os.wait4(child.pid, 0)
+            child.returncode = os.waitstatus_to_exitcode(status)
+        if child.returncode not in (0, 11):
+            sys.exit(f"{' '.join(words)}: status {child.returncode}")
+        return used.ru_utime + used.ru_stime, used.ru_maxrss
+
+    def pair(self, ours, plain, source=None):
+        """Returns the best time and the peak memory of each side, in alternate runs."""
+        sides = [[], []]
+        for _ in range(self.runs):
+            for side, words in zip(sides, (ours, plain)):
+                if words:
+                    side.append(self.once(words, source))
+        return [(min(t for t, _ in side), max(m for _, m in side)) if side else None for side in sides]
+
+    def table(self, title, command, rows):
+        """Prints a table; a row is a label, our words, the plain program's words or None, and an input or None."""
+        print(f"\n## {title}\n\nCommand: `{command}`.\n")
+        print("| Workload | Ratio | Time, ms | Plain, ms | Peak memory, MB | Plain, MB |\n|---|---|---|---|---|---|")
+        for label, ours, plain, source in rows:
+            here, there = self.pair(ours, plain, source)
+            ratio = f"{here[0] / max(there[0], 1e-6):.2f}" if there else ""
+            other = (f"{1000 * there[0]:.0f}", f"{there[1] / 1024:.1f}") if there else ("", "")
+            print(f"| {label} | {ratio} | {1000 * here[0]:.0f} | {other[0]} | {here[1] / 1024:.1f} | {other[1]} |", flush=True)
+
+
+def replays(b):
+    rows, checks = [], []
+    for kind in ("mix", "timers", "spawn"):
+        events, reports, journal = b.path(f"{kind}.events"), b.path(f"{kind}.reports"), b.path(f"{kind}.journal")
+        b.once([b.path("replay"), "generate", kind, str(CAP // b.by), "3"], None, events)
+        ours = [b.program, "replay", "attached", *LIMITS]
+        rows.append((kind, ours, [b.path("replay"), "replay", "attached", *LIMITS], events))
+        small = b.path(f"{kind}.small")
+        b.once([b.path("replay"), "generate", kind, str(CAP // b.by // 3), "3"], None, small)
+        b.once(ours, small, reports)
+        inputs.join(small, reports, journal)
+        checks.append((kind, [b.program, "check", "attached", *LIMITS], journal, ours, small))
+    b.table("Replay", "monoio replay attached 4194304 4194304 4194304 < FILE", rows)
+    count = str(100000 // b.by)
+    b.table("Load", "monoio load 7 100000", [("load", [b.program, "load", "7", count], [b.path("replay"), "load", "7", count], None)])
+    print("\n## Check\n\nCommand: `monoio check` of a journal, by the replay of its events.\n\n| Journal | Ratio |\n|---|---|")
+    for kind, check, journal, replay, events in checks:
+        times = [min(b.once(words, source)[0] for _ in range(b.runs)) for words, source in ((check, journal), (replay, events))]
+        print(f"| {kind} | {times[0] / max(times[1], 1e-6):.2f} |", flush=True)
+
+
+def services(b):
+    rows = []
+    for name, lines, words in (("sessions", inputs.sessions, 2), ("limiter", inputs.limiter, 2), ("actors", inputs.actors, 2)):
+        path = b.path(f"{name}.lines")
+        inputs.write(path, lines(3), CAP // b.by)
+        asked = [name, *LIMITS[:words]]
+        rows.append((name, [b.program, *asked], [b.path("services"), *asked], path))
+    b.table("Services by lines", "monoio sessions|limiter|actors 4194304 4194304 < FILE", rows)
+
+
+def workloads(b):
+    by = b.by
+    rows = [
+        ("`beats 1000000 0`: sessions opened", ["beats", str(1000000 // by), "0"], "beats"),
+        ("`beats 1000000 60`: and 60 seconds of heartbeats", ["beats", str(1000000 // by), "60"], "beats"),
+        ("`buckets 1000000 10000000 50`", ["buckets", str(1000000 // by), str(10000000 // by), "50"], "limiter"),
+        ("`ring 1000 10000000 0`", ["ring", "1000", str(10000000 // by), "0"], "ring"),
+        ("`ring 1000000 0 16`", ["ring", str(1000000 // by), "0", "16"], "ring"),
+        ("`turns pair 10000000`", ["turns", "pair", str(10000000 // by)], "turns"),
+        ("`turns sleeps 1000000`", ["turns", "sleeps", str(1000000 // by)], "turns"),
+        ("`turns spawn 1000000`", ["turns", "spawn", str(1000000 // by)], None),
+        ("`turns come 10000000`", ["turns", "come", str(10000000 // by)], None),
+        ("`churn 10000000 1000`", ["churn", str(10000000 // by), "1000"], None),
+        ("`errands 10000000 1000`", ["errands", str(10000000 // by), "1000"], None),
+        ("`sweep 1000000 100`", ["sweep", str(1000000 // by), "100"], None),
+    ]
+    full = []
+    for label, words, plain in rows:
+        other = [b.path(plain), *(words if plain == "turns" else words[1:])] if plain else None
+        full.append((label, [b.bench, *words], other, None))
+    b.table("Workloads of `mono_bench`", "mono_bench WORKLOAD ..", full)
+
+
+def wheel(b):
+    anchors = os.environ.get("ANCHORS")
+    print("\n## Wheel\n\nCommand: `mono_bench wheel WORKLOAD N timed RUNS`, nanoseconds a key of the best run.\n")
+    print("| Workload | " + " | ".join(("1,000", "100,000", "1,000,000")) + " |\n|---|---|---|---|")
+    for work in ("insert_fire", "insert_cancel", "reset_later", "short_ticks", "far_jump", "next_expiration", "far_many"):
+        cells = []
+        for count, runs in ((1000, 101), (100000, 9), (1000000, 3)):
+            count, runs = (count // b.by, 2) if b.quick else (count, runs)
+            if work == "far_many" and count > 1000:
+                cells.append("")
+                continue
+            done = subprocess.run([b.bench, "wheel", work, str(count), "timed", str(runs)], capture_output=True, text=True, check=True)
+            cells.append(done.stdout.split()[-1])
+            if anchors:
+                other = subprocess.run([anchors, "bench", work, "orig-packed", str(count)], capture_output=True, text=True)
+                cells[-1] += f" (original {other.stdout.split()[-1]})" if other.stdout else ""
+        print(f"| `{work}` | " + " | ".join(cells) + " |", flush=True)
+
+
+def main():
+    if len(sys.argv) < 3:
+        sys.exit(__doc__)
+    with tempfile.TemporaryDirectory(prefix="bench-") as folder:
+        b = Bench(sys.argv[1], sys.argv[2], folder, "quick" in sys.argv[3:])
+        b.build()
+        replays(b)
+        services(b)
+        workloads(b)
+        wheel(b)
+
+
+if __name__ == "__main__":
+    main()
