@@ -35,20 +35,21 @@ class Bench:
         return os.path.join(self.folder, name)
 
     def build(self):
-        for name in ("replay", "services", "beats", "limiter", "ring", "turns"):
+        for name in ("replay", "services", "beats", "limiter", "ring", "turns", "measure"):
             source = os.path.join(HERE, f"{name}.rs")
             command = ["rustc", "--edition", "2021", "-C", "opt-level=3", "-A", "warnings", source, "-o", self.path(name)]
             subprocess.run(command, check=True)
 
     def once(self, words, source, sink=os.devnull):
         """Runs a program; returns its processor time in seconds and its peak memory in KiB."""
+        used = self.path("used")
         with open(source or os.devnull, "rb") as into, open(sink, "wb") as out:
-            child = subprocess.Popen(words, stdin=into, stdout=out, stderr=subprocess.DEVNULL)
-            _, status, used = os.wait4(child.pid, 0)
-            child.returncode = os.waitstatus_to_exitcode(status)
-        if child.returncode not in (0, 11):
-            sys.exit(f"{' '.join(words)}: status {child.returncode}")
-        return used.ru_utime + used.ru_stime, used.ru_maxrss
+            status = subprocess.run([self.path("measure"), used, *words], stdin=into, stdout=out, stderr=subprocess.PIPE)
+        if status.returncode not in (0, 11):
+            sys.exit(f"{' '.join(words)}: status {status.returncode}: {status.stderr.decode()[-200:]}")
+        with open(used, encoding="ascii") as text:
+            micros, peak = text.read().split()
+        return int(micros) / 1e6, int(peak)
 
     def pair(self, ours, plain, source=None):
         """Returns the best time and the peak memory of each side, in alternate runs."""
