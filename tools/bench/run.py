@@ -120,7 +120,7 @@ def workloads(b):
     ]
     full = []
     for label, words, plain in rows:
-        other = [b.path(plain), *(words if plain == "turns" else words[1:])] if plain else None
+        other = [b.path(plain), *words[1:]] if plain else None
         full.append((label, [b.bench, *words], other, None))
     b.table("Workloads of `mono_bench`", "mono_bench WORKLOAD ..", full)
 
