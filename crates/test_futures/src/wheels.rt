@@ -18,12 +18,12 @@ fn polled<L: Ledger>(wheel: &mut Wheel, now: u64, blank: Blank) -> Option<usize>
     wheel.poll(now, &mut steps)
 }
 
-// Returns the key that fires up to a tick.
+/// Returns the key that fires up to a tick.
 pub fn comes_out(wheel: &mut Wheel, now: u64) -> Option<usize> {
     polled::<Brand>(wheel, now, Blank::new(1))
 }
 
-// Inserts a new key that is due at a tick.
+/// Inserts a new key that is due at a tick.
 pub fn put<R: Abort>(rt: &R, alloc: Global, wheel: &mut Wheel, tick: u64) -> usize {
     let key = wheel.reserve_entry(alloc).expect(rt, "memory");
     if tick < 1 << 63 {
@@ -77,7 +77,7 @@ fn put_late<R: Abort>(rt: &R, alloc: Global, wheel: &mut Wheel) -> Option<usize>
     Some(key)
 }
 
-// Returns whether a key can be reset to a tick.
+/// Returns whether a key can be reset to a tick.
 pub fn extends(wheel: &mut Wheel, key: usize, tick: u64) -> bool {
     wheel.is_in(key) && tick < 1 << 63 && wheel.extend(key, tick)
 }
