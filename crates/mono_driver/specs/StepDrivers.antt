@@ -6,16 +6,17 @@ use Rattle.mono_driver.specs.Drivers.{one_more}
 use Rattle.mono_driver.specs.declared.driver.DriverFault.{DriverFault}
 
 -- The state of a step driver: its time in nanoseconds, its calls of `submit`, `park` and `park_timeout`, and its
--- faults. The further fields are its parks, and the calls that fail, counted from 0.
+-- faults. The further fields are its parks, its submits, and the calls that fail, counted from 0.
 pub record Stepped : Type 0 where
   pub time : ℕ
   pub calls : ℕ
   pub faults : ℕ
   pub parks : ℕ
+  pub submits : ℕ
   pub failing : List ℕ
 
 abbrev pub start_with : List ℕ → Stepped
-start_with failing = record { time = 0; calls = 0; faults = 0; parks = 0; failing = failing }
+start_with failing = record { time = 0; calls = 0; faults = 0; parks = 0; submits = 0; failing = failing }
 
 -- Whether any call is listed.
 abbrev pub has_any : List ℕ → Bool
@@ -36,6 +37,10 @@ counted fails d = record d { calls = min (d.calls + 1) (2 ^ 128 - 1); faults = i
 
 abbrev pub called : Stepped → Stepped
 called d = counted (next_fails d) d
+
+-- after a submit
+abbrev pub handed_in : Stepped → Stepped
+handed_in d = record (called d) { submits = one_more d.submits }
 
 abbrev pub parked : Stepped → Stepped
 parked d = record (called d) { parks = one_more d.parks }

@@ -23,6 +23,9 @@ pub trait Clock {
     /// How often a driver was parked, at most 2^64 - 1.
     ghost parks: { Self → ℕ } = { λ _. 0 };
 
+    /// How often `submit` of a driver was called, at most 2^64 - 1.
+    ghost submits: { Self → ℕ } = { λ _. 0 };
+
     /// Whether a call of a driver may fail, from now on.
     ghost can_fail: { Self → Bool } = { λ _. true };
 
@@ -35,5 +38,6 @@ pub trait Clock {
         ensures time { time self.new ≡ time self.old }
         ensures faults { faults self.new ≡ faults self.old }
         ensures parks { parks self.new ≡ parks self.old }
+        ensures submits { submits self.new ≡ submits self.old }
         ensures can_fail { can_fail self.new ≡ can_fail self.old };
 }

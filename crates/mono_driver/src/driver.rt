@@ -15,10 +15,11 @@ pub struct DriverFault;
 
 /// A value on which a runtime waits.
 ///
-/// A driver's counts are the clock's members `faults`, `parks` and `can_fail`. A call answers Err if and only if the
-/// count of faults rose in it (`faults`), and that count never falls. If `can_fail` is false, each call answers Ok and
-/// changes neither the count of faults nor `can_fail` (`sure`). Each `park` and `park_timeout` raises the count of
-/// parks by one, at most to 2^64 - 1, and no other call changes it (`parks`).
+/// A driver's counts are the clock's members `faults`, `parks`, `submits` and `can_fail`. A call answers Err if and only
+/// if the count of faults rose in it (`faults`), and that count never falls. If `can_fail` is false, each call answers Ok
+/// and changes neither the count of faults nor `can_fail` (`sure`). Each `park` and `park_timeout` raises the count of
+/// parks by one, at most to 2^64 - 1, and no other call changes it (`parks`). Each `submit` raises the count of submits so,
+/// and no other call changes that (`submits`).
 ///
 /// A `park_timeout` that answers Ok moves an exposed time by its duration, at most to `MAX_NANOS`; no other call here
 /// moves it (`time`). None changes the readings to come (`readings`).
@@ -31,6 +32,7 @@ pub trait Driver: Clock + Drop {
         ensures faults { Faults result (Self.faults self.old) (Self.faults self.new) }
         ensures sure { IsSure (Self.can_fail self.old) result (Self.faults self.old) (Self.faults self.new) (Self.can_fail self.new) }
         ensures parks { Self.parks self.new ≡ Self.parks self.old }
+        ensures submits { Self.submits self.new ≡ one_more (Self.submits self.old) }
         ensures time { Self.time self.new ≡ Self.time self.old }
         ensures readings { Self.readings self.new ≡ Self.readings self.old };
 
@@ -39,6 +41,7 @@ pub trait Driver: Clock + Drop {
         ensures faults { Faults result (Self.faults self.old) (Self.faults self.new) }
         ensures sure { IsSure (Self.can_fail self.old) result (Self.faults self.old) (Self.faults self.new) (Self.can_fail self.new) }
         ensures parks { Self.parks self.new ≡ one_more (Self.parks self.old) }
+        ensures submits { Self.submits self.new ≡ Self.submits self.old }
         ensures time { Self.time self.new ≡ Self.time self.old }
         ensures readings { Self.readings self.new ≡ Self.readings self.old };
 
@@ -47,6 +50,7 @@ pub trait Driver: Clock + Drop {
         ensures faults { Faults result (Self.faults self.old) (Self.faults self.new) }
         ensures sure { IsSure (Self.can_fail self.old) result (Self.faults self.old) (Self.faults self.new) (Self.can_fail self.new) }
         ensures parks { Self.parks self.new ≡ one_more (Self.parks self.old) }
+        ensures submits { Self.submits self.new ≡ Self.submits self.old }
         ensures time { Self.time self.new ≡ moved (Self.time self.old) (as_nanos longest) result }
         ensures readings { Self.readings self.new ≡ Self.readings self.old };
 

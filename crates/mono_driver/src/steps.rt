@@ -3,7 +3,7 @@ ghost use Rattle.std.specs.Prelude.{◌≡◌, Some};
 ghost use Rattle.std.specs.Duration.{as_nanos};
 ghost use Rattle.mono_time.specs.Instants.{nanos_of};
 ghost use Rattle.mono_driver.specs.Drivers.{Faults, IsSure, one_more, moved};
-ghost use Rattle.mono_driver.specs.StepDrivers.{start_with, next_fails, FailsIf, called, parked, slept, has_any};
+ghost use Rattle.mono_driver.specs.StepDrivers.{start_with, next_fails, FailsIf, called, handed_in, parked, slept, has_any};
 
 use crate::clock::Clock;
 use crate::driver::{Driver, DriverFault};
@@ -24,6 +24,7 @@ pub struct StepDriver {
     calls: u128,
     faults: u64,
     parks: u64,
+    submits: u64,
     failing: Vec<u64>,
 }
 
@@ -33,7 +34,7 @@ impl Model for StepDriver {
 
     ghost Value = { Stepped };
 
-    ghost view = { λ a. record { time = nanos_of a.time; calls = a.calls; faults = a.faults; parks = a.parks; failing = a.failing.items } };
+    ghost view = { λ a. record { time = nanos_of a.time; calls = a.calls; faults = a.faults; parks = a.parks; submits = a.submits; failing = a.failing.items } };
 }
 
 impl StepDriver {
@@ -46,6 +47,7 @@ impl StepDriver {
             calls: 0,
             faults: 0,
             parks: 0,
+            submits: 0,
             failing,
         }
     }
@@ -82,6 +84,8 @@ impl Clock for StepDriver {
 
     ghost parks = { λ driver. driver.parks };
 
+    ghost submits = { λ driver. driver.submits };
+
     ghost can_fail = { λ driver. has_any driver.failing };
 
     fn now(&mut self) -> Instant
@@ -90,6 +94,7 @@ impl Clock for StepDriver {
         ensures time { Some self.new.time ≡ Some self.old.time }
         ensures faults { self.new.faults ≡ self.old.faults }
         ensures parks { self.new.parks ≡ self.old.parks }
+        ensures submits { self.new.submits ≡ self.old.submits }
         ensures can_fail { has_any self.new.failing ≡ has_any self.old.failing }
     {
         self.time
@@ -104,10 +109,12 @@ impl Driver for StepDriver {
         ensures faults { Faults result self.old.faults self.new.faults }
         ensures sure { IsSure (has_any self.old.failing) result self.old.faults self.new.faults (has_any self.new.failing) }
         ensures parks { self.new.parks ≡ self.old.parks }
+        ensures submits { self.new.submits ≡ one_more self.old.submits }
         ensures time { Some self.new.time ≡ Some self.old.time }
         ensures answer { FailsIf (next_fails self.old) result }
-        ensures called { self.new ≡ called self.old }
+        ensures called { self.new ≡ handed_in self.old }
     {
+        self.submits = self.submits.saturating_add(1);
         self.call()
     }
 
@@ -116,6 +123,7 @@ impl Driver for StepDriver {
         ensures faults { Faults result self.old.faults self.new.faults }
         ensures sure { IsSure (has_any self.old.failing) result self.old.faults self.new.faults (has_any self.new.failing) }
         ensures parks { self.new.parks ≡ one_more self.old.parks }
+        ensures submits { self.new.submits ≡ self.old.submits }
         ensures time { Some self.new.time ≡ Some self.old.time }
         ensures answer { FailsIf (next_fails self.old) result }
         ensures called { self.new ≡ parked self.old }
@@ -129,6 +137,7 @@ impl Driver for StepDriver {
         ensures faults { Faults result self.old.faults self.new.faults }
         ensures sure { IsSure (has_any self.old.failing) result self.old.faults self.new.faults (has_any self.new.failing) }
         ensures parks { self.new.parks ≡ one_more self.old.parks }
+        ensures submits { self.new.submits ≡ self.old.submits }
         ensures time { Some self.new.time ≡ moved (Some self.old.time) (as_nanos longest) result }
         ensures answer { FailsIf (next_fails self.old) result }
         ensures called { self.new ≡ slept self.old (as_nanos longest) }

@@ -19,18 +19,21 @@ pub struct ThreadDriver<C> {
     clock: C,
     parker: Parker,
     parks: u64,
+    submits: u64,
 }
 
 impl<C: Clock + Drop> ThreadDriver<C> {
-    /// Returns a driver over this clock that was never parked.
+    /// Returns a driver over this clock, without a park or a submit so far.
     pub fn new(alloc: Global, clock: C) -> Result<ThreadDriver<C>, AllocError>
         ensures clock { IfOk result (λ driver. driver.clock ≡ clock) }
         ensures parks { IfOk result (λ driver. driver.parks ≡ 0) }
+        ensures submits { IfOk result (λ driver. driver.submits ≡ 0) }
     {
         Ok(ThreadDriver {
             clock,
             parker: Parker::new(alloc)?,
             parks: 0,
+            submits: 0,
         })
     }
 }
@@ -41,6 +44,8 @@ impl<C: Clock + Drop> Clock for ThreadDriver<C> {
     ghost readings = { λ driver. C.readings driver.clock };
 
     ghost parks = { λ driver. driver.parks };
+
+    ghost submits = { λ driver. driver.submits };
 
     ghost can_fail = { λ _. false };
 
@@ -54,6 +59,7 @@ impl<C: Clock + Drop> Driver for ThreadDriver<C> {
 
     /// Returns at once.
     fn submit<R: Host>(&mut self, _rt: &R) -> Result<(), DriverFault> {
+        self.submits = self.submits.saturating_add(1);
         Ok(())
     }
 

@@ -39,6 +39,8 @@ impl<D: Driver> Clock for TimeDriver<D> {
 
     ghost parks = { λ marked. D.parks marked.driver };
 
+    ghost submits = { λ marked. D.submits marked.driver };
+
     ghost can_fail = { λ marked. D.can_fail marked.driver };
 
     fn now(&mut self) -> Instant {

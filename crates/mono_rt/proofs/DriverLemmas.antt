@@ -1,7 +1,7 @@
--- The readings and parks of a driver, piece by piece.
-use Rattle.std.proofs.Common.{◌≡◌, ◌*◌, ℕ, true, false, Bool, List, [], ◌∷◌, ◌++◌, Some, None, Option, Ok, Err, refl, ap, sym, subst, ◌∙◌, append_assoc, append-nil}
+-- The readings, parks and submits of a driver, piece by piece.
+use Rattle.std.proofs.Common.{◌≡◌, inl, ◌*◌, ℕ, true, false, Bool, List, [], ◌∷◌, ◌++◌, Some, None, Option, Ok, Err, refl, ap, sym, subst, ◌∙◌, append_assoc, append-nil}
 use Rattle.std.specs.Prelude.{⊤, Result, is_err}
-use Rattle.mono_driver.specs.Drivers.{moved}
+use Rattle.mono_driver.specs.Drivers.{moved, one_more, Faults, IsSure}
 use Rattle.mono_driver.specs.declared.driver.DriverFault.{DriverFault}
 use Rattle.mono_model.specs.Tasks.{Tasks}
 use Rattle.mono_machine.specs.declared.events.TurnStep.{TurnStep}
@@ -9,8 +9,9 @@ use Rattle.mono_machine.specs.declared.events.End.{End}
 use Rattle.mono_machine.specs.declared.events.Event.TheVariants as event
 use Rattle.mono_machine.specs.declared.events.Report.{Report}
 use Rattle.mono_rt.specs.SpawnErrors.{OnCapacity}
+use Rattle.mono_rt.proofs.FaultLemmas.{rises_by}
 use Rattle.mono_rt.specs.Drains.{remotes}
-use Rattle.mono_rt.specs.DriverReadings.{Told, telling, Course, going, IsRead, IsDrained, Tells, Telling, IsTold, Still, EndsBy, EndsSo, after_park, after_wait, parked_time}
+use Rattle.mono_rt.specs.DriverReadings.{Told, telling, Course, going, parked, failed, IsRead, IsHandedIn, IsSureIf, IsDrained, Tells, Telling, TellingSo, LeftBy, LeftSo, IsTold, Still, EndsBy, EndsSo, after_park, after_call, parked_time}
 use Rattle.mono_rt.specs.declared.parts.errors.RunError.{RunError}
 use Rattle.mono_rt.specs.declared.parts.errors.RunError.TheVariants as error
 use Rattle.mono_rt.specs.declared.parts.journals.Entry.{Entry}
@@ -110,16 +111,30 @@ capacity_ends P error.Driver x is at = absurd is
 capacity_ends P error.Turns x is at = absurd is
 
 -- a drain after a park
-pub drained_wait : (has_failed : Bool) → IsDrained (after_park has_failed) (after_wait has_failed)
-drained_wait true = refl
-drained_wait false = refl
+pub drained_wait : (has_failed : Bool) (a : Told) → IsDrained (after_park has_failed) a (after_call has_failed) a
+drained_wait true a = (refl, refl)
+drained_wait false a = (refl, refl)
+
+-- a drain changes no reading and no time
+pub drained_reads : (p q : Course) (a b : Told) → IsDrained p a q b → b.readings ≡ a.readings
+drained_reads going q a b (f, (is, at)) = is.readings
+drained_reads parked q a b (same, at) = ap (λ x. x.readings) same
+drained_reads failed q a b (same, at) = ap (λ x. x.readings) same
+
+pub drained_time : (p q : Course) (a b : Told) → IsDrained p a q b → b.time ≡ a.time
+drained_time going q a b (f, (is, at)) = is.time
+drained_time parked q a b (same, at) = ap (λ x. x.time) same
+drained_time failed q a b (same, at) = ap (λ x. x.time) same
+
+-- a call that is sure does not fail
+pub sure_by : (can_fail : Bool) (r : Result ⊤ DriverFault) (has_failed : Bool) (x y : ℕ) (tells : Bool) → has_failed ≡ is_err r → IsSure can_fail r x y tells → IsSureIf can_fail has_failed tells
+sure_by true r has_failed x y tells is sure = tt
+sure_by false (Ok z) has_failed x y tells is sure = (is, sure.2)
+sure_by false (Err e) has_failed x y tells is sure = absurd sure.0
 
 -- the same driver exposes the same
-pub same_told : {D : Type 0} (r : D → Option (List ℕ)) (t : D → Option ℕ) (p : D → ℕ) {x y : D} → x ≡ y → telling (r x) (t x) (p x) ≡ telling (r y) (t y) (p y)
-same_told r t p same = ap (λ d. telling (r d) (t d) (p d)) same
-
-pub same_telling : {q r : Option (List ℕ)} {s t : Option ℕ} {m n : ℕ} → q ≡ r → s ≡ t → m ≡ n → telling q s m ≡ telling r t n
-same_telling {q} {r} {s} {t} {m} {n} readings time parks = ap (λ x. telling x s m) readings ∙ ap (λ x. telling r x m) time ∙ ap (λ x. telling r t x) parks
+pub same_told : {D : Type 0} (r : D → Option (List ℕ)) (t : D → Option ℕ) (p s f : D → ℕ) (c : D → Bool) {x y : D} → x ≡ y → telling (r x) (t x) (p x) (s x) (f x) (c x) ≡ telling (r y) (t y) (p y) (s y) (f y) (c y)
+same_told r t p s f c same = ap (λ d. telling (r d) (t d) (p d) (s d) (f d) (c d)) same
 
 -- the clock was read so
 pub read_at : {a b : Told} (n m : ℕ) → n ≡ m → IsRead m a b → IsRead n a b
@@ -131,9 +146,52 @@ tells_kept {a} {b} {j} {k} steps e r same kept = record {
   tells = (Ran (event.Turn steps e) r ∷ [], (going, (kept, (refl, (b, (going, ((same, refl), (refl, refl))))))));
 }
 
+-- a submit, by the contract of the driver's call
+pub handed_in : (r : Result ⊤ DriverFault) (has_failed : Bool) (a b : Told) → has_failed ≡ is_err r → b.readings ≡ a.readings → b.time ≡ a.time → b.parks ≡ a.parks → b.submits ≡ one_more a.submits
+    → Faults r a.faults b.faults → IsSure a.can_fail r a.faults b.faults b.can_fail → IsHandedIn has_failed a b
+handed_in r has_failed a b is readings time parks submits faults sure = record {
+  readings = readings;
+  time = time;
+  parks = parks;
+  submits = submits;
+  faults = rises_by r has_failed a.faults b.faults is faults;
+  sure = sure_by a.can_fail r has_failed a.faults b.faults b.can_fail is sure;
+}
+
+-- a call with this answer
+pub so_by : {A : Type 0} {answer : Result A RunError} {a b : Told} {j k : Journal} → LeftSo answer b b → Telling (EndsSo answer) a going j k b → TellingSo answer a j k b
+so_by {A} {answer} {a} {b} {j} {k} left f = record { last = b; left = left; telling = f }
+
+pub so_after : {A : Type 0} {answer : Result A RunError} {a b c : Told} {i j k : Journal} → Telling (Still going) a going i j b → TellingSo answer b j k c → TellingSo answer a i k c
+so_after {A} {answer} {a} {b} {c} {i} {j} {k} f g = record { last = g.last; left = g.left; telling = telling_on f g.telling }
+
+pub so_past : {A : Type 0} {answer : Result A RunError} {a b : Told} {i j k : Journal} → TellingSo answer a i j b → ((t : Told) (q : Course) → Telling (Still q) t q j k t) → TellingSo answer a i k b
+so_past {A} {answer} {a} {b} {i} {j} {k} f g = record { last = f.last; left = f.left; telling = telling_past f.telling (g f.last) }
+
+pub so_at : {A : Type 0} {answer : Result A RunError} {a b c : Told} {j k : Journal} → b ≡ c → TellingSo answer a j k b → TellingSo answer a j k c
+so_at {A} {answer} {a} {b} {c} {j} {k} same f = subst (λ t. TellingSo answer a j k t) same f
+
+-- after an Ok no call has failed
+pub still_of : {A : Type 0} {x : A} {a b : Told} {j k : Journal} → TellingSo (Ok x) a j k b → Telling (Still going) a going j k b
+still_of {A} {x} {a} {b} {j} {k} f = subst (λ t. Telling (Still going) a going j k t) (sym f.left) f.telling
+
+-- without a submit after the last entry
+pub left_same : (e : RunError) (a : Told) → LeftBy e a a
+left_same error.Memory a = inl refl
+left_same error.AtCapacity a = refl
+left_same error.Driver a = refl
+left_same error.Turns a = refl
+
+-- the answer's value does not matter
+pub so_error : {A B : Type 0} {e : RunError} {a b : Told} {j k : Journal} → TellingSo {A} (Err e) a j k b → TellingSo {B} (Err e) a j k b
+so_error {A} {B} {e} {a} {b} {j} {k} f = record { last = f.last; left = f.left; telling = telling_more (λ x is. is) f.telling }
+
+pub so_value : {A B : Type 0} {x : A} {y : B} {a b : Told} {j k : Journal} → TellingSo (Ok x) a j k b → TellingSo (Ok y) a j k b
+so_value {A} {B} {x} {y} {a} {b} {j} {k} f = record { last = f.last; left = f.left; telling = telling_more (λ x is. is) f.telling }
+
 -- from an empty history, the entries that it has then
-pub told_in : {A : Type 0} {answer : Result A RunError} {a b : Told} {j k : Journal} (l : Journal) → j.history.entries ≡ [] → l ≡ k → Telling (EndsSo answer) a going j k b → IsTold answer a l.history.entries
+pub told_in : {A : Type 0} {answer : Result A RunError} {a b : Told} {j k : Journal} (l : Journal) → j.history.entries ≡ [] → l ≡ k → TellingSo answer a j k b → IsTold answer a l.history.entries
 told_in {A} {answer} {a} {b} {j} {k} l empty same f =
-    let first = f.tells in
+    let first = f.telling.tells in
     let part : first.0 ≡ l.history.entries = sym (ap (λ x. x.history.entries) same ∙ first.1.1.0 ∙ ap (λ xs. xs ++ first.0) empty) in
-    record { new = b; after = first.1.0; ends = first.1.1.1.0; tells = subst (λ xs. Tells a going xs b first.1.0) part first.1.1.1.1 }
+    record { new = f.last; after = first.1.0; ends = first.1.1.1.0; tells = subst (λ xs. Tells a going xs f.last first.1.0) part first.1.1.1.1 }

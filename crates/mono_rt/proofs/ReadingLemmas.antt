@@ -1,12 +1,14 @@
--- The journal's readings are those of the driver.
-use Rattle.std.proofs.Common.{◌≡◌, ◌≤◌, ◌+◌, ◌*◌, ℕ, true, false, List, [], ◌∷◌, Some, None, Option, refl, ap, sym, subst, ◌∙◌, arith}
-use Rattle.std.specs.Prelude.{min}
+-- The journal's readings and submits are those of the driver.
+use Rattle.std.proofs.Common.{◌≡◌, ◌≤◌, ◌+◌, ◌*◌, ℕ, Bool, true, false, List, [], ◌∷◌, Some, None, Option, refl, ap, sym, subst, ◌∙◌, arith}
+use Rattle.std.specs.Prelude.{min, ◌-◌, ◌^◌}
 use Rattle.mono_model.specs.Ticks.{max_nanos}
 use Rattle.mono_driver.specs.Drivers.{Reads, ReadsTime}
 use Rattle.mono_machine.specs.declared.events.Event.{Event}
 use Rattle.mono_machine.specs.declared.events.Event.TheVariants as event
-use Rattle.mono_rt.specs.Readings.{readings_in, AreFirst, time_after, AreSums}
-use Rattle.mono_rt.specs.DriverReadings.{Told, Course, going, parked, failed, IsMet, Tells, parked_time}
+use Rattle.mono_rt.specs.Faults.{RisesIf}
+use Rattle.mono_rt.specs.Readings.{readings_in, hand_ins_from, AreFirst, time_after, AreSums}
+use Rattle.mono_rt.specs.DriverReadings.{Told, Course, going, parked, failed, IsMet, IsDrained, IsSureIf, Tells, after_park, after_call, parked_time}
+use Rattle.mono_rt.proofs.DriverLemmas.{drained_reads, drained_time}
 use Rattle.mono_rt.specs.declared.parts.journals.Entry.{Entry}
 use Rattle.mono_rt.specs.declared.parts.journals.Entry.TheVariants.{Ran, Now, Park}
 
@@ -26,7 +28,7 @@ in_order a b p q readings (Park wait ∷ part) at (course, (mid, (f, (is, rest))
 in_order a b p q readings (Ran (event.Act act) r ∷ part) at (mid, (next, ((same, course), rest))) = in_order mid b next q readings part (ap (λ x. x.readings) same ∙ at) rest
 in_order a b p q readings (Ran (event.Turn steps end) r ∷ part) at (mid, (next, ((same, course), rest))) = in_order mid b next q readings part (ap (λ x. x.readings) same ∙ at) rest
 in_order a b p q readings (Ran (event.Remote t) r ∷ part) at (mid, (next, ((same, course), rest))) = in_order mid b next q readings part (ap (λ x. x.readings) same ∙ at) rest
-in_order a b p q readings (Ran event.Drain r ∷ part) at (mid, (next, ((same, course), rest))) = in_order mid b next q readings part (ap (λ x. x.readings) same ∙ at) rest
+in_order a b p q readings (Ran event.Drain r ∷ part) at (mid, (next, (drained, rest))) = in_order mid b next q readings part (drained_reads p next a mid drained ∙ at) rest
 in_order a b p q readings (Ran (event.Clock n) r ∷ part) at (mid, (next, ((read, course), rest))) =
     let first = first_read readings n mid.readings (subst (λ x. Reads x n mid.readings) at read.reads) in
     first.1.1 (readings_in part) (in_order mid b next q first.0 part first.1.0 rest)
@@ -66,7 +68,7 @@ are_sums a b p q start millis (Park (Some v) ∷ part) at end (course, (mid, (fa
 are_sums a b p q start millis (Ran (event.Act act) r ∷ part) at end (mid, (next, ((same, course), rest))) = (tt, are_sums mid b next q start millis part (ap (λ x. x.time) same ∙ at) end rest)
 are_sums a b p q start millis (Ran (event.Turn steps ending) r ∷ part) at end (mid, (next, ((same, course), rest))) = (tt, are_sums mid b next q start millis part (ap (λ x. x.time) same ∙ at) end rest)
 are_sums a b p q start millis (Ran (event.Remote t) r ∷ part) at end (mid, (next, ((same, course), rest))) = (tt, are_sums mid b next q start millis part (ap (λ x. x.time) same ∙ at) end rest)
-are_sums a b p q start millis (Ran event.Drain r ∷ part) at end (mid, (next, ((same, course), rest))) = (tt, are_sums mid b next q start millis part (ap (λ x. x.time) same ∙ at) end rest)
+are_sums a b p q start millis (Ran event.Drain r ∷ part) at end (mid, (next, (drained, rest))) = (tt, are_sums mid b next q start millis part (drained_time p next a mid drained ∙ at) end rest)
 are_sums a b p q start millis (Ran (event.Clock n) r ∷ part) at end (mid, (next, ((read, course), rest))) = (read_time a.time (time_after start millis) n at read.reads_time, are_sums mid b next q start millis part (read.time ∙ at) end rest)
 
 pub sums_from : (a b : Told) (p : Course) (start : ℕ) (part : List Entry) → start ≤ max_nanos → a.time ≡ Some start → Tells a p part b going → AreSums start 0 part
@@ -74,3 +76,96 @@ sums_from a b p start part below at tells = are_sums a b p going start 0 part (a
   where
     at_start : (start most : ℕ) → start ≤ most → start ≡ min (start + 0 * 1000000) most
     at_start start most below = omega (arith, below)
+
+-- the count of submits
+is_parked : Course → Bool
+is_parked going = false
+is_parked parked = true
+is_parked failed = false
+
+carried : (a mid b most : ℕ) (p next : Course) (part : List Entry) → mid ≡ a → next ≡ p → b ≡ min (mid + hand_ins_from (is_parked next) part) most → b ≡ min (a + hand_ins_from (is_parked p) part) most
+carried a mid b most p next part same course more = more ∙ ap (λ x. min (x + hand_ins_from (is_parked next) part) most) same ∙ ap (λ c. min (a + hand_ins_from (is_parked c) part) most) course
+
+one_handed : (a mid b h : ℕ) → mid ≡ min (a + 1) (2 ^ 64 - 1) → b ≡ min (mid + h) (2 ^ 64 - 1) → b ≡ min (a + (1 + h)) (2 ^ 64 - 1)
+one_handed a mid b h one more = omega (arith, one, more)
+
+none_handed : (a mid b h : ℕ) → mid ≡ a → b ≡ min (mid + h) (2 ^ 64 - 1) → b ≡ min (a + (0 + h)) (2 ^ 64 - 1)
+none_handed a mid b h same more = omega (arith, same, more)
+
+still_counted : (a b : ℕ) → a ≤ 2 ^ 64 - 1 → b ≡ a → b ≡ min (a + 0) (2 ^ 64 - 1)
+still_counted a b below is = omega (arith, below, is)
+
+below_by : (a b : ℕ) → b ≡ a → a ≤ 2 ^ 64 - 1 → b ≤ 2 ^ 64 - 1
+below_by a b same below = omega (arith, same, below)
+
+below_one : (a b : ℕ) → b ≡ min (a + 1) (2 ^ 64 - 1) → b ≤ 2 ^ 64 - 1
+below_one a b one = omega (arith, one)
+
+handed_so : (a b : Told) (p q : Course) (part : List Entry) → q ≡ going → a.submits ≤ 2 ^ 64 - 1 → Tells a p part b q → b.submits ≡ min (a.submits + hand_ins_from (is_parked p) part) (2 ^ 64 - 1)
+handed_so a b p q [] end below (same, is) = still_counted a.submits b.submits below (ap (λ x. x.submits) same)
+handed_so a b p q (Now n ∷ part) end below (at, (mid, (read, rest))) =
+    carried a.submits mid.submits b.submits _ p going part read.submits (sym at) (handed_so mid b going q part end (below_by a.submits mid.submits read.submits below) rest)
+handed_so a b p q (Park w ∷ part) end below (at, (mid, (true, (is, rest)))) = absurd (not_failed (sym (stays_failed mid b failed q part refl rest) ∙ end))
+handed_so a b p q (Park w ∷ part) end below (at, (mid, (false, (is, rest)))) =
+    handed_so mid b parked q part end (below_by a.submits mid.submits is.submits below) rest ∙ ap (λ x. min (x + hand_ins_from true part) (2 ^ 64 - 1)) is.submits
+handed_so a b p q (Ran (event.Act act) r ∷ part) end below (mid, (next, ((same, course), rest))) =
+    carried a.submits mid.submits b.submits _ p next part (ap (λ x. x.submits) same) course (handed_so mid b next q part end (below_by a.submits mid.submits (ap (λ x. x.submits) same) below) rest)
+handed_so a b p q (Ran (event.Turn steps e) r ∷ part) end below (mid, (next, ((same, course), rest))) =
+    carried a.submits mid.submits b.submits _ p next part (ap (λ x. x.submits) same) course (handed_so mid b next q part end (below_by a.submits mid.submits (ap (λ x. x.submits) same) below) rest)
+handed_so a b p q (Ran (event.Remote t) r ∷ part) end below (mid, (next, ((same, course), rest))) =
+    carried a.submits mid.submits b.submits _ p next part (ap (λ x. x.submits) same) course (handed_so mid b next q part end (below_by a.submits mid.submits (ap (λ x. x.submits) same) below) rest)
+handed_so a b p q (Ran (event.Clock n) r ∷ part) end below (mid, (next, ((read, course), rest))) =
+    carried a.submits mid.submits b.submits _ p next part read.submits course (handed_so mid b next q part end (below_by a.submits mid.submits read.submits below) rest)
+handed_so a b going q (Ran event.Drain r ∷ part) end below (mid, (next, ((true, (is, at)), rest))) = absurd (not_failed (sym (stays_failed mid b next q part at rest) ∙ end))
+handed_so a b going q (Ran event.Drain r ∷ part) end below (mid, (next, ((false, (is, at)), rest))) =
+    one_handed a.submits mid.submits b.submits (hand_ins_from false part) is.submits
+    (handed_so mid b going q part end (below_one a.submits mid.submits is.submits) (subst (λ c. Tells mid c part b q) at rest))
+handed_so a b parked q (Ran event.Drain r ∷ part) end below (mid, (next, ((same, at), rest))) =
+    none_handed a.submits mid.submits b.submits (hand_ins_from false part) (ap (λ x. x.submits) same)
+    (handed_so mid b going q part end (below_by a.submits mid.submits (ap (λ x. x.submits) same) below) (subst (λ c. Tells mid c part b q) at rest))
+handed_so a b failed q (Ran event.Drain r ∷ part) end below (mid, (next, ((same, at), rest))) = absurd (not_failed (sym (stays_failed mid b next q part at rest) ∙ end))
+
+pub handed_in_order : (a b : Told) (part : List Entry) → a.submits ≤ 2 ^ 64 - 1 → Tells a going part b going → b.submits ≡ min (a.submits + hand_ins_from false part) (2 ^ 64 - 1)
+handed_in_order a b part below tells = handed_so a b going going part refl below tells
+
+-- a driver that can't fail
+going_on : going ≡ failed → ⊥
+going_on e = cc
+
+after_parked : parked ≡ failed → ⊥
+after_parked e = cc
+
+never_fails : (a b : Told) (p q : Course) (part : List Entry) → a.can_fail ≡ false → (p ≡ failed → ⊥) → Tells a p part b q → (q ≡ failed → ⊥) × (b.faults ≡ a.faults)
+never_fails a b p q [] sure not (same, is) = (λ e. not (sym is ∙ e), ap (λ x. x.faults) same)
+never_fails a b p q (Now n ∷ part) sure not (at, (mid, (read, rest))) =
+    let more = never_fails mid b going q part (read.can_fail ∙ sure) going_on rest in
+    (more.0, more.1 ∙ read.faults)
+never_fails a b p q (Park w ∷ part) sure not (at, (mid, (f, (is, rest)))) =
+    let held : IsSureIf false f mid.can_fail = subst (λ x. IsSureIf x f mid.can_fail) sure is.sure in
+    let same : RisesIf false a.faults mid.faults = subst (λ x. RisesIf x a.faults mid.faults) held.0 is.faults in
+    let more = never_fails mid b (after_park f) q part held.1 (λ e. after_parked (ap after_park (sym held.0) ∙ e)) rest in
+    (more.0, more.1 ∙ same)
+never_fails a b p q (Ran (event.Act act) r ∷ part) sure not (mid, (next, ((same, course), rest))) =
+    let more = never_fails mid b next q part (ap (λ x. x.can_fail) same ∙ sure) (λ e. not (sym course ∙ e)) rest in
+    (more.0, more.1 ∙ ap (λ x. x.faults) same)
+never_fails a b p q (Ran (event.Turn steps e) r ∷ part) sure not (mid, (next, ((same, course), rest))) =
+    let more = never_fails mid b next q part (ap (λ x. x.can_fail) same ∙ sure) (λ e. not (sym course ∙ e)) rest in
+    (more.0, more.1 ∙ ap (λ x. x.faults) same)
+never_fails a b p q (Ran (event.Remote t) r ∷ part) sure not (mid, (next, ((same, course), rest))) =
+    let more = never_fails mid b next q part (ap (λ x. x.can_fail) same ∙ sure) (λ e. not (sym course ∙ e)) rest in
+    (more.0, more.1 ∙ ap (λ x. x.faults) same)
+never_fails a b p q (Ran (event.Clock n) r ∷ part) sure not (mid, (next, ((read, course), rest))) =
+    let more = never_fails mid b next q part (read.can_fail ∙ sure) (λ e. not (sym course ∙ e)) rest in
+    (more.0, more.1 ∙ read.faults)
+never_fails a b going q (Ran event.Drain r ∷ part) sure not (mid, (next, ((f, (is, at)), rest))) =
+    let held : IsSureIf false f mid.can_fail = subst (λ x. IsSureIf x f mid.can_fail) sure is.sure in
+    let same : RisesIf false a.faults mid.faults = subst (λ x. RisesIf x a.faults mid.faults) held.0 is.faults in
+    let more = never_fails mid b next q part held.1 (λ e. going_on (ap after_call (sym held.0) ∙ sym at ∙ e)) rest in
+    (more.0, more.1 ∙ same)
+never_fails a b parked q (Ran event.Drain r ∷ part) sure not (mid, (next, ((same, at), rest))) =
+    let more = never_fails mid b next q part (ap (λ x. x.can_fail) same ∙ sure) (λ e. going_on (sym at ∙ e)) rest in
+    (more.0, more.1 ∙ ap (λ x. x.faults) same)
+never_fails a b failed q (Ran event.Drain r ∷ part) sure not (mid, (next, ((same, at), rest))) = absurd (not refl)
+
+pub sure_goes : (a b : Told) (q : Course) (part : List Entry) → a.can_fail ≡ false → Tells a going part b q → (q ≡ failed → ⊥) × (b.faults ≡ a.faults)
+sure_goes a b q part sure tells = never_fails a b going q part sure going_on tells

@@ -17,7 +17,7 @@ use Rattle.mono_task.specs.Schedule as schedule
 use Rattle.mono_machine.specs.Machine.{Machine, with_tasks}
 use Rattle.mono_rt.specs.Numbering.{numbered}
 use Rattle.mono_rt.specs.Drains.{remotes, listed, drain_of}
-use Rattle.mono_rt.specs.Rounds.{Drained, OneTurn, Turns, Round, most_turns, most_turns_of, IsPark, IsClock, Parks, Pauses, Pause, Pass, PassEnds, Rounds, Breaks, Ends, PauseEnds, is_main_done, cost, IsSpawn, IsRefused, DropsFor, output_in, RunsMain, Blocked}
+use Rattle.mono_rt.specs.Rounds.{Drained, OneTurn, Turns, UpToOneTurn, Round, RoundBreaks, ParkedDrained, ParkBreaks, PausesBreak, PauseBreaks, PassBreaks, LaterBreaks, most_turns, most_turns_of, IsPark, IsClock, Parks, Pauses, Pause, Pass, PassEnds, Rounds, Breaks, Ends, PauseEnds, is_main_done, cost, IsSpawn, IsRefused, DropsFor, output_in, RunsMain, Blocked}
 use Rattle.std.specs.Prelude.{⊤, Result, Ok, Err}
 use Rattle.std.specs.Option.{option_map}
 use Rattle.std.proofs.Common.{Option, Some, None}
@@ -34,13 +34,13 @@ use Rattle.mono_rt.proofs.CallLemmas.{other_tasks}
 use Rattle.mono_rt.proofs.DrainLemmas.{remotes_numbered, listed_numbered, drained_is, drained_follow}
 use Rattle.mono_blocking.specs.JobSpawns.{Seen}
 use Rattle.mono_rt.specs.Refinement.{hosting_of, Matches}
-use Rattle.mono_rt.specs.Journals.{Did, Does, Led, Stays, IsStep, IsReading}
+use Rattle.mono_rt.specs.Journals.{Did, Does, Stays, IsStep, IsReading}
 use Rattle.mono_rt.specs.declared.parts.state.Parts.{Parts}
 use Rattle.mono_rt.specs.declared.parts.journals.Entry.{Entry}
 use Rattle.mono_rt.specs.declared.parts.journals.Journal.{Journal}
 use Rattle.mono_time.specs.Timers.{registered_of}
 use Rattle.mono_rt.proofs.RegistrationLemmas.{registers_on, drained_registers}
-use Rattle.mono_rt.proofs.JournalLemmas.{follows_on, goes_on, goes_of, does_led, does_stay}
+use Rattle.mono_rt.proofs.JournalLemmas.{follows_on, does_stay}
 
 abbrev pub Relation : Type 1
 Relation = Machine → List Entry → Machine → List Entry → Type 0
@@ -55,6 +55,10 @@ no_queue (x ∷ xs) n is none = absurd (omega (arith, is, none))
 pub some_queue : (queue : List ℕ) (h : Bool) (m new : Machine) (part rest : List Entry) → 0 < length queue → Drained m part new rest → Pauses h queue m part new rest
 some_queue [] h m new part rest some is = absurd (omega (arith, some))
 some_queue (x ∷ xs) h m new part rest some is = is
+
+pub some_breaks : (queue : List ℕ) (h : Bool) (m new : Machine) (part rest : List Entry) → 0 < length queue → Stays m part new rest → PausesBreak h queue m part new rest
+some_breaks [] h m new part rest some is = absurd (omega (arith, some))
+some_breaks (x ∷ xs) h m new part rest some is = is
 
 -- two entries that are no events
 pub two_pushed : (i j k : Journal) (one two : Entry) → j.history.entries ≡ i.history.entries ++ one ∷ [] → k.history.entries ≡ j.history.entries ++ two ∷ [] → k.history.entries ≡ i.history.entries ++ one ∷ two ∷ []
@@ -122,6 +126,9 @@ module _ {O P : Type 0} (number : O → ℕ) where
   pub stay_on : (T : Relation) (a b c : Parts O (Seen P)) (i j k : Journal) → Does number Stays a b i j → Does number T b c j k → Does number T a c i k
   stay_on T a b c i j k p q = does_on Stays T T a b c i j k (λ m mid new xs ys zs stm std stn is t. subst (λ x. T x xs new zs) is.1 (subst (λ w. T mid w new zs) (sym is.0) t)) p q
 
+  pub on_stay : (T : Relation) (a b c : Parts O (Seen P)) (i j k : Journal) → Does number T a b i j → Does number Stays b c j k → Does number T a c i k
+  on_stay T a b c i j k p q = does_on T Stays T a b c i j k (λ m mid new xs ys zs stm std stn t is. subst (λ x. T m xs x zs) (sym is.1) (subst (λ w. T m xs mid w) is.0 t)) p q
+
   -- the waiting tasks are drained
   pub does_drain : (c d : Parts O (Seen P)) (j k l : Journal) (ts woken : List ℕ) → AllPairs (λ s t. s ≢ t) ts
       → k.history.entries ≡ j.history.entries ++ remotes c.tasks.tasks ts → woken ≡ listed c.tasks.tasks ts
@@ -185,6 +192,34 @@ module _ {O P : Type 0} (number : O → ℕ) where
       })
       p
 
+  -- the turns of a round, and then memory ran out
+  pub round_breaks : (n units : ℕ) (a b c : Parts O (Seen P)) (i j k : Journal) → n < min units (2 * length a.tasks.tasks.queue + 1) → Does number (Turns n) a b i j → Does number UpToOneTurn b c j k → Does number (RoundBreaks units) a c i k
+  round_breaks n units a b c i j k below p q = does_on (Turns n) UpToOneTurn (RoundBreaks units) a b c i j k
+      (λ m mid new xs ys zs stm std stn turns more.
+      let within : n < most_turns units m = subst (λ x. n < x) (ap (λ x. most_turns_of units x.queue) stm.tasks) below in
+      elim more [
+        inl stays ↦ (n, (subst (λ x. Turns n m xs x zs) (sym stays.1) (subst (λ w. Turns n m xs mid w) stays.0 turns), omega (arith, within)))
+        | inr one ↦ (suc n, ((mid, (ys, (turns, one))), omega (arith, within)))
+      ])
+      p q
+
+  -- memory ran out between two rounds
+  pub park_refused : (h : Bool) (c d : Parts O (Seen P)) (j k : Journal) → Does number Stays c d j k → Does number (ParkBreaks h) c d j k
+  park_refused h c d j k p = does_more Stays (ParkBreaks h) c d j k (λ m new xs zs stm stn is. inl is) p
+
+  pub drain_refused : (h : Bool) (a b c : Parts O (Seen P)) (i j k : Journal) → Does number (IsPark h) a b i j → Does number Stays b c j k → Does number (ParkBreaks h) a c i k
+  drain_refused h a b c i j k p q = does_more (IsPark h) (ParkBreaks h) a c i k (λ m new xs zs stm stn is. inr (inl is)) (on_stay (IsPark h) a b c i j k p q)
+
+  pub clock_refused : (h : Bool) (a b c d : Parts O (Seen P)) (i j k l : Journal) → h ≡ true → Does number (IsPark h) a b i j → Does number Drained b c j k → Does number Stays c d k l → Does number (ParkBreaks h) a d i l
+  clock_refused h a b c d i j k l timers p q s = does_more (ParkedDrained h) (ParkBreaks h) a d i l (λ m new xs zs stm stn is. inr (inr is))
+      (does_on (IsPark h) Drained (ParkedDrained h) a b d i j l (λ m mid new xs ys zs stm std stn park drains. record { parked = mid; left = ys; parks = park; drains = drains; timers = timers }) p (on_stay Drained b c d j k l q s))
+
+  pub pause_refused : (h : Bool) (c d : Parts O (Seen P)) (j k : Journal) → 0 < length c.tasks.tasks.queue → Does number Stays c d j k → Does number (PauseBreaks h) c d j k
+  pause_refused h c d j k some p = does_more Stays (PauseBreaks h) c d j k (λ m new xs zs stm stn is. subst (λ q. PausesBreak h q m xs new zs) (ap (λ x. x.queue) stm.tasks) (some_breaks c.tasks.tasks.queue h m new xs zs some is)) p
+
+  pub pause_waited : (h : Bool) (c d : Parts O (Seen P)) (j k : Journal) → c.tasks.tasks.queue ≡ [] → Does number (ParkBreaks h) c d j k → Does number (PauseBreaks h) c d j k
+  pause_waited h c d j k none p = does_more (ParkBreaks h) (PauseBreaks h) c d j k (λ m new xs zs stm stn is. subst (λ q. PausesBreak h q m xs new zs) (sym none ∙ ap (λ x. x.queue) stm.tasks) is) p
+
   -- parks, and between two rounds
   pub does_parks : (a b c : Parts O (Seen P)) (i j k : Journal) → Does number (IsPark false) a b i j → Does number Drained b c j k → Does number (Parks false) a c i k
   does_parks a b c i j k p q = does_on (IsPark false) Drained (Parks false) a b c i j k
@@ -215,6 +250,16 @@ module _ {O P : Type 0} (number : O → ℕ) where
         pause = pause;
         round = subst (λ x. Round x left mid ys new zs) (is ∙ ap (λ x. units - cost x b.tasks.tasks.queue) (ap (λ x. x.queue) stm.tasks) ∙ ap (λ x. units - cost m.tasks.queue x) (ap (λ x. x.queue) std.tasks)) round;
       })
+      p q
+
+  pub pass_broken : (h : Bool) (units u : ℕ) (a b c : Parts O (Seen P)) (i j k : Journal) → u ≡ units - cost a.tasks.tasks.queue b.tasks.tasks.queue → Does number (Pause h) a b i j → Does number (RoundBreaks u) b c j k → Does number (PassEnds h units (Err error.Memory)) a c i k
+  pass_broken h units u a b c i j k is p q = does_on (Pause h) (RoundBreaks u) (PassEnds h units (Err error.Memory)) a b c i j k
+      (λ m mid new xs ys zs stm std stn pause round. inr (record {
+        paused = mid;
+        behind = ys;
+        pause = pause;
+        round = subst (λ x. RoundBreaks x mid ys new zs) (is ∙ ap (λ x. units - cost x b.tasks.tasks.queue) (ap (λ x. x.queue) stm.tasks) ∙ ap (λ x. units - cost m.tasks.queue x) (ap (λ x. x.queue) std.tasks)) round;
+      }))
       p q
 
   -- whether the main task has its output
@@ -248,9 +293,22 @@ module _ {O P : Type 0} (number : O → ℕ) where
   ends_turns h main turns left c d j k none unfinished p = does_more (Rounds h main turns left) (Ends {A = ⊤} h main turns (Err error.Turns)) c d j k
       (λ m new xs zs stm stn rounds. (subst (λ x. Rounds h main turns x m xs new zs) none rounds, sym (main_done d new main stn) ∙ unfinished)) p
 
+  pub ends_first : (h : Bool) (main turns : ℕ) (c d : Parts O (Seen P)) (j k : Journal) → Does number (RoundBreaks turns) c d j k → Does number (Ends {A = ⊤} h main turns (Err error.Memory)) c d j k
+  ends_first h main turns c d j k p = does_more (RoundBreaks turns) (Ends {A = ⊤} h main turns (Err error.Memory)) c d j k (λ m new xs zs stm stn is. inl is) p
+
   pub ends_by : (e : RunError) (h g : Bool) (main turns units : ℕ) (a b c : Parts O (Seen P)) (i j k : Journal) → g ≡ h → has_output (value_at b.tasks.tasks.table main) ≡ false → 0 < units
       → Does number (Rounds h main turns units) a b i j → Does number (PassEnds g units (Err e)) b c j k → Does number (Ends {A = ⊤} h main turns (Err e)) a c i k
-  ends_by error.Memory h g main turns units a b c i j k same unfinished some p q = does_led number a c i k (goes_on number a b c i j k (goes_of number (Rounds h main turns units) a b i j p) (goes_of number Led b c j k q))
+  ends_by error.Memory h g main turns units a b c i j k same unfinished some p q = does_on (Rounds h main turns units) (PassEnds g units (Err error.Memory)) (Ends {A = ⊤} h main turns (Err error.Memory)) a b c i j k
+      (λ m mid new xs ys zs stm std stn rounds pass. inr (record {
+        mid = mid;
+        more = ys;
+        left = units;
+        rounds = rounds;
+        unfinished = sym (main_done b mid main std) ∙ unfinished;
+        some_left = some;
+        pass = subst (λ x. PassEnds x units (Err error.Memory) mid ys new zs) same pass;
+      }))
+      p q
   ends_by error.AtCapacity h g main turns units a b c i j k same unfinished some p q = does_on (Rounds h main turns units) (PassEnds g units (Err error.AtCapacity)) (Ends {A = ⊤} h main turns (Err error.AtCapacity)) a b c i j k (λ m mid new xs ys zs stm std stn rounds none. none) p q
   ends_by error.Turns h g main turns units a b c i j k same unfinished some p q = does_on (Rounds h main turns units) (PassEnds g units (Err error.Turns)) (Ends {A = ⊤} h main turns (Err error.Turns)) a b c i j k (λ m mid new xs ys zs stm std stn rounds none. absurd none) p q
   ends_by error.Driver h g main turns units a b c i j k same unfinished some p q = does_on (Rounds h main turns units) (Pause g) (Breaks h main turns) a b c i j k
@@ -266,7 +324,7 @@ module _ {O P : Type 0} (number : O → ℕ) where
       p q
 
   pub pass_breaks : (e : RunError) (h : Bool) (units : ℕ) (c d : Parts O (Seen P)) (j k : Journal) → Does number (PauseEnds h (Err e)) c d j k → Does number (PassEnds h units (Err e)) c d j k
-  pass_breaks error.Memory h units c d j k p = p
+  pass_breaks error.Memory h units c d j k p = does_more (PauseBreaks h) (PassEnds h units (Err error.Memory)) c d j k (λ m new xs zs stm stn is. inl is) p
   pass_breaks error.Driver h units c d j k p = p
   pass_breaks error.Turns h units c d j k p = does_more (PauseEnds h (Err error.Turns)) (PassEnds h units (Err error.Turns)) c d j k (λ m new xs zs stm stn is. absurd is) p
   pass_breaks error.AtCapacity h units c d j k p = does_more (PauseEnds h (Err error.AtCapacity)) (PassEnds h units (Err error.AtCapacity)) c d j k (λ m new xs zs stm stn is. absurd is) p

@@ -9,7 +9,7 @@ use Rattle.mono_rt.specs.Journals.{Does}
 use Rattle.mono_rt.specs.Numbering.{answer_numbered}
 use Rattle.mono_rt.specs.Rounds.{Blocked}
 use Rattle.mono_rt.specs.Refinement.{hosting_of, Matches}
-use Rattle.mono_rt.specs.DriverReadings.{Told, going, EndsSo, Telling}
+use Rattle.mono_rt.specs.DriverReadings.{Told, going, TellingSo}
 use Rattle.mono_rt.specs.declared.parts.errors.RunError.{RunError}
 use Rattle.mono_rt.specs.declared.parts.errors.RunError.TheVariants as error
 use Rattle.mono_rt.specs.declared.parts.journals.Journal.{Journal}
@@ -33,7 +33,7 @@ none_made number h turns m t = record {
 
 module _ {O P : Type 0} (number : O → ℕ) where
   pub runs_from : (g h : Bool) (turns : ℕ) (answer : Result O RunError) (m n : Machine) (s t u : Told) (c d : Parts O (Seen P)) (j k : Journal) → g ≡ h → m ≡ n → s ≡ t → Matches number hosting_of c m → j.history.entries ≡ []
-      → Does number (Blocked g turns (answer_numbered number answer)) c d j k → Telling (EndsSo answer) s going j k u → RunsFrom number h turns answer n t
+      → Does number (Blocked g turns (answer_numbered number answer)) c d j k → TellingSo answer s j k u → RunsFrom number h turns answer n t
   runs_from g h turns answer m n s t u c d j k timers machine told st empty does tells =
       let b = relation_of number (Blocked g turns (answer_numbered number answer)) c d j k k m st empty refl does in
       let left : RunsFrom number g turns answer m s = record { part = k.history.entries; new = b.0; blocked = b.1; told = told_in k empty refl tells } in

@@ -2,6 +2,7 @@
 use Rattle.std.specs.Prelude.{⊤, ◌≡◌, ◌⊎◌, ℕ, ◌+◌, ◌*◌, min, Bool, true, false, List, [], ◌∷◌, ◌++◌, Option, Some, None, Result, Ok, Err}
 use Rattle.mono_model.specs.Ticks.{max_nanos}
 use Rattle.mono_driver.specs.Drivers.{Reads, ReadsTime, one_more}
+use Rattle.mono_rt.specs.Faults.{RisesIf}
 use Rattle.mono_machine.specs.declared.events.Event.{Event}
 use Rattle.mono_machine.specs.declared.events.Event.TheVariants as event
 use Rattle.mono_rt.specs.declared.parts.errors.RunError.{RunError}
@@ -10,15 +11,18 @@ use Rattle.mono_rt.specs.declared.parts.journals.Entry.{Entry}
 use Rattle.mono_rt.specs.declared.parts.journals.Entry.TheVariants.{Ran, Now, Park}
 use Rattle.mono_rt.specs.declared.parts.journals.Journal.{Journal}
 
--- What a driver exposes: its readings to come, in nanoseconds, its time, and how often it was parked. The first two are
--- optional.
+-- What a driver exposes: its readings to come, in nanoseconds, its time, and its counts of parks, submits and faults. The
+-- first two are optional. The last field is whether a call may fail.
 pub record Told : Type 0 where
   pub readings : Option (List ℕ)
   pub time : Option ℕ
   pub parks : ℕ
+  pub submits : ℕ
+  pub faults : ℕ
+  pub can_fail : Bool
 
-abbrev pub telling : Option (List ℕ) → Option ℕ → ℕ → Told
-telling readings time parks = record { readings = readings; time = time; parks = parks }
+abbrev pub telling : Option (List ℕ) → Option ℕ → ℕ → ℕ → ℕ → Bool → Told
+telling readings time parks submits faults can_fail = record { readings = readings; time = time; parks = parks; submits = submits; faults = faults; can_fail = can_fail }
 
 -- The state of the calls to the driver. None failed; or it was parked, and the inbox is to be drained; or its last call
 -- failed, after which it is neither parked nor read for a turn.
@@ -34,6 +38,14 @@ pub record IsRead (n : ℕ) (old new : Told) : Type 0 where
   pub reads_time : ReadsTime old.time n
   pub time : new.time ≡ old.time
   pub parks : new.parks ≡ old.parks
+  pub submits : new.submits ≡ old.submits
+  pub faults : new.faults ≡ old.faults
+  pub can_fail : new.can_fail ≡ old.can_fail
+
+-- a call of a driver that cannot fail does not fail, and the driver still cannot
+abbrev pub IsSureIf : Bool → Bool → Bool → Type 0
+IsSureIf true has_failed tells = ⊤
+IsSureIf false has_failed tells = (has_failed ≡ false) × (tells ≡ false)
 
 -- the time after a park for at most this number of milliseconds; a failed park leaves it, and so does a park without an
 -- end
@@ -48,16 +60,33 @@ pub record IsParked (wait : Option ℕ) (has_failed : Bool) (old new : Told) : T
   pub readings : new.readings ≡ old.readings
   pub time : new.time ≡ parked_time has_failed wait old.time
   pub parks : new.parks ≡ one_more old.parks
+  pub submits : new.submits ≡ old.submits
+  pub faults : RisesIf has_failed old.faults new.faults
+  pub sure : IsSureIf old.can_fail has_failed new.can_fail
+
+-- one submit, which fails or not
+pub record IsHandedIn (has_failed : Bool) (old new : Told) : Type 0 where
+  pub readings : new.readings ≡ old.readings
+  pub time : new.time ≡ old.time
+  pub parks : new.parks ≡ old.parks
+  pub submits : new.submits ≡ one_more old.submits
+  pub faults : RisesIf has_failed old.faults new.faults
+  pub sure : IsSureIf old.can_fail has_failed new.can_fail
 
 abbrev pub after_park : Bool → Course
 after_park true = failed
 after_park false = parked
 
--- After a park the inbox is drained. Otherwise a hand-in before the drain may have failed.
-abbrev pub IsDrained : Course → Course → Type 0
-IsDrained going next = (next ≡ going) ⊎ (next ≡ failed)
-IsDrained parked next = next ≡ going
-IsDrained failed next = next ≡ failed
+-- the course after a submit, and after a wait
+abbrev pub after_call : Bool → Course
+after_call true = failed
+after_call false = going
+
+-- A drain that follows no park has one submit before it. A drain after a park is no call of the driver.
+abbrev pub IsDrained : Course → Told → Course → Told → Type 0
+IsDrained going old next new = (has_failed : Bool) × (IsHandedIn has_failed old new × (next ≡ after_call has_failed))
+IsDrained parked old next new = (new ≡ old) × (next ≡ going)
+IsDrained failed old next new = (new ≡ old) × (next ≡ failed)
 
 -- the effect of an event on the driver: a clock step reads it
 abbrev pub IsMet : Event → Told → Course → Told → Course → Type 0
@@ -65,7 +94,7 @@ IsMet (event.Act act) old before new after = (new ≡ old) × (after ≡ before)
 IsMet (event.Turn steps end) old before new after = (new ≡ old) × (after ≡ before)
 IsMet (event.Clock n) old before new after = IsRead n old new × (after ≡ before)
 IsMet (event.Remote t) old before new after = (new ≡ old) × (after ≡ before)
-IsMet event.Drain old before new after = (new ≡ old) × IsDrained before after
+IsMet event.Drain old before new after = IsDrained before old after new
 
 -- These entries lead from the driver's readings, time and course to those after them.
 abbrev pub Tells : Told → Course → List Entry → Told → Course → Type 0
@@ -87,6 +116,17 @@ abbrev pub EndsSo : {A : Type 0} → Result A RunError → Course → Type 0
 EndsSo (Ok x) course = course ≡ going
 EndsSo (Err e) course = EndsBy e course
 
+-- The driver after the last entry. If memory ran out, there may be one submit more, whose drain did not come.
+abbrev pub LeftBy : RunError → Told → Told → Type 0
+LeftBy error.Turns last new = new ≡ last
+LeftBy error.AtCapacity last new = new ≡ last
+LeftBy error.Driver last new = new ≡ last
+LeftBy error.Memory last new = (new ≡ last) ⊎ ((has_failed : Bool) × IsHandedIn has_failed last new)
+
+abbrev pub LeftSo : {A : Type 0} → Result A RunError → Told → Told → Type 0
+LeftSo (Ok x) last new = new ≡ last
+LeftSo (Err e) last new = LeftBy e last new
+
 -- the course stays
 abbrev pub Still : Course → Course → Type 0
 Still before after = after ≡ before
@@ -97,24 +137,26 @@ EndsParked (Ok has_failed) course = course ≡ after_park has_failed
 EndsParked (Err e) course = course ≡ going
 
 -- the course after a park, a drain and, with timers, a clock step, by whether the park failed
-abbrev pub after_wait : Bool → Course
-after_wait true = failed
-after_wait false = going
-
 abbrev pub EndsWaited : Result Bool RunError → Course → Type 0
-EndsWaited (Ok has_failed) course = course ≡ after_wait has_failed
+EndsWaited (Ok has_failed) course = course ≡ after_call has_failed
 EndsWaited (Err e) course = ⊤
 
 -- the course after a drain; if memory ran out, nothing was drained
-abbrev pub EndsDrained : {A : Type 0} → Result A RunError → Course → Course → Type 0
-EndsDrained (Ok x) before after = IsDrained before after
-EndsDrained (Err e) before after = after ≡ before
+abbrev pub EndsDrained : {A : Type 0} → Result A RunError → Course → Told → Course → Told → Type 0
+EndsDrained (Ok x) before old after new = IsDrained before old after new
+EndsDrained (Err e) before old after new = (new ≡ old) × (after ≡ before)
 
 -- The readings and parks by which the history grew are the driver's, and its course is then this.
 pub record Telling (Ends : Course → Type 0) (old : Told) (before : Course) (j k : Journal) (new : Told) : Type 0 where
   pub tells : (part : List Entry) × ((after : Course) × ((k.history.entries ≡ j.history.entries ++ part) × (Ends after × Tells old before part new after)))
 
--- The readings and parks of a whole history are the driver's, in a call with this answer.
+-- The same of a call with this answer.
+pub record TellingSo {A : Type 0} (answer : Result A RunError) (old : Told) (j k : Journal) (new : Told) : Type 0 where
+  pub last : Told
+  pub left : LeftSo answer last new
+  pub telling : Telling (EndsSo answer) old going j k last
+
+-- The readings, parks and submits of a whole history are the driver's, in a call with this answer.
 pub record IsTold {A : Type 0} (answer : Result A RunError) (old : Told) (part : List Entry) : Type 0 where
   pub new : Told
   pub after : Course

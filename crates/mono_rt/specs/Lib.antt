@@ -20,3 +20,4 @@ pub mod ErrorTexts
 pub mod JobActs
 pub mod CallActs
 pub mod Faults
+pub mod Budgets

@@ -1,5 +1,5 @@
--- The readings of a journal: those of a list, in order, or the sums of the parks.
-use Rattle.std.specs.Prelude.{⊤, ◌≡◌, ℕ, ◌+◌, ◌*◌, min, List, [], ◌∷◌, ◌++◌, Some, None}
+-- The readings of a journal: those of a list, in order, or the sums of the parks. And the number of its submits.
+use Rattle.std.specs.Prelude.{⊤, ◌≡◌, ℕ, ◌+◌, ◌*◌, min, Bool, true, false, if◌then◌else◌, List, [], ◌∷◌, ◌++◌, Some, None}
 use Rattle.mono_model.specs.Ticks.{max_nanos}
 use Rattle.mono_machine.specs.declared.events.Event.{Event}
 use Rattle.mono_machine.specs.declared.events.Event.TheVariants as event
@@ -19,6 +19,20 @@ readings_in [] = []
 readings_in (Ran e r ∷ part) = reading_in e ++ readings_in part
 readings_in (Now n ∷ part) = n ∷ readings_in part
 readings_in (Park wait ∷ part) = readings_in part
+
+-- the number of submits: one before each drain that follows no park
+abbrev pub hand_ins_from : Bool → List Entry → ℕ
+hand_ins_from is_parked [] = 0
+hand_ins_from is_parked (Ran (event.Act a) r ∷ part) = hand_ins_from is_parked part
+hand_ins_from is_parked (Ran (event.Turn steps e) r ∷ part) = hand_ins_from is_parked part
+hand_ins_from is_parked (Ran (event.Clock n) r ∷ part) = hand_ins_from is_parked part
+hand_ins_from is_parked (Ran (event.Remote t) r ∷ part) = hand_ins_from is_parked part
+hand_ins_from is_parked (Ran event.Drain r ∷ part) = (if is_parked then 0 else 1) + hand_ins_from false part
+hand_ins_from is_parked (Now n ∷ part) = hand_ins_from is_parked part
+hand_ins_from is_parked (Park wait ∷ part) = hand_ins_from true part
+
+abbrev pub hand_ins_in : List Entry → ℕ
+hand_ins_in part = hand_ins_from false part
 
 -- these values are, in order, the first of those readings, the last one repeated
 abbrev pub AreFirst : List ℕ → List ℕ → Type 0

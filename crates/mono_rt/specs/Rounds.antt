@@ -16,7 +16,7 @@ use Rattle.mono_machine.specs.declared.events.Reply.TheVariants as reply
 use Rattle.mono_machine.specs.declared.events.Report.{Report}
 use Rattle.mono_machine.specs.declared.events.Report.TheVariants as report
 use Rattle.mono_model.specs.declared.Ended.{Ended}
-use Rattle.mono_rt.specs.Journals.{IsStep, Led, Stays}
+use Rattle.mono_rt.specs.Journals.{IsStep, Stays}
 use Rattle.mono_rt.specs.declared.parts.errors.RunError.{RunError}
 use Rattle.mono_rt.specs.declared.parts.errors.RunError.TheVariants as error
 use Rattle.mono_rt.specs.declared.parts.journals.Entry.{Entry}
@@ -55,6 +55,14 @@ pub record Round (units left : ℕ) (old : Machine) (part : List Entry) (new : M
   pub within : turns ≤ most_turns units old
   pub ends : (new.tasks.queue ≡ []) ⊎ (turns ≡ most_turns units old)
   pub units_left : left ≡ units - turns
+
+-- a turn in which memory ran out: it did not begin, or it has its entry
+abbrev pub UpToOneTurn : Machine → List Entry → Machine → List Entry → Type 0
+UpToOneTurn old part new rest = Stays old part new rest ⊎ OneTurn old part new rest
+
+-- a round in which memory ran out: some of its turns, within the budget
+abbrev pub RoundBreaks : ℕ → Machine → List Entry → Machine → List Entry → Type 0
+RoundBreaks units old part new rest = (turns : ℕ) × (Turns turns old part new rest × (turns ≤ most_turns units old))
 
 -- one wake from outside for each task that was taken under the lock
 abbrev pub Remotes : List ℕ → Machine → List Entry → Machine → List Entry → Type 0
@@ -122,16 +130,36 @@ Pauses has_timers (front ∷ queue) old part new rest = Drained old part new res
 abbrev pub Pause : Bool → Machine → List Entry → Machine → List Entry → Type 0
 Pause has_timers old part new rest = Pauses has_timers old.tasks.queue old part new rest
 
--- If memory ran out, the entries of the journal are still steps of the machine.
-abbrev pub OrLed : {A : Type 0} → Result A RunError → (Machine → List Entry → Machine → List Entry → Type 0) → Machine → List Entry → Machine → List Entry → Type 0
-OrLed (Ok x) R old part new rest = R old part new rest
-OrLed (Err e) R old part new rest = Led old part new rest
+-- the driver was parked and the inbox drained, and memory ran out in the clock step
+pub record ParkedDrained (has_timers : Bool) (old : Machine) (part : List Entry) (new : Machine) (rest : List Entry) : Type 0 where
+  pub parked : Machine
+  pub left : List Entry
+  pub parks : IsPark has_timers old part parked left
+  pub drains : Drained parked left new rest
+  pub timers : has_timers ≡ true
+
+-- memory ran out before the park, or in the drain after it, or in the clock step after that
+abbrev pub ParkBreaks : Bool → Machine → List Entry → Machine → List Entry → Type 0
+ParkBreaks has_timers old part new rest = Stays old part new rest ⊎ (IsPark has_timers old part new rest ⊎ ParkedDrained has_timers old part new rest)
+
+-- a wait, by its answer
+abbrev pub WaitEnds : {A : Type 0} → Bool → Result A RunError → Machine → List Entry → Machine → List Entry → Type 0
+WaitEnds has_timers (Ok x) old part new rest = Parks has_timers old part new rest
+WaitEnds has_timers (Err e) old part new rest = ParkBreaks has_timers old part new rest
+
+-- Memory ran out between two rounds, by the queue: in a wait, or in the drain, which did nothing.
+abbrev pub PausesBreak : Bool → List ℕ → Machine → List Entry → Machine → List Entry → Type 0
+PausesBreak has_timers [] old part new rest = ParkBreaks has_timers old part new rest
+PausesBreak has_timers (front ∷ queue) old part new rest = Stays old part new rest
+
+abbrev pub PauseBreaks : Bool → Machine → List Entry → Machine → List Entry → Type 0
+PauseBreaks has_timers old part new rest = PausesBreak has_timers old.tasks.queue old part new rest
 
 -- the whole pause is recorded, unless memory ran out
 abbrev pub PauseEnds : Bool → Result Bool RunError → Machine → List Entry → Machine → List Entry → Type 0
 PauseEnds has_timers (Ok spent) old part new rest = Pause has_timers old part new rest
 PauseEnds has_timers (Err error.Driver) old part new rest = Pause has_timers old part new rest
-PauseEnds has_timers (Err error.Memory) old part new rest = Led old part new rest
+PauseEnds has_timers (Err error.Memory) old part new rest = PauseBreaks has_timers old part new rest
 PauseEnds has_timers (Err error.Turns) old part new rest = ⊥
 PauseEnds has_timers (Err error.AtCapacity) old part new rest = ⊥
 
@@ -148,18 +176,18 @@ pub record Pass (has_timers : Bool) (units left : ℕ) (old : Machine) (part : L
   pub pause : Pause has_timers old part paused behind
   pub round : Round (units - cost old.tasks.queue paused.tasks.queue) left paused behind new rest
 
--- the driver failed, or memory ran out
-abbrev pub IsBreak : RunError → Type 0
-IsBreak error.Driver = ⊤
-IsBreak error.Memory = ⊤
-IsBreak error.Turns = ⊥
-IsBreak error.AtCapacity = ⊥
+-- a pause, and a round in which memory ran out
+pub record PassBreaks (has_timers : Bool) (units : ℕ) (old : Machine) (part : List Entry) (new : Machine) (rest : List Entry) : Type 0 where
+  pub paused : Machine
+  pub behind : List Entry
+  pub pause : Pause has_timers old part paused behind
+  pub round : RoundBreaks (units - cost old.tasks.queue paused.tasks.queue) paused behind new rest
 
 -- if the driver failed, there is no round
 abbrev pub PassEnds : Bool → ℕ → Result ℕ RunError → Machine → List Entry → Machine → List Entry → Type 0
 PassEnds has_timers units (Ok left) old part new rest = Pass has_timers units left old part new rest
 PassEnds has_timers units (Err error.Driver) old part new rest = Pause has_timers old part new rest
-PassEnds has_timers units (Err error.Memory) old part new rest = Led old part new rest
+PassEnds has_timers units (Err error.Memory) old part new rest = PauseBreaks has_timers old part new rest ⊎ PassBreaks has_timers units old part new rest
 PassEnds has_timers units (Err error.Turns) old part new rest = ⊥
 PassEnds has_timers units (Err error.AtCapacity) old part new rest = ⊥
 
@@ -193,12 +221,23 @@ pub record Breaks (has_timers : Bool) (main units : ℕ) (old : Machine) (part :
   pub some_left : 0 < left
   pub pause : Pause has_timers mid more new rest
 
--- By the answer: the main task has its output, or the budget is spent and it has none, or the driver failed.
+-- rounds, and a pass in which memory ran out
+pub record LaterBreaks (has_timers : Bool) (main units : ℕ) (old : Machine) (part : List Entry) (new : Machine) (rest : List Entry) : Type 0 where
+  pub mid : Machine
+  pub more : List Entry
+  pub left : ℕ
+  pub rounds : Rounds has_timers main units left old part mid more
+  pub unfinished : is_main_done main mid ≡ false
+  pub some_left : 0 < left
+  pub pass : PauseBreaks has_timers mid more new rest ⊎ PassBreaks has_timers left mid more new rest
+
+-- By the answer: the main task has its output, or the budget is spent and it has none, or the driver failed. Or memory ran
+-- out, in the first round or after it.
 abbrev pub Ends : {A : Type 0} → Bool → ℕ → ℕ → Result A RunError → Machine → List Entry → Machine → List Entry → Type 0
 Ends has_timers main units (Ok x) old part new rest = (left : ℕ) × (Rounds has_timers main units left old part new rest × (is_main_done main new ≡ true))
 Ends has_timers main units (Err error.Turns) old part new rest = Rounds has_timers main units 0 old part new rest × (is_main_done main new ≡ false)
 Ends has_timers main units (Err error.Driver) old part new rest = Breaks has_timers main units old part new rest
-Ends has_timers main units (Err error.Memory) old part new rest = Led old part new rest
+Ends has_timers main units (Err error.Memory) old part new rest = RoundBreaks units old part new rest ⊎ LaterBreaks has_timers main units old part new rest
 Ends has_timers main units (Err error.AtCapacity) old part new rest = ⊥
 
 -- a task is made, with this number, or is refused

@@ -46,7 +46,7 @@ where
     P: ThreadPool + Drop,
     requires callable { (f : F) → F.can_poll f }
     ensures blocked { IfOk result (λ r. (new : Machine) × Blocked true turns (answer_numbered O.output_number r.0) (start_machine limits (strategy_of pool)) r.1.history.entries new []) }
-    ensures told { IfOk result (λ r. IsTold r.0 (telling (D.readings driver) (D.time driver) (D.parks driver)) r.1.history.entries) }
+    ensures told { IfOk result (λ r. IsTold r.0 (telling (D.readings driver) (D.time driver) (D.parks driver) (D.submits driver) (D.faults driver) (D.can_fail driver)) r.1.history.entries) }
     ensures run { IfOk result (λ r. (new : Machine) × Run (start_machine limits (strategy_of pool)) (events_in r.1.history.entries) (reports_in r.1.history.entries) new) }
     ensures parks { IfOk result (λ r. (new : Machine) × ((left : ℕ → Option ℕ) × Registers None (start_machine limits (strategy_of pool)) (λ s. None) r.1.history.entries new left)) }
     ensures full { IfOk result (λ r. r.1.is_full ≡ true → IsOneLong O.output_number (λ a b. ⊤) F.TaskFuture) }

@@ -379,7 +379,7 @@ where
     D: Buildable,
     P: ThreadPool + Drop,
     requires { (f : F) → F.can_poll f }
-    ensures { RunsFrom O.output_number D.marks_timers turns result (start_machine (record { tasks = 2 ^ 20; jobs = 2 ^ 20; sleeps = 2 ^ 20 }) none.Panic) (telling (D.readings driver) (D.time driver) (D.parks driver)) }
+    ensures { RunsFrom O.output_number D.marks_timers turns result (start_machine (record { tasks = 2 ^ 20; jobs = 2 ^ 20; sleeps = 2 ^ 20 }) none.Panic) (telling (D.readings driver) (D.time driver) (D.parks driver) (D.submits driver) (D.faults driver) (D.can_fail driver)) }
 {
     let builder: RuntimeBuilder<D, P> = RuntimeBuilder::new(driver);
     match builder.build(alloc) {

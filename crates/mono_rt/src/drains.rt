@@ -1,8 +1,8 @@
 // The drain: takes from the inbox the tasks that other threads woke.
-ghost use Rattle.std.specs.Prelude.{◌≡◌, ◌≤◌, length, OnOk};
-ghost use Rattle.mono_rt.specs.Journals.{Goes, Does};
+ghost use Rattle.std.specs.Prelude.{◌≡◌, ◌≤◌, length, OnOk, OnErr};
+ghost use Rattle.mono_rt.specs.Journals.{Goes, Does, Stays};
 ghost use Rattle.mono_rt.specs.Rounds.{Drained};
-ghost use Rattle.mono_rt.specs.DriverReadings.{telling, Course, Telling, Still, EndsDrained};
+ghost use Rattle.mono_rt.specs.DriverReadings.{Told, Course, Telling, Still, EndsDrained};
 
 use crate::parts::RunError;
 use crate::runtimes::Runtime;
@@ -23,6 +23,7 @@ impl<F: Drop, O: Outcome + Drop, D: Driver, P: ThreadPool + Drop, W: SharedState
     /// Takes all tasks out of the inbox, records each in the journal, and wakes those that are unfinished.
     pub(crate) fn drain<R: Host>(&mut self, rt: &R, alloc: Global) -> Result<(), RunError>
         ensures goes { Goes O.output_number self.old.cx.parts self.new.cx.parts self.old.journal self.new.journal }
+        ensures refused { OnErr result (Does O.output_number Stays self.old.cx.parts self.new.cx.parts self.old.journal self.new.journal) }
         ensures drained { OnOk result (Does O.output_number Drained self.old.cx.parts self.new.cx.parts self.old.journal self.new.journal) }
         ensures turn { self.new.cx.parts.tasks.turn ≡ self.old.cx.parts.tasks.turn }
         ensures longer { length self.old.cx.parts.tasks.tasks.queue ≤ length self.new.cx.parts.tasks.tasks.queue }
@@ -30,7 +31,8 @@ impl<F: Drop, O: Outcome + Drop, D: Driver, P: ThreadPool + Drop, W: SharedState
         ensures futures { self.new.cx.futures ≡ self.old.cx.futures }
         ensures shared { self.new.cx.shared ≡ self.old.cx.shared }
         ensures faults { D.faults self.new.driver ≡ D.faults self.old.driver }
-        ensures told { (before after : Course) → EndsDrained result before after → Telling (Still after) (telling (D.readings self.old.driver) (D.time self.old.driver) (D.parks self.old.driver)) before self.old.journal self.new.journal (telling (D.readings self.new.driver) (D.time self.new.driver) (D.parks self.new.driver)) }
+        ensures driver { self.new.driver ≡ self.old.driver }
+        ensures told { (old new : Told) (before after : Course) → EndsDrained result before old after new → Telling (Still after) old before self.old.journal self.new.journal new }
         ensures full { self.new.journal.is_full ≡ self.old.journal.is_full }
         ensures held { self.new.journal.entries.held ≡ self.old.journal.entries.held }
     {

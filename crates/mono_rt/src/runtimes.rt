@@ -1,7 +1,7 @@
 // A runtime, and its turns.
-ghost use Rattle.std.specs.Prelude.{◌≡◌, ◌<◌, None, length, OnOk};
+ghost use Rattle.std.specs.Prelude.{◌≡◌, ◌<◌, None, length, OnOk, OnErr};
 ghost use Rattle.mono_rt.specs.Journals.{Goes, Does};
-ghost use Rattle.mono_rt.specs.Rounds.{OneTurn};
+ghost use Rattle.mono_rt.specs.Rounds.{OneTurn, UpToOneTurn};
 ghost use Rattle.mono_rt.specs.FuturePolls.{Polling};
 ghost use Rattle.mono_rt.specs.JournalRoom.{Fills};
 ghost use Rattle.mono_rt.specs.DriverReadings.{telling, going, Telling, Still};
@@ -39,12 +39,13 @@ where
         requires queued { 0 < length self.old.cx.parts.tasks.tasks.queue }
         ensures goes { Goes O.output_number self.old.cx.parts self.new.cx.parts self.old.journal self.new.journal }
         ensures turned { OnOk result (Does O.output_number OneTurn self.old.cx.parts self.new.cx.parts self.old.journal self.new.journal) }
+        ensures broken { OnErr result (Does O.output_number UpToOneTurn self.old.cx.parts self.new.cx.parts self.old.journal self.new.journal) }
         ensures polled { OnOk result (Does O.output_number (Polling O.output_number W.leads F.TaskFuture self.old.cx.parts.has_timers self.old.cx.futures.items self.new.cx.futures.items) self.old.cx.parts self.new.cx.parts self.old.journal self.new.journal) }
         ensures shared { W.leads self.old.cx.shared self.new.cx.shared }
         ensures has_timers { self.new.cx.parts.has_timers ≡ self.old.cx.parts.has_timers }
         ensures rests { self.new.cx.parts.tasks.turn ≡ None }
         ensures faults { D.faults self.new.driver ≡ D.faults self.old.driver }
-        ensures told { Telling (Still going) (telling (D.readings self.old.driver) (D.time self.old.driver) (D.parks self.old.driver)) going self.old.journal self.new.journal (telling (D.readings self.new.driver) (D.time self.new.driver) (D.parks self.new.driver)) }
+        ensures told { Telling (Still going) (telling (D.readings self.old.driver) (D.time self.old.driver) (D.parks self.old.driver) (D.submits self.old.driver) (D.faults self.old.driver) (D.can_fail self.old.driver)) going self.old.journal self.new.journal (telling (D.readings self.new.driver) (D.time self.new.driver) (D.parks self.new.driver) (D.submits self.new.driver) (D.faults self.new.driver) (D.can_fail self.new.driver)) }
         ensures full { Fills O.output_number W.leads F.TaskFuture self.old.cx self.old.journal self.new.journal }
         ensures held { self.new.journal.entries.held ≡ self.old.journal.entries.held }
     {

@@ -1,5 +1,5 @@
 -- The result of a script's run.
-use Rattle.std.specs.Prelude.{⊤, ◌≡◌, ℕ, zero, suc, true, List, [], ◌∷◌, ◌++◌, map, Option, Some, None, Result, Ok, Err, codes, decimal}
+use Rattle.std.specs.Prelude.{⊤, ◌≡◌, ℕ, zero, suc, true, false, List, [], ◌∷◌, ◌++◌, map, Option, Some, None, Result, Ok, Err, codes, decimal}
 use Rattle.mono_machine.specs.Machine.{Machine, start_machine}
 use Rattle.mono_machine.specs.declared.events.Limits.{Limits}
 use Rattle.mono_machine.specs.declared.events.Blocking.TheVariants as strategy
@@ -43,10 +43,10 @@ pub record Ran (limits : Limits) (turns : ℕ) (e : RunEnd) (output : List ℕ) 
   pub text : output ≡ journal_text (map told entries) (output_in (answer_of e))
 
 -- What the driver of a run exposes at its start: without workers the time 0, else the readings of its clock, if it
--- exposes them.
+-- exposes them. It cannot fail.
 abbrev pub told_first : ℕ → Option (List ℕ) → Told
-told_first zero readings = telling None (Some 0) 0
-told_first (suc n) readings = telling readings None 0
+told_first zero readings = telling None (Some 0) 0 0 0 false
+told_first (suc n) readings = telling readings None 0 0 0 false
 
 -- Without workers each reading is the sum of the milliseconds of the parks before it, at most the greatest instant.
 -- With workers, if the clock exposes its readings, they are these in order, the last one repeated.

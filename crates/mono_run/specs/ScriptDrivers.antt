@@ -20,6 +20,10 @@ abbrev pub parks_of : {C : Type 0} → ScriptDriver C → ℕ
 parks_of (driver.Steps d) = d.parks
 parks_of (driver.Threads d) = d.parks
 
+abbrev pub submits_of : {C : Type 0} → ScriptDriver C → ℕ
+submits_of (driver.Steps d) = d.submits
+submits_of (driver.Threads d) = d.submits
+
 abbrev pub can_fail_of : {C : Type 0} → ScriptDriver C → Bool
 can_fail_of (driver.Steps d) = has_any d.failing
 can_fail_of (driver.Threads d) = false

@@ -56,6 +56,8 @@ impl<C: Clock + Drop> Clock for ScriptDriver<C> {
 
     ghost parks = { driving.parks_of };
 
+    ghost submits = { driving.submits_of };
+
     ghost can_fail = { driving.can_fail_of };
 
     fn now(&mut self) -> Instant {

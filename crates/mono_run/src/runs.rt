@@ -5,7 +5,7 @@ ghost use Rattle.mono_run.specs.Journal.{journal_text};
 ghost use Rattle.mono_run.specs.Script.{IsSound};
 ghost use Rattle.mono_rt.specs.Rounds.{output_in};
 ghost use Rattle.mono_rt.specs.DriverReadings.{telling};
-ghost use Rattle.mono_run.specs.ScriptDrivers.{readings_of, time_of, parks_of};
+ghost use Rattle.mono_run.specs.ScriptDrivers.{readings_of, time_of, parks_of, submits_of, faults_of, can_fail_of};
 ghost use Rattle.mono_run.specs.RunRecord.{Ran, RunsScript, RanBy, told_first, answer_of, told};
 
 use crate::entries::journal_lines;
@@ -48,7 +48,7 @@ fn driver_for<C: Clock + Drop>(
     workers: usize,
     clock: C,
 ) -> Result<ScriptDriver<C>, AllocError>
-    ensures { IfOk result (λ driver. telling (readings_of C.readings driver) (time_of driver) (parks_of driver) ≡ told_first workers (C.readings clock)) }
+    ensures { IfOk result (λ driver. telling (readings_of C.readings driver) (time_of driver) (parks_of driver) (submits_of driver) (faults_of driver) (can_fail_of driver) ≡ told_first workers (C.readings clock)) }
 {
     if workers == 0 {
         return Ok(ScriptDriver::Steps(StepDriver::new(Vec::new(alloc))));

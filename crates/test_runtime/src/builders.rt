@@ -3,9 +3,9 @@ ghost use Rattle.std.specs.Prelude.{◌≡◌, None};
 
 use crate::turns::Gives;
 use crate::waits::{Work, Worked, outcome_of, ready};
-use mono_blocking::{BlockingStrategy, NoPool};
+use mono_blocking::{BlockingStrategy, DefaultThreadPool, NoPool, NoSpawner};
 use mono_model::Host;
-use mono_rt::{RunError, RuntimeBuilder, StepDriver, TimeDriver, start};
+use mono_rt::{RunError, Runtime, RuntimeBuilder, StepDriver, TimeDriver, start};
 use std::alloc::Global;
 use std::process::Abort;
 
@@ -87,4 +87,37 @@ fn waked<R: Host + Abort>(rt: &R, alloc: Global) -> Result<u64, RunError> {
 #[test]
 fn a_driver_with_timers_submits(rt: HostRuntime) {
     assert!(rt; waked(&rt, rt.alloc()) == Err(RunError::Driver));
+}
+
+/// Returns whether a built runtime hands a pool back, if the builder got a pool and a strategy in this order.
+fn has_pool<R: Host + Abort>(rt: &R, alloc: Global, is_pool_last: bool) -> bool {
+    let mut spawner = NoSpawner::new();
+    let pool = DefaultThreadPool::new(rt, alloc, 0, &mut spawner).expect(rt, "memory");
+    let builder: RuntimeBuilder<StepDriver, DefaultThreadPool<Gives>> =
+        RuntimeBuilder::new(StepDriver::new(Vec::new(alloc)));
+    let strategy = BlockingStrategy::ExecuteLocal;
+    let set = if is_pool_last {
+        builder
+            .with_blocking_strategy(strategy)
+            .attach_thread_pool(pool)
+    } else {
+        builder
+            .attach_thread_pool(pool)
+            .with_blocking_strategy(strategy)
+    };
+    let runtime: Runtime<Work, u64, _, _> = set.build(alloc).expect(rt, "memory");
+    match runtime.into_pool() {
+        Some(pool) => {
+            pool.close(rt);
+            true
+        }
+        None => false,
+    }
+}
+
+#[test]
+fn the_last_call_decides_on_a_pool(rt: HostRuntime) {
+    let alloc = rt.alloc();
+    assert!(rt; has_pool(&rt, alloc, true));
+    assert!(rt; !has_pool(&rt, alloc, false));
 }

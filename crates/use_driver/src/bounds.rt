@@ -56,6 +56,8 @@ impl<D: Driver> Clock for Bounded<D> {
 
     ghost parks = { λ b. b.parks };
 
+    ghost submits = { λ b. D.submits b.driver };
+
     ghost can_fail = { λ b. true };
 
     fn now(&mut self) -> Instant {

@@ -3,7 +3,7 @@ ghost use Rattle.std.specs.Prelude.{◌≡◌, ◌≤◌, ◌+◌, [], true, vec
 ghost use Rattle.mono_time.specs.Instants.{nanos_of};
 ghost use Rattle.mono_time.specs.Sleeps.{armed_count};
 ghost use Rattle.mono_time.specs.Timers.{sleeps_of};
-ghost use Rattle.mono_rt.specs.Journals.{Goes, Does, HasPlaces};
+ghost use Rattle.mono_rt.specs.Journals.{Goes, Does, Stays, HasPlaces};
 ghost use Rattle.mono_rt.specs.Rounds.{IsClock};
 ghost use Rattle.mono_rt.specs.DriverReadings.{telling, Course, Telling, IsRead, Still};
 
@@ -32,7 +32,7 @@ fn open_clock<D: Driver>(
     ensures wakers { IfSome result (λ x. (x.1.wakers.items ≡ []) × (armed_count (sleeps_of timers.now) + vec_len x.1.wakers ≤ vec_capacity x.1.wakers)) }
     ensures history { journal.new.history.entries ≡ journal.old.history.entries }
     ensures full { journal.new.is_full ≡ journal.old.is_full }
-    ensures read { IfSome result (λ x. IsRead (nanos_of x.0) (telling (D.readings driver.old) (D.time driver.old) (D.parks driver.old)) (telling (D.readings driver.new) (D.time driver.new) (D.parks driver.new))) }
+    ensures read { IfSome result (λ x. IsRead (nanos_of x.0) (telling (D.readings driver.old) (D.time driver.old) (D.parks driver.old) (D.submits driver.old) (D.faults driver.old) (D.can_fail driver.old)) (telling (D.readings driver.new) (D.time driver.new) (D.parks driver.new) (D.submits driver.new) (D.faults driver.new) (D.can_fail driver.new))) }
     ensures unread { IfNone result (driver.new ≡ driver.old) }
     ensures faults { D.faults driver.new ≡ D.faults driver.old }
     ensures held { journal.new.entries.held ≡ journal.old.entries.held }
@@ -59,10 +59,11 @@ impl<O: Outcome + Drop, P: ThreadPool + Drop> Parts<O, Blockings<P>> {
         ensures goes { Goes O.output_number self.old self.new journal.old journal.new }
         ensures clocked { OnOk result (Does O.output_number IsClock self.old self.new journal.old journal.new) }
         ensures refused { OnErr result (self.new ≡ self.old) }
+        ensures undone { OnErr result (Does O.output_number Stays self.old self.new journal.old journal.new) }
         ensures has_timers { self.new.has_timers ≡ self.old.has_timers }
         ensures turn { self.new.tasks.turn ≡ self.old.tasks.turn }
         ensures faults { D.faults driver.new ≡ D.faults driver.old }
-        ensures told { (course : Course) → Telling (Still course) (telling (D.readings driver.old) (D.time driver.old) (D.parks driver.old)) course journal.old journal.new (telling (D.readings driver.new) (D.time driver.new) (D.parks driver.new)) }
+        ensures told { (course : Course) → Telling (Still course) (telling (D.readings driver.old) (D.time driver.old) (D.parks driver.old) (D.submits driver.old) (D.faults driver.old) (D.can_fail driver.old)) course journal.old journal.new (telling (D.readings driver.new) (D.time driver.new) (D.parks driver.new) (D.submits driver.new) (D.faults driver.new) (D.can_fail driver.new)) }
         ensures full { journal.new.is_full ≡ journal.old.is_full }
         ensures held { journal.new.entries.held ≡ journal.old.entries.held }
     {

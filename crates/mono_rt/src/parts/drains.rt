@@ -1,11 +1,11 @@
 // The tasks that other threads woke, after they were taken: recorded in the journal, and woken.
-ghost use Rattle.std.specs.Prelude.{◌≡◌, ◌≤◌, ◌<◌, ◌+◌, ◌++◌, ◌∷◌, ℕ, [], length, vec_len, vec_capacity, IfSome, OnOk};
+ghost use Rattle.std.specs.Prelude.{◌≡◌, ◌≤◌, ◌<◌, ◌+◌, ◌++◌, ◌∷◌, ℕ, [], length, vec_len, vec_capacity, IfSome, OnOk, OnErr};
 ghost use Rattle.mono_inbox.specs.State.{HasNoDoubles};
 ghost use Rattle.mono_task.specs.Work.{over_answer};
 ghost use Rattle.mono_machine.specs.declared.events.Event.TheVariants as event;
 ghost use Rattle.mono_rt.specs.declared.parts.journals.Entry.TheVariants.{Ran};
 ghost use Rattle.mono_rt.specs.Drains.{told_by, listed_by, remotes, listed};
-ghost use Rattle.mono_rt.specs.Journals.{Goes, Does, HasPlaces};
+ghost use Rattle.mono_rt.specs.Journals.{Goes, Does, Stays, HasPlaces};
 ghost use Rattle.mono_rt.specs.Rounds.{Drained};
 ghost use Rattle.mono_rt.specs.DriverReadings.{Told, Course, Telling, Still, EndsDrained};
 
@@ -46,11 +46,12 @@ impl<O: Outcome + Drop, P: ThreadPool + Drop> Parts<O, Blockings<P>> {
     ) -> Result<(), RunError>
         requires { HasNoDoubles taken.now }
         ensures goes { Goes O.output_number self.old self.new journal.old journal.new }
+        ensures refused { OnErr result (Does O.output_number Stays self.old self.new journal.old journal.new) }
         ensures drained { OnOk result (Does O.output_number Drained self.old self.new journal.old journal.new) }
         ensures turn { self.new.tasks.turn ≡ self.old.tasks.turn }
         ensures longer { length self.old.tasks.tasks.queue ≤ length self.new.tasks.tasks.queue }
         ensures has_timers { self.new.has_timers ≡ self.old.has_timers }
-        ensures told { (told : Told) (before after : Course) → EndsDrained result before after → Telling (Still after) told before journal.old journal.new told }
+        ensures told { (old new : Told) (before after : Course) → EndsDrained result before old after new → Telling (Still after) old before journal.old journal.new new }
         ensures full { journal.new.is_full ≡ journal.old.is_full }
         ensures held { journal.new.entries.held ≡ journal.old.entries.held }
     {

@@ -1,10 +1,15 @@
 // Laws over the entries of a journal.
-ghost use Rattle.std.specs.Prelude.{◌≡◌, ◌≤◌, ℕ, List, [], ◌∷◌, Some};
+ghost use Rattle.std.specs.Prelude.{◌≡◌, ◌≤◌, ◌+◌, ◌-◌, ◌^◌, ℕ, min, Bool, false, List, [], ◌∷◌, Some, None};
 ghost use Rattle.mono_model.specs.Ticks.{max_nanos};
+ghost use Rattle.mono_machine.specs.declared.events.Event.TheVariants as event;
+ghost use Rattle.mono_machine.specs.declared.events.Report.TheVariants as report;
 ghost use Rattle.mono_rt.specs.declared.parts.journals.Entry.{Entry};
-ghost use Rattle.mono_rt.specs.declared.parts.journals.Entry.TheVariants.{Now, Park};
-ghost use Rattle.mono_rt.specs.DriverReadings.{Told, Course, going, Tells};
-ghost use Rattle.mono_rt.specs.Readings.{readings_in, AreFirst, AreSums};
+ghost use Rattle.mono_rt.specs.declared.parts.journals.Entry.TheVariants.{Ran, Now, Park};
+ghost use Rattle.mono_rt.specs.DriverReadings.{Told, Course, going, failed, Tells};
+ghost use Rattle.mono_machine.specs.Machine.{Machine};
+ghost use Rattle.mono_rt.specs.Rounds.{Rounds};
+ghost use Rattle.mono_rt.specs.Budgets.{Spends};
+ghost use Rattle.mono_rt.specs.Readings.{readings_in, hand_ins_in, AreFirst, AreSums};
 
 /// Shows that, if the driver exposes its readings to come, those in the journal are the first of these, in order, the
 /// last one repeated.
@@ -18,6 +23,28 @@ pub fn readings_are_those_told()
 pub fn readings_are_sums_of_parks()
     ensures { (old new : Told) (before : Course) (start : ℕ) (part : List Entry) → start ≤ max_nanos → old.time ≡ Some start → Tells old before part new going →
         AreSums start 0 part }
+{}
+
+/// Shows that the count of submits rises by one for each drain that follows no park, at most to 2^64 - 1, if no call of
+/// the driver failed.
+pub fn submits_are_counted()
+    ensures { (old new : Told) (part : List Entry) → old.submits ≤ 2 ^ 64 - 1 → Tells old going part new going → new.submits ≡ min (old.submits + hand_ins_in part) (2 ^ 64 - 1) }
+{}
+
+/// Shows that no call failed if the driver cannot fail. So `block_on` never answers Driver on it.
+pub fn a_sure_driver_does_not_fail()
+    ensures { (old new : Told) (after : Course) (part : List Entry) → old.can_fail ≡ false → Tells old going part new after → (after ≡ failed → ⊥) × (new.faults ≡ old.faults) }
+{}
+
+/// Shows that each unit of a budget is spent by a turn or by a park. So if nothing is left, the turns and some of the
+/// parks together are the budget.
+pub fn units_are_turns_and_parks()
+    ensures { (has_timers : Bool) (main units left : ℕ) (old new : Machine) (part rest : List Entry) → Rounds has_timers main units left old part new rest → Spends units left part rest }
+{}
+
+/// Shows an example: of two drains, the one after a park has no submit before it.
+pub fn a_drain_after_a_park_hands_in_nothing()
+    ensures { hand_ins_in (Ran event.Drain (report.Drained []) ∷ Now 0 ∷ Park None ∷ Ran event.Drain (report.Drained []) ∷ []) ≡ 1 }
 {}
 
 /// Shows an example: a park for 5 ms moves the next reading by 5 ms, and a reading that stays is not a sum.

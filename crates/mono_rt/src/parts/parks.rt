@@ -1,10 +1,10 @@
 // How the driver is parked, and for how long.
-ghost use Rattle.std.specs.Prelude.{◌≡◌, Some, OnOk, IfSome};
+ghost use Rattle.std.specs.Prelude.{◌≡◌, Some, OnOk, OnErr, IfSome};
 ghost use Rattle.mono_time.specs.Instants.{nanos_of};
 ghost use Rattle.mono_time.specs.Timers.{registered_of};
 ghost use Rattle.mono_machine.specs.Machine.{Machine};
 ghost use Rattle.mono_rt.specs.Refinement.{hosting_of, Matches};
-ghost use Rattle.mono_rt.specs.Journals.{Goes, Does, WaitsForNext};
+ghost use Rattle.mono_rt.specs.Journals.{Goes, Does, Stays, WaitsForNext};
 ghost use Rattle.mono_rt.specs.Faults.{RisesIf, FaultsParked};
 ghost use Rattle.mono_rt.specs.Rounds.{IsWait, IsPark};
 ghost use Rattle.mono_rt.specs.DriverReadings.{telling, going, Telling, IsParked, EndsParked};
@@ -21,7 +21,7 @@ use std::time::Duration;
 
 // Parks the driver for at most `wait` milliseconds. Returns whether it failed.
 fn park_driver<D: Driver, R: Host>(rt: &R, driver: &mut D, wait: Option<u64>) -> bool
-    ensures parked { IsParked wait result (telling (D.readings driver.old) (D.time driver.old) (D.parks driver.old)) (telling (D.readings driver.new) (D.time driver.new) (D.parks driver.new)) }
+    ensures parked { IsParked wait result (telling (D.readings driver.old) (D.time driver.old) (D.parks driver.old) (D.submits driver.old) (D.faults driver.old) (D.can_fail driver.old)) (telling (D.readings driver.new) (D.time driver.new) (D.parks driver.new) (D.submits driver.new) (D.faults driver.new) (D.can_fail driver.new)) }
     ensures faults { RisesIf result (D.faults driver.old) (D.faults driver.new) }
 {
     match wait {
@@ -56,8 +56,9 @@ impl<O: Outcome + Drop, P: ThreadPool + Drop> Parts<O, Blockings<P>> {
         journal: &mut Journal,
     ) -> Result<bool, RunError>
         ensures goes { Goes O.output_number self.entry.now self.entry.now journal.old journal.new }
+        ensures refused { OnErr result (Does O.output_number Stays self.entry.now self.entry.now journal.old journal.new) }
         ensures parked { OnOk result (Does O.output_number (IsPark self.entry.now.has_timers) self.entry.now self.entry.now journal.old journal.new) }
-        ensures told { Telling (EndsParked result) (telling (D.readings driver.old) (D.time driver.old) (D.parks driver.old)) going journal.old journal.new (telling (D.readings driver.new) (D.time driver.new) (D.parks driver.new)) }
+        ensures told { Telling (EndsParked result) (telling (D.readings driver.old) (D.time driver.old) (D.parks driver.old) (D.submits driver.old) (D.faults driver.old) (D.can_fail driver.old)) going journal.old journal.new (telling (D.readings driver.new) (D.time driver.new) (D.parks driver.new) (D.submits driver.new) (D.faults driver.new) (D.can_fail driver.new)) }
         ensures faults { FaultsParked result (D.faults driver.old) (D.faults driver.new) }
         ensures full { journal.new.is_full ≡ journal.old.is_full }
         ensures held { journal.new.entries.held ≡ journal.old.entries.held }

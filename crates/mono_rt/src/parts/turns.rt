@@ -1,11 +1,11 @@
 // The journal's entries before a turn and after it.
-ghost use Rattle.std.specs.Prelude.{◌≡◌, ◌++◌, ◌∷◌, ◌||◌, [], IfSome};
+ghost use Rattle.std.specs.Prelude.{◌≡◌, ◌++◌, ◌∷◌, ◌||◌, [], IfSome, IfNone};
 ghost use Rattle.mono_time.specs.Instants.{nanos_of};
 ghost use Rattle.mono_machine.specs.declared.events.Event.TheVariants as event;
 ghost use Rattle.mono_machine.specs.declared.events.Report.TheVariants as report;
 ghost use Rattle.mono_rt.specs.declared.parts.journals.Entry.TheVariants.{Ran};
 ghost use Rattle.mono_rt.specs.Record.{no_acts};
-ghost use Rattle.mono_rt.specs.Journals.{Goes, Does, IsReading, ReadsAt, HasPlaces};
+ghost use Rattle.mono_rt.specs.Journals.{Goes, Does, Stays, IsReading, ReadsAt, HasPlaces};
 ghost use Rattle.mono_rt.specs.DriverReadings.{telling, going, Telling, Still};
 
 use crate::parts::acts::Acts;
@@ -54,12 +54,13 @@ impl<O: Outcome + Drop, P: ThreadPool + Drop> Parts<O, Blockings<P>> {
         ensures place { IfSome result (λ x. HasPlaces journal.new 1) }
         ensures reading { IfSome result (λ x. Does O.output_number IsReading self.old self.new journal.old journal.new) }
         ensures at { IfSome result (λ x. Does O.output_number (ReadsAt (nanos_of x)) self.old self.new journal.old journal.new) }
+        ensures unread { IfNone result (Does O.output_number Stays self.old self.new journal.old journal.new) }
         ensures goes { Goes O.output_number self.old self.new journal.old journal.new }
         ensures same { self.new ≡ record self.old { acts = self.new.acts } }
         ensures tasks { self.new.tasks ≡ self.old.tasks }
         ensures has_timers { self.new.has_timers ≡ self.old.has_timers }
         ensures faults { D.faults driver.new ≡ D.faults driver.old }
-        ensures told { Telling (Still going) (telling (D.readings driver.old) (D.time driver.old) (D.parks driver.old)) going journal.old journal.new (telling (D.readings driver.new) (D.time driver.new) (D.parks driver.new)) }
+        ensures told { Telling (Still going) (telling (D.readings driver.old) (D.time driver.old) (D.parks driver.old) (D.submits driver.old) (D.faults driver.old) (D.can_fail driver.old)) going journal.old journal.new (telling (D.readings driver.new) (D.time driver.new) (D.parks driver.new) (D.submits driver.new) (D.faults driver.new) (D.can_fail driver.new)) }
         ensures full { journal.new.is_full ≡ journal.old.is_full }
         ensures held { journal.new.entries.held ≡ journal.old.entries.held }
     {

@@ -22,7 +22,7 @@ returns g c =
     record {
       blocked = subst (λ h. (new : Machine) × Blocked h c.args.turns answer m c.into_journal.result.history.entries new []) c.in_ok-runtime.ensures.timers
           (relation_of number told made.cx.parts left.cx.parts made.journal left.journal c.into_journal.result m c.in_ok-runtime.ensures.stands c.in_ok-runtime.ensures.history c.into_journal.ensures c.block_on-answer.ensures.blocked);
-      told = subst (λ d. IsTold c.block_on-answer.result (telling (g.D.Clock.readings d) (g.D.Clock.time d) (g.D.Clock.parks d)) c.into_journal.result.history.entries) c.in_ok-runtime.ensures.driver
+      told = subst (λ d. IsTold c.block_on-answer.result (telling (g.D.Clock.readings d) (g.D.Clock.time d) (g.D.Clock.parks d) (g.D.Clock.submits d) (g.D.Clock.faults d) (g.D.Clock.can_fail d)) c.into_journal.result.history.entries) c.in_ok-runtime.ensures.driver
           (told_in c.into_journal.result c.in_ok-runtime.ensures.history c.into_journal.ensures c.block_on-answer.ensures.told);
       parks = registers_of number made.cx.parts left.cx.parts made.journal left.journal c.into_journal.result m c.in_ok-runtime.ensures.stands c.in_ok-runtime.ensures.history c.into_journal.ensures c.in_ok-runtime.ensures.registered (goes_of number told made.cx.parts left.cx.parts made.journal left.journal c.block_on-answer.ensures.blocked);
       run = run_of number made.cx.parts left.cx.parts made.journal left.journal c.into_journal.result m c.in_ok-runtime.ensures.stands c.in_ok-runtime.ensures.history c.into_journal.ensures (goes_of number told made.cx.parts left.cx.parts made.journal left.journal c.block_on-answer.ensures.blocked);

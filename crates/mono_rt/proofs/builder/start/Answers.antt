@@ -16,9 +16,9 @@ returns-in-Ok g c =
     let built = c.new-builder.result in
     runs_from g.O.Outcome.output_number made.cx.parts.has_timers _ c.args.turns c.block_on.result
     (start_machine built.limits (strategy_of built.pool)) _
-    (telling (g.D.Clock.readings made.driver) (g.D.Clock.time made.driver) (g.D.Clock.parks made.driver)) _ _
+    (telling (g.D.Clock.readings made.driver) (g.D.Clock.time made.driver) (g.D.Clock.parks made.driver) (g.D.Clock.submits made.driver) (g.D.Clock.faults made.driver) (g.D.Clock.can_fail made.driver)) _ _
     made.cx.parts left.cx.parts made.journal left.journal
     c.in-Ok.ensures.timers
     (same_start built.limits _ built.pool _ c.new-builder.ensures.limits c.new-builder.ensures.pool)
-    (same_told g.D.Clock.readings g.D.Clock.time g.D.Clock.parks (c.in-Ok.ensures.driver ∙ c.new-builder.ensures.driver))
+    (same_told g.D.Clock.readings g.D.Clock.time g.D.Clock.parks g.D.Clock.submits g.D.Clock.faults g.D.Clock.can_fail (c.in-Ok.ensures.driver ∙ c.new-builder.ensures.driver))
     c.in-Ok.ensures.stands c.in-Ok.ensures.history c.block_on.ensures.blocked c.block_on.ensures.told

@@ -6,7 +6,7 @@ use Rattle.mono_rt.specs.Rounds.{Blocked}
 use Rattle.mono_rt.proofs.RoundLemmas.{relation_of}
 use Rattle.mono_rt.specs.DriverReadings.{telling, IsTold}
 use Rattle.mono_rt.proofs.DriverLemmas.{told_in}
-use Rattle.mono_run.specs.ScriptDrivers.{readings_of, time_of, parks_of}
+use Rattle.mono_run.specs.ScriptDrivers.{readings_of, time_of, parks_of, submits_of, faults_of, can_fail_of}
 use Rattle.mono_rt.specs.FuturePolls.{PollsMain, OnMain}
 use Rattle.mono_rt.proofs.FuturePollLemmas.{on_main}
 use Rattle.mono_run.specs.Script.{Script, IsSound}
@@ -38,8 +38,8 @@ returns-clause-reads g c =
     let answer = answer_numbered (λ n. n) c.block_on-answer.result in
     let relation = Blocked made.cx.parts.has_timers c.args.turns answer in
     let readings = g.C.Clock.readings c.args.clock in
-    let first : telling (readings_of g.C.Clock.readings made.driver) (time_of made.driver) (parks_of made.driver) ≡ told_first c.args.workers readings
-    = ap (λ d. telling (readings_of g.C.Clock.readings d) (time_of d) (parks_of d)) c.in_ok-runtime.ensures.driver ∙ c.in_ok-driver.ensures in
+    let first : telling (readings_of g.C.Clock.readings made.driver) (time_of made.driver) (parks_of made.driver) (submits_of made.driver) (faults_of made.driver) (can_fail_of made.driver) ≡ told_first c.args.workers readings
+    = ap (λ d. telling (readings_of g.C.Clock.readings d) (time_of d) (parks_of d) (submits_of d) (faults_of d) (can_fail_of d)) c.in_ok-runtime.ensures.driver ∙ c.in_ok-driver.ensures in
     let reads = told_reads c.args.workers readings c.told_of-told.result limits c.args.turns c.journal.result.now c.block_on-answer.result
     (subst (λ h. (new : Machine) × Blocked h c.args.turns answer m c.journal.result.now.history.entries new []) c.in_ok-runtime.ensures.timers
     (relation_of (λ n. n) relation made.cx.parts left.cx.parts made.journal left.journal c.journal.result.now m c.in_ok-runtime.ensures.stands c.in_ok-runtime.ensures.history c.journal.ensures c.block_on-answer.ensures.blocked))
@@ -57,8 +57,8 @@ returns-clause-driven g c =
     let answer = answer_numbered (λ n. n) c.block_on-answer.result in
     let j = c.journal.result.now in
     let readings = g.C.Clock.readings c.args.clock in
-    let first : telling (readings_of g.C.Clock.readings made.driver) (time_of made.driver) (parks_of made.driver) ≡ told_first c.args.workers readings
-    = ap (λ d. telling (readings_of g.C.Clock.readings d) (time_of d) (parks_of d)) c.in_ok-runtime.ensures.driver ∙ c.in_ok-driver.ensures in
+    let first : telling (readings_of g.C.Clock.readings made.driver) (time_of made.driver) (parks_of made.driver) (submits_of made.driver) (faults_of made.driver) (can_fail_of made.driver) ≡ told_first c.args.workers readings
+    = ap (λ d. telling (readings_of g.C.Clock.readings d) (time_of d) (parks_of d) (submits_of d) (faults_of d) (can_fail_of d)) c.in_ok-runtime.ensures.driver ∙ c.in_ok-driver.ensures in
     let tells : IsTold c.block_on-answer.result (told_first c.args.workers readings) j.history.entries =
     subst (λ t. IsTold c.block_on-answer.result t j.history.entries) first (told_in j c.in_ok-runtime.ensures.history c.journal.ensures c.block_on-answer.ensures.told) in
     let blocked : (new : Machine) × Blocked true c.args.turns answer m j.history.entries new [] =

@@ -1,9 +1,9 @@
-use Rattle.std.proofs.Common.{◌≡◌, Option, Some, None, refl, ap, ◌∙◌, sym, Ok}
+use Rattle.std.proofs.Common.{inl, ◌≡◌, Option, Some, None, refl, ap, ◌∙◌, sym, Ok}
 use Rattle.std.specs.Prelude.{⊤}
 use Rattle.std.specs.Option.{option_map}
 use Rattle.mono_rt.proofs.RoundLemmas.{blocks_by, blocks_done, blocks_refused}
 use Rattle.mono_rt.specs.DriverReadings.{going}
-use Rattle.mono_rt.proofs.DriverLemmas.{telling_on, telling_past, telling_more, capacity_ends}
+use Rattle.mono_rt.proofs.DriverLemmas.{telling_on, telling_past, telling_more, capacity_ends, so_after, so_by, so_error, so_past, so_value, left_same}
 use Rattle.std.proofs.Common.{Err, subst}
 use Rattle.mono_rt.specs.Journals.{Does}
 use Rattle.mono_rt.specs.FuturePolls.{Polling}
@@ -48,13 +48,13 @@ returns-in-Some-clause-blocked g c =
     c.start_main.ensures.has_timers c.in-Ok.ensures.spawned (rw c.in-Ok-answer.is at c.run-answer.ensures.ends) (rw c.in-Some.is at c.end_main-output.ensures.dropped)
 
 pub returns-in-Err-clause-told : goal.returns-in-Err-clause-told
-returns-in-Err-clause-told g c = telling_more (λ x e. capacity_ends _ c.in-Err.error x c.in-Err.ensures.refused e) c.start_main.ensures.told
+returns-in-Err-clause-told g c = so_by (left_same c.in-Err.error _) (telling_more (λ x e. capacity_ends _ c.in-Err.error x c.in-Err.ensures.refused e) c.start_main.ensures.told)
 
 pub returns-in-Err-answer-clause-told : goal.returns-in-Err-answer-clause-told
-returns-in-Err-answer-clause-told g c = telling_more (λ x e. e) (telling_past (telling_on {q = going} c.start_main.ensures.told (rw c.in-Err-answer.is at c.run-answer.ensures.told)) (c.end_main-output.ensures.told _))
+returns-in-Err-answer-clause-told g c = so_error (so_past (so_after c.start_main.ensures.told (rw c.in-Err-answer.is at c.run-answer.ensures.told)) c.end_main-output.ensures.told)
 
 pub returns-in-Some-clause-told : goal.returns-in-Some-clause-told
-returns-in-Some-clause-told g c = telling_past (telling_on {q = going} c.start_main.ensures.told (rw c.in-Ok-answer.is at c.run-answer.ensures.told)) (c.end_main-output.ensures.told _)
+returns-in-Some-clause-told g c = so_value (so_past (so_after c.start_main.ensures.told (rw c.in-Ok-answer.is at c.run-answer.ensures.told)) c.end_main-output.ensures.told)
 
 pub returns-in-Err-clause-full : goal.returns-in-Err-clause-full
 returns-in-Err-clause-full g c = fills_not g.O.Outcome.output_number g.W.SharedState.leads g.F.TaskFuture c.args.self.now.cx c.args.self.now.journal c.start_main.new.self.journal c.start_main.ensures.full

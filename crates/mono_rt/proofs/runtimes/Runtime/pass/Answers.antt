@@ -1,9 +1,9 @@
-use Rattle.std.proofs.Common.{◌≡◌, cond, ℕ, ◌-◌, ◌<◌, arith, refl, ap, ◌∙◌, sym, subst}
-use Rattle.mono_rt.specs.Rounds.{Pause, PauseEnds}
-use Rattle.mono_rt.proofs.JournalLemmas.{goes_of, goes_on, does_led}
-use Rattle.mono_rt.proofs.RoundLemmas.{does_pass, pass_breaks}
+use Rattle.std.proofs.Common.{inl, ◌≡◌, cond, ℕ, ◌-◌, ◌<◌, arith, refl, ap, ◌∙◌, sym, subst}
+use Rattle.mono_rt.specs.Rounds.{PauseEnds}
+use Rattle.mono_rt.proofs.JournalLemmas.{goes_of}
+use Rattle.mono_rt.proofs.RoundLemmas.{does_pass, pass_breaks, pass_broken}
 use Rattle.mono_rt.specs.DriverReadings.{going}
-use Rattle.mono_rt.proofs.DriverLemmas.{telling_on, telling_more}
+use Rattle.mono_rt.proofs.DriverLemmas.{telling_on, telling_more, so_by, so_error, still_of}
 use Rattle.std.proofs.Common.{true, false}
 use Rattle.std.specs.Prelude.{⊤, Ok, Err}
 use Rattle.mono_rt.specs.Journals.{Does}
@@ -35,36 +35,28 @@ returns-in-Ok-round-clause-fewer g c = c.in-Ok-round.ensures.fewer ((rw c.in-Ok-
 
 pub returns-in-Err-round-clause-passes : goal.returns-in-Err-round-clause-passes
 returns-in-Err-round-clause-passes g c =
-    let number = g.O.Outcome.output_number in
-    let old = c.args.self.now in
-    let paused = c.pause.new.self in
-    let left = c.round.new.self in
-    does_led number old.cx.parts left.cx.parts old.journal left.journal (goes_on number old.cx.parts paused.cx.parts left.cx.parts old.journal paused.journal left.journal
-    (goes_of number (Pause old.cx.parts.has_timers) old.cx.parts paused.cx.parts old.journal paused.journal (rw c.in-Ok-true.is at c.pause.ensures.pauses)) c.round.ensures.goes)
+    pass_broken g.O.Outcome.output_number c.args.self.now.cx.parts.has_timers c.args.units (c.args.units - 1) c.args.self.now.cx.parts c.pause.new.self.cx.parts c.round.new.self.cx.parts c.args.self.now.journal c.pause.new.self.journal c.round.new.self.journal
+    (ap (λ x. c.args.units - x) (ap (λ b. cond b 1 0) (sym c.in-Ok-true.field-0-test) ∙ rw c.in-Ok-true.is at c.pause.ensures.spent)) (rw c.in-Ok-true.is at c.pause.ensures.pauses) c.in-Err-round.ensures.broken
 
 pub returns-in-Err-round-2-clause-passes : goal.returns-in-Err-round-2-clause-passes
 returns-in-Err-round-2-clause-passes g c =
-    let number = g.O.Outcome.output_number in
-    let old = c.args.self.now in
-    let paused = c.pause.new.self in
-    let left = c.round-in-Ok-false.new.self in
-    does_led number old.cx.parts left.cx.parts old.journal left.journal (goes_on number old.cx.parts paused.cx.parts left.cx.parts old.journal paused.journal left.journal
-    (goes_of number (Pause old.cx.parts.has_timers) old.cx.parts paused.cx.parts old.journal paused.journal (rw c.in-Ok-false.is at c.pause.ensures.pauses)) c.round-in-Ok-false.ensures.goes)
+    pass_broken g.O.Outcome.output_number c.args.self.now.cx.parts.has_timers c.args.units c.args.units c.args.self.now.cx.parts c.pause.new.self.cx.parts c.round-in-Ok-false.new.self.cx.parts c.args.self.now.journal c.pause.new.self.journal c.round-in-Ok-false.new.self.journal
+    (no_cost c.args.units _ (ap (λ b. cond b 1 0) (sym c.in-Ok-false.field-0-test) ∙ rw c.in-Ok-false.is at c.pause.ensures.spent)) (rw c.in-Ok-false.is at c.pause.ensures.pauses) c.in-Err-round-2.ensures.broken
 
 pub returns-in-Err-clause-told : goal.returns-in-Err-clause-told
-returns-in-Err-clause-told g c = telling_more (λ x e. e) (rw c.in-Err.is at c.pause.ensures.told)
+returns-in-Err-clause-told g c = so_error (rw c.in-Err.is at c.pause.ensures.told)
 
 pub returns-in-Ok-clause-told : goal.returns-in-Ok-clause-told
-returns-in-Ok-clause-told g c = telling_on {q = going} (rw c.in-Ok-true.is at c.pause.ensures.told) c.round.ensures.told
+returns-in-Ok-clause-told g c = so_by refl (telling_on {q = going} (still_of (rw c.in-Ok-true.is at c.pause.ensures.told)) c.round.ensures.told)
 
 pub returns-in-Ok-round-clause-told : goal.returns-in-Ok-round-clause-told
-returns-in-Ok-round-clause-told g c = telling_on {q = going} (rw c.in-Ok-false.is at c.pause.ensures.told) c.round-in-Ok-false.ensures.told
+returns-in-Ok-round-clause-told g c = so_by refl (telling_on {q = going} (still_of (rw c.in-Ok-false.is at c.pause.ensures.told)) c.round-in-Ok-false.ensures.told)
 
 pub returns-in-Err-round-clause-told : goal.returns-in-Err-round-clause-told
-returns-in-Err-round-clause-told g c = telling_more (λ x e. tt) (telling_on {q = going} (rw c.in-Ok-true.is at c.pause.ensures.told) c.round.ensures.told)
+returns-in-Err-round-clause-told g c = so_by (inl refl) (telling_more (λ x e. tt) (telling_on {q = going} (still_of (rw c.in-Ok-true.is at c.pause.ensures.told)) c.round.ensures.told))
 
 pub returns-in-Err-round-2-clause-told : goal.returns-in-Err-round-2-clause-told
-returns-in-Err-round-2-clause-told g c = telling_more (λ x e. tt) (telling_on {q = going} (rw c.in-Ok-false.is at c.pause.ensures.told) c.round-in-Ok-false.ensures.told)
+returns-in-Err-round-2-clause-told g c = so_by (inl refl) (telling_more (λ x e. tt) (telling_on {q = going} (still_of (rw c.in-Ok-false.is at c.pause.ensures.told)) c.round-in-Ok-false.ensures.told))
 
 pub returns-in-Err-clause-polled : goal.returns-in-Err-clause-polled
 returns-in-Err-clause-polled g c =

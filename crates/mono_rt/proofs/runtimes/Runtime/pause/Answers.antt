@@ -1,8 +1,8 @@
-use Rattle.std.proofs.Common.{arith, refl, inl, inr, ap, subst, ◌∙◌}
-use Rattle.mono_rt.proofs.JournalLemmas.{does_led}
-use Rattle.mono_rt.proofs.RoundLemmas.{pause_some, pause_none, no_queue}
-use Rattle.mono_rt.specs.DriverReadings.{going, failed, after_wait}
-use Rattle.mono_rt.proofs.DriverLemmas.{tells_nothing, telling_on, telling_more, same_telling}
+use Rattle.std.proofs.Common.{arith, true, false, refl, inl, inr, ap, sym, subst, ◌∙◌}
+use Rattle.mono_rt.proofs.RoundLemmas.{pause_some, pause_none, pause_refused, pause_waited, no_queue}
+use Rattle.std.specs.Prelude.{is_err}
+use Rattle.mono_rt.specs.DriverReadings.{going, failed, after_call}
+use Rattle.mono_rt.proofs.DriverLemmas.{telling_more, same_told, handed_in, so_at, so_by}
 use Rattle.mono_rt.specs.Faults.{RisesIf}
 use Rattle.mono_rt.proofs.FaultLemmas.{risen_before}
 use Rattle.mono_rt.proofs.runtimes.Runtime.pause.Goals as goal
@@ -28,28 +28,45 @@ returns-in-Ok-false-clause-pauses g c =
     (no_queue c.args.self.now.cx.parts.tasks.tasks.queue c.queue_len.result c.queue_len.ensures (omega (arith, c.if-queue_len-gt0.false))) c.in-Ok-false.ensures.parks
 
 pub returns-in-Err-clause-pauses : goal.returns-in-Err-clause-pauses
-returns-in-Err-clause-pauses g c = does_led g.O.Outcome.output_number c.args.self.now.cx.parts c.drain.new.self.cx.parts c.args.self.now.journal c.drain.new.self.journal c.drain.ensures.goes
+returns-in-Err-clause-pauses g c =
+    pause_refused g.O.Outcome.output_number c.args.self.now.cx.parts.has_timers c.args.self.now.cx.parts c.drain.new.self.cx.parts c.args.self.now.journal c.drain.new.self.journal
+    (omega (arith, c.queue_len.ensures, c.if-queue_len-gt0.true)) c.in-Err.ensures.refused
 
 pub returns-in-Err-wait-clause-pauses : goal.returns-in-Err-wait-clause-pauses
-returns-in-Err-wait-clause-pauses g c = c.in-Err-wait.ensures.parks
+returns-in-Err-wait-clause-pauses g c =
+    pause_waited g.O.Outcome.output_number c.args.self.now.cx.parts.has_timers c.args.self.now.cx.parts c.wait.new.self.cx.parts c.args.self.now.journal c.wait.new.self.journal
+    (no_queue c.args.self.now.cx.parts.tasks.tasks.queue c.queue_len.result c.queue_len.ensures (omega (arith, c.if-queue_len-gt0.false))) c.in-Err-wait.ensures.parks
 
 pub returns-in-Ok-handed-clause-told : goal.returns-in-Ok-handed-clause-told
-returns-in-Ok-handed-clause-told g c = telling_on {q = going} (tells_nothing refl (same_telling c.submit-handed.ensures.readings c.submit-handed.ensures.time c.submit-handed.ensures.parks) refl) (c.in-Ok.ensures.told going going (inl refl))
+returns-in-Ok-handed-clause-told g c =
+    let is = c.submit-handed.ensures in
+    so_at (same_told g.D.Clock.readings g.D.Clock.time g.D.Clock.parks g.D.Clock.submits g.D.Clock.faults g.D.Clock.can_fail (sym c.drain.ensures.driver))
+    (so_by refl (c.in-Ok.ensures.told _ _ going going (false, (handed_in c.submit-handed.result false _ _ (sym (ap is_err c.in-Ok-handed.is)) is.readings is.time is.parks is.submits is.faults is.sure, refl))))
 
 pub returns-in-Err-handed-clause-told : goal.returns-in-Err-handed-clause-told
-returns-in-Err-handed-clause-told g c = telling_on {q = going} (tells_nothing refl (same_telling c.submit-handed.ensures.readings c.submit-handed.ensures.time c.submit-handed.ensures.parks) refl) (c.in-Ok.ensures.told going failed (inr refl))
+returns-in-Err-handed-clause-told g c =
+    let is = c.submit-handed.ensures in
+    so_at (same_told g.D.Clock.readings g.D.Clock.time g.D.Clock.parks g.D.Clock.submits g.D.Clock.faults g.D.Clock.can_fail (sym c.drain.ensures.driver))
+    (so_by refl (c.in-Ok.ensures.told _ _ going failed (true, (handed_in c.submit-handed.result true _ _ (sym (ap is_err c.in-Err-handed.is)) is.readings is.time is.parks is.submits is.faults is.sure, refl))))
 
 pub returns-in-Err-clause-told : goal.returns-in-Err-clause-told
-returns-in-Err-clause-told g c = telling_more (λ x e. tt) (telling_on {q = going} (tells_nothing refl (same_telling c.submit-handed.ensures.readings c.submit-handed.ensures.time c.submit-handed.ensures.parks) refl) (c.in-Err.ensures.told going going refl))
+returns-in-Err-clause-told g c =
+    let is = c.submit-handed.ensures in
+    so_at (same_told g.D.Clock.readings g.D.Clock.time g.D.Clock.parks g.D.Clock.submits g.D.Clock.faults g.D.Clock.can_fail (sym c.drain.ensures.driver))
+    (record {
+      last = _;
+      left = inr (is_err c.submit-handed.result, handed_in c.submit-handed.result (is_err c.submit-handed.result) _ _ refl is.readings is.time is.parks is.submits is.faults is.sure);
+      telling = telling_more (λ x e. tt) (c.in-Err.ensures.told _ _ going going (refl, refl));
+    })
 
 pub returns-in-Ok-true-clause-told : goal.returns-in-Ok-true-clause-told
-returns-in-Ok-true-clause-told g c = telling_more (λ x e. e ∙ ap after_wait c.in-Ok-true.field-0-test) c.in-Ok-true.ensures.told
+returns-in-Ok-true-clause-told g c = so_by refl (telling_more (λ x e. e ∙ ap after_call c.in-Ok-true.field-0-test) c.in-Ok-true.ensures.told)
 
 pub returns-in-Ok-false-clause-told : goal.returns-in-Ok-false-clause-told
-returns-in-Ok-false-clause-told g c = telling_more (λ x e. e ∙ ap after_wait c.in-Ok-false.field-0-test) c.in-Ok-false.ensures.told
+returns-in-Ok-false-clause-told g c = so_by refl (telling_more (λ x e. e ∙ ap after_call c.in-Ok-false.field-0-test) c.in-Ok-false.ensures.told)
 
 pub returns-in-Err-wait-clause-told : goal.returns-in-Err-wait-clause-told
-returns-in-Err-wait-clause-told g c = telling_more (λ x e. tt) c.wait.ensures.told
+returns-in-Err-wait-clause-told g c = so_by (inl refl) (telling_more (λ x e. tt) c.wait.ensures.told)
 
 pub returns-in-Ok-handed-clause-faults : goal.returns-in-Ok-handed-clause-faults
 returns-in-Ok-handed-clause-faults g c = c.drain.ensures.faults ∙ (rw c.in-Ok-handed.is at c.submit-handed.ensures.faults)

@@ -1,6 +1,6 @@
 use Rattle.std.proofs.Common.{inl, inr, ◌≡◌, ◌+◌, ◌-◌, ℕ, arith, refl, ap, sym, subst, ◌∙◌}
 use Rattle.mono_rt.proofs.JournalLemmas.{goes_on, goes_nowhere}
-use Rattle.mono_rt.proofs.RoundLemmas.{turns_more, no_turns, does_round, most_is, no_queue}
+use Rattle.mono_rt.proofs.RoundLemmas.{turns_more, no_turns, does_round, round_breaks, most_is, no_queue}
 use Rattle.mono_rt.proofs.DriverLemmas.{telling_on, tells_nothing}
 use Rattle.mono_rt.specs.Journals.{Does}
 use Rattle.mono_rt.specs.FuturePolls.{Polling}
@@ -42,6 +42,12 @@ returns-then-queue_len-eq0-clause-round g c =
     let most = most_is _ _ _ _ _ c.args.units c.ranges.units.fits c.queue_len-queued.ensures c.saturating_mul.ensures c.saturating_add.ensures c.min-most.ensures in
     does_round g.O.Outcome.output_number c.loop-done.done c.args.units _ c.args.self.now.cx.parts c.loop-done.self.cx.parts c.args.self.now.journal c.loop-done.self.journal c.loop-done.invariant.3
     (omega (arith, most, c.loop-done.auto.done-end)) (inl (no_queue _ _ c.queue_len.ensures c.if-queue_len-eq0.true)) refl
+
+pub returns-in_err-turn-clause-broken : goal.returns-in_err-turn-clause-broken
+returns-in_err-turn-clause-broken g c =
+    let most = most_is _ _ _ _ _ c.args.units c.ranges.units.fits c.queue_len-queued.ensures c.saturating_mul.ensures c.saturating_add.ensures c.min-most.ensures in
+    round_breaks g.O.Outcome.output_number c.loop-done.done c.args.units c.args.self.now.cx.parts c.loop-done.self.cx.parts c.turn.new.self.cx.parts c.args.self.now.journal c.loop-done.self.journal c.turn.new.self.journal
+    (omega (arith, most, c.loop-done-test.true)) c.loop-done.invariant.3 c.in_err-turn.ensures.broken
 
 pub returns-clause-round : goal.returns-clause-round
 returns-clause-round g c =

@@ -12,8 +12,8 @@ invariant-loop-done g l = Goes g.O.Outcome.output_number l.initial.self.cx.parts
     × (l.done ≡ 0 → l.self.cx.parts.tasks.tasks.queue ≡ l.initial.self.cx.parts.tasks.tasks.queue)
     × Does g.O.Outcome.output_number (Turns l.done) l.initial.self.cx.parts l.self.cx.parts l.initial.self.journal l.self.journal
     × (l.self.cx.parts.has_timers ≡ l.initial.self.cx.parts.has_timers)
-    × Telling (Still going) (telling (g.D.Clock.readings l.initial.self.driver) (g.D.Clock.time l.initial.self.driver) (g.D.Clock.parks l.initial.self.driver)) going l.initial.self.journal l.self.journal
-    (telling (g.D.Clock.readings l.self.driver) (g.D.Clock.time l.self.driver) (g.D.Clock.parks l.self.driver))
+    × Telling (Still going) (telling (g.D.Clock.readings l.initial.self.driver) (g.D.Clock.time l.initial.self.driver) (g.D.Clock.parks l.initial.self.driver) (g.D.Clock.submits l.initial.self.driver) (g.D.Clock.faults l.initial.self.driver) (g.D.Clock.can_fail l.initial.self.driver)) going l.initial.self.journal l.self.journal
+    (telling (g.D.Clock.readings l.self.driver) (g.D.Clock.time l.self.driver) (g.D.Clock.parks l.self.driver) (g.D.Clock.submits l.self.driver) (g.D.Clock.faults l.self.driver) (g.D.Clock.can_fail l.self.driver))
     × Does g.O.Outcome.output_number (Polling g.O.Outcome.output_number g.W.SharedState.leads g.F.TaskFuture l.initial.self.cx.parts.has_timers l.initial.self.cx.futures.items l.self.cx.futures.items) l.initial.self.cx.parts l.self.cx.parts l.initial.self.journal l.self.journal
     × Fills g.O.Outcome.output_number g.W.SharedState.leads g.F.TaskFuture l.initial.self.cx l.initial.self.journal l.self.journal
     × (l.self.journal.entries.held ≡ l.initial.self.journal.entries.held)

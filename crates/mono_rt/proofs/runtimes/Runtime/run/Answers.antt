@@ -1,10 +1,10 @@
-use Rattle.std.proofs.Common.{◌≡◌, refl, true, false, Bool, arith, ap, ◌∙◌, sym, subst}
+use Rattle.std.proofs.Common.{inl, ◌≡◌, refl, true, false, Bool, arith, ap, ◌∙◌, sym, subst}
 use Rattle.mono_rt.specs.Rounds.{Rounds}
-use Rattle.mono_rt.proofs.JournalLemmas.{does_led, goes_of}
-use Rattle.mono_rt.proofs.RoundLemmas.{does_first, passes_more, ends_done, ends_turns, ends_by}
+use Rattle.mono_rt.proofs.JournalLemmas.{goes_of}
+use Rattle.mono_rt.proofs.RoundLemmas.{does_first, passes_more, ends_done, ends_turns, ends_first, ends_by}
 use Rattle.mono_rt.proofs.runtimes.Runtime.run.Goals.{then-loop-units-test+else-not-has_output, else-loop-units-test}
 use Rattle.mono_rt.specs.DriverReadings.{going}
-use Rattle.mono_rt.proofs.DriverLemmas.{telling_on, telling_more}
+use Rattle.mono_rt.proofs.DriverLemmas.{telling_on, telling_more, so_after, so_by, so_error, still_of}
 use Rattle.std.specs.Prelude.{⊤, Err}
 use Rattle.mono_rt.specs.Journals.{Does}
 use Rattle.mono_rt.specs.FuturePolls.{Polling}
@@ -38,7 +38,7 @@ loop-units-preserved g c = (
       c.loop-units.invariant.2 (sym c.if-not-has_output.ensures.answer) (omega (arith, c.loop-units-test.true)) c.loop-units.invariant.0 (rw c.in-Ok-pass.is at c.pass.ensures.passes),
   c.pass.ensures.rests,
   c.pass.ensures.has_timers ∙ c.loop-units.invariant.2,
-  telling_on {q = going} c.loop-units.invariant.3 (rw c.in-Ok-pass.is at c.pass.ensures.told),
+  telling_on {q = going} c.loop-units.invariant.3 (still_of (rw c.in-Ok-pass.is at c.pass.ensures.told)),
   polls_on g.O.Outcome.output_number g.W.SharedState.leads g.F.TaskFuture c.args.self.now.cx.parts.has_timers _ _ _ c.args.self.now.cx.parts c.loop-units.self.cx.parts c.pass.new.self.cx.parts c.args.self.now.journal c.loop-units.self.journal c.pass.new.self.journal c.loop-units.invariant.4
       (subst (λ x. Does g.O.Outcome.output_number (Polling g.O.Outcome.output_number g.W.SharedState.leads g.F.TaskFuture x c.loop-units.self.cx.futures.items c.pass.new.self.cx.futures.items) c.loop-units.self.cx.parts c.pass.new.self.cx.parts c.loop-units.self.journal c.pass.new.self.journal) c.loop-units.invariant.2 (rw c.in-Ok-pass.is at c.pass.ensures.polled)),
   fills_on g.O.Outcome.output_number g.W.SharedState.leads g.F.TaskFuture c.args.self.now.cx c.loop-units.self.cx c.args.self.now.journal c.loop-units.self.journal c.pass.new.self.journal
@@ -68,19 +68,19 @@ returns-else-has_output-clause-ends g c =
     (sym c.if-has_output.ensures.answer) c.loop-units.invariant.0
 
 pub returns-in-Err-clause-ends : goal.returns-in-Err-clause-ends
-returns-in-Err-clause-ends g c = does_led g.O.Outcome.output_number c.args.self.now.cx.parts c.round.new.self.cx.parts c.args.self.now.journal c.round.new.self.journal c.round.ensures.goes
+returns-in-Err-clause-ends g c = ends_first g.O.Outcome.output_number c.args.self.now.cx.parts.has_timers c.args.main c.args.turns c.args.self.now.cx.parts c.round.new.self.cx.parts c.args.self.now.journal c.round.new.self.journal c.in-Err.ensures.broken
 
 pub returns-in-Err-pass-clause-told : goal.returns-in-Err-pass-clause-told
-returns-in-Err-pass-clause-told g c = telling_on c.loop-units.invariant.3 (telling_more (λ x e. e) (rw c.in-Err-pass.is at c.pass.ensures.told))
+returns-in-Err-pass-clause-told g c = so_after c.loop-units.invariant.3 (so_error (rw c.in-Err-pass.is at c.pass.ensures.told))
 
 pub returns-then-has_output-clause-told : goal.returns-then-has_output-clause-told
-returns-then-has_output-clause-told g c = c.loop-units.invariant.3
+returns-then-has_output-clause-told g c = so_by refl c.loop-units.invariant.3
 
 pub returns-else-has_output-clause-told : goal.returns-else-has_output-clause-told
-returns-else-has_output-clause-told g c = c.loop-units.invariant.3
+returns-else-has_output-clause-told g c = so_by refl c.loop-units.invariant.3
 
 pub returns-in-Err-clause-told : goal.returns-in-Err-clause-told
-returns-in-Err-clause-told g c = telling_more (λ x e. tt) c.round.ensures.told
+returns-in-Err-clause-told g c = so_by (inl refl) (telling_more (λ x e. tt) c.round.ensures.told)
 
 pub returns-in-Err-pass-clause-polled : goal.returns-in-Err-pass-clause-polled
 returns-in-Err-pass-clause-polled g c =

@@ -10,8 +10,8 @@ use Rattle.mono_rt.proofs.runtimes.Runtime.run.Given as goal
 abbrev pub invariant-loop-units : goal.invariant-loop-units
 invariant-loop-units g l = Does g.O.Outcome.output_number (Rounds l.fn.self.cx.parts.has_timers l.main l.turns l.units) l.fn.self.cx.parts l.self.cx.parts l.fn.self.journal l.self.journal
     × (l.self.cx.parts.tasks.turn ≡ None) × (l.self.cx.parts.has_timers ≡ l.fn.self.cx.parts.has_timers)
-    × Telling (Still going) (telling (g.D.Clock.readings l.fn.self.driver) (g.D.Clock.time l.fn.self.driver) (g.D.Clock.parks l.fn.self.driver)) going l.fn.self.journal l.self.journal
-    (telling (g.D.Clock.readings l.self.driver) (g.D.Clock.time l.self.driver) (g.D.Clock.parks l.self.driver))
+    × Telling (Still going) (telling (g.D.Clock.readings l.fn.self.driver) (g.D.Clock.time l.fn.self.driver) (g.D.Clock.parks l.fn.self.driver) (g.D.Clock.submits l.fn.self.driver) (g.D.Clock.faults l.fn.self.driver) (g.D.Clock.can_fail l.fn.self.driver)) going l.fn.self.journal l.self.journal
+    (telling (g.D.Clock.readings l.self.driver) (g.D.Clock.time l.self.driver) (g.D.Clock.parks l.self.driver) (g.D.Clock.submits l.self.driver) (g.D.Clock.faults l.self.driver) (g.D.Clock.can_fail l.self.driver))
     × Does g.O.Outcome.output_number (Polling g.O.Outcome.output_number g.W.SharedState.leads g.F.TaskFuture l.fn.self.cx.parts.has_timers l.fn.self.cx.futures.items l.self.cx.futures.items) l.fn.self.cx.parts l.self.cx.parts l.fn.self.journal l.self.journal
     × Fills g.O.Outcome.output_number g.W.SharedState.leads g.F.TaskFuture l.fn.self.cx l.fn.self.journal l.self.journal
     × (l.self.journal.entries.held ≡ l.fn.self.journal.entries.held)

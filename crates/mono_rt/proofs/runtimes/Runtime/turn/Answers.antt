@@ -1,8 +1,10 @@
 use Rattle.mono_rt.specs.Refinement.{hosting_of}
-use Rattle.mono_rt.specs.Rounds.{OneTurn}
+use Rattle.std.proofs.Common.{inl, inr}
+use Rattle.mono_rt.specs.Journals.{Stays}
+use Rattle.mono_rt.specs.Rounds.{OneTurn, UpToOneTurn}
 use Rattle.mono_rt.proofs.CallLemmas.{same_machine}
 use Rattle.mono_rt.proofs.JournalLemmas.{goes_of, goes_on, does_turn}
-use Rattle.mono_rt.proofs.RoundLemmas.{does_one}
+use Rattle.mono_rt.proofs.RoundLemmas.{does_one, does_more}
 use Rattle.mono_rt.proofs.DriverLemmas.{telling_on, tells_kept}
 use Rattle.std.proofs.Common.{refl, ap, sym, subst, ◌∙◌}
 use Rattle.mono_rt.specs.Record.{no_acts}
@@ -36,6 +38,24 @@ returns-clause-turned g c =
     does_one number old.cx.parts opened left old.journal first last _ _ _ _ _ c.in-Some.ensures.reading
     (does_turn number opened done.parts left first last _ _ _ (c.turn-task.ensures.is old.journal.is_full c.in-Some.ensures.acts) c.keep_turn.ensures.history
     (λ m st. same_machine number hosting_of done.parts left m c.keep_turn.ensures.tasks c.keep_turn.ensures.timers c.keep_turn.ensures.has_timers c.keep_turn.ensures.blocking st) c.keep_turn.ensures.timers)
+
+pub returns-then-self-clause-broken : goal.returns-then-self-clause-broken
+returns-then-self-clause-broken g c =
+    let number = g.O.Outcome.output_number in
+    let old = c.args.self.now in
+    let opened = c.open_turn.new.self in
+    let done = c.turn-task.new.self in
+    let left = c.keep_turn.new.self in
+    let first = c.open_turn.new.journal in
+    let last = c.keep_turn.new.journal in
+    does_more number OneTurn UpToOneTurn old.cx.parts left old.journal last (λ m new xs zs stm stn is. inr is)
+    (does_one number old.cx.parts opened left old.journal first last _ _ _ _ _ c.in-Some.ensures.reading
+    (does_turn number opened done.parts left first last _ _ _ (c.turn-task.ensures.is old.journal.is_full c.in-Some.ensures.acts) c.keep_turn.ensures.history
+    (λ m st. same_machine number hosting_of done.parts left m c.keep_turn.ensures.tasks c.keep_turn.ensures.timers c.keep_turn.ensures.has_timers c.keep_turn.ensures.blocking st) c.keep_turn.ensures.timers))
+
+pub returns-in_default-clause-broken : goal.returns-in_default-clause-broken
+returns-in_default-clause-broken g c =
+    does_more g.O.Outcome.output_number Stays UpToOneTurn c.args.self.now.cx.parts c.open_turn.new.self c.args.self.now.journal c.open_turn.new.journal (λ m new xs zs stm stn is. inl is) c.in_default.ensures.unread
 
 pub returns-clause-goes : goal.returns-clause-goes
 returns-clause-goes g c = goes_of g.O.Outcome.output_number OneTurn c.args.self.now.cx.parts c.keep_turn.new.self c.args.self.now.journal c.keep_turn.new.journal (returns-clause-turned g c)

@@ -1,10 +1,9 @@
 use Rattle.std.proofs.Common.{◌≡◌, true, false, ◌∙◌, sym, subst, refl}
 use Rattle.mono_rt.specs.Journals.{Does}
 use Rattle.mono_rt.specs.Rounds.{Parks}
-use Rattle.mono_rt.proofs.RoundLemmas.{does_parks, does_clocked}
+use Rattle.mono_rt.proofs.RoundLemmas.{does_parks, does_clocked, park_refused, drain_refused, clock_refused}
 use Rattle.mono_rt.specs.Rounds.{IsPark}
-use Rattle.mono_rt.proofs.JournalLemmas.{goes_on, does_led}
-use Rattle.mono_rt.specs.DriverReadings.{Telling, Still, after_park, after_wait}
+use Rattle.mono_rt.specs.DriverReadings.{Telling, Still, after_park, after_call}
 use Rattle.mono_rt.proofs.DriverLemmas.{telling_on, telling_more, drained_wait}
 use Rattle.mono_rt.proofs.FaultLemmas.{rises_before}
 use Rattle.mono_rt.proofs.runtimes.Runtime.wait.Goals as goal
@@ -33,36 +32,32 @@ returns-in-Ok-clock_step-clause-parks g c =
     (subst (λ h. Does number (IsPark h) old.cx.parts old.cx.parts old.journal parked) timers c.in-Ok.ensures.parked) c.in-Ok-drain.ensures.drained c.in-Ok-clock_step.ensures.clocked)
 
 pub returns-in-Err-clause-parks : goal.returns-in-Err-clause-parks
-returns-in-Err-clause-parks g c = does_led g.O.Outcome.output_number c.args.self.now.cx.parts c.args.self.now.cx.parts c.args.self.now.journal c.park.new.journal c.park.ensures.goes
+returns-in-Err-clause-parks g c =
+    let old = c.args.self.now in
+    park_refused g.O.Outcome.output_number old.cx.parts.has_timers old.cx.parts old.cx.parts old.journal c.park.new.journal c.in-Err.ensures.refused
 
 pub returns-in-Err-drain-clause-parks : goal.returns-in-Err-drain-clause-parks
 returns-in-Err-drain-clause-parks g c =
-    let number = g.O.Outcome.output_number in
     let old = c.args.self.now in
-    let parked = c.park.new.journal in
     let drained = c.drain.new.self in
-    does_led number old.cx.parts drained.cx.parts old.journal drained.journal (goes_on number old.cx.parts old.cx.parts drained.cx.parts old.journal parked drained.journal c.park.ensures.goes c.drain.ensures.goes)
+    drain_refused g.O.Outcome.output_number old.cx.parts.has_timers old.cx.parts old.cx.parts drained.cx.parts old.journal c.park.new.journal drained.journal c.in-Ok.ensures.parked c.in-Err-drain.ensures.refused
 
 pub returns-in-Err-clock_step-clause-parks : goal.returns-in-Err-clock_step-clause-parks
 returns-in-Err-clock_step-clause-parks g c =
-    let number = g.O.Outcome.output_number in
     let old = c.args.self.now in
-    let parked = c.park.new.journal in
     let drained = c.drain.new.self in
-    let left = c.clock_step.new.self in
-    let last = c.clock_step.new.journal in
-    does_led number old.cx.parts left old.journal last (goes_on number old.cx.parts drained.cx.parts left old.journal drained.journal last
-    (goes_on number old.cx.parts old.cx.parts drained.cx.parts old.journal parked drained.journal c.park.ensures.goes c.drain.ensures.goes) c.clock_step.ensures.goes)
+    clock_refused g.O.Outcome.output_number old.cx.parts.has_timers old.cx.parts old.cx.parts drained.cx.parts c.clock_step.new.self old.journal c.park.new.journal drained.journal c.clock_step.new.journal
+    (sym c.drain.ensures.has_timers ∙ c.if-self.true) c.in-Ok.ensures.parked c.in-Ok-drain.ensures.drained c.in-Err-clock_step.ensures.undone
 
 pub returns-else-self-clause-told : goal.returns-else-self-clause-told
 returns-else-self-clause-told g c =
     let failed = c.in-Ok.failed in
-    telling_on {q = after_park failed} c.in-Ok.ensures.told (c.in-Ok-drain.ensures.told (after_park failed) (after_wait failed) (drained_wait failed))
+    telling_on {q = after_park failed} c.in-Ok.ensures.told (c.in-Ok-drain.ensures.told _ _ (after_park failed) (after_call failed) (drained_wait failed _))
 
 pub returns-in-Ok-clock_step-clause-told : goal.returns-in-Ok-clock_step-clause-told
 returns-in-Ok-clock_step-clause-told g c =
     let failed = c.in-Ok.failed in
-    telling_on {q = after_wait failed} (telling_on {q = after_park failed} c.in-Ok.ensures.told (c.in-Ok-drain.ensures.told (after_park failed) (after_wait failed) (drained_wait failed))) (c.clock_step.ensures.told (after_wait failed))
+    telling_on {q = after_call failed} (telling_on {q = after_park failed} c.in-Ok.ensures.told (c.in-Ok-drain.ensures.told _ _ (after_park failed) (after_call failed) (drained_wait failed _))) (c.clock_step.ensures.told (after_call failed))
 
 pub returns-in-Err-clause-told : goal.returns-in-Err-clause-told
 returns-in-Err-clause-told g c = telling_more (λ x e. tt) c.park.ensures.told
@@ -70,12 +65,12 @@ returns-in-Err-clause-told g c = telling_more (λ x e. tt) c.park.ensures.told
 pub returns-in-Err-drain-clause-told : goal.returns-in-Err-drain-clause-told
 returns-in-Err-drain-clause-told g c =
     let failed = c.in-Ok.failed in
-    telling_more (λ x e. tt) (telling_on {q = after_park failed} c.in-Ok.ensures.told (c.in-Err-drain.ensures.told (after_park failed) (after_park failed) refl))
+    telling_more (λ x e. tt) (telling_on {q = after_park failed} c.in-Ok.ensures.told (c.in-Err-drain.ensures.told _ _ (after_park failed) (after_park failed) (refl, refl)))
 
 pub returns-in-Err-clock_step-clause-told : goal.returns-in-Err-clock_step-clause-told
 returns-in-Err-clock_step-clause-told g c =
     let failed = c.in-Ok.failed in
-    telling_more (λ x e. tt) (telling_on {q = after_wait failed} (telling_on {q = after_park failed} c.in-Ok.ensures.told (c.in-Ok-drain.ensures.told (after_park failed) (after_wait failed) (drained_wait failed))) (c.clock_step.ensures.told (after_wait failed)))
+    telling_more (λ x e. tt) (telling_on {q = after_call failed} (telling_on {q = after_park failed} c.in-Ok.ensures.told (c.in-Ok-drain.ensures.told _ _ (after_park failed) (after_call failed) (drained_wait failed _))) (c.clock_step.ensures.told (after_call failed)))
 
 pub returns-else-self-clause-faults : goal.returns-else-self-clause-faults
 returns-else-self-clause-faults g c = rises_before c.in-Ok.failed _ _ _ c.in-Ok.ensures.faults c.drain.ensures.faults

@@ -37,5 +37,9 @@ returns-clause-told g c = λ course.
     telling_on {j = c.open_clock.new.journal} (tells_nothing refl refl c.open_clock.ensures.history)
     (tells_one course (Ran (event.Clock c.as_nanos-nanos.result) (report.Fired c.into_fired.result)) refl (_, (course, ((read_at c.as_nanos-nanos.result (nanos_of c.in-Some.now) c.as_nanos-nanos.ensures c.in-Some.ensures.read, refl), (refl, refl)))) c.push.ensures.history)
 
+pub returns-in_default-clause-undone : goal.returns-in_default-clause-undone
+returns-in_default-clause-undone g c =
+    does_stay g.O.Outcome.output_number c.args.self.now c.args.self.now c.args.journal.now c.open_clock.new.journal refl refl refl refl c.open_clock.ensures.history
+
 pub returns-in_default-clause-told : goal.returns-in_default-clause-told
-returns-in_default-clause-told g c = λ course. tells_nothing refl (same_told g.D.Clock.readings g.D.Clock.time g.D.Clock.parks c.in_default.ensures.unread) c.open_clock.ensures.history
+returns-in_default-clause-told g c = λ course. tells_nothing refl (same_told g.D.Clock.readings g.D.Clock.time g.D.Clock.parks g.D.Clock.submits g.D.Clock.faults g.D.Clock.can_fail c.in_default.ensures.unread) c.open_clock.ensures.history

@@ -5,7 +5,7 @@ use Rattle.mono_rt.specs.Drains.{remotes, listed, drain_of}
 use Rattle.mono_rt.specs.Rounds.{Drained}
 use Rattle.mono_rt.proofs.RoundLemmas.{does_drain}
 use Rattle.mono_rt.proofs.DrainLemmas.{longer}
-use Rattle.mono_rt.proofs.JournalLemmas.{goes_nowhere, goes_of}
+use Rattle.mono_rt.proofs.JournalLemmas.{goes_nowhere, goes_of, does_stay}
 use Rattle.mono_rt.proofs.DriverLemmas.{tells_nothing, tells_by, tells_on, remotes_tell}
 use Rattle.mono_rt.proofs.parts.drains.Parts+O+Blockings+P.wake_taken.Goals as goal
 
@@ -31,20 +31,23 @@ returns-in-Some-clause-longer g c =
     let old = c.args.self.now in
     subst (λ x. length old.tasks.tasks.queue ≤ length x.tasks.queue) (sym c.wake_all.ensures) (longer old.tasks.tasks c.deref.result.now)
 
+pub returns-in-None-clause-refused : goal.returns-in-None-clause-refused
+returns-in-None-clause-refused g c = does_stay g.O.Outcome.output_number c.args.self.now c.args.self.now c.args.journal.now c.open_drain.new.journal refl refl refl refl c.open_drain.ensures.history
+
 pub returns-in-None-clause-goes : goal.returns-in-None-clause-goes
 returns-in-None-clause-goes g c = goes_nowhere g.O.Outcome.output_number c.args.self.now c.args.self.now c.args.journal.now c.open_drain.new.journal refl refl refl refl c.open_drain.ensures.history
 
 pub returns-in-None-clause-told : goal.returns-in-None-clause-told
-returns-in-None-clause-told g c = λ told before after ends. tells_nothing (sym ends) refl c.open_drain.ensures.history
+returns-in-None-clause-told g c = λ old new before after ends. tells_nothing (sym ends.1) ends.0 c.open_drain.ensures.history
 
 pub returns-in-Some-clause-told : goal.returns-in-Some-clause-told
-returns-in-Some-clause-told g c = λ told before after ends.
+returns-in-Some-clause-told g c = λ old new before after ends.
     let tasks = c.args.self.now.tasks.tasks in
     let taken = c.args.taken.now in
     let woken = c.from.result in
     tells_by after (remotes tasks taken ++ drain_of woken ∷ []) refl
     (tells_on _ _ _ before before after (remotes tasks taken) (drain_of woken ∷ []) (remotes_tell tasks taken _ before)
-    (_, (after, ((refl, ends), (refl, refl)))))
+    (new, (after, (ends, (refl, refl)))))
     (c.push.ensures.history
     ∙ ap (λ xs. xs ++ drain_of woken ∷ []) (c.tell_remotes.ensures.history ∙ ap (λ xs. xs ++ remotes tasks taken) c.open_drain.ensures.history)
     ∙ append_assoc c.args.journal.now.history.entries (remotes tasks taken) (drain_of woken ∷ []))

@@ -46,11 +46,14 @@ returns-in-Ok-clause-told g c =
     let read = c.now-now.ensures in
     let failed = c.park_driver-failed.result in
     telling_on {j = c.reserve.new.self} (tells_nothing refl refl c.reserve.ensures.history)
-    (telling_on {j = c.push.new.self} (tells_one going (Now c.as_nanos.result) refl (refl, (_, (read_at c.as_nanos.result (nanos_of c.now-now.result) c.as_nanos.ensures (record { reads = read.reads; reads_time = read.reads_time; time = read.time; parks = read.parks }), (refl, refl)))) c.push.ensures.history)
+    (telling_on {j = c.push.new.self} (tells_one going (Now c.as_nanos.result) refl (refl, (_, (read_at c.as_nanos.result (nanos_of c.now-now.result) c.as_nanos.ensures (record { reads = read.reads; reads_time = read.reads_time; time = read.time; parks = read.parks; submits = read.submits; faults = read.faults; can_fail = read.can_fail }), (refl, refl)))) c.push.ensures.history)
     (tells_one (after_park failed) (Park c.wait_from-wait.result) refl (refl, (_, (failed, (c.park_driver-failed.ensures.parked, (refl, refl))))) c.push-in-Ok.ensures.history))
 
 pub returns-in-Err-clause-told : goal.returns-in-Err-clause-told
 returns-in-Err-clause-told g c = tells_nothing refl refl c.reserve.ensures.history
+
+pub returns-in-Err-clause-refused : goal.returns-in-Err-clause-refused
+returns-in-Err-clause-refused g c = does_stay g.O.Outcome.output_number c.args.self.now c.args.self.now c.args.journal.now c.reserve.new.self refl refl refl refl c.reserve.ensures.history
 
 pub returns-in-Err-clause-goes : goal.returns-in-Err-clause-goes
 returns-in-Err-clause-goes g c = goes_nowhere g.O.Outcome.output_number c.args.self.now c.args.self.now c.args.journal.now c.reserve.new.self refl refl refl refl c.reserve.ensures.history

@@ -30,7 +30,7 @@ pub returns-in-Ok-begin-clause-told : goal.returns-in-Ok-begin-clause-told
 returns-in-Ok-begin-clause-told g c =
     let read = c.now-now.ensures in
     telling_on {j = c.reserve.new.self} (tells_nothing refl refl c.reserve.ensures.history)
-    (tells_one going (Now c.as_nanos.result) refl (refl, (_, (read_at c.as_nanos.result (nanos_of c.now-now.result) c.as_nanos.ensures (record { reads = read.reads; reads_time = read.reads_time; time = read.time; parks = read.parks }), (refl, refl)))) c.push.ensures.history)
+    (tells_one going (Now c.as_nanos.result) refl (refl, (_, (read_at c.as_nanos.result (nanos_of c.now-now.result) c.as_nanos.ensures (record { reads = read.reads; reads_time = read.reads_time; time = read.time; parks = read.parks; submits = read.submits; faults = read.faults; can_fail = read.can_fail }), (refl, refl)))) c.push.ensures.history)
 
 pub returns-in-Err-clause-told : goal.returns-in-Err-clause-told
 returns-in-Err-clause-told g c = tells_nothing refl refl c.reserve.ensures.history
@@ -48,6 +48,12 @@ returns-in-Ok-begin-clause-at g c =
     (does_stay number parts opened c.args.journal.now c.reserve.new.self refl refl refl refl c.reserve.ensures.history)
     (does_past number (ReadsAt (nanos_of c.now-now.result)) opened c.reserve.new.self c.push.new.self (Now n ∷ []) c.push.ensures.history (λ m. refl) (λ m st. (refl, λ s. refl))
     (λ m st rest. (ap (λ x. Now x ∷ rest) c.as_nanos.ensures, refl)))
+
+pub returns-in-Err-clause-unread : goal.returns-in-Err-clause-unread
+returns-in-Err-clause-unread g c = does_stay g.O.Outcome.output_number c.args.self.now c.args.self.now c.args.journal.now c.reserve.new.self refl refl refl refl c.reserve.ensures.history
+
+pub returns-in-Err-begin-clause-unread : goal.returns-in-Err-begin-clause-unread
+returns-in-Err-begin-clause-unread g c = does_stay g.O.Outcome.output_number c.args.self.now (record c.args.self.now { acts = c.begin.new.self }) c.args.journal.now c.reserve.new.self refl refl refl refl c.reserve.ensures.history
 
 pub returns-in-Err-clause-goes : goal.returns-in-Err-clause-goes
 returns-in-Err-clause-goes g c = goes_nowhere g.O.Outcome.output_number c.args.self.now c.args.self.now c.args.journal.now c.reserve.new.self refl refl refl refl c.reserve.ensures.history
