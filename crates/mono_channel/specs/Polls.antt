@@ -1,0 +1,45 @@
+-- What one poll of an end answers, and what it leaves.
+use Rattle.std.specs.Prelude.{⊤, ◌≡◌, List, [], ◌∷◌, ◌++◌, Option, Some, None, Result, Ok, Err}
+use Rattle.std.specs.declared.alloc.AllocError.{AllocError}
+use Rattle.mono_model.specs.declared.poll.Poll.{Poll}
+use Rattle.mono_model.specs.declared.poll.Poll.TheVariants.{Ready, Pending}
+use Rattle.mono_channel.specs.declared.errors.SendError.{SendError}
+use Rattle.mono_channel.specs.declared.errors.TryRecvError.{TryRecvError}
+use Rattle.mono_channel.specs.Delivery.{Arrived}
+use Rattle.mono_channel.specs.Ends.{Ends, sent_by, received_by, settled_by, IsPair}
+use Rattle.mono_channel.specs.Errors.{unsent}
+
+-- the message alone
+abbrev pub first_of : {T V E : Type 0} → Result (T × V) E → Result T E
+first_of (Ok r) = Ok r.0
+first_of (Err e) = Err e
+
+module _ {T : Type 0} where
+  -- the receiver knows what it knew, and has received this too
+  abbrev pub HasReceived : Ends T → T → Ends T → Type 0
+  HasReceived a x b = IsPair b a × (received_by b ≡ received_by a ++ x ∷ []) × (settled_by b ≡ settled_by a)
+
+  -- nothing was received, and all that the settled senders sent was received before
+  abbrev pub FindsNone : Ends T → Ends T → Type 0
+  FindsNone a b = IsPair b a × (received_by b ≡ received_by a) × (settled_by b ≡ settled_by a) × Arrived (received_by a) (settled_by a)
+
+  -- the first message, or none
+  abbrev pub TriesToReceive : Ends T → Result T TryRecvError → Ends T → Type 0
+  TriesToReceive a (Ok x) b = HasReceived a x b
+  TriesToReceive a (Err e) b = FindsNone a b
+
+  -- the first message, or none; pending means that none was queued
+  abbrev pub PollsToReceive : Ends T → Poll (Result (Option T) AllocError) → Ends T → Type 0
+  PollsToReceive a (Ready (Ok (Some x))) b = HasReceived a x b
+  PollsToReceive a (Ready (Ok None)) b = FindsNone a b
+  PollsToReceive a (Ready (Err e)) b = FindsNone a b
+  PollsToReceive a Pending b = FindsNone a b
+
+  -- the message is sent, or comes back, or is kept while each place is taken
+  abbrev pub PollsToSend : Ends T → Option T → Poll (Result ⊤ (SendError T)) → Ends T → Option T → Type 0
+  PollsToSend a (Some x) (Ready (Ok done)) b kept = IsPair b a × (sent_by b ≡ sent_by a ++ x ∷ []) × (kept ≡ None)
+  PollsToSend a (Some x) (Ready (Err e)) b kept = IsPair b a × (sent_by b ≡ sent_by a) × (unsent e ≡ x) × (kept ≡ None)
+  PollsToSend a (Some x) Pending b kept = IsPair b a × (sent_by b ≡ sent_by a) × (kept ≡ Some x)
+  PollsToSend a None (Ready (Ok done)) b kept = (b ≡ a) × (kept ≡ None)
+  PollsToSend a None (Ready (Err e)) b kept = ⊥
+  PollsToSend a None Pending b kept = ⊥

@@ -1,0 +1,55 @@
+// The two ends of a channel, and what they share.
+use crate::gate::Gate;
+use crate::rule::{End, Queue};
+use mono_inbox::Unpark;
+use std::alloc::Global;
+use std::marker::Model;
+use std::sync::{Arc, Mutex};
+
+/// What the ends of a channel share: the queue, and who waits, under a lock.
+#[derive(Drop)]
+pub(crate) struct Shared<T: Drop, U: Unpark> {
+    pub(crate) queue: Queue<T>,
+    pub(crate) gate: Mutex<Gate<U>>,
+}
+
+/// Sends messages from any thread.
+#[derive(Drop)]
+pub struct Sender<T: Drop, U: Unpark> {
+    pub(crate) shared: Arc<Shared<T, U>, Global>,
+    pub(crate) end: End<T>,
+    pub(crate) is_closed: bool,
+    // the round in which its task last began to wait
+    pub(crate) round: Option<u64>,
+}
+
+/// Receives the messages of all senders, in its own thread.
+#[derive(Drop)]
+pub struct Receiver<T: Drop, U: Unpark> {
+    pub(crate) shared: Arc<Shared<T, U>, Global>,
+    pub(crate) end: End<T>,
+}
+
+impl<T: Drop, U: Unpark> Model for Sender<T, U> {
+    ghost use Rattle.std.specs.Arc.{arc_value};
+    ghost use Rattle.crossbeam_queue.specs.Passes.{IsPassOf};
+    ghost use Rattle.mono_channel.specs.Ends.{Ends, Sends};
+
+    ghost Value = { Ends T };
+
+    ghost view = { λ s. s.end };
+
+    ghost invariant = { λ s. IsPassOf (arc_value s.shared).queue s.end × Sends s.end };
+}
+
+impl<T: Drop, U: Unpark> Model for Receiver<T, U> {
+    ghost use Rattle.std.specs.Arc.{arc_value};
+    ghost use Rattle.crossbeam_queue.specs.Passes.{IsPassOf};
+    ghost use Rattle.mono_channel.specs.Ends.{Ends, Receives};
+
+    ghost Value = { Ends T };
+
+    ghost view = { λ r. r.end };
+
+    ghost invariant = { λ r. IsPassOf (arc_value r.shared).queue r.end × Receives r.end };
+}

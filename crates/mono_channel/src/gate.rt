@@ -1,0 +1,165 @@
+// What the ends of a channel share under its lock: who waits, and whether the channel is closed.
+ghost use Rattle.std.specs.Prelude.{◌≡◌, ◌+◌, ◌-◌, ◌<◌, ◌^◌, true, false, [], ◌++◌, ◌∷◌, Some, None, Err, IfErr, IfOk, OnErr, OnOk, MatchResult, MatchOption};
+ghost use Rattle.crossbeam_queue.specs.Passes.{view, IsPassOf, IsSamePass};
+ghost use Rattle.mono_channel.specs.Delivery.{Arrived, hand, sender};
+ghost use Rattle.mono_channel.specs.Errors.{message_of};
+ghost use Rattle.mono_channel.specs.declared.errors.TryRecvError.TheVariants.{Empty, Disconnected};
+
+use crate::errors::{TryRecvError, TrySendError};
+use crate::rule::{End, Queue, Received, Sent};
+use mono_inbox::{RemoteWaker, Unpark};
+use mono_model::Host;
+use std::alloc::{AllocError, Global};
+use std::mem;
+
+/// Who waits at a channel, and whether it is closed.
+#[derive(Drop)]
+pub(crate) struct Gate<U: Unpark> {
+    alloc: Global,
+    is_closed: bool,
+    // how many senders have not been closed
+    senders: u64,
+    // the waker of the task that waits to receive
+    receiver: Option<RemoteWaker<U>>,
+    // the wakers of the tasks that wait to send
+    waiting: Vec<RemoteWaker<U>>,
+    // how often those who wait to send were let go
+    round: u64,
+}
+
+impl<U: Unpark> Gate<U> {
+    /// Returns the gate of a new channel, which has one sender.
+    pub(crate) fn new(alloc: Global) -> Gate<U> {
+        Gate {
+            alloc,
+            is_closed: false,
+            senders: 1,
+            receiver: None,
+            waiting: Vec::new(alloc),
+            round: 0,
+        }
+    }
+
+    /// Counts a further sender.
+    pub(crate) fn join(&mut self) {
+        self.senders = self.senders.saturating_add(1);
+    }
+
+    /// Counts a sender out, and closes the channel if it was the last. Returns the receiver's waker, which is to be woken.
+    pub(crate) fn leave(&mut self) -> Option<RemoteWaker<U>> {
+        self.senders = self.senders.saturating_sub(1);
+        if self.senders > 0 {
+            return None;
+        }
+        self.is_closed = true;
+        mem::replace(&mut self.receiver, None)
+    }
+
+    /// Closes the channel. Returns the wakers of the tasks that wait to send.
+    pub(crate) fn close(&mut self) -> Vec<RemoteWaker<U>>
+        ensures closed { self.new.is_closed ≡ true }
+        ensures woken { result.items ≡ self.old.waiting.items }
+    {
+        self.is_closed = true;
+        self.let_go()
+    }
+
+    /// Returns whether the channel is closed.
+    pub(crate) fn is_closed(&self) -> bool
+        ensures { result ≡ self.now.is_closed }
+    {
+        self.is_closed
+    }
+
+    /// Empties the list of the tasks that wait to send. Returns their wakers, which are to be woken.
+    fn let_go(&mut self) -> Vec<RemoteWaker<U>>
+        ensures woken { result.items ≡ self.old.waiting.items }
+        ensures none { self.new.waiting.items ≡ [] }
+        ensures closed { self.new.is_closed ≡ self.old.is_closed }
+    {
+        self.round = self.round.wrapping_add(1);
+        mem::replace(&mut self.waiting, Vec::new(self.alloc))
+    }
+
+    /// Keeps the waker of a task that waits to send, unless its last one, of this round, is kept still. Returns the round.
+    pub(crate) fn wait_to_send(&mut self, waker: RemoteWaker<U>, round: Option<u64>) -> Result<u64, AllocError>
+    {
+        if round == Some(self.round) {
+            return Ok(self.round);
+        }
+        self.waiting.push(waker)?;
+        Ok(self.round)
+    }
+}
+
+/// Queues a message, and returns the waker of the task that waits to receive: it is to be woken now. The waker leaves the
+/// gate only if the message is queued.
+pub(crate) fn put<T: Drop, U: Unpark, R: Host>(
+    rt: &R,
+    gate: &mut Gate<U>,
+    queue: &Queue<T>,
+    end: &mut End<T>,
+    message: T,
+) -> Result<Option<RemoteWaker<U>>, TrySendError<T>>
+    requires queue { IsPassOf queue.now end.old }
+    requires sends { (view end.old).sends ≡ true }
+    ensures queue { IsSamePass end.old end.new }
+    ensures put { MatchResult result (λ first. (view end.new ≡ sender ((view end.old).sent ++ message ∷ [])) × (first ≡ gate.old.receiver) × (gate.new.receiver ≡ None)) (λ e. (message_of e ≡ message) × (view end.new ≡ view end.old) × (gate.new ≡ gate.old)) }
+    ensures open { OnOk result (gate.old.is_closed ≡ false) }
+{
+    if gate.is_closed {
+        return Err(TrySendError::Closed(message));
+    }
+    match queue.push_as::<Sent, R>(rt, end, message) {
+        Ok(()) => Ok(mem::replace(&mut gate.receiver, None)),
+        Err(message) => Err(TrySendError::Full(message)),
+    }
+}
+
+/// Takes the first message, and returns it with the wakers of the tasks that wait to send: they are to be woken now.
+///
+/// If none is queued, all that settled senders sent has been received.
+pub(crate) fn take<T: Drop, U: Unpark, R: Host>(
+    rt: &R,
+    gate: &mut Gate<U>,
+    queue: &Queue<T>,
+    end: &mut End<T>,
+) -> Option<(T, Vec<RemoteWaker<U>>)>
+    requires queue { IsPassOf queue.now end.old }
+    requires receives { (view end.old).receives ≡ true }
+    ensures queue { IsSamePass end.old end.new }
+    ensures taken { MatchOption result ((view end.new ≡ view end.old) × (gate.new ≡ gate.old) × Arrived (view end.old).received (view end.old).settled) (λ r. (view end.new ≡ hand ((view end.old).received ++ r.0 ∷ []) (view end.old).settled) × (r.1.items ≡ gate.old.waiting.items)) }
+{
+    match queue.pop_as::<Received, R>(rt, end) {
+        Some(message) => Some((message, gate.let_go())),
+        None => None,
+    }
+}
+
+/// Takes the first message as `take` does. If none is queued and the channel is open, keeps the waker of the task that waits
+/// to receive.
+pub(crate) fn take_or_wait<T: Drop, U: Unpark, R: Host>(
+    rt: &R,
+    gate: &mut Gate<U>,
+    queue: &Queue<T>,
+    end: &mut End<T>,
+    waker: RemoteWaker<U>,
+) -> Result<(T, Vec<RemoteWaker<U>>), TryRecvError>
+    requires queue { IsPassOf queue.now end.old }
+    requires receives { (view end.old).receives ≡ true }
+    ensures queue { IsSamePass end.old end.new }
+    ensures taken { MatchResult result (λ r. (view end.new ≡ hand ((view end.old).received ++ r.0 ∷ []) (view end.old).settled) × (r.1.items ≡ gate.old.waiting.items)) (λ e. (view end.new ≡ view end.old) × Arrived (view end.old).received (view end.old).settled) }
+    ensures registered { result ≡ Err Empty → gate.new.receiver ≡ Some waker }
+    ensures closed { result ≡ Err Disconnected → gate.old.is_closed ≡ true }
+{
+    match take(rt, gate, queue, end) {
+        Some(taken) => Ok(taken),
+        None => {
+            if gate.is_closed {
+                return Err(TryRecvError::Disconnected);
+            }
+            gate.receiver = Some(waker);
+            Err(TryRecvError::Empty)
+        }
+    }
+}

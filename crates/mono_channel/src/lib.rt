@@ -1,0 +1,14 @@
+//! A channel between runtimes: senders in any thread, and one receiver whose task they wake.
+#![tactic(auto)]
+
+mod ends;
+mod errors;
+mod gate;
+mod receiver;
+mod rule;
+mod sender;
+
+pub use ends::{Receiver, Sender};
+pub use errors::{SendError, TryRecvError, TrySendError};
+pub use rule::{Delivery, Hand};
+pub use sender::channel;

@@ -1,0 +1,109 @@
+// What the ends of a channel know, and the rule that its queue keeps.
+ghost use Rattle.std.specs.Prelude.{◌≡◌, ◌<◌, [], IfOk};
+ghost use Rattle.crossbeam_queue.specs.Passes.{view, IsPassOf};
+ghost use Rattle.mono_channel.specs.Delivery.{hand};
+
+use crossbeam_queue::protocol::{Join, Lesson, Outcome, Protocol, Split};
+use crossbeam_queue::{Pass, RuledArrayQueue};
+use std::alloc::{AllocError, Global};
+use std::collections::LinkedList;
+
+/// What one end of a channel has done. It exists in proofs alone.
+pub struct Hand<T> {
+    /// It may send.
+    pub sends: bool,
+    /// It may receive.
+    pub receives: bool,
+    /// What it sent.
+    pub sent: LinkedList<T>,
+    /// What it received.
+    pub received: LinkedList<T>,
+    /// What each settled sender sent.
+    pub settled: LinkedList<LinkedList<T>>,
+}
+
+/// The rule of a channel's queue: what arrives is what was sent.
+pub struct Delivery;
+
+impl<T> Protocol<T, Hand<T>> for Delivery {
+    ghost use Rattle.std.specs.Prelude.{[]};
+    ghost use Rattle.mono_channel.specs.Delivery.{Delivers, hand};
+
+    ghost holds = { Delivers };
+
+    ghost first = { hand [] [] };
+}
+
+/// A further sender, which has sent nothing.
+pub struct Joins;
+
+impl<T> Split<Hand<T>> for Joins {
+    ghost use Rattle.std.specs.Prelude.{[]};
+    ghost use Rattle.mono_channel.specs.Delivery.{sender};
+
+    ghost left = { λ v. v };
+
+    ghost right = { λ v. sender [] };
+}
+
+/// The receiver takes a sender in, and knows what it sent.
+pub struct Settles;
+
+impl<T> Join<Hand<T>> for Settles {
+    ghost use Rattle.std.specs.Prelude.{[], ◌++◌, ◌∷◌};
+    ghost use Rattle.mono_channel.specs.Delivery.{hand, spent};
+
+    ghost both = { λ v w. hand v.received (v.settled ++ w.sent ∷ []) };
+
+    ghost spent = { spent };
+}
+
+/// A message was sent.
+pub struct Sent;
+
+impl<T> Outcome<T, Hand<T>> for Sent {
+    ghost use Rattle.std.specs.Prelude.{◌≡◌, [], ◌++◌, ◌∷◌};
+    ghost use Rattle.mono_channel.specs.Delivery.{sender};
+
+    ghost then = { λ v x w. w ≡ sender (v.sent ++ x ∷ []) };
+}
+
+impl<T> Lesson<T, Hand<T>> for Sent {
+    ghost use Rattle.std.specs.Prelude.{⊤};
+
+    ghost fact = { λ v items. ⊤ };
+}
+
+/// A message was received, or none was left.
+pub struct Received;
+
+impl<T> Outcome<T, Hand<T>> for Received {
+    ghost use Rattle.std.specs.Prelude.{◌≡◌, [], ◌++◌, ◌∷◌};
+    ghost use Rattle.mono_channel.specs.Delivery.{hand};
+
+    ghost then = { λ v x w. w ≡ hand (v.received ++ x ∷ []) v.settled };
+}
+
+impl<T> Lesson<T, Hand<T>> for Received {
+    ghost use Rattle.std.specs.Prelude.{◌++◌};
+    ghost use Rattle.mono_channel.specs.Delivery.{Arrived};
+
+    ghost fact = { λ v items. Arrived (v.received ++ items) v.settled };
+}
+
+/// A queue that keeps the rule.
+pub type Queue<T> = RuledArrayQueue<T, Hand<T>, Delivery>;
+
+/// What one end knows of the queue. It has no bytes.
+pub type End<T> = Pass<T, Hand<T>>;
+
+// The queue, and the receiver's end of it.
+pub(crate) fn queue_of<T: Drop>(
+    alloc: Global,
+    bound: usize,
+) -> Result<(Queue<T>, End<T>), AllocError>
+    requires { 0 < bound }
+    ensures { IfOk result (λ q. IsPassOf q.0 q.1 × (view q.1 ≡ hand [] [])) }
+{
+    Queue::ruled(alloc, bound)
+}
