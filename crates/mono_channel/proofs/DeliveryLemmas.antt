@@ -77,8 +77,18 @@ module _ {T : Type 0} where
       (λ (x : (j ≢ port) × (get_elem? views j ≡ some u)). others j u x.0 x.1) (at_set views port j w u e)
 
   pub begins : Delivers {T = T} [] (hand [] [] ∷ [])
-  begins = (0, [], [], [], refl, tt, tt, (λ n le. refl), λ n v at. ⊎_elim (λ none. absurd (some-ne-none v (sym none)))
-      (λ (is : (n ≡ 0) × (hand [] [] ≡ v)). ((λ p. never (ap (λ (y : Hand T). y.sends) is.1 ∙ p)), λ p. (is.0, ap (λ (y : Hand T). y.received) (sym is.1), ap (λ (y : Hand T). y.settled) (sym is.1)))) (at_back [] (hand [] []) v n at))
+  begins = (
+    0,
+    [],
+    [],
+    [],
+    refl,
+    tt,
+    tt,
+    (λ n le. refl),
+    λ n v at. ⊎_elim (λ none. absurd (some-ne-none v (sym none)))
+        (λ (is : (n ≡ 0) × (hand [] [] ≡ v)). ((λ p. never (ap (λ (y : Hand T). y.sends) is.1 ∙ p)), λ p. (is.0, ap (λ (y : Hand T). y.received) (sym is.1), ap (λ (y : Hand T). y.settled) (sym is.1)))) (at_back [] (hand [] []) v n at),
+  )
 
   pub sends : (n port : ℕ) (v : Hand T) (x : T) → v.sends ≡ true → Pushes Delivers n port v x (λ w. w ≡ sender (v.sent ++ x ∷ []))
   sends n port v x may items views _ h at =
@@ -158,7 +168,7 @@ module _ {T : Type 0} where
       let settled : v.settled ++ u.sent ∷ [] ≡ map (λ e. e.1) ended = ap (λ l. l ++ u.sent ∷ []) mine.2 ∙ sym (map-append (λ e. e.1) h.3 ((other, u.sent) ∷ [])) in
       let Now : ℕ → Hand T → Type 0 = λ j y. j ≢ other → Fit h.0 h.1 h.2 ended j y in
       let now : All Now vs = all_set Now views port both (λ _. ((λ p. never p), λ _. (mine.0, mine.1, settled)))
-          (λ j y away e apart. ((λ p. (((h.8 j y e).0 p).0, new_end j other u.sent h.3 ((h.8 j y e).0 p).1 (λ is. apart (sym is)))), λ p. absurd (away (((h.8 j y e).1 p).0 ∙ sym mine.0)))) in (
+      (λ j y away e apart. ((λ p. (((h.8 j y e).0 p).0, new_end j other u.sent h.3 ((h.8 j y e).0 p).1 (λ is. apart (sym is)))), λ p. absurd (away (((h.8 j y e).1 p).0 ∙ sym mine.0)))) in (
         h.0,
         h.1,
         h.2,

@@ -19,8 +19,8 @@ pub struct Sender<T: Drop, U: Unpark> {
     pub(crate) shared: Arc<Shared<T, U>, Global>,
     pub(crate) end: End<T>,
     pub(crate) is_closed: bool,
-    // the round in which its task last began to wait
-    pub(crate) round: Option<u64>,
+    // the round in which its task last began to wait, and the place of its waker
+    pub(crate) seat: Option<(u64, usize)>,
 }
 
 /// Receives the messages of all senders, in its own thread.

@@ -1,5 +1,5 @@
 // What the ends of a channel share under its lock: who waits, and whether the channel is closed.
-ghost use Rattle.std.specs.Prelude.{◌≡◌, ◌+◌, ◌-◌, ◌<◌, ◌^◌, true, false, [], ◌++◌, ◌∷◌, Some, None, Err, IfErr, IfOk, OnErr, OnOk, MatchResult, MatchOption};
+ghost use Rattle.std.specs.Prelude.{◌≡◌, ◌+◌, ◌-◌, ◌<◌, ◌≤◌, ◌^◌, ◌⊎◌, slice_get, slice_set, true, false, [], ◌++◌, ◌∷◌, Some, None, Err, IfErr, IfOk, OnErr, OnOk, MatchResult, MatchOption};
 ghost use Rattle.crossbeam_queue.specs.Passes.{view, IsPassOf, IsSamePass};
 ghost use Rattle.mono_channel.specs.Delivery.{Arrived, hand, sender};
 ghost use Rattle.mono_channel.specs.Errors.{message_of};
@@ -41,12 +41,17 @@ impl<U: Unpark> Gate<U> {
     }
 
     /// Counts a further sender.
-    pub(crate) fn join(&mut self) {
+    pub(crate) fn join(&mut self)
+        ensures { self.old.senders < 2 ^ 63 → self.new.senders ≡ self.old.senders + 1 }
+    {
         self.senders = self.senders.saturating_add(1);
     }
 
     /// Counts a sender out, and closes the channel if it was the last. Returns the receiver's waker, which is to be woken.
-    pub(crate) fn leave(&mut self) -> Option<RemoteWaker<U>> {
+    pub(crate) fn leave(&mut self) -> Option<RemoteWaker<U>>
+        ensures last { self.old.senders ≤ 1 → (self.new.is_closed ≡ true) × (result ≡ self.old.receiver) }
+        ensures others { 1 < self.old.senders → (self.new.is_closed ≡ self.old.is_closed) × (self.new.receiver ≡ self.old.receiver) × (result ≡ None) }
+    {
         self.senders = self.senders.saturating_sub(1);
         if self.senders > 0 {
             return None;
@@ -81,14 +86,26 @@ impl<U: Unpark> Gate<U> {
         mem::replace(&mut self.waiting, Vec::new(self.alloc))
     }
 
-    /// Keeps the waker of a task that waits to send, unless its last one, of this round, is kept still. Returns the round.
-    pub(crate) fn wait_to_send(&mut self, waker: RemoteWaker<U>, round: Option<u64>) -> Result<u64, AllocError>
+    /// Keeps the waker of a task that waits to send. It takes the place of the sender's earlier one, at `seat`, if that was
+    /// not let go. Returns the seat. If the allocation fails the gate stays as it was.
+    pub(crate) fn wait_to_send(
+        &mut self,
+        waker: RemoteWaker<U>,
+        seat: Option<(u64, usize)>,
+    ) -> Result<(u64, usize), AllocError>
+        ensures kept { IfOk result (λ s. (s.0 ≡ self.old.round) × (slice_get self.new.waiting.items s.1 ≡ Some waker)) }
+        ensures others { IfOk result (λ s. (self.new.waiting.items ≡ slice_set self.old.waiting.items s.1 waker) ⊎ (self.new.waiting.items ≡ self.old.waiting.items ++ waker ∷ [])) }
+        ensures same { (self.new.receiver ≡ self.old.receiver) × (self.new.is_closed ≡ self.old.is_closed) }
     {
-        if round == Some(self.round) {
-            return Ok(self.round);
+        if let Some((round, at)) = seat {
+            if round == self.round && at < self.waiting.len() {
+                self.waiting[at] = waker;
+                return Ok((round, at));
+            }
         }
+        let at = self.waiting.len();
         self.waiting.push(waker)?;
-        Ok(self.round)
+        Ok((self.round, at))
     }
 }
 

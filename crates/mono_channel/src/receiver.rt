@@ -30,7 +30,9 @@ impl<T: Drop, U: Unpark> Receiver<T, U> {
         ensures settled { settled_by self.new ≡ settled_by self.old ++ sent_by sender ∷ [] }
         ensures same { IsPair self.new self.old × (received_by self.new ≡ received_by self.old) }
     {
-        self.shared.queue.absorb::<Settles>(&mut self.end, sender.end);
+        self.shared
+            .queue
+            .absorb::<Settles>(&mut self.end, sender.end);
     }
 
     /// Takes the first message at once, and then wakes the tasks that wait to send.

@@ -52,7 +52,7 @@ impl<T: Drop, U: Unpark> Sender<T, U> {
             shared,
             end,
             is_closed: false,
-            round: None,
+            seat: None,
         }
     }
 
@@ -88,7 +88,11 @@ impl<T: Drop, U: Unpark> Sender<T, U> {
     }
 
     // Queues a message under the lock. The task that waits to receive is to be woken.
-    fn queue<R: Host>(&mut self, rt: &R, message: T) -> Result<Option<RemoteWaker<U>>, TrySendError<T>>
+    fn queue<R: Host>(
+        &mut self,
+        rt: &R,
+        message: T,
+    ) -> Result<Option<RemoteWaker<U>>, TrySendError<T>>
         ensures sent { MatchResult result (λ first. sent_by self.new ≡ sent_by self.old ++ message ∷ []) (λ e. (message_of e ≡ message) × (sent_by self.new ≡ sent_by self.old)) }
         ensures same { IsPair self.new self.old }
     {
@@ -175,9 +179,9 @@ impl<T: Drop, U: Unpark> Sender<T, U> {
         match put(rt, &mut gate, &self.shared.queue, &mut self.end, message) {
             Ok(first) => Ok(first),
             Err(TrySendError::Closed(back)) => Err((TrySendError::Closed(back), false)),
-            Err(TrySendError::Full(back)) => match gate.wait_to_send(waker, self.round) {
-                Ok(round) => {
-                    self.round = Some(round);
+            Err(TrySendError::Full(back)) => match gate.wait_to_send(waker, self.seat) {
+                Ok(seat) => {
+                    self.seat = Some(seat);
                     Err((TrySendError::Full(back), true))
                 }
                 Err(_) => Err((TrySendError::Full(back), false)),
