@@ -1,5 +1,5 @@
 -- One more reply of a turn that is compared.
-use Rattle.std.proofs.Common.{◌≡◌, ◌≢◌, ℕ, List, [], ◌∷◌, length, ap, sym, ◌∙◌, refl, arith}
+use Rattle.std.proofs.Common.{◌≡◌, ◌≢◌, ℕ, List, [], ◌∷◌, ◌++◌, length, ap, sym, ◌∙◌, refl, arith, append_assoc}
 use Rattle.std.specs.Prelude.{◌↔◌}
 use Rattle.mono_machine.specs.Machine.{Machine}
 use Rattle.mono_machine.specs.Acts.{step_outcome}
@@ -29,3 +29,12 @@ module _ (me : ℕ) (steps rest : List TurnStep) (told left : List Reply) (s : T
 pub replies_len : (me : ℕ) (steps : List TurnStep) (m : Machine) → length (replies_of me steps m) ≡ length steps
 replies_len me [] m = refl
 replies_len me (s ∷ steps) m = omega (arith, replies_len me steps (step_outcome me s m).machine)
+
+-- one more reply of a turn that is performed
+pub reply_more : (me : ℕ) (steps rest : List TurnStep) (s : TurnStep) (m new : Machine) (front : List Reply) (r : Reply) → steps ≡ s ∷ rest → r ≡ (step_outcome me s m).reply → new ≡ (step_outcome me s m).machine
+    → (front ++ r ∷ []) ++ replies_of me rest new ≡ front ++ replies_of me steps m
+reply_more me steps rest s m new front r steps_are r_is new_is =
+    append_assoc front (r ∷ []) (replies_of me rest new)
+    ∙ ap (λ (x : Reply). front ++ x ∷ replies_of me rest new) r_is
+    ∙ ap (λ (x : Machine). front ++ (step_outcome me s m).reply ∷ replies_of me rest x) new_is
+    ∙ ap (λ xs. front ++ replies_of me xs m) (sym steps_are)

@@ -1,6 +1,6 @@
 -- Examples of checks: two sleeps of one tick that were moved there fire in any order, and a sleep that is not armed
--- does not fire.
-use Rattle.std.specs.Prelude.{ℕ, List, [], ◌∷◌}
+-- does not fire. Journals whose lines are in order, and journals whose lines are not.
+use Rattle.std.specs.Prelude.{◌≡◌, ℕ, List, [], ◌∷◌, Some, None}
 use Rattle.mono_model.specs.declared.Ended.TheVariants as ended
 use Rattle.mono_machine.specs.Examples.{start, spawn, new_sleep, poll}
 use Rattle.mono_machine.specs.declared.events.Act.TheVariants as act
@@ -11,7 +11,11 @@ use Rattle.mono_machine.specs.declared.events.Event.TheVariants as event
 use Rattle.mono_machine.specs.declared.events.Reply.TheVariants as reply
 use Rattle.mono_machine.specs.declared.events.Report.{Report}
 use Rattle.mono_machine.specs.declared.events.Report.TheVariants as report
+use Rattle.mono_trace.specs.Order.{IsOrdered, misplaced}
 use Rattle.mono_trace.specs.Verdicts.{IsVerdict}
+use Rattle.mono_trace.specs.declared.marks.Mark.{Mark}
+use Rattle.mono_trace.specs.declared.marks.Mark.TheVariants as mark
+use Rattle.mono_trace.specs.declared.marks.Stage.TheVariants as stage
 use Rattle.mono_trace.specs.declared.Verdict.{Verdict}
 use Rattle.mono_trace.specs.declared.Verdict.TheVariants.{Yes, No}
 
@@ -43,3 +47,34 @@ NotArmed = IsVerdict (start 16)
     (spawn ∷ event.Turn (new_sleep 5 ∷ []) end.Pending ∷ event.Clock 5000000 ∷ [])
     (report.Reply (reply.Task 0) ∷ report.Turn 0 (reply.Sleep 0 ∷ []) ended.Idle ∷ report.Fired (0 ∷ []) ∷ [])
     (No 2)
+
+-- ---- the order of a journal's lines
+
+-- the journal of a run whose main task waits once, with this reading before the turn behind the wait, and what stands behind it
+abbrev pub waiting : ℕ → List Mark → List Mark
+waiting reading rest =
+    mark.Spawn 0 ∷ mark.Now 0 ∷ mark.Turn ∷ mark.Now 0 ∷ mark.Park ∷ mark.Drain ∷ mark.Clock 5000000 ∷ mark.Now reading ∷ mark.Turn ∷ rest
+
+-- a whole one
+abbrev pub WholeRun : Type 0
+WholeRun = IsOrdered (waiting 5000000 (mark.Drop 0 (Some 5) ∷ mark.Main 5 ∷ []))
+
+-- events and reports alone, in any order
+abbrev pub PairsAlone : Type 0
+PairsAlone = IsOrdered (mark.Drain ∷ mark.Clock 9 ∷ mark.Spawn 0 ∷ mark.Clock 3 ∷ [])
+
+-- the clock falls in line 8
+abbrev pub FallingClock : Type 0
+FallingClock = misplaced (waiting 4999999 (mark.Drop 0 (Some 5) ∷ mark.Main 5 ∷ [])) ≡ Some (8, stage.Round 0 5000000)
+
+-- line 10 is missing
+abbrev pub HalfRun : Type 0
+HalfRun = misplaced (waiting 5000000 []) ≡ Some (10, stage.Round 0 5000000)
+
+-- the drop gave another output than line 11 says
+abbrev pub OtherOutput : Type 0
+OtherOutput = misplaced (waiting 5000000 (mark.Drop 0 (Some 5) ∷ mark.Main 6 ∷ [])) ≡ Some (11, stage.Dropped (Some 5))
+
+-- no clock step behind the park of line 5 and the drain of line 6
+abbrev pub NoClockStep : Type 0
+NoClockStep = misplaced (mark.Spawn 0 ∷ mark.Now 0 ∷ mark.Turn ∷ mark.Now 0 ∷ mark.Park ∷ mark.Drain ∷ mark.Now 5000000 ∷ mark.Turn ∷ mark.Drop 0 None ∷ []) ≡ Some (7, stage.Waited 0 0)

@@ -13,6 +13,10 @@ use Rattle.mono_trace.specs.declared.Verdict.TheVariants.{Yes, No}
 abbrev pub IsNoStep : Machine → Event → Report → Type 0
 IsNoStep old event answer = (new : Machine) → Step old event answer new → ⊥
 
+-- The machine may take the event with this report.
+abbrev pub MayAnswer : Machine → Event → Report → Type 0
+MayAnswer old event answer = (new : Machine) × Step old event answer new
+
 -- The reports are those of a run of the events.
 abbrev pub IsRun : Machine → List Event → List Report → Type 0
 IsRun old events answers = (new : Machine) × Run old events answers new
@@ -24,6 +28,13 @@ FailsAt zero old (event ∷ events) (answer ∷ answers) = IsNoStep old event an
 FailsAt (suc place) old (event ∷ events) (answer ∷ answers) = (mid : Machine) × Step old event answer mid × FailsAt place mid events answers
 FailsAt place old [] answers = ⊥
 FailsAt place old events [] = ⊥
+
+-- Where the run of the pairs before the place ends, the machine may take the event at the place with this report.
+abbrev pub MayAnswerAt : ℕ → Machine → List Event → List Report → Report → Type 0
+MayAnswerAt zero old (event ∷ events) (answer ∷ answers) other = MayAnswer old event other
+MayAnswerAt (suc place) old (event ∷ events) (answer ∷ answers) other = (mid : Machine) × Step old event answer mid × MayAnswerAt place mid events answers other
+MayAnswerAt place old [] answers other = ⊥
+MayAnswerAt place old events [] other = ⊥
 
 abbrev pub IsVerdict : Machine → List Event → List Report → Verdict → Type 0
 IsVerdict old events answers Yes = IsRun old events answers

@@ -103,7 +103,8 @@ impl Parts {
     /// Sets the clock to `n` nanoseconds, and fires the sleeps of the list if a clock step may list them.
     fn fire_due(&mut self, n: u128, fired: &[u64]) -> Result<bool, AllocError>
         requires { n ≤ max_nanos }
-        ensures { IfOk result (λ b. Tried (event.Clock n) (Report.Fired fired.now) self.old self.new b) }
+        ensures tried { IfOk result (λ b. Tried (event.Clock n) (Report.Fired fired.now) self.old self.new b) }
+        ensures before { OnOk result (self.new.before ≡ self.old.before) }
     {
         self.at_clock(n);
         if !self.fire_all(fired)? {
@@ -115,7 +116,8 @@ impl Parts {
 
     /// Makes a clock step if the report is a report of that step.
     pub fn clock(&mut self, n: u128, report: &Report) -> Result<bool, AllocError>
-        ensures { IfOk result (λ b. Tried (event.Clock n) report.now self.old self.new b) }
+        ensures tried { IfOk result (λ b. Tried (event.Clock n) report.now self.old self.new b) }
+        ensures before { OnOk result (self.new.before ≡ self.old.before) }
     {
         if n > MAX_NANOS {
             return Ok(is_reply(report, Reply::Refused(Refusal::Invalid)));

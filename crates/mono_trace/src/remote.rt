@@ -23,7 +23,7 @@ fn wake_all(tasks: &mut Tasks, woken: &[u64]) -> Result<(), AllocError>
 }
 
 /// Returns whether a task waits in the inbox.
-fn is_waiting(inbox: &[u64], t: u64) -> bool
+pub fn is_waiting(inbox: &[u64], t: u64) -> bool
     ensures { result ≡ is_waiting inbox.now t }
 {
     inbox.iter().any(|w| *w == t)

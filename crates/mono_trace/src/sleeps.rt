@@ -101,6 +101,25 @@ impl Sleeps {
         self.places.live() >= self.limit || self.places.next_number() == u64::MAX
     }
 
+    /// Returns the sleeps that are due if the clock shows this tick, each after its tick and its arm number, in that order.
+    pub fn due_at(&self, alloc: Global, tick: u128) -> Result<Vec<(u128, u128, u64)>, AllocError> {
+        let greatest = if self.greatest < tick {
+            tick
+        } else {
+            self.greatest
+        };
+        let mut due = Vec::new(alloc);
+        'sleeps: for s in 0..self.places.next_number() {
+            if let Some(Sleep::Armed(a)) = self.places.get(s) {
+                if a.tick <= greatest {
+                    due.push((a.tick, a.arm, s))?;
+                }
+            }
+        }
+        due.sort_unstable();
+        Ok(due)
+    }
+
     /// Returns the sleep with this number.
     pub fn get(&self, s: u64) -> Option<Sleep>
         ensures { sleep_place result ≡ value_at self.now.now.table s }

@@ -1,5 +1,5 @@
 // A trace of the machine, which takes events with their reports one by one.
-ghost use Rattle.std.specs.Prelude.{◌≡◌, ◌<◌, ◌≤◌, ◌+◌, ◌^◌, IfOk, OnOk, true};
+ghost use Rattle.std.specs.Prelude.{◌≡◌, ◌<◌, ◌≤◌, ◌+◌, ◌^◌, IfOk, IfSome, OnOk, true};
 ghost use Rattle.mono_machine.specs.Machine.{start_machine};
 ghost use Rattle.mono_machine.specs.Acts.{act_outcome};
 ghost use Rattle.mono_trace.specs.Trials.{Told, Tried};
@@ -51,6 +51,7 @@ pub struct Trace {
 impl Trace {
     ghost use Rattle.mono_trace.specs.Refinement.{machine_of};
     ghost use Rattle.mono_trace.specs.Traces.{Checks};
+    ghost use Rattle.mono_trace.specs.Verdicts.{MayAnswer};
 
     /// Returns a view of the start machine with these limits and this strategy. It takes no memory yet.
     pub fn new(alloc: Global, limits: Limits, blocking: Blocking) -> Trace
@@ -89,5 +90,19 @@ impl Trace {
         }
         self.parts.take_back()?;
         Ok(false)
+    }
+
+    /// Returns a report with which the machine may take the event (`answers`): the one that it has to give, other than for the
+    /// order of the sleeps that a clock step lists. There is none if the list that the trace has made is not allowed, which no
+    /// clause excludes. The trace stands for the machine that it stood for (`stays`).
+    pub fn answer(&mut self, alloc: Global, event: &Event) -> Result<Option<Report>, AllocError>
+        requires { (machine_of self.old).sleeps.arm_count < 2 ^ 127 }
+        ensures answers { IfOk result (λ found. IfSome found (λ report. MayAnswer (machine_of self.old) event.now report)) }
+        ensures stays { OnOk result (machine_of self.new ≡ machine_of self.old) }
+    {
+        self.parts.keep();
+        let found = self.parts.answer(alloc, event)?;
+        self.parts.take_back()?;
+        Ok(found)
     }
 }
