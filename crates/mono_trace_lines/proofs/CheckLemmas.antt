@@ -1,6 +1,6 @@
 -- The check so far, and the rest of the input.
-use Rattle.std.proofs.Common.{◌≡◌, ℕ, ◌+◌, ◌<◌, ◌≤◌, List, [], ◌∷◌, ◌++◌, length, Option, Some, None, refl, sym, ap, subst, ◌∙◌, arith, append_assoc, length-append}
-use Rattle.std.proofs.lemmas.List.{append-nil}
+use Rattle.std.proofs.Common.{◌≡◌, ℕ, ◌+◌, ◌<◌, ◌≤◌, List, [], ◌∷◌, ◌++◌, length, map, Option, Some, None, IfSome, refl, sym, ap, subst, ◌∙◌, arith, append_assoc, length-append}
+use Rattle.std.proofs.lemmas.List.{append-nil, map-append, length-map}
 use Rattle.mono_machine.specs.Machine.{Machine, start_machine}
 use Rattle.mono_machine.specs.Steps.{Step, Run}
 use Rattle.mono_machine.specs.declared.events.Event.{Event}
@@ -9,9 +9,14 @@ use Rattle.mono_machine.specs.declared.events.Limits.{Limits}
 use Rattle.mono_machine.specs.declared.events.Blocking.{Blocking}
 use Rattle.mono_text.specs.Lines.{Line, lines}
 use Rattle.mono_text.proofs.InputLineLemmas.{ended, lines_front, first_line}
-use Rattle.mono_trace.specs.Verdicts.{IsNoStep, FailsAt}
-use Rattle.mono_trace_lines.specs.Journal.{journal_text, IsJournalLine, AreJournalLines, IsFirstBad, BeginsWith, BeginsWithNone, events_in, reports_in, line_of_pair, IsPassed, FailsAtLine}
-use Rattle.mono_trace_lines.specs.CheckProgress.{StandsAt, LeadsOn}
+use Rattle.mono_trace.specs.Verdicts.{IsNoStep, FailsAt, MayAnswer, MayAnswerAt}
+use Rattle.mono_trace.specs.OrderProgress.{Follows}
+use Rattle.mono_trace.specs.declared.orders.Order.{Order}
+use Rattle.mono_trace_lines.specs.Journal.{journal_text, IsJournalLine, AreJournalLines, IsFirstBad, BeginsWith, BeginsWithNone, events_in, reports_in, line_of_pair, mark_of, IsAnswer, FailsInPair}
+use Rattle.mono_trace_lines.specs.CheckProgress.{StandsAt, LeadsOn, KeepsOrder, FailsIn, Answers}
+use Rattle.mono_trace_lines.specs.declared.checks.Answer.{Answer}
+use Rattle.mono_trace_lines.specs.declared.checks.Answer.TheVariants as answer
+use Rattle.mono_trace_lines.specs.declared.checks.Failed.{Failed}
 use Rattle.mono_trace_lines.specs.declared.journal.JournalLine.{JournalLine}
 use Rattle.mono_trace_lines.specs.declared.journal.JournalLine.TheVariants.{Ran, Now, Park, Main}
 use Rattle.mono_trace_lines.proofs.JournalLineLemmas.{no_feed_journal, no_journal}
@@ -44,11 +49,12 @@ steps_on n e r m new step = λ start said line run.
     subst (λ es. Run start es (reports_in (said ++ Ran e r ∷ [])) new) (sym (events_more said (Ran e r)))
     (subst (λ rs. Run start (events_in said ++ e ∷ []) rs new) (sym (reports_more said (Ran e r))) (run_more start (events_in said) (reports_in said) m e r new run step))
 
-pub fails_here : (n : ℕ) (e : Event) (r : Report) (m new : Machine) → IsNoStep m e r → LeadsOn n (Ran e r) None m (Some n) new
-fails_here n e r m new no_step = λ start said line run.
-    record { front = said; event = e; report = r; rest = []; mid = m; is = refl; run = run; no_step = no_step; line = line }
+pub fails_here : (n : ℕ) (e : Event) (r : Report) (m new : Machine) (found : Option Report) → IsNoStep m e r → IfSome found (λ other. MayAnswer m e other)
+    → LeadsOn n (Ran e r) None m (Some (record { line = n; answer = found })) new
+fails_here n e r m new found no_step answers = λ start said line run.
+    record { front = said; event = e; report = r; rest = []; mid = m; is = refl; run = run; no_step = no_step; line = line; answers = answers }
 
-pub has_failed : (n k : ℕ) (x : JournalLine) (m new : Machine) → LeadsOn n x (Some k) m (Some k) new
+pub has_failed : (n : ℕ) (k : Failed) (x : JournalLine) (m new : Machine) → LeadsOn n x (Some k) m (Some k) new
 has_failed n k x m new = λ start said line f.
     record {
       front = f.front;
@@ -60,9 +66,10 @@ has_failed n k x m new = λ start said line f.
       run = f.run;
       no_step = f.no_step;
       line = f.line;
+      answers = f.answers;
     }
 
-pub stays_failed : (n : ℕ) (e : Event) (r : Report) (failed : Option ℕ) (m : Machine) → (failed ≡ None → ⊥) → LeadsOn n (Ran e r) failed m failed m
+pub stays_failed : (n : ℕ) (e : Event) (r : Report) (failed : Option Failed) (m : Machine) → (failed ≡ None → ⊥) → LeadsOn n (Ran e r) failed m failed m
 stays_failed n e r None m some = absurd (some refl)
 stays_failed n e r (Some k) m some = has_failed n k (Ran e r) m m
 
@@ -72,17 +79,17 @@ same_run start m said x e r run =
     subst (λ es. Run start es (reports_in (said ++ x ∷ [])) m) (sym (events_more said x ∙ ap (λ l. events_in said ++ l) e ∙ append-nil (events_in said)))
     (subst (λ rs. Run start (events_in said) rs m) (sym (reports_more said x ∙ ap (λ l. reports_in said ++ l) r ∙ append-nil (reports_in said))) run)
 
-passes : (n : ℕ) (x : JournalLine) (failed : Option ℕ) (m : Machine) → events_in (x ∷ []) ≡ [] → reports_in (x ∷ []) ≡ [] → LeadsOn n x failed m failed m
+passes : (n : ℕ) (x : JournalLine) (failed : Option Failed) (m : Machine) → events_in (x ∷ []) ≡ [] → reports_in (x ∷ []) ≡ [] → LeadsOn n x failed m failed m
 passes n x None m e r = λ start said line run. same_run start m said x e r run
 passes n x (Some k) m e r = has_failed n k x m m
 
-pub passes_now : (n at : ℕ) (failed : Option ℕ) (m : Machine) → LeadsOn n (Now at) failed m failed m
+pub passes_now : (n at : ℕ) (failed : Option Failed) (m : Machine) → LeadsOn n (Now at) failed m failed m
 passes_now n at failed m = passes n (Now at) failed m refl refl
 
-pub passes_park : (n : ℕ) (millis failed : Option ℕ) (m : Machine) → LeadsOn n (Park millis) failed m failed m
+pub passes_park : (n : ℕ) (millis : Option ℕ) (failed : Option Failed) (m : Machine) → LeadsOn n (Park millis) failed m failed m
 passes_park n millis failed m = passes n (Park millis) failed m refl refl
 
-pub passes_main : (n o : ℕ) (failed : Option ℕ) (m : Machine) → LeadsOn n (Main o) failed m failed m
+pub passes_main : (n o : ℕ) (failed : Option Failed) (m : Machine) → LeadsOn n (Main o) failed m failed m
 passes_main n o failed m = passes n (Main o) failed m refl refl
 
 -- ---- the pair that fails, by its place
@@ -94,6 +101,19 @@ fails_at (Ran a b ∷ front) start mid e r rest run none = (run.0, run.1, fails_
 fails_at (Now n ∷ front) start mid e r rest run none = fails_at front start mid e r rest run none
 fails_at (Park millis ∷ front) start mid e r rest run none = fails_at front start mid e r rest run none
 fails_at (Main o ∷ front) start mid e r rest run none = fails_at front start mid e r rest run none
+
+answers_at : (front : List JournalLine) (start mid : Machine) (e : Event) (r other : Report) (rest : List JournalLine) → Run start (events_in front) (reports_in front) mid → MayAnswer mid e other
+    → MayAnswerAt (length (events_in front)) start (events_in (front ++ Ran e r ∷ rest)) (reports_in (front ++ Ran e r ∷ rest)) other
+answers_at [] start mid e r other rest run may = subst (λ m. MayAnswer m e other) run may
+answers_at (Ran a b ∷ front) start mid e r other rest run may = (run.0, run.1, answers_at front run.0 mid e r other rest run.2 may)
+answers_at (Now n ∷ front) start mid e r other rest run may = answers_at front start mid e r other rest run may
+answers_at (Park millis ∷ front) start mid e r other rest run may = answers_at front start mid e r other rest run may
+answers_at (Main o ∷ front) start mid e r other rest run may = answers_at front start mid e r other rest run may
+
+found_at : (front : List JournalLine) (start mid : Machine) (e : Event) (r : Report) (found : Option Report) (rest : List JournalLine) → Run start (events_in front) (reports_in front) mid → IfSome found (λ other. MayAnswer mid e other)
+    → IfSome found (λ other. MayAnswerAt (length (events_in front)) start (events_in (front ++ Ran e r ∷ rest)) (reports_in (front ++ Ran e r ∷ rest)) other)
+found_at front start mid e r None rest run may = tt
+found_at front start mid e r (Some other) rest run may = answers_at front start mid e r other rest run may
 
 line_is : (front : List JournalLine) (e : Event) (r : Report) (rest : List JournalLine) → length front + 1 ≡ line_of_pair (front ++ Ran e r ∷ rest) (length (events_in front))
 line_is [] e r rest = refl
@@ -111,24 +131,25 @@ each_more (y ∷ said) [] x l p q = absurd p
 each_more (y ∷ said) (z ∷ ls) x l p q = (p.0, each_more said ls x l p.1 q)
 
 -- The number of lines that were read, and the rest of the input.
-pub record Progress (limits : Limits) (strategy : Blocking) (input : List ℕ) (count : ℕ) (failed : Option ℕ) (m : Machine) (rest : List ℕ) : Type 0 where
+pub record Progress (limits : Limits) (strategy : Blocking) (input : List ℕ) (count : ℕ) (failed : Option Failed) (m : Machine) (order : Order) (rest : List ℕ) : Type 0 where
   pub said : List JournalLine
   pub good : List Line
   pub split : lines input ≡ good ++ lines rest
   pub each : AreJournalLines said good
   pub stands : StandsAt (start_machine limits strategy) said failed m
+  pub follows : Follows (map mark_of said) order
   pub counted : count ≡ length good
   pub said_counted : count ≡ length said
   pub shorter : count + length rest ≤ length input
 
-pub started : (limits : Limits) (strategy : Blocking) (input : List ℕ) (m : Machine) → m ≡ start_machine limits strategy → Progress limits strategy input 0 None m input
-started limits strategy input m is =
-    record { said = []; good = []; split = refl; each = tt; stands = is; counted = refl; said_counted = refl; shorter = omega arith }
+pub started : (limits : Limits) (strategy : Blocking) (input : List ℕ) (m : Machine) (order : Order) → m ≡ start_machine limits strategy → Follows [] order → Progress limits strategy input 0 None m order input
+started limits strategy input m order is follows =
+    record { said = []; good = []; split = refl; each = tt; stands = is; follows = follows; counted = refl; said_counted = refl; shorter = omega arith }
 
-pub one_more : (limits : Limits) (strategy : Blocking) (input : List ℕ) (count : ℕ) (failed after : Option ℕ) (m new : Machine) (rest behind : List ℕ) (x : JournalLine)
-    → Progress limits strategy input count failed m rest → BeginsWith rest x behind → LeadsOn (count + 1) x failed m after new
-    → Progress limits strategy input (count + 1) after new behind
-one_more limits strategy input count failed after m new rest behind x p b leads =
+pub one_more : (limits : Limits) (strategy : Blocking) (input : List ℕ) (count : ℕ) (failed after : Option Failed) (m new : Machine) (order later : Order) (rest behind : List ℕ) (x : JournalLine)
+    → Progress limits strategy input count failed m order rest → BeginsWith rest x behind → LeadsOn (count + 1) x failed m after new → KeepsOrder (count + 1) x order later
+    → Progress limits strategy input (count + 1) after new later behind
+one_more limits strategy input count failed after m new order later rest behind x p b leads keeps =
     let l : lines rest ≡ ended (journal_text x) ∷ lines behind = ap lines b.0 ∙ lines_front (journal_text x) behind (no_feed_journal x b.1) in
     let says : IsJournalLine x (ended (journal_text x)) = unfold ended in record { fits = b.1; text = refl; is_ended = refl } in
     record {
@@ -137,6 +158,7 @@ one_more limits strategy input count failed after m new rest behind x p b leads 
       split = p.split ∙ ap (λ q. p.good ++ q) l ∙ sym (append_assoc p.good (ended (journal_text x) ∷ []) (lines behind));
       each = each_more p.said p.good x (ended (journal_text x)) p.each says;
       stands = leads (start_machine limits strategy) p.said (omega (arith, p.said_counted)) p.stands;
+      follows = subst (λ marks. Follows marks later) (sym (map-append mark_of p.said (x ∷ []))) (keeps (map mark_of p.said) (omega (arith, p.said_counted, length-map p.said mark_of)) p.follows);
       counted = omega (arith, p.counted, length-append p.good (ended (journal_text x) ∷ []));
       said_counted = omega (arith, p.said_counted, length-append p.said (x ∷ []));
       shorter = omega (arith, p.shorter, ap length b.0, length-append (journal_text x) (10 ∷ behind));
@@ -146,26 +168,33 @@ all_lines : (input : List ℕ) (said : List JournalLine) (good : List Line) (res
 all_lines input said good [] e split each = subst (AreJournalLines said) (sym (split ∙ append-nil good)) each
 all_lines input said good (b ∷ rest) e split each = absurd (omega arith)
 
-pub all_passed : (limits : Limits) (strategy : Blocking) (input : List ℕ) (count : ℕ) (m : Machine) (rest : List ℕ)
-    → Progress limits strategy input count None m rest → length rest ≡ 0 → IsPassed limits strategy input
-all_passed limits strategy input count m rest p e = record { said = p.said; are_lines = all_lines input p.said p.good rest e p.split p.each; verdict = (m, p.stands) }
+-- ---- the answer
 
-pub one_failed : (limits : Limits) (strategy : Blocking) (input : List ℕ) (count n : ℕ) (m : Machine) (rest : List ℕ)
-    → Progress limits strategy input count (Some n) m rest → length rest ≡ 0 → FailsAtLine limits strategy input n
-one_failed limits strategy input count n m rest p e =
-    let f = p.stands in
+pub pair_failed : (limits : Limits) (strategy : Blocking) (said : List JournalLine) (n : ℕ) (found : Option Report) → FailsIn (start_machine limits strategy) said n found → FailsInPair limits strategy said n found
+pair_failed limits strategy said n found f =
     let start = start_machine limits strategy in
+    let place = length (events_in f.front) in
     record {
-      said = p.said;
-      place = length (events_in f.front);
-      are_lines = all_lines input p.said p.good rest e p.split p.each;
-      verdict = subst (λ l. FailsAt (length (events_in f.front)) start (events_in l) (reports_in l)) (sym f.is) (fails_at f.front start f.mid f.event f.report f.rest f.run f.no_step);
-      line = f.line ∙ line_is f.front f.event f.report f.rest ∙ ap (λ l. line_of_pair l (length (events_in f.front))) (sym f.is);
+      place = place;
+      verdict = subst (λ l. FailsAt place start (events_in l) (reports_in l)) (sym f.is) (fails_at f.front start f.mid f.event f.report f.rest f.run f.no_step);
+      line = f.line ∙ line_is f.front f.event f.report f.rest ∙ ap (λ l. line_of_pair l place) (sym f.is);
+      answers = subst (λ l. IfSome found (λ other. MayAnswerAt place start (events_in l) (reports_in l) other)) (sym f.is) (found_at f.front start f.mid f.event f.report found f.rest f.run f.answers);
     }
 
-pub first_bad : (limits : Limits) (strategy : Blocking) (input : List ℕ) (count : ℕ) (failed : Option ℕ) (m : Machine) (rest : List ℕ)
-    → Progress limits strategy input count failed m rest → 0 < length rest → BeginsWithNone rest → IsFirstBad (lines input) (count + 1)
-first_bad limits strategy input count failed m [] p some none = absurd (omega arith)
-first_bad limits strategy input count failed m (b ∷ rest) p some none =
+is_answer : (limits : Limits) (strategy : Blocking) (input : List ℕ) (said : List JournalLine) (a : Answer) → AreJournalLines said (lines input) → Answers limits strategy said a → IsAnswer limits strategy input a
+is_answer limits strategy input said (answer.BadLine n) are a = absurd a
+is_answer limits strategy input said answer.Yes are a = record { said = said; are_lines = are; verdict = a.0; ordered = a.1 }
+is_answer limits strategy input said (answer.No failure) are a = record { said = said; are_lines = are; fails = a }
+
+pub all_answered : (limits : Limits) (strategy : Blocking) (input : List ℕ) (count : ℕ) (failed : Option Failed) (m : Machine) (order : Order) (rest : List ℕ) (a : Answer)
+    → ((limits : Limits) (strategy : Blocking) (said : List JournalLine) (m : Machine) → count + 1 ≡ length said + 1 → StandsAt (start_machine limits strategy) said failed m → Follows (map mark_of said) order → Answers limits strategy said a)
+    → Progress limits strategy input count failed m order rest → length rest ≡ 0 → IsAnswer limits strategy input a
+all_answered limits strategy input count failed m order rest a is p e =
+    is_answer limits strategy input p.said a (all_lines input p.said p.good rest e p.split p.each) (is limits strategy p.said m (omega (arith, p.said_counted)) p.stands p.follows)
+
+pub first_bad : (limits : Limits) (strategy : Blocking) (input : List ℕ) (count : ℕ) (failed : Option Failed) (m : Machine) (order : Order) (rest : List ℕ)
+    → Progress limits strategy input count failed m order rest → 0 < length rest → BeginsWithNone rest → IsFirstBad (lines input) (count + 1)
+first_bad limits strategy input count failed m order [] p some none = absurd (omega arith)
+first_bad limits strategy input count failed m order (b ∷ rest) p some none =
     let f = first_line b rest in
     (p.said, p.good, f.0, f.1, p.split ∙ ap (λ q. p.good ++ q) f.2, p.each, omega (arith, p.counted), no_journal (b ∷ rest) f.0 f.1 f.2 none)

@@ -1,17 +1,27 @@
 -- The progress of a check: the pairs so far are a run, which ends here, or one was no step.
-use Rattle.std.specs.Prelude.{◌≡◌, ◌≤◌, ◌+◌, ◌*◌, ◌^◌, ℕ, List, [], ◌∷◌, ◌++◌, length, Option, Some, None}
+use Rattle.std.specs.Prelude.{◌≡◌, ◌≤◌, ◌+◌, ◌*◌, ◌^◌, ℕ, List, [], ◌∷◌, ◌++◌, length, map, Option, Some, None, IfSome}
 use Rattle.mono_machine.specs.Machine.{Machine}
 use Rattle.mono_machine.specs.Steps.{Run}
 use Rattle.mono_machine.specs.declared.events.Event.{Event}
 use Rattle.mono_machine.specs.declared.events.Report.{Report}
-use Rattle.mono_trace.specs.Verdicts.{IsNoStep}
-use Rattle.mono_trace_lines.specs.Journal.{events_in, reports_in}
+use Rattle.mono_machine.specs.declared.events.Limits.{Limits}
+use Rattle.mono_machine.specs.declared.events.Blocking.{Blocking}
+use Rattle.mono_trace.specs.Order.{IsOrdered}
+use Rattle.mono_trace.specs.OrderProgress.{Follows}
+use Rattle.mono_trace.specs.Verdicts.{IsNoStep, MayAnswer, Checked}
+use Rattle.mono_trace.specs.declared.marks.Mark.{Mark}
+use Rattle.mono_trace.specs.declared.orders.Order.{Order}
+use Rattle.mono_trace.specs.declared.Verdict.TheVariants.{Yes}
+use Rattle.mono_trace_lines.specs.Journal.{events_in, reports_in, mark_of, Fails}
+use Rattle.mono_trace_lines.specs.declared.checks.Answer.{Answer}
+use Rattle.mono_trace_lines.specs.declared.checks.Answer.TheVariants as answer
+use Rattle.mono_trace_lines.specs.declared.checks.Failed.{Failed}
 use Rattle.mono_trace_lines.specs.declared.journal.JournalLine.{JournalLine}
 use Rattle.mono_trace_lines.specs.declared.journal.JournalLine.TheVariants.{Ran}
 
 -- The lines before line n are those of a run, and the pair in line n is no step from the machine at the end of that
--- run.
-pub record FailsIn (start : Machine) (said : List JournalLine) (n : ℕ) : Type 0 where
+-- run. A report that is found is one that this machine could give.
+pub record FailsIn (start : Machine) (said : List JournalLine) (n : ℕ) (found : Option Report) : Type 0 where
   pub front : List JournalLine
   pub event : Event
   pub report : Report
@@ -21,15 +31,26 @@ pub record FailsIn (start : Machine) (said : List JournalLine) (n : ℕ) : Type 
   pub run : Run start (events_in front) (reports_in front) mid
   pub no_step : IsNoStep mid event report
   pub line : n ≡ length front + 1
+  pub answers : IfSome found (λ r. MayAnswer mid event r)
 
-abbrev pub StandsAt : Machine → List JournalLine → Option ℕ → Machine → Type 0
+abbrev pub StandsAt : Machine → List JournalLine → Option Failed → Machine → Type 0
 StandsAt start said None m = Run start (events_in said) (reports_in said) m
-StandsAt start said (Some n) m = FailsIn start said n
+StandsAt start said (Some f) m = FailsIn start said f.line f.answer
 
 -- One more line, which is line n, leads on from the progress of the lines before it.
-abbrev pub LeadsOn : ℕ → JournalLine → Option ℕ → Machine → Option ℕ → Machine → Type 0
+abbrev pub LeadsOn : ℕ → JournalLine → Option Failed → Machine → Option Failed → Machine → Type 0
 LeadsOn n x failed m after new = (start : Machine) (said : List JournalLine) → n ≡ length said + 1 → StandsAt start said failed m → StandsAt start (said ++ x ∷ []) after new
+
+-- One more line, which is line n, goes on in the order of the lines.
+abbrev pub KeepsOrder : ℕ → JournalLine → Order → Order → Type 0
+KeepsOrder n x old new = (marks : List Mark) → n ≡ length marks + 1 → Follows marks old → Follows (marks ++ mark_of x ∷ []) new
 
 -- At most 2 ^ 63 arms for each of the lines so far.
 abbrev pub HasFewArms : ℕ → Machine → Type 0
 HasFewArms count m = m.sleeps.arm_count ≤ count * 2 ^ 63
+
+-- The answer to lines that are all lines of a journal.
+abbrev pub Answers : Limits → Blocking → List JournalLine → Answer → Type 0
+Answers limits strategy said (answer.BadLine n) = ⊥
+Answers limits strategy said answer.Yes = Checked limits strategy (events_in said) (reports_in said) Yes × IsOrdered (map mark_of said)
+Answers limits strategy said (answer.No failure) = Fails limits strategy said failure.line failure.cause

@@ -1,18 +1,26 @@
 -- The lines of a journal, and the answer of a check of them.
-use Rattle.std.specs.Prelude.{◌≡◌, ◌^◌, ◌<◌, ◌+◌, ℕ, zero, suc, true, List, [], ◌∷◌, ◌++◌, codes, decimal}
+use Rattle.std.specs.Prelude.{◌≡◌, ◌^◌, ◌<◌, ◌+◌, ℕ, zero, suc, true, List, [], ◌∷◌, ◌++◌, map, Option, Some, IfSome, codes, decimal}
+use Rattle.mono_machine.specs.Machine.{start_machine}
 use Rattle.mono_machine.specs.declared.events.Limits.{Limits}
 use Rattle.mono_machine.specs.declared.events.Blocking.{Blocking}
 use Rattle.mono_machine.specs.declared.events.Event.{Event}
 use Rattle.mono_machine.specs.declared.events.Report.{Report}
 use Rattle.mono_text.specs.LineText.{event_text, report_text, number_text, FitsEvent}
 use Rattle.mono_text.specs.Lines.{Line, lines, AreLines, IsFirstWrong}
-use Rattle.mono_trace.specs.Verdicts.{Checked}
+use Rattle.mono_trace.specs.Order.{pair_mark, misplaced, IsOrdered}
+use Rattle.mono_trace.specs.Verdicts.{Checked, MayAnswerAt}
+use Rattle.mono_trace.specs.declared.marks.Mark.{Mark}
+use Rattle.mono_trace.specs.declared.marks.Mark.TheVariants as mark
+use Rattle.mono_trace.specs.declared.marks.Stage.{Stage}
 use Rattle.mono_trace.specs.declared.Verdict.TheVariants.{Yes, No}
 use Rattle.mono_trace_lines.specs.PrintableReports.{FitsReport, FitsAny}
 use Rattle.mono_trace_lines.specs.declared.journal.JournalLine.{JournalLine}
 use Rattle.mono_trace_lines.specs.declared.journal.JournalLine.TheVariants.{Ran, Now, Park, Main}
 use Rattle.mono_trace_lines.specs.declared.checks.Answer.{Answer}
 use Rattle.mono_trace_lines.specs.declared.checks.Answer.TheVariants as answer
+use Rattle.mono_trace_lines.specs.declared.checks.Cause.{Cause}
+use Rattle.mono_trace_lines.specs.declared.checks.Cause.TheVariants as cause
+use Rattle.mono_trace_lines.specs.declared.checks.Failure.{Failure}
 
 -- ---- lines
 
@@ -84,23 +92,46 @@ line_of_pair (Now n ∷ said) place = line_of_pair said place + 1
 line_of_pair (Park millis ∷ said) place = line_of_pair said place + 1
 line_of_pair (Main o ∷ said) place = line_of_pair said place + 1
 
+-- ---- the order of the lines
+
+abbrev pub mark_of : JournalLine → Mark
+mark_of (Ran e r) = pair_mark e r
+mark_of (Now n) = mark.Now n
+mark_of (Park millis) = mark.Park
+mark_of (Main o) = mark.Main o
+
 -- ---- what a check answers
 
--- Each line is one of a journal, and its reports are those of a run of its events.
+-- Each line is one of a journal, its reports are those of a run of its events, and its lines are in order.
 pub record IsPassed (limits : Limits) (strategy : Blocking) (input : List ℕ) : Type 0 where
   pub said : List JournalLine
   pub are_lines : AreJournalLines said (lines input)
   pub verdict : Checked limits strategy (events_in said) (reports_in said) Yes
+  pub ordered : IsOrdered (map mark_of said)
 
--- Each line is one of a journal, and the pair in line n is the first that no step allows.
-pub record FailsAtLine (limits : Limits) (strategy : Blocking) (input : List ℕ) (n : ℕ) : Type 0 where
-  pub said : List JournalLine
+-- The pair in line n is the first that no step allows. A report that is found is one that the machine could give there.
+pub record FailsInPair (limits : Limits) (strategy : Blocking) (said : List JournalLine) (n : ℕ) (found : Option Report) : Type 0 where
   pub place : ℕ
-  pub are_lines : AreJournalLines said (lines input)
   pub verdict : Checked limits strategy (events_in said) (reports_in said) (No place)
   pub line : n ≡ line_of_pair said place
+  pub answers : IfSome found (λ r. MayAnswerAt place (start_machine limits strategy) (events_in said) (reports_in said) r)
+
+-- The reports are those of a run, and line n is the first that is out of order, behind this stage.
+pub record FailsInOrder (limits : Limits) (strategy : Blocking) (said : List JournalLine) (n : ℕ) (stage : Stage) : Type 0 where
+  pub verdict : Checked limits strategy (events_in said) (reports_in said) Yes
+  pub first : misplaced (map mark_of said) ≡ Some (n, stage)
+
+abbrev pub Fails : Limits → Blocking → List JournalLine → ℕ → Cause → Type 0
+Fails limits strategy said n (cause.Pair found) = FailsInPair limits strategy said n found
+Fails limits strategy said n (cause.Order stage) = FailsInOrder limits strategy said n stage
+
+-- Each line is one of a journal, and one of them fails so.
+pub record FailsAtLine (limits : Limits) (strategy : Blocking) (input : List ℕ) (failure : Failure) : Type 0 where
+  pub said : List JournalLine
+  pub are_lines : AreJournalLines said (lines input)
+  pub fails : Fails limits strategy said failure.line failure.cause
 
 abbrev pub IsAnswer : Limits → Blocking → List ℕ → Answer → Type 0
 IsAnswer limits strategy input (answer.BadLine n) = IsFirstBad (lines input) n
 IsAnswer limits strategy input answer.Yes = IsPassed limits strategy input
-IsAnswer limits strategy input (answer.No n) = FailsAtLine limits strategy input n
+IsAnswer limits strategy input (answer.No failure) = FailsAtLine limits strategy input failure

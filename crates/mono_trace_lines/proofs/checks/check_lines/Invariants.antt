@@ -6,7 +6,7 @@ use Rattle.mono_trace_lines.proofs.checks.check_lines.Given as goal
 
 abbrev pub invariant-lines : goal.invariant-lines
 invariant-lines l =
-    Progress l.fn.limits l.fn.blocking l.input l.count l.checking.failed (machine_of l.checking.trace) l.reader.rest.now × HasFewArms l.count (machine_of l.checking.trace)
+    Progress l.fn.limits l.fn.blocking l.input l.count l.checking.failed (machine_of l.checking.trace) l.order l.reader.rest.now × HasFewArms l.count (machine_of l.checking.trace)
 
 abbrev pub decreases-lines : goal.decreases-lines
 decreases-lines l = length l.reader.rest.now
