@@ -1,10 +1,13 @@
--- A check of a journal: whether its reports are those of a run of its events.
+-- A check of a journal: whether its reports are those of a run of its events, and its lines in order.
 use Rattle.std.specs.Prelude.{◌≡◌, ℕ, true, List, [], ◌∷◌, ◌++◌, None, codes, decimal}
 use Rattle.mono_machine.specs.declared.events.Limits.{Limits}
 use Rattle.mono_machine.specs.declared.events.Blocking.{Blocking}
 use Rattle.mono_text.specs.Lines.{lines}
 use Rattle.mono_trace_lines.specs.Journal.{AreJournalLines, IsFirstBad, IsPassed, FailsAtLine}
+use Rattle.mono_trace_lines.specs.declared.checks.Failure.{Failure}
 use Rattle.mono_trace_lines.specs.declared.journal.JournalLine.{JournalLine}
+use Rattle.mono_script.specs.declared.command.Command.{Command}
+use Rattle.mono_script.specs.declared.command.Command.TheVariants as command
 use Rattle.mono_script.specs.declared.ends.Status.{Status}
 use Rattle.mono_script.specs.declared.ends.Status.TheVariants as status
 use Rattle.mono_script.specs.Endings.{Meaning}
@@ -15,10 +18,11 @@ yes_line = codes "yes" ++ 10 ∷ []
 abbrev pub no_line : ℕ → List ℕ
 no_line n = codes "no " ++ decimal n ++ 10 ∷ []
 
--- The answer to a run is yes; the answer to another journal is no and the line of the first pair that no step allows.
+-- The answer to a run is yes; the answer to another journal is no and the line of the first pair that no step allows, or
+-- of the first line out of order.
 abbrev pub IsChecked : Limits → Blocking → List ℕ → Status → List ℕ → Type 0
 IsChecked limits strategy input status.Done output = IsPassed limits strategy input × (output ≡ yes_line)
-IsChecked limits strategy input status.NotARun output = (n : ℕ) × FailsAtLine limits strategy input n × (output ≡ no_line n)
+IsChecked limits strategy input status.NotARun output = (failure : Failure) × FailsAtLine limits strategy input failure × (output ≡ no_line failure.line)
 IsChecked limits strategy input status.Usage output = ⊥
 IsChecked limits strategy input status.BadLine output = ⊥
 IsChecked limits strategy input status.ReadFault output = ⊥
@@ -36,3 +40,8 @@ checking limits strategy = record {
   IsFirstBad = λ input n. IsFirstBad (lines input) n;
   Answers = λ input s output. IsChecked limits strategy input s output;
 }
+
+-- The journal that the check read fails so. Other commands read none.
+abbrev pub FailsFor : Command → List ℕ → Failure → Type 0
+FailsFor (command.Check limits strategy) input failure = FailsAtLine limits strategy input failure
+FailsFor c input failure = ⊥

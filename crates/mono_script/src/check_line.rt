@@ -1,12 +1,13 @@
 // A check of a journal, and the line of its answer.
-ghost use Rattle.std.specs.Prelude.{◌≡◌, IfOk};
+ghost use Rattle.std.specs.Prelude.{◌≡◌, IfOk, IfSome};
+ghost use Rattle.mono_trace_lines.specs.Journal.{FailsAtLine};
 ghost use Rattle.mono_script.specs.Endings.{IsOutput, IsLine};
 ghost use Rattle.mono_script.specs.Checks.{checking, yes_line, no_line};
 
 use crate::ends::{Output, Status, bad_line};
 use mono_machine::Limits;
 use mono_replay::Blocking;
-use mono_trace_lines::{Answer, check_lines};
+use mono_trace_lines::{Answer, Failure, check_lines};
 use std::alloc::{AllocError, Global};
 
 fn yes(alloc: Global) -> Result<Vec<u8>, AllocError>
@@ -23,6 +24,22 @@ fn no(alloc: Global, n: usize) -> Result<Vec<u8>, AllocError>
     text.extend_from_slice(buffer.format(n).as_bytes())?;
     text.extend_from_slice(b"\n")?;
     Ok(text)
+}
+
+// Returns where and why the journal is no run that this input is; none if it is a run, or if a line is bad.
+pub(crate) fn failure_of(
+    alloc: Global,
+    limits: Limits,
+    blocking: Blocking,
+    input: &[u8],
+) -> Result<Option<Failure>, AllocError>
+    ensures { IfOk result (λ found. IfSome found (λ failure. FailsAtLine limits blocking input.now failure)) }
+{
+    match check_lines(alloc, limits, blocking, input)? {
+        Answer::No(failure) => Ok(Some(failure)),
+        Answer::Yes => Ok(None),
+        Answer::BadLine(_) => Ok(None),
+    }
 }
 
 // Returns the output of a check.
@@ -42,9 +59,9 @@ pub(crate) fn output_of_check(
             text: yes(alloc)?,
             bad_line: None,
         }),
-        Answer::No(n) => Ok(Output {
+        Answer::No(failure) => Ok(Output {
             status: Status::NotARun,
-            text: no(alloc, n)?,
+            text: no(alloc, failure.line)?,
             bad_line: None,
         }),
     }

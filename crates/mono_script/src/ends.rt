@@ -4,10 +4,13 @@ ghost use Rattle.std.specs.Option.{option_map};
 ghost use Rattle.mono_text.specs.ReasonTexts.{told};
 ghost use Rattle.mono_script.specs.Endings.{bad_line_text, status_code};
 ghost use Rattle.mono_script.specs.LineWords.{fault_at};
+ghost use Rattle.mono_script.specs.Checks.{FailsFor};
 
+use crate::check_line::failure_of;
 use crate::command::Command;
 use crate::line_words::fault;
 use mono_text::Fault;
+use mono_trace_lines::Failure;
 use std::alloc::{AllocError, Global};
 
 /// The status with which the program ends.
@@ -111,6 +114,21 @@ impl Ended {
         ensures none { IfNone self.now.bad_line (result ≡ None) }
     {
         fault(self.command, &self.input, self.bad_line?)
+    }
+
+    /// Returns where and why the journal that a check read is no run. None of other commands, and if it is a run.
+    pub fn failure(&self, alloc: Global) -> Result<Option<Failure>, AllocError>
+        ensures { IfOk result (λ found. IfSome found (λ failure. FailsFor self.now.command self.now.input.items failure)) }
+    {
+        match self.command {
+            Command::Check(limits, blocking) => failure_of(alloc, limits, blocking, &self.input),
+            Command::Replay(_, _) => Ok(None),
+            Command::Run(_, _) => Ok(None),
+            Command::Load(_, _) => Ok(None),
+            Command::Sessions(_, _) => Ok(None),
+            Command::Limiter(_, _) => Ok(None),
+            Command::Actors(_, _) => Ok(None),
+        }
     }
 }
 

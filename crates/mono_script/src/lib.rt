@@ -7,6 +7,7 @@ mod command;
 mod complaints;
 mod ends;
 mod exits;
+mod failures;
 mod faults;
 mod follows;
 mod forms;
@@ -27,6 +28,7 @@ pub use command::Command;
 pub use complaints::complaint;
 pub use ends::{Ended, Status};
 pub use exits::{exit_code, joins_workers, words_behind};
+pub use failures::failure_sentence;
 pub use faults::line_sentence;
 pub use follows::{FollowedCommand, follow_command};
 pub use mono_blocking::{NoSpawner, Spawner, ThreadSpawner};
@@ -35,6 +37,7 @@ pub use mono_text::{
     Fault, InputError, MAX_INPUT, MemSink, MemSource, PlainSink, PlainSource, Reader, Reason, Sink,
     SinkFault, Source, SourceFault, StdinSource, StdoutSink, read_all, report_line, write_all,
 };
+pub use mono_trace_lines::{Cause, Failure, Stage};
 pub use replay::{Replayed, answer};
 pub use std_clock::StdClock;
 pub use top::{explained, program};

@@ -117,6 +117,7 @@ fn carry_out<S: Source, K: Sink, R: Host + Send + 'static, C: Clock + Drop, P: S
     ensures ends { Ends (meaning (C.readings clock) command) (S.left source.old) (S.left source.new) (K.written sink.old) (K.written sink.new) (HasRisen (S.faults source.old) (S.faults source.new)) (HasRisen (K.faults sink.old) (K.faults sink.new)) result.status }
     ensures line { result.status ≡ status.BadLine → IsLine (meaning (C.readings clock) command) result.input.items status.BadLine result.bad_line }
     ensures input { result.status ≡ status.BadLine → HasInput (meaning (C.readings clock) command).reads (S.left source.old) result.input.items (S.left source.new) }
+    ensures checked { result.status ≡ status.NotARun → HasInput (meaning (C.readings clock) command).reads (S.left source.old) result.input.items (S.left source.new) }
     ensures later { (S.faults source.old ≤ S.faults source.new) × (K.faults sink.old ≤ K.faults sink.new) }
     ensures read_stays { result.status ≢ status.ReadFault → S.faults source.new ≡ S.faults source.old }
     ensures write_stays { result.status ≢ status.WriteFault → K.faults sink.new ≡ K.faults sink.old }
@@ -159,6 +160,7 @@ pub fn explained<S: Source, K: Sink, C: Clock + Drop, P: Spawner, R: Host + Send
     ensures ends { IfSome result (λ e. Ends (meaning (C.readings clock) e.command) (S.left source.old) (S.left source.new) (K.written sink.old) (K.written sink.new) (HasRisen (S.faults source.old) (S.faults source.new)) (HasRisen (K.faults sink.old) (K.faults sink.new)) e.status) }
     ensures line { IfSome result (λ e. e.status ≡ status.BadLine → IsLine (meaning (C.readings clock) e.command) e.input.items status.BadLine e.bad_line) }
     ensures input { IfSome result (λ e. e.status ≡ status.BadLine → HasInput (meaning (C.readings clock) e.command).reads (S.left source.old) e.input.items (S.left source.new)) }
+    ensures checked { IfSome result (λ e. e.status ≡ status.NotARun → HasInput (meaning (C.readings clock) e.command).reads (S.left source.old) e.input.items (S.left source.new)) }
     ensures later { (S.faults source.old ≤ S.faults source.new) × (K.faults sink.old ≤ K.faults sink.new) }
     ensures read_stays { IfSome result (λ e. e.status ≢ status.ReadFault → S.faults source.new ≡ S.faults source.old) }
     ensures write_stays { IfSome result (λ e. e.status ≢ status.WriteFault → K.faults sink.new ≡ K.faults sink.old) }

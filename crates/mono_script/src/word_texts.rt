@@ -5,11 +5,11 @@ use std::format;
 // How many bytes of a word are shown.
 const MOST: usize = 40;
 
-/// Returns the first 40 bytes as text. A byte that is neither graphic ASCII nor a blank is written as `\x` and two
-/// digits, and `...` follows a text that was cut.
-pub fn shown(alloc: Global, bytes: &[u8]) -> Result<String, AllocError> {
+// Returns the first `most` bytes as text. A byte that is neither graphic ASCII nor a blank is written as `\x` and two
+// digits, and `...` follows a text that was cut.
+pub(crate) fn cut(alloc: Global, bytes: &[u8], most: usize) -> Result<String, AllocError> {
     let mut text = String::new(alloc);
-    for byte in bytes.iter().take(MOST) {
+    for byte in bytes.iter().take(most) {
         let byte = *byte;
         if byte == b' ' || byte.is_ascii_graphic() {
             text.push(char::from(byte))?;
@@ -17,8 +17,14 @@ pub fn shown(alloc: Global, bytes: &[u8]) -> Result<String, AllocError> {
             text.push_str(format!(in alloc; "\\x{byte:02x}")?.as_str())?;
         }
     }
-    if bytes.len() > MOST {
+    if bytes.len() > most {
         text.push_str("...")?;
     }
     Ok(text)
+}
+
+/// Returns the first 40 bytes as text. A byte that is neither graphic ASCII nor a blank is written as `\x` and two
+/// digits, and `...` follows a text that was cut.
+pub fn shown(alloc: Global, bytes: &[u8]) -> Result<String, AllocError> {
+    cut(alloc, bytes, MOST)
 }

@@ -7,7 +7,8 @@ mod pages;
 use help::{VERSION, help_of, is_only};
 use mono_script::{
     Ended, FollowedCommand, Status, StdClock, StdinSource, StdoutSink, ThreadSpawner, complaint,
-    exit_code, explained, follow_command, joins_workers, line_sentence, words_behind,
+    exit_code, explained, failure_sentence, follow_command, joins_workers, line_sentence,
+    words_behind,
 };
 use std::alloc::{AllocError, Global};
 use std::io::IsTerminal;
@@ -89,15 +90,24 @@ fn reads_lines(command: &str) -> bool {
     )
 }
 
+// Returns where and why a journal is no run.
+fn failure_text(alloc: Global, ended: &Ended) -> Result<String, AllocError> {
+    match ended.failure(alloc)? {
+        Some(failure) => failure_sentence(alloc, &failure),
+        None => String::from_str(alloc, "the journal is no run"),
+    }
+}
+
 // Prints why the command ended. It prints nothing for a closed pipe downstream.
 fn tell(rt: &HostRuntime, command: &str, ended: &Ended, source: &StdinSource, sink: &StdoutSink) {
     match ended.status() {
         Status::BadLine => say(rt, bad_line_text(rt.alloc(), command, ended)),
+        Status::NotARun => say(rt, failure_text(rt.alloc(), ended)),
         status => tell_status(rt, status, source, sink),
     }
 }
 
-// Prints the meaning of a status, except that of a bad line.
+// Prints the meaning of a status, except that of a bad line or of a journal that is no run.
 fn tell_status(rt: &HostRuntime, status: Status, source: &StdinSource, sink: &StdoutSink) {
     let alloc = rt.alloc();
     match status {
@@ -116,13 +126,6 @@ fn tell_status(rt: &HostRuntime, status: Status, source: &StdinSource, sink: &St
             String::from_str(
                 alloc,
                 "there is no place for the main task: the script's limit of tasks is 0",
-            ),
-        ),
-        Status::NotARun => say(
-            rt,
-            String::from_str(
-                alloc,
-                "the journal is no run; the output names the first line that no step allows",
             ),
         ),
         Status::TooLong => say(

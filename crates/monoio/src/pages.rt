@@ -127,7 +127,7 @@ exit status: 0 done, 2 other words, 3 a bad line, 4 a read failed, 5 a write fai
 example: printf 'actor\\nactor\\nsend 0 1 7\\nturn; send 0 8; stay\\n' | monoio actors 16 16";
 
 const CHECK: &str = "usage: monoio check STRATEGY TASKS JOBS SLEEPS < JOURNAL
-  reads a journal and writes yes if it is a run of the machine, else no and the first line that no step allows
+  reads a journal and writes yes if it is a run of the machine with its lines in order, else no and a line
 words:
   STRATEGY          attached, local or panic: how the journal's runtime ran blocking jobs
   TASKS JOBS SLEEPS its limits, numbers below 2^64
@@ -139,11 +139,12 @@ lines:
   main OUTPUT               the output of the main task
 it writes one line:
   yes                       the journal is a run
-  no LINE                   this line's report is none that a step allows
+  no LINE                   no step allows this line's report; or this line is out of order, or missing
+with now, park or main it is the journal of one whole run: up to the drop of the main task's handle, and main OUTPUT
 exit status: 0 it is a run, 2 other words, 3 a bad line, 4 a read failed, 5 a write failed, 6 out of memory,
   7 more than 16777216 bytes of input, 11 it is no run
-example: printf 'spawn -> task 0\\n' | monoio check attached 16 16 16
-  of a journal that run wrote: STRATEGY is attached, and the limits are the script's";
+example: monoio run 0 100 < SCRIPT | monoio check attached 16 16 16
+  of a journal that run wrote: STRATEGY is attached, and the limits are those of the script's first line";
 
 /// Returns the text of a command's help, or None if the word names no command.
 pub(crate) fn page_of(command: &str) -> Option<&'static str> {

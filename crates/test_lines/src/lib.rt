@@ -9,6 +9,8 @@ mod event_texts;
 #[cfg(test)]
 mod executors;
 #[cfg(test)]
+mod failures;
+#[cfg(test)]
 mod followers;
 #[cfg(test)]
 mod lines;
