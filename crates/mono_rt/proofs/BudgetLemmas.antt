@@ -22,8 +22,11 @@ one_turn old new part rest is = (ap turns_in is.entries, ap parks_in is.entries)
 more_turns : (n a b c : ℕ) → a ≡ n + b → b ≡ 1 + c → a ≡ suc n + c
 more_turns n a b c p q = omega (arith, p, q)
 
+none_before : (a b : ℕ) → a ≡ b → a ≡ 0 + b
+none_before a b is = omega (arith, is)
+
 turns_are : (n : ℕ) (old new : Machine) (part rest : List Entry) → Turns n old part new rest → (turns_in part ≡ n + turns_in rest) × (parks_in part ≡ parks_in rest)
-turns_are zero old new part rest (is, same) = (ap turns_in is, ap parks_in is)
+turns_are zero old new part rest (is, same) = (none_before (turns_in part) (turns_in rest) (ap turns_in is), ap parks_in is)
 turns_are (suc n) old new part rest (mid, (left, (turns, one))) =
     let before = turns_are n old mid part left turns in
     let last = one_turn mid new left rest one in
@@ -119,9 +122,9 @@ nothing_spent : (n : ℕ) → n ≡ 0 + 0 + n
 nothing_spent n = omega arith
 
 passes_spend : (h : Bool) (main n units left : ℕ) (old new : Machine) (part rest : List Entry) → Passes h main n units left old part new rest → Spends units left part rest
-passes_spend h main zero units left old new part rest (is, (same, kept)) =
+passes_spend h main zero units left old new part rest (is, same, kept) =
     subst (λ xs. Spends units left part xs) is (subst (λ x. Spends units x part part) (sym kept)
-    (record { turns = 0; idle = 0; are_turns = refl; are_parks = no_more (parks_in part) (parks_in part) refl; all = nothing_spent units }))
+    (record { turns = 0; idle = 0; are_turns = none_before (turns_in part) (turns_in part) refl; are_parks = no_more (parks_in part) (parks_in part) refl; all = nothing_spent units }))
 passes_spend h main (suc n) units left old new part rest (mid, (more, (kept, (before, (unfinished, (some, pass)))))) =
     spends_on units kept left part more rest (passes_spend h main n units kept old mid part more before) (pass_spends h kept left mid new more rest some pass)
 

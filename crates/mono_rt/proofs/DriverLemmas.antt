@@ -111,9 +111,9 @@ capacity_ends P error.Driver x is at = absurd is
 capacity_ends P error.Turns x is at = absurd is
 
 -- a drain after a park
-pub drained_wait : (has_failed : Bool) (a : Told) → IsDrained (after_park has_failed) a (after_call has_failed) a
-drained_wait true a = (refl, refl)
-drained_wait false a = (refl, refl)
+pub drained_wait : (has_failed : Bool) (a b : Told) → b ≡ a → IsDrained (after_park has_failed) a (after_call has_failed) b
+drained_wait true a b same = (same, refl)
+drained_wait false a b same = (same, refl)
 
 -- a drain changes no reading and no time
 pub drained_reads : (p q : Course) (a b : Told) → IsDrained p a q b → b.readings ≡ a.readings
@@ -126,11 +126,14 @@ drained_time going q a b (f, (is, at)) = is.time
 drained_time parked q a b (same, at) = ap (λ x. x.time) same
 drained_time failed q a b (same, at) = ap (λ x. x.time) same
 
+false-true : false ≡ true → ⊥
+false-true e = cc
+
 -- a call that is sure does not fail
 pub sure_by : (can_fail : Bool) (r : Result ⊤ DriverFault) (has_failed : Bool) (x y : ℕ) (tells : Bool) → has_failed ≡ is_err r → IsSure can_fail r x y tells → IsSureIf can_fail has_failed tells
 sure_by true r has_failed x y tells is sure = tt
-sure_by false (Ok z) has_failed x y tells is sure = (is, sure.2)
-sure_by false (Err e) has_failed x y tells is sure = absurd sure.0
+sure_by false (Ok z) has_failed x y tells is (ok, same, still) = (is, still)
+sure_by false (Err e) has_failed x y tells is (ok, same, still) = absurd (false-true ok)
 
 -- the same driver exposes the same
 pub same_told : {D : Type 0} (r : D → Option (List ℕ)) (t : D → Option ℕ) (p s f : D → ℕ) (c : D → Bool) {x y : D} → x ≡ y → telling (r x) (t x) (p x) (s x) (f x) (c x) ≡ telling (r y) (t y) (p y) (s y) (f y) (c y)
@@ -183,7 +186,7 @@ left_same error.Driver a = refl
 left_same error.Turns a = refl
 
 -- the answer's value does not matter
-pub so_error : {A B : Type 0} {e : RunError} {a b : Told} {j k : Journal} → TellingSo {A} (Err e) a j k b → TellingSo {B} (Err e) a j k b
+pub so_error : {A B : Type 0} {e : RunError} {a b : Told} {j k : Journal} → TellingSo {A = A} (Err e) a j k b → TellingSo {A = B} (Err e) a j k b
 so_error {A} {B} {e} {a} {b} {j} {k} f = record { last = f.last; left = f.left; telling = telling_more (λ x is. is) f.telling }
 
 pub so_value : {A B : Type 0} {x : A} {y : B} {a b : Told} {j k : Journal} → TellingSo (Ok x) a j k b → TellingSo (Ok y) a j k b

@@ -78,7 +78,7 @@ sums_from a b p start part below at tells = are_sums a b p going start 0 part (a
     at_start start most below = omega (arith, below)
 
 -- the count of submits
-is_parked : Course → Bool
+abbrev is_parked : Course → Bool
 is_parked going = false
 is_parked parked = true
 is_parked failed = false

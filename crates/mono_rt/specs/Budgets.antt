@@ -1,21 +1,16 @@
 -- How a budget of turns is spent, by counts of entries.
 use Rattle.std.specs.Prelude.{◌≡◌, ◌≤◌, ℕ, ◌+◌, List, [], ◌∷◌}
-use Rattle.mono_machine.specs.declared.events.Event.{Event}
 use Rattle.mono_machine.specs.declared.events.Event.TheVariants as event
 use Rattle.mono_rt.specs.declared.parts.journals.Entry.{Entry}
 use Rattle.mono_rt.specs.declared.parts.journals.Entry.TheVariants.{Ran, Now, Park}
 
--- an event is a turn, or not
-abbrev pub turn_of : Event → ℕ
-turn_of (event.Act a) = 0
-turn_of (event.Turn steps e) = 1
-turn_of (event.Clock n) = 0
-turn_of (event.Remote t) = 0
-turn_of event.Drain = 0
-
 abbrev pub turns_in : List Entry → ℕ
 turns_in [] = 0
-turns_in (Ran e r ∷ part) = turn_of e + turns_in part
+turns_in (Ran (event.Turn steps e) r ∷ part) = 1 + turns_in part
+turns_in (Ran (event.Act a) r ∷ part) = turns_in part
+turns_in (Ran (event.Clock n) r ∷ part) = turns_in part
+turns_in (Ran (event.Remote t) r ∷ part) = turns_in part
+turns_in (Ran event.Drain r ∷ part) = turns_in part
 turns_in (Now n ∷ part) = turns_in part
 turns_in (Park wait ∷ part) = turns_in part
 

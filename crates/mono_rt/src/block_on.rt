@@ -231,8 +231,11 @@ where
     /// The history grows by the entries that `Blocked` specifies for the answer, from each machine that the parts
     /// refined. They are a run of the machine (`blocked`). The history exists whether or not a journal is kept; a
     /// journal that is not full equals it (`Journal::kept`). If the answer is Memory, nothing was done, or the main
-    /// task was made and a run follows. The last entry is then the drop of the main task's handle. That drop takes no
-    /// memory, since its room is reserved before the main task is made.
+    /// task was made. Then rounds and pauses within the budget follow, up to the call that ran out of memory, and the
+    /// drop of the main task's handle. That drop takes no memory, since its room is reserved before the main task.
+    ///
+    /// The driver gets one `submit` before each drain that follows no park, and no other. It is parked and read as the
+    /// history says, and after a call of it that failed it gets no further one but a reading (`told`).
     ///
     /// Each turn of the history is one poll of its task's own future, from the futures that the turns before it left,
     /// unless the answer is Memory (`polled`). The answer is Driver only if the driver's count of faults rose in this

@@ -1,3 +1,4 @@
+use Rattle.std.specs.Prelude.{Result, Ok, Err, OnErr}
 use Rattle.std.proofs.Common.{inl, inr, ◌≡◌, ◌+◌, ◌-◌, ℕ, arith, refl, ap, sym, subst, ◌∙◌}
 use Rattle.mono_rt.proofs.JournalLemmas.{goes_on, goes_nowhere}
 use Rattle.mono_rt.proofs.RoundLemmas.{turns_more, no_turns, does_round, round_breaks, most_is, no_queue}
@@ -7,6 +8,10 @@ use Rattle.mono_rt.specs.FuturePolls.{Polling}
 use Rattle.mono_rt.proofs.FuturePollLemmas.{polls_on, polls_nothing}
 use Rattle.mono_rt.proofs.JournalRoomLemmas.{fills_on, fills_not}
 use Rattle.mono_rt.proofs.runtimes.Runtime.round.Goals as goal
+
+on_any : {A E : Type 0} (r : Result A E) (P : Type 0) → P → OnErr r P
+on_any (Ok x) P p = tt
+on_any (Err e) P p = p
 
 never : (n : ℕ) → n + 1 ≡ 0 → ⊥
 never n e = omega (arith, e)
@@ -46,8 +51,8 @@ returns-then-queue_len-eq0-clause-round g c =
 pub returns-in_err-turn-clause-broken : goal.returns-in_err-turn-clause-broken
 returns-in_err-turn-clause-broken g c =
     let most = most_is _ _ _ _ _ c.args.units c.ranges.units.fits c.queue_len-queued.ensures c.saturating_mul.ensures c.saturating_add.ensures c.min-most.ensures in
-    round_breaks g.O.Outcome.output_number c.loop-done.done c.args.units c.args.self.now.cx.parts c.loop-done.self.cx.parts c.turn.new.self.cx.parts c.args.self.now.journal c.loop-done.self.journal c.turn.new.self.journal
-    (omega (arith, most, c.loop-done-test.true)) c.loop-done.invariant.3 c.in_err-turn.ensures.broken
+    on_any c.from_residual.result _ (round_breaks g.O.Outcome.output_number c.loop-done.done c.args.units c.args.self.now.cx.parts c.loop-done.self.cx.parts c.turn.new.self.cx.parts c.args.self.now.journal c.loop-done.self.journal c.turn.new.self.journal
+    (omega (arith, most, c.loop-done-test.true)) c.loop-done.invariant.3 c.in_err-turn.ensures.broken)
 
 pub returns-clause-round : goal.returns-clause-round
 returns-clause-round g c =

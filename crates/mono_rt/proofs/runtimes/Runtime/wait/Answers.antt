@@ -4,7 +4,7 @@ use Rattle.mono_rt.specs.Rounds.{Parks}
 use Rattle.mono_rt.proofs.RoundLemmas.{does_parks, does_clocked, park_refused, drain_refused, clock_refused}
 use Rattle.mono_rt.specs.Rounds.{IsPark}
 use Rattle.mono_rt.specs.DriverReadings.{Telling, Still, after_park, after_call}
-use Rattle.mono_rt.proofs.DriverLemmas.{telling_on, telling_more, drained_wait}
+use Rattle.mono_rt.proofs.DriverLemmas.{telling_on, telling_more, drained_wait, same_told}
 use Rattle.mono_rt.proofs.FaultLemmas.{rises_before}
 use Rattle.mono_rt.proofs.runtimes.Runtime.wait.Goals as goal
 
@@ -52,12 +52,12 @@ returns-in-Err-clock_step-clause-parks g c =
 pub returns-else-self-clause-told : goal.returns-else-self-clause-told
 returns-else-self-clause-told g c =
     let failed = c.in-Ok.failed in
-    telling_on {q = after_park failed} c.in-Ok.ensures.told (c.in-Ok-drain.ensures.told _ _ (after_park failed) (after_call failed) (drained_wait failed _))
+    telling_on {q = after_park failed} c.in-Ok.ensures.told (c.in-Ok-drain.ensures.told _ _ (after_park failed) (after_call failed) (drained_wait failed _ _ (same_told g.D.Clock.readings g.D.Clock.time g.D.Clock.parks g.D.Clock.submits g.D.Clock.faults g.D.Clock.can_fail c.drain.ensures.driver)))
 
 pub returns-in-Ok-clock_step-clause-told : goal.returns-in-Ok-clock_step-clause-told
 returns-in-Ok-clock_step-clause-told g c =
     let failed = c.in-Ok.failed in
-    telling_on {q = after_call failed} (telling_on {q = after_park failed} c.in-Ok.ensures.told (c.in-Ok-drain.ensures.told _ _ (after_park failed) (after_call failed) (drained_wait failed _))) (c.clock_step.ensures.told (after_call failed))
+    telling_on {q = after_call failed} (telling_on {q = after_park failed} c.in-Ok.ensures.told (c.in-Ok-drain.ensures.told _ _ (after_park failed) (after_call failed) (drained_wait failed _ _ (same_told g.D.Clock.readings g.D.Clock.time g.D.Clock.parks g.D.Clock.submits g.D.Clock.faults g.D.Clock.can_fail c.drain.ensures.driver)))) (c.clock_step.ensures.told (after_call failed))
 
 pub returns-in-Err-clause-told : goal.returns-in-Err-clause-told
 returns-in-Err-clause-told g c = telling_more (λ x e. tt) c.park.ensures.told
@@ -65,12 +65,12 @@ returns-in-Err-clause-told g c = telling_more (λ x e. tt) c.park.ensures.told
 pub returns-in-Err-drain-clause-told : goal.returns-in-Err-drain-clause-told
 returns-in-Err-drain-clause-told g c =
     let failed = c.in-Ok.failed in
-    telling_more (λ x e. tt) (telling_on {q = after_park failed} c.in-Ok.ensures.told (c.in-Err-drain.ensures.told _ _ (after_park failed) (after_park failed) (refl, refl)))
+    telling_more (λ x e. tt) (telling_on {q = after_park failed} c.in-Ok.ensures.told (c.in-Err-drain.ensures.told _ _ (after_park failed) (after_park failed) (same_told g.D.Clock.readings g.D.Clock.time g.D.Clock.parks g.D.Clock.submits g.D.Clock.faults g.D.Clock.can_fail c.drain.ensures.driver, refl)))
 
 pub returns-in-Err-clock_step-clause-told : goal.returns-in-Err-clock_step-clause-told
 returns-in-Err-clock_step-clause-told g c =
     let failed = c.in-Ok.failed in
-    telling_more (λ x e. tt) (telling_on {q = after_call failed} (telling_on {q = after_park failed} c.in-Ok.ensures.told (c.in-Ok-drain.ensures.told _ _ (after_park failed) (after_call failed) (drained_wait failed _))) (c.clock_step.ensures.told (after_call failed)))
+    telling_more (λ x e. tt) (telling_on {q = after_call failed} (telling_on {q = after_park failed} c.in-Ok.ensures.told (c.in-Ok-drain.ensures.told _ _ (after_park failed) (after_call failed) (drained_wait failed _ _ (same_told g.D.Clock.readings g.D.Clock.time g.D.Clock.parks g.D.Clock.submits g.D.Clock.faults g.D.Clock.can_fail c.drain.ensures.driver)))) (c.clock_step.ensures.told (after_call failed)))
 
 pub returns-else-self-clause-faults : goal.returns-else-self-clause-faults
 returns-else-self-clause-faults g c = rises_before c.in-Ok.failed _ _ _ c.in-Ok.ensures.faults c.drain.ensures.faults
