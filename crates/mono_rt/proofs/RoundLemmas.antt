@@ -198,7 +198,7 @@ module _ {O P : Type 0} (number : O → ℕ) where
       (λ m mid new xs ys zs stm std stn turns more.
       let within : n < most_turns units m = subst (λ x. n < x) (ap (λ x. most_turns_of units x.queue) stm.tasks) below in
       elim more [
-        inl stays ↦ (n, (subst (λ x. Turns n m xs x zs) (sym stays.1) (subst (λ w. Turns n m xs mid w) stays.0 turns), omega (arith, within)))
+        | inl stays ↦ (n, (subst (λ x. Turns n m xs x zs) (sym stays.1) (subst (λ w. Turns n m xs mid w) stays.0 turns), omega (arith, within)))
         | inr one ↦ (suc n, ((mid, (ys, (turns, one))), omega (arith, within)))
       ])
       p q

@@ -93,8 +93,9 @@ fn a_driver_with_timers_submits(rt: HostRuntime) {
 fn has_pool<R: Host + Abort>(rt: &R, alloc: Global, is_pool_last: bool) -> bool {
     let mut spawner = NoSpawner::new();
     let pool = DefaultThreadPool::new(rt, alloc, 0, &mut spawner).expect(rt, "memory");
-    let builder: RuntimeBuilder<StepDriver, DefaultThreadPool<Gives>> =
-        RuntimeBuilder::new(StepDriver::new(Vec::new(alloc)));
+    let builder: RuntimeBuilder<StepDriver, DefaultThreadPool<Gives>> = RuntimeBuilder::new(
+        StepDriver::new(Vec::new(alloc)),
+    );
     let strategy = BlockingStrategy::ExecuteLocal;
     let set = if is_pool_last {
         builder
