@@ -99,11 +99,26 @@ fn a_message_wakes_the_receiver_that_waits(rt: HostRuntime) {
     assert_eq!(rt; woken(&rt, alloc, &tasks), 7);
     assert!(rt; sender.try_send(&rt, 11).is_ok());
     assert_eq!(rt; woken(&rt, alloc, &tasks), 0);
-    assert!(rt; matches!(receiver.poll_recv(&rt, &tasks.seven), Poll::Ready(Ok(Some(10)))));
-    assert!(rt; matches!(receiver.poll_recv(&rt, &tasks.seven), Poll::Ready(Ok(Some(11)))));
+    assert!(rt;
+        matches!(
+            receiver.poll_recv(&rt, &tasks.seven),
+            Poll::Ready(Ok(Some(10)))
+        )
+    );
+    assert!(rt;
+        matches!(
+            receiver.poll_recv(&rt, &tasks.seven),
+            Poll::Ready(Ok(Some(11)))
+        )
+    );
     assert!(rt; waits(&rt, &mut receiver, &tasks.eight));
     let mut message = Some(12);
-    assert!(rt; matches!(sender.poll_send(&rt, &tasks.seven, &mut message), Poll::Ready(Ok(()))));
+    assert!(rt;
+        matches!(
+            sender.poll_send(&rt, &tasks.seven, &mut message),
+            Poll::Ready(Ok(()))
+        )
+    );
     assert_eq!(rt; woken(&rt, alloc, &tasks), 8);
 }
 
@@ -140,8 +155,18 @@ fn a_close_wakes_the_senders_that_wait(rt: HostRuntime) {
     let mut message = Some(12);
     let answer = sender.poll_send(&rt, &tasks.seven, &mut message);
     assert!(rt; matches!(answer, Poll::Ready(Err(SendError::Closed(12)))));
-    assert!(rt; matches!(receiver.poll_recv(&rt, &tasks.seven), Poll::Ready(Ok(Some(10)))));
-    assert!(rt; matches!(receiver.poll_recv(&rt, &tasks.seven), Poll::Ready(Ok(Some(11)))));
+    assert!(rt;
+        matches!(
+            receiver.poll_recv(&rt, &tasks.seven),
+            Poll::Ready(Ok(Some(10)))
+        )
+    );
+    assert!(rt;
+        matches!(
+            receiver.poll_recv(&rt, &tasks.seven),
+            Poll::Ready(Ok(Some(11)))
+        )
+    );
     assert!(rt; matches!(receiver.poll_recv(&rt, &tasks.seven), Poll::Ready(Ok(None))));
 }
 

@@ -130,12 +130,7 @@ fn releases<C: SharedContext<Board>>(cx: &mut C, done: u64, count: u64) -> Party
 }
 
 // Makes one step.
-fn step<R: Host, C: SharedContext<Board>>(
-    rt: &R,
-    alloc: Global,
-    cx: &mut C,
-    party: Party,
-) -> Party
+fn step<R: Host, C: SharedContext<Board>>(rt: &R, alloc: Global, cx: &mut C, party: Party) -> Party
     ensures { C.reaches cx.old cx.new }
 {
     match party {
@@ -166,12 +161,7 @@ fn goes_on(party: &Party) -> bool {
 }
 
 // Makes a step, and a second one if the party goes on.
-fn steps<R: Host, C: SharedContext<Board>>(
-    rt: &R,
-    alloc: Global,
-    cx: &mut C,
-    party: Party,
-) -> Party
+fn steps<R: Host, C: SharedContext<Board>>(rt: &R, alloc: Global, cx: &mut C, party: Party) -> Party
     ensures { C.reaches cx.old cx.new }
 {
     let after = step(rt, alloc, cx, party);
