@@ -90,7 +90,7 @@ fn a_driver_with_timers_submits(rt: HostRuntime) {
 }
 
 /// Returns whether a built runtime hands a pool back, if the builder got a pool and a strategy in this order.
-fn has_pool<R: Host + Abort>(rt: &R, alloc: Global, is_pool_last: bool) -> bool {
+fn has_pool<R: Host + Abort + Send + 'static>(rt: &R, alloc: Global, is_pool_last: bool) -> bool {
     let mut spawner = NoSpawner::new();
     let pool = DefaultThreadPool::new(rt, alloc, 0, &mut spawner).expect(rt, "memory");
     let builder: RuntimeBuilder<StepDriver, DefaultThreadPool<Gives>> = RuntimeBuilder::new(
