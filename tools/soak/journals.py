@@ -1,17 +1,9 @@
 """Journals made of events and their reports: each as it was, and with one report changed, to be answered by `check`."""
 from machine import Machine
 
-PASSED_OVER = ("now 0", "now 340282366920938463463374607431768211455", "park", "park 64", "main 5")
-
-
-def joined(draw, events, reports):
-    """The journal, with lines between the pairs that are passed over."""
-    lines = []
-    for event, report in zip(events, reports):
-        if draw.random() < 0.2:
-            lines.append(draw.choice(PASSED_OVER))
-        lines.append(f"{event} -> {report}")
-    return lines
+def joined(events, reports):
+    """The journal of events with their reports alone, which are in order in any case."""
+    return [f"{event} -> {report}" for event, report in zip(events, reports)]
 
 
 def changed_list(draw, words):

@@ -103,7 +103,7 @@ def answer(program, words, text):
 def wrong_journal(draw, program, words, text, reports):
     """A journal of these events and reports that is answered wrongly, with its answer; or none."""
     reports = reports.split("\n")[:-1]
-    lines = joined(draw, text.split("\n")[:-1], reports)
+    lines = joined(text.split("\n")[:-1], reports)
     for journal in (lines, with_one_changed(draw, lines, reports)):
         wanted = ("yes\n", 0) if journal is lines else verdict(words, journal)
         run = answer(program, ["check", *words[1:]], "".join(line + "\n" for line in journal))
