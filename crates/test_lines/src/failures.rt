@@ -1,13 +1,16 @@
 // What is said of journals that are no run.
 use mono_model::Host;
 use mono_script::{
-    Instant, ListClock, NoSpawner, PlainSink, PlainSource, explained, failure_sentence,
+    Instant, ListClock, MemSink, MemSource, NoSpawner, PlainSink, PlainSource, explained,
+    failure_sentence, program,
 };
 use std::alloc::{AllocError, Global};
 
-fn check_words(alloc: Global) -> Result<Vec<String>, AllocError> {
+const CHECK: &str = "check attached 16 16 16";
+
+fn split(alloc: Global, text: &str) -> Result<Vec<String>, AllocError> {
     let mut words = Vec::new(alloc);
-    for word in "check attached 16 16 16".split(' ') {
+    for word in text.split(' ') {
         words.push(String::from_str(alloc, word)?)?;
     }
     Ok(words)
@@ -27,7 +30,7 @@ fn says<R: Host + Send + 'static>(
     journal: &[u8],
     sentence: &[u8],
 ) -> Option<bool> {
-    let words = check_words(alloc).ok()?;
+    let words = split(alloc, CHECK).ok()?;
     let mut source = PlainSource::new(Vec::from_slice(alloc, journal).ok()?);
     let mut sink = PlainSink::new();
     let mut spawner = NoSpawner::new();
@@ -112,4 +115,71 @@ fn failures_are_explained(rt: HostRuntime) {
     for (journal, sentence) in CASES {
         assert!(&rt; says(&rt, rt.alloc(), journal, sentence) == Some(true));
     }
+}
+
+// The script of a task that waits for a sleep, a task of its own and a job, and yields.
+const SCRIPT: &[u8] =
+    b"limits 16 16 16\ntask\nspawn 1\nawait-sleep 70000000\nblock 4\nawait-job 0\nyield\njoin 0\ndone 5\ntask\nawait-sleep 3000000\ndone 6\n";
+
+// The output of the top call, and whether it ends with this status.
+fn written<R: Host + Send + 'static>(
+    rt: &R,
+    alloc: Global,
+    words: &str,
+    input: &[u8],
+    status: u8,
+) -> Option<Vec<u8>> {
+    let words = split(alloc, words).ok()?;
+    let mut source = MemSource::new(Vec::from_slice(alloc, input).ok()?, Vec::new(alloc));
+    let mut sink = MemSink::new(alloc, 1048576, Vec::new(alloc)).ok()?;
+    let mut spawner = NoSpawner::new();
+    let clock = still_clock(alloc)?;
+    let ended = program(
+        rt,
+        alloc,
+        &words,
+        &mut source,
+        &mut sink,
+        clock,
+        &mut spawner,
+    );
+    if ended != status {
+        return None;
+    }
+    Vec::from_slice(alloc, sink.bytes()).ok()
+}
+
+// Whether check passes the front of a journal of this length.
+fn passes<R: Host + Send + 'static>(
+    rt: &R,
+    alloc: Global,
+    journal: &Vec<u8>,
+    length: usize,
+) -> Option<bool> {
+    let front = journal.get(..length)?;
+    let whole = length == journal.len();
+    let status = if whole { 0 } else { 11 };
+    let output = written(rt, alloc, CHECK, front, status)?;
+    Some(whole == (output.as_slice() == b"yes\n".as_slice()))
+}
+
+// Whether check passes the journal of a run, and none of its fronts of more than one line.
+fn whole_alone<R: Host + Send + 'static>(rt: &R, alloc: Global, turns: &str) -> Option<usize> {
+    let journal = written(rt, alloc, turns, SCRIPT, 0)?;
+    let mut lines = 0usize;
+    for (at, byte) in journal.iter().enumerate() {
+        if *byte == b'\n' {
+            lines = lines.saturating_add(1);
+            if lines > 1 && passes(rt, alloc, &journal, at.saturating_add(1)) != Some(true) {
+                return None;
+            }
+        }
+    }
+    Some(lines)
+}
+
+#[test]
+fn a_run_passes_as_a_whole_alone(rt: HostRuntime) {
+    let lines = whole_alone(&rt, rt.alloc(), "run 0 100");
+    assert!(&rt; matches!(lines, Some(n) if n > 20));
 }
