@@ -12,3 +12,12 @@ pub mod Selects
 pub mod Runtime
 pub mod PendingTurns
 pub mod JournalWaits
+pub mod Frames
+pub mod Leads
+pub mod Sequences
+pub mod Races
+pub mod Yields
+pub mod Naps
+pub mod Retries
+pub mod Repeats
+pub mod JoinLists

@@ -43,7 +43,7 @@ waits-passes false x e = cc
 -- one branch
 module _ {T C O : Type 0} (future : FutureOf T C O) (reaches : C → C → Type 0) (itself : (c : C) → reaches c c) (on : (a b c : C) → reaches a b → reaches b c → reaches a c)
     (reach : (f : T) (c : C) (r : Poll O) (g : T) (d : C) → future.polls f c r g d → reaches c d) (left : (f : T) (c d : C) → future.cancels f c d → reaches c d) where
-  given_up : (b : Branch T) (c d : C) → BranchCancels future b c d → reaches c d
+  pub given_up : (b : Branch T) (c d : C) → BranchCancels future b c d → reaches c d
   given_up (Live f) c d p = left f c d p
   given_up (Out f) c d p = left f c d p
   given_up Gone c d p = subst (reaches c) (sym p) (itself c)
@@ -53,7 +53,7 @@ module _ {T C O : Type 0} (future : FutureOf T C O) (reaches : C → C → Type 
     after_reached (Ready x) g c l b d p = left g c d p.0
     after_reached Pending g c l b d p = subst (reaches c) (sym p.2) (itself c)
 
-    turn_reached : (b : Branch T) (c : C) (l : Look O) (b' : Branch T) (d : C) → TurnBy future says b c l b' d → reaches c d
+    pub turn_reached : (b : Branch T) (c : C) (l : Look O) (b' : Branch T) (d : C) → TurnBy future says b c l b' d → reaches c d
     turn_reached (Live f) c l b' d p = on c p.middle d (reach f c p.answer p.left p.middle p.polled) (after_reached p.answer p.left p.middle l b' d p.rest)
     turn_reached (Out f) c l b' d p = subst (reaches c) (sym p.1) (itself c)
     turn_reached Gone c l b' d p = subst (reaches c) (sym p.1) (itself c)

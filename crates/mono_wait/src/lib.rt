@@ -2,12 +2,16 @@
 #![tactic(auto)]
 
 mod countdown;
+mod delays;
+mod join_lists;
 mod joins;
 pub mod laws;
 mod leaves;
 mod machines;
+mod races;
 mod runtime;
 mod selects;
+mod sequences;
 mod waits;
 
 pub use countdown::Countdown;
