@@ -4,3 +4,5 @@ pub mod Tasks
 pub mod JobAnswers
 pub mod JobTable
 pub mod JobSpawns
+pub mod Calls
+pub mod Runs

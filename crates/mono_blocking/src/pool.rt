@@ -34,9 +34,9 @@ impl<J: Job> DefaultThreadPool<J> {
         spawner: &mut P,
     ) -> Result<DefaultThreadPool<J>, AllocError>
     where
-        J: 'static,
-        J::Output: 'static,
-        J::Unpark: 'static,
+        J: Send + 'static,
+        J::Output: Send + 'static,
+        J::Unpark: Send + Sync + 'static,
         ensures starts { OnOk result (P.starts spawner.new ≡ counted_by num_threads (P.starts spawner.old)) }
         ensures workers { IfOk result (λ pool. pool.workers ≤ num_threads) }
         ensures fewer { IfOk result (λ pool. pool.workers < num_threads → HasRisen (P.refusals spawner.old) (P.refusals spawner.new)) }
@@ -101,15 +101,15 @@ impl<J: Job> ThreadPool for DefaultThreadPool<J> {
 }
 
 // Asks for `count` workers, and returns how many started.
-fn start_workers<R: Host + Send + 'static, J: Job + 'static, P: Spawner>(
+fn start_workers<R: Host + Send + 'static, J: Job + Send + 'static, P: Spawner>(
     rt: &R,
     queue: &Arc<Queue<BlockingTask<J>>, Global>,
     num_threads: usize,
     spawner: &mut P,
 ) -> Result<usize, AllocError>
 where
-    J::Output: 'static,
-    J::Unpark: 'static,
+    J::Output: Send + 'static,
+    J::Unpark: Send + Sync + 'static,
     ensures starts { OnOk result (P.starts spawner.new ≡ counted_by num_threads (P.starts spawner.old)) }
     ensures workers { IfOk result (λ started. started ≤ num_threads) }
     ensures fewer { IfOk result (λ started. started < num_threads → HasRisen (P.refusals spawner.old) (P.refusals spawner.new)) }

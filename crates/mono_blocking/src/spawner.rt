@@ -63,14 +63,14 @@ pub trait Spawner {
     /// (`starts`). The count of refusals rises by one if the start is refused, and stays otherwise (`refused`,
     /// `granted`). So a start is refused only if that count rose in this call (`rose`). A refused start drops its
     /// worker.
-    final fn start<R: Host + Send + 'static, J: Job + 'static>(
+    final fn start<R: Host + Send + 'static, J: Job + Send + 'static>(
         &mut self,
         rt: &R,
         worker: Worker<J>,
     ) -> Result<(), StartFault>
     where
-        J::Output: 'static,
-        J::Unpark: 'static,
+        J::Output: Send + 'static,
+        J::Unpark: Send + Sync + 'static,
         ensures starts { starts self.new ≡ counted_by 1 (starts self.old) }
         ensures refused { OnErr result (refusals self.new ≡ counted_by 1 (refusals self.old)) }
         ensures rose { OnErr result (HasRisen (refusals self.old) (refusals self.new)) }
@@ -93,14 +93,14 @@ pub trait Spawner {
 }
 
 // Spawns a thread for the worker.
-fn start_thread<R: Host + Send + 'static, E: Entry + 'static, J: Job + 'static>(
+fn start_thread<R: Host + Send + 'static, E: Entry + 'static, J: Job + Send + 'static>(
     rt: &R,
     entry: E,
     worker: Worker<J>,
 ) -> Result<JoinHandle<()>, StartFault>
 where
-    J::Output: 'static,
-    J::Unpark: 'static,
+    J::Output: Send + 'static,
+    J::Unpark: Send + Sync + 'static,
 {
     let Ok(theirs) = rt.clone() else {
         return Err(StartFault);

@@ -14,9 +14,9 @@ use std::marker::Model;
 ///
 /// A job has a number, which is its output's number. An output whose value has no such number carries its job's number
 /// as well.
-pub trait Job: Outcome + Send + Drop {
+pub trait Job: Outcome + Drop {
     /// The job's output.
-    type Output: Outcome + Send + Drop;
+    type Output: Outcome + Drop;
 
     /// The value that ends the wait of the thread whose task asks for the output.
     type Unpark: Unpark;

@@ -55,3 +55,9 @@ FailsIf true (Ok x) = ⊥
 FailsIf true (Err e) = ⊤
 FailsIf false (Ok x) = ⊤
 FailsIf false (Err e) = ⊥
+
+-- a listed call answers a fault, and this holds too; any other answers what the driver does
+abbrev pub FailsAt : Bool → Result ⊤ DriverFault → Type 0 → Type 0
+FailsAt true (Ok x) Same = ⊥
+FailsAt true (Err e) Same = Same
+FailsAt false r Same = ⊤

@@ -5,7 +5,7 @@ use Rattle.mono_model.specs.declared.poll.Poll.{Poll}
 use Rattle.mono_joinword.specs.declared.outcome.JoinError.{JoinError}
 use Rattle.mono_joinword.specs.declared.views.JoinerView.{JoinerView}
 use Rattle.mono_machine.specs.Acts.{reply_of}
-use Rattle.mono_machine.specs.JobCalls.{poll_answer, job_polled, drop_answer, job_dropped}
+use Rattle.mono_machine.specs.JobCalls.{poll_answer, drop_answer, job_dropped}
 use Rattle.mono_machine.specs.declared.events.Act.TheVariants as act
 use Rattle.mono_machine.specs.declared.events.Query.TheVariants as query
 use Rattle.mono_machine.specs.declared.events.TurnStep.{TurnStep}
@@ -15,6 +15,7 @@ use Rattle.mono_machine.specs.declared.events.Reply.TheVariants as reply
 use Rattle.mono_machine.specs.declared.events.Refusal.{Refusal}
 use Rattle.mono_machine.specs.declared.events.Refusal.TheVariants as refusal
 use Rattle.mono_blocking.specs.JobAnswers.{IsEnd, after_end, polled_reply, dropped_reply, PollShown, DropShown, FinishShown}
+use Rattle.mono_blocking.specs.Calls.{polled_by}
 use Rattle.mono_blocking.specs.JobSpawns.{Seen, Spawned, strategy_of, refusals_of}
 use Rattle.mono_blocking.specs.declared.jobs.ends.End.{End}
 use Rattle.mono_blocking.specs.declared.jobs.handles.JobHandle.{JobHandle}
@@ -67,10 +68,6 @@ pub record AsksJob {O P : Type 0} (answer_of : Jobs → ℕ → Result Reply Ref
   pub jobs : d.blocking.table.jobs ≡ after (after_end end c.blocking.table.jobs j) j
   pub pool : d.blocking.pool ≡ c.blocking.pool
   pub parts : d ≡ with_blocking c d.blocking (noted (noted_end c.acts j end) asked (reply_of answer)) c.is_out_of_memory
-
--- the jobs after a poll by the running task, which waits for the job from then on if the job runs
-abbrev pub polled_by : ℕ → Jobs → ℕ → Jobs
-polled_by me jobs j = job_polled jobs j me
 
 pub record AsksOutput {O P A : Type 0} (number : A → ℕ) (j : ℕ) (answer : Result (Poll (Result A JoinError)) Refusal) (c d : Parts O (Seen P)) : Type 0 where
   pub asks : AsksJob poll_answer (polled_by c.me) (step.Query (query.Job j)) j (polled_reply number answer) c d

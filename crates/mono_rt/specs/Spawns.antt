@@ -7,8 +7,8 @@ use Rattle.mono_machine.specs.declared.events.Refusal.TheVariants as refusal
 use Rattle.mono_machine.specs.declared.events.Reply.TheVariants as reply
 use Rattle.mono_machine.specs.declared.events.TurnStep.TheVariants as step
 use Rattle.mono_rt.specs.Record.{Record, noted}
-use Rattle.mono_rt.specs.declared.contexts.SpawnRefused.{SpawnRefused}
-use Rattle.mono_rt.specs.declared.contexts.SpawnRefused.TheVariants.{Memory, AtCapacity}
+use Rattle.mono_task.specs.declared.error.SpawnRefused.{SpawnRefused}
+use Rattle.mono_task.specs.declared.error.SpawnRefused.TheVariants.{Memory, AtCapacity}
 
 -- What a running task's spawn adds to the record of its turn: the act, made or refused. An allocation that fails is no
 -- act, and sets a flag.
@@ -29,8 +29,3 @@ abbrev pub SpawnsTask : {F : Type 0} → Machine → Result ℕ (SpawnRefused F)
 SpawnsTask m (Ok t) Left = ((act_outcome act.Spawn m).reply ≡ reply.Task t) × Left (act_outcome act.Spawn m).machine
 SpawnsTask m (Err (AtCapacity f)) Left = ((act_outcome act.Spawn m).reply ≡ reply.Refused refusal.AtCapacity) × Left (act_outcome act.Spawn m).machine
 SpawnsTask m (Err (Memory f)) Left = Left m
-
--- the future that a refusal hands back
-abbrev pub refused_future : {F : Type 0} → SpawnRefused F → F
-refused_future (Memory f) = f
-refused_future (AtCapacity f) = f

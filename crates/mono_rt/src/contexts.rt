@@ -1,12 +1,13 @@
 // The executor as a running task sees it.
 ghost use Rattle.std.proofs.Common.{ap};
-ghost use Rattle.std.specs.Prelude.{refl, ◌≡◌, ◌++◌, ◌∷◌, [], true, false, Option, Some, None, Err, IfOk, OnOk, OnErr};
+ghost use Rattle.std.specs.Prelude.{refl, ◌≡◌, ◌++◌, ◌∷◌, [], true, false, Option, Some, None, Err, IfOk, IfErr, OnOk, OnErr};
 ghost use Rattle.mono_model.specs.Table.{next_number};
 ghost use Rattle.mono_model.specs.Tasks.{woken, woken_if_any, spawned};
 ghost use Rattle.mono_model.specs.Joins.{wake_answer, join_answer, joined, drop_answer, join_dropped};
 ghost use Rattle.mono_model.specs.SleepAnswers.{without_waker, waker_in};
 ghost use Rattle.mono_model.specs.declared.error.SleepError.TheVariants.{Memory};
 ghost use Rattle.mono_task.specs.Schedule as schedule;
+ghost use Rattle.mono_task.specs.Spawns.{refused_future};
 ghost use Rattle.mono_task.specs.Work.{without_outputs};
 ghost use Rattle.mono_time.specs.Instants.{nanos_of};
 ghost use Rattle.mono_time.specs.Sleeps.{Added, sleep_poll_answer, with_polled_sleep, sleep_reset_answer, with_reset_sleep, sleep_remove_answer, with_removed_sleep};
@@ -22,7 +23,9 @@ use mono_inbox::{RemoteWaker, Unpark};
 use mono_joinword::Outcome;
 use mono_shared::{SharedContext, SharedState};
 use mono_table::Slots;
-use mono_task::{Context, JoinContext, JoinHandle, Poll, SpawnTask, TaskError, Woke};
+use mono_task::{
+    Context, JoinContext, JoinHandle, Poll, SpawnRefused, SpawnTask, TaskError, Woke,
+};
 use mono_time::{Error, Instant, SleepError, TimeContext};
 use std::alloc::{AllocError, Global};
 
@@ -38,15 +41,6 @@ pub struct Cx<F, O, P: ThreadPool, U: Unpark, W = ()> {
     pub(crate) waker: Option<RemoteWaker<U>>,
     // the shared value of the tasks
     pub(crate) shared: W,
-}
-
-/// A future that was not spawned, and is handed back.
-#[derive(Drop)]
-pub enum SpawnRefused<F> {
-    /// The allocation of its task failed.
-    Memory(F),
-    /// The limit of live tasks is reached, or the numbers are used up.
-    AtCapacity(F),
 }
 
 impl<F: Drop, O: Outcome + Drop, P: ThreadPool + Drop, U: Unpark, W: SharedState + Drop> Cx<
@@ -77,6 +71,7 @@ impl<F: Drop, O: Outcome + Drop, P: ThreadPool + Drop, U: Unpark, W: SharedState
         ensures futures { OnOk result (self.new.futures.items ≡ self.old.futures.items ++ Some future ∷ []) }
         ensures refused { OnErr result (self.new.parts.tasks ≡ self.old.parts.tasks) }
         ensures none { OnErr result (self.new.futures.items ≡ self.old.futures.items) }
+        ensures back { IfErr result (λ refusal. refused_future refusal ≡ future) }
         ensures kept { self.new.parts ≡ record self.old.parts { tasks = self.new.parts.tasks; acts = noted_spawn self.old.parts.acts result; is_out_of_memory = lacks_spawn self.old.parts.is_out_of_memory result } }
         ensures reached { ReachesSharing O.output_number W.leads self.old self.new }
     {

@@ -2,9 +2,12 @@
 ghost use Rattle.std.specs.Prelude.{◌≡◌, IfOk};
 ghost use Rattle.mono_rt.specs.JobActs.{SpawnsJob, PollsJob, DropsJob, AsksWhetherEnded};
 ghost use Rattle.mono_rt.specs.Reaches.{ReachesSharing};
+ghost use Rattle.mono_blocking.specs.JobSpawns.{strategy_of, refusals_of};
 
 use crate::contexts::Cx;
-use mono_blocking::{Job, JobHandle, JobWaker, OutputOf, PollJob, SpawnError, ThreadPool};
+use mono_blocking::{
+    Job, JobContext, JobHandle, JobWaker, OutputOf, PollJob, RemoteContext, SpawnError, ThreadPool,
+};
 use mono_inbox::{RemoteWaker, Unpark};
 use mono_joinword::{JoinError, Outcome};
 use mono_machine::Refusal;
@@ -109,5 +112,54 @@ where
                 Err(refusal) => Err(PollJob::Refused(refusal)),
             },
         }
+    }
+}
+
+impl<F: Drop, O: Outcome + Drop, P: ThreadPool + Drop, U: Unpark, W: SharedState + Drop> JobContext
+    for Cx<F, O, P, U, W>
+where
+    P::Job: Job<Unpark = U>,
+{
+    type Job = P::Job;
+
+    type JobOutput = OutputOf<P>;
+
+    ghost jobs = { λ c. c.parts.blocking.table.jobs };
+
+    ghost strategy = { λ c. strategy_of c.parts.blocking.pool };
+
+    ghost refusals = { λ c. refusals_of P.refusals c.parts.blocking.pool };
+
+    fn spawn_blocking<R: Host>(
+        &mut self,
+        rt: &R,
+        alloc: Global,
+        job: P::Job,
+    ) -> Result<JobHandle, SpawnError<P::Job>> {
+        Cx::spawn_blocking(self, rt, alloc, job)
+    }
+
+    fn poll_job(&mut self, job: u64) -> Result<Poll<Result<OutputOf<P>, JoinError>>, PollJob> {
+        Cx::poll_job(self, job)
+    }
+
+    fn drop_job(&mut self, job: u64) -> Result<Option<Result<OutputOf<P>, JoinError>>, Refusal> {
+        Cx::drop_job(self, job)
+    }
+
+    fn job_finished(&mut self, job: u64) -> Result<bool, Refusal> {
+        Cx::job_finished(self, job)
+    }
+}
+
+impl<
+    F: Drop,
+    O: Outcome + Drop,
+    P: ThreadPool + Drop,
+    U: Unpark,
+    W: SharedState + Drop,
+> RemoteContext<U> for Cx<F, O, P, U, W> {
+    fn remote_waker(&self) -> Result<RemoteWaker<U>, AllocError> {
+        self.own_waker()
     }
 }

@@ -10,13 +10,14 @@ mod drains;
 mod job_calls;
 mod parts;
 mod runtimes;
+mod spawn_calls;
 mod spawns;
 mod turns;
 mod wakers;
 
 pub use alone::run_alone;
 pub use builder::{Buildable, RuntimeBuilder, start};
-pub use contexts::{Cx, SpawnRefused};
+pub use contexts::Cx;
 pub use mono_blocking::{JobHandle, OutputOf, PollJob, SpawnError};
 pub use mono_driver::{
     Clock, Driver, DriverFault, Instant, ListClock, StepDriver, ThreadDriver, TimeDriver,
@@ -28,6 +29,7 @@ pub use mono_machine::{
     TurnStep, Woke,
 };
 pub use mono_shared::{SharedContext, SharedState};
+pub use mono_task::SpawnRefused;
 pub use mono_time::Timers;
 pub use parts::{Entry, Journal, RunError, laws};
 pub use runtimes::Runtime;

@@ -3,16 +3,17 @@ ghost use Rattle.std.specs.Prelude.{◌≡◌, ◌++◌, ◌∷◌, [], Some, If
 ghost use Rattle.mono_model.specs.Table.{next_number};
 ghost use Rattle.mono_model.specs.Tasks.{spawned};
 ghost use Rattle.mono_machine.specs.Machine.{Machine};
-ghost use Rattle.mono_rt.specs.Spawns.{SpawnsTask, refused_future};
+ghost use Rattle.mono_task.specs.Spawns.{refused_future};
+ghost use Rattle.mono_rt.specs.Spawns.{SpawnsTask};
 ghost use Rattle.mono_rt.specs.Refinement.{hosting_of, Matches};
 
-use crate::contexts::{Cx, SpawnRefused};
+use crate::contexts::Cx;
 use crate::runtimes::Runtime;
 use mono_blocking::ThreadPool;
 use mono_driver::Driver;
 use mono_joinword::Outcome;
 use mono_shared::SharedState;
-use mono_task::{JoinHandle, SpawnTask};
+use mono_task::{JoinHandle, SpawnRefused, SpawnTask};
 use std::alloc::Global;
 
 impl<F: Drop, O: Outcome + Drop, D: Driver, P: ThreadPool + Drop, W: SharedState + Drop> Runtime<

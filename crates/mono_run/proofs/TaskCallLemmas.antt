@@ -36,8 +36,8 @@ use Rattle.mono_rt.specs.Spawns.{noted_spawn, lacks_spawn}
 use Rattle.mono_rt.specs.JobActs.{SpawnsJob, PollsJob, DropsJob}
 use Rattle.mono_rt.specs.Numbering.{join_numbered, drop_numbered}
 use Rattle.mono_rt.specs.declared.contexts.Cx.{Cx}
-use Rattle.mono_rt.specs.declared.contexts.SpawnRefused.{SpawnRefused}
-use Rattle.mono_rt.specs.declared.contexts.SpawnRefused.TheVariants as back
+use Rattle.mono_task.specs.declared.error.SpawnRefused.{SpawnRefused}
+use Rattle.mono_task.specs.declared.error.SpawnRefused.TheVariants as back
 use Rattle.mono_run.specs.ScriptTurns.{Place, stops_at, acted, asked, is_pending, sleep_steps, join_steps, job_steps, yielded, task_in, sleep_in, job_in, if_made, none_made}
 use Rattle.mono_run.specs.TaskPolls.{HasKept, Stands, new_task}
 use Rattle.mono_run.specs.Segments.{Rest, Goes, waits}

@@ -19,7 +19,6 @@ mod replay;
 mod script_run;
 mod services;
 mod session_lines;
-mod std_clock;
 mod top;
 mod word_texts;
 mod words;
@@ -32,13 +31,12 @@ pub use failures::failure_sentence;
 pub use faults::line_sentence;
 pub use follows::{FollowedCommand, follow_command};
 pub use mono_blocking::{NoSpawner, Spawner, ThreadSpawner};
-pub use mono_driver::{Clock, Instant, ListClock};
+pub use mono_driver::{Clock, Instant, ListClock, SystemClock};
 pub use mono_text::{
     Fault, InputError, MAX_INPUT, MemSink, MemSource, PlainSink, PlainSource, Reader, Reason, Sink,
     SinkFault, Source, SourceFault, StdinSource, StdoutSink, read_all, report_line, write_all,
 };
 pub use mono_trace_lines::{Cause, Failure, Stage};
 pub use replay::{Replayed, answer};
-pub use std_clock::StdClock;
 pub use top::{explained, program};
 pub use word_texts::shown;

@@ -5,3 +5,4 @@ pub mod Entries
 pub mod Schedule
 pub mod Invariants
 pub mod TaskEnds
+pub mod Spawns

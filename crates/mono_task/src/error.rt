@@ -11,3 +11,12 @@ pub enum SpawnTask {
     #[error("no place for another task")]
     AtCapacity,
 }
+
+/// A future that was not spawned, and is handed back.
+#[derive(Drop)]
+pub enum SpawnRefused<F> {
+    /// The allocation of its task failed.
+    Memory(F),
+    /// The limit of live tasks is reached, or the numbers are used up.
+    AtCapacity(F),
+}

@@ -6,13 +6,15 @@ mod entries;
 mod error;
 mod future;
 mod join;
+mod spawns;
 mod table;
 mod wakers;
 
 pub use context::Context;
-pub use error::SpawnTask;
+pub use error::{SpawnRefused, SpawnTask};
 pub use future::TaskFuture;
 pub use join::{JoinContext, JoinHandle};
 pub use mono_model::{Ended, MAX_NANOS, Poll, TaskError, Woke};
+pub use spawns::SpawnContext;
 pub use table::Tasks;
 pub use wakers::{wake_all, wake_if_any};

@@ -1,5 +1,5 @@
 // A moment of the clock, in nanoseconds.
-ghost use Rattle.std.specs.Prelude.{◌≡◌, ◌≤◌, ◌<◌, ◌+◌, ◌-◌, ◌^◌, ◌↔◌, IsSome, IfSome};
+ghost use Rattle.std.specs.Prelude.{◌≡◌, ◌≤◌, ◌<◌, ◌+◌, ◌-◌, ◌^◌, ◌↔◌, min, IsSome, IfSome};
 ghost use Rattle.std.specs.Duration.{as_nanos};
 ghost use Rattle.mono_model.specs.Ticks.{max_nanos, up, down};
 
@@ -19,6 +19,9 @@ pub struct Instant {
 
 impl Instant {
     ghost use Rattle.mono_time.specs.Instants.{nanos_of};
+
+    /// The clock's zero, which is the first instant.
+    pub const ZERO: Instant = Instant { nanos: 0 };
 
     /// Returns the instant of a number of nanoseconds, or `None` if and only if it is above `MAX_NANOS`.
     pub fn from_nanos(nanos: u128) -> Option<Instant>
@@ -107,6 +110,24 @@ impl Instant {
         ensures some { IfSome result (λ t. nanos_of t ≡ nanos_of self.now + as_nanos duration) }
     {
         Instant::from_nanos(self.nanos + duration.as_nanos())
+    }
+
+    /// Returns the instant a duration later, or the last instant if that is past `MAX_NANOS`.
+    pub fn saturating_add(&self, duration: Duration) -> Instant
+        ensures { nanos_of result ≡ min (nanos_of self.now + as_nanos duration) max_nanos }
+    {
+        Instant {
+            nanos: (self.nanos + duration.as_nanos()).min(MAX_NANOS),
+        }
+    }
+
+    /// Returns the instant a duration earlier, or the clock's zero if that is before it.
+    pub fn saturating_sub(&self, duration: Duration) -> Instant
+        ensures { nanos_of result ≡ nanos_of self.now - as_nanos duration }
+    {
+        Instant {
+            nanos: self.nanos.saturating_sub(duration.as_nanos()),
+        }
     }
 
     /// Returns the instant a duration earlier, or `None` if and only if it is before the clock's zero.

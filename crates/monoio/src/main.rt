@@ -6,7 +6,7 @@ mod pages;
 
 use help::{VERSION, help_of, is_only};
 use mono_script::{
-    Ended, FollowedCommand, Status, StdClock, StdinSource, StdoutSink, ThreadSpawner, complaint,
+    Ended, FollowedCommand, Status, StdinSource, StdoutSink, SystemClock, ThreadSpawner, complaint,
     exit_code, explained, failure_sentence, follow_command, joins_workers, line_sentence,
     words_behind,
 };
@@ -260,7 +260,7 @@ fn main(rt: HostRuntime) -> ExitCode {
     let mut source = StdinSource::new(stdin);
     let mut sink = StdoutSink::new(rt.stdout());
     let mut spawner = ThreadSpawner::new(rt.alloc());
-    let clock = StdClock::new(theirs);
+    let clock = SystemClock::new(theirs);
     let ended = explained(
         &rt,
         rt.alloc(),

@@ -29,7 +29,7 @@ fn wake_often<U: Unpark, R: Host>(rt: &R, wakers: &Vec<RemoteWaker<U>>, rounds: 
 }
 
 /// Starts a thread that wakes all tasks `rounds` times, then sets that it has finished, and then unparks.
-fn start_waking<U: Unpark + 'static, R: Host + Abort + Copy + Send + 'static>(
+fn start_waking<U: Unpark + Send + Sync + 'static, R: Host + Abort + Copy + Send + 'static>(
     rt: R,
     wakers: Vec<RemoteWaker<U>>,
     rounds: u64,

@@ -4,7 +4,8 @@ use Rattle.mono_machine.specs.declared.events.Query.TheVariants as query
 use Rattle.mono_machine.specs.declared.events.TurnStep.TheVariants as step
 use Rattle.mono_blocking.specs.JobAnswers.{after_end, polled_reply}
 use Rattle.mono_rt.specs.Record.{noted}
-use Rattle.mono_rt.specs.JobActs.{noted_end, with_blocking, polled_by}
+use Rattle.mono_blocking.specs.Calls.{polled_by}
+use Rattle.mono_rt.specs.JobActs.{noted_end, with_blocking}
 use Rattle.mono_rt.proofs.JobActLemmas.{asks_leads}
 use Rattle.mono_rt.proofs.parts.job_acts.Parts+O+Blockings+P.poll_job.Goals as goal
 

@@ -4,14 +4,15 @@ ghost use Rattle.std.specs.Duration.{as_nanos};
 ghost use Rattle.mono_model.specs.Ticks.{max_nanos};
 ghost use Rattle.mono_time.specs.Instants.{nanos_of};
 
-use mono_driver::{Clock, Instant};
+use crate::clock::Clock;
 use mono_model::{Host, MAX_NANOS};
+use mono_time::Instant;
 use std::time::{self, Duration};
 
 /// The system's clock, in nanoseconds from its making. It ends at `MAX_NANOS`, and a reading that the system refuses
 /// repeats the last one. It exposes no readings.
 #[derive(Drop)]
-pub struct StdClock<R> {
+pub struct SystemClock<R> {
     rt: R,
     begin: Option<time::Instant>,
     last: Instant,
@@ -32,25 +33,17 @@ fn reading(gone: Option<Duration>, last: Instant) -> Instant
     }
 }
 
-// Returns the first instant.
-fn first() -> Instant {
-    match Instant::from_nanos(0) {
-        Some(first) => first,
-        None => unreachable!(),
-    }
-}
-
-impl<R: Host + Drop> StdClock<R> {
+impl<R: Host + Drop> SystemClock<R> {
     /// Returns a clock that begins now.
-    pub fn new(rt: R) -> StdClock<R> {
+    pub fn new(rt: R) -> SystemClock<R> {
         let begin = match time::Instant::now(&rt) {
             Ok(begin) => Some(begin),
             Err(_) => None,
         };
-        StdClock {
+        SystemClock {
             rt,
             begin,
-            last: first(),
+            last: Instant::ZERO,
         }
     }
 
@@ -66,7 +59,7 @@ impl<R: Host + Drop> StdClock<R> {
     }
 }
 
-impl<R: Host + Drop> Clock for StdClock<R> {
+impl<R: Host + Drop> Clock for SystemClock<R> {
     fn now(&mut self) -> Instant {
         self.last = reading(self.gone(), self.last);
         self.last

@@ -1,0 +1,24 @@
+// The calls of a context that spawns tasks, by a runtime's context.
+ghost use Rattle.mono_task.specs.Spawns.{Spawns, NotesMemory};
+
+use crate::contexts::Cx;
+use mono_blocking::ThreadPool;
+use mono_inbox::Unpark;
+use mono_joinword::Outcome;
+use mono_shared::SharedState;
+use mono_task::{JoinHandle, SpawnContext, SpawnRefused};
+use std::alloc::Global;
+
+impl<
+    F: Drop,
+    O: Outcome + Drop,
+    P: ThreadPool + Drop,
+    U: Unpark,
+    W: SharedState + Drop,
+> SpawnContext<O> for Cx<F, O, P, U, W> {
+    type Future = F;
+
+    fn spawn(&mut self, alloc: Global, future: F) -> Result<JoinHandle<O>, SpawnRefused<F>> {
+        Cx::spawn(self, alloc, future)
+    }
+}

@@ -1,0 +1,23 @@
+-- What a spawn answers, and what it leaves of the tasks.
+use Rattle.std.specs.Prelude.{◌≡◌, ℕ, ⊤, Bool, true, Result, Ok, Err}
+use Rattle.mono_model.specs.Table.{next_number}
+use Rattle.mono_model.specs.Tasks.{Tasks, spawned}
+use Rattle.mono_task.specs.declared.error.SpawnRefused.{SpawnRefused}
+use Rattle.mono_task.specs.declared.error.SpawnRefused.TheVariants.{Memory, AtCapacity}
+
+-- the future that a refusal hands back
+abbrev pub refused_future : {F : Type 0} → SpawnRefused F → F
+refused_future (Memory f) = f
+refused_future (AtCapacity f) = f
+
+module _ {F : Type 0} where
+  -- The answer is the next number, whose task is queued last; or the future comes back, and the tasks stay.
+  abbrev pub Spawns : {O : Type 0} → Tasks O → F → Result ℕ (SpawnRefused F) → Tasks O → Type 0
+  Spawns old future (Ok t) new = (t ≡ next_number old.table) × (new ≡ spawned old)
+  Spawns old future (Err refusal) new = (refused_future refusal ≡ future) × (new ≡ old)
+
+  -- refused memory is noted by a flag
+  abbrev pub NotesMemory : Result ℕ (SpawnRefused F) → Bool → Type 0
+  NotesMemory (Ok t) noted = ⊤
+  NotesMemory (Err (Memory future)) noted = noted ≡ true
+  NotesMemory (Err (AtCapacity future)) noted = ⊤
