@@ -1,5 +1,5 @@
 -- What the calls of a runtime's context mean for the traits of contexts.
-use Rattle.std.proofs.Common.{◌≡◌, ◌⊎◌, inl, inr, ℕ, true, false, Bool, Option, refl, ap, sym, subst}
+use Rattle.std.proofs.Common.{◌≡◌, inl, inr, ℕ, true, false, Bool, refl, ap, sym, subst}
 use Rattle.std.specs.Prelude.{Result, Ok, Err, IfOk, IfErr, OnOk, OnErr}
 use Rattle.mono_model.specs.Jobs.{Jobs}
 use Rattle.mono_model.specs.Table.{next_number}
@@ -72,6 +72,6 @@ module _ {O P A : Type 0} (number : A → ℕ) (j : ℕ) where
 
 pub found : (j : ℕ) (answer : Result Bool Refusal) (old new : table.Seen) → FinishShown old j answer new → Finds j answer old.jobs
 found j (Ok false) old new shown = shown.0
-found j (Ok true) old new (inl yes) = inl yes
-found j (Ok true) old new (inr no) = inr no.0
+found j (Ok true) old new (inl told) = inl told
+found j (Ok true) old new (inr seen) = inr seen.0
 found j (Err e) old new shown = shown
