@@ -1,5 +1,5 @@
 // A driver that fails as a test tells it.
-ghost use Rattle.std.specs.Prelude.{◌≡◌, ◌+◌, true, if◌then◌else◌};
+ghost use Rattle.std.specs.Prelude.{◌≡◌, ◌+◌, true};
 ghost use Rattle.std.specs.Duration.{as_nanos};
 ghost use Rattle.mono_driver.specs.Drivers.{Faults, IsSure, one_more, moved};
 ghost use Rattle.mono_driver.specs.StepDrivers.{is_listed, FailsAt};
@@ -51,15 +51,11 @@ impl<D: Drop> FailingDriver<D> {
         ensures driver { self.new.driver ≡ self.old.driver }
         ensures parks { self.new.parks ≡ self.old.parks }
         ensures failing { self.new.failing ≡ self.old.failing }
-        ensures refused { self.new.refused ≡ if result then one_more self.old.refused else self.old.refused }
+        ensures refused { self.new.refused ≡ self.old.refused }
     {
         let call = self.calls;
-        let fails = self.failing.iter().any(|k| *k == call);
         self.calls = call.saturating_add(1);
-        if fails {
-            self.refused = self.refused.saturating_add(1);
-        }
-        fails
+        self.failing.iter().any(|k| *k == call)
     }
 }
 
@@ -91,6 +87,7 @@ impl<D: Driver> Driver for FailingDriver<D> {
         ensures listed { FailsAt (is_listed self.old.failing.items self.old.calls) result (self.new.driver ≡ self.old.driver) }
     {
         if self.fails() {
+            self.refused = self.refused.saturating_add(1);
             return Err(DriverFault);
         }
         self.driver.submit(rt)
@@ -106,6 +103,7 @@ impl<D: Driver> Driver for FailingDriver<D> {
     {
         self.parks = self.parks.saturating_add(1);
         if self.fails() {
+            self.refused = self.refused.saturating_add(1);
             return Err(DriverFault);
         }
         self.driver.park(rt)
@@ -121,6 +119,7 @@ impl<D: Driver> Driver for FailingDriver<D> {
     {
         self.parks = self.parks.saturating_add(1);
         if self.fails() {
+            self.refused = self.refused.saturating_add(1);
             return Err(DriverFault);
         }
         self.driver.park_timeout(rt, longest)
