@@ -3,6 +3,7 @@ ghost use Rattle.std.specs.Prelude.{◌≡◌, ℕ, IsOk, ⊤};
 ghost use Rattle.mono_blocking.specs.Pool.{Offers, Schedules};
 ghost use Rattle.mono_blocking.specs.declared.strategy.Offered.TheVariants.{Here};
 
+use crate::no_jobs::NoJob;
 use crate::task::{BlockingTask, Job};
 use mono_model::Host;
 use std::alloc::Global;
@@ -101,7 +102,7 @@ pub trait ThreadPool {
 
 /// A pool that is never attached: it has no thread, and runs each task on the caller.
 #[derive(Drop)]
-pub struct NoPool<J> {
+pub struct NoPool<J = NoJob> {
     marker: PhantomData<J>,
 }
 

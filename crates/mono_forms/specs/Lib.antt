@@ -15,3 +15,4 @@ pub mod Inspectors
 pub mod Fuses
 pub mod EitherRaces
 pub mod RaceLists
+pub mod LazySpawns

@@ -8,6 +8,7 @@ use crate::flatten::{Flatten, Then};
 use crate::fuses::Fuse;
 use crate::inspectors::Inspect;
 use crate::lazies::Lazy;
+use crate::lazy_spawns::LazySpawn;
 use crate::maps::{Map, MapErr, MapOk};
 use crate::race_lists::RaceList;
 use crate::races::Race;
@@ -15,6 +16,7 @@ use crate::repeats::Repeat;
 use crate::rescues::{OrElse, TryFlattenErr};
 use crate::tries::{AndThen, TryFlatten};
 use crate::yields::YieldNow;
+use mono_blocking::{JobHandle, RunJob};
 use mono_combine::{Fallible, Join2, JoinList, PollFn, Select2, SelectList, TryJoin2, TryJoinList};
 use mono_task::{Context, JoinHandle, TaskFuture};
 use mono_time::{Sleep, SleepFor, Timeout, TimeoutFor};
@@ -123,6 +125,12 @@ impl<T> FutureExt for Pending<T> {}
 impl FutureExt for YieldNow {}
 
 impl<O> FutureExt for JoinHandle<O> {}
+
+impl FutureExt for JobHandle {}
+
+impl<J> FutureExt for RunJob<J> {}
+
+impl<G, O> FutureExt for LazySpawn<G, O> {}
 
 impl<A, F> FutureExt for Map<A, F> {}
 

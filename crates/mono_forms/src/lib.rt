@@ -14,6 +14,7 @@ mod flatten;
 mod fuses;
 mod inspectors;
 mod lazies;
+mod lazy_spawns;
 mod makers;
 mod maps;
 mod nests;
@@ -32,7 +33,10 @@ pub use flatten::{Flatten, Then};
 pub use fuses::Fuse;
 pub use inspectors::Inspect;
 pub use lazies::Lazy;
-pub use makers::{lazy, pending, race, race_either, race_list, ready, repeat, yield_now};
+pub use lazy_spawns::LazySpawn;
+pub use makers::{
+    lazy, lazy_spawn, pending, race, race_either, race_list, ready, repeat, yield_now,
+};
 pub use maps::{Map, MapErr, MapOk};
 pub use nests::{race_either3, race_either4, race_either5, race3, race4, race5};
 pub use race_lists::RaceList;

@@ -5,6 +5,7 @@ ghost use Rattle.std.specs.Prelude.{◌≡◌, false, Some};
 use crate::answers::{Pending, Ready};
 use crate::either_races::RaceEither;
 use crate::lazies::Lazy;
+use crate::lazy_spawns::LazySpawn;
 use crate::race_lists::RaceList;
 use crate::races::Race;
 use crate::repeats::Repeat;
@@ -73,5 +74,15 @@ pub fn race_list<T>(futures: Vec<T>) -> RaceList<T>
     RaceList {
         futures,
         has_answered: false,
+    }
+}
+
+/// Returns a future whose first poll spawns a task that runs `future`, and answers the task's handle.
+pub fn lazy_spawn<G, O>(future: G) -> LazySpawn<G, O>
+    ensures { result.future ≡ Some future }
+{
+    LazySpawn {
+        future: Some(future),
+        output: PhantomData,
     }
 }

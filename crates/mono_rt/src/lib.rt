@@ -18,18 +18,30 @@ mod wakers;
 pub use alone::run_alone;
 pub use builder::{Buildable, RuntimeBuilder, start};
 pub use contexts::Cx;
-pub use mono_blocking::{JobHandle, OutputOf, PollJob, SpawnError};
-pub use mono_driver::{
-    Clock, Driver, DriverFault, Instant, ListClock, StepDriver, ThreadDriver, TimeDriver,
+pub use mono_blocking::{
+    BlockingHandle, BlockingStrategy, DefaultThreadPool, Job, JobContext, JobError, JobHandle,
+    NoJob, NoPool, NoSpawner, OutputOf, PollJob, RemoteContext, RunJob, SpawnError, Spawner,
+    ThreadPool, ThreadSpawner, run_job,
 };
-pub use mono_inbox::RemoteWaker;
+pub use mono_driver::{
+    Clock, Driver, DriverFault, FailingDriver, Instant, ListClock, StepDriver, SystemClock,
+    ThreadDriver, TimeDriver,
+};
+pub use mono_inbox::{NoUnpark, RemoteWaker, Unpark, UnparkHandle};
 pub use mono_joinword::{JoinError, Outcome};
 pub use mono_machine::{
-    Act, Blocking, End, Ended, Event, How, List, MAX_NANOS, Query, Refusal, Reply, Report,
+    Act, Blocking, End, Ended, Event, How, Limits, List, MAX_NANOS, Query, Refusal, Reply, Report,
     TurnStep, Woke,
 };
+pub use mono_model::{Host, Poll};
 pub use mono_shared::{SharedContext, SharedState};
-pub use mono_task::SpawnRefused;
-pub use mono_time::Timers;
+pub use mono_task::{
+    Context, JoinContext, JoinHandle, SpawnContext, SpawnRefused, TaskError, TaskFuture,
+};
+pub use mono_time::{
+    Elapsed, Error, Interval, LateError, MissedTickBehavior, Sleep, SleepError, SleepFor,
+    TimeContext, Timeout, TimeoutError, TimeoutFor, TimeoutRefused, Timers, interval, interval_at,
+    sleep, sleep_for, sleep_until, timeout, timeout_at, timeout_for,
+};
 pub use parts::{Entry, Journal, RunError, laws};
 pub use runtimes::Runtime;

@@ -6,10 +6,9 @@ ghost use Rattle.use_buckets.specs.Readings.{Called, called_itself, called_on};
 ghost use Rattle.use_buckets.specs.Takings.{is_over};
 
 use mono_limit::{LimitError, Limiter, Take};
-use mono_model::{Host, Poll};
-use mono_shared::{SharedContext, SharedState};
-use mono_task::TaskFuture;
-use mono_time::{Instant, Sleep, TimeContext, sleep_until};
+use mono_rt::{
+    Host, Instant, Poll, SharedContext, SharedState, Sleep, TaskFuture, TimeContext, sleep_until,
+};
 use mono_wheel::Steps;
 use std::alloc::{AllocError, Global};
 use std::marker::Brand;

@@ -9,40 +9,13 @@ mod buckets;
 mod takers;
 
 use buckets::Buckets;
-use mono_blocking::{Job, NoPool};
-use mono_driver::{StepDriver, TimeDriver};
-use mono_inbox::NoUnpark;
-use mono_joinword::Outcome;
 use mono_limit::laws::rate_is_kept;
-use mono_model::Host;
-use mono_rt::{Runtime, RuntimeBuilder};
+use mono_rt::{Host, NoPool, Runtime, RuntimeBuilder, StepDriver, TimeDriver};
 use std::alloc::Global;
 use std::io;
 use takers::Taker;
 
-/// A job that is never made.
-#[derive(Drop)]
-pub struct Idle;
-
-impl Outcome for Idle {
-    ghost output_number = { λ job. 0 };
-
-    fn number(&self) -> u64 {
-        0
-    }
-}
-
-impl Job for Idle {
-    type Output = u64;
-
-    type Unpark = NoUnpark;
-
-    fn run(self) -> u64 {
-        0
-    }
-}
-
-type Running = Runtime<Taker, u64, TimeDriver<StepDriver>, NoPool<Idle>, Buckets>;
+type Running = Runtime<Taker, u64, TimeDriver<StepDriver>, NoPool, Buckets>;
 
 // Runs a taker together with those that were spawned. In each order of their calls, no more tokens of a bucket are
 // granted than it had before, and one for each period that has ended.
@@ -58,7 +31,7 @@ fn run_taker<R: Host>(rt: &R, alloc: Global, runtime: &mut Running, taker: Taker
 // Runs two tasks that take `each` times from one bucket, and returns at which millisecond the second one is done.
 fn done_at<R: Host>(rt: &R, alloc: Global, burst: u64, period_ms: u64, each: u64) -> Option<u64> {
     let driver = TimeDriver::new(StepDriver::new(Vec::new(alloc)));
-    let builder: RuntimeBuilder<TimeDriver<StepDriver>, NoPool<Idle>> = RuntimeBuilder::new(driver);
+    let builder: RuntimeBuilder<TimeDriver<StepDriver>, NoPool> = RuntimeBuilder::new(driver);
     let Ok(buckets) = Buckets::new(alloc, burst, period_ms) else {
         return None;
     };

@@ -3,10 +3,7 @@ ghost use Rattle.std.specs.Prelude.{⊤};
 ghost use Rattle.use_buckets.specs.Takings.{is_over};
 
 use crate::buckets::{Buckets, Taking};
-use mono_model::{Host, Poll};
-use mono_shared::SharedContext;
-use mono_task::TaskFuture;
-use mono_time::TimeContext;
+use mono_rt::{Host, Poll, SharedContext, TaskFuture, TimeContext};
 use std::alloc::Global;
 
 /// A future that takes n tokens `often` times, and answers the millisecond at which it was done; 0 if it never can.

@@ -3,7 +3,7 @@ ghost use Rattle.std.specs.Prelude.{◌≡◌, refl};
 ghost use Rattle.mono_sync.specs.MpscRuns as channel;
 ghost use Rattle.mono_sync.specs.SemaphoreRuns as semaphore;
 
-use mono_shared::SharedState;
+use mono_rt::SharedState;
 use mono_sync::mpsc::Channel;
 use mono_sync::{Holds, Semaphore};
 

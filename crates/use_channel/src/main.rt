@@ -7,12 +7,7 @@ mod boards;
 mod parties;
 
 use boards::Board;
-use mono_blocking::{Job, NoPool};
-use mono_driver::{StepDriver, TimeDriver};
-use mono_inbox::NoUnpark;
-use mono_joinword::Outcome;
-use mono_model::Host;
-use mono_rt::{Runtime, RuntimeBuilder};
+use mono_rt::{Host, NoPool, Runtime, RuntimeBuilder, StepDriver, TimeDriver};
 use mono_sync::Semaphore;
 use mono_sync::laws::stays_bounded;
 use mono_sync::mpsc::Channel;
@@ -20,29 +15,7 @@ use parties::Party;
 use std::alloc::Global;
 use std::io;
 
-/// A job that is never made.
-#[derive(Drop)]
-pub struct Idle;
-
-impl Outcome for Idle {
-    ghost output_number = { λ job. 0 };
-
-    fn number(&self) -> u64 {
-        0
-    }
-}
-
-impl Job for Idle {
-    type Output = u64;
-
-    type Unpark = NoUnpark;
-
-    fn run(self) -> u64 {
-        0
-    }
-}
-
-type Running = Runtime<Party, u64, TimeDriver<StepDriver>, NoPool<Idle>, Board>;
+type Running = Runtime<Party, u64, TimeDriver<StepDriver>, NoPool, Board>;
 
 // Runs a consumer of all that two producers send, over a channel of `most` places. Returns the sum of its messages,
 // each times its place, and how many messages are left: at most the number of places, for each order of the tasks.
@@ -56,7 +29,7 @@ fn sum_of<R: Host>(
     ensures { IfSome result (λ r. r.1 ≤ most) }
 {
     let driver = TimeDriver::new(StepDriver::new(Vec::new(alloc)));
-    let builder: RuntimeBuilder<TimeDriver<StepDriver>, NoPool<Idle>> = RuntimeBuilder::new(driver);
+    let builder: RuntimeBuilder<TimeDriver<StepDriver>, NoPool> = RuntimeBuilder::new(driver);
     let board = Board {
         numbers: Channel::new(alloc, most),
         permits: Semaphore::new(alloc, permits),

@@ -3,11 +3,9 @@ ghost use Rattle.std.specs.Prelude.{⊤};
 ghost use Rattle.use_channel.specs.Parties.{is_over};
 
 use crate::boards::Board;
-use mono_model::{Host, Poll};
-use mono_shared::SharedContext;
+use mono_rt::{Host, Poll, SharedContext, TaskFuture};
 use mono_sync::mpsc::{Recv, Send};
 use mono_sync::{Acquire, permits};
-use mono_task::TaskFuture;
 use std::alloc::Global;
 use std::mem;
 

@@ -2,8 +2,7 @@
 ghost use Rattle.std.specs.Prelude.{◌≡◌, ◌+◌, true};
 ghost use Rattle.mono_driver.specs.Drivers.{one_more};
 
-use mono_model::Host;
-use mono_rt::{Buildable, Clock, Driver, DriverFault, Instant};
+use mono_rt::{Buildable, Clock, Driver, DriverFault, Host, Instant};
 use std::alloc::AllocError;
 use std::time::Duration;
 

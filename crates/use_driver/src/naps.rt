@@ -6,12 +6,10 @@ ghost use Rattle.mono_machine.specs.declared.events.Blocking.TheVariants.{Panic}
 ghost use Rattle.mono_rt.specs.Journals.{events_in, reports_in};
 
 use crate::bounds::Bounded;
-use mono_blocking::{BlockingHandle, BlockingStrategy, ThreadPool};
-use mono_machine::Limits;
-use mono_model::Host;
-use mono_rt::{Driver, Instant, Journal, RunError, run_alone};
-use mono_task::{Poll, TaskFuture};
-use mono_time::{Sleep, TimeContext, sleep};
+use mono_rt::{
+    BlockingHandle, BlockingStrategy, Driver, Host, Instant, Journal, Limits, Poll, RunError,
+    Sleep, TaskFuture, ThreadPool, TimeContext, run_alone, sleep,
+};
 use std::alloc::{AllocError, Global};
 use std::time::Duration;
 

@@ -1,12 +1,11 @@
 // A task that sleeps, counts and sleeps again, on a runtime of its own.
 ghost use Rattle.std.specs.Prelude.{◌≡◌, ◌==◌, ◌||◌, true, IfOk};
 
-use mono_blocking::{BlockingHandle, BlockingStrategy, ThreadPool};
 use mono_forms::FutureExt;
-use mono_machine::Limits;
-use mono_model::Host;
-use mono_rt::{Driver, Instant, Outcome, RunError, run_alone};
-use mono_time::{SleepError, sleep_for};
+use mono_rt::{
+    BlockingHandle, BlockingStrategy, Driver, Host, Instant, Limits, Outcome, RunError, SleepError,
+    ThreadPool, run_alone, sleep_for,
+};
 use std::alloc::{AllocError, Global};
 use std::time::Duration;
 
