@@ -51,6 +51,7 @@ impl<D: Drop> FailingDriver<D> {
         ensures driver { self.new.driver ≡ self.old.driver }
         ensures parks { self.new.parks ≡ self.old.parks }
         ensures failing { self.new.failing ≡ self.old.failing }
+        ensures calls { self.new.calls ≡ one_more self.old.calls }
         ensures refused { self.new.refused ≡ self.old.refused }
     {
         let call = self.calls;
@@ -85,6 +86,7 @@ impl<D: Driver> Driver for FailingDriver<D> {
         ensures time { D.time self.new.driver ≡ D.time self.old.driver }
         ensures readings { D.readings self.new.driver ≡ D.readings self.old.driver }
         ensures listed { FailsAt (is_listed self.old.failing.items self.old.calls) result (self.new.driver ≡ self.old.driver) }
+        ensures called { (self.new.calls ≡ one_more self.old.calls) × (self.new.failing ≡ self.old.failing) }
     {
         if self.fails() {
             self.refused = self.refused.saturating_add(1);
@@ -100,6 +102,7 @@ impl<D: Driver> Driver for FailingDriver<D> {
         ensures time { D.time self.new.driver ≡ D.time self.old.driver }
         ensures readings { D.readings self.new.driver ≡ D.readings self.old.driver }
         ensures listed { FailsAt (is_listed self.old.failing.items self.old.calls) result (self.new.driver ≡ self.old.driver) }
+        ensures called { (self.new.calls ≡ one_more self.old.calls) × (self.new.failing ≡ self.old.failing) }
     {
         self.parks = self.parks.saturating_add(1);
         if self.fails() {
@@ -116,6 +119,7 @@ impl<D: Driver> Driver for FailingDriver<D> {
         ensures time { D.time self.new.driver ≡ moved (D.time self.old.driver) (as_nanos longest) result }
         ensures readings { D.readings self.new.driver ≡ D.readings self.old.driver }
         ensures listed { FailsAt (is_listed self.old.failing.items self.old.calls) result (self.new.driver ≡ self.old.driver) }
+        ensures called { (self.new.calls ≡ one_more self.old.calls) × (self.new.failing ≡ self.old.failing) }
     {
         self.parks = self.parks.saturating_add(1);
         if self.fails() {

@@ -7,6 +7,7 @@ mod buildable;
 mod builder;
 mod contexts;
 mod drains;
+mod ends;
 mod job_calls;
 mod parts;
 mod runtimes;

@@ -1,9 +1,10 @@
 // The calls of a running task on the parts of a runtime. Each is an act of the machine, and is recorded.
 ghost use Rattle.std.specs.Prelude.{◌≡◌, true, Err, IfOk, OnOk, OnErr};
-ghost use Rattle.mono_model.specs.Table.{next_number};
+ghost use Rattle.mono_model.specs.Table.{next_number, is_full};
 ghost use Rattle.mono_model.specs.Tasks.{woken, woken_if_any, spawned};
 ghost use Rattle.mono_model.specs.Joins.{wake_answer, join_answer, joined, drop_answer, join_dropped};
 ghost use Rattle.mono_task.specs.Schedule as schedule;
+ghost use Rattle.mono_task.specs.declared.error.SpawnTask.TheVariants.{AtCapacity};
 ghost use Rattle.mono_time.specs.Instants.{nanos_of};
 ghost use Rattle.mono_model.specs.SleepAnswers.{without_waker, waker_in};
 ghost use Rattle.mono_time.specs.Sleeps.{Added, sleep_poll_answer, with_polled_sleep, sleep_reset_answer, with_reset_sleep, sleep_remove_answer, with_removed_sleep};
@@ -95,6 +96,7 @@ impl<O: Outcome + Drop, B: Drop> Parts<O, B> {
         ensures number { IfOk result (λ t. t ≡ next_number self.old.tasks.tasks.table) }
         ensures after { OnOk result (self.new.tasks ≡ schedule.with_tasks self.old.tasks (spawned self.old.tasks.tasks)) }
         ensures refused { OnErr result (self.new.tasks ≡ self.old.tasks) }
+        ensures full { (result ≡ Err AtCapacity) → is_full self.old.tasks.tasks.table self.old.tasks.tasks.limit ≡ true }
         ensures timers { self.new.timers ≡ self.old.timers }
         ensures kept { self.new ≡ record self.old { tasks = self.new.tasks; acts = noted_task self.old.acts result; is_out_of_memory = lacks_task self.old.is_out_of_memory result } }
         ensures leads { (hosting : B → Hosting) → Leads O.output_number hosting self.old self.new }

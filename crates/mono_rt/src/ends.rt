@@ -1,0 +1,44 @@
+// The end of a runtime.
+ghost use Rattle.std.specs.Prelude.{◌≡◌, IfNone, IfSome};
+ghost use Rattle.mono_blocking.specs.JobSpawns.{IsApart};
+ghost use Rattle.mono_blocking.specs.declared.strategy.BlockingHandle.TheVariants.{Attached};
+
+use crate::contexts::Cx;
+use crate::parts::{Journal, Parts};
+use crate::runtimes::Runtime;
+use mono_blocking::ThreadPool;
+use mono_driver::Driver;
+use mono_joinword::Outcome;
+use mono_shared::SharedState;
+
+impl<F: Drop, O: Outcome + Drop, D: Driver, P: ThreadPool + Drop, W: SharedState + Drop> Runtime<
+    F,
+    O,
+    D,
+    P,
+    W,
+> {
+    /// Consumes the runtime, and returns its driver, its pool and its journal. There is no pool if and only if none was
+    /// attached (`some`, `none`).
+    pub fn into_driver(self) -> (D, Option<P>, Journal)
+        ensures driver { result.0 ≡ self.driver }
+        ensures some { IfSome result.1 (λ pool. self.cx.parts.blocking.pool ≡ Attached pool) }
+        ensures none { IfNone result.1 (IsApart self.cx.parts.blocking.pool) }
+        ensures journal { result.2 ≡ self.journal }
+    {
+        let Runtime {
+            cx,
+            driver,
+            journal,
+        } = self;
+        let Cx {
+            parts,
+            futures: _,
+            wakers: _,
+            waker: _,
+            shared: _,
+        } = cx;
+        let Parts { blocking, .. } = parts;
+        (driver, blocking.into_pool(), journal)
+    }
+}
