@@ -1,4 +1,4 @@
-// A driver that fails as a test tells it.
+// A driver that fails at the calls that a test lists.
 ghost use Rattle.std.specs.Prelude.{◌≡◌, ◌+◌, true};
 ghost use Rattle.std.specs.Duration.{as_nanos};
 ghost use Rattle.mono_driver.specs.Drivers.{Faults, IsSure, one_more, moved};
@@ -20,36 +20,39 @@ pub struct FailingDriver<D> {
     driver: D,
     calls: u64,
     parks: u64,
+    submits: u64,
     refused: u64,
     failing: Vec<u64>,
 }
 
 impl<D: Drop> FailingDriver<D> {
-    /// The driver, of whose calls those fail that are listed.
+    /// Returns the driver under a list of the calls that fail.
     pub fn new(driver: D, failing: Vec<u64>) -> FailingDriver<D>
-        ensures { result ≡ record { driver = driver; calls = 0; parks = 0; refused = 0; failing = failing } }
+        ensures { result ≡ record { driver = driver; calls = 0; parks = 0; submits = 0; refused = 0; failing = failing } }
     {
         FailingDriver {
             driver,
             calls: 0,
             parks: 0,
+            submits: 0,
             refused: 0,
             failing,
         }
     }
 
-    /// The driver without the list.
+    /// Returns the driver without the list.
     pub fn into_inner(self) -> D
         ensures { result ≡ self.driver }
     {
         self.driver
     }
 
-    // One more call; whether it fails.
+    // Counts one more call, and returns whether it fails.
     fn fails(&mut self) -> bool
         ensures fails { result ≡ is_listed self.old.failing.items self.old.calls }
         ensures driver { self.new.driver ≡ self.old.driver }
         ensures parks { self.new.parks ≡ self.old.parks }
+        ensures submits { self.new.submits ≡ self.old.submits }
         ensures failing { self.new.failing ≡ self.old.failing }
         ensures calls { self.new.calls ≡ one_more self.old.calls }
         ensures refused { self.new.refused ≡ self.old.refused }
@@ -69,6 +72,8 @@ impl<D: Driver> Clock for FailingDriver<D> {
 
     ghost parks = { λ b. b.parks };
 
+    ghost submits = { λ b. b.submits };
+
     ghost can_fail = { λ b. true };
 
     fn now(&mut self) -> Instant {
@@ -83,11 +88,13 @@ impl<D: Driver> Driver for FailingDriver<D> {
         ensures faults { Faults result (D.faults self.old.driver + self.old.refused) (D.faults self.new.driver + self.new.refused) }
         ensures sure { IsSure true result (D.faults self.old.driver + self.old.refused) (D.faults self.new.driver + self.new.refused) true }
         ensures parks { self.new.parks ≡ self.old.parks }
+        ensures submits { self.new.submits ≡ one_more self.old.submits }
         ensures time { D.time self.new.driver ≡ D.time self.old.driver }
         ensures readings { D.readings self.new.driver ≡ D.readings self.old.driver }
         ensures listed { FailsAt (is_listed self.old.failing.items self.old.calls) result (self.new.driver ≡ self.old.driver) }
         ensures called { (self.new.calls ≡ one_more self.old.calls) × (self.new.failing ≡ self.old.failing) }
     {
+        self.submits = self.submits.saturating_add(1);
         if self.fails() {
             self.refused = self.refused.saturating_add(1);
             return Err(DriverFault);
@@ -99,6 +106,7 @@ impl<D: Driver> Driver for FailingDriver<D> {
         ensures faults { Faults result (D.faults self.old.driver + self.old.refused) (D.faults self.new.driver + self.new.refused) }
         ensures sure { IsSure true result (D.faults self.old.driver + self.old.refused) (D.faults self.new.driver + self.new.refused) true }
         ensures parks { self.new.parks ≡ one_more self.old.parks }
+        ensures submits { self.new.submits ≡ self.old.submits }
         ensures time { D.time self.new.driver ≡ D.time self.old.driver }
         ensures readings { D.readings self.new.driver ≡ D.readings self.old.driver }
         ensures listed { FailsAt (is_listed self.old.failing.items self.old.calls) result (self.new.driver ≡ self.old.driver) }
@@ -116,6 +124,7 @@ impl<D: Driver> Driver for FailingDriver<D> {
         ensures faults { Faults result (D.faults self.old.driver + self.old.refused) (D.faults self.new.driver + self.new.refused) }
         ensures sure { IsSure true result (D.faults self.old.driver + self.old.refused) (D.faults self.new.driver + self.new.refused) true }
         ensures parks { self.new.parks ≡ one_more self.old.parks }
+        ensures submits { self.new.submits ≡ self.old.submits }
         ensures time { D.time self.new.driver ≡ moved (D.time self.old.driver) (as_nanos longest) result }
         ensures readings { D.readings self.new.driver ≡ D.readings self.old.driver }
         ensures listed { FailsAt (is_listed self.old.failing.items self.old.calls) result (self.new.driver ≡ self.old.driver) }
