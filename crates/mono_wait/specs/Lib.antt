@@ -21,3 +21,4 @@ pub mod Naps
 pub mod Retries
 pub mod Repeats
 pub mod JoinLists
+pub mod SelectLists

@@ -10,6 +10,7 @@ mod leaves;
 mod machines;
 mod races;
 mod runtime;
+mod select_lists;
 mod selects;
 mod sequences;
 mod waits;
