@@ -15,7 +15,7 @@ struct Tasks {
 }
 
 // Such an inbox. A call that found no memory is made once more.
-fn tasks<R: Host + Abort>(rt: &R, alloc: Global) -> Tasks {
+fn two_tasks<R: Host + Abort>(rt: &R, alloc: Global) -> Tasks {
     let inbox = match Inbox::new(alloc, 8, NoUnpark) {
         Ok(inbox) => inbox,
         Err(_) => Inbox::new(alloc, 8, NoUnpark).expect(rt, "memory"),
@@ -91,7 +91,7 @@ fn fill<R: Host>(rt: &R, sender: &mut Sender<u64, NoUnpark>) -> bool {
 #[test]
 fn a_message_wakes_the_receiver_that_waits(rt: HostRuntime) {
     let alloc = rt.alloc();
-    let tasks = tasks(&rt, alloc);
+    let tasks = two_tasks(&rt, alloc);
     let (mut sender, mut receiver) = a_channel(alloc).expect(&rt, "memory");
     assert!(rt; waits(&rt, &mut receiver, &tasks.seven));
     assert_eq!(rt; woken(&rt, alloc, &tasks), 0);
@@ -125,7 +125,7 @@ fn a_message_wakes_the_receiver_that_waits(rt: HostRuntime) {
 #[test]
 fn a_receive_wakes_the_senders_that_wait(rt: HostRuntime) {
     let alloc = rt.alloc();
-    let tasks = tasks(&rt, alloc);
+    let tasks = two_tasks(&rt, alloc);
     let (mut sender, mut receiver) = a_channel(alloc).expect(&rt, "memory");
     let mut second = sender.try_clone(&rt).expect(&rt, "a count");
     assert!(rt; fill(&rt, &mut sender));
@@ -144,7 +144,7 @@ fn a_receive_wakes_the_senders_that_wait(rt: HostRuntime) {
 #[test]
 fn a_close_wakes_the_senders_that_wait(rt: HostRuntime) {
     let alloc = rt.alloc();
-    let tasks = tasks(&rt, alloc);
+    let tasks = two_tasks(&rt, alloc);
     let (mut sender, mut receiver) = a_channel(alloc).expect(&rt, "memory");
     let mut second = sender.try_clone(&rt).expect(&rt, "a count");
     assert!(rt; fill(&rt, &mut sender));
@@ -173,7 +173,7 @@ fn a_close_wakes_the_senders_that_wait(rt: HostRuntime) {
 #[test]
 fn the_close_of_the_last_sender_wakes_the_receiver(rt: HostRuntime) {
     let alloc = rt.alloc();
-    let tasks = tasks(&rt, alloc);
+    let tasks = two_tasks(&rt, alloc);
     let (mut sender, mut receiver) = a_channel(alloc).expect(&rt, "memory");
     let mut second = sender.try_clone(&rt).expect(&rt, "a count");
     assert!(rt; waits(&rt, &mut receiver, &tasks.seven));
