@@ -20,7 +20,7 @@ use Rattle.mono_machine.specs.declared.events.Report.TheVariants as report
 use Rattle.mono_machine.specs.declared.events.Reply.TheVariants as reply
 use Rattle.mono_machine.specs.declared.events.Refusal.TheVariants as refusal
 use Rattle.mono_rt.specs.Numbering.{numbered, phase_numbered, task_numbered}
-use Rattle.mono_rt.specs.Drains.{told_by, listed_by, remotes, listed, drain_of}
+use Rattle.mono_rt.specs.Drains.{told_by, listed_by, remotes, listed, drain_of, DrainsAll}
 use Rattle.mono_rt.specs.Journals.{Follows}
 use Rattle.mono_rt.specs.Rounds.{Remotes, Drained}
 use Rattle.mono_rt.specs.declared.parts.journals.Entry.{Entry}
@@ -135,20 +135,22 @@ remotes_are (t ∷ ts) m rest apart once =
 
 -- From an empty inbox: the drain lists those, they are woken in order, and the inbox is empty again.
 pub drained_is : (ts : List ℕ) (m : Machine) (rest : List Entry) → m.inbox ≡ [] → AllPairs (λ s t. s ≢ t) ts
-    → Drained m (remotes m.tasks ts ++ drain_of (listed m.tasks ts) ∷ rest) (with_tasks m (all_woken m.tasks (listed m.tasks ts))) rest
+    → DrainsAll ts m (remotes m.tasks ts ++ drain_of (listed m.tasks ts) ∷ rest) (with_tasks m (all_woken m.tasks (listed m.tasks ts))) rest
 drained_is ts m rest empty once =
     let mid : Machine = with_inbox m (m.inbox ++ listed m.tasks ts) in
-    let all : m.inbox ++ listed m.tasks ts ≡ listed m.tasks ts = ap (λ xs. xs ++ listed m.tasks ts) empty in
-    record {
-      taken = ts;
-      distinct = once;
-      mid = mid;
-      left = drain_of (listed m.tasks ts) ∷ rest;
-      remotes = remotes_are ts m (drain_of (listed m.tasks ts) ∷ rest) (λ i d inside. ap (λ xs. is_waiting xs (get_or ts i d)) empty) once;
-      listed = listed m.tasks ts;
-      entry = refl;
-      step = (ap report.Drained (sym all), ap (with_inbox (with_tasks m (all_woken m.tasks (listed m.tasks ts)))) empty ∙ ap (λ xs. with_inbox (with_tasks m (all_woken m.tasks xs)) []) (sym all));
-    }
+    let all : m.inbox ++ listed m.tasks ts ≡ listed m.tasks ts = ap (λ xs. xs ++ listed m.tasks ts) empty in (
+      record {
+        taken = ts;
+        distinct = once;
+        mid = mid;
+        left = drain_of (listed m.tasks ts) ∷ rest;
+        remotes = remotes_are ts m (drain_of (listed m.tasks ts) ∷ rest) (λ i d inside. ap (λ xs. is_waiting xs (get_or ts i d)) empty) once;
+        listed = listed m.tasks ts;
+        entry = refl;
+        step = (ap report.Drained (sym all), ap (with_inbox (with_tasks m (all_woken m.tasks (listed m.tasks ts)))) empty ∙ ap (λ xs. with_inbox (with_tasks m (all_woken m.tasks xs)) []) (sym all));
+      },
+      refl,
+    )
 
 -- a drain is a run of the machine
 remotes_follow : (ts : List ℕ) (old new end : Machine) (part rest : List Entry) → Remotes ts old part new rest → Follows new rest end → Follows old part end

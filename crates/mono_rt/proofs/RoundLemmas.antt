@@ -16,7 +16,7 @@ use Rattle.mono_model.specs.Tasks.{all_woken}
 use Rattle.mono_task.specs.Schedule as schedule
 use Rattle.mono_machine.specs.Machine.{Machine, with_tasks}
 use Rattle.mono_rt.specs.Numbering.{numbered}
-use Rattle.mono_rt.specs.Drains.{remotes, listed, drain_of}
+use Rattle.mono_rt.specs.Drains.{remotes, listed, drain_of, DrainsAll}
 use Rattle.mono_rt.specs.Rounds.{Drained, OneTurn, Turns, UpToOneTurn, Round, RoundBreaks, ParkedDrained, ParkBreaks, PausesBreak, PauseBreaks, PassBreaks, LaterBreaks, most_turns, most_turns_of, IsPark, IsClock, Parks, Pauses, Pause, Pass, PassEnds, Rounds, Breaks, Ends, PauseEnds, is_main_done, cost, IsSpawn, IsRefused, DropsFor, output_in, RunsMain, Blocked}
 use Rattle.std.specs.Prelude.{⊤, Result, Ok, Err}
 use Rattle.std.specs.Option.{option_map}
@@ -133,28 +133,31 @@ module _ {O P : Type 0} (number : O → ℕ) where
   pub does_drain : (c d : Parts O (Seen P)) (j k l : Journal) (ts woken : List ℕ) → AllPairs (λ s t. s ≢ t) ts
       → k.history.entries ≡ j.history.entries ++ remotes c.tasks.tasks ts → woken ≡ listed c.tasks.tasks ts
       → l.history.entries ≡ k.history.entries ++ (drain_of woken) ∷ []
-      → d.tasks ≡ schedule.with_tasks c.tasks (all_woken c.tasks.tasks woken) → d.timers ≡ c.timers → d.has_timers ≡ c.has_timers → d.blocking ≡ c.blocking → Does number Drained c d j l
+      → d.tasks ≡ schedule.with_tasks c.tasks (all_woken c.tasks.tasks woken) → d.timers ≡ c.timers → d.has_timers ≡ c.has_timers → d.blocking ≡ c.blocking → Does number (DrainsAll ts) c d j l
   does_drain c d j k l ts woken once told are grew tasks timers has blocking = record {
     did = λ m st.
         let before : remotes c.tasks.tasks ts ≡ remotes m.tasks ts = sym (remotes_numbered number c.tasks.tasks ts) ∙ ap (λ x. remotes x ts) st.tasks in
         let mine : woken ≡ listed m.tasks ts = are ∙ sym (listed_numbered number c.tasks.tasks ts) ∙ ap (λ x. listed x ts) st.tasks in
         let new : Machine = with_tasks m (all_woken m.tasks (listed m.tasks ts)) in
         let part : List Entry = remotes m.tasks ts ++ drain_of (listed m.tasks ts) ∷ [] in
-        let drained : (rest : List Entry) → Drained m (remotes m.tasks ts ++ drain_of (listed m.tasks ts) ∷ rest) new rest = λ rest. drained_is ts m rest st.inbox once in
+        let drained : (rest : List Entry) → DrainsAll ts m (remotes m.tasks ts ++ drain_of (listed m.tasks ts) ∷ rest) new rest = λ rest. drained_is ts m rest st.inbox once in
         record {
           went = record {
             part = part;
             new = new;
             grew = grew ∙ ap (λ xs. xs ++ drain_of woken ∷ []) (told ∙ ap (λ xs. j.history.entries ++ xs) before)
                 ∙ append_assoc j.history.entries (remotes m.tasks ts) (drain_of woken ∷ []) ∙ ap (λ x. j.history.entries ++ (remotes m.tasks ts ++ drain_of x ∷ [])) mine;
-            follows = drained_follow m new new part [] (drained []) refl;
-            registers = drained_registers m new new (registered_of c.timers) (registered_of d.timers) part [] (drained []) (refl, λ s. ap (λ x. registered_of x s) timers);
+            follows = drained_follow m new new part [] (drained []).0 refl;
+            registers = drained_registers m new new (registered_of c.timers) (registered_of d.timers) part [] (drained []).0 (refl, λ s. ap (λ x. registered_of x s) timers);
             matches = other_tasks number hosting_of c d m (all_woken m.tasks (listed m.tasks ts)) st
                 (ap (λ x. numbered number x.tasks) tasks ∙ numbered-all_woken number c.tasks.tasks woken ∙ ap (λ x. all_woken x woken) st.tasks ∙ ap (all_woken m.tasks) mine) timers has blocking;
           };
-          is = λ rest. subst (λ xs. Drained m xs new rest) (sym (append_assoc (remotes m.tasks ts) (drain_of (listed m.tasks ts) ∷ []) rest)) (drained rest);
+          is = λ rest. subst (λ xs. DrainsAll ts m xs new rest) (sym (append_assoc (remotes m.tasks ts) (drain_of (listed m.tasks ts) ∷ []) rest)) (drained rest);
         };
   }
+
+  pub drains_some : (ts : List ℕ) (c d : Parts O (Seen P)) (j k : Journal) → Does number (DrainsAll ts) c d j k → Does number Drained c d j k
+  drains_some ts c d j k = does_more (DrainsAll ts) Drained c d j k (λ m new xs ys st std is. is.0)
 
   -- the clock is read, and a task has its turn
   pub does_one : (a b c : Parts O (Seen P)) (i j k : Journal) (steps : List TurnStep) (e : End) (t : ℕ) (replies : List Reply) (ended : Ended) → Does number IsReading a b i j → Does number (IsStep (event.Turn steps e) (report.Turn t replies ended)) b c j k → Does number OneTurn a c i k

@@ -2,6 +2,7 @@
 ghost use Rattle.std.specs.Prelude.{◌≡◌, ◌≤◌, length, OnOk, OnErr};
 ghost use Rattle.mono_rt.specs.Journals.{Goes, Does, Stays};
 ghost use Rattle.mono_rt.specs.Rounds.{Drained};
+ghost use Rattle.mono_rt.specs.Drains.{WakesTaken};
 ghost use Rattle.mono_rt.specs.DriverReadings.{Told, Course, Telling, Still, EndsDrained};
 
 use crate::parts::RunError;
@@ -20,11 +21,14 @@ impl<F: Drop, O: Outcome + Drop, D: Driver, P: ThreadPool + Drop, W: SharedState
     P,
     W,
 > {
-    /// Takes all tasks out of the inbox, records each in the journal, and wakes those that are unfinished.
+    /// Takes all that waits in the inbox, and wakes the tasks that are unfinished. Does nothing if out of memory: what waits
+    /// stays in the inbox.
     pub(crate) fn drain<R: Host>(&mut self, rt: &R, alloc: Global) -> Result<(), RunError>
         ensures goes { Goes O.output_number self.old.cx.parts self.new.cx.parts self.old.journal self.new.journal }
         ensures refused { OnErr result (Does O.output_number Stays self.old.cx.parts self.new.cx.parts self.old.journal self.new.journal) }
         ensures drained { OnOk result (Does O.output_number Drained self.old.cx.parts self.new.cx.parts self.old.journal self.new.journal) }
+        ensures woken { OnOk result (WakesTaken O.output_number self.old.cx.parts self.new.cx.parts self.old.journal self.new.journal self.old.cx.wakers.taken.entries self.new.cx.wakers.taken.entries) }
+        ensures kept { OnErr result ((self.new.cx.wakers.taken.entries ≡ self.old.cx.wakers.taken.entries) × (self.new.cx.parts ≡ self.old.cx.parts)) }
         ensures turn { self.new.cx.parts.tasks.turn ≡ self.old.cx.parts.tasks.turn }
         ensures longer { length self.old.cx.parts.tasks.tasks.queue ≤ length self.new.cx.parts.tasks.tasks.queue }
         ensures has_timers { self.new.cx.parts.has_timers ≡ self.old.cx.parts.has_timers }
@@ -36,10 +40,12 @@ impl<F: Drop, O: Outcome + Drop, D: Driver, P: ThreadPool + Drop, W: SharedState
         ensures full { self.new.journal.is_full ≡ self.old.journal.is_full }
         ensures held { self.new.journal.entries.held ≡ self.old.journal.entries.held }
     {
-        let mut taken = Vec::new(alloc);
-        match self.cx.wakers.drain(rt, alloc, &mut taken) {
-            Err(_) => Err(RunError::Memory),
-            Ok(()) => self.cx.parts.wake_taken(alloc, &mut self.journal, &taken),
+        match self.cx.wakers.drain(rt, alloc, &mut self.journal) {
+            None => Err(RunError::Memory),
+            Some(taken) => {
+                self.cx.parts.wake_taken(&mut self.journal, taken);
+                Ok(())
+            }
         }
     }
 }

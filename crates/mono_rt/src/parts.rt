@@ -15,8 +15,10 @@ mod notes;
 mod parks;
 mod start;
 mod state;
+mod takes;
 mod turns;
 
 pub use errors::RunError;
 pub use journals::{Entry, Journal, new_journal};
 pub use state::Parts;
+pub(crate) use takes::{Taken, TakenTasks, take_waiting};

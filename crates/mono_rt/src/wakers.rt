@@ -1,8 +1,11 @@
 // The remote wakers of a runtime's tasks, and when the inbox learns of them.
-ghost use Rattle.std.specs.Prelude.{◌≡◌, IfSome, OnOk, OnErr};
-ghost use Rattle.mono_inbox.specs.State.{AppendsOnce};
+ghost use Rattle.std.specs.Prelude.{◌≡◌, ◌++◌, ◌∷◌, [], IfSome, IfNone};
+ghost use Rattle.mono_rt.specs.Drains.{IsReady};
 
+use crate::parts::{Journal, Taken, TakenTasks, take_waiting};
+use mono_history::History;
 use mono_inbox::{Inbox, RemoteWaker, Unpark};
+use mono_machine::List;
 use mono_model::Host;
 use std::alloc::{AllocError, Global};
 use std::mem;
@@ -24,6 +27,8 @@ pub struct Wakers<U: Unpark> {
     ended: Vec<u64>,
     // the waker of a task that ended, which serves the next task
     spare: Option<RemoteWaker<U>>,
+    // in proofs alone: the lists that the drains took from the inbox, in order
+    pub(crate) taken: History<List<u64>>,
 }
 
 impl<U: Unpark> Wakers<U> {
@@ -35,6 +40,7 @@ impl<U: Unpark> Wakers<U> {
             known: 0,
             ended,
             spare: None,
+            taken: History::new(),
         })
     }
 
@@ -99,24 +105,35 @@ impl<U: Unpark> Wakers<U> {
     }
 
     /// Makes the tasks that ended unknown, under one lock, if there are any.
-    pub(crate) fn retire_ended<R: Host>(&mut self, rt: &R) {
+    pub(crate) fn retire_ended<R: Host>(&mut self, rt: &R)
+        ensures { self.new.taken ≡ self.old.taken }
+    {
         if !self.ended.is_empty() {
             self.inbox.retire_all(rt, &self.ended);
             self.ended.clear();
         }
     }
 
-    /// Makes the tasks that ended unknown, and takes the list, as `Inbox::drain` does.
+    /// Makes the tasks that ended unknown, and takes all that waits, with room for its wakes and for their entries. Takes
+    /// nothing if out of memory.
     pub(crate) fn drain<R: Host>(
         &mut self,
         rt: &R,
         alloc: Global,
-        into: &mut Vec<u64>,
-    ) -> Result<(), AllocError>
-        ensures drained { OnOk result (AppendsOnce into.old.items into.new.items) }
-        ensures refused { OnErr result (into.new.items ≡ into.old.items) }
+        journal: &mut Journal,
+    ) -> Option<Taken>
+        ensures ready { IfSome result (λ taken. IsReady taken journal.new) }
+        ensures taken { IfSome result (λ taken. self.new.taken.entries ≡ self.old.taken.entries ++ taken.tasks.items ∷ []) }
+        ensures refused { IfNone result (self.new.taken.entries ≡ self.old.taken.entries) }
+        ensures history { journal.new.history.entries ≡ journal.old.history.entries }
+        ensures full { journal.new.is_full ≡ journal.old.is_full }
+        ensures held { journal.new.entries.held ≡ journal.old.entries.held }
     {
         self.retire_ended(rt);
-        self.inbox.drain(rt, alloc, into)
+        let answer = take_waiting(alloc, &mut self.inbox.lock(rt), journal);
+        if let Some(taken) = &answer {
+            self.taken = self.taken.told::<Taken, TakenTasks>(taken);
+        }
+        answer
     }
 }

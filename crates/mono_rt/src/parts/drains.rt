@@ -1,69 +1,36 @@
 // The tasks that other threads woke, after they were taken: recorded in the journal, and woken.
-ghost use Rattle.std.specs.Prelude.{◌≡◌, ◌≤◌, ◌<◌, ◌+◌, ◌++◌, ◌∷◌, ℕ, [], length, vec_len, vec_capacity, IfSome, OnOk, OnErr};
-ghost use Rattle.mono_inbox.specs.State.{HasNoDoubles};
+ghost use Rattle.std.specs.Prelude.{◌≡◌, ◌≤◌, ◌<◌, ◌+◌, ◌++◌, ◌∷◌, ℕ, [], length, vec_len, vec_capacity};
 ghost use Rattle.mono_task.specs.Work.{over_answer};
 ghost use Rattle.mono_machine.specs.declared.events.Event.TheVariants as event;
 ghost use Rattle.mono_rt.specs.declared.parts.journals.Entry.TheVariants.{Ran};
-ghost use Rattle.mono_rt.specs.Drains.{told_by, listed_by, remotes, listed};
-ghost use Rattle.mono_rt.specs.Journals.{Goes, Does, Stays, HasPlaces};
-ghost use Rattle.mono_rt.specs.Rounds.{Drained};
-ghost use Rattle.mono_rt.specs.DriverReadings.{Told, Course, Telling, Still, EndsDrained};
+ghost use Rattle.mono_rt.specs.Drains.{told_by, listed_by, remotes, listed, IsReady, DrainsAll};
+ghost use Rattle.mono_rt.specs.Journals.{Does, HasPlaces};
+ghost use Rattle.mono_rt.specs.DriverReadings.{Told, Course, Telling, Still, IsDrained};
 
-use crate::parts::errors::RunError;
 use crate::parts::journals::{Entry, Journal};
 use crate::parts::state::Parts;
+use crate::parts::takes::Taken;
 use mono_blocking::{Blockings, ThreadPool};
 use mono_joinword::Outcome;
 use mono_machine::{Event, List, Refusal, Reply, Report};
 use mono_task::wake_all;
-use std::alloc::Global;
-
-// Reserves room for the entries, and for the list of the tasks to wake.
-fn open_drain(alloc: Global, journal: &mut Journal, taken: &[u64]) -> Option<Vec<u64>>
-    ensures places { IfSome result (λ list. HasPlaces journal.new (length taken.now + 1)) }
-    ensures room { IfSome result (λ list. vec_len list + length taken.now ≤ vec_capacity list) }
-    ensures empty { IfSome result (λ list. list.items ≡ []) }
-    ensures history { journal.new.history.entries ≡ journal.old.history.entries }
-    ensures full { journal.new.is_full ≡ journal.old.is_full }
-    ensures held { journal.new.entries.held ≡ journal.old.entries.held }
-{
-    match journal.reserve(taken.len() + 1) {
-        Err(_) => None,
-        Ok(()) => match Vec::with_capacity(alloc, taken.len()) {
-            Err(_) => None,
-            Ok(list) => Some(list),
-        },
-    }
-}
 
 impl<O: Outcome + Drop, P: ThreadPool + Drop> Parts<O, Blockings<P>> {
-    /// Records and wakes the tasks that were taken.
-    pub fn wake_taken(
-        &mut self,
-        alloc: Global,
-        journal: &mut Journal,
-        taken: &[u64],
-    ) -> Result<(), RunError>
-        requires { HasNoDoubles taken.now }
-        ensures goes { Goes O.output_number self.old self.new journal.old journal.new }
-        ensures refused { OnErr result (Does O.output_number Stays self.old self.new journal.old journal.new) }
-        ensures drained { OnOk result (Does O.output_number Drained self.old self.new journal.old journal.new) }
+    /// Records and wakes the tasks that were taken. It takes no memory, so it loses none.
+    pub fn wake_taken(&mut self, journal: &mut Journal, taken: Taken)
+        requires { IsReady taken journal.old }
+        ensures drained { Does O.output_number (DrainsAll taken.tasks.items) self.old self.new journal.old journal.new }
         ensures turn { self.new.tasks.turn ≡ self.old.tasks.turn }
         ensures longer { length self.old.tasks.tasks.queue ≤ length self.new.tasks.tasks.queue }
         ensures has_timers { self.new.has_timers ≡ self.old.has_timers }
-        ensures told { (old new : Told) (before after : Course) → EndsDrained result before old after new → Telling (Still after) old before journal.old journal.new new }
+        ensures told { (old new : Told) (before after : Course) → IsDrained before old after new → Telling (Still after) old before journal.old journal.new new }
         ensures full { journal.new.is_full ≡ journal.old.is_full }
         ensures held { journal.new.entries.held ≡ journal.old.entries.held }
     {
-        match open_drain(alloc, journal, taken) {
-            None => Err(RunError::Memory),
-            Some(mut listed) => {
-                self.tell_remotes(journal, taken, &mut listed);
-                wake_all(&mut self.tasks, &listed);
-                journal.push(Entry::Ran(Event::Drain, Report::Drained(List::from(listed))));
-                Ok(())
-            }
-        }
+        let Taken { tasks, mut woken } = taken;
+        self.tell_remotes(journal, &tasks, &mut woken);
+        wake_all(&mut self.tasks, &woken);
+        journal.push(Entry::Ran(Event::Drain, Report::Drained(List::from(woken))));
     }
 
     /// Adds one entry for each task, and lists the tasks to wake.

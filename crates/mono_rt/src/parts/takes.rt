@@ -1,0 +1,69 @@
+// What waits in the inbox is taken, once there is room for all that its wakes need.
+ghost use Rattle.std.specs.Prelude.{◌≡◌, ◌≤◌, ◌+◌, [], IfSome, IfNone, vec_capacity};
+ghost use Rattle.mono_inbox.specs.State.{with_list};
+ghost use Rattle.mono_rt.specs.Drains.{IsReady};
+ghost use Rattle.mono_rt.specs.Journals.{HasPlaces};
+
+use crate::parts::journals::Journal;
+use mono_history::Tells;
+use mono_inbox::InboxState;
+use mono_machine::List;
+use std::alloc::Global;
+
+/// The tasks that a drain took from the inbox, and the list for those of them that it wakes.
+#[derive(Drop)]
+pub(crate) struct Taken {
+    pub(crate) tasks: Vec<u64>,
+    pub(crate) woken: Vec<u64>,
+}
+
+/// The tasks that a drain took, as an entry of a history.
+pub(crate) struct TakenTasks;
+
+impl Tells<Taken, List<u64>> for TakenTasks {
+    ghost entry = { λ taken. taken.tasks.items };
+}
+
+/// Takes all tasks that wait. Takes none if out of memory: the room for the wakes and for their entries is made first.
+pub(crate) fn take_waiting(
+    alloc: Global,
+    state: &mut InboxState,
+    journal: &mut Journal,
+) -> Option<Taken>
+    ensures ready { IfSome result (λ taken. IsReady taken journal.new) }
+    ensures taken { IfSome result (λ taken. taken.tasks.items ≡ state.old.state.waiting) }
+    ensures emptied { IfSome result (λ taken. state.new.state ≡ with_list state.old.state []) }
+    ensures refused { IfNone result (state.new ≡ state.old) }
+    ensures history { journal.new.history.entries ≡ journal.old.history.entries }
+    ensures full { journal.new.is_full ≡ journal.old.is_full }
+    ensures held { journal.new.entries.held ≡ journal.old.entries.held }
+{
+    match open_drain(alloc, journal, state.waiting()) {
+        None => None,
+        Some(mut taken) => {
+            state.drain(&mut taken.tasks);
+            Some(taken)
+        }
+    }
+}
+
+// Makes room for the entries of so many wakes, and for both lists.
+fn open_drain(alloc: Global, journal: &mut Journal, count: usize) -> Option<Taken>
+    ensures places { IfSome result (λ taken. HasPlaces journal.new (count + 1)) }
+    ensures tasks { IfSome result (λ taken. (taken.tasks.items ≡ []) × (count ≤ vec_capacity taken.tasks)) }
+    ensures woken { IfSome result (λ taken. (taken.woken.items ≡ []) × (count ≤ vec_capacity taken.woken)) }
+    ensures history { journal.new.history.entries ≡ journal.old.history.entries }
+    ensures full { journal.new.is_full ≡ journal.old.is_full }
+    ensures held { journal.new.entries.held ≡ journal.old.entries.held }
+{
+    match (
+        Vec::with_capacity(alloc, count),
+        Vec::with_capacity(alloc, count),
+    ) {
+        (Ok(tasks), Ok(woken)) => match journal.reserve(count + 1) {
+            Err(_) => None,
+            Ok(()) => Some(Taken { tasks, woken }),
+        },
+        _ => None,
+    }
+}
