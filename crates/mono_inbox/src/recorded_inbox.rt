@@ -97,7 +97,11 @@ impl<U: Unpark, L: Ledger> RecordedInbox<U, L> {
         ensures drained { OnOk result (AppendsOnce into.old.items into.new.items) }
         ensures refused { OnErr result (into.new.items ≡ into.old.items) }
     {
-        self.shared.recorded.lock(rt).drain(alloc, into)
+        let answer = self.shared.recorded.lock(rt).drain(alloc, into);
+        if answer.is_err() {
+            self.shared.unpark.unpark(rt);
+        }
+        answer
     }
 
     /// Makes the task unknown as `Inbox::retire` does.
@@ -135,7 +139,9 @@ impl<U: Unpark, L: Ledger> RecordedWaker<U, L> {
     /// Wakes the task as `RemoteWaker::wake` does. No share counts the put.
     pub fn wake<R: Host>(&self, rt: &R) -> bool {
         let listed = self.shared.recorded.lock(rt).put(self.task);
-        self.shared.unpark.unpark(rt);
+        if listed {
+            self.shared.unpark.unpark(rt);
+        }
         listed
     }
 
@@ -145,7 +151,9 @@ impl<U: Unpark, L: Ledger> RecordedWaker<U, L> {
         ensures calls { CountsKept result share.old share.new }
     {
         let reply = self.shared.recorded.lock(rt).put_with(self.task, share);
-        self.shared.unpark.unpark(rt);
+        if reply.is_listed() {
+            self.shared.unpark.unpark(rt);
+        }
         reply
     }
 

@@ -1,9 +1,10 @@
 // The recorded state with the book of a ledger, and the shares of its callers.
-ghost use Rattle.std.specs.Prelude.{◌≡◌, ◌+◌, ◌-◌, ◌<◌, ◌^◌, ◌++◌, [], true, false, length, vec_len, sum_by, OnOk, OnErr};
+ghost use Rattle.std.specs.Prelude.{◌≡◌, ◌+◌, ◌-◌, ◌<◌, ◌^◌, ◌++◌, [], Bool, true, false, length, vec_len, sum_by, OnOk, OnErr};
 ghost use Rattle.mono_inbox.specs.declared.log.CallEntry.TheVariants.{Know, Put, Drain, Retire};
 ghost use Rattle.mono_inbox.specs.State.{put_answer, after_put, with_list, AlsoKnows, Forgets, HasNoDoubles};
 ghost use Rattle.mono_inbox.specs.Log.{is_full, with_entry, with_ledger_put};
 ghost use Rattle.mono_inbox.specs.Callers.{IsPutReply, CountsKept};
+ghost use Rattle.mono_inbox.specs.declared.shares.PutReply.TheVariants.{Kept, Unkept};
 
 use crate::inbox::drain_state;
 use crate::state::InboxState;
@@ -18,6 +19,18 @@ pub enum PutReply {
     Kept(bool),
     /// The state keeps no more calls, and nothing was counted.
     Unkept(bool),
+}
+
+impl PutReply {
+    /// Returns whether the put listed its task.
+    pub fn is_listed(&self) -> bool
+        ensures kept { (listed : Bool) → self.now ≡ Kept listed → result ≡ listed }
+        ensures unkept { (listed : Bool) → self.now ≡ Unkept listed → result ≡ listed }
+    {
+        match self {
+            PutReply::Kept(listed) | PutReply::Unkept(listed) => *listed,
+        }
+    }
 }
 
 /// A caller's share of the ledger: one part, and as its amount the number of calls that it made.

@@ -16,8 +16,8 @@ const LOT: usize = 64;
 /// The inbox, and the calls on it that are put off so that a task takes its lock less than once. Tasks are made known
 /// in rows, before their first turns, and made unknown together, after their ends.
 ///
-/// No thread has a waker of a task that had no turn yet. A wake of a task that ended does nothing: if it was listed,
-/// the drain that takes it finds the task finished.
+/// No thread has a waker of a task that had no turn yet. A wake of a task that ended is not listed and ends no park, once
+/// a drain has made the task unknown. One that came before is listed, ends one park, and the drain finds the task finished.
 #[derive(Drop)]
 pub struct Wakers<U: Unpark> {
     inbox: Inbox<U>,
@@ -115,7 +115,7 @@ impl<U: Unpark> Wakers<U> {
     }
 
     /// Makes the tasks that ended unknown, and takes all that waits, with room for its wakes and for their entries. Takes
-    /// nothing if out of memory.
+    /// nothing if out of memory; the next park then ends at once, so that the next drain takes it.
     pub(crate) fn drain<R: Host>(
         &mut self,
         rt: &R,
@@ -131,8 +131,9 @@ impl<U: Unpark> Wakers<U> {
     {
         self.retire_ended(rt);
         let answer = take_waiting(alloc, &mut self.inbox.lock(rt), journal);
-        if let Some(taken) = &answer {
-            self.taken = self.taken.told::<Taken, TakenTasks>(taken);
+        match &answer {
+            Some(taken) => self.taken = self.taken.told::<Taken, TakenTasks>(taken),
+            None => self.inbox.unpark(rt),
         }
         answer
     }

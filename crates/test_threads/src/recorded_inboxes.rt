@@ -187,12 +187,14 @@ fn wakes_end_parks<L: Ledger, R: Host + Abort>(rt: &R, alloc: Global, blank: Bla
     let (book, all) = blank.open::<L>();
     let parker = Parker::new(alloc).expect(rt, "memory");
     let handle = parker.handle().expect(rt, "memory");
-    let made = RecordedInbox::new(alloc, 4, 4, 1, handle, book, all);
+    let made = RecordedInbox::new(alloc, 4, 8, 1, handle, book, all);
     let (inbox, mut shares) = made.expect(rt, "memory");
     let waker = inbox.waker(rt, alloc, 3).expect(rt, "memory");
     let mut share = shares.pop().expect(rt, "a share");
     waker.wake(rt);
     parker.park(rt);
+    let mut tasks = Vec::new(alloc);
+    inbox.drain(rt, alloc, &mut tasks).expect(rt, "memory");
     if share.calls() == 0 {
         waker.wake_with(rt, &mut share);
         parker.park(rt);

@@ -219,3 +219,39 @@ fn a_wake_is_listed_before_it_unparks(rt: HostRuntime) {
     let inbox = waiting_inbox(&rt, rt.alloc(), &parker, &drained);
     wake_and_wait(rt, rt.alloc(), &inbox, &parker, &drained);
 }
+
+/// Counts the unparks.
+#[derive(Drop)]
+struct CountsUnparks(Arc<AtomicU64, Global>);
+
+impl Clone for CountsUnparks {
+    fn clone(&self) -> Result<CountsUnparks, AllocError> {
+        Ok(CountsUnparks(Arc::try_clone(&self.0)?))
+    }
+}
+
+impl Unpark for CountsUnparks {
+    fn unpark<R: Host>(&self, _rt: &R) {
+        self.0.fetch_add(1, Ordering::SeqCst);
+    }
+}
+
+#[test]
+fn only_a_wake_that_is_listed_unparks(rt: HostRuntime) {
+    let alloc = rt.alloc();
+    let count = Arc::new(alloc, AtomicU64::new(0)).expect(&rt, "memory");
+    let ours = CountsUnparks(Arc::try_clone(&count).expect(&rt, "memory"));
+    let inbox = Inbox::new(alloc, 0, ours).expect(&rt, "memory");
+    let waker = inbox.waker(&rt, alloc, 3).expect(&rt, "memory");
+    assert!(rt; waker.wake(&rt));
+    assert!(rt; !waker.wake(&rt));
+    assert_eq!(rt; count.load(Ordering::SeqCst), 1);
+    let mut tasks = Vec::new(alloc);
+    inbox.drain(&rt, alloc, &mut tasks).expect(&rt, "memory");
+    assert!(rt; waker.wake(&rt));
+    assert_eq!(rt; count.load(Ordering::SeqCst), 2);
+    inbox.drain(&rt, alloc, &mut tasks).expect(&rt, "memory");
+    inbox.retire(&rt, 3);
+    assert!(rt; !waker.wake(&rt));
+    assert_eq!(rt; count.load(Ordering::SeqCst), 2);
+}
