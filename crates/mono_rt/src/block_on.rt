@@ -50,7 +50,7 @@ impl<F: Drop, O: Outcome + Drop, D: Driver, P: ThreadPool + Drop, W: SharedState
                         match self
                             .cx
                             .parts
-                            .clock_step(alloc, &mut self.driver, &mut self.journal)
+                            .clock_step(alloc, &mut self.driver, &mut self.journal, &mut self.due)
                         {
                             Err(_) => Err(RunError::Memory),
                             Ok(()) => Ok(failed),

@@ -23,7 +23,7 @@ use mono_model::Host;
 use mono_shared::SharedState;
 use mono_table::Slots;
 use mono_task::TaskFuture;
-use mono_time::Instant;
+use mono_time::{Due, Instant};
 use std::alloc::{AllocError, Global};
 
 /// The inbox's first capacity if none is set.
@@ -256,6 +256,7 @@ impl<D: Driver, P: ThreadPool + Drop> RuntimeBuilder<D, P> {
                         },
                         driver,
                         journal: new_journal(alloc, !keeps_journal),
+                        due: Due::new(alloc),
                     }),
                 },
             },
@@ -350,6 +351,7 @@ impl<F: Drop, O: Outcome + Drop, D: Driver, P: ThreadPool + Drop, W: SharedState
             cx,
             driver: _,
             journal,
+            due: _,
         } = self;
         let Cx {
             parts,

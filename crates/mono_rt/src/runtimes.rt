@@ -14,6 +14,7 @@ use mono_joinword::Outcome;
 use mono_model::Host;
 use mono_shared::SharedState;
 use mono_task::TaskFuture;
+use mono_time::Due;
 use std::alloc::Global;
 
 /// A runtime: futures that run on one thread, the driver on which it waits, and its journal.
@@ -22,6 +23,8 @@ pub struct Runtime<F, O, D: Driver, P: ThreadPool, W = ()> {
     pub(crate) cx: Cx<F, O, P, D::Unpark, W>,
     pub(crate) driver: D,
     pub(crate) journal: Journal,
+    // the lists of the last clock step, whose memory serves the next one
+    pub(crate) due: Due,
 }
 
 impl<F, O, D, P, W> Runtime<F, O, D, P, W>

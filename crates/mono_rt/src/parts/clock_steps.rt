@@ -8,52 +8,54 @@ ghost use Rattle.mono_rt.specs.Rounds.{IsClock};
 ghost use Rattle.mono_rt.specs.DriverReadings.{telling, Course, Telling, IsRead, Still};
 
 use crate::parts::errors::RunError;
-use crate::parts::journals::{Entry, Journal};
+use crate::parts::journals::Journal;
 use crate::parts::state::Parts;
 use mono_blocking::{Blockings, ThreadPool};
 use mono_driver::Driver;
 use mono_joinword::Outcome;
-use mono_machine::{Event, Report};
 use mono_task::wake_all;
 use mono_time::{Due, Instant, Timers, take_due};
 use std::alloc::Global;
 use std::marker::Brand;
+use std::mem;
 use std::sync::ledger::Blank;
 
 // Reserves room for a clock step, and reads the clock.
 fn open_clock<D: Driver>(
-    alloc: Global,
     timers: &Timers,
     driver: &mut D,
     journal: &mut Journal,
-) -> Option<(Instant, Due)>
-    ensures place { IfSome result (λ x. HasPlaces journal.new 1) }
-    ensures fired { IfSome result (λ x. (x.1.fired.items ≡ []) × (armed_count (sleeps_of timers.now) + vec_len x.1.fired ≤ vec_capacity x.1.fired)) }
-    ensures wakers { IfSome result (λ x. (x.1.wakers.items ≡ []) × (armed_count (sleeps_of timers.now) + vec_len x.1.wakers ≤ vec_capacity x.1.wakers)) }
+    lists: &mut Due,
+) -> Option<Instant>
+    ensures place { IfSome result (λ now. HasPlaces journal.new 1) }
+    ensures fired { IfSome result (λ now. (lists.new.fired.items ≡ []) × (armed_count (sleeps_of timers.now) + vec_len lists.new.fired ≤ vec_capacity lists.new.fired)) }
+    ensures wakers { IfSome result (λ now. (lists.new.wakers.items ≡ []) × (armed_count (sleeps_of timers.now) + vec_len lists.new.wakers ≤ vec_capacity lists.new.wakers)) }
     ensures history { journal.new.history.entries ≡ journal.old.history.entries }
     ensures full { journal.new.is_full ≡ journal.old.is_full }
-    ensures read { IfSome result (λ x. IsRead (nanos_of x.0) (telling (D.readings driver.old) (D.time driver.old) (D.parks driver.old) (D.submits driver.old) (D.faults driver.old) (D.can_fail driver.old)) (telling (D.readings driver.new) (D.time driver.new) (D.parks driver.new) (D.submits driver.new) (D.faults driver.new) (D.can_fail driver.new))) }
+    ensures read { IfSome result (λ now. IsRead (nanos_of now) (telling (D.readings driver.old) (D.time driver.old) (D.parks driver.old) (D.submits driver.old) (D.faults driver.old) (D.can_fail driver.old)) (telling (D.readings driver.new) (D.time driver.new) (D.parks driver.new) (D.submits driver.new) (D.faults driver.new) (D.can_fail driver.new))) }
     ensures unread { IfNone result (driver.new ≡ driver.old) }
     ensures faults { D.faults driver.new ≡ D.faults driver.old }
     ensures held { journal.new.entries.held ≡ journal.old.entries.held }
 {
     match journal.reserve(1) {
         Err(_) => None,
-        Ok(()) => match Due::with_room(alloc, timers) {
+        Ok(()) => match lists.make_room(timers) {
             Err(_) => None,
-            Ok(room) => Some((driver.now(), room)),
+            Ok(()) => Some(driver.now()),
         },
     }
 }
 
 impl<O: Outcome + Drop, P: ThreadPool + Drop> Parts<O, Blockings<P>> {
     /// Reads the clock, and fires the due sleeps. If it runs out of memory, nothing changes, since room for all sleeps
-    /// that may fire is reserved first.
+    /// that may fire is reserved first. The lists of the step before serve it, so a step takes memory only if more sleeps
+    /// live than at any step before, or for the entry that a kept journal gets.
     pub fn clock_step<D: Driver>(
         &mut self,
         alloc: Global,
         driver: &mut D,
         journal: &mut Journal,
+        lists: &mut Due,
     ) -> Result<(), RunError>
         requires { self.old.has_timers ≡ true }
         ensures goes { Goes O.output_number self.old self.new journal.old journal.new }
@@ -67,13 +69,13 @@ impl<O: Outcome + Drop, P: ThreadPool + Drop> Parts<O, Blockings<P>> {
         ensures full { journal.new.is_full ≡ journal.old.is_full }
         ensures held { journal.new.entries.held ≡ journal.old.entries.held }
     {
-        let Some((now, room)) = open_clock(alloc, &self.timers, driver, journal) else {
+        let Some(now) = open_clock(&self.timers, driver, journal, lists) else {
             return Err(RunError::Memory);
         };
-        let nanos = now.as_nanos();
+        let room = mem::replace(lists, Due::new(alloc));
         let due = take_due::<Brand>(&mut self.timers, now, Blank::new(1), room);
         wake_all(&mut self.tasks, &due.wakers);
-        journal.push(Entry::Ran(Event::Clock(nanos), Report::Fired(due.into_fired())));
+        *lists = journal.push_fires(alloc, now.as_nanos(), due);
         Ok(())
     }
 }

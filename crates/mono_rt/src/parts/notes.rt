@@ -11,7 +11,8 @@ use crate::parts::held_room::RoomList;
 use crate::parts::journals::{Entry, Journal};
 use mono_history::Tells;
 use mono_machine::{End, Ended, Event, Report};
-use std::alloc::AllocError;
+use mono_time::Due;
+use std::alloc::{AllocError, Global};
 
 /// A turn that ended, with all its acts, some of which memory may lack.
 #[derive(Drop)]
@@ -31,6 +32,38 @@ impl Tells<Turned, Entry> for TurnEntry {
     ghost use Rattle.mono_rt.specs.declared.parts.journals.Entry.TheVariants.{Ran};
 
     ghost entry = { λ t. Ran (event.Turn t.acts.steps t.end) (report.Turn t.task t.acts.replies t.ended) };
+}
+
+/// The sleeps that fired at a clock step, with its reading in nanoseconds.
+#[derive(Drop)]
+pub struct Fires {
+    nanos: u128,
+    due: Due,
+}
+
+/// The entry of a clock step.
+pub struct ClockEntry;
+
+impl Tells<Fires, Entry> for ClockEntry {
+    ghost use Rattle.mono_machine.specs.declared.events.Event.TheVariants as event;
+    ghost use Rattle.mono_machine.specs.declared.events.Report.TheVariants as report;
+    ghost use Rattle.mono_rt.specs.declared.parts.journals.Entry.TheVariants.{Ran};
+
+    ghost entry = { λ f. Ran (event.Clock f.nanos) (report.Fired f.due.fired.items) };
+}
+
+// Keeps the entry of a clock step, unless the journal is full. Returns the lists of the step.
+fn keep_fires(entries: &mut RoomList<Entry>, is_full: bool, alloc: Global, fires: Fires) -> Due
+    requires { HasRoomFor entries.old 1 }
+    ensures kept { IsKept is_full entries.old.items is_full entries.new.items (Ran (event.Clock fires.nanos) (report.Fired fires.due.fired.items)) }
+    ensures held { entries.new.held ≡ entries.old.held }
+{
+    let Fires { nanos, mut due } = fires;
+    if !is_full {
+        let fired = due.fired_apart(alloc);
+        entries.push(Entry::Ran(Event::Clock(nanos), Report::Fired(fired)));
+    }
+    due
 }
 
 // Keeps one more entry, unless the journal is full.
@@ -133,6 +166,20 @@ impl Journal {
         let history = self.history.told::<Turned, TurnEntry>(&turned);
         self.is_full = keep_turn(&mut self.entries, self.is_full, turned);
         self.history = history;
+    }
+
+    /// Records a clock step, for which there is room, and returns its lists. A full journal takes no memory for it.
+    pub(crate) fn push_fires(&mut self, alloc: Global, nanos: u128, due: Due) -> Due
+        requires { HasPlaces self.old 1 }
+        ensures history { self.new.history.entries ≡ self.old.history.entries ++ Ran (event.Clock nanos) (report.Fired due.fired.items) ∷ [] }
+        ensures full { self.new.is_full ≡ self.old.is_full }
+        ensures held { self.new.entries.held ≡ self.old.entries.held }
+    {
+        let fires = Fires { nanos, due };
+        let history = self.history.told::<Fires, ClockEntry>(&fires);
+        let lists = keep_fires(&mut self.entries, self.is_full, alloc, fires);
+        self.history = history;
+        lists
     }
 
     /// Adds one entry, for which there is room.

@@ -1,4 +1,4 @@
-use Rattle.std.proofs.Common.{refl, ap, ◌∙◌, ◌++◌, ◌∷◌, []}
+use Rattle.std.proofs.Common.{refl, ap, ◌∙◌}
 use Rattle.mono_model.specs.Tasks.{all_woken}
 use Rattle.mono_time.specs.Instants.{nanos_of}
 use Rattle.mono_task.specs.Schedule as schedule
@@ -18,15 +18,15 @@ returns-clause-clocked g c =
     let opened = c.open_clock.new.journal in
     let due = c.take_due-due.result in
     let tasks = c.wake_all.ensures in
-    stay_on number IsClock parts parts _ c.args.journal.now opened c.push.new.self
+    stay_on number IsClock parts parts _ c.args.journal.now opened c.push_fires.new.self
     (does_stay number parts parts c.args.journal.now opened refl refl refl refl c.open_clock.ensures.history)
-    (does_more number _ IsClock parts _ opened c.push.new.self (λ m new xs zs stm stn is. (c.as_nanos-nanos.result, (due.fired.items, is))) (does_clock number parts _ opened c.push.new.self c.as_nanos-nanos.result (nanos_of c.in-Some.now) due.fired.items due.wakers.items c.as_nanos-nanos.ensures c.in-Some.now.in_range
-    (c.push.ensures.history ∙ ap (λ f. opened.history.entries ++ Ran (event.Clock c.as_nanos-nanos.result) (report.Fired f) ∷ []) c.into_fired.ensures)
+    (does_more number _ IsClock parts _ opened c.push_fires.new.self (λ m new xs zs stm stn is. (c.as_nanos.result, (due.fired.items, is))) (does_clock number parts _ opened c.push_fires.new.self c.as_nanos.result (nanos_of c.in-Some.now) due.fired.items due.wakers.items c.as_nanos.ensures c.in-Some.now.in_range
+    c.push_fires.ensures.history
     c.requires c.take_due-due.ensures.fires c.take_due-due.ensures.wakers c.take_due-due.ensures.has_gone c.take_due-due.ensures.rests c.take_due-due.ensures.registered
     (tasks ∙ ap (λ ws. schedule.with_tasks parts.tasks (all_woken parts.tasks.tasks ws)) c.deref.ensures.value) refl refl))
 
 pub returns-clause-goes : goal.returns-clause-goes
-returns-clause-goes g c = goes_of g.O.Outcome.output_number IsClock c.args.self.now _ c.args.journal.now c.push.new.self (returns-clause-clocked g c)
+returns-clause-goes g c = goes_of g.O.Outcome.output_number IsClock c.args.self.now _ c.args.journal.now c.push_fires.new.self (returns-clause-clocked g c)
 
 pub returns-in_default-clause-goes : goal.returns-in_default-clause-goes
 returns-in_default-clause-goes g c =
@@ -35,7 +35,7 @@ returns-in_default-clause-goes g c =
 pub returns-clause-told : goal.returns-clause-told
 returns-clause-told g c = λ course.
     telling_on {j = c.open_clock.new.journal} (tells_nothing refl refl c.open_clock.ensures.history)
-    (tells_one course (Ran (event.Clock c.as_nanos-nanos.result) (report.Fired c.into_fired.result)) refl (_, (course, ((read_at c.as_nanos-nanos.result (nanos_of c.in-Some.now) c.as_nanos-nanos.ensures c.in-Some.ensures.read, refl), (refl, refl)))) c.push.ensures.history)
+    (tells_one course (Ran (event.Clock c.as_nanos.result) (report.Fired c.take_due-due.result.fired.items)) refl (_, (course, ((read_at c.as_nanos.result (nanos_of c.in-Some.now) c.as_nanos.ensures c.in-Some.ensures.read, refl), (refl, refl)))) c.push_fires.ensures.history)
 
 pub returns-in_default-clause-undone : goal.returns-in_default-clause-undone
 returns-in_default-clause-undone g c =
