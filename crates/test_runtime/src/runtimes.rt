@@ -122,3 +122,45 @@ fn is_unlisted_after<R: Host + Abort>(rt: &R, alloc: Global) -> bool {
 fn a_waker_of_the_main_task_lists_nothing_after_the_answer(rt: HostRuntime) {
     assert!(rt; is_unlisted_after(&rt, rt.alloc()));
 }
+
+/// How often a stale waker is woken: each wake that ended a park would cost a unit.
+const STALE_WAKES: u64 = 100000;
+
+/// Hands its waker out in its first turn, and is ready in the next one.
+fn patient_task() -> Task {
+    Task {
+        turns: 1,
+        ..woken_task()
+    }
+}
+
+/// Wakes by the stale waker, again and again, and then wakes the task that waits.
+fn disturb<R: Host + Abort>(rt: &R, shared: &Shared, stale: &RemoteWaker<UnparkHandle>) {
+    assert!(rt; has_had(rt, shared, 0));
+    for _ in 0..STALE_WAKES {
+        stale.wake(rt);
+    }
+    let waker = shared.waker.lock(rt).take().expect(rt, "a waker");
+    waker.wake(rt);
+}
+
+/// Returns whether four units are enough for a task that waits while another thread uses a stale waker.
+fn is_undisturbed<R: Host + Abort + Copy + Send + 'static>(rt: R, alloc: Global) -> bool {
+    let first = main_task(&rt, alloc, HANDS_OUT);
+    let shared = Arc::try_clone(&first.shared).expect(&rt, "memory");
+    let pool = BlockingHandle::<Keeps>::Empty(BlockingStrategy::Panic);
+    let mut runtime = sleeping(&rt, alloc, pool, 4);
+    let is_over = matches!(answer_of(&rt, alloc, &mut runtime, first, 10), Ok(1));
+    let stale = shared.waker.lock(&rt).take().expect(&rt, "a waker");
+    let main = main_task(&rt, alloc, patient_task());
+    let theirs = Arc::try_clone(&main.shared).expect(&rt, "memory");
+    let other = thread::spawn(&rt, move || disturb(&rt, &theirs, &stale)).expect(&rt, "a thread");
+    let is_ready = matches!(answer_of(&rt, alloc, &mut runtime, main, 4), Ok(1));
+    other.join(&rt);
+    is_over && is_ready && refusals_of(runtime).is_none()
+}
+
+#[test]
+fn a_stale_waker_costs_no_unit(rt: HostRuntime) {
+    assert!(rt; is_undisturbed(rt, rt.alloc()));
+}
