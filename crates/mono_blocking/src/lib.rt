@@ -9,6 +9,7 @@ mod no_jobs;
 mod pool;
 mod queue;
 mod runs;
+mod signal;
 mod spawner;
 mod spawners;
 mod strategy;

@@ -16,8 +16,8 @@ use std::sync::Arc;
 /// A pool of threads that run blocking tasks in the order in which they were scheduled. A pool without a thread runs
 /// them on the caller.
 ///
-/// The threads belong to the spawner that started them. They end once the pool is closed and the queue is empty.
-#[derive(Drop)]
+/// The threads belong to the spawner that started them. They end once the pool is closed or dropped and the queue is
+/// empty.
 pub struct DefaultThreadPool<J: Job> {
     queue: Arc<Queue<BlockingTask<J>>, Global>,
     workers: usize,
@@ -47,7 +47,7 @@ impl<J: Job> DefaultThreadPool<J> {
         match start_workers(rt, &queue, num_threads, spawner) {
             Ok(workers) => Ok(DefaultThreadPool { queue, workers }),
             Err(refused) => {
-                queue.close(rt);
+                queue.close();
                 Err(refused)
             }
         }
@@ -61,8 +61,17 @@ impl<J: Job> DefaultThreadPool<J> {
     }
 
     /// Closes the pool: the workers end once the queue is empty. They still run each task that waits.
-    pub fn close<R: Host>(self, rt: &R) {
-        self.queue.close(rt);
+    /// A drop of the pool does the same.
+    pub fn close<R: Host>(self, _rt: &R) {
+        drop(self);
+    }
+}
+
+/// A pool that is dropped is closed.
+impl<J: Job> Drop for DefaultThreadPool<J> {
+    fn drop(self) {
+        let DefaultThreadPool { queue, workers: _ } = self;
+        queue.close();
     }
 }
 

@@ -1,10 +1,12 @@
 // The locked queue of a pool.
 ghost use Rattle.std.specs.Prelude.{◌≡◌, ◌↔◌, IsTrue, true, false, [], ◌∷◌, ◌++◌, OnOk, IfErr, IfNone, MatchOption};
 
+use crate::signal::Signal;
 use mono_model::Host;
 use std::alloc::Global;
 use std::collections::VecDeque;
-use std::sync::{Condvar, Mutex};
+use std::sync::Mutex;
+use std::sync::atomic::{AtomicBool, Ordering};
 
 /// The items that wait for a worker, in order, and whether the pool is closed.
 #[derive(Drop)]
@@ -65,11 +67,13 @@ impl<T: Drop> QueueState<T> {
     }
 }
 
-/// The queue under its lock, with the signal that wakes its workers.
+/// The queue under its lock, the mark of a closed pool, and the signal that wakes its workers. The mark lies beside the
+/// lock since the drop of a pool may not wait.
 #[derive(Drop)]
 pub(crate) struct Queue<T> {
     state: Mutex<QueueState<T>>,
-    changed: Condvar,
+    has_closed: AtomicBool,
+    changed: Signal,
 }
 
 impl<T: Drop> Queue<T> {
@@ -77,7 +81,8 @@ impl<T: Drop> Queue<T> {
     pub(crate) fn new(alloc: Global) -> Queue<T> {
         Queue {
             state: Mutex::new(QueueState::new(alloc)),
-            changed: Condvar::new(),
+            has_closed: AtomicBool::new(false),
+            changed: Signal::new(),
         }
     }
 
@@ -93,15 +98,24 @@ impl<T: Drop> Queue<T> {
     /// Waits for an item, and removes and returns the first. Returns `None` only if the pool is closed and nothing
     /// waits.
     pub(crate) fn next<R: Host>(&self, rt: &R) -> Option<T> {
-        let mut state = self
-            .changed
-            .wait_while(rt, self.state.lock(rt), |state| state.is_idle());
-        state.take()
+        for _ in rt.forever() {
+            let seen = self.changed.count();
+            let mut state = self.state.lock(rt);
+            if self.has_closed.load(Ordering::SeqCst) {
+                state.close();
+            }
+            if !state.is_idle() {
+                return state.take();
+            }
+            drop(state);
+            self.changed.wait(rt, seen);
+        }
+        None
     }
 
-    /// Closes the pool, and notifies all workers.
-    pub(crate) fn close<R: Host>(&self, rt: &R) {
-        self.state.lock(rt).close();
+    /// Closes the pool, and notifies all workers. It takes no lock, so it never waits.
+    pub(crate) fn close(&self) {
+        self.has_closed.store(true, Ordering::SeqCst);
         self.changed.notify_all();
     }
 }

@@ -355,6 +355,36 @@ fn each_job_wakes_a_worker_that_waits(rt: HostRuntime) {
     spawner.join(&rt);
 }
 
+/// How many pools are dropped, to catch an end that is lost now and then.
+const DROPPED: u64 = 300;
+
+/// Drops a pool of three workers, which run a job or none. A worker that waits for ever hangs the test.
+fn drop_pool<R: Host + Abort + Send + 'static>(rt: &R, alloc: Global, has_job: bool) {
+    let mut spawner = ThreadSpawner::new(alloc);
+    let mut pool = DefaultThreadPool::new(rt, alloc, 3, &mut spawner).expect(rt, "memory");
+    let (task, joiner) = gives_four(rt, alloc);
+    if has_job {
+        assert!(rt; pool.schedule_task(rt, alloc, task).is_ok());
+    } else {
+        drop(task);
+    }
+    drop(pool);
+    spawner.join(rt);
+    let output = if has_job {
+        Ok(4)
+    } else {
+        Err(JoinError::Canceled)
+    };
+    ends(rt, joiner, waker(rt, alloc, 0), output);
+}
+
+#[test]
+fn a_dropped_pool_ends_its_workers(rt: HostRuntime) {
+    for round in 0..DROPPED {
+        drop_pool(&rt, rt.alloc(), round % 2 == 1);
+    }
+}
+
 /// Gives the spawner a thread that adds one to a count after some milliseconds.
 fn keep_late<R: Host + Abort + Copy + Send + 'static>(
     rt: R,
