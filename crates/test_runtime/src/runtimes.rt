@@ -126,13 +126,13 @@ fn a_waker_of_the_main_task_lists_nothing_after_the_answer(rt: HostRuntime) {
 /// How often a stale waker is woken: each wake that ended a park would cost a unit.
 const STALE_WAKES: u64 = 100000;
 
-/// Hands its waker out in its first turn, and is ready in the next one.
-fn patient_task() -> Task {
-    Task {
-        turns: 1,
-        ..woken_task()
-    }
-}
+/// Hands out the waker of task 1 in its first turn, and is ready in the next one.
+const PATIENT: Task = Task {
+    calls: &[Call::Waker],
+    turns: 1,
+    answers: &[1],
+    ..IDLE
+};
 
 /// Wakes by the stale waker, again and again, and then wakes the task that waits.
 fn disturb<R: Host + Abort>(rt: &R, shared: &Shared, stale: &RemoteWaker<UnparkHandle>) {
@@ -144,23 +144,25 @@ fn disturb<R: Host + Abort>(rt: &R, shared: &Shared, stale: &RemoteWaker<UnparkH
     waker.wake(rt);
 }
 
-/// Returns whether four units are enough for a task that waits while another thread uses a stale waker.
-fn is_undisturbed<R: Host + Abort + Copy + Send + 'static>(rt: R, alloc: Global) -> bool {
+/// Returns whether a first task was ready, and whether four units are then enough for a task that waits while another thread
+/// uses the stale waker of the first.
+fn are_ready<R: Host + Abort + Copy + Send + 'static>(rt: R, alloc: Global) -> (bool, bool) {
     let first = main_task(&rt, alloc, HANDS_OUT);
     let shared = Arc::try_clone(&first.shared).expect(&rt, "memory");
     let pool = BlockingHandle::<Keeps>::Empty(BlockingStrategy::Panic);
     let mut runtime = sleeping(&rt, alloc, pool, 4);
     let is_over = matches!(answer_of(&rt, alloc, &mut runtime, first, 10), Ok(1));
     let stale = shared.waker.lock(&rt).take().expect(&rt, "a waker");
-    let main = main_task(&rt, alloc, patient_task());
+    let main = main_task(&rt, alloc, PATIENT);
     let theirs = Arc::try_clone(&main.shared).expect(&rt, "memory");
     let other = thread::spawn(&rt, move || disturb(&rt, &theirs, &stale)).expect(&rt, "a thread");
     let is_ready = matches!(answer_of(&rt, alloc, &mut runtime, main, 4), Ok(1));
     other.join(&rt);
-    is_over && is_ready && refusals_of(runtime).is_none()
+    assert!(rt; refusals_of(runtime).is_none());
+    (is_over, is_ready)
 }
 
 #[test]
 fn a_stale_waker_costs_no_unit(rt: HostRuntime) {
-    assert!(rt; is_undisturbed(rt, rt.alloc()));
+    assert_eq!(rt; are_ready(rt, rt.alloc()), (true, true));
 }
