@@ -1,3 +1,4 @@
 pub mod RegistrationLemmas
 pub mod TurnLemmas
 pub mod ParkLemmas
+mod CallLemmas

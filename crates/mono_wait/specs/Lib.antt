@@ -12,6 +12,7 @@ pub mod Selects
 pub mod Runtime
 pub mod PendingTurns
 pub mod JournalWaits
+pub mod CallWaits
 pub mod Frames
 pub mod Leads
 pub mod Sequences

@@ -1,5 +1,5 @@
 //! The effects of a pending poll and of a pending turn on their task in the machine, as functions that do nothing.
-ghost use Rattle.std.specs.Prelude.{◌≡◌, ℕ, Bool, false, List, Option};
+ghost use Rattle.std.specs.Prelude.{◌≡◌, ℕ, Bool, false, List, ◌++◌, Option};
 ghost use Rattle.mono_model.specs.declared.poll.Poll.{Poll};
 ghost use Rattle.mono_machine.specs.Machine.{Machine, IsValid};
 ghost use Rattle.mono_machine.specs.Watches.{Source};
@@ -7,10 +7,11 @@ ghost use Rattle.mono_machine.specs.declared.events.TurnStep.{TurnStep};
 ghost use Rattle.mono_machine.specs.declared.events.End.TheVariants as end;
 ghost use Rattle.mono_machine.specs.declared.events.Report.{Report};
 ghost use Rattle.mono_rt.specs.declared.parts.journals.Entry.{Entry};
-ghost use Rattle.mono_rt.specs.FuturePolls.{TellsTurn, Polled};
+ghost use Rattle.mono_rt.specs.FuturePolls.{TellsTurn, Polled, PollsMain};
 ghost use Rattle.mono_wait.specs.Registers.{Registers};
 ghost use Rattle.mono_wait.specs.PendingTurns.{LeavesWaiting};
 ghost use Rattle.mono_wait.specs.JournalWaits.{Waiting};
+ghost use Rattle.mono_wait.specs.CallWaits.{WaitsInCall};
 
 use crate::machines::MachineContext;
 use crate::waits::Waits;
@@ -59,6 +60,24 @@ where
     ensures { (has_timers : Bool) (part : List Entry) (m : Machine) (futures : List (Option F)) (reading t : ℕ) (x : Source) → IsValid m
         → Polled O.output_number W.leads F.TaskFuture has_timers m futures reading part
         → Waiting O.output_number W.leads F.TaskFuture F.needs has_timers t x ⊥ m futures reading part }
+{
+    what_a_turn_registers_stands();
+}
+
+/// Shows that each park of one call of `block_on` finds its tasks waiting. The premise is the call's clause `polled`;
+/// the claim is about the history, so no journal has to be kept. At each park, a task t waits for a source x or is
+/// awaiting if it has not finished, its future needed x after its last turn in this call, no act of that turn dropped
+/// x, and no call took its wait since.
+pub fn each_park_of_a_call_finds_its_tasks_waiting<F, O, P, U, W>()
+where
+    F: Waits<Cx<F, O, P, U, W>, Output = O> + Drop,
+    O: Outcome + Drop,
+    P: ThreadPool + Drop,
+    U: Unpark,
+    W: SharedState + Drop,
+    ensures { (has_timers : Bool) (first : F) (futures left : List (Option F)) (old new : Machine) (part : List Entry) → IsValid old
+        → ((rest : List Entry) → PollsMain O.output_number W.leads F.TaskFuture has_timers first futures left old (part ++ rest) new rest)
+        → WaitsInCall O.output_number W.leads F.TaskFuture F.needs has_timers first futures old part }
 {
     what_a_turn_registers_stands();
 }

@@ -1,0 +1,39 @@
+-- Each park of one call finds its tasks waiting.
+use Rattle.std.proofs.Common.{◌≡◌, ℕ, Bool, false, List, [], ◌∷◌, ◌++◌, Some, Option, subst, append-nil}
+use Rattle.std.specs.Prelude.{⊤}
+use Rattle.mono_task.specs.Members.{FutureOf}
+use Rattle.mono_machine.specs.Machine.{Machine, IsValid}
+use Rattle.mono_machine.specs.Watches.{Source}
+use Rattle.mono_machine.specs.declared.events.Act.TheVariants as act
+use Rattle.mono_machine.specs.declared.events.Event.TheVariants as event
+use Rattle.mono_machine.specs.declared.events.Reply.TheVariants as reply
+use Rattle.mono_machine.specs.declared.events.TurnStep.{TurnStep}
+use Rattle.mono_machine.specs.declared.events.End.TheVariants as end
+use Rattle.mono_machine.specs.declared.events.Report.{Report}
+use Rattle.mono_machine.specs.declared.events.Report.TheVariants as report
+use Rattle.mono_machine.proofs.ValidStepLemmas.{step_is_valid}
+use Rattle.mono_rt.specs.FuturePolls.{TellsTurn, PollsMain}
+use Rattle.mono_rt.specs.declared.contexts.Cx.{Cx}
+use Rattle.mono_rt.specs.declared.parts.journals.Entry.{Entry}
+use Rattle.mono_wait.specs.PendingTurns.{LeavesWaiting}
+use Rattle.mono_wait.specs.CallWaits.{WaitsInCall}
+use Rattle.mono_wait.proofs.ParkLemmas.{waiting}
+
+module _ {F O P U W J A V : Type 0} (number : O → ℕ) (leads : W → W → Type 0) (future : FutureOf F (Cx F O P U W J A V) O) (needs : F → Source → Type 0) (has_timers : Bool)
+    (leaves : (m : Machine) (futures : List (Option F)) (reading : ℕ) (steps : List TurnStep) (answer : Report) (left : List (Option F))
+    → TellsTurn number leads future has_timers m futures reading steps end.Pending answer left → LeavesWaiting (λ f. future.is_spent f ≡ false) needs m futures left steps answer) where
+  pub call_waits : (first : F) (futures left : List (Option F)) (old new : Machine) (part : List Entry) → IsValid old → ((rest : List Entry) → PollsMain number leads future has_timers first futures left old (part ++ rest) new rest)
+      → WaitsInCall number leads future needs has_timers first futures old part
+  call_waits first futures left old new part valid polls =
+      by_parts (subst (λ xs. PollsMain number leads future has_timers first futures left old xs new []) (append-nil part) (polls []))
+    where
+      by_parts : PollsMain number leads future has_timers first futures left old part new [] → WaitsInCall number leads future needs has_timers first futures old part
+      by_parts (t, (mid, (more, (spawn, polling)))) = record {
+        main = t;
+        spawned = mid;
+        more = more;
+        spawn = spawn;
+        waits = λ reading u x.
+            waiting number leads future needs has_timers leaves u x more ⊥ mid (futures ++ Some first ∷ []) reading
+            (step_is_valid old (event.Act act.Spawn) (report.Reply (reply.Task t)) mid valid spawn.1) (λ none. absurd none) (polling (λ n. tt) reading);
+      }
