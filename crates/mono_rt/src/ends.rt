@@ -30,6 +30,7 @@ impl<F: Drop, O: Outcome + Drop, D: Driver, P: ThreadPool + Drop, W: SharedState
             cx,
             driver,
             journal,
+            due: _,
         } = self;
         let Cx {
             parts,
