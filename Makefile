@@ -10,6 +10,7 @@
 #   make soak        random inputs for a minute (SECONDS=n), each report checked by an independent machine; their journals
 #                    too; then each allocation, read and write fails in turn, scripts run with workers, and each library
 #                    call that leaves its object as it was is refused memory
+#   make soak-threads  repeats the tests of threads for a minute (SECONDS=n), some of them under valgrind's helgrind
 #   make bench       measures the programs next to plain Rust programs, and prints the tables of docs/PERFORMANCE.md
 #   make planted     tries the mutants of crates/*/planted on a copy (CRATE=name: of one crate)
 #   make gate-times  the gate from nothing, with the processor seconds of each crate
@@ -20,7 +21,7 @@ CRATE =
 SECONDS = 60
 SIZE =
 
-.PHONY: help run build has-rt test examples soak try bench planted gate-times
+.PHONY: help run build has-rt test examples soak soak-threads try bench planted gate-times
 
 help:
 	@sed -n 's/^#   //p' Makefile
@@ -56,6 +57,9 @@ soak: build
 	cd crates/test_out_of_memory && rt run -- send 300 > /dev/null
 	cp crates/test_out_of_memory/out/test_out_of_memory bin/refused
 	python3 tools/soak/refused.py bin/refused
+
+soak-threads: has-rt
+	python3 tools/soak/threads.py $(SECONDS)
 
 try: has-rt
 	@echo 'unproved: this runs the program before any proof'
