@@ -129,14 +129,6 @@ fn a_job_runs_at_the_first_poll(rt: HostRuntime) {
 }
 
 #[test]
-fn two_jobs_run_in_the_place_of_one(rt: HostRuntime) {
-    let task = run_job(Gives(7)).map(code).then(|first: u64| run_job(Gives(8)).map(code).map(
-        move |second: u64| { first.saturating_mul(10).saturating_add(second) },
-    ));
-    assert_eq!(rt; run(&rt, rt.alloc(), on_caller(), 1, task), Ok(78));
-}
-
-#[test]
 fn a_refused_job_comes_back(rt: HostRuntime) {
     let alloc = rt.alloc();
     let pool: BlockingHandle<NoPool<Gives>> = BlockingHandle::Empty(BlockingStrategy::Panic);
@@ -157,14 +149,10 @@ fn a_dropped_job_is_cancelled(rt: HostRuntime) {
 }
 
 #[test]
-fn a_late_job_is_given_up_with_its_place(rt: HostRuntime) {
+fn a_late_job_is_given_up(rt: HostRuntime) {
     let milli = Duration::from_millis(10);
-    let task = timeout_for(milli, run_job(Gives(7)))
-        .map(late_code)
-        .then(move |first: u64| timeout_for(milli, run_job(Gives(8)))
-            .map(late_code)
-            .map(move |second: u64| first.saturating_add(second)));
-    assert_eq!(rt; run(&rt, rt.alloc(), keeping(false), 1, task), Ok(12000));
+    let task = timeout_for(milli, run_job(Gives(7))).map(late_code);
+    assert_eq!(rt; run(&rt, rt.alloc(), keeping(false), 1, task), Ok(6000));
 }
 
 #[test]
