@@ -18,7 +18,7 @@ from faults import shim_in
 CALLS = (
     "push", "list", "spawn", "add", "fire", "node", "key", "know", "drain", "record", "register", "make", "open", "acquire",
     "bucket", "retry", "hire", "send", "tick", "join", "try", "select", "enter", "child", "block", "sleep",
-    "interval", "timeout", "attempt", "wake",
+    "interval", "timeout", "attempt",
 )
 TIMES = 300
 

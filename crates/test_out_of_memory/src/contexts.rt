@@ -72,9 +72,6 @@ pub enum Errand {
     Ready(u64),
     /// It makes a call this often, and reports how many were refused, or `WENT_WRONG`.
     Asks(Ask, u64, Arc<AtomicU64, Global>),
-    /// It wakes its own task from outside, which it tells by one more, and is ready in its next turn, which it tells by one
-    /// less.
-    Wakes(bool, Arc<AtomicU64, Global>),
 }
 
 impl Errand {
@@ -82,7 +79,7 @@ impl Errand {
     pub fn is_ready_with(&self, number: u64) -> bool {
         match self {
             Errand::Ready(own) => *own == number,
-            Errand::Asks(_, _, _) | Errand::Wakes(_, _) => false,
+            Errand::Asks(_, _, _) => false,
         }
     }
 }
@@ -108,27 +105,10 @@ impl TaskFuture<Own> for Errand {
                 told.store(refused, Ordering::SeqCst);
                 Poll::Ready(0)
             }
-            Errand::Wakes(has_woken, owed) => wakes(rt, cx, has_woken, owed),
         }
     }
 
     fn cancel(self, _cx: &mut Own) {}
-}
-
-// Wakes the running task from outside, unless it has done so before.
-fn wakes<R: Host>(rt: &R, cx: &mut Own, has_woken: &mut bool, owed: &AtomicU64) -> Poll<u64>
-    ensures { cx.new ≡ cx.old }
-{
-    if *has_woken {
-        owed.fetch_sub(1, Ordering::SeqCst);
-        return Poll::Ready(0);
-    }
-    if let Ok(waker) = cx.remote_waker() {
-        owed.fetch_add(1, Ordering::SeqCst);
-        *has_woken = true;
-        waker.wake(rt);
-    }
-    Poll::Pending
 }
 
 /// A call of a running task that takes memory.

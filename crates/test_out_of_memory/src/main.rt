@@ -19,7 +19,7 @@ use crate::contexts::Ask;
 use crate::executors::ticked;
 use crate::futures::Form;
 use crate::grows::{Ended, Grows, refusals};
-use crate::runtimes::{entered, had, woken};
+use crate::runtimes::{entered, had};
 use crate::services::{Buckets, acquires, sends};
 use crate::tables::fires;
 use crate::wakes::{Drained, Made, new_inbox, new_recorded};
@@ -42,7 +42,7 @@ use std::{env, io};
 const HELP: &str = "usage: test_out_of_memory CALL CALLS
   The call is made so often; where it was refused memory, the object is looked at, and the call is made once more.
   Printed is how often it was refused. CALL is one of push list spawn add fire node key know drain record register make
-  open acquire bucket retry hire send tick join try select enter child block sleep interval timeout attempt wake.
+  open acquire bucket retry hire send tick join try select enter child block sleep interval timeout attempt.
   status 3: a call did not do what it promises; status 6: there was no memory for the first object";
 
 // The status if a call broke its promise.
@@ -83,11 +83,10 @@ enum Call {
     Interval,
     Timeout,
     Attempt,
-    Wake,
 }
 
 // The names of the calls.
-const NAMES: [(&str, Call); 30] = [
+const NAMES: [(&str, Call); 29] = [
     ("push", Call::Push),
     ("list", Call::List),
     ("spawn", Call::Spawn),
@@ -117,7 +116,6 @@ const NAMES: [(&str, Call); 30] = [
     ("interval", Call::Interval),
     ("timeout", Call::Timeout),
     ("attempt", Call::Attempt),
-    ("wake", Call::Wake),
 ];
 
 // Returns the call of this name.
@@ -210,7 +208,6 @@ fn of_futures<R: Host>(rt: &R, alloc: Global, call: Call, calls: u64) -> Ended {
         Call::Try => grown(rt, alloc, Form::TryJoin, calls),
         Call::Select => grown(rt, alloc, Form::Select, calls),
         Call::Enter => entered(rt, alloc, calls),
-        Call::Wake => woken(rt, alloc, calls),
         _ => had(rt, alloc, asked(call), calls),
     }
 }

@@ -50,45 +50,6 @@ impl Grows for Running {
     }
 }
 
-/// A runtime whose main tasks wake themselves from outside. The number counts the wakes after which no turn came.
-#[derive(Drop)]
-pub struct Wakeful {
-    runtime: Running,
-    owed: Arc<AtomicU64, Global>,
-    ghost rests: { runtime.cx.parts.tasks.turn ≡ None },
-}
-
-/// Main tasks that wake themselves from outside, so many.
-pub fn woken<R: Host>(rt: &R, alloc: Global, calls: u64) -> Ended {
-    match (running(alloc), Arc::new(alloc, AtomicU64::new(0))) {
-        (Ok(runtime), Ok(owed)) => {
-            Some(refusals(rt, alloc, &mut Wakeful { runtime, owed }, calls))
-        }
-        _ => None,
-    }
-}
-
-// Such a runtime, by main tasks. Once one of them has its output, each task that was woken has had its turn.
-impl Grows for Wakeful {
-    fn grow<R: Host>(&mut self, rt: &R, alloc: Global, _n: u64) -> Called {
-        let Ok(owed) = Arc::try_clone(&self.owed) else {
-            return Called::Refused;
-        };
-        match self
-            .runtime
-            .block_on(rt, alloc, Errand::Wakes(false, owed), 100)
-        {
-            Ok(_) => done_where(self.owed.load(Ordering::SeqCst) == 0),
-            Err(RunError::Memory) => Called::Refused,
-            Err(_) => Called::Otherwise,
-        }
-    }
-
-    fn seen(&self) -> u64 {
-        0
-    }
-}
-
 // The report of calls that were not made.
 const UNTOLD: u64 = WENT_WRONG - 1;
 
