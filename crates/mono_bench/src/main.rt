@@ -3,7 +3,6 @@
 
 mod beats;
 mod buckets;
-mod channels;
 mod churn;
 mod errands;
 mod ring;
@@ -19,7 +18,7 @@ const HELP: &str = "usage: mono_bench WORKLOAD ..
        mono_bench all: a small run of each";
 
 // The words of each workload.
-const HELPS: [&str; 9] = [
+const HELPS: [&str; 8] = [
     wheel::HELP,
     churn::HELP,
     errands::HELP,
@@ -28,11 +27,10 @@ const HELPS: [&str; 9] = [
     ring::HELP,
     sweep::HELP,
     turns::HELP,
-    channels::HELP,
 ];
 
 // Does a small run of each workload.
-fn run_all<R: Host + Send + Sync + 'static>(rt: &HostRuntime, host: &R) -> io::Result<bool> {
+fn run_all<R: Host + Send + 'static>(rt: &HostRuntime, host: &R) -> io::Result<bool> {
     wheel::run_small(rt)?;
     churn::run_small(rt)?;
     errands::run_small(rt, host)?;
@@ -41,13 +39,12 @@ fn run_all<R: Host + Send + Sync + 'static>(rt: &HostRuntime, host: &R) -> io::R
     ring::run_small(rt)?;
     sweep::run_small(rt)?;
     turns::run_small(rt, host)?;
-    channels::run_small(rt, host)?;
     Ok(true)
 }
 
 // Runs a workload with the words after its own. Returns false if there is no such workload, or if the words do not fit
 // it.
-fn run_workload<R: Host + Send + Sync + 'static>(
+fn run_workload<R: Host + Send + 'static>(
     rt: &HostRuntime,
     host: &R,
     name: &str,
@@ -62,7 +59,6 @@ fn run_workload<R: Host + Send + Sync + 'static>(
         "ring" => ring::run_words(rt, words),
         "sweep" => sweep::run_words(rt, words),
         "turns" => turns::run_words(rt, host, words),
-        "channels" => channels::run_words(rt, host, words),
         "all" if words.is_empty() => run_all(rt, host),
         _ => Ok(false),
     }
@@ -77,7 +73,7 @@ fn print_help(rt: &HostRuntime) -> io::Result<()> {
 }
 
 // Runs the workload of the words after the program's name, or prints the words of all workloads.
-fn run_words<R: Host + Send + Sync + 'static>(
+fn run_words<R: Host + Send + 'static>(
     rt: &HostRuntime,
     host: &R,
     words: &[String],
