@@ -2,7 +2,7 @@
 ghost use Rattle.std.specs.Prelude.{◌≡◌, ◌<◌, ◌+◌, ◌-◌, ◌^◌, true, [], ◌∷◌, ◌++◌, None, Some, OnOk, OnErr, IfOk, IfErr, IfSome, is_some, length, slice_set};
 ghost use Rattle.slab.specs.Slab.{slab_len};
 ghost use Rattle.mono_model.specs.Table.{value_at};
-ghost use Rattle.mono_actor.specs.Actors.{idle, queued, got_in, in_mode};
+ghost use Rattle.mono_actor.specs.Actors.{queued, got_in, in_mode};
 ghost use Rattle.mono_actor.specs.Places.{receipt_of, timing_of, rest_of_turn, delivered, timed_actor, begun_actor, unread, first_of, rested, Changes};
 ghost use Rattle.mono_actor.specs.Mailboxes.{Sound};
 ghost use Rattle.mono_actor.specs.Uniqueness.{found};

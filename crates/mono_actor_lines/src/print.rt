@@ -1,5 +1,5 @@
 // Answers as bytes.
-ghost use Rattle.std.specs.Prelude.{◌≡◌, ◌≤◌, ◌++◌, ℕ, codes, flat_map, length, take, OnOk};
+ghost use Rattle.std.specs.Prelude.{◌≡◌, ◌≤◌, ◌++◌, codes, flat_map, length, take, OnOk};
 ghost use Rattle.mono_text.specs.LineText.{number_part};
 ghost use Rattle.mono_actor.specs.Answers as answer;
 ghost use Rattle.mono_actor_lines.specs.Answers.{error_text, sent_text, got_text, after_text, answer_text};

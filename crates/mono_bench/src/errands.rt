@@ -1,5 +1,4 @@
 // Blocking jobs that start and end, each with its join word: ended jobs must cost nothing.
-ghost use Rattle.std.specs.Prelude.{◌≡◌};
 
 use mono_blocking::{BlockingHandle, Blockings, DefaultThreadPool, Job, Outcome, ThreadSpawner};
 use mono_inbox::NoUnpark;

@@ -1,5 +1,4 @@
 // The job of a runtime that has none.
-ghost use Rattle.std.specs.Prelude.{◌≡◌};
 
 use crate::task::Job;
 use mono_inbox::{NoUnpark, Unpark};

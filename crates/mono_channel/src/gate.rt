@@ -1,5 +1,5 @@
 // What the ends of a channel share under its lock: who waits, and whether the channel is closed.
-ghost use Rattle.std.specs.Prelude.{◌≡◌, ◌+◌, ◌-◌, ◌<◌, ◌≤◌, ◌^◌, ◌⊎◌, slice_get, slice_set, true, false, [], ◌++◌, ◌∷◌, Some, None, Err, IfErr, IfOk, OnErr, OnOk, MatchResult, MatchOption};
+ghost use Rattle.std.specs.Prelude.{◌≡◌, ◌+◌, ◌-◌, ◌<◌, ◌≤◌, ◌^◌, ◌⊎◌, slice_get, slice_set, true, false, [], ◌++◌, ◌∷◌, Some, None, Err, IfOk, OnOk, MatchResult, MatchOption};
 ghost use Rattle.crossbeam_queue.specs.Passes.{view, IsPassOf, IsSamePass};
 ghost use Rattle.mono_channel.specs.Delivery.{Arrived, hand, sender};
 ghost use Rattle.mono_channel.specs.Errors.{message_of};

@@ -1,5 +1,5 @@
 // The end that sends, and the making of a channel.
-ghost use Rattle.std.specs.Prelude.{◌≡◌, ◌<◌, true, [], Some, None, ◌++◌, ◌∷◌, IfOk, IfErr, OnOk, OnErr, MatchResult};
+ghost use Rattle.std.specs.Prelude.{◌≡◌, ◌<◌, true, [], Some, None, ◌++◌, ◌∷◌, IfOk, MatchResult};
 ghost use Rattle.std.specs.Arc.{arc_value};
 ghost use Rattle.crossbeam_queue.specs.Passes.{view, IsPassOf};
 ghost use Rattle.mono_channel.specs.Ends.{sent_by, received_by, settled_by, IsPair};

@@ -1,5 +1,5 @@
 // Many branches that are polled until all outputs are there.
-ghost use Rattle.std.specs.Prelude.{◌≡◌, ◌≤◌, ◌||◌, false, true, [], length, map, vec_len, vec_capacity, IfOk, IfErr};
+ghost use Rattle.std.specs.Prelude.{◌≡◌, ◌≤◌, ◌||◌, false, true, [], map, vec_len, vec_capacity, IfOk, IfErr};
 ghost use Rattle.std.specs.List.{list_any, All, AllZip};
 ghost use Rattle.mono_combine.specs.Branches.{maybe_spent, MaybeGives};
 ghost use Rattle.mono_combine.specs.BranchLists.{AllCanPoll, JoinListPolls, AllCancel, answer_as};

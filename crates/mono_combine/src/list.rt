@@ -1,5 +1,5 @@
 // Many branches of one type that keep their output.
-ghost use Rattle.std.specs.Prelude.{◌≡◌, ◌≤◌, ◌+◌, ◌++◌, false, [], length, map, vec_len, vec_capacity};
+ghost use Rattle.std.specs.Prelude.{◌≡◌, ◌≤◌, ◌+◌, ◌++◌, false, length, map, vec_len, vec_capacity};
 ghost use Rattle.std.specs.List.{list_any, filter_map, AllZip};
 ghost use Rattle.std.specs.Vec.Iter.{into_iter_items, into_iter_len};
 ghost use Rattle.mono_combine.specs.Branches.{maybe_spent, is_waiting, output_of, Advances, MaybeNarrows};

@@ -1,5 +1,5 @@
 // The branches of a select of a list.
-ghost use Rattle.std.specs.Prelude.{◌≡◌, true, ◌≤◌, ◌+◌, ◌++◌, ◌<◌, false, [], length, vec_len, vec_capacity};
+ghost use Rattle.std.specs.Prelude.{◌≡◌, true, ◌≤◌, ◌+◌, ◌++◌, ◌<◌, false, length, vec_len, vec_capacity};
 ghost use Rattle.std.specs.List.{list_any, All, AllZip};
 ghost use Rattle.std.specs.Vec.Iter.{into_iter_items, into_iter_len};
 ghost use Rattle.mono_combine.specs.Looks.{is_out, branch_spent, BranchCanPoll, BranchNarrows, LookGives, ReturnsFor, HasTurnAt};

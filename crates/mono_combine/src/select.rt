@@ -1,6 +1,5 @@
 // Two branches; the answer is the first output that is ready and passes its predicate.
 ghost use Rattle.std.specs.Prelude.{◌≡◌, ◌<◌, ◌||◌, ◌==◌, ◌%◌, ◌/◌, true, false, if◌then◌else◌};
-ghost use Rattle.mono_model.specs.Poll.{OnPending};
 ghost use Rattle.mono_combine.specs.Looks.{branch_spent, BranchCanPoll};
 ghost use Rattle.mono_combine.specs.Selects.{Selects, SelectPolls, SelectGives, SelectCancels, PickGives, SelectNarrows, select_spent, as_second, as_first, then_look, or_disabled, left_out_if};
 

@@ -1,5 +1,5 @@
 // Many branches; the answer is the first output that is ready and passes the predicate.
-ghost use Rattle.std.specs.Prelude.{◌≡◌, ◌≤◌, ◌<◌, ◌||◌, false, length, vec_len, IfOk, IfErr};
+ghost use Rattle.std.specs.Prelude.{◌≡◌, ◌≤◌, ◌<◌, ◌||◌, false, vec_len, IfOk, IfErr};
 ghost use Rattle.std.specs.List.{list_any, All};
 ghost use Rattle.mono_combine.specs.Looks.{branch_spent, BranchCanPoll};
 ghost use Rattle.mono_combine.specs.Starts.{next_start};

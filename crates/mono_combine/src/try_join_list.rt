@@ -1,5 +1,5 @@
 // Many branches that are polled until one fails or all values are there.
-ghost use Rattle.std.specs.Prelude.{◌≡◌, ◌≤◌, ◌||◌, false, true, [], length, map, vec_len, vec_capacity, IfOk, IfErr};
+ghost use Rattle.std.specs.Prelude.{◌≡◌, ◌≤◌, ◌||◌, false, true, [], map, vec_len, vec_capacity, IfOk, IfErr};
 ghost use Rattle.std.specs.List.{list_any, All};
 ghost use Rattle.mono_combine.specs.Branches.{maybe_spent};
 ghost use Rattle.mono_combine.specs.BranchLists.{AllCanPoll, AllCancel};

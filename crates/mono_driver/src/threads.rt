@@ -1,6 +1,5 @@
 // A driver that parks its thread.
 ghost use Rattle.std.specs.Prelude.{◌≡◌, IfOk};
-ghost use Rattle.mono_driver.specs.Drivers.{one_more};
 
 use crate::clock::Clock;
 use crate::driver::{Driver, DriverFault};

@@ -1,5 +1,5 @@
 // The first answer of many futures.
-ghost use Rattle.std.specs.Prelude.{◌≡◌, ◌||◌, false, true, vec_len, [], None};
+ghost use Rattle.std.specs.Prelude.{◌≡◌, ◌||◌, false, true, None};
 ghost use Rattle.std.specs.List.{list_any, All};
 ghost use Rattle.mono_model.specs.Poll.{OnPending, IfReady, ready_value};
 ghost use Rattle.mono_combine.specs.BranchLists.{EachInTurn};

@@ -1,8 +1,6 @@
 // A future again and again.
-ghost use Rattle.std.specs.Prelude.{◌≡◌, false, IfNone, IfSome};
-ghost use Rattle.mono_model.specs.Poll.{OnPending, IfReady};
+ghost use Rattle.std.specs.Prelude.{◌≡◌, false};
 ghost use Rattle.mono_forms.specs.Repeats.{repeat_spent, RepeatCanPoll, RepeatPolls, RepeatGives, RepeatCancels, Turns, Leaves};
-ghost use Rattle.mono_forms.specs.Yields.{WakesItself};
 
 use mono_model::{Host, Poll};
 use mono_task::{Context, TaskFuture};

@@ -1,5 +1,5 @@
 // The calls that an inbox keeps, with their replies.
-ghost use Rattle.std.specs.Prelude.{◌≡◌, ◌+◌, ◌<◌, ◌≤◌, IfOk};
+ghost use Rattle.std.specs.Prelude.{◌≡◌, ◌+◌, ◌<◌, IfOk};
 ghost use Rattle.mono_inbox.specs.History.{put_in, count_puts};
 ghost use Rattle.mono_inbox.specs.Log.{no_entries, is_full, with_entry, with_ledger_put};
 

@@ -1,5 +1,5 @@
 // The recorded state with the book of a ledger, and the shares of its callers.
-ghost use Rattle.std.specs.Prelude.{◌≡◌, ◌+◌, ◌-◌, ◌<◌, ◌^◌, ◌++◌, [], Bool, true, false, length, vec_len, sum_by, OnOk, OnErr};
+ghost use Rattle.std.specs.Prelude.{◌≡◌, ◌+◌, ◌-◌, ◌<◌, ◌^◌, ◌++◌, [], Bool, length, vec_len, sum_by, OnOk, OnErr};
 ghost use Rattle.mono_inbox.specs.declared.log.CallEntry.TheVariants.{Know, Put, Drain, Retire};
 ghost use Rattle.mono_inbox.specs.State.{put_answer, after_put, with_list, AlsoKnows, Forgets, HasNoDoubles};
 ghost use Rattle.mono_inbox.specs.Log.{is_full, with_entry, with_ledger_put};

@@ -2,7 +2,7 @@
 ghost use Rattle.std.specs.Prelude.{◌≡◌, ◌+◌, ◌<◌, ◌≤◌, true, false, IfOk, OnOk, OnErr, MatchOption, length, vec_len, vec_capacity, [], ◌∷◌, ◌++◌};
 ghost use Rattle.mono_model.specs.Inbox.{is_waiting};
 ghost use Rattle.mono_inbox.specs.declared.log.CallEntry.TheVariants.{Know, Put, DrainOne, Drain, Retire};
-ghost use Rattle.mono_inbox.specs.State.{no_state, is_known, put_answer, after_put, with_list, HasNoDoubles, AlsoKnows, AlsoKnowsRow, Forgets, ForgetsRow};
+ghost use Rattle.mono_inbox.specs.State.{is_known, put_answer, after_put, with_list, HasNoDoubles, AlsoKnows, AlsoKnowsRow, Forgets, ForgetsRow};
 ghost use Rattle.mono_inbox.specs.History.{is_history, StandsFor, count_puts};
 ghost use Rattle.mono_inbox.specs.Log.{is_full, with_entry, with_ledger_put, new_recording};
 

@@ -1,5 +1,5 @@
 //! The joiner's end.
-ghost use Rattle.std.specs.Prelude.{◌≡◌, ℕ, false, []};
+ghost use Rattle.std.specs.Prelude.{◌≡◌};
 ghost use Rattle.std.specs.Arc.{arc_value};
 ghost use Rattle.mono_joinword.specs.Views.{Rests};
 

@@ -1,5 +1,5 @@
 //! The runner's end.
-ghost use Rattle.std.specs.Prelude.{◌≡◌, ℕ, [], ◌∷◌, None};
+ghost use Rattle.std.specs.Prelude.{◌≡◌, [], ◌∷◌, None};
 ghost use Rattle.std.specs.Arc.{arc_value};
 ghost use Rattle.mono_joinword.specs.Views.{runner_at};
 ghost use Rattle.mono_joinword.specs.declared.views.Stage.TheVariants.{Working};

@@ -1,5 +1,5 @@
 // A future that makes one attempt after another.
-ghost use Rattle.std.specs.Prelude.{◌≡◌, ◌<◌, ◌≤◌, ◌+◌, ◌*◌, ◌^◌, true, false, None, IfOk, IfErr, IfNone};
+ghost use Rattle.std.specs.Prelude.{◌≡◌, ◌<◌, ◌≤◌, ◌+◌, ◌^◌, true, false, IfOk, IfErr};
 ghost use Rattle.mono_time.specs.Futures.{SleepMade};
 ghost use Rattle.mono_limit.specs.RetrySleeps.{sleep_in};
 ghost use Rattle.mono_limit.specs.Stages.{is_over};

@@ -1,5 +1,5 @@
 // Buckets and retries by their numbers.
-ghost use Rattle.std.specs.Prelude.{◌≡◌, ◌≤◌, ◌+◌, ℕ, IfOk, vec_len, vec_capacity};
+ghost use Rattle.std.specs.Prelude.{◌≡◌, ◌≤◌, ◌+◌, IfOk, vec_len, vec_capacity};
 ghost use Rattle.mono_model.specs.Table.{count_of};
 ghost use Rattle.mono_limit.specs.Limiter.{is_out_of_range};
 ghost use Rattle.mono_limit.specs.BucketTable.{AreStored};

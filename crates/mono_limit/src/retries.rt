@@ -1,8 +1,7 @@
 // The live retries, and the ends of their waits.
-ghost use Rattle.std.specs.Prelude.{◌≡◌, ◌<◌, ◌≤◌, ◌+◌, ◌*◌, ◌-◌, ◌++◌, ◌^◌, ℕ, [], List, None, Some, IfOk, OnOk, OnErr, max, vec_len, vec_capacity};
+ghost use Rattle.std.specs.Prelude.{◌≡◌, ◌<◌, ◌≤◌, ◌+◌, ◌*◌, ◌-◌, ◌^◌, [], None, Some, IfOk, OnOk, OnErr, max, vec_len, vec_capacity};
 ghost use Rattle.mono_model.specs.Table.{value_at, next_number, with_next, with_value, without, count_of, is_full};
 ghost use Rattle.mono_model.specs.Ticks.{down};
-ghost use Rattle.mono_model.specs.Due.{ListsDue};
 ghost use Rattle.mono_time.specs.Instants.{nanos_of};
 ghost use Rattle.mono_time.specs.Timers.{sleeps_of, credit_left};
 ghost use Rattle.mono_limit.specs.Schedules.{IsSound, failed_until, ended_row, EndsWaits};

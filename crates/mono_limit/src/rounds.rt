@@ -1,7 +1,7 @@
 // The steps of a retry within one poll.
 ghost use Rattle.std.specs.Prelude.{◌≡◌, ◌<◌, ◌+◌, ◌^◌, false};
 ghost use Rattle.mono_limit.specs.Stages.{is_over};
-ghost use Rattle.mono_limit.specs.RetryPolls.{IsLive, IsLiveStage, MakesLive, MayGoOn, Makes, Tries, Rests, Ends, FailsWith, GoesToRest, StepOf, Leaves, at_stage, due_after, IsDeadline};
+ghost use Rattle.mono_limit.specs.RetryPolls.{IsLive, IsLiveStage, MayGoOn, Makes, Tries, Rests, Ends, FailsWith, GoesToRest, StepOf, Leaves, due_after, IsDeadline};
 ghost use Rattle.mono_time.specs.Instants.{nanos_of};
 
 use crate::RetryError;

@@ -1,5 +1,5 @@
 // The schedule of a retry: its failures, and the tick of its next attempt.
-ghost use Rattle.std.specs.Prelude.{◌≡◌, ◌<◌, ◌≤◌};
+ghost use Rattle.std.specs.Prelude.{◌≡◌, ◌<◌};
 ghost use Rattle.mono_limit.specs.Delays.{delay};
 ghost use Rattle.mono_limit.specs.Schedules.{IsSound};
 ghost use Rattle.mono_limit.specs.Limiter.{next_of};

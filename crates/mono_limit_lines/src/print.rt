@@ -1,7 +1,6 @@
 // Answer lines into one vector of bytes.
-ghost use Rattle.std.specs.Prelude.{◌≡◌, ◌≢◌, ◌++◌, [], ◌∷◌, codes, decimal, flat_map, IfOk, OnOk};
+ghost use Rattle.std.specs.Prelude.{◌≡◌, ◌≢◌, ◌++◌, codes, decimal, IfOk, OnOk};
 ghost use Rattle.mono_text.specs.Services.{answer_line};
-ghost use Rattle.mono_text.specs.LineText.{number_part};
 ghost use Rattle.mono_limit.specs.Answers.{of_bucket, of_take, of_retry, of_fail, of_done};
 ghost use Rattle.mono_limit.specs.Answers as answers;
 ghost use Rattle.mono_limit_lines.specs.Lines.{answer_text, refusal_text};

@@ -1,5 +1,5 @@
 // A running sum of reports.
-ghost use Rattle.std.specs.Prelude.{◌≡◌, ◌+◌, ◌∷◌, [], if◌then◌else◌, IfOk, length};
+ghost use Rattle.std.specs.Prelude.{◌≡◌, ◌+◌, ◌∷◌, [], if◌then◌else◌, IfOk};
 ghost use Rattle.mono_load.specs.Load.{Adds, order_from, fired_in, total_of, refusal_in, refusals_in};
 
 use mono_replay::{Reply, Report};

@@ -1,5 +1,5 @@
 // A list of items, which contracts see as the list itself.
-ghost use Rattle.std.specs.Prelude.{◌≡◌, [], ◌∷◌, ◌++◌, length, OnOk, OnErr, IfSome, IfNone, slice_get, ◌≤◌, Some, ◌==◌, MatchOption};
+ghost use Rattle.std.specs.Prelude.{◌≡◌, [], ◌∷◌, ◌++◌, length, OnOk, OnErr, IfSome, IfNone, slice_get, ◌≤◌, Some, ◌==◌};
 
 use std::alloc::{AllocError, Global};
 use std::marker::Model;

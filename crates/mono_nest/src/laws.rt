@@ -4,7 +4,6 @@ ghost use Rattle.mono_model.specs.Tasks.{all_woken};
 ghost use Rattle.mono_model.specs.declared.poll.Poll.{Poll};
 ghost use Rattle.mono_combine.specs.declared.joins.Join2.{Join2};
 ghost use Rattle.mono_combine.specs.declared.select.Out2.{Out2};
-ghost use Rattle.mono_combine.specs.declared.select.Select2.{Select2};
 ghost use Rattle.mono_nest.specs.Countdowns.{is_over};
 ghost use Rattle.mono_nest.specs.Nests.{Limited, race_of, nest_of, Waits, IsLate, Apart, IsGone, Passes, late, polled_once, all_polled, all_removed, after_end, delays_of};
 

@@ -1,6 +1,6 @@
 // The executor as a running task sees it.
 ghost use Rattle.std.proofs.Common.{ap};
-ghost use Rattle.std.specs.Prelude.{refl, ◌≡◌, ◌++◌, ◌∷◌, [], true, false, Option, Some, None, Err, IfOk, IfErr, OnOk, OnErr};
+ghost use Rattle.std.specs.Prelude.{refl, ◌≡◌, ◌++◌, ◌∷◌, [], true, Option, Some, None, Err, IfOk, IfErr, OnOk, OnErr};
 ghost use Rattle.mono_model.specs.Table.{next_number};
 ghost use Rattle.mono_model.specs.Tasks.{woken, woken_if_any, spawned};
 ghost use Rattle.mono_model.specs.Joins.{wake_answer, join_answer, joined, drop_answer, join_dropped};

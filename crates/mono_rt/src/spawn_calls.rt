@@ -1,5 +1,4 @@
 // The calls of a context that spawns tasks, by a runtime's context.
-ghost use Rattle.mono_task.specs.Spawns.{Spawns, NotesMemory};
 
 use crate::contexts::Cx;
 use mono_blocking::ThreadPool;

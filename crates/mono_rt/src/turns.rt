@@ -1,5 +1,5 @@
 // A turn of the task at the queue's front.
-ghost use Rattle.std.specs.Prelude.{◌≡◌, ◌<◌, Bool, None, Some, true, false, length, IfSome, IfNone, is_some, not, slice_set};
+ghost use Rattle.std.specs.Prelude.{◌≡◌, ◌<◌, Bool, None, Some, true, false, length, IfSome, is_some, not, slice_set};
 ghost use Rattle.mono_model.specs.Table.{value_at};
 ghost use Rattle.mono_machine.specs.Machine.{Machine};
 ghost use Rattle.mono_rt.specs.Record.{no_acts};

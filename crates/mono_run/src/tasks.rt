@@ -1,5 +1,5 @@
 // A script's task: one poll runs its lines from where the poll before stopped.
-ghost use Rattle.std.specs.Prelude.{◌≡◌, ◌<◌, ◌≤◌, ◌-◌, ◌+◌, ◌^◌, ◌∷◌, [], ⊤, ℕ, List, Option, true, false, IfSome, IfNone, Some, None, length, slice_get, slice_index_or};
+ghost use Rattle.std.specs.Prelude.{◌≡◌, ◌<◌, ◌≤◌, ◌-◌, ◌+◌, ◌^◌, ◌∷◌, [], ℕ, List, Option, true, false, IfSome, IfNone, Some, None, length, slice_index_or};
 ghost use Rattle.mono_machine.specs.declared.events.Act.TheVariants as act;
 ghost use Rattle.mono_machine.specs.declared.events.TurnStep.TheVariants as step;
 ghost use Rattle.mono_time.specs.Instants.{nanos_of};
@@ -8,7 +8,7 @@ ghost use Rattle.mono_rt.specs.Reaches.{Reaches};
 ghost use Rattle.mono_run.specs.declared.scripts.body.BodyLine.{BodyLine};
 ghost use Rattle.mono_run.specs.ScriptTurns.{Place, place, turn_from, stops_at, acted, asked, with_handle, join_steps, job_steps, sleep_steps, yielded, if_made, none_made, task_in, sleep_in, job_in};
 ghost use Rattle.mono_run.specs.TaskStages.{body_len};
-ghost use Rattle.mono_run.specs.TaskPolls.{HasKept, Stands, Fits, PollsTask, kind_of, left_of, output_of, new_task, no_own};
+ghost use Rattle.mono_run.specs.TaskPolls.{HasKept, Stands, Fits, PollsTask, kind_of, left_of, output_of, no_own};
 ghost use Rattle.mono_run.specs.Segments.{Rest, Goes, waits, HasPlaces, if_over, next_if, next_behind, sleep_line, behind_line, at_task, behind_step};
 ghost use Rattle.mono_run.specs.declared.tasks.Next.TheVariants as next;
 ghost use Rattle.mono_run.specs.declared.tasks.ScriptTask.{ScriptTask};

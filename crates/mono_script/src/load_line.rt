@@ -1,5 +1,5 @@
 // A load, and the line of its summary.
-ghost use Rattle.std.specs.Prelude.{◌≡◌, ◌≤◌, ◌++◌, ℕ, List, IfOk, OnOk, decimal, codes};
+ghost use Rattle.std.specs.Prelude.{◌≡◌, ◌≤◌, ◌++◌, IfOk, OnOk, decimal};
 ghost use Rattle.mono_script.specs.Endings.{IsOutput, IsLine};
 ghost use Rattle.mono_script.specs.Meanings.{loading, summary_line};
 

@@ -1,5 +1,5 @@
 // The top call: words, source and sink to a status.
-ghost use Rattle.std.specs.Prelude.{◌≡◌, ◌≢◌, ◌≤◌, ◌<◌, ◌↔◌, ◌⊎◌, true, false, List, ℕ, Option, Some, None, length, IfOk, OnOk, IfSome, IfNone, IsErrOf, map, string_bytes};
+ghost use Rattle.std.specs.Prelude.{◌≡◌, ◌≢◌, ◌≤◌, ◌<◌, ◌↔◌, ◌⊎◌, true, false, List, ℕ, Option, Some, None, length, IfOk, IfSome, IfNone, IsErrOf, map, string_bytes};
 ghost use Rattle.mono_text.specs.Environment.{HasRisen, IsLongerThan};
 ghost use Rattle.mono_script.specs.Command.{FitsCommand, IsCommand, IsNoCommand};
 ghost use Rattle.mono_script.specs.Endings.{HasInput, IsInput, HasAnswered, NamesBadLine, IsCutShort, IsRead, IsLine, IsOutput, IsAnswered, Ends, IsWritten, Asks, status_code, max_input};

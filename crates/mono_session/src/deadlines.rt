@@ -1,5 +1,5 @@
 // Sleeps for the ticks at which the clock closes sessions.
-ghost use Rattle.std.specs.Prelude.{◌≡◌, ◌≤◌, ◌+◌, ◌-◌, IfSome, IsSome, is_some, not, nat_lt};
+ghost use Rattle.std.specs.Prelude.{◌≡◌, ◌≤◌, ◌+◌, ◌-◌, IfSome, is_some, not, nat_lt};
 ghost use Rattle.mono_model.specs.Ticks.{up};
 ghost use Rattle.mono_time.specs.Instants.{nanos_of};
 ghost use Rattle.mono_time.specs.Timers.{sleeps_of, elapsed_tick, credit_left};

@@ -1,5 +1,5 @@
 // The entries of sessions in the queues of keys.
-ghost use Rattle.std.specs.Prelude.{◌≡◌, ◌++◌, ◌∷◌, [], ℕ, List, Option, true, false, not, ◌==◌, filter, length, OnOk, IsTrue, ◌↔◌};
+ghost use Rattle.std.specs.Prelude.{◌≡◌, ◌++◌, ◌∷◌, [], List, Option, true, false, not, ◌==◌, filter, length, OnOk};
 ghost use Rattle.mono_session.specs.Keeper.{Entry, queue_in, first_of, stands_in, is_entry};
 ghost use Rattle.mono_session.specs.Entries.{Entered, HasPlace};
 

@@ -1,5 +1,5 @@
 // The sessions, over timers and queues.
-ghost use Rattle.std.specs.Prelude.{◌≡◌, ◌≤◌, ◌+◌, ◌++◌, ◌∷◌, [], ℕ, List, true, false, Some, if◌then◌else◌, IfOk, OnErr, vec_len, vec_capacity};
+ghost use Rattle.std.specs.Prelude.{◌≡◌, ◌≤◌, ◌+◌, ◌++◌, ◌∷◌, [], ℕ, List, true, Some, if◌then◌else◌, IfOk, OnErr, vec_len, vec_capacity};
 ghost use Rattle.mono_model.specs.Due.{ListsDue};
 ghost use Rattle.mono_model.specs.Table.{value_at, count_of};
 ghost use Rattle.mono_time.specs.Instants.{nanos_of};

@@ -1,5 +1,5 @@
 // A stream of the outputs of the futures that a closure makes of the items.
-ghost use Rattle.std.specs.Prelude.{◌≡◌, None};
+ghost use Rattle.std.specs.Prelude.{None};
 ghost use Rattle.mono_stream.specs.Chains.{ThenPolls, ThenCancels, HeldIsLive, IsLive, MakesLive, Finishes};
 
 use crate::streams::Stream;

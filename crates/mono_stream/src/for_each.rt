@@ -1,5 +1,4 @@
 // A future that handles each item of a stream.
-ghost use Rattle.std.specs.Prelude.{◌≡◌};
 ghost use Rattle.std.specs.Bool.{OnFalse};
 ghost use Rattle.mono_stream.specs.Ends.{UnlessStopped};
 ghost use Rattle.mono_stream.specs.ForEaches.{Handles, AfterHandled};

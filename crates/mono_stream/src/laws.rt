@@ -1,10 +1,10 @@
 // Laws on the items that streams give over consecutive polls, as functions with empty bodies.
-ghost use Rattle.std.specs.Prelude.{◌≡◌, ℕ, List, Option, None, Bool};
+ghost use Rattle.std.specs.Prelude.{◌≡◌, ℕ, List, None, Bool};
 ghost use Rattle.mono_stream.specs.Items.{Gives, AreImages, AreOutputs, AreNext, blank, is_end, polls_for};
 ghost use Rattle.mono_stream.specs.declared.iterate.Iter.{Iter};
 ghost use Rattle.mono_stream.specs.Maps.{MapPolls};
 ghost use Rattle.mono_stream.specs.Chains.{ThenPolls};
-ghost use Rattle.mono_stream.specs.ForEaches.{Polls, Handles};
+ghost use Rattle.mono_stream.specs.ForEaches.{Handles};
 ghost use Rattle.mono_stream.specs.declared.maps.Map.{Map};
 ghost use Rattle.mono_stream.specs.declared.chains.Then.{Then};
 ghost use Rattle.mono_stream.specs.declared.for_each.Stop.{Stop};

@@ -1,5 +1,5 @@
 // A stream of a closure's answers for the items.
-ghost use Rattle.std.specs.Prelude.{◌≡◌, None};
+ghost use Rattle.std.specs.Prelude.{None};
 ghost use Rattle.mono_stream.specs.Maps.{MapPolls};
 
 use crate::streams::Stream;

@@ -1,7 +1,6 @@
 // An example of a stream, as functions with empty bodies.
-ghost use Rattle.std.specs.Prelude.{◌≡◌, ℕ, true, false, List, [], ◌∷◌, Bool, Option, None};
-ghost use Rattle.mono_model.specs.declared.poll.Poll.{Poll};
-ghost use Rattle.mono_model.specs.declared.poll.Poll.TheVariants.{Ready, Pending};
+ghost use Rattle.std.specs.Prelude.{◌≡◌, ℕ, true, false, List, [], ◌∷◌, Bool, None};
+ghost use Rattle.mono_model.specs.declared.poll.Poll.TheVariants.{Ready};
 ghost use Rattle.mono_stream.specs.Items.{Gives};
 ghost use Rattle.mono_stream.specs.Examples.{AnswersNext, five_and_seven};
 

@@ -1,6 +1,5 @@
 // A bounded channel as a plain value.
-ghost use Rattle.std.specs.Prelude.{◌≡◌, ◌-◌, ◌++◌, ◌∷◌, ⊤, [], true, false, length, MatchResult, MatchOption};
-ghost use Rattle.mono_sync.specs.Lines.{SameLine};
+ghost use Rattle.std.specs.Prelude.{◌≡◌, ◌-◌, [], true, false, length, MatchResult, MatchOption};
 ghost use Rattle.mono_sync.specs.MpscRuns.{Leads, leads_itself, leads_on};
 ghost use Rattle.mono_sync.specs.Mpsc.{Pushes, Pops, Rests, Kept, TriesToSend, TriesToReceive, Sends, Receives, GivesUpSend, GivesUpReceive, Closes, places};
 

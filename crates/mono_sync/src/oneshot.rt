@@ -1,5 +1,5 @@
 // A channel for one message as a plain value.
-ghost use Rattle.std.specs.Prelude.{◌≡◌, ⊤, true, false};
+ghost use Rattle.std.specs.Prelude.{◌≡◌, true, false};
 ghost use Rattle.std.specs.declared.option.Option.TheVariants.{None, Some};
 ghost use Rattle.mono_sync.specs.Runs.{Leads, leads_itself, leads_on};
 ghost use Rattle.mono_sync.specs.OneshotRuns.{Step};

@@ -11,8 +11,8 @@ use std::marker::Model;
 
 /// The values of numbers that are given out from 0 on and never twice, as the table of the reference machine.
 ///
-/// It reads and writes a number in constant time. The numbers lie in pages of 256, each in one piece of memory, and the
-/// pages in parts of 256. It gives a page back once all 256 numbers were given out and none has a value; the same holds
+/// It reads and writes a number in constant time. The numbers lie in pages of 64, each in one piece of memory, and the
+/// pages in parts of 1,024. It gives a page back once all 64 numbers were given out and none has a value; the same holds
 /// for a part. So its memory is that of the pages with a value or with the next number, and of the heads of the pages
 /// of their parts, 40 bytes each. In addition it takes 40 bytes for every 65,536 numbers that were given out.
 #[derive(Drop)]

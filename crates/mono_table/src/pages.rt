@@ -1,5 +1,5 @@
-// A page: the places of 256 consecutive numbers, in one piece of memory.
-ghost use Rattle.std.specs.Prelude.{◌≡◌, ◌<◌, ◌↔◌, ℕ, true, [], length, IfErr, OnOk, OnErr, is_some, Some, vec_capacity};
+// A page: the places of 64 consecutive numbers, in one piece of memory.
+ghost use Rattle.std.specs.Prelude.{◌≡◌, ◌<◌, true, [], length, IfErr, OnOk, OnErr, is_some, Some, vec_capacity};
 ghost use Rattle.std.specs.Borrow.{sem};
 ghost use Rattle.std.specs.Option.{option_copied};
 ghost use Rattle.mono_model.specs.Table.{value_at, with_next, with_value, without, count_of};
@@ -10,7 +10,7 @@ use std::alloc::Global;
 use std::marker::Model;
 
 /// How many numbers a page has.
-pub(crate) const PAGE: usize = 256;
+pub(crate) const PAGE: usize = 64;
 
 /// The places of those numbers of one page that were given out. It takes all its memory at once, with the first number.
 #[derive(Drop)]
@@ -94,7 +94,7 @@ impl<T: Drop> Page<T> {
     /// Adds a place with this value, and returns the value if refused.
     #[inline(always)]
     pub(crate) fn push_or_back(&mut self, value: T) -> Result<(), T>
-        requires { length self.old < 256 }
+        requires { length self.old < 64 }
         ensures after { OnOk result (self.new ≡ with_next self.old value) }
         ensures back { IfErr result (λ v. v ≡ value) }
         ensures refused { OnErr result (self.new ≡ self.old) }

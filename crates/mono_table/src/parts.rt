@@ -28,9 +28,9 @@ impl<T> Model for Part<T> {
 
     ghost use Rattle.mono_table.specs.Layout.{laid_table, IsLaid};
 
-    ghost view = { λ a. laid_table 256 a.pages.items a.len };
+    ghost view = { λ a. laid_table 64 a.pages.items a.len };
 
-    ghost invariant = { λ a. IsLaid 256 a.pages.items (vec_capacity a.pages) a.len a.live };
+    ghost invariant = { λ a. IsLaid 64 a.pages.items (vec_capacity a.pages) a.len a.live };
 }
 
 impl<T> Part<T> {

@@ -1,5 +1,5 @@
 // Values by number that may be taken out and put back.
-ghost use Rattle.std.specs.Prelude.{◌≡◌, ◌++◌, ◌∷◌, [], true, false, None, Some, OnOk, OnErr, IfErr, IfSome, is_some, slice_set, ℕ};
+ghost use Rattle.std.specs.Prelude.{◌≡◌, ◌++◌, ◌∷◌, [], true, false, None, Some, OnOk, OnErr, IfErr, IfSome, is_some, slice_set};
 ghost use Rattle.mono_model.specs.Table.{value_at};
 ghost use Rattle.mono_table.specs.Slots.{lent_at, SameSlots};
 

@@ -17,19 +17,19 @@ pub trait TaskFuture<C: Context>: Drop {
     type Output;
 
     // Whether the future has answered for good and may not be polled.
-    ghost is_spent: { Self → Bool };
+    ghost is_spent: { Self → Bool } = { λ _. false };
 
     // What the future's closures require of a poll; true if it holds none.
     ghost can_poll: { Self → Type 0 } = { λ _. ⊤ };
 
     // What one poll may answer, and the future and the context that it may leave.
-    ghost polls: { Self → C → Poll Self.Output → Self → C → Type 0 };
+    ghost polls: { Self → C → Poll Self.Output → Self → C → Type 0 } = { λ _ _ _ _ _. ⊤ };
 
     // What the future may answer in the end; anything, if the future does not say.
     ghost gives: { Self → Self.Output → Type 0 } = { λ _ _. ⊤ };
 
     // The context that `cancel` may leave.
-    ghost cancels: { Self → C → C → Type 0 };
+    ghost cancels: { Self → C → C → Type 0 } = { λ _ _ _. ⊤ };
 
     /// Returns whether the future has answered for good.
     fn spent(&self) -> bool

@@ -1,5 +1,5 @@
 // Join handles, and the calls of a context on them.
-ghost use Rattle.std.specs.Prelude.{◌≡◌, ℕ, Bool, false, Result, Option};
+ghost use Rattle.std.specs.Prelude.{◌≡◌, ℕ, false, Result, Option};
 ghost use Rattle.mono_model.specs.Tasks.{Tasks, woken};
 ghost use Rattle.mono_model.specs.Joins.{join_answer, joined, drop_answer, join_dropped, finished_answer};
 ghost use Rattle.mono_model.specs.Poll.{call_of};

@@ -1,5 +1,5 @@
 // A source and a sink in memory, whose calls can be made to fail.
-ghost use Rattle.std.specs.Prelude.{◌≡◌, ◌+◌, ◌≤◌, ◌<◌, ◌↔◌, ◌++◌, [], Some, length, take, IfOk, OnErr, Contains, vec_capacity, IsTrue};
+ghost use Rattle.std.specs.Prelude.{◌≡◌, ◌+◌, ◌≤◌, ◌<◌, ◌++◌, Some, length, IfOk, OnErr, vec_capacity};
 ghost use Rattle.mono_text.specs.Environment.{HasCause, Reads, Writes};
 ghost use Rattle.mono_text.specs.Memory.{Feed, Store, IsRead, IsWrite, counted, new_feed, new_store};
 

@@ -1,5 +1,5 @@
 // One pass over the input by a reader that holds the rest of it.
-ghost use Rattle.std.specs.Prelude.{◌≡◌, ◌+◌, ◌-◌, ◌*◌, ◌^◌, ◌<◌, ◌≤◌, ◌↔◌, IfNone, IfSome, IfOk, Some, None, length, IsTrue, if◌then◌else◌, [], ◌++◌, slice_index, nat_lt, drop, decimal, ℕ, false};
+ghost use Rattle.std.specs.Prelude.{◌≡◌, ◌+◌, ◌-◌, ◌*◌, ◌^◌, ◌<◌, ◌≤◌, ◌↔◌, IfNone, IfSome, IfOk, Some, None, length, IsTrue, if◌then◌else◌, [], slice_index, nat_lt, drop, decimal, ℕ, false};
 ghost use Rattle.mono_text.specs.Lines.{BeginsWith, BeginsWithNone};
 ghost use Rattle.mono_text.specs.Services.{HasNoFeed};
 ghost use Rattle.mono_text.specs.Parser as Reading;

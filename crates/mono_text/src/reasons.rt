@@ -1,5 +1,5 @@
 // Why a line spells no call.
-ghost use Rattle.std.specs.Prelude.{◌≡◌, ◌∷◌, []};
+ghost use Rattle.std.specs.Prelude.{◌≡◌, []};
 ghost use Rattle.std.specs.Option.{option_map};
 ghost use Rattle.mono_text.specs.Words.{words};
 ghost use Rattle.mono_text.specs.Reasons as spec;

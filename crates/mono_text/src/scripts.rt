@@ -1,6 +1,5 @@
 // Why a line may not follow in a script, or which line is missing.
 ghost use Rattle.std.specs.Prelude.{◌≡◌, ◌∷◌, false};
-ghost use Rattle.std.specs.Option.{option_map};
 ghost use Rattle.mono_text.specs.Lines.{lines};
 ghost use Rattle.mono_text.specs.Memory.{counted};
 ghost use Rattle.mono_text.specs.Words.{words, number_of};

@@ -1,5 +1,5 @@
 // Values that answer lines one at a time.
-ghost use Rattle.std.specs.Prelude.{◌≡◌, ◌++◌, ◌∷◌, [], ℕ, List, IfOk, OnOk, IfSome, IfNone};
+ghost use Rattle.std.specs.Prelude.{◌≡◌, ◌++◌, ℕ, List, IfOk, OnOk, IfSome, IfNone};
 ghost use Rattle.mono_text.specs.Services.{StartsWith, StartsWithNone, Serves, answer_line};
 
 use crate::reader::Reader;

@@ -1,6 +1,6 @@
 // The sink of an output.
-ghost use Rattle.std.specs.Prelude.{◌≡◌, ℕ, ◌<◌, ◌≤◌, Option, Some, None, List, length, take, drop, IfOk, OnErr, OnOk};
-ghost use Rattle.mono_text.specs.Environment.{HasCause, HasRisen, Writes, HasWritten, HasWrittenPrefix};
+ghost use Rattle.std.specs.Prelude.{◌≡◌, ℕ, ◌<◌, ◌≤◌, Option, List, length, drop, IfOk, OnErr, OnOk};
+ghost use Rattle.mono_text.specs.Environment.{HasCause, Writes, HasWritten, HasWrittenPrefix};
 
 /// A write that failed. No byte was taken, and the sink's count of faults rose.
 #[derive(Clone, Copy, Debug, PartialEq, Eq)]

@@ -1,6 +1,6 @@
 // The source of an input.
-ghost use Rattle.std.specs.Prelude.{◌≡◌, ℕ, ◌+◌, ◌<◌, ◌≤◌, ◌⊎◌, Option, Some, None, List, [], length, take, drop, IfOk, IfErr, OnErr, OnOk, IsErrOf, vec_len};
-ghost use Rattle.mono_text.specs.Environment.{HasCause, HasRisen, Reads, HasRead, HasReadAll, IsLongerThan};
+ghost use Rattle.std.specs.Prelude.{◌≡◌, ℕ, ◌<◌, ◌≤◌, Option, List, [], length, take, IfOk, OnErr, OnOk, IsErrOf, vec_len};
+ghost use Rattle.mono_text.specs.Environment.{HasCause, HasRisen, Reads, HasReadAll, IsLongerThan};
 
 use std::alloc::{AllocError, Global};
 

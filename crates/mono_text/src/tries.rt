@@ -1,6 +1,5 @@
 // Calls of the system that are repeated while a signal interrupts them.
 ghost use Rattle.std.specs.Prelude.{◌≡◌, ◌<◌, ◌≤◌, ◌↔◌, ◌⊎◌, IfOk, OnErr, IsTrue, take, length};
-ghost use Rattle.std.specs.IoError.{error_kind};
 ghost use Rattle.std.specs.Io.KnownBytes.{Keeps, Appends, Consumes, IsAtEnd};
 
 use std::io::{self, ErrorKind, Read, Write};

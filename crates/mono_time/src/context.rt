@@ -1,5 +1,5 @@
 // The view that a running task has of the timers.
-ghost use Rattle.std.specs.Prelude.{◌≡◌, ℕ, Bool, true, Result};
+ghost use Rattle.std.specs.Prelude.{◌≡◌, ℕ, true, Result};
 ghost use Rattle.mono_model.specs.Tasks.{woken_if_any};
 ghost use Rattle.mono_model.specs.declared.Woke.{Woke};
 ghost use Rattle.mono_model.specs.declared.task_error.TaskError.{TaskError};

@@ -1,5 +1,5 @@
 // The error of a passed deadline, and the reasons why a timeout did not answer its value.
-ghost use Rattle.std.specs.Prelude.{◌≡◌, ◌==◌, Some, codes};
+ghost use Rattle.std.specs.Prelude.{◌≡◌, Some, codes};
 ghost use Rattle.std.specs.IoError.{error_kind};
 ghost use Rattle.std.specs.declared.io.ErrorKind.TheVariants.{TimedOut};
 

@@ -1,6 +1,5 @@
 // A future with a limited time from its first poll on.
 ghost use Rattle.std.specs.Prelude.{◌≡◌, None, Some};
-ghost use Rattle.mono_time.specs.Naps.{nap_spent};
 ghost use Rattle.mono_time.specs.NapTimeouts.{limit_spent, LimitCanPoll, LimitPolls, LimitGives, LimitCancels, late_cause};
 
 use crate::SleepError;

@@ -1,8 +1,7 @@
 // The table of sleeps over the wheel.
-ghost use Rattle.std.specs.Prelude.{◌≡◌, ◌<◌, ◌≤◌, ◌+◌, ◌-◌, ◌^◌, ℕ, max, true, Option, None, Some, IfOk, IfNone, IfSome, OnSome, OnErr, MatchOption, is_some, slice_get, nat_le, ◌==◌, ◌||◌};
-ghost use Rattle.mono_model.specs.Ticks.{up, down};
+ghost use Rattle.std.specs.Prelude.{◌≡◌, ◌<◌, ◌≤◌, ◌+◌, ◌-◌, ◌^◌, ℕ, max, Option, None, Some, IfOk, IfNone, IfSome, OnSome, nat_le, ◌==◌, ◌||◌};
+ghost use Rattle.mono_model.specs.Ticks.{up};
 ghost use Rattle.mono_model.specs.Table.{value_at, count_of, is_full};
-ghost use Rattle.mono_wheel.specs.Model.{timed_at, is_reserved};
 ghost use Rattle.mono_time.specs.Representation.{Holds};
 ghost use Rattle.mono_model.specs.SleepAnswers.{poll_of};
 

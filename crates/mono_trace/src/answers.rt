@@ -1,10 +1,9 @@
 // With which report the machine may take an event.
-ghost use Rattle.std.specs.Prelude.{◌≡◌, ◌<◌, ◌+◌, ◌^◌, length, List, ℕ, IfOk, OnOk, IfSome, IfNone};
+ghost use Rattle.std.specs.Prelude.{◌≡◌, ◌<◌, ◌+◌, ◌^◌, length, List, IfOk, OnOk, IfSome};
 ghost use Rattle.mono_machine.specs.Turns.{replies_of, after_steps, turn_report};
 ghost use Rattle.mono_machine.specs.Steps.{remote_report};
 ghost use Rattle.mono_machine.specs.Acts.{act_outcome};
 ghost use Rattle.mono_trace.specs.Verdicts.{MayAnswer};
-ghost use Rattle.mono_trace.specs.Versions.{changed};
 ghost use Rattle.mono_machine.specs.declared.events.Event.TheVariants as event;
 
 use crate::parts::Parts;

@@ -1,6 +1,6 @@
 // Sleeps, with changes that can be taken back.
-ghost use Rattle.std.specs.Prelude.{◌≡◌, ◌<◌, ◌≤◌, ◌+◌, ◌-◌, ◌^◌, OnOk, IfOk, is_some, true, None, MatchBool};
-ghost use Rattle.mono_model.specs.Ticks.{up, down};
+ghost use Rattle.std.specs.Prelude.{◌≡◌, ◌<◌, ◌+◌, ◌-◌, ◌^◌, OnOk, IfOk, is_some, true, None, MatchBool};
+ghost use Rattle.mono_model.specs.Ticks.{up};
 ghost use Rattle.mono_model.specs.Table.{value_at, next_number, is_full};
 ghost use Rattle.mono_model.specs.Sleeps as model;
 ghost use Rattle.mono_model.specs.SleepActs as sleep;

@@ -1,6 +1,6 @@
 // The reader of report lines.
 ghost use Rattle.std.specs.Prelude.{◌≡◌, [], None, length};
-ghost use Rattle.mono_text.specs.Parser.{Gives, GivesIf, number_at};
+ghost use Rattle.mono_text.specs.Parser.{Gives, GivesIf};
 ghost use Rattle.mono_trace_lines.specs.Parser.{any_number_at, refusal_at, n_reply_at, e_reply_at, r_reply_at, other_reply_at, reply_at, ended_at, replies_at, numbers_at, report_at};
 
 use mono_machine::{Ended, List, Refusal, Reply, Report, Woke};

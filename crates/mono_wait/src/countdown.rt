@@ -1,5 +1,4 @@
 // A future by hand.
-ghost use Rattle.std.specs.Prelude.{◌≡◌};
 ghost use Rattle.mono_wait.specs.Countdowns.{CountdownPolls, CountdownCancels, counts};
 
 use crate::waits::{WaitContext, Waits};

@@ -1,5 +1,5 @@
 //! The cascade: registers the keys of a slot that was reached at their true ticks.
-ghost use Rattle.std.specs.Prelude.{◌≡◌, ℕ, ◌+◌, ◌<◌, length};
+ghost use Rattle.std.specs.Prelude.{◌≡◌, ◌+◌, ◌<◌, length};
 ghost use Rattle.mono_wheel.specs.Lists.{IsLoose, list_at};
 ghost use Rattle.mono_wheel.specs.Holdings.{Held, Registered, Cascading, Cascaded};
 ghost use Rattle.mono_wheel.specs.Start.{taken_list};

@@ -1,5 +1,5 @@
 //! Slots by numbers: the list of a tick's slot, and the slot's start.
-ghost use Rattle.std.specs.Prelude.{◌≡◌, ℕ, ◌+◌, ◌<◌, ◌≤◌, ◌^◌};
+ghost use Rattle.std.specs.Prelude.{◌≡◌, ◌+◌, ◌<◌, ◌^◌};
 ghost use Rattle.mono_wheel.specs.Start.{next_turn, slot_of, start, level_count, top_level};
 ghost use Rattle.mono_wheel.specs.Holdings.{place_of, place_in};
 

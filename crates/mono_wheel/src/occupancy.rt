@@ -1,5 +1,5 @@
 //! A bit for each slot of a wheel, which says whether its list has a node.
-ghost use Rattle.std.specs.Prelude.{◌≡◌, ℕ, ◌*◌, ◌+◌, ◌<◌};
+ghost use Rattle.std.specs.Prelude.{◌≡◌, ℕ, ◌+◌, ◌<◌};
 ghost use Rattle.mono_wheel.specs.Bits.{occupied_bit, KeepsOthers, IsFirstAfter};
 ghost use Rattle.mono_wheel.specs.Start.{level_count, slot_count};
 

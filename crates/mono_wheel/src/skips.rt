@@ -1,5 +1,5 @@
 //! The tick that the clock reaches once it is at a slot.
-ghost use Rattle.std.specs.Prelude.{◌≡◌, ℕ, ◌+◌, ◌/◌, ◌<◌, ◌≤◌};
+ghost use Rattle.std.specs.Prelude.{◌≡◌, ◌+◌, ◌/◌, ◌<◌, ◌≤◌};
 ghost use Rattle.mono_wheel.specs.Start.{slot_count};
 ghost use Rattle.mono_wheel.specs.Credit.{takes};
 ghost use Rattle.mono_wheel.specs.Holdings.{Cascading};

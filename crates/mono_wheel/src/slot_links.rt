@@ -1,5 +1,5 @@
 //! The lists of a wheel, and the slots that have a node.
-ghost use Rattle.std.specs.Prelude.{◌≡◌, ◌≢◌, ℕ, ◌+◌, ◌<◌, ◌≤◌, true, false, [], ◌∷◌, ◌++◌, List, replicate, IfOk, OnOk, OnErr, IfSome, is_some, if◌then◌else◌, length};
+ghost use Rattle.std.specs.Prelude.{◌≡◌, ℕ, ◌+◌, ◌<◌, ◌≤◌, true, false, [], ◌∷◌, ◌++◌, List, replicate, IfOk, OnOk, OnErr, IfSome, is_some, if◌then◌else◌, length};
 ghost use Rattle.mono_wheel.specs.Rings.{Distinct};
 ghost use Rattle.mono_wheel.specs.Lists.{list_at, IsIn, IsLoose, is_node, entry_at, no_entry, with_list, with_entry, without, IsLast, PoppedBack, Added, Freed};
 ghost use Rattle.mono_wheel.specs.Holdings.{IsFirstOccupied, timed_in};

@@ -1,5 +1,4 @@
 // Chains by forms as main tasks, on a driver that never waits.
-ghost use Rattle.std.specs.Prelude.{◌≡◌};
 
 use mono_blocking::{BlockingHandle, BlockingStrategy, Job, NoPool, Outcome};
 use mono_forms::{FutureExt, Loop, pending, race, ready, repeat, yield_now};

@@ -1,5 +1,5 @@
 // Streams over a small context that notes each poll and each cancel.
-ghost use Rattle.std.specs.Prelude.{◌≡◌, ⊤, false};
+ghost use Rattle.std.specs.Prelude.{⊤, false};
 ghost use Rattle.std.specs.Option.{OnSome};
 
 use crate::boards::{Board, Step, empty_board, told};

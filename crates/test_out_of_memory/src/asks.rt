@@ -1,5 +1,4 @@
 // Calls of a running task, each repeated after it ran out of memory.
-ghost use Rattle.std.specs.Prelude.{◌≡◌};
 
 use crate::grows::Called;
 use mono_model::Host;

@@ -1,5 +1,5 @@
 // Futures made of lists of futures.
-ghost use Rattle.std.specs.Prelude.{◌≡◌, ◌≤◌, ◌<◌, ⊤, false, vec_len, IfSome};
+ghost use Rattle.std.specs.Prelude.{◌≤◌, ◌<◌, ⊤, false, vec_len, IfSome};
 
 use crate::contexts::Own;
 use crate::grows::{Called, Grows, refused_where};

@@ -1,5 +1,5 @@
 // The shared value of the tasks.
-ghost use Rattle.std.specs.Prelude.{◌≡◌, refl};
+ghost use Rattle.std.specs.Prelude.{refl};
 ghost use Rattle.mono_sync.specs.MpscRuns as channel;
 ghost use Rattle.mono_sync.specs.SemaphoreRuns as semaphore;
 

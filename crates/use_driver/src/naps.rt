@@ -1,5 +1,5 @@
 // A future that sleeps once, and a run of it.
-ghost use Rattle.std.specs.Prelude.{◌≡◌, ◌≤◌, ⊤, false, IfOk};
+ghost use Rattle.std.specs.Prelude.{◌≡◌, ⊤, false, IfOk};
 ghost use Rattle.mono_machine.specs.Machine.{Machine, start_machine};
 ghost use Rattle.mono_machine.specs.Steps.{Run};
 ghost use Rattle.mono_machine.specs.declared.events.Blocking.TheVariants.{Panic};

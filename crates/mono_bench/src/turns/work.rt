@@ -1,5 +1,5 @@
 // The tasks of the workload, a turn at a time.
-ghost use Rattle.std.specs.Prelude.{◌≡◌, ⊤, false};
+ghost use Rattle.std.specs.Prelude.{⊤, false};
 ghost use Rattle.mono_rt.specs.Reaches.{Reaches};
 
 use crate::turns::Idle;

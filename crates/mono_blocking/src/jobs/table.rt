@@ -1,5 +1,5 @@
 // Jobs whose handles are kept, with the joiners of those that run and the outputs of those that have ended.
-ghost use Rattle.std.specs.Prelude.{◌≡◌, IfOk, OnOk, is_some, true, false, None, Ok, Err, Some, []};
+ghost use Rattle.std.specs.Prelude.{◌≡◌, IfOk, OnOk, is_some, true, None, Ok, Err, Some};
 ghost use Rattle.mono_model.specs.Table.{value_at, next_number, is_full};
 ghost use Rattle.mono_model.specs.Jobs.{no_jobs, running, ended_ok, taken};
 ghost use Rattle.mono_joinword.specs.Ends.{joiner_view};

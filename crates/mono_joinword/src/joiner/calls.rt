@@ -1,5 +1,5 @@
 // The calls of a joiner.
-ghost use Rattle.std.specs.Prelude.{◌≡◌, ℕ, false, IfSome};
+ghost use Rattle.std.specs.Prelude.{◌≡◌, false, IfSome};
 ghost use Rattle.mono_model.specs.Poll.{OnPending, IfReady};
 ghost use Rattle.mono_joinword.specs.Views.{HasNumber};
 ghost use Rattle.mono_joinword.specs.Calls.{Polled, Waits, Took, Peeked, Cancels};

@@ -1,5 +1,5 @@
 // Steps of the joiner on its seat.
-ghost use Rattle.std.specs.Prelude.{◌≡◌, ◌↔◌, ℕ, true, false, IsTrue, [], ◌∷◌, Some, None};
+ghost use Rattle.std.specs.Prelude.{◌≡◌, ◌↔◌, true, false, IsTrue, [], ◌∷◌, Some, None};
 ghost use Rattle.atomic_table.specs.Table.{rest};
 ghost use Rattle.mono_model.specs.Poll.{OnPending};
 ghost use Rattle.mono_joinword.specs.declared.views.Kept.TheVariants.{Output, Waker};

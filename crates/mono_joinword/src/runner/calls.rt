@@ -1,5 +1,5 @@
 // The completing step.
-ghost use Rattle.std.specs.Prelude.{◌≡◌, ◌≢◌, ℕ, IsTrue, ◌↔◌, IfOk, MatchOption};
+ghost use Rattle.std.specs.Prelude.{◌≡◌, ◌≢◌, IsTrue, ◌↔◌, IfOk, MatchOption};
 ghost use Rattle.mono_joinword.specs.Views.{is_canceled};
 ghost use Rattle.mono_joinword.specs.Ends.{runner_view, seat_view, found_at, woke_at, IsCompleted, RunnerLeft};
 

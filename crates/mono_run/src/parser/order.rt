@@ -1,6 +1,6 @@
 // Whether a body line may follow those before it.
 ghost use Rattle.std.specs.Prelude.{◌≡◌, ◌<◌, false, IsTrue, if◌then◌else◌};
-ghost use Rattle.mono_run.specs.Script.{MayStand, HasTask, HasJob, count_in, makes_task, makes_job, ends_task, ends_job};
+ghost use Rattle.mono_run.specs.Script.{MayStand, HasTask, HasJob, makes_task, makes_job, ends_task, ends_job};
 ghost use Rattle.mono_run.specs.Parser.{Fits};
 
 use crate::scripts::BodyLine;

@@ -1,5 +1,5 @@
 // A whole script.
-ghost use Rattle.std.specs.Prelude.{◌≡◌, IfOk};
+ghost use Rattle.std.specs.Prelude.{IfOk};
 ghost use Rattle.mono_run.specs.Fronts.{IsRead};
 
 use crate::parser::fronts::Front;

@@ -7,20 +7,20 @@ use Rattle.mono_table.proofs.parts.Part.set.Goals as goal
 pub index_mut-requires : goal.index_mut-requires
 index_mut-requires g c =
     let some = ap (λ table. is_some (value_at table c.args.number)) c.self.view_is ∙ c.requires in
-    omega (arith, at_child 256 (omega arith) c.self.inside.pages.items c.self.inside.pages.cap c.self.inside.len c.self.inside.live c.self.invariant c.args.number some)
+    omega (arith, at_child 64 (omega arith) c.self.inside.pages.items c.self.inside.pages.cap c.self.inside.len c.self.inside.live c.self.invariant c.args.number some)
 
 pub set-requires : goal.set-requires
 set-requires g c =
     let some = ap (λ table. is_some (value_at table c.args.number)) c.self.view_is ∙ c.requires in
-    read_value 256 (omega arith) c.self.inside.pages.items c.self.inside.pages.cap c.self.inside.len c.self.inside.live c.self.invariant c.args.number some c.index_mut.result.now c.index_mut.ensures.value
+    read_value 64 (omega arith) c.self.inside.pages.items c.self.inside.pages.cap c.self.inside.len c.self.inside.live c.self.invariant c.args.number some c.index_mut.result.now c.index_mut.ensures.value
 
 pub invariant_of-self : goal.invariant_of-self
 invariant_of-self g c =
     let some = ap (λ table. is_some (value_at table c.args.number)) c.self.view_is ∙ c.requires in
-    (sets 256 (omega arith) c.self.inside.pages.items c.self.inside.pages.cap c.self.inside.len c.self.inside.live c.self.invariant c.args.number some c.index_mut.result.now c.index_mut.ensures.value c.args.value c.set.new.self c.set.ensures).0
+    (sets 64 (omega arith) c.self.inside.pages.items c.self.inside.pages.cap c.self.inside.len c.self.inside.live c.self.invariant c.args.number some c.index_mut.result.now c.index_mut.ensures.value c.args.value c.set.new.self c.set.ensures).0
 
 pub returns : goal.returns
 returns g c =
     let some = ap (λ table. is_some (value_at table c.args.number)) c.self.view_is ∙ c.requires in
-    (sets 256 (omega arith) c.self.inside.pages.items c.self.inside.pages.cap c.self.inside.len c.self.inside.live c.self.invariant c.args.number some c.index_mut.result.now c.index_mut.ensures.value c.args.value c.set.new.self c.set.ensures).1
+    (sets 64 (omega arith) c.self.inside.pages.items c.self.inside.pages.cap c.self.inside.len c.self.inside.live c.self.invariant c.args.number some c.index_mut.result.now c.index_mut.ensures.value c.args.value c.set.new.self c.set.ensures).1
     ∙ ap (λ table. with_value table c.args.number c.args.value) c.self.view_is
