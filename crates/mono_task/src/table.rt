@@ -148,6 +148,14 @@ impl<O: Drop> Tasks<O> {
         }
     }
 
+    /// Returns whether a spawn is refused with `AtCapacity`: the number of live tasks is at the limit, or the next
+    /// number is 2^64 - 1.
+    pub fn has_no_place(&self) -> bool
+        ensures { result ≡ is_full self.now.tasks.table self.now.tasks.limit }
+    {
+        self.entries.count() >= self.limit || self.entries.len() == u64::MAX
+    }
+
     /// Wakes a task. An idle task goes to the queue's back (`Queued`), a running task runs again after its turn
     /// (`Noted`), and any other stays as it is (`Nothing`).
     ///
