@@ -1,5 +1,5 @@
 -- Definitions for a stream's answers.
-use Rattle.std.specs.Prelude.{⊤, Option, Some, None}
+use Rattle.std.specs.Prelude.{⊤, Bool, true, false, Option, Some, None}
 use Rattle.mono_model.specs.declared.poll.Poll.{Poll}
 use Rattle.mono_stream.specs.declared.for_each.Stop.{Stop}
 use Rattle.mono_stream.specs.declared.for_each.Stop.TheVariants.{Ended, Waits, Many}
@@ -16,3 +16,9 @@ abbrev pub UnlessStopped : Stop → Type 0 → Type 0
 UnlessStopped Ended P = ⊤
 UnlessStopped Waits P = P
 UnlessStopped Many P = P
+
+-- Whether this answer is the stream's end.
+abbrev pub is_last : {X : Type 0} → Poll (Option X) → Bool
+is_last (Ready (Some x)) = false
+is_last (Ready None) = true
+is_last Pending = false

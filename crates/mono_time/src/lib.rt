@@ -16,6 +16,7 @@ mod missed_ticks;
 mod nap_timeouts;
 mod naps;
 mod sleeps;
+mod ticks;
 mod timeouts;
 mod timers;
 
@@ -30,5 +31,6 @@ pub use mono_model::{Error, SleepError};
 pub use nap_timeouts::{TimeoutFor, timeout_for};
 pub use naps::{SleepFor, sleep_for};
 pub use sleeps::Sleep;
+pub use ticks::Tick;
 pub use timeouts::{Timeout, TimeoutRefused};
 pub use timers::Timers;
