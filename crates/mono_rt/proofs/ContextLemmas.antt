@@ -5,7 +5,7 @@ use Rattle.mono_model.specs.Jobs.{Jobs}
 use Rattle.mono_model.specs.Table.{next_number}
 use Rattle.mono_model.specs.Tasks.{Tasks, spawned}
 use Rattle.mono_model.specs.declared.poll.Poll.{Poll}
-use Rattle.mono_task.specs.Spawns.{Spawns, IsFullIfRefused, NotesMemory, refused_future}
+use Rattle.mono_task.specs.Spawns.{Spawns, IsRefusedIfFull, NotesMemory, refused_future}
 use Rattle.mono_task.specs.Work.{without_outputs}
 use Rattle.mono_task.specs.declared.error.SpawnRefused.{SpawnRefused}
 use Rattle.mono_task.specs.declared.error.SpawnRefused.TheVariants as refused
@@ -28,9 +28,9 @@ use Rattle.mono_rt.specs.Spawns.{lacks_spawn}
 use Rattle.mono_rt.specs.declared.parts.state.Parts.{Parts}
 
 module _ {O F : Type 0} where
-  pub spawns : (old new : Tasks O) (future : F) (answer : Result ℕ (SpawnRefused F)) → IfOk answer (λ t. t ≡ next_number old.table) → OnOk answer (new ≡ spawned old) → OnErr answer (new ≡ old) → IfErr answer (λ e. refused_future e ≡ future) → IsFullIfRefused old answer → Spawns old future answer new
-  spawns old new future (Ok t) number made none back full = (number, made)
-  spawns old new future (Err (refused.Memory f)) number made none back full = (back, none)
+  pub spawns : (old new : Tasks O) (future : F) (answer : Result ℕ (SpawnRefused F)) → IfOk answer (λ t. t ≡ next_number old.table) → OnOk answer (new ≡ spawned old) → OnErr answer (new ≡ old) → IfErr answer (λ e. refused_future e ≡ future) → IsRefusedIfFull old answer → Spawns old future answer new
+  spawns old new future (Ok t) number made none back full = (number, full, made)
+  spawns old new future (Err (refused.Memory f)) number made none back full = (back, full, none)
   spawns old new future (Err (refused.AtCapacity f)) number made none back full = (back, full, none)
 
 module _ {F : Type 0} where

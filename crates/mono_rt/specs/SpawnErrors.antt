@@ -1,5 +1,5 @@
 -- The meaning of each error for a main task that was not made.
-use Rattle.std.specs.Prelude.{⊤}
+use Rattle.std.specs.Prelude.{⊤, ◌≡◌, Bool, true, false, Result, Ok, Err}
 use Rattle.mono_rt.specs.declared.parts.errors.RunError.{RunError}
 use Rattle.mono_rt.specs.declared.parts.errors.RunError.TheVariants.{Memory, AtCapacity, Driver, Turns}
 
@@ -16,3 +16,11 @@ OnMemory Memory P = P
 OnMemory AtCapacity P = ⊤
 OnMemory Driver P = ⊤
 OnMemory Turns P = ⊤
+
+-- The answer is AtCapacity only if there is no place for a task; any other one but Memory only if there is one.
+abbrev pub HasPlace : {A : Type 0} → Result A RunError → Bool → Type 0
+HasPlace (Ok x) is_full = is_full ≡ false
+HasPlace (Err AtCapacity) is_full = is_full ≡ true
+HasPlace (Err Memory) is_full = ⊤
+HasPlace (Err Driver) is_full = is_full ≡ false
+HasPlace (Err Turns) is_full = is_full ≡ false

@@ -4,7 +4,8 @@ ghost use Rattle.mono_task.specs.Work.{GivesOutput};
 ghost use Rattle.mono_rt.specs.Numbering.{answer_numbered};
 ghost use Rattle.mono_rt.specs.Journals.{Goes, Does, Stays};
 ghost use Rattle.mono_rt.specs.Rounds.{WaitEnds, PauseEnds, Round, RoundBreaks, PassEnds, Ends, IsSpawn, IsRefused, Blocked, cost};
-ghost use Rattle.mono_rt.specs.SpawnErrors.{OnCapacity, OnMemory};
+ghost use Rattle.mono_rt.specs.SpawnErrors.{OnCapacity, OnMemory, HasPlace};
+ghost use Rattle.mono_model.specs.Table.{is_full};
 ghost use Rattle.mono_rt.specs.Faults.{FaultsBy, FaultsParked};
 ghost use Rattle.mono_rt.specs.FuturePolls.{Polling, PollsMain, OnMain};
 ghost use Rattle.mono_rt.specs.JournalRoom.{Fills};
@@ -74,6 +75,7 @@ impl<F: Drop, O: Outcome + Drop, D: Driver, P: ThreadPool + Drop, W: SharedState
         ensures shared { self.new.cx.shared ≡ self.old.cx.shared }
         ensures faults { FaultsBy result (D.faults self.old.driver) (D.faults self.new.driver) }
         ensures told { TellingSo result (telling (D.readings self.old.driver) (D.time self.old.driver) (D.parks self.old.driver) (D.submits self.old.driver) (D.faults self.old.driver) (D.can_fail self.old.driver)) self.old.journal self.new.journal (telling (D.readings self.new.driver) (D.time self.new.driver) (D.parks self.new.driver) (D.submits self.new.driver) (D.faults self.new.driver) (D.can_fail self.new.driver)) }
+        ensures placed { HasPlace result false }
         ensures full { self.new.journal.is_full ≡ self.old.journal.is_full }
         ensures held { self.new.journal.entries.held ≡ self.old.journal.entries.held }
     {
@@ -99,6 +101,7 @@ impl<F: Drop, O: Outcome + Drop, D: Driver, P: ThreadPool + Drop, W: SharedState
         ensures goes { Goes O.output_number self.old.cx.parts self.new.cx.parts self.old.journal self.new.journal }
         ensures spawned { IfOk result (λ t. Does O.output_number (IsSpawn t) self.old.cx.parts self.new.cx.parts self.old.journal self.new.journal) }
         ensures refused { IfErr result (λ error. OnCapacity error (Does O.output_number IsRefused self.old.cx.parts self.new.cx.parts self.old.journal self.new.journal)) }
+        ensures place { HasPlace result (is_full self.old.cx.parts.tasks.tasks.table self.old.cx.parts.tasks.tasks.limit) }
         ensures has_timers { self.new.cx.parts.has_timers ≡ self.old.cx.parts.has_timers }
         ensures turn { self.new.cx.parts.tasks.turn ≡ self.old.cx.parts.tasks.turn }
         ensures shared { self.new.cx.shared ≡ self.old.cx.shared }
@@ -110,6 +113,9 @@ impl<F: Drop, O: Outcome + Drop, D: Driver, P: ThreadPool + Drop, W: SharedState
         ensures held { IfOk result (λ t. self.new.journal.entries.held ≡ self.old.journal.entries.held + 1) }
         ensures unheld { OnErr result (self.new.journal.entries.held ≡ self.old.journal.entries.held) }
     {
+        if self.cx.parts.tasks.has_no_place() {
+            return Err(self.cx.parts.refuse_main(&mut self.journal));
+        }
         match self.cx.futures.reserve_value(alloc, future) {
             Err(_future) => Err(RunError::Memory),
             Ok(()) => match self.cx.parts.start_main(alloc, &mut self.journal) {
@@ -177,6 +183,7 @@ where
         ensures polled { OnMain result (Does O.output_number (Polling O.output_number W.leads F.TaskFuture self.old.cx.parts.has_timers self.old.cx.futures.items self.new.cx.futures.items) self.old.cx.parts self.new.cx.parts self.old.journal self.new.journal) }
         ensures faults { FaultsBy result (D.faults self.old.driver) (D.faults self.new.driver) }
         ensures told { TellingSo result (telling (D.readings self.old.driver) (D.time self.old.driver) (D.parks self.old.driver) (D.submits self.old.driver) (D.faults self.old.driver) (D.can_fail self.old.driver)) self.old.journal self.new.journal (telling (D.readings self.new.driver) (D.time self.new.driver) (D.parks self.new.driver) (D.submits self.new.driver) (D.faults self.new.driver) (D.can_fail self.new.driver)) }
+        ensures placed { HasPlace result false }
         ensures full { Fills O.output_number W.leads F.TaskFuture self.old.cx self.old.journal self.new.journal }
         ensures held { self.new.journal.entries.held ≡ self.old.journal.entries.held }
     {
@@ -205,6 +212,7 @@ where
         ensures polled { OnMain result (Does O.output_number (Polling O.output_number W.leads F.TaskFuture self.old.cx.parts.has_timers self.old.cx.futures.items self.new.cx.futures.items) self.old.cx.parts self.new.cx.parts self.old.journal self.new.journal) }
         ensures faults { FaultsBy result (D.faults self.old.driver) (D.faults self.new.driver) }
         ensures told { TellingSo result (telling (D.readings self.old.driver) (D.time self.old.driver) (D.parks self.old.driver) (D.submits self.old.driver) (D.faults self.old.driver) (D.can_fail self.old.driver)) self.old.journal self.new.journal (telling (D.readings self.new.driver) (D.time self.new.driver) (D.parks self.new.driver) (D.submits self.new.driver) (D.faults self.new.driver) (D.can_fail self.new.driver)) }
+        ensures placed { HasPlace result false }
         ensures full { Fills O.output_number W.leads F.TaskFuture self.old.cx self.old.journal self.new.journal }
         ensures held { self.new.journal.entries.held ≡ self.old.journal.entries.held }
     {
@@ -234,6 +242,9 @@ where
     /// task was made. Then rounds and pauses within the budget follow, up to the call that ran out of memory, and the
     /// drop of the main task's handle. That drop takes no memory, since its room is reserved before the main task.
     ///
+    /// The answer is AtCapacity if the number of live tasks is at the limit or the next number is 2^64 - 1; then memory is
+    /// asked for only for the journal's entry. Otherwise it is not AtCapacity (`place`).
+    ///
     /// The driver gets one `submit` before each drain that follows no park, and no other. It is parked and read as the
     /// history says, and after a call of it that failed it gets no further one but a reading (`told`).
     ///
@@ -258,6 +269,7 @@ where
         requires callable { (f : F) → F.can_poll f }
         requires rests { self.old.cx.parts.tasks.turn ≡ None }
         ensures blocked { Does O.output_number (Blocked self.old.cx.parts.has_timers turns (answer_numbered O.output_number result)) self.old.cx.parts self.new.cx.parts self.old.journal self.new.journal }
+        ensures place { HasPlace result (is_full self.old.cx.parts.tasks.tasks.table self.old.cx.parts.tasks.tasks.limit) }
         ensures shared { W.leads self.old.cx.shared self.new.cx.shared }
         ensures rests { self.new.cx.parts.tasks.turn ≡ None }
         ensures polled { OnMain result (Does O.output_number (PollsMain O.output_number W.leads F.TaskFuture self.old.cx.parts.has_timers future self.old.cx.futures.items self.new.cx.futures.items) self.old.cx.parts self.new.cx.parts self.old.journal self.new.journal) }

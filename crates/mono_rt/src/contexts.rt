@@ -7,7 +7,7 @@ ghost use Rattle.mono_model.specs.Joins.{wake_answer, join_answer, joined, drop_
 ghost use Rattle.mono_model.specs.SleepAnswers.{without_waker, waker_in};
 ghost use Rattle.mono_model.specs.declared.error.SleepError.TheVariants.{Memory};
 ghost use Rattle.mono_task.specs.Schedule as schedule;
-ghost use Rattle.mono_task.specs.Spawns.{refused_future, IsFullIfRefused};
+ghost use Rattle.mono_task.specs.Spawns.{refused_future, IsRefusedIfFull};
 ghost use Rattle.mono_task.specs.Work.{without_outputs};
 ghost use Rattle.mono_time.specs.Instants.{nanos_of};
 ghost use Rattle.mono_time.specs.Sleeps.{Added, sleep_poll_answer, with_polled_sleep, sleep_reset_answer, with_reset_sleep, sleep_remove_answer, with_removed_sleep};
@@ -50,6 +50,9 @@ impl<F: Drop, O: Outcome + Drop, P: ThreadPool + Drop, U: Unpark, W: SharedState
 > {
     /// Makes a task of this future, queues it last, and stores the future under the task's number.
     ///
+    /// Refused with `AtCapacity` if and only if the number of live tasks is at the limit or the next number is 2^64 - 1
+    /// (`full`); otherwise with `Memory` if an allocation failed. A refused future comes back (`back`).
+    ///
     /// The spawn, made or refused, is an act of the turn; an allocation that fails is none (`kept`).
     ///
     /// ```rust
@@ -70,10 +73,14 @@ impl<F: Drop, O: Outcome + Drop, P: ThreadPool + Drop, U: Unpark, W: SharedState
         ensures refused { OnErr result (self.new.parts.tasks ≡ self.old.parts.tasks) }
         ensures none { OnErr result (self.new.futures.items ≡ self.old.futures.items) }
         ensures back { IfErr result (λ refusal. refused_future refusal ≡ future) }
-        ensures full { IsFullIfRefused self.old.parts.tasks.tasks result }
+        ensures full { IsRefusedIfFull self.old.parts.tasks.tasks result }
         ensures kept { self.new.parts ≡ record self.old.parts { tasks = self.new.parts.tasks; acts = noted_spawn self.old.parts.acts result; is_out_of_memory = lacks_spawn self.old.parts.is_out_of_memory result } }
         ensures reached { ReachesSharing O.output_number W.leads self.old self.new }
     {
+        if self.parts.tasks.has_no_place() {
+            self.parts.refuse_spawn();
+            return Err(SpawnRefused::AtCapacity(future));
+        }
         if let Err(future) = self.futures.reserve_value(alloc, future) {
             self.parts.is_out_of_memory = true;
             return Err(SpawnRefused::Memory(future));

@@ -3,7 +3,7 @@ ghost use Rattle.std.specs.Prelude.{◌≡◌, ◌++◌, ◌∷◌, [], Some, If
 ghost use Rattle.mono_model.specs.Table.{next_number};
 ghost use Rattle.mono_model.specs.Tasks.{spawned};
 ghost use Rattle.mono_machine.specs.Machine.{Machine};
-ghost use Rattle.mono_task.specs.Spawns.{refused_future};
+ghost use Rattle.mono_task.specs.Spawns.{refused_future, IsRefusedIfFull};
 ghost use Rattle.mono_rt.specs.Spawns.{SpawnsTask};
 ghost use Rattle.mono_rt.specs.Refinement.{hosting_of, Matches};
 
@@ -26,8 +26,9 @@ impl<F: Drop, O: Outcome + Drop, D: Driver, P: ThreadPool + Drop, W: SharedState
     /// Makes a task of this future, and queues it last; it has its turns in calls of `block_on`. The future is stored
     /// under the task's number (`number`, `futures`).
     ///
-    /// For each machine that the context refined, the spawn is the machine's, with its reply (`machine`); so the
-    /// machine refuses it as at capacity, too. A refused future is handed back (`back`), and all tasks, sleeps and
+    /// Refused with `AtCapacity` if and only if the number of live tasks is at the limit or the next number is 2^64 - 1
+    /// (`full`); otherwise with `Memory` if an allocation failed. For each machine that the context refined, the spawn
+    /// is the machine's, with its reply (`machine`). A refused future is handed back (`back`), and all tasks, sleeps and
     /// futures are as before (`refused`). The journal keeps what `block_on` did, and does not record the spawn
     /// (`journal`).
     ///
@@ -43,12 +44,16 @@ impl<F: Drop, O: Outcome + Drop, D: Driver, P: ThreadPool + Drop, W: SharedState
         ensures futures { OnOk result (self.new.cx.futures.items ≡ self.old.cx.futures.items ++ Some future ∷ []) }
         ensures machine { (m : Machine) → Matches O.output_number hosting_of self.old.cx.parts m → SpawnsTask m result (Matches O.output_number hosting_of self.new.cx.parts) }
         ensures back { IfErr result (λ refusal. refused_future refusal ≡ future) }
+        ensures full { IsRefusedIfFull self.old.cx.parts.tasks.tasks result }
         ensures refused { OnErr result ((self.new.cx.parts ≡ self.old.cx.parts) × (self.new.cx.futures.items ≡ self.old.cx.futures.items)) }
         ensures has_timers { self.new.cx.parts.has_timers ≡ self.old.cx.parts.has_timers }
         ensures turn { self.new.cx.parts.tasks.turn ≡ self.old.cx.parts.tasks.turn }
         ensures shared { self.new.cx.shared ≡ self.old.cx.shared }
         ensures journal { self.new.journal ≡ self.old.journal }
     {
+        if self.cx.parts.tasks.has_no_place() {
+            return Err(SpawnRefused::AtCapacity(future));
+        }
         if let Err(future) = self.cx.futures.reserve_value(alloc, future) {
             return Err(SpawnRefused::Memory(future));
         }

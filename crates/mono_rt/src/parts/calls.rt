@@ -91,6 +91,18 @@ impl<O: Outcome + Drop, B: Drop> Parts<O, B> {
         answer
     }
 
+    /// Records a spawn that is refused for want of a place. It takes no memory.
+    pub fn refuse_spawn(&mut self)
+        requires { is_full self.old.tasks.tasks.table self.old.tasks.tasks.limit ≡ true }
+        ensures kept { self.new ≡ record self.old { acts = noted_task self.old.acts (Err AtCapacity) } }
+        ensures leads { (hosting : B → Hosting) → Leads O.output_number hosting self.old self.new }
+    {
+        self.acts.note(
+            TurnStep::Act(Act::Spawn),
+            Reply::Refused(Refusal::AtCapacity),
+        );
+    }
+
     /// Makes a task.
     pub fn spawn(&mut self, alloc: Global) -> Result<u64, SpawnTask>
         ensures number { IfOk result (λ t. t ≡ next_number self.old.tasks.tasks.table) }

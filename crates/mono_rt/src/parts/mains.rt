@@ -1,10 +1,11 @@
 // How a main task is made, and how its handle is dropped.
-ghost use Rattle.std.specs.Prelude.{◌≡◌, ◌<◌, ◌+◌, Some, Ok, IfOk, IfErr, OnErr};
+ghost use Rattle.std.specs.Prelude.{◌≡◌, ◌<◌, ◌+◌, true, Some, Ok, IfOk, IfErr, OnErr};
 ghost use Rattle.std.specs.Option.{option_map};
+ghost use Rattle.mono_model.specs.Table.{is_full};
 ghost use Rattle.mono_model.specs.Joins.{drop_answer};
 ghost use Rattle.mono_rt.specs.Journals.{Goes, Does, Stays};
 ghost use Rattle.mono_rt.specs.Rounds.{IsSpawn, IsRefused, DropsFor};
-ghost use Rattle.mono_rt.specs.SpawnErrors.{OnCapacity, OnMemory};
+ghost use Rattle.mono_rt.specs.SpawnErrors.{OnCapacity, OnMemory, HasPlace};
 ghost use Rattle.mono_rt.specs.DriverReadings.{Told, Course, going, Telling, Still};
 
 use crate::parts::calls::drop_reply_of;
@@ -23,6 +24,7 @@ impl<O: Outcome + Drop, P: ThreadPool + Drop> Parts<O, Blockings<P>> {
         ensures goes { Goes O.output_number self.old self.new journal.old journal.new }
         ensures spawned { IfOk result (λ t. Does O.output_number (IsSpawn t) self.old self.new journal.old journal.new) }
         ensures refused { IfErr result (λ error. OnCapacity error (Does O.output_number IsRefused self.old self.new journal.old journal.new)) }
+        ensures place { HasPlace result (is_full self.old.tasks.tasks.table self.old.tasks.tasks.limit) }
         ensures has_timers { self.new.has_timers ≡ self.old.has_timers }
         ensures turn { self.new.tasks.turn ≡ self.old.tasks.turn }
         ensures told { (told : Told) → Telling (Still going) told going journal.old journal.new told }
@@ -51,6 +53,28 @@ impl<O: Outcome + Drop, P: ThreadPool + Drop> Parts<O, Blockings<P>> {
                 Err(SpawnTask::Memory) => Err(RunError::Memory),
             },
         }
+    }
+
+    /// Records that the main task gets no place, and returns the error: `AtCapacity`, or `Memory` if the journal gets no
+    /// room for the entry.
+    pub fn refuse_main(&mut self, journal: &mut Journal) -> RunError
+        requires { is_full self.old.tasks.tasks.table self.old.tasks.tasks.limit ≡ true }
+        ensures same { self.new ≡ self.old }
+        ensures goes { Goes O.output_number self.old self.new journal.old journal.new }
+        ensures refused { OnCapacity result (Does O.output_number IsRefused self.old self.new journal.old journal.new) }
+        ensures unmade { OnMemory result (Does O.output_number Stays self.old self.new journal.old journal.new) }
+        ensures told { (told : Told) → Telling (Still going) told going journal.old journal.new told }
+        ensures full { journal.new.is_full ≡ journal.old.is_full }
+        ensures held { journal.new.entries.held ≡ journal.old.entries.held }
+    {
+        if journal.reserve(1).is_err() {
+            return RunError::Memory;
+        }
+        journal.push(Entry::Ran(
+            Event::Act(Act::Spawn),
+            Report::Reply(Reply::Refused(Refusal::AtCapacity)),
+        ));
+        RunError::AtCapacity
     }
 
     /// Drops the handle of the main task, and returns its output, whose number is in the journal. The entry takes the

@@ -120,3 +120,6 @@ returns-in-Err-answer-clause-faults g c = faults_after c.in-Err-answer.error _ _
 
 pub returns-in-Some-clause-faults : goal.returns-in-Some-clause-faults
 returns-in-Some-clause-faults g c = (rw c.in-Ok-answer.is at c.run-answer.ensures.faults) ∙ c.start_main.ensures.faults
+
+pub returns-in-Err-answer-clause-place : goal.returns-in-Err-answer-clause-place
+returns-in-Err-answer-clause-place g c = rw c.in-Ok.ensures.place c.in-Err-answer.ensures.placed

@@ -36,3 +36,6 @@ returns-in-Ok-start_main-clause-goes g c = c.start_main.ensures.goes
 
 pub returns-in-Ok-start_main-clause-told : goal.returns-in-Ok-start_main-clause-told
 returns-in-Ok-start_main-clause-told g c = c.start_main.ensures.told _
+
+pub returns-then-has_no_place-clause-told : goal.returns-then-has_no_place-clause-told
+returns-then-has_no_place-clause-told g c = c.refuse_main.ensures.told _

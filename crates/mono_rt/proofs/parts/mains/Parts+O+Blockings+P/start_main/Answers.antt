@@ -71,3 +71,9 @@ returns-in-Err-Memory-clause-goes g c = goes_nowhere g.O.Outcome.output_number c
 
 pub returns-in-Err-Memory-clause-told : goal.returns-in-Err-Memory-clause-told
 returns-in-Err-Memory-clause-told g c = λ told. tells_nothing refl refl c.reserve.ensures.history
+
+pub returns-in-Ok-spawn-clause-place : goal.returns-in-Ok-spawn-clause-place
+returns-in-Ok-spawn-clause-place g c = had_room c.spawn.result c.in-Ok-spawn.t _ c.in-Ok-spawn.is c.spawn.ensures.full.1
+
+pub returns-in-Err-AtCapacity-clause-place : goal.returns-in-Err-AtCapacity-clause-place
+returns-in-Err-AtCapacity-clause-place g c = c.spawn.ensures.full.0 (c.in-Err-AtCapacity.is ∙ ap failed c.in-Err-AtCapacity.field-0-is)
