@@ -6,6 +6,8 @@ use Rattle.mono_model.specs.Ticks.{up, max_nanos}
 use Rattle.mono_model.specs.Table.{value_at, next_number, is_full}
 use Rattle.mono_model.specs.Tasks.{Tasks, woken_if_any, spawned}
 use Rattle.mono_model.specs.Sleeps.{Sleeps, woken_by_arming}
+use Rattle.mono_rt.specs.Outputs.{KeepsOutputs}
+use Rattle.mono_rt.proofs.OutputLemmas.{keeps_spawned}
 use Rattle.mono_task.specs.Schedule.{Schedule}
 use Rattle.mono_task.specs.Schedule as schedule
 use Rattle.mono_task.specs.declared.error.SpawnTask.{SpawnTask}
@@ -94,13 +96,13 @@ module _ {O B : Type 0} (number : O → ℕ) (hosting : B → Hosting) where
       → acts ≡ noted c.acts step reply
       → ((m : Machine) → (step_outcome c.me step m).machine ≡ with_tasks m (f m.tasks))
       → ((m : Machine) → Matches number hosting c m → reply ≡ (step_outcome c.me step m).reply)
-      → s ≡ schedule.with_tasks c.tasks tasks → numbered number tasks ≡ f (numbered number c.tasks.tasks)
+      → s ≡ schedule.with_tasks c.tasks tasks → numbered number tasks ≡ f (numbered number c.tasks.tasks) → KeepsOutputs c.tasks.tasks tasks
       → Leads number hosting c (with_all c s c.timers acts)
-  by_tasks c step reply acts s tasks f is left answer after same =
+  by_tasks c step reply acts s tasks f is left answer after same outputs =
       by_act number hosting c (with_all c s c.timers acts) step reply is answer
       (λ m st. subst (Matches number hosting (with_all c s c.timers acts)) (sym (left m)) (other_tasks c (with_all c s c.timers acts) m (f m.tasks) st (ap (λ x. numbered number x.tasks) after ∙ same ∙ ap f st.tasks) refl refl refl))
       (λ m st. sleeps-stay c.timers c.timers m.sleeps _ (ap (λ x. x.sleeps) (left m)) (λ q. refl))
-      refl refl (ap (λ x. x.turn) after) (ap (λ x. x.turns) after) refl refl
+      refl refl (ap (λ x. x.turn) after) (ap (λ x. x.turns) after) refl refl (subst (λ x. KeepsOutputs c.tasks.tasks x.tasks) (sym after) outputs)
 
   -- a call on the sleeps alone
   pub by_sleeps : (c : Parts O B) (step : TurnStep) (reply : Reply) (acts : Record) (timers : Timers) (table : SleepTable) (f : Sleeps → Sleeps)
@@ -116,7 +118,7 @@ module _ {O B : Type 0} (number : O → ℕ) (hosting : B → Hosting) where
       by_act number hosting c (with_all c c.tasks timers acts) step reply is answer
       (λ m st. subst (Matches number hosting (with_all c c.tasks timers acts)) (sym (left m st)) (other_timers c (with_all c c.tasks timers acts) m (f m.sleeps) st refl (stands m.sleeps st.sleeps) (gone_on c.timers timers table st.has_gone after alike gone) (subst IsNoneArmedUpTo (sym after) (rests st.no_due)) (ap (λ x. x.is_enabled) after ∙ alike.is_enabled) refl refl))
       (λ m st. subst (λ x. FollowsAct c.timers timers m.sleeps x.sleeps) (sym (left m st)) (follows m st))
-      refl refl refl refl refl refl
+      refl refl refl refl refl refl (λ t x is. is)
 
   -- a call that was refused memory, or was not kept
   abbrev pub with_memory : Parts O B → Schedule O → Timers → Bool → Parts O B
@@ -150,7 +152,7 @@ module _ {O B : Type 0} (number : O → ℕ) (hosting : B → Hosting) where
       (λ m st. ap reply.Task (at ∙ sym (next_numbered number c.tasks.tasks) ∙ ap (λ x. next_number x.table) st.tasks) ∙ sym (ap (λ o. o.reply) (outcome m st)))
       (λ m st. subst (Matches number hosting d) (sym (ap (λ o. o.machine) (outcome m st))) (other_tasks c d m (spawned m.tasks) st (ap (λ x. numbered number x.tasks) after ∙ numbered-spawned number c.tasks.tasks ∙ ap spawned st.tasks) refl refl refl))
       (λ m st. sleeps-stay c.timers c.timers m.sleeps _ (ap (λ o. o.machine.sleeps) (outcome m st)) (λ q. refl))
-      refl refl (ap (λ x. x.turn) after) (ap (λ x. x.turns) after) refl refl
+      refl refl (ap (λ x. x.turn) after) (ap (λ x. x.turns) after) refl refl (subst (λ x. KeepsOutputs c.tasks.tasks x.tasks) (sym after) (keeps_spawned c.tasks.tasks))
 
   pub by_no_place : (c : Parts O B) (acts : Record) (s : Schedule O) → acts ≡ noted c.acts (step.Act act.Spawn) (reply.Refused refusal.AtCapacity)
       → is_full c.tasks.tasks.table c.tasks.tasks.limit ≡ true → s ≡ c.tasks → Leads number hosting c (with_all c s c.timers acts)
@@ -161,10 +163,11 @@ module _ {O B : Type 0} (number : O → ℕ) (hosting : B → Hosting) where
       (λ m st. sym (ap (λ o. o.reply) (outcome m st)))
       (λ m st. subst (Matches number hosting d) (sym (ap (λ o. o.machine) (outcome m st))) (same_machine c d m same refl refl refl st))
       (λ m st. sleeps-stay c.timers c.timers m.sleeps _ (ap (λ o. o.machine.sleeps) (outcome m st)) (λ q. refl))
-      refl refl (ap (λ x. x.turn) same) (ap (λ x. x.turns) same) refl refl
+      refl refl (ap (λ x. x.turn) same) (ap (λ x. x.turns) same) refl refl (subst (λ x. KeepsOutputs c.tasks.tasks x.tasks) (sym same) (λ q x at. at))
 
   pub by_refusal : (c : Parts O B) (s : Schedule O) → s ≡ c.tasks → Leads number hosting c (with_memory c s c.timers true)
   by_refusal c s is = by_nothing number hosting c (with_memory c s c.timers true) refl (λ m st. same_machine c (with_memory c s c.timers true) m is refl refl refl st) (λ q. refl) refl refl (ap (λ x. x.turn) is) (ap (λ x. x.turns) is) refl (λ h. refl)
+      (subst (λ x. KeepsOutputs c.tasks.tasks x.tasks) (sym is) (λ q x at. at))
 
   -- the table of sleeps refines the machine's sleeps as before
   pub by_no_sleep : (c : Parts O B) (timers : Timers) (is_out : Bool) → sleeps_of timers ≡ sleeps_of c.timers → elapsed_tick timers ≡ elapsed_tick c.timers → ((m : Sleeps) → StandsForSleeps c.timers m → StandsForSleeps timers m)
@@ -172,7 +175,7 @@ module _ {O B : Type 0} (number : O → ℕ) (hosting : B → Hosting) where
   by_no_sleep c timers is_out same gone stands stays memory =
       by_nothing number hosting c (with_memory c c.tasks timers is_out) refl
       (λ m st. record { tasks = st.tasks; sleeps = stands m.sleeps st.sleeps; has_gone = gone ∙ st.has_gone ∙ sym (ap (λ x. x.greatest) same); no_due = subst IsNoneArmedUpTo (sym same) st.no_due; enabled = ap (λ x. x.is_enabled) same ∙ st.enabled; inbox = st.inbox; jobs = st.jobs; strategy = st.strategy })
-      stays refl refl refl refl refl memory
+      stays refl refl refl refl refl memory (λ t x is. is)
 
   -- a reset that found a live sleep
   module _ (m : Machine) (s now : ℕ) (waker : Option ℕ) where

@@ -79,12 +79,12 @@ module _ {O P : Type 0} (number : O → ℕ) where
       (λ m st. sym (ap (λ o. o.reply) (outcome m st)))
       (λ m st. subst (Matches number hosting_of (with_blocking c b acts c.is_out_of_memory)) (sym (ap (λ o. o.machine) (outcome m st))) (other_jobs c b acts c.is_out_of_memory m b.table.jobs st refl pool))
       (λ m st. sleeps-stay c.timers c.timers m.sleeps _ (ap (λ o. o.machine.sleeps) (outcome m st)) (λ q. refl))
-      refl refl refl refl refl refl
+      refl refl refl refl refl refl (λ t x is. is)
 
   -- a call that is no act
   pub by_no_job : (c : Parts O (Seen P)) (b : Seen P) (lacks : Bool) → b.table.jobs ≡ c.blocking.table.jobs → strategy_of b.pool ≡ strategy_of c.blocking.pool → (c.is_out_of_memory ≡ true → lacks ≡ true)
       → Leads number hosting_of c (with_blocking c b c.acts lacks)
-  by_no_job c b lacks is pool memory = by_nothing number hosting_of c (with_blocking c b c.acts lacks) refl (λ m st. still c b c.acts lacks m st is pool) (λ q. refl) refl refl refl refl refl memory
+  by_no_job c b lacks is pool memory = by_nothing number hosting_of c (with_blocking c b c.acts lacks) refl (λ m st. still c b c.acts lacks m st is pool) (λ q. refl) refl refl refl refl refl memory (λ t x is. is)
 
   -- the jobs after an end that was seen
   abbrev after_seen : Parts O (Seen P) → ℕ → Option End → Parts O (Seen P)

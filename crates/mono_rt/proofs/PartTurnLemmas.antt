@@ -27,7 +27,7 @@ use Rattle.mono_rt.proofs.CallLemmas.{other_tasks}
 
 -- how a turn ends, by the task that runs
 module _ {O : Type 0} where
-  after_poll : (s : Schedule O) (me : ℕ) (answer : Poll O) → s.turn ≡ Some me → schedule.after_end s answer ≡ schedule.ended_by (Some me) s answer
+  pub after_poll : (s : Schedule O) (me : ℕ) (answer : Poll O) → s.turn ≡ Some me → schedule.after_end s answer ≡ schedule.ended_by (Some me) s answer
   after_poll s me answer turn = ap (λ x. schedule.ended_by x s answer) turn
 
   told_poll : (s : Schedule O) (me : ℕ) (answer : Poll O) → s.turn ≡ Some me → schedule.end_answer s answer ≡ schedule.end_by (Some me) s answer

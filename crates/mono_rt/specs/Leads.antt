@@ -11,12 +11,13 @@ use Rattle.mono_machine.specs.Turns.{replies_of, after_steps}
 use Rattle.mono_machine.specs.declared.events.TurnStep.{TurnStep}
 use Rattle.mono_time.specs.Timers.{registered_of}
 use Rattle.mono_time.specs.Registrations.{registered_by_steps, registered_by_act, FollowsAct}
+use Rattle.mono_rt.specs.Outputs.{KeepsOutputs}
 use Rattle.mono_rt.specs.Refinement.{Hosting, Matches}
 use Rattle.mono_rt.specs.declared.parts.state.Parts.{Parts}
 
 -- A list of acts leads each machine that the parts refined to one that they refine. The record of the turn grew by
 -- these acts and by the machine's replies to them. It becomes full if and only if these and those before are more than
--- it has room for, and it stays full. The registered ticks of the sleeps follow the acts.
+-- it has room for, and it stays full. The registered ticks of the sleeps follow the acts. No task got an output.
 pub record Leads {O B : Type 0} (number : O → ℕ) (hosting : B → Hosting) (c d : Parts O B) : Type 0 where
   pub steps : List TurnStep
   pub leads : (m : Machine) → Matches number hosting c m → Matches number hosting d (after_steps c.me steps m)
@@ -31,6 +32,7 @@ pub record Leads {O B : Type 0} (number : O → ℕ) (hosting : B → Hosting) (
   pub same_turns : d.tasks.turns ≡ c.tasks.turns
   pub same_timers : d.has_timers ≡ c.has_timers
   pub memory : c.is_out_of_memory ≡ true → d.is_out_of_memory ≡ true
+  pub outputs : KeepsOutputs c.tasks.tasks d.tasks.tasks
 
 pub after_steps-append : (me : ℕ) (xs ys : List TurnStep) (m : Machine) → after_steps me (xs ++ ys) m ≡ after_steps me ys (after_steps me xs m)
 after_steps-append me [] ys m = refl
@@ -90,6 +92,7 @@ module _ {O B : Type 0} (number : O → ℕ) (hosting : B → Hosting) where
     same_turns = refl;
     same_timers = refl;
     memory = λ h. h;
+    outputs = λ t x is. is;
   }
 
   pub leads_on : (a b c : Parts O B) → Leads number hosting a b → Leads number hosting b c → Leads number hosting a c
@@ -120,6 +123,7 @@ module _ {O B : Type 0} (number : O → ℕ) (hosting : B → Hosting) where
     same_turns = q.same_turns ∙ p.same_turns;
     same_timers = q.same_timers ∙ p.same_timers;
     memory = λ h. q.memory (p.memory h);
+    outputs = λ t x is. p.outputs t x (q.outputs t x is);
   }
 
   -- one act
@@ -127,8 +131,8 @@ module _ {O B : Type 0} (number : O → ℕ) (hosting : B → Hosting) where
       → ((m : Machine) → Matches number hosting c m → reply ≡ (step_outcome c.me step m).reply)
       → ((m : Machine) → Matches number hosting c m → Matches number hosting d (step_outcome c.me step m).machine)
       → ((m : Machine) → Matches number hosting c m → FollowsAct c.timers d.timers m.sleeps (step_outcome c.me step m).machine.sleeps)
-      → d.me ≡ c.me → d.now ≡ c.now → d.tasks.turn ≡ c.tasks.turn → d.tasks.turns ≡ c.tasks.turns → d.has_timers ≡ c.has_timers → d.is_out_of_memory ≡ c.is_out_of_memory → Leads number hosting c d
-  by_act c d step reply is answer left follows me now turn turns timers memory = record {
+      → d.me ≡ c.me → d.now ≡ c.now → d.tasks.turn ≡ c.tasks.turn → d.tasks.turns ≡ c.tasks.turns → d.has_timers ≡ c.has_timers → d.is_out_of_memory ≡ c.is_out_of_memory → KeepsOutputs c.tasks.tasks d.tasks.tasks → Leads number hosting c d
+  by_act c d step reply is answer left follows me now turn turns timers memory outputs = record {
     steps = step ∷ [];
     leads = left;
     registered = follows;
@@ -142,12 +146,13 @@ module _ {O B : Type 0} (number : O → ℕ) (hosting : B → Hosting) where
     same_turns = turns;
     same_timers = timers;
     memory = λ h. memory ∙ h;
+    outputs = outputs;
   }
 
   -- a call that changed nothing of the machine and was not kept
   pub by_nothing : (c d : Parts O B) → d.acts ≡ c.acts → ((m : Machine) → Matches number hosting c m → Matches number hosting d m) → ((s : ℕ) → registered_of d.timers s ≡ registered_of c.timers s)
-      → d.me ≡ c.me → d.now ≡ c.now → d.tasks.turn ≡ c.tasks.turn → d.tasks.turns ≡ c.tasks.turns → d.has_timers ≡ c.has_timers → (c.is_out_of_memory ≡ true → d.is_out_of_memory ≡ true) → Leads number hosting c d
-  by_nothing c d is left stays me now turn turns timers memory = record {
+      → d.me ≡ c.me → d.now ≡ c.now → d.tasks.turn ≡ c.tasks.turn → d.tasks.turns ≡ c.tasks.turns → d.has_timers ≡ c.has_timers → (c.is_out_of_memory ≡ true → d.is_out_of_memory ≡ true) → KeepsOutputs c.tasks.tasks d.tasks.tasks → Leads number hosting c d
+  by_nothing c d is left stays me now turn turns timers memory outputs = record {
     steps = [];
     leads = left;
     registered = λ m st. stays;
@@ -161,4 +166,5 @@ module _ {O B : Type 0} (number : O → ℕ) (hosting : B → Hosting) where
     same_turns = turns;
     same_timers = timers;
     memory = memory;
+    outputs = outputs;
   }

@@ -1,4 +1,6 @@
 pub mod Reaches
+pub mod Outputs
+pub mod PossibleAnswers
 pub mod Turns
 pub mod FuturePolls
 pub mod JournalRoom

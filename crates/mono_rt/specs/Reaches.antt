@@ -1,15 +1,15 @@
 -- A context that calls of the running task reached from another.
-use Rattle.std.specs.Prelude.{⊤, ◌≡◌, ℕ, Bool, true, false, List, [], ◌∷◌, ◌++◌, length, Option, Some, ◌≤◌, slice_index_or, zero, suc, refl}
+use Rattle.std.specs.Prelude.{⊤, ◌≡◌, ℕ, Bool, true, false, List, [], ◌∷◌, ◌++◌, length, Option, ◌≤◌, ◌<◌, slice_index_or, zero, suc, refl}
 use Rattle.std.proofs.Common.{sym, ◌∙◌, ap, arith}
 use Rattle.std.proofs.Math.Nat.{le_refl}
-use Rattle.mono_model.specs.Table.{value_at}
+use Rattle.mono_model.specs.Table.{value_at, next_number}
 use Rattle.mono_rt.specs.Leads.{Leads, leads_itself, leads_on}
 use Rattle.mono_rt.specs.Refinement.{hosting_of}
 use Rattle.mono_rt.specs.declared.contexts.Cx.{Cx}
 
--- Each future in the table stays. No more is claimed for the futures.
+-- Each place of the table stays. No more is claimed for the futures.
 abbrev pub KeepsFutures : {F : Type 0} → List (Option F) → List (Option F) → Type 0
-KeepsFutures {F} old new = (t : ℕ) (f : F) → value_at old t ≡ Some f → value_at new t ≡ Some f
+KeepsFutures old new = (t : ℕ) → t < length old → value_at new t ≡ value_at old t
 
 -- each number that was taken out still is
 abbrev pub KeepsLent : List Bool → List Bool → Type 0
@@ -24,12 +24,18 @@ lent_with_next [] t is = absurd (true-false (sym is))
 lent_with_next (x ∷ old) zero is = is
 lent_with_next (x ∷ old) (suc t) is = lent_with_next old t is
 
+module _ {F O P U W J A V : Type 0} where
+  -- Each task's future has the task's number: there are as many places for futures as numbers were given out.
+  abbrev pub IsAligned : Cx F O P U W J A V → Type 0
+  IsAligned c = length c.futures.items ≡ next_number c.parts.tasks.tasks.table
+
 module _ {F O P U W J A V : Type 0} (number : O → ℕ) (leads : W → W → Type 0) where
   -- calls of the running task lead from the one context to the other
   pub record ReachesSharing (c d : Cx F O P U W J A V) : Type 0 where
     pub parts : Leads number hosting_of c.parts d.parts
     pub keeps : KeepsFutures c.futures.items d.futures.items
     pub grows : length c.futures.items ≤ length d.futures.items
+    pub aligned : IsAligned c → IsAligned d
     -- the running task finds its own place again
     pub lent : KeepsLent c.futures.lent d.futures.lent
     pub same_waker : d.waker ≡ c.waker
@@ -37,24 +43,27 @@ module _ {F O P U W J A V : Type 0} (number : O → ℕ) (leads : W → W → Ty
     pub shared : leads c.shared d.shared
 
   pub sharing_itself : ((w : W) → leads w w) → (c : Cx F O P U W J A V) → ReachesSharing c c
-  sharing_itself itself c = record { parts = leads_itself number hosting_of c.parts; keeps = λ t f h. h; grows = le_refl _; lent = λ t h. h; same_waker = refl; shared = itself c.shared }
+  sharing_itself itself c = record { parts = leads_itself number hosting_of c.parts; keeps = λ t h. refl; grows = le_refl _; aligned = λ h. h; lent = λ t h. h; same_waker = refl; shared = itself c.shared }
 
   pub sharing_on : ((u v w : W) → leads u v → leads v w → leads u w) → (a b c : Cx F O P U W J A V) → ReachesSharing a b → ReachesSharing b c → ReachesSharing a c
   sharing_on on a b c p q = record {
     parts = leads_on number hosting_of a.parts b.parts c.parts p.parts q.parts;
-    keeps = λ t f h. q.keeps t f (p.keeps t f h);
+    keeps = λ t h. q.keeps t (omega (arith, h, p.grows)) ∙ p.keeps t h;
     grows = omega (arith, p.grows, q.grows);
+    aligned = λ h. q.aligned (p.aligned h);
     lent = λ t h. q.lent t (p.lent t h);
     same_waker = q.same_waker ∙ p.same_waker;
     shared = on a.shared b.shared c.shared p.shared q.shared;
   }
 
   -- a call on the parts alone
-  pub by_parts : (c d : Cx F O P U W J A V) → Leads number hosting_of c.parts d.parts → d.futures.items ≡ c.futures.items → d.futures.lent ≡ c.futures.lent → d.waker ≡ c.waker → leads c.shared d.shared → ReachesSharing c d
-  by_parts c d parts same lent waker shared = record {
+  pub by_parts : (c d : Cx F O P U W J A V) → Leads number hosting_of c.parts d.parts → next_number d.parts.tasks.tasks.table ≡ next_number c.parts.tasks.tasks.table → d.futures.items ≡ c.futures.items → d.futures.lent ≡ c.futures.lent → d.waker ≡ c.waker
+      → leads c.shared d.shared → ReachesSharing c d
+  by_parts c d parts next same lent waker shared = record {
     parts = parts;
-    keeps = λ t f h. ap (λ v. value_at v t) same ∙ h;
+    keeps = λ t h. ap (λ v. value_at v t) same;
     grows = rw same (le_refl _);
+    aligned = λ h. ap length same ∙ h ∙ sym next;
     lent = λ t h. ap (λ xs. slice_index_or xs t false) lent ∙ h;
     same_waker = waker;
     shared = shared;
@@ -64,8 +73,9 @@ module _ {F O P U W J A V : Type 0} (number : O → ℕ) (leads : W → W → Ty
   pub by_shared : (c : Cx F O P U W J A V) (w : W) → leads c.shared w → ReachesSharing c (record c { shared = w })
   by_shared c w shared = record {
     parts = leads_itself number hosting_of c.parts;
-    keeps = λ t f h. h;
+    keeps = λ t h. refl;
     grows = le_refl _;
+    aligned = λ h. h;
     lent = λ t h. h;
     same_waker = refl;
     shared = shared;

@@ -28,7 +28,7 @@ use std::alloc::{AllocError, Global};
 /// registered ticks, of which there are none at the start (`parks`). The readings are the driver's (`told`). If the
 /// driver exposes its time, a reading is that time and the length of the parks since; if it exposes its readings, the
 /// next of them. The journal is full only if a turn made more than 512 acts (`full`). Until then its entries are the
-/// history (`Journal::kept`).
+/// history (`Journal::kept`). An answer is one that the future gives (`given`).
 pub fn run_alone<F, O, D, P, R: Host>(
     rt: &R,
     alloc: Global,
@@ -46,6 +46,7 @@ where
     P: ThreadPool + Drop,
     requires callable { (f : F) → F.can_poll f }
     ensures blocked { IfOk result (λ r. (new : Machine) × Blocked true turns (answer_numbered O.output_number r.0) (start_machine limits (strategy_of pool)) r.1.history.entries new []) }
+    ensures given { IfOk result (λ r. IfOk r.0 (F.gives future)) }
     ensures told { IfOk result (λ r. IsTold r.0 (telling (D.readings driver) (D.time driver) (D.parks driver) (D.submits driver) (D.faults driver) (D.can_fail driver)) r.1.history.entries) }
     ensures run { IfOk result (λ r. (new : Machine) × Run (start_machine limits (strategy_of pool)) (events_in r.1.history.entries) (reports_in r.1.history.entries) new) }
     ensures parks { IfOk result (λ r. (new : Machine) × ((left : ℕ → Option ℕ) × Registers None (start_machine limits (strategy_of pool)) (λ s. None) r.1.history.entries new left)) }

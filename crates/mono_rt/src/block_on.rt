@@ -1,6 +1,9 @@
 // Rounds of turns, waits on the driver, and the main task.
 ghost use Rattle.std.specs.Prelude.{◌≡◌, ◌<◌, ◌≤◌, ◌+◌, ◌++◌, ◌∷◌, [], None, false, length, Some, IfOk, OnOk, IfErr, OnErr, if◌then◌else◌};
+ghost use Rattle.mono_model.specs.Table.{next_number};
+ghost use Rattle.mono_model.specs.Tasks.{spawned};
 ghost use Rattle.mono_task.specs.Work.{GivesOutput};
+ghost use Rattle.mono_rt.specs.Outputs.{AddsNone};
 ghost use Rattle.mono_rt.specs.Numbering.{answer_numbered};
 ghost use Rattle.mono_rt.specs.Journals.{Goes, Does, Stays};
 ghost use Rattle.mono_rt.specs.Rounds.{WaitEnds, PauseEnds, Round, RoundBreaks, PassEnds, Ends, IsSpawn, IsRefused, Blocked, cost};
@@ -9,6 +12,8 @@ ghost use Rattle.mono_model.specs.Table.{is_full};
 ghost use Rattle.mono_rt.specs.Faults.{FaultsBy, FaultsParked};
 ghost use Rattle.mono_rt.specs.FuturePolls.{Polling, PollsMain, OnMain};
 ghost use Rattle.mono_rt.specs.JournalRoom.{Fills};
+ghost use Rattle.mono_rt.specs.Reaches.{IsAligned};
+ghost use Rattle.mono_rt.specs.PossibleAnswers.{AnswersNoMore};
 ghost use Rattle.mono_rt.specs.DriverReadings.{telling, going, Telling, TellingSo, Still, EndsWaited};
 
 use crate::contexts::Cx;
@@ -35,6 +40,7 @@ impl<F: Drop, O: Outcome + Drop, D: Driver, P: ThreadPool + Drop, W: SharedState
         ensures parks { Does O.output_number (WaitEnds self.old.cx.parts.has_timers result) self.old.cx.parts self.new.cx.parts self.old.journal self.new.journal }
         ensures has_timers { self.new.cx.parts.has_timers ≡ self.old.cx.parts.has_timers }
         ensures turn { self.new.cx.parts.tasks.turn ≡ self.old.cx.parts.tasks.turn }
+        ensures adds { AddsNone self.old.cx.parts.tasks.tasks self.new.cx.parts.tasks.tasks }
         ensures futures { self.new.cx.futures ≡ self.old.cx.futures }
         ensures shared { self.new.cx.shared ≡ self.old.cx.shared }
         ensures faults { FaultsParked result (D.faults self.old.driver) (D.faults self.new.driver) }
@@ -71,6 +77,7 @@ impl<F: Drop, O: Outcome + Drop, D: Driver, P: ThreadPool + Drop, W: SharedState
         ensures has_timers { self.new.cx.parts.has_timers ≡ self.old.cx.parts.has_timers }
         ensures queued { IfOk result (λ spent. spent ≡ false → 0 < length self.new.cx.parts.tasks.tasks.queue) }
         ensures turn { self.new.cx.parts.tasks.turn ≡ self.old.cx.parts.tasks.turn }
+        ensures adds { AddsNone self.old.cx.parts.tasks.tasks self.new.cx.parts.tasks.tasks }
         ensures futures { self.new.cx.futures ≡ self.old.cx.futures }
         ensures shared { self.new.cx.shared ≡ self.old.cx.shared }
         ensures faults { FaultsBy result (D.faults self.old.driver) (D.faults self.new.driver) }
@@ -106,6 +113,10 @@ impl<F: Drop, O: Outcome + Drop, D: Driver, P: ThreadPool + Drop, W: SharedState
         ensures turn { self.new.cx.parts.tasks.turn ≡ self.old.cx.parts.tasks.turn }
         ensures shared { self.new.cx.shared ≡ self.old.cx.shared }
         ensures made { OnOk result (self.new.cx.futures.items ≡ self.old.cx.futures.items ++ Some future ∷ []) }
+        ensures number { IfOk result (λ t. t ≡ next_number self.old.cx.parts.tasks.tasks.table) }
+        ensures tasks { OnOk result (self.new.cx.parts.tasks.tasks ≡ spawned self.old.cx.parts.tasks.tasks) }
+        ensures same_tasks { OnErr result (self.new.cx.parts.tasks.tasks ≡ self.old.cx.parts.tasks.tasks) }
+        ensures same_futures { OnErr result (self.new.cx.futures.items ≡ self.old.cx.futures.items) }
         ensures faults { D.faults self.new.driver ≡ D.faults self.old.driver }
         ensures told { Telling (Still going) (telling (D.readings self.old.driver) (D.time self.old.driver) (D.parks self.old.driver) (D.submits self.old.driver) (D.faults self.old.driver) (D.can_fail self.old.driver)) going self.old.journal self.new.journal (telling (D.readings self.new.driver) (D.time self.new.driver) (D.parks self.new.driver) (D.submits self.new.driver) (D.faults self.new.driver) (D.can_fail self.new.driver)) }
         ensures full { self.new.journal.is_full ≡ self.old.journal.is_full }
@@ -147,6 +158,7 @@ where
         requires rests { self.old.cx.parts.tasks.turn ≡ None }
         ensures goes { Goes O.output_number self.old.cx.parts self.new.cx.parts self.old.journal self.new.journal }
         ensures has_timers { self.new.cx.parts.has_timers ≡ self.old.cx.parts.has_timers }
+        ensures answers { AnswersNoMore F.gives self.old.cx self.new.cx }
         ensures shared { W.leads self.old.cx.shared self.new.cx.shared }
         ensures rests { self.new.cx.parts.tasks.turn ≡ None }
         ensures left { IfOk result (λ left. left ≤ units) }
@@ -177,6 +189,7 @@ where
         requires some_left { 0 < units }
         ensures passes { Does O.output_number (PassEnds self.old.cx.parts.has_timers units result) self.old.cx.parts self.new.cx.parts self.old.journal self.new.journal }
         ensures has_timers { self.new.cx.parts.has_timers ≡ self.old.cx.parts.has_timers }
+        ensures answers { AnswersNoMore F.gives self.old.cx self.new.cx }
         ensures shared { W.leads self.old.cx.shared self.new.cx.shared }
         ensures rests { self.new.cx.parts.tasks.turn ≡ None }
         ensures fewer { IfOk result (λ left. left < units) }
@@ -207,6 +220,7 @@ where
         ensures given { OnOk result (GivesOutput self.new.cx.parts.tasks.tasks main) }
         ensures ends { Does O.output_number (Ends self.old.cx.parts.has_timers main turns result) self.old.cx.parts self.new.cx.parts self.old.journal self.new.journal }
         ensures has_timers { self.new.cx.parts.has_timers ≡ self.old.cx.parts.has_timers }
+        ensures answers { AnswersNoMore F.gives self.old.cx self.new.cx }
         ensures shared { W.leads self.old.cx.shared self.new.cx.shared }
         ensures rests { self.new.cx.parts.tasks.turn ≡ None }
         ensures polled { OnMain result (Does O.output_number (Polling O.output_number W.leads F.TaskFuture self.old.cx.parts.has_timers self.old.cx.futures.items self.new.cx.futures.items) self.old.cx.parts self.new.cx.parts self.old.journal self.new.journal) }
@@ -252,6 +266,9 @@ where
     /// unless the answer is Memory (`polled`). The answer is Driver only if the driver's count of faults rose in this
     /// call. If the count rose, the answer is Driver or Memory (`faults`).
     ///
+    /// An Ok value is one that the main future gives, if each future has its task's number (`given`). No task may
+    /// answer more afterwards than it might before (`answers`).
+    ///
     /// ```rust
     /// // use_channel/src/main.rt
     /// match runtime.block_on(rt, alloc, Party::consumer(total), 1000) {
@@ -270,6 +287,8 @@ where
         requires rests { self.old.cx.parts.tasks.turn ≡ None }
         ensures blocked { Does O.output_number (Blocked self.old.cx.parts.has_timers turns (answer_numbered O.output_number result)) self.old.cx.parts self.new.cx.parts self.old.journal self.new.journal }
         ensures place { HasPlace result (is_full self.old.cx.parts.tasks.tasks.table self.old.cx.parts.tasks.tasks.limit) }
+        ensures given { IfOk result (λ output. IsAligned self.old.cx → F.gives future output) }
+        ensures answers { AnswersNoMore F.gives self.old.cx self.new.cx }
         ensures shared { W.leads self.old.cx.shared self.new.cx.shared }
         ensures rests { self.new.cx.parts.tasks.turn ≡ None }
         ensures polled { OnMain result (Does O.output_number (PollsMain O.output_number W.leads F.TaskFuture self.old.cx.parts.has_timers future self.old.cx.futures.items self.new.cx.futures.items) self.old.cx.parts self.new.cx.parts self.old.journal self.new.journal) }

@@ -5,6 +5,7 @@ ghost use Rattle.mono_time.specs.Instants.{nanos_of};
 ghost use Rattle.mono_time.specs.Timers.{registered_of};
 ghost use Rattle.mono_blocking.specs.JobSpawns.{strategy_of, IsApart};
 ghost use Rattle.mono_rt.specs.Refinement.{hosting_of, Matches};
+ghost use Rattle.mono_rt.specs.Reaches.{IsAligned};
 ghost use Rattle.mono_rt.specs.DriverReadings.{telling};
 ghost use Rattle.mono_rt.specs.Starts.{RunsFrom};
 ghost use Rattle.mono_machine.specs.declared.events.Blocking.TheVariants as none;
@@ -184,6 +185,7 @@ impl<D: Buildable, P: ThreadPool + Drop> RuntimeBuilder<D, P> {
         ensures rests { IfOk result (λ made. made.cx.parts.tasks.turn ≡ None) }
         ensures me { IfOk result (λ made. (made.cx.parts.me ≡ 0) × (nanos_of made.cx.parts.now ≡ 0)) }
         ensures registered { IfOk result (λ made. (s : ℕ) → registered_of made.cx.parts.timers s ≡ None) }
+        ensures aligned { IfOk result (λ made. IsAligned made.cx) }
     {
         D::build(alloc, self, ())
     }
@@ -205,6 +207,7 @@ impl<D: Buildable, P: ThreadPool + Drop> RuntimeBuilder<D, P> {
         ensures rests { IfOk result (λ made. made.cx.parts.tasks.turn ≡ None) }
         ensures me { IfOk result (λ made. (made.cx.parts.me ≡ 0) × (nanos_of made.cx.parts.now ≡ 0)) }
         ensures registered { IfOk result (λ made. (s : ℕ) → registered_of made.cx.parts.timers s ≡ None) }
+        ensures aligned { IfOk result (λ made. IsAligned made.cx) }
     {
         D::build(alloc, self, shared)
     }

@@ -1,5 +1,6 @@
 // The drain: takes from the inbox the tasks that other threads woke.
 ghost use Rattle.std.specs.Prelude.{◌≡◌, ◌≤◌, length, OnOk, OnErr};
+ghost use Rattle.mono_rt.specs.Outputs.{AddsNone};
 ghost use Rattle.mono_rt.specs.Journals.{Goes, Does, Stays};
 ghost use Rattle.mono_rt.specs.Rounds.{Drained};
 ghost use Rattle.mono_rt.specs.Drains.{WakesTaken};
@@ -31,6 +32,7 @@ impl<F: Drop, O: Outcome + Drop, D: Driver, P: ThreadPool + Drop, W: SharedState
         ensures kept { OnErr result ((self.new.cx.wakers.taken.entries ≡ self.old.cx.wakers.taken.entries) × (self.new.cx.parts ≡ self.old.cx.parts)) }
         ensures turn { self.new.cx.parts.tasks.turn ≡ self.old.cx.parts.tasks.turn }
         ensures longer { length self.old.cx.parts.tasks.tasks.queue ≤ length self.new.cx.parts.tasks.tasks.queue }
+        ensures adds { AddsNone self.old.cx.parts.tasks.tasks self.new.cx.parts.tasks.tasks }
         ensures has_timers { self.new.cx.parts.has_timers ≡ self.old.cx.parts.has_timers }
         ensures futures { self.new.cx.futures ≡ self.old.cx.futures }
         ensures shared { self.new.cx.shared ≡ self.old.cx.shared }

@@ -4,6 +4,7 @@ ghost use Rattle.mono_rt.specs.Journals.{Goes, Does};
 ghost use Rattle.mono_rt.specs.Rounds.{OneTurn, UpToOneTurn};
 ghost use Rattle.mono_rt.specs.FuturePolls.{Polling};
 ghost use Rattle.mono_rt.specs.JournalRoom.{Fills};
+ghost use Rattle.mono_rt.specs.PossibleAnswers.{AnswersNoMore};
 ghost use Rattle.mono_rt.specs.DriverReadings.{telling, going, Telling, Still};
 
 use crate::contexts::Cx;
@@ -44,6 +45,7 @@ where
         ensures turned { OnOk result (Does O.output_number OneTurn self.old.cx.parts self.new.cx.parts self.old.journal self.new.journal) }
         ensures broken { OnErr result (Does O.output_number UpToOneTurn self.old.cx.parts self.new.cx.parts self.old.journal self.new.journal) }
         ensures polled { OnOk result (Does O.output_number (Polling O.output_number W.leads F.TaskFuture self.old.cx.parts.has_timers self.old.cx.futures.items self.new.cx.futures.items) self.old.cx.parts self.new.cx.parts self.old.journal self.new.journal) }
+        ensures answers { AnswersNoMore F.gives self.old.cx self.new.cx }
         ensures shared { W.leads self.old.cx.shared self.new.cx.shared }
         ensures has_timers { self.new.cx.parts.has_timers ≡ self.old.cx.parts.has_timers }
         ensures rests { self.new.cx.parts.tasks.turn ≡ None }

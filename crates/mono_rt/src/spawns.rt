@@ -6,6 +6,7 @@ ghost use Rattle.mono_machine.specs.Machine.{Machine};
 ghost use Rattle.mono_task.specs.Spawns.{refused_future, IsRefusedIfFull};
 ghost use Rattle.mono_rt.specs.Spawns.{SpawnsTask};
 ghost use Rattle.mono_rt.specs.Refinement.{hosting_of, Matches};
+ghost use Rattle.mono_rt.specs.Reaches.{IsAligned};
 
 use crate::contexts::Cx;
 use crate::runtimes::Runtime;
@@ -29,8 +30,8 @@ impl<F: Drop, O: Outcome + Drop, D: Driver, P: ThreadPool + Drop, W: SharedState
     /// Refused with `AtCapacity` if and only if the number of live tasks is at the limit or the next number is 2^64 - 1
     /// (`full`); otherwise with `Memory` if an allocation failed. For each machine that the context refined, the spawn
     /// is the machine's, with its reply (`machine`). A refused future is handed back (`back`), and all tasks, sleeps and
-    /// futures are as before (`refused`). The journal keeps what `block_on` did, and does not record the spawn
-    /// (`journal`).
+    /// futures are as before (`refused`). Each future still has its task's number (`aligned`). The journal keeps what
+    /// `block_on` did, and does not record the spawn (`journal`).
     ///
     /// ```rust
     /// // use_channel/src/main.rt
@@ -46,6 +47,7 @@ impl<F: Drop, O: Outcome + Drop, D: Driver, P: ThreadPool + Drop, W: SharedState
         ensures back { IfErr result (λ refusal. refused_future refusal ≡ future) }
         ensures full { IsRefusedIfFull self.old.cx.parts.tasks.tasks result }
         ensures refused { OnErr result ((self.new.cx.parts ≡ self.old.cx.parts) × (self.new.cx.futures.items ≡ self.old.cx.futures.items)) }
+        ensures aligned { IsAligned self.old.cx → IsAligned self.new.cx }
         ensures has_timers { self.new.cx.parts.has_timers ≡ self.old.cx.parts.has_timers }
         ensures turn { self.new.cx.parts.tasks.turn ≡ self.old.cx.parts.tasks.turn }
         ensures shared { self.new.cx.shared ≡ self.old.cx.shared }

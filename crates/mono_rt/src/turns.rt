@@ -7,6 +7,7 @@ ghost use Rattle.mono_rt.specs.Refinement.{hosting_of, Matches};
 ghost use Rattle.mono_table.specs.Slots.{lent_at};
 ghost use Rattle.mono_rt.specs.Turns.{Begins, Pauses, Completes, Runs, Turn};
 ghost use Rattle.mono_rt.specs.PartTurns.{IsTurnOf};
+ghost use Rattle.mono_rt.specs.PossibleAnswers.{AnswersNoMore};
 
 use crate::contexts::Cx;
 use mono_blocking::ThreadPool;
@@ -134,6 +135,7 @@ where
         requires queued { 0 < length self.old.parts.tasks.tasks.queue }
         ensures turn { Turn O.output_number W.leads F.TaskFuture result.0 now self.old.parts.acts result.1 result.2 self.old self.new }
         ensures is { (is_unread : Bool) → self.old.parts.acts ≡ no_acts is_unread → (m : Machine) → Matches O.output_number hosting_of self.old.parts m → IsTurnOf O.output_number result.0 result.1 result.2 self.old.parts self.new.parts m }
+        ensures answers { AnswersNoMore F.gives self.old self.new }
         ensures shared { W.leads self.old.shared self.new.shared }
         ensures has_timers { self.new.parts.has_timers ≡ self.old.parts.has_timers }
         ensures rests { self.new.parts.tasks.turn ≡ None }

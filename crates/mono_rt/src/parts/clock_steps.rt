@@ -1,5 +1,6 @@
 // A clock step: reads the clock and fires the due sleeps.
 ghost use Rattle.std.specs.Prelude.{◌≡◌, ◌≤◌, ◌+◌, [], true, vec_len, vec_capacity, OnOk, OnErr, IfSome, IfNone};
+ghost use Rattle.mono_rt.specs.Outputs.{AddsNone};
 ghost use Rattle.mono_time.specs.Instants.{nanos_of};
 ghost use Rattle.mono_time.specs.Sleeps.{armed_count};
 ghost use Rattle.mono_time.specs.Timers.{sleeps_of};
@@ -64,6 +65,7 @@ impl<O: Outcome + Drop, P: ThreadPool + Drop> Parts<O, Blockings<P>> {
         ensures undone { OnErr result (Does O.output_number Stays self.old self.new journal.old journal.new) }
         ensures has_timers { self.new.has_timers ≡ self.old.has_timers }
         ensures turn { self.new.tasks.turn ≡ self.old.tasks.turn }
+        ensures adds { AddsNone self.old.tasks.tasks self.new.tasks.tasks }
         ensures faults { D.faults driver.new ≡ D.faults driver.old }
         ensures told { (course : Course) → Telling (Still course) (telling (D.readings driver.old) (D.time driver.old) (D.parks driver.old) (D.submits driver.old) (D.faults driver.old) (D.can_fail driver.old)) course journal.old journal.new (telling (D.readings driver.new) (D.time driver.new) (D.parks driver.new) (D.submits driver.new) (D.faults driver.new) (D.can_fail driver.new)) }
         ensures full { journal.new.is_full ≡ journal.old.is_full }

@@ -1,6 +1,7 @@
 // The tasks that other threads woke, after they were taken: recorded in the journal, and woken.
 ghost use Rattle.std.specs.Prelude.{◌≡◌, ◌≤◌, ◌<◌, ◌+◌, ◌++◌, ◌∷◌, ℕ, [], length, vec_len, vec_capacity};
 ghost use Rattle.mono_task.specs.Work.{over_answer};
+ghost use Rattle.mono_rt.specs.Outputs.{AddsNone};
 ghost use Rattle.mono_machine.specs.declared.events.Event.TheVariants as event;
 ghost use Rattle.mono_rt.specs.declared.parts.journals.Entry.TheVariants.{Ran};
 ghost use Rattle.mono_rt.specs.Drains.{told_by, listed_by, remotes, listed, IsReady, DrainsAll};
@@ -22,6 +23,7 @@ impl<O: Outcome + Drop, P: ThreadPool + Drop> Parts<O, Blockings<P>> {
         ensures drained { Does O.output_number (DrainsAll taken.tasks.items) self.old self.new journal.old journal.new }
         ensures turn { self.new.tasks.turn ≡ self.old.tasks.turn }
         ensures longer { length self.old.tasks.tasks.queue ≤ length self.new.tasks.tasks.queue }
+        ensures adds { AddsNone self.old.tasks.tasks self.new.tasks.tasks }
         ensures has_timers { self.new.has_timers ≡ self.old.has_timers }
         ensures told { (old new : Told) (before after : Course) → IsDrained before old after new → Telling (Still after) old before journal.old journal.new new }
         ensures full { journal.new.is_full ≡ journal.old.is_full }

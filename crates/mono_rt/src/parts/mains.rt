@@ -1,8 +1,9 @@
 // How a main task is made, and how its handle is dropped.
-ghost use Rattle.std.specs.Prelude.{◌≡◌, ◌<◌, ◌+◌, true, Some, Ok, IfOk, IfErr, OnErr};
+ghost use Rattle.std.specs.Prelude.{◌≡◌, ◌<◌, ◌+◌, true, Some, Ok, IfOk, OnOk, IfErr, OnErr};
 ghost use Rattle.std.specs.Option.{option_map};
-ghost use Rattle.mono_model.specs.Table.{is_full};
-ghost use Rattle.mono_model.specs.Joins.{drop_answer};
+ghost use Rattle.mono_model.specs.Table.{next_number, is_full};
+ghost use Rattle.mono_model.specs.Tasks.{spawned};
+ghost use Rattle.mono_model.specs.Joins.{drop_answer, join_dropped};
 ghost use Rattle.mono_rt.specs.Journals.{Goes, Does, Stays};
 ghost use Rattle.mono_rt.specs.Rounds.{IsSpawn, IsRefused, DropsFor};
 ghost use Rattle.mono_rt.specs.SpawnErrors.{OnCapacity, OnMemory, HasPlace};
@@ -25,6 +26,9 @@ impl<O: Outcome + Drop, P: ThreadPool + Drop> Parts<O, Blockings<P>> {
         ensures spawned { IfOk result (λ t. Does O.output_number (IsSpawn t) self.old self.new journal.old journal.new) }
         ensures refused { IfErr result (λ error. OnCapacity error (Does O.output_number IsRefused self.old self.new journal.old journal.new)) }
         ensures place { HasPlace result (is_full self.old.tasks.tasks.table self.old.tasks.tasks.limit) }
+        ensures number { IfOk result (λ t. t ≡ next_number self.old.tasks.tasks.table) }
+        ensures made { OnOk result (self.new.tasks.tasks ≡ spawned self.old.tasks.tasks) }
+        ensures same { OnErr result (self.new.tasks.tasks ≡ self.old.tasks.tasks) }
         ensures has_timers { self.new.has_timers ≡ self.old.has_timers }
         ensures turn { self.new.tasks.turn ≡ self.old.tasks.turn }
         ensures told { (told : Told) → Telling (Still going) told going journal.old journal.new told }
@@ -83,6 +87,7 @@ impl<O: Outcome + Drop, P: ThreadPool + Drop> Parts<O, Blockings<P>> {
         requires { 0 < journal.old.entries.held }
         ensures output { (output : O) → drop_answer self.old.tasks.tasks main ≡ Ok (Some output) → result ≡ Some output }
         ensures dropped { Does O.output_number (DropsFor main (option_map O.output_number result)) self.old self.new journal.old journal.new }
+        ensures left { self.new.tasks.tasks ≡ join_dropped self.old.tasks.tasks main }
         ensures turn { self.new.tasks.turn ≡ self.old.tasks.turn }
         ensures told { (told : Told) (course : Course) → Telling (Still course) told course journal.old journal.new told }
         ensures full { journal.new.is_full ≡ journal.old.is_full }

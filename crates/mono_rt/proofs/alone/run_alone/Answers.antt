@@ -1,4 +1,4 @@
-use Rattle.std.proofs.Common.{[], subst}
+use Rattle.std.proofs.Common.{[], refl, subst}
 use Rattle.std.specs.Prelude.{⊤}
 use Rattle.mono_machine.specs.Machine.{Machine, start_machine}
 use Rattle.mono_blocking.specs.JobSpawns.{strategy_of}
@@ -9,6 +9,8 @@ use Rattle.mono_rt.proofs.RoundLemmas.{relation_of}
 use Rattle.mono_rt.specs.DriverReadings.{IsTold, telling}
 use Rattle.mono_rt.proofs.DriverLemmas.{told_in}
 use Rattle.mono_rt.proofs.JournalRoomLemmas.{one_long}
+use Rattle.mono_rt.specs.Reaches.{IsAligned}
+use Rattle.mono_rt.proofs.PossibleAnswerLemmas.{aligned_new, ok_given}
 use Rattle.mono_rt.proofs.alone.run_alone.Goals as goal
 
 pub returns : goal.returns
@@ -19,7 +21,9 @@ returns g c =
     let m = start_machine c.args.limits (strategy_of c.args.pool) in
     let answer = answer_numbered number c.block_on-answer.result in
     let told = Blocked made.cx.parts.has_timers c.args.turns answer in
+    let aligned : IsAligned made.cx = aligned_new number made.cx m c.in_ok-runtime.ensures.stands refl c.in_ok-runtime.ensures.futures in
     record {
+      given = ok_given (IsAligned made.cx) (g.F.TaskFuture.gives c.args.future) c.block_on-answer.result aligned c.block_on-answer.ensures.given;
       blocked = subst (λ h. (new : Machine) × Blocked h c.args.turns answer m c.into_journal.result.history.entries new []) c.in_ok-runtime.ensures.timers
           (relation_of number told made.cx.parts left.cx.parts made.journal left.journal c.into_journal.result m c.in_ok-runtime.ensures.stands c.in_ok-runtime.ensures.history c.into_journal.ensures c.block_on-answer.ensures.blocked);
       told = subst (λ d. IsTold c.block_on-answer.result (telling (g.D.Clock.readings d) (g.D.Clock.time d) (g.D.Clock.parks d) (g.D.Clock.submits d) (g.D.Clock.faults d) (g.D.Clock.can_fail d)) c.into_journal.result.history.entries) c.in_ok-runtime.ensures.driver

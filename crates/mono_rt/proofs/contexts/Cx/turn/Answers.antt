@@ -1,6 +1,7 @@
 use Rattle.std.proofs.Common.{sym, ◌∙◌, subst}
 use Rattle.mono_rt.proofs.TurnLemmas.{turn_is, rests_after, same_has_timers, turn_led}
 use Rattle.mono_rt.proofs.PartTurnLemmas.{begun_turn}
+use Rattle.mono_rt.proofs.PossibleAnswerLemmas.{no_more_in_turn}
 use Rattle.mono_rt.proofs.contexts.Cx.turn.Goals as goal
 
 pub returns-clause-turn : goal.returns-clause-turn
@@ -31,3 +32,7 @@ returns-clause-shared g c =
     let left = c.run_turn-end.new.self in
     subst (λ w. g.W.SharedState.leads w left.shared) c.begin_turn-task.ensures.begins.shared
     (turn_led g.O.Outcome.output_number g.W.SharedState.leads g.F.TaskFuture g.W.SharedState.leads_itself g.W.SharedState.leads_on c.begin_turn-task.result.1 begun left c.begin_turn-task.result.0 _ _ c.run_turn-end.ensures)
+
+pub returns-clause-answers : goal.returns-clause-answers
+returns-clause-answers g c =
+    no_more_in_turn g.O.Outcome.output_number g.W.SharedState.leads g.F.TaskFuture c.args.self.now c.run_turn-end.new.self c.begin_turn-task.result.0 c.args.now c.args.self.now.parts.acts _ _ (returns-clause-turn g c)

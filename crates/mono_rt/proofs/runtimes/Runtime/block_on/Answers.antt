@@ -10,6 +10,9 @@ use Rattle.mono_rt.specs.FuturePolls.{Polling}
 use Rattle.mono_rt.proofs.FuturePollLemmas.{polls_on, polls_drop, polls_main, same_error, on_main, none_made}
 use Rattle.mono_rt.proofs.JournalRoomLemmas.{fills_on, fills_not, fills_still}
 use Rattle.mono_rt.proofs.FaultLemmas.{capacity_faults, faults_after}
+use Rattle.mono_rt.specs.Outputs.{AddsNone}
+use Rattle.mono_rt.proofs.OutputLemmas.{adds_itself, adds_dropped, output_dropped}
+use Rattle.mono_rt.proofs.PossibleAnswerLemmas.{no_more_on, no_more_by, no_more_spawned, given_later}
 use Rattle.mono_rt.proofs.runtimes.Runtime.block_on.Goals as goal
 
 -- if the main task has its output, the drop of its handle gives it
@@ -123,3 +126,44 @@ returns-in-Some-clause-faults g c = (rw c.in-Ok-answer.is at c.run-answer.ensure
 
 pub returns-in-Err-answer-clause-place : goal.returns-in-Err-answer-clause-place
 returns-in-Err-answer-clause-place g c = rw c.in-Ok.ensures.place c.in-Err-answer.ensures.placed
+
+-- the output that was taken is the one that was there
+same_output : {A : Type 0} (v : Option A) (x y : A) → v ≡ Some x → v ≡ Some y → x ≡ y
+same_output v x y p q = cc
+
+pub returns-in-Some-clause-given : goal.returns-in-Some-clause-given
+returns-in-Some-clause-given g c = λ aligned.
+    let gives = g.F.TaskFuture.gives in
+    let old = c.args.self.now in
+    let started = c.start_main.new.self in
+    let ran = c.run-answer.new.self in
+    let there = rw c.in-Ok-answer.is at c.run-answer.ensures.given in
+    let is = same_output c.end_main-output.result there.0 c.in-Some.output (c.end_main-output.ensures.output there.0 there.1) c.in-Some.is in
+    subst (gives c.args.future) is
+    (given_later gives old.cx started.cx c.args.future c.in-Ok.ensures.tasks c.in-Ok.ensures.made c.in-Ok.main c.in-Ok.ensures.number aligned ran.cx there.0 c.run-answer.ensures.answers (output_dropped ran.cx.parts.tasks.tasks c.in-Ok.main there.0 there.1))
+
+pub returns-in-Err-clause-answers : goal.returns-in-Err-clause-answers
+returns-in-Err-clause-answers g c =
+    let old = c.args.self.now in
+    let started = c.start_main.new.self in
+    no_more_by g.F.TaskFuture.gives old.cx started.cx (subst (AddsNone old.cx.parts.tasks.tasks) (sym c.in-Err.ensures.same_tasks) (adds_itself old.cx.parts.tasks.tasks)) c.in-Err.ensures.same_futures
+
+pub returns-in-Err-answer-clause-answers : goal.returns-in-Err-answer-clause-answers
+returns-in-Err-answer-clause-answers g c =
+    let gives = g.F.TaskFuture.gives in
+    let old = c.args.self.now in
+    let started = c.start_main.new.self in
+    let ran = c.run-answer.new.self in
+    no_more_on gives old.cx started.cx _ (no_more_spawned gives old.cx started.cx c.args.future c.in-Ok.ensures.tasks c.in-Ok.ensures.made)
+    (no_more_on gives started.cx ran.cx _ c.run-answer.ensures.answers
+    (no_more_by gives ran.cx _ (subst (AddsNone ran.cx.parts.tasks.tasks) (sym c.end_main-output.ensures.left) (adds_dropped ran.cx.parts.tasks.tasks c.in-Ok.main)) refl))
+
+pub returns-in-Some-clause-answers : goal.returns-in-Some-clause-answers
+returns-in-Some-clause-answers g c =
+    let gives = g.F.TaskFuture.gives in
+    let old = c.args.self.now in
+    let started = c.start_main.new.self in
+    let ran = c.run-answer.new.self in
+    no_more_on gives old.cx started.cx _ (no_more_spawned gives old.cx started.cx c.args.future c.in-Ok.ensures.tasks c.in-Ok.ensures.made)
+    (no_more_on gives started.cx ran.cx _ c.run-answer.ensures.answers
+    (no_more_by gives ran.cx _ (subst (AddsNone ran.cx.parts.tasks.tasks) (sym c.end_main-output.ensures.left) (adds_dropped ran.cx.parts.tasks.tasks c.in-Ok.main)) refl))

@@ -1,4 +1,5 @@
 use Rattle.std.proofs.Common.{refl, sym}
+use Rattle.mono_rt.proofs.OutputLemmas.{adds_itself}
 use Rattle.mono_rt.specs.Drains.{DrainsAll}
 use Rattle.mono_rt.proofs.JournalLemmas.{does_stay}
 use Rattle.mono_rt.proofs.RoundLemmas.{stay_on, drains_some}
@@ -34,3 +35,6 @@ returns-in-Some-clause-drained g c =
 
 pub returns-in-Some-clause-told : goal.returns-in-Some-clause-told
 returns-in-Some-clause-told g c = λ old new before after ends. telling_on {q = before} (tells_nothing refl refl c.drain.ensures.history) (c.wake_taken.ensures.told old new before after ends)
+
+pub returns-in-None-clause-adds : goal.returns-in-None-clause-adds
+returns-in-None-clause-adds g c = adds_itself c.args.self.now.cx.parts.tasks.tasks

@@ -10,6 +10,7 @@ use Rattle.mono_rt.specs.Journals.{Does}
 use Rattle.mono_rt.specs.FuturePolls.{Polling}
 use Rattle.mono_rt.proofs.FuturePollLemmas.{polls_on, polls_pause, same_error}
 use Rattle.mono_rt.proofs.JournalRoomLemmas.{fills_on, fills_not}
+use Rattle.mono_rt.proofs.PossibleAnswerLemmas.{no_more_on, no_more_by}
 use Rattle.mono_rt.proofs.runtimes.Runtime.pass.Goals as goal
 
 no_cost : (u k : ℕ) → 0 ≡ k → u ≡ u - k
@@ -131,3 +132,30 @@ returns-in-Ok-clause-faults g c = c.round.ensures.faults ∙ (rw c.in-Ok-true.is
 
 pub returns-in-Ok-round-clause-faults : goal.returns-in-Ok-round-clause-faults
 returns-in-Ok-round-clause-faults g c = c.round-in-Ok-false.ensures.faults ∙ (rw c.in-Ok-false.is at c.pause.ensures.faults)
+
+pub returns-in-Err-clause-answers : goal.returns-in-Err-clause-answers
+returns-in-Err-clause-answers g c = no_more_by g.F.TaskFuture.gives c.args.self.now.cx c.pause.new.self.cx c.pause.ensures.adds (ap (λ v. v.items) c.pause.ensures.futures)
+
+pub returns-in-Ok-clause-answers : goal.returns-in-Ok-clause-answers
+returns-in-Ok-clause-answers g c =
+    let old = c.args.self.now in
+    let paused = c.pause.new.self in
+    no_more_on g.F.TaskFuture.gives old.cx paused.cx c.round.new.self.cx (no_more_by g.F.TaskFuture.gives old.cx paused.cx c.pause.ensures.adds (ap (λ v. v.items) c.pause.ensures.futures)) c.round.ensures.answers
+
+pub returns-in-Ok-round-clause-answers : goal.returns-in-Ok-round-clause-answers
+returns-in-Ok-round-clause-answers g c =
+    let old = c.args.self.now in
+    let paused = c.pause.new.self in
+    no_more_on g.F.TaskFuture.gives old.cx paused.cx c.round-in-Ok-false.new.self.cx (no_more_by g.F.TaskFuture.gives old.cx paused.cx c.pause.ensures.adds (ap (λ v. v.items) c.pause.ensures.futures)) c.round-in-Ok-false.ensures.answers
+
+pub returns-in-Err-round-clause-answers : goal.returns-in-Err-round-clause-answers
+returns-in-Err-round-clause-answers g c =
+    let old = c.args.self.now in
+    let paused = c.pause.new.self in
+    no_more_on g.F.TaskFuture.gives old.cx paused.cx c.round.new.self.cx (no_more_by g.F.TaskFuture.gives old.cx paused.cx c.pause.ensures.adds (ap (λ v. v.items) c.pause.ensures.futures)) c.round.ensures.answers
+
+pub returns-in-Err-round-2-clause-answers : goal.returns-in-Err-round-2-clause-answers
+returns-in-Err-round-2-clause-answers g c =
+    let old = c.args.self.now in
+    let paused = c.pause.new.self in
+    no_more_on g.F.TaskFuture.gives old.cx paused.cx c.round-in-Ok-false.new.self.cx (no_more_by g.F.TaskFuture.gives old.cx paused.cx c.pause.ensures.adds (ap (λ v. v.items) c.pause.ensures.futures)) c.round-in-Ok-false.ensures.answers

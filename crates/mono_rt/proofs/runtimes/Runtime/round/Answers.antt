@@ -7,6 +7,7 @@ use Rattle.mono_rt.specs.Journals.{Does}
 use Rattle.mono_rt.specs.FuturePolls.{Polling}
 use Rattle.mono_rt.proofs.FuturePollLemmas.{polls_on, polls_nothing}
 use Rattle.mono_rt.proofs.JournalRoomLemmas.{fills_on, fills_not}
+use Rattle.mono_rt.proofs.PossibleAnswerLemmas.{no_more_itself, no_more_on}
 use Rattle.mono_rt.proofs.runtimes.Runtime.round.Goals as goal
 
 on_any : {A E : Type 0} (r : Result A E) (P : Type 0) → P → OnErr r P
@@ -34,13 +35,14 @@ loop-done-preserved g c = (
   c.turn.ensures.held ∙ c.loop-done.invariant.8,
   g.W.SharedState.leads_on _ _ _ c.loop-done.invariant.9 c.turn.ensures.shared,
   c.turn.ensures.faults ∙ c.loop-done.invariant.10,
+  no_more_on g.F.TaskFuture.gives c.args.self.now.cx c.loop-done.self.cx c.turn.new.self.cx c.loop-done.invariant.11 c.turn.ensures.answers,
 )
 
 pub loop-done-init : goal.loop-done-init
 loop-done-init g c =
     let parts = c.args.self.now.cx.parts in
     let journal = c.args.self.now.journal in
-    (goes_nowhere g.O.Outcome.output_number parts parts journal journal refl refl refl refl refl, c.requires.rests, λ e. refl, no_turns g.O.Outcome.output_number parts journal, refl, tells_nothing refl refl refl, polls_nothing g.O.Outcome.output_number g.W.SharedState.leads g.F.TaskFuture parts.has_timers c.args.self.now.cx.futures.items parts journal, fills_not g.O.Outcome.output_number g.W.SharedState.leads g.F.TaskFuture c.args.self.now.cx journal journal refl, refl, g.W.SharedState.leads_itself _, refl)
+    (goes_nowhere g.O.Outcome.output_number parts parts journal journal refl refl refl refl refl, c.requires.rests, λ e. refl, no_turns g.O.Outcome.output_number parts journal, refl, tells_nothing refl refl refl, polls_nothing g.O.Outcome.output_number g.W.SharedState.leads g.F.TaskFuture parts.has_timers c.args.self.now.cx.futures.items parts journal, fills_not g.O.Outcome.output_number g.W.SharedState.leads g.F.TaskFuture c.args.self.now.cx journal journal refl, refl, g.W.SharedState.leads_itself _, refl, no_more_itself g.F.TaskFuture.gives c.args.self.now.cx)
 
 pub returns-then-queue_len-eq0-clause-round : goal.returns-then-queue_len-eq0-clause-round
 returns-then-queue_len-eq0-clause-round g c =
@@ -96,3 +98,12 @@ returns-then-queue_len-eq0-clause-faults g c = c.loop-done.invariant.10
 
 pub returns-clause-faults : goal.returns-clause-faults
 returns-clause-faults g c = c.loop-done.invariant.10
+
+pub returns-in_err-turn-clause-answers : goal.returns-in_err-turn-clause-answers
+returns-in_err-turn-clause-answers g c = no_more_on g.F.TaskFuture.gives c.args.self.now.cx c.loop-done.self.cx c.turn.new.self.cx c.loop-done.invariant.11 c.turn.ensures.answers
+
+pub returns-then-queue_len-eq0-clause-answers : goal.returns-then-queue_len-eq0-clause-answers
+returns-then-queue_len-eq0-clause-answers g c = c.loop-done.invariant.11
+
+pub returns-clause-answers : goal.returns-clause-answers
+returns-clause-answers g c = c.loop-done.invariant.11

@@ -3,6 +3,7 @@ use Rattle.mono_rt.specs.Journals.{Goes, Does}
 use Rattle.mono_rt.specs.Rounds.{Turns}
 use Rattle.mono_rt.specs.FuturePolls.{Polling}
 use Rattle.mono_rt.specs.JournalRoom.{Fills}
+use Rattle.mono_rt.specs.PossibleAnswers.{AnswersNoMore}
 use Rattle.mono_rt.specs.DriverReadings.{telling, Telling, Still, going}
 use Rattle.mono_rt.proofs.runtimes.Runtime.round.Given as goal
 
@@ -19,3 +20,4 @@ invariant-loop-done g l = Goes g.O.Outcome.output_number l.initial.self.cx.parts
     × (l.self.journal.entries.held ≡ l.initial.self.journal.entries.held)
     × g.W.SharedState.leads l.initial.self.cx.shared l.self.cx.shared
     × (g.D.Clock.faults l.self.driver ≡ g.D.Clock.faults l.initial.self.driver)
+    × AnswersNoMore g.F.TaskFuture.gives l.initial.self.cx l.self.cx

@@ -11,6 +11,7 @@ use Rattle.mono_rt.specs.FuturePolls.{Polling}
 use Rattle.mono_rt.proofs.FuturePollLemmas.{polls_on, same_error, on_main}
 use Rattle.mono_rt.proofs.JournalRoomLemmas.{fills_on}
 use Rattle.mono_rt.proofs.FaultLemmas.{faults_after}
+use Rattle.mono_rt.proofs.PossibleAnswerLemmas.{no_more_on}
 use Rattle.mono_rt.proofs.runtimes.Runtime.run.Goals as goal
 
 both : (b : Bool) → true ≡ b → false ≡ b → ⊥
@@ -30,6 +31,7 @@ loop-units-init g c = (
   c.round.ensures.held,
   c.round.ensures.shared,
   c.round.ensures.faults,
+  c.round.ensures.answers,
 )
 
 pub loop-units-preserved : goal.loop-units-preserved
@@ -46,6 +48,7 @@ loop-units-preserved g c = (
   c.pass.ensures.held ∙ c.loop-units.invariant.6,
   g.W.SharedState.leads_on _ _ _ c.loop-units.invariant.7 c.pass.ensures.shared,
   (rw c.in-Ok-pass.is at c.pass.ensures.faults) ∙ c.loop-units.invariant.8,
+  no_more_on g.F.TaskFuture.gives c.args.self.now.cx c.loop-units.self.cx c.pass.new.self.cx c.loop-units.invariant.9 c.pass.ensures.answers,
 )
 
 pub returns-in-Err-pass-clause-ends : goal.returns-in-Err-pass-clause-ends
@@ -139,3 +142,15 @@ returns-else-has_output-clause-faults g c = c.loop-units.invariant.8
 
 pub returns-in-Err-clause-faults : goal.returns-in-Err-clause-faults
 returns-in-Err-clause-faults g c = tt
+
+pub returns-in-Err-pass-clause-answers : goal.returns-in-Err-pass-clause-answers
+returns-in-Err-pass-clause-answers g c = no_more_on g.F.TaskFuture.gives c.args.self.now.cx c.loop-units.self.cx c.pass.new.self.cx c.loop-units.invariant.9 c.pass.ensures.answers
+
+pub returns-then-has_output-clause-answers : goal.returns-then-has_output-clause-answers
+returns-then-has_output-clause-answers g c = c.loop-units.invariant.9
+
+pub returns-else-has_output-clause-answers : goal.returns-else-has_output-clause-answers
+returns-else-has_output-clause-answers g c = c.loop-units.invariant.9
+
+pub returns-in-Err-clause-answers : goal.returns-in-Err-clause-answers
+returns-in-Err-clause-answers g c = c.round.ensures.answers

@@ -5,6 +5,7 @@ use Rattle.mono_machine.specs.declared.events.Reply.TheVariants as reply
 use Rattle.mono_rt.specs.Refinement.{hosting_of}
 use Rattle.mono_rt.proofs.CallLemmas.{had_room, with_all}
 use Rattle.mono_rt.proofs.SpawnOutcomeLemmas.{spawn_stands, full_stands}
+use Rattle.mono_rt.proofs.PossibleAnswerLemmas.{aligned_spawned, aligned_same}
 use Rattle.mono_rt.proofs.runtimes.Runtime.spawn.Goals as goal
 
 abbrev failed : SpawnTask → Result ℕ SpawnTask

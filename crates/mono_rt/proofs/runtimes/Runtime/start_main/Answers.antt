@@ -1,4 +1,4 @@
-use Rattle.std.proofs.Common.{refl}
+use Rattle.std.proofs.Common.{refl, ◌∙◌}
 use Rattle.mono_rt.proofs.JournalLemmas.{goes_nowhere, does_stay}
 use Rattle.mono_rt.proofs.DriverLemmas.{tells_nothing}
 use Rattle.mono_rt.proofs.runtimes.Runtime.start_main.Goals as goal
@@ -39,3 +39,18 @@ returns-in-Ok-start_main-clause-told g c = c.start_main.ensures.told _
 
 pub returns-then-has_no_place-clause-told : goal.returns-then-has_no_place-clause-told
 returns-then-has_no_place-clause-told g c = c.refuse_main.ensures.told _
+
+pub returns-in-Err-clause-same_futures : goal.returns-in-Err-clause-same_futures
+returns-in-Err-clause-same_futures g c = c.reserve_value.ensures.same.items
+
+pub returns-in-Err-start_main-clause-same_tasks : goal.returns-in-Err-start_main-clause-same_tasks
+returns-in-Err-start_main-clause-same_tasks g c = c.in-Err-start_main.ensures.same
+
+pub returns-in-Err-start_main-clause-same_futures : goal.returns-in-Err-start_main-clause-same_futures
+returns-in-Err-start_main-clause-same_futures g c = c.abort.ensures.same.items ∙ c.reserve_value.ensures.same.items
+
+pub returns-in-Ok-start_main-clause-number : goal.returns-in-Ok-start_main-clause-number
+returns-in-Ok-start_main-clause-number g c = c.in-Ok-start_main.ensures.number
+
+pub returns-in-Ok-start_main-clause-tasks : goal.returns-in-Ok-start_main-clause-tasks
+returns-in-Ok-start_main-clause-tasks g c = c.in-Ok-start_main.ensures.made

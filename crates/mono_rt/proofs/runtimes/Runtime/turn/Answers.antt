@@ -11,6 +11,7 @@ use Rattle.mono_rt.specs.Record.{no_acts}
 use Rattle.mono_rt.specs.Turns.{Turn}
 use Rattle.mono_rt.proofs.FuturePollLemmas.{polls_turn}
 use Rattle.mono_rt.proofs.JournalRoomLemmas.{fills_turn}
+use Rattle.mono_rt.proofs.PossibleAnswerLemmas.{no_more_same, no_more_around}
 use Rattle.mono_rt.proofs.runtimes.Runtime.turn.Goals as goal
 
 pub returns-then-self-clause-goes : goal.returns-then-self-clause-goes
@@ -95,3 +96,18 @@ returns-clause-full g c =
     fills_turn g.O.Outcome.output_number g.W.SharedState.leads g.F.TaskFuture old.cx (record old.cx { parts = c.open_turn.new.self }) c.turn-task.new.self old.journal c.open_turn.new.journal c.keep_turn.new.journal _ _ _ _
     c.open_turn.ensures.goes c.open_turn.ensures.full (λ unfull. c.in-Some.ensures.acts ∙ ap no_acts (sym c.open_turn.ensures.full ∙ unfull)) c.turn-task.ensures.turn
     (c.turn-task.ensures.is old.journal.is_full c.in-Some.ensures.acts) c.keep_turn.ensures.full
+
+pub returns-in_default-clause-answers : goal.returns-in_default-clause-answers
+returns-in_default-clause-answers g c =
+    let old = c.args.self.now in
+    no_more_same g.F.TaskFuture.gives old.cx (record old.cx { parts = c.open_turn.new.self }) c.open_turn.ensures.tasks refl
+
+pub returns-then-self-clause-answers : goal.returns-then-self-clause-answers
+returns-then-self-clause-answers g c =
+    let old = c.args.self.now in
+    no_more_around g.F.TaskFuture.gives old.cx (record old.cx { parts = c.open_turn.new.self }) c.turn-task.new.self (record c.turn-task.new.self { parts = c.keep_turn.new.self }) c.open_turn.ensures.tasks refl c.turn-task.ensures.answers c.keep_turn.ensures.tasks refl
+
+pub returns-clause-answers : goal.returns-clause-answers
+returns-clause-answers g c =
+    let old = c.args.self.now in
+    no_more_around g.F.TaskFuture.gives old.cx (record old.cx { parts = c.open_turn.new.self }) c.turn-task.new.self (record c.turn-task.new.self { parts = c.keep_turn.new.self }) c.open_turn.ensures.tasks refl c.turn-task.ensures.answers c.keep_turn.ensures.tasks refl

@@ -6,6 +6,7 @@ use Rattle.mono_rt.specs.Rounds.{IsPark}
 use Rattle.mono_rt.specs.DriverReadings.{Telling, Still, after_park, after_call}
 use Rattle.mono_rt.proofs.DriverLemmas.{telling_on, telling_more, drained_wait, same_told}
 use Rattle.mono_rt.proofs.FaultLemmas.{rises_before}
+use Rattle.mono_rt.proofs.OutputLemmas.{adds_itself, adds_on}
 use Rattle.mono_rt.proofs.runtimes.Runtime.wait.Goals as goal
 
 pub returns-else-self-clause-parks : goal.returns-else-self-clause-parks
@@ -77,3 +78,12 @@ returns-else-self-clause-faults g c = rises_before c.in-Ok.failed _ _ _ c.in-Ok.
 
 pub returns-in-Ok-clock_step-clause-faults : goal.returns-in-Ok-clock_step-clause-faults
 returns-in-Ok-clock_step-clause-faults g c = rises_before c.in-Ok.failed _ _ _ c.in-Ok.ensures.faults (c.clock_step.ensures.faults ∙ c.drain.ensures.faults)
+
+pub returns-in-Err-clause-adds : goal.returns-in-Err-clause-adds
+returns-in-Err-clause-adds g c = adds_itself c.args.self.now.cx.parts.tasks.tasks
+
+pub returns-in-Ok-clock_step-clause-adds : goal.returns-in-Ok-clock_step-clause-adds
+returns-in-Ok-clock_step-clause-adds g c = adds_on c.args.self.now.cx.parts.tasks.tasks c.drain.new.self.cx.parts.tasks.tasks c.clock_step.new.self.tasks.tasks c.drain.ensures.adds c.clock_step.ensures.adds
+
+pub returns-in-Err-clock_step-clause-adds : goal.returns-in-Err-clock_step-clause-adds
+returns-in-Err-clock_step-clause-adds g c = adds_on c.args.self.now.cx.parts.tasks.tasks c.drain.new.self.cx.parts.tasks.tasks c.clock_step.new.self.tasks.tasks c.drain.ensures.adds c.clock_step.ensures.adds

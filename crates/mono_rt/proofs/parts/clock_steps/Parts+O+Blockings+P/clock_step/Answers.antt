@@ -1,4 +1,4 @@
-use Rattle.std.proofs.Common.{refl, ap, ◌∙◌}
+use Rattle.std.proofs.Common.{refl, ap, sym, subst, ◌∙◌}
 use Rattle.mono_model.specs.Tasks.{all_woken}
 use Rattle.mono_time.specs.Instants.{nanos_of}
 use Rattle.mono_task.specs.Schedule as schedule
@@ -6,6 +6,8 @@ use Rattle.mono_machine.specs.declared.events.Event.TheVariants as event
 use Rattle.mono_machine.specs.declared.events.Report.TheVariants as report
 use Rattle.mono_rt.specs.declared.parts.journals.Entry.TheVariants.{Ran}
 use Rattle.mono_rt.specs.Rounds.{IsClock}
+use Rattle.mono_rt.specs.Outputs.{AddsNone}
+use Rattle.mono_rt.proofs.OutputLemmas.{adds_itself, adds_all_woken}
 use Rattle.mono_rt.proofs.JournalLemmas.{goes_nowhere, goes_of, does_stay, does_clock}
 use Rattle.mono_rt.proofs.RoundLemmas.{stay_on, does_more}
 use Rattle.mono_rt.proofs.DriverLemmas.{tells_nothing, tells_one, telling_on, read_at, same_told}
@@ -43,3 +45,11 @@ returns-in_default-clause-undone g c =
 
 pub returns-in_default-clause-told : goal.returns-in_default-clause-told
 returns-in_default-clause-told g c = λ course. tells_nothing refl (same_told g.D.Clock.readings g.D.Clock.time g.D.Clock.parks g.D.Clock.submits g.D.Clock.faults g.D.Clock.can_fail c.in_default.ensures.unread) c.open_clock.ensures.history
+
+pub returns-clause-adds : goal.returns-clause-adds
+returns-clause-adds g c =
+    let old = c.args.self.now in
+    subst (λ x. AddsNone old.tasks.tasks x.tasks) (sym c.wake_all.ensures) (adds_all_woken old.tasks.tasks c.deref.result.now)
+
+pub returns-in_default-clause-adds : goal.returns-in_default-clause-adds
+returns-in_default-clause-adds g c = adds_itself c.args.self.now.tasks.tasks

@@ -1,6 +1,8 @@
 use Rattle.std.proofs.Common.{◌≤◌, ◌++◌, ◌∷◌, [], refl, append_assoc, length, sym, subst, ap, ◌∙◌}
 use Rattle.mono_model.specs.Tasks.{all_woken}
 use Rattle.mono_task.specs.Schedule as schedule
+use Rattle.mono_rt.specs.Outputs.{AddsNone}
+use Rattle.mono_rt.proofs.OutputLemmas.{adds_all_woken}
 use Rattle.mono_rt.specs.Drains.{remotes, listed, drain_of}
 use Rattle.mono_rt.proofs.RoundLemmas.{does_drain}
 use Rattle.mono_rt.proofs.DrainLemmas.{longer}
@@ -38,3 +40,8 @@ returns-clause-told g c = λ old new before after ends.
     (c.push.ensures.history
     ∙ ap (λ xs. xs ++ drain_of woken ∷ []) c.tell_remotes.ensures.history
     ∙ append_assoc c.args.journal.now.history.entries (remotes tasks taken) (drain_of woken ∷ []))
+
+pub returns-clause-adds : goal.returns-clause-adds
+returns-clause-adds g c =
+    let old = c.args.self.now in
+    subst (λ x. AddsNone old.tasks.tasks x.tasks) (sym c.wake_all.ensures) (adds_all_woken old.tasks.tasks c.deref-2.result.now)

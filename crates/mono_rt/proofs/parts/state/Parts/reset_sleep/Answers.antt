@@ -23,6 +23,8 @@ use Rattle.mono_time.specs.Registrations.{FollowsAct}
 use Rattle.mono_time.proofs.RegistrationLemmas.{registered-reset, registered-reset-act}
 use Rattle.mono_machine.specs.declared.events.TurnStep.TheVariants as step
 use Rattle.mono_rt.specs.Record.{Record, noted}
+use Rattle.mono_rt.specs.Outputs.{KeepsOutputs}
+use Rattle.mono_rt.proofs.OutputLemmas.{adds_woken_if_any}
 use Rattle.mono_rt.specs.Leads.{by_act}
 use Rattle.mono_time.specs.Sleeps.{IsNoneArmedUpTo}
 use Rattle.mono_time.proofs.RestLemmas.{rests-reset}
@@ -48,6 +50,7 @@ returns-in-Ok-clause-leads g c = λ hosting.
     (λ m st. subst (λ o. Matches number hosting d o.machine) (sym (outcome m st)) (reset_left number hosting m s now waker old d st c.wake_if_any.ensures (c.reset.ensures.stands m.sleeps st.sleeps).1 (gone_on number hosting old.timers c.reset.new.self _ st.has_gone c.reset.ensures.sleeps alike c.reset.ensures.elapsed) (subst IsNoneArmedUpTo (sym c.reset.ensures.sleeps) (rests-reset (sleeps_of old.timers) s now st.no_due)) (ap (λ x. x.is_enabled) c.reset.ensures.sleeps ∙ alike.is_enabled) refl refl (answer m st)))
     (λ m st. registered-reset-act old.timers c.reset.new.self m s n now (sym is) c.args.deadline.in_range st.sleeps c.registers_armed.ensures.registered (c.reset.ensures.registered st.no_due))
     refl refl (ap (λ x. x.turn) c.wake_if_any.ensures) (ap (λ x. x.turns) c.wake_if_any.ensures) refl refl
+    (subst (λ x. KeepsOutputs old.tasks.tasks x.tasks) (sym c.wake_if_any.ensures) (adds_woken_if_any old.tasks.tasks waker).outputs)
 
 pub returns-in-Err-clause-leads : goal.returns-in-Err-clause-leads
 returns-in-Err-clause-leads g c = λ hosting.
