@@ -8,6 +8,7 @@ pub mod Spawns
 pub mod Starts
 pub mod Numbering
 pub mod Record
+pub mod Handles
 pub mod HeldRoom
 pub mod Refinement
 pub mod Leads

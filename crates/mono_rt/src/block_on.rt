@@ -214,7 +214,13 @@ where
     }
 
     /// Runs rounds and waits until the main task has its output. It ends, since each pass spends some of the budget.
-    fn run<R: Host>(&mut self, rt: &R, alloc: Global, main: u64, turns: u64) -> Result<(), RunError>
+    pub(crate) fn run<R: Host>(
+        &mut self,
+        rt: &R,
+        alloc: Global,
+        main: u64,
+        turns: u64,
+    ) -> Result<(), RunError>
         requires callable { (f : F) → F.can_poll f }
         requires rests { self.old.cx.parts.tasks.turn ≡ None }
         ensures given { OnOk result (GivesOutput self.new.cx.parts.tasks.tasks main) }

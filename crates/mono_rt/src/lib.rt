@@ -8,6 +8,7 @@ mod builder;
 mod contexts;
 mod drains;
 mod ends;
+mod handles;
 mod job_calls;
 mod parts;
 mod runtimes;
@@ -40,7 +41,7 @@ pub use mono_task::{
     Context, JoinContext, JoinHandle, SpawnContext, SpawnRefused, TaskError, TaskFuture,
 };
 pub use mono_time::{
-    Elapsed, Error, Interval, LateError, MissedTickBehavior, Sleep, SleepError, SleepFor,
+    Elapsed, Error, Interval, LateError, MissedTickBehavior, Sleep, SleepError, SleepFor, Tick,
     TimeContext, Timeout, TimeoutError, TimeoutFor, TimeoutRefused, Timers, interval, interval_at,
     sleep, sleep_for, sleep_until, timeout, timeout_at, timeout_for,
 };
