@@ -6,3 +6,4 @@ pub mod Schedule
 pub mod Invariants
 pub mod TaskEnds
 pub mod Spawns
+pub mod TaskPhases

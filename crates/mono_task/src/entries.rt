@@ -2,10 +2,12 @@
 ghost use Rattle.std.specs.Prelude.{◌≡◌, true, Ok};
 ghost use Rattle.mono_model.specs.Joins.{kept_value, join_value, drop_value, finished_value};
 ghost use Rattle.mono_task.specs.Work.{has_output, has_finished};
+ghost use Rattle.mono_task.specs.TaskPhases.{phase_in, waiter_in};
 ghost use Rattle.mono_task.specs.Entries.{task_of, handle_of, is_over, is_noted, woken_entry, waking_of, begun_entry, paused_entry, completed_entry, joined_entry, dropped_entry};
 ghost use Rattle.mono_task.specs.Places.{Gone, Taken, Queued};
 ghost use Rattle.mono_task.specs.declared.entries.Handle.TheVariants.{Kept};
 
+use crate::phases::TaskPhase;
 use mono_model::{Poll, TaskError};
 use std::marker::Model;
 use std::mem;
@@ -207,6 +209,34 @@ impl<O: Drop> Place<O> {
         match self.state {
             State::Gone | State::Taken | State::Done(_) => true,
             _ => false,
+        }
+    }
+
+    /// Returns the task's phase, if a task is there.
+    pub fn phase(&self) -> Option<TaskPhase>
+        ensures { result ≡ phase_in (task_of self.now) }
+    {
+        match self.state {
+            State::Gone => None,
+            State::Taken | State::Done(_) => Some(TaskPhase::Finished),
+            State::IdleDropped | State::IdleKept | State::IdleAwaited(_) => Some(TaskPhase::Idle),
+            State::QueuedDropped | State::QueuedKept | State::QueuedAwaited(_) => {
+                Some(TaskPhase::Queued)
+            }
+            _ => Some(TaskPhase::Running),
+        }
+    }
+
+    /// Returns the task that waits for the output.
+    pub fn waiter(&self) -> Option<u64>
+        ensures { result ≡ waiter_in (task_of self.now) }
+    {
+        match self.state {
+            State::IdleAwaited(by)
+            | State::QueuedAwaited(by)
+            | State::RunningAwaited(by)
+            | State::NotedAwaited(by) => Some(by),
+            _ => None,
         }
     }
 

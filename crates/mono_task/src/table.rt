@@ -6,6 +6,7 @@ ghost use Rattle.mono_model.specs.Tasks.{spawned, woken};
 ghost use Rattle.mono_model.specs.Joins.{wake_answer, join_answer, joined, drop_answer, join_dropped, finished_answer};
 ghost use Rattle.mono_task.specs.Schedule.{no_schedule, with_tasks, begin_answer, after_begin, end_answer, after_end};
 ghost use Rattle.mono_task.specs.Work.{has_output, GivesOutput, over_answer};
+ghost use Rattle.mono_task.specs.TaskPhases.{phase_in, waiter_in};
 ghost use Rattle.mono_task.specs.TaskEnds.{Finishes};
 ghost use Rattle.mono_model.specs.declared.poll.Poll.TheVariants.{Ready, Pending};
 ghost use Rattle.mono_task.specs.declared.error.SpawnTask.TheVariants.{AtCapacity};
@@ -14,6 +15,7 @@ ghost use Rattle.mono_task.specs.declared.entries.Handle.TheVariants.{Kept};
 
 use crate::entries::{Handle, Place, Waking};
 use crate::error::SpawnTask;
+use crate::phases::TaskPhase;
 use mono_model::{Ended, Poll, TaskError, Woke};
 use mono_table::Table;
 use std::alloc::{AllocError, Global};
@@ -315,6 +317,33 @@ impl<O: Drop> Tasks<O> {
             return output;
         }
         entry.drop_join()
+    }
+
+    /// Returns how many numbers were given to tasks.
+    pub fn issued(&self) -> u64
+        ensures { result ≡ next_number self.now.tasks.table }
+    {
+        self.entries.len()
+    }
+
+    /// Returns the phase of a live task, or `None` if and only if no live task has the number.
+    pub fn phase(&self, task: u64) -> Option<TaskPhase>
+        ensures { result ≡ phase_in (value_at self.now.tasks.table task) }
+    {
+        match self.entries.get(task) {
+            None => None,
+            Some(entry) => entry.phase(),
+        }
+    }
+
+    /// Returns the task that waits for the output of a task, if one does.
+    pub fn waiter(&self, task: u64) -> Option<u64>
+        ensures { result ≡ waiter_in (value_at self.now.tasks.table task) }
+    {
+        match self.entries.get(task) {
+            None => None,
+            Some(entry) => entry.waiter(),
+        }
     }
 
     /// Returns whether a task has finished and its output was not taken. If so, its handle is kept, and `drop_join`

@@ -22,3 +22,4 @@ pub mod IntervalLemmas
 pub mod SleepTableLemmas
 pub mod RegistrationLemmas
 pub mod DueSleepLemmas
+pub mod WaitLemmas

@@ -15,6 +15,20 @@ sleeps_of timers = record {
   is_enabled = timers.is_enabled;
 }
 
+-- The tick at which a sleep is armed, and the task that waits for it, if one does.
+abbrev pub with_tick : ℕ → Option ℕ → Option (ℕ × ℕ)
+with_tick tick None = None
+with_tick tick (Some task) = Some (tick, task)
+
+abbrev pub wait_in : Kept → Option (ℕ × ℕ)
+wait_in (fresh tick) = None
+wait_in (armed tick waker) = with_tick tick waker
+wait_in elapsed = None
+
+abbrev pub wait_of : Option Kept → Option (ℕ × ℕ)
+wait_of None = None
+wait_of (Some kept) = wait_in kept
+
 -- The tick that the wheel has reached: the greatest tick, except during a clock step.
 abbrev pub elapsed_tick : Timers → ℕ
 elapsed_tick timers = timers.wheel.elapsed

@@ -1,7 +1,7 @@
 // The table of sleeps over the wheel.
 ghost use Rattle.std.specs.Prelude.{◌≡◌, ◌<◌, ◌≤◌, ◌+◌, ◌-◌, ◌^◌, ℕ, max, Option, None, Some, IfOk, IfNone, IfSome, OnSome, nat_le, ◌==◌, ◌||◌};
 ghost use Rattle.mono_model.specs.Ticks.{up};
-ghost use Rattle.mono_model.specs.Table.{value_at, count_of, is_full};
+ghost use Rattle.mono_model.specs.Table.{value_at, count_of, is_full, next_number};
 ghost use Rattle.mono_time.specs.Representation.{Holds};
 ghost use Rattle.mono_model.specs.SleepAnswers.{poll_of};
 
@@ -70,7 +70,7 @@ impl Timers {
     ghost use Rattle.mono_time.specs.Instants.{nanos_of};
     ghost use Rattle.mono_time.specs.Sleeps.{empty_sleep_table, Added, sleep_poll_answer, with_polled_sleep, sleep_reset_answer, with_reset_sleep, sleep_remove_answer, with_removed_sleep, sleep_elapsed_answer, at_clock_tick, with_fired_sleep, IsOneArmed, IsNoneArmedUpTo, IsFiredFirst, armed_count, armed};
     ghost use Rattle.mono_model.specs.SleepActs as machine;
-    ghost use Rattle.mono_time.specs.Timers.{sleeps_of, elapsed_tick, registered_of, credit_left, poll_raise};
+    ghost use Rattle.mono_time.specs.Timers.{sleeps_of, wait_of, elapsed_tick, registered_of, credit_left, poll_raise};
     ghost use Rattle.mono_wheel.specs.Credit.{most_takes};
     ghost use Rattle.mono_time.specs.SlotRegistration.{RegistersOnly, polled_registered, reset_registered, moved_registered, IsRegistered, NextExpiration};
     ghost use Rattle.mono_time.specs.Refinement.{StandsForSleeps};
@@ -221,6 +221,27 @@ impl Timers {
         match key_at(&self.keys, sleep) {
             None => Err(Error::Shutdown),
             Some(key) => Ok(self.entries[key].state.is_elapsed()),
+        }
+    }
+
+    /// Returns how many numbers were given to sleeps.
+    pub fn issued(&self) -> u64
+        ensures { result ≡ next_number (sleeps_of self.now).table }
+    {
+        self.keys.len()
+    }
+
+    /// Returns the tick at which a sleep is armed, and the task that waits for it. Returns `None` if and only if no
+    /// task waits for the sleep.
+    pub fn wait_of(&self, sleep: u64) -> Option<(u64, u64)>
+        ensures { result ≡ wait_of (value_at (sleeps_of self.now).table sleep) }
+    {
+        match key_at(&self.keys, sleep) {
+            None => None,
+            Some(key) => match self.entries[key].state.waker() {
+                None => None,
+                Some(task) => Some((self.wheel.tick_of(key), task)),
+            },
         }
     }
 

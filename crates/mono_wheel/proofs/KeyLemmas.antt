@@ -6,6 +6,7 @@ use Rattle.std.proofs.Math.ListN.{get_or-map as get_or-map_any}
 use Rattle.std.proofs.lemmas.List.{map-set, length-map, get_or_past, get_or-map}
 use Rattle.mono_wheel.specs.Lists.{no_entry}
 use Rattle.mono_wheel.specs.Holdings.{timed_of, timed_in}
+use Rattle.mono_wheel.specs.Model.{tick_of}
 use Rattle.mono_wheel.specs.declared.entry.Entry.{Entry}
 use Rattle.mono_wheel.proofs.StartLemmas.{eqb-no}
 
@@ -42,6 +43,12 @@ is-read entries key x e = told x ∙ ap (λ z. is_some (timed_of z)) e ∙ sym (
   where
     told : (x : Entry) → not (x.tick == 0) ≡ is_some (timed_of x)
     told x = elim (eqb_tells x.tick 0) [ inl t ↦ rw t.0 refl | inr f ↦ rw f.0 refl ]
+
+pub tick-read : (entries : List Entry) (key : ℕ) (x : Entry) → x ≡ get_or entries key no_entry → x.tick ≡ tick_of (timed_in entries key)
+tick-read entries key x e = told x ∙ ap (λ z. tick_of (timed_of z)) e ∙ sym (ap tick_of (timed-read entries key))
+  where
+    told : (x : Entry) → x.tick ≡ tick_of (timed_of x)
+    told x = elim (eqb_tells x.tick 0) [ inl t ↦ rw t.0 t.1 | inr f ↦ rw f.0 refl ]
 
 pub entry-inside : (entries : List Entry) (key : ℕ) (x : Entry) → key < length entries → x ≡ get_or entries key x → (timed_in entries key ≡ None → ⊥) → x.tick ≢ 0
 entry-inside entries key x below e some z = some (get_or-map-at entries key x below ∙ ap timed_of (sym e) ∙ none_of x z)

@@ -1,7 +1,8 @@
 // The pool that runs the blocking jobs, with the table of those jobs.
 ghost use Rattle.std.specs.Prelude.{◌≡◌, ◌≤◌, false, IfSome, IfNone};
 ghost use Rattle.mono_model.specs.Jobs.{no_jobs};
-ghost use Rattle.mono_model.specs.Table.{is_full};
+ghost use Rattle.mono_model.specs.Table.{is_full, value_at, next_number};
+ghost use Rattle.mono_machine.specs.Watches.{job_waiter};
 ghost use Rattle.mono_machine.specs.JobCalls.{poll_answer, job_polled, drop_answer, job_dropped};
 ghost use Rattle.mono_machine.specs.declared.events.Blocking.TheVariants as strategy;
 ghost use Rattle.mono_blocking.specs.declared.strategy.BlockingHandle.TheVariants.{Attached};
@@ -157,6 +158,20 @@ impl<P: ThreadPool + Drop> Blockings<P> {
         ensures pool { self.new.pool ≡ self.old.pool }
     {
         self.jobs.has_ended(j)
+    }
+
+    /// Returns how many numbers were given to jobs.
+    pub fn issued(&self) -> u64
+        ensures { result ≡ next_number self.now.table.jobs.table }
+    {
+        self.jobs.issued()
+    }
+
+    /// Returns the task that waits for a job, if one does. Only a running job has such a task.
+    pub fn waiter(&self, j: u64) -> Option<u64>
+        ensures { result ≡ job_waiter (value_at self.now.table.jobs.table j) }
+    {
+        self.jobs.waiter(j)
     }
 
     /// Returns the attached pool, or `None` if and only if none is attached.

@@ -2,6 +2,7 @@
 ghost use Rattle.std.specs.Prelude.{◌≡◌, IfOk, OnOk, is_some, true, None, Ok, Err, Some};
 ghost use Rattle.mono_model.specs.Table.{value_at, next_number, is_full};
 ghost use Rattle.mono_model.specs.Jobs.{no_jobs, running, ended_ok, taken};
+ghost use Rattle.mono_machine.specs.Watches.{job_waiter};
 ghost use Rattle.mono_joinword.specs.Ends.{joiner_view};
 ghost use Rattle.mono_joinword.specs.Views.{fresh};
 ghost use Rattle.mono_machine.specs.JobCalls.{with_next_job, with_job, kept_job, poll_answer, job_polled, drop_answer, job_dropped};
@@ -71,6 +72,23 @@ impl<J: Job> JobTable<J> {
         ensures jobs { self.new.jobs ≡ self.old.jobs }
     {
         self.places.reserve(alloc, Place::Taken)
+    }
+
+    /// Returns how many numbers were given to jobs.
+    pub fn issued(&self) -> u64
+        ensures { result ≡ next_number self.now.jobs.table }
+    {
+        self.places.len()
+    }
+
+    /// Returns the task that waits for a job, if one does. Only a running job has such a task.
+    pub fn waiter(&self, j: u64) -> Option<u64>
+        ensures { result ≡ job_waiter (value_at self.now.jobs.table j) }
+    {
+        match self.places.get(j) {
+            Some(Place::Running(_number, _joiner, waiter)) => *waiter,
+            _ => None,
+        }
     }
 
     /// Adds a job that runs elsewhere, with the number of its output, and returns the job's number.
