@@ -40,7 +40,7 @@ impl<F: Drop, O: Outcome + Drop, D: Driver, P: ThreadPool + Drop, W: SharedState
     /// Polls for the output of a task, without a waker: no task waits for it. An output is returned once.
     ///
     /// Refused with `NoTask`, then with `NoHandle`, then with `Taken` (`answer`). Only an output changes anything: the
-    /// machine answers it to a poll by any task (`machine`). The journal does not record the poll (`journal`).
+    /// machine answers it to a poll by any task (`machine`). The journal does not record the poll (`same`).
     pub fn poll_join(&mut self, handle: &JoinHandle<O>) -> Result<Poll<O>, TaskError>
         ensures answer { result ≡ join_answer self.old.cx.parts.tasks.tasks handle.now }
         ensures taken { TakesOutput self.old.cx.parts.tasks.tasks handle.now result self.new.cx.parts.tasks.tasks }
@@ -84,10 +84,8 @@ where
     /// never has an output.
     ///
     /// ```rust
-    /// // use_locks/src/main.rt
-    /// if runtime.run_until(rt, alloc, &third, 1000).is_err() {
-    ///     return None;
-    /// }
+    /// // test_runtime/src/handles.rt
+    /// runtime.run_until(rt, alloc, handle, 10)
     /// ```
     pub fn run_until<R: Host>(
         &mut self,

@@ -10,6 +10,8 @@ mod crowds;
 #[cfg(test)]
 mod failures;
 #[cfg(test)]
+mod handles;
+#[cfg(test)]
 mod jobs;
 #[cfg(test)]
 mod naps;

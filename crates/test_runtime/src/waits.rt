@@ -97,7 +97,7 @@ const LIMITS: Limits = Limits {
 pub(crate) type Worked<D> = Runtime<Work, u64, D, NoPool<Gives>>;
 
 /// Such a runtime on a driver that never waits.
-type Quiet = Worked<StepDriver>;
+pub(crate) type Quiet = Worked<StepDriver>;
 
 /// Returns the answer of such a task as the main one, with a budget of `units` turns. It has no clauses, so callers
 /// have none to carry.
@@ -123,7 +123,7 @@ fn stepping<R: Abort>(rt: &R, alloc: Global, fails: Option<u64>) -> StepDriver {
 }
 
 /// Returns a runtime on such a driver.
-fn quiet<R: Abort>(rt: &R, alloc: Global, fails: Option<u64>) -> Quiet
+pub(crate) fn quiet<R: Abort>(rt: &R, alloc: Global, fails: Option<u64>) -> Quiet
     ensures { result.cx.parts.tasks.turn ≡ None }
 {
     let pool = BlockingHandle::Empty(BlockingStrategy::Panic);
