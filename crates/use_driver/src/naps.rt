@@ -1,5 +1,5 @@
 // A future that sleeps once, and a run of it.
-ghost use Rattle.std.specs.Prelude.{◌≡◌, ⊤, false, IfOk};
+ghost use Rattle.std.specs.Prelude.{◌≡◌, false, IfOk};
 ghost use Rattle.mono_machine.specs.Machine.{Machine, start_machine};
 ghost use Rattle.mono_machine.specs.Steps.{Run};
 ghost use Rattle.mono_machine.specs.declared.events.Blocking.TheVariants.{Panic};
@@ -38,10 +38,6 @@ impl<C: TimeContext> TaskFuture<C> for Nap {
     type Output = u64;
 
     ghost is_spent = { λ f. f.has_answered };
-
-    ghost polls = { λ f c r g d. ⊤ };
-
-    ghost cancels = { λ f c d. ⊤ };
 
     fn spent(&self) -> bool {
         self.has_answered
