@@ -1,11 +1,15 @@
--- Laws that hold over any calls of a channel and of a semaphore.
+-- Laws that hold over any calls of channels and of a semaphore.
 use Rattle.std.specs.Prelude.{⊤, true, false, ◌≡◌, ◌<◌, ◌≤◌, ◌+◌, ℕ, List, [], ◌∷◌, ◌++◌, length, Option, Some, None, Result, Ok, Err}
 use Rattle.mono_sync.specs.declared.lines.Waiter.{Waiter}
 use Rattle.mono_sync.specs.declared.semaphores.Semaphore.{Semaphore}
 use Rattle.mono_sync.specs.declared.mpsc.Channel.{Channel}
 use Rattle.mono_sync.specs.Semaphores.{Releases}
+use Rattle.mono_sync.specs.Mpsc.{Pushes, Pops}
 use Rattle.mono_sync.specs.SemaphoreRuns as semaphore
 use Rattle.mono_sync.specs.MpscRuns as channel
+use Rattle.mono_sync.specs.declared.oneshot.Oneshot.{Oneshot}
+use Rattle.mono_sync.specs.Runs.{Run}
+use Rattle.mono_sync.specs.OneshotRuns as oneshot
 
 -- The given permits and the remaining ones are those at the start and those put back.
 abbrev pub PermitsAreKept : Type 0
@@ -20,6 +24,13 @@ Rises low (w ∷ ws) next = (low ≤ w.ticket) × (w.ticket < next) × Rises (w.
 abbrev pub FirstComeFirstServed : Type 0
 FirstComeFirstServed = (es : List semaphore.Event) (a b c : Semaphore) (w : Waiter) → Rises 0 a.line.waiters.items a.line.next → semaphore.Run a es b → Releases b (Ok (Some w)) c → Rises (w.ticket + 1) c.line.waiters.items c.line.next
 
+-- Tickets rise along both lines of a channel. So a receive serves the sender that has waited longest, and a send the
+-- receiver that has waited longest.
+abbrev pub ServedInOrder : (T : Type 0) → Type 0
+ServedInOrder T = (es : List (channel.Event T)) (a b c : Channel T) (x : T) (w : Waiter) → channel.Run a es b
+    → (Rises 0 a.senders.waiters.items a.senders.next → Pops b x (Some w) c → Rises (w.ticket + 1) c.senders.waiters.items c.senders.next)
+    × (b.is_closed ≡ false → Rises 0 a.receivers.waiters.items a.receivers.next → Pushes b x (Some w) c → Rises (w.ticket + 1) c.receivers.waiters.items c.receivers.next)
+
 -- The received messages, followed by the queue at the end, are the queue at the start, followed by the sent messages.
 abbrev pub InOrder : (T : Type 0) → Type 0
 InOrder T = (es : List (channel.Event T)) (a b : Channel T) → channel.Run a es b → channel.received es ++ b.queue.items ≡ a.queue.items ++ channel.sent es
@@ -31,3 +42,9 @@ NothingAfterClose T = (es : List (channel.Event T)) (a b : Channel T) → a.is_c
 -- The bound stays the same, and the channel stays within it.
 abbrev pub StaysBounded : (T : Type 0) → Type 0
 StaysBounded T = (es : List (channel.Event T)) (a b : Channel T) → channel.Run a es b → (b.bound ≡ a.bound) × (length a.queue.items ≤ a.bound → length b.queue.items ≤ b.bound)
+
+-- An open channel holds no message. One message is sent at most, and none after a close. What is received was sent, and
+-- comes out once.
+abbrev pub ReceivedOnce : (T : Type 0) → Type 0
+ReceivedOnce T = (es : List (oneshot.Event T)) (a b : Oneshot T) → (a.is_closed ≡ false → a.message ≡ None) → Run oneshot.Step a es b
+    → (oneshot.all_received es ++ oneshot.held b.message ≡ oneshot.held a.message ++ oneshot.all_sent es) × (length (oneshot.all_sent es) ≤ 1) × (a.is_closed ≡ true → oneshot.all_sent es ≡ [])

@@ -1,8 +1,9 @@
 -- The calls of a channel for one message, each with its answer.
-use Rattle.std.specs.Prelude.{ℕ, Option, Result}
+use Rattle.std.specs.Prelude.{ℕ, List, [], ◌∷◌, ◌++◌, Option, Some, None, Result, Ok, Err}
 use Rattle.mono_sync.specs.declared.oneshot.Oneshot.{Oneshot}
 use Rattle.mono_sync.specs.declared.oneshot.TryRecvError.{TryRecvError}
 use Rattle.mono_sync.specs.declared.oneshot.Receiving.{Receiving}
+use Rattle.mono_sync.specs.declared.oneshot.Receiving.TheVariants as receiving
 use Rattle.mono_sync.specs.Oneshot.{Sends, TriesToReceive, Receives, Closes, GivesUp}
 
 pub data Event (T : Type 0) : Type 0 where
@@ -18,3 +19,37 @@ Step a (tried r) b = TriesToReceive a r b
 Step a (asked task r) b = Receives a task r b
 Step a (closed woken) b = Closes a woken b
 Step a gave_up b = GivesUp a b
+
+module _ {T : Type 0} where
+  -- The message that the channel holds, if any.
+  abbrev pub held : Option T → List T
+  held None = []
+  held (Some x) = x ∷ []
+
+  -- The message that the call sent, if any.
+  abbrev pub sent_by : Event T → List T
+  sent_by (sent x (Ok woken)) = x ∷ []
+  sent_by (sent x (Err y)) = []
+  sent_by (tried r) = []
+  sent_by (asked task r) = []
+  sent_by (closed woken) = []
+  sent_by gave_up = []
+
+  abbrev pub all_sent : List (Event T) → List T
+  all_sent [] = []
+  all_sent (e ∷ es) = sent_by e ++ all_sent es
+
+  -- The message that the call received, if any.
+  abbrev pub received_by : Event T → List T
+  received_by (sent x r) = []
+  received_by (tried (Ok x)) = x ∷ []
+  received_by (tried (Err e)) = []
+  received_by (asked task (receiving.Received x)) = x ∷ []
+  received_by (asked task receiving.Closed) = []
+  received_by (asked task receiving.Waits) = []
+  received_by (closed woken) = []
+  received_by gave_up = []
+
+  abbrev pub all_received : List (Event T) → List T
+  all_received [] = []
+  all_received (e ∷ es) = received_by e ++ all_received es
