@@ -1,0 +1,84 @@
+// Rows of numbers that two threads send, and one receives.
+use mono_channel::{Receiver, Sender, channel};
+use mono_inbox::NoUnpark;
+use mono_model::Host;
+use std::alloc::{AllocError, Global};
+use std::thread;
+
+// Sends all, in order, and closes the sender.
+fn send_all<R: Host>(rt: &R, mut sender: Sender<u64, NoUnpark>, all: &[u64]) {
+    let mut next = 0;
+    for _ in rt.forever() {
+        if next >= all.len() {
+            break;
+        }
+        match sender.try_send(rt, all[next]) {
+            Ok(()) => next += 1,
+            Err(_) => thread::yield_now(),
+        }
+    }
+    sender.close(rt);
+}
+
+// Receives until none is queued.
+fn receive_all<R: Host>(
+    rt: &R,
+    alloc: Global,
+    receiver: &mut Receiver<u64, NoUnpark>,
+) -> Result<Vec<u64>, AllocError> {
+    let mut got = Vec::new(alloc);
+    for _ in rt.forever() {
+        match receiver.try_recv(rt) {
+            Ok(number) => got.push(number)?,
+            Err(_) => break,
+        }
+    }
+    Ok(got)
+}
+
+// Sends both rows from a thread each, and then receives them.
+fn deliver<R: Host + Sync>(
+    rt: &R,
+    alloc: Global,
+    first: &[u64],
+    second: &[u64],
+) -> Result<Vec<u64>, AllocError> {
+    let bound = first.len().saturating_add(second.len()).saturating_add(1);
+    let (mut one, mut receiver) = channel(alloc, bound)?;
+    let two = one.try_clone(rt)?;
+    thread::join(
+        rt,
+        move || send_all(rt, one, first),
+        move || send_all(rt, two, second),
+    );
+    receive_all(rt, alloc, &mut receiver)
+}
+
+// The numbers that are greater than those before of the same row: the second row's are above 100.
+fn in_order(got: &[u64]) -> usize {
+    let mut low = 0;
+    let mut high = 100;
+    let mut count = 0usize;
+    for number in got {
+        if *number > 100 && *number > high {
+            high = *number;
+            count = count.saturating_add(1);
+        }
+        if *number <= 100 && *number > low {
+            low = *number;
+            count = count.saturating_add(1);
+        }
+    }
+    count
+}
+
+#[test]
+fn two_rows_arrive(rt: HostRuntime) {
+    let alloc = rt.alloc();
+    let first = [1u64, 2, 3, 4, 5];
+    let second = [101u64, 102, 103];
+    if let Ok(got) = deliver(&rt, alloc, &first, &second) {
+        assert_eq!(rt; got.len(), 8);
+        assert_eq!(rt; in_order(got.as_slice()), 8);
+    }
+}

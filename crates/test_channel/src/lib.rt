@@ -1,0 +1,9 @@
+//! Tests of the channel between runtimes, over its public calls.
+#![tactic(auto)]
+
+#[cfg(test)]
+mod calls;
+#[cfg(test)]
+mod crossings;
+#[cfg(test)]
+mod wakes;
