@@ -3,10 +3,10 @@
 
 usage: tools/soak/threads.py [SECONDS]
 
-`rt try --test` builds the tests, unproved and with checks. A kit has no sanitizers, so valgrind's helgrind looks for
-races between threads, if it is installed. That build runs every test once. Then tests are drawn at random until the time
-is over, and each drawn test runs once under helgrind and ten times without. The soak ends at the first run that fails or
-takes ten minutes.
+`rt try --test` builds the tests, unproved, with checks and with AddressSanitizer. A kit has no ThreadSanitizer, so
+valgrind's helgrind looks for races between threads, if it is installed. That build runs every test once. Then tests are
+drawn at random until the time is over, and each drawn test runs once under helgrind and ten times without. The soak ends
+at the first run that fails or takes ten minutes.
 """
 import os
 import random
@@ -82,7 +82,7 @@ def main():
     with tempfile.TemporaryDirectory(prefix="threads-") as folder:
         commands = [words for crate in CRATES for words in tests(built(crate, folder))]
         plain, watched = soak(commands, seconds)
-    print(f"{len(commands)} tests of threads: {plain} runs, and {watched} under helgrind; a kit has no sanitizers")
+    print(f"{len(commands)} tests of threads: {plain} runs, and {watched} under helgrind; all with AddressSanitizer")
 
 
 if __name__ == "__main__":
