@@ -113,6 +113,8 @@ class Picture:
 
 
 def main():
+    if len(sys.argv) > 1:
+        sys.exit(__doc__.strip())
     print(Picture(journal.Journal(sys.stdin)).svg())
 
 

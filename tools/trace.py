@@ -74,6 +74,8 @@ class Trace:
 
 
 def main():
+    if len(sys.argv) > 1:
+        sys.exit(__doc__.strip())
     print(Trace(journal.Journal(sys.stdin)).text())
 
 
