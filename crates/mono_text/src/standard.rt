@@ -3,7 +3,7 @@ ghost use Rattle.std.specs.Prelude.{◌≡◌};
 
 use crate::sink::{Sink, SinkFault};
 use crate::source::{Source, SourceFault};
-use crate::tries::{has_taken, read_again, write_again};
+use crate::tries::{Failures, read_counted, write_counted};
 use std::io;
 use std::rt::{Stdin, Stdout};
 
@@ -12,44 +12,35 @@ use std::rt::{Stdin, Stdout};
 #[derive(Drop)]
 pub struct StdinSource {
     stdin: Stdin,
-    faults: u64,
-    error: Option<io::Error>,
+    failures: Failures,
 }
 
 impl StdinSource {
     /// Returns the source that reads this standard input.
     pub fn new(stdin: Stdin) -> StdinSource
-        ensures { result.faults ≡ 0 }
+        ensures { result.failures.count ≡ 0 }
     {
         StdinSource {
             stdin,
-            faults: 0,
-            error: None,
+            failures: Failures::new(),
         }
     }
 
     /// Returns the system's error of the last read that failed.
     pub fn error(&self) -> Option<&io::Error> {
-        self.error.as_ref()
+        self.failures.error.as_ref()
     }
 }
 
 impl Source for StdinSource {
     ghost use Rattle.std.specs.Prelude.{None};
 
-    ghost faults = { λ source. source.faults };
+    ghost faults = { λ source. source.failures.count };
 
     ghost left = { λ source. None };
 
     fn read(&mut self, buffer: &mut [u8]) -> Result<usize, SourceFault> {
-        match read_again(&mut self.stdin, buffer) {
-            Ok(n) => Ok(n),
-            Err(error) => {
-                self.faults = self.faults.saturating_add(1);
-                self.error = Some(error);
-                Err(SourceFault)
-            }
-        }
+        read_counted(&mut self.stdin, &mut self.failures, buffer)
     }
 }
 
@@ -60,45 +51,34 @@ impl Source for StdinSource {
 #[derive(Drop)]
 pub struct StdoutSink {
     stdout: Stdout,
-    faults: u64,
-    error: Option<io::Error>,
+    failures: Failures,
 }
 
 impl StdoutSink {
     /// Returns the sink that writes to this standard output.
     pub fn new(stdout: Stdout) -> StdoutSink
-        ensures { result.faults ≡ 0 }
+        ensures { result.failures.count ≡ 0 }
     {
         StdoutSink {
             stdout,
-            faults: 0,
-            error: None,
+            failures: Failures::new(),
         }
     }
 
     /// Returns the system's error of the last write that failed; None if that write took no byte.
     pub fn error(&self) -> Option<&io::Error> {
-        self.error.as_ref()
+        self.failures.error.as_ref()
     }
 }
 
 impl Sink for StdoutSink {
     ghost use Rattle.std.specs.Prelude.{None};
 
-    ghost faults = { λ sink. sink.faults };
+    ghost faults = { λ sink. sink.failures.count };
 
     ghost written = { λ sink. None };
 
     fn write(&mut self, piece: &[u8]) -> Result<usize, SinkFault> {
-        match write_again(&mut self.stdout, piece) {
-            Ok(n) => {
-                if has_taken(n, piece.len()) {
-                    return Ok(n);
-                }
-            }
-            Err(error) => self.error = Some(error),
-        }
-        self.faults = self.faults.saturating_add(1);
-        Err(SinkFault)
+        write_counted(&mut self.stdout, &mut self.failures, piece)
     }
 }

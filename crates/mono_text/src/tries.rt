@@ -1,7 +1,10 @@
 // Calls of the system that are repeated while a signal interrupts them.
 ghost use Rattle.std.specs.Prelude.{◌≡◌, ◌<◌, ◌≤◌, ◌↔◌, ◌⊎◌, IfOk, OnErr, IsTrue, take, length};
 ghost use Rattle.std.specs.Io.KnownBytes.{Keeps, Appends, Consumes, IsAtEnd};
+ghost use Rattle.mono_text.specs.Environment.{HasCause, HasRisen};
 
+use crate::sink::SinkFault;
+use crate::source::SourceFault;
 use std::io::{self, ErrorKind, Read, Write};
 
 /// Returns whether a call that ended with an error of this kind is repeated after `tries` tries. An interrupted call is
@@ -59,4 +62,76 @@ pub fn write_again<W: Write>(writer: &mut W, piece: &[u8]) -> io::Result<usize>
         }
         tries += 1;
     }
+}
+
+/// How often a reader or writer has failed, and the system's error of the last failure.
+#[derive(Drop)]
+pub(crate) struct Failures {
+    pub(crate) count: u64,
+    pub(crate) error: Option<io::Error>,
+}
+
+impl Failures {
+    /// Returns no failures.
+    pub(crate) fn new() -> Failures
+        ensures { result.count ≡ 0 }
+    {
+        Failures {
+            count: 0,
+            error: None,
+        }
+    }
+
+    // Counts one more failure, with this error.
+    fn add(&mut self, error: Option<io::Error>)
+        ensures { (self.old.count ≤ self.new.count) × HasRisen self.old.count self.new.count }
+    {
+        self.count = self.count.saturating_add(1);
+        self.error = error;
+    }
+}
+
+/// Reads as [`read_again`] does, and counts a read that failed (`cause`). It returns 0 for a buffer that is not empty
+/// only at the end of the input (`end`).
+pub(crate) fn read_counted<R: Read>(
+    reader: &mut R,
+    failures: &mut Failures,
+    buffer: &mut [u8],
+) -> Result<usize, SourceFault>
+    ensures within { IfOk result (λ n. n ≤ length buffer.old) }
+    ensures bytes { IfOk result (λ n. Consumes (R.remaining reader.old) (R.remaining reader.new) (take n buffer.new)) }
+    ensures end { IfOk result (λ n. n ≡ 0 → 0 < length buffer.old → IsAtEnd (R.remaining reader.new)) }
+    ensures failed { OnErr result (Keeps (R.remaining reader.old) (R.remaining reader.new)) }
+    ensures cause { HasCause failures.old.count failures.new.count result }
+{
+    match read_again(reader, buffer) {
+        Ok(n) => Ok(n),
+        Err(error) => {
+            failures.add(Some(error));
+            Err(SourceFault)
+        }
+    }
+}
+
+/// Writes as [`write_again`] does, and counts a write that failed (`cause`), or that took no byte of some (`some`).
+pub(crate) fn write_counted<W: Write>(
+    writer: &mut W,
+    failures: &mut Failures,
+    piece: &[u8],
+) -> Result<usize, SinkFault>
+    ensures within { IfOk result (λ n. n ≤ length piece.now) }
+    ensures some { IfOk result (λ n. 0 < length piece.now → 0 < n) }
+    ensures bytes { IfOk result (λ n. Appends (W.contents writer.old) (W.contents writer.new) (take n piece.now)) }
+    ensures cause { HasCause failures.old.count failures.new.count result }
+{
+    match write_again(writer, piece) {
+        Ok(n) => {
+            if has_taken(n, piece.len()) {
+                return Ok(n);
+            }
+            failures.add(None);
+        }
+        Err(error) => failures.add(Some(error)),
+    }
+    Err(SinkFault)
 }
