@@ -7,10 +7,14 @@ PROGRAM is `monoio`, BENCH is `mono_bench`. rustc builds the plain programs of t
 A time is processor time (user and system) of the best run at the allocator's defaults; peak memory is the largest resident
 set. `quick` takes inputs of a sixteenth and two runs.
 
+Instructions are valgrind's; without valgrind their tables are left out. They do not depend on what else runs.
+
 The environment's ANCHORS names the program of the original's wheel, if there is one. It is not in the repository: put the
 crate's own wheel and slab behind `fn register, remove, reset, poll`, with the words `bench WORKLOAD orig-packed N`.
 """
 import os
+import re
+import shutil
 import subprocess
 import sys
 import tempfile
@@ -51,6 +55,16 @@ class Bench:
             micros, peak = text.read().split()
         return int(micros) / 1e6, int(peak)
 
+    def instructions(self, words, source=None):
+        """Returns how many instructions a program executes."""
+        counts = ["valgrind", "--tool=callgrind", f"--callgrind-out-file={self.path('calls')}", *words]
+        with open(source or os.devnull, "rb") as into:
+            done = subprocess.run(counts, stdin=into, stdout=subprocess.DEVNULL, stderr=subprocess.PIPE, text=True)
+        found = re.search(r"refs: +([\d,]+)", done.stderr)
+        if done.returncode or not found:
+            sys.exit(f"{' '.join(counts)}: {done.stderr[-200:]}")
+        return int(found[1].replace(",", ""))
+
     def pair(self, ours, plain, source=None):
         """Returns the best time and the peak memory of each side, in alternate runs."""
         sides = [[], []]
@@ -63,7 +77,7 @@ class Bench:
     def table(self, title, command, rows):
         """Prints a table; a row is a label, our words, the plain program's words or None, and an input or None."""
         print(f"\n## {title}\n\nCommand: `{command}`.\n")
-        print("| Workload | Ratio | Time, ms | Plain, ms | Peak memory, MB | Plain, MB |\n|---|---|---|---|---|---|")
+        print("| Workload | Ratio | Time, ms | Plain, ms | Peak memory, MB | Plain, MB |\n|---|---|---|---|---|---|", flush=True)
         for label, ours, plain, source in rows:
             here, there = self.pair(ours, plain, source)
             ratio = f"{here[0] / max(there[0], 1e-6):.2f}" if there else ""
@@ -103,36 +117,76 @@ def services(b):
 
 
 def workloads(b):
-    by = b.by
+    """A workload is its words, with the plain program of the same words, if there is one."""
+    million, ten = str(1000000 // b.by), str(10000000 // b.by)
     rows = [
-        ("`beats 1000000 0`: sessions opened", ["beats", str(1000000 // by), "0"], "beats"),
-        ("`beats 1000000 60`: and 60 seconds of heartbeats", ["beats", str(1000000 // by), "60"], "beats"),
-        ("`buckets 1000000 10000000 50`", ["buckets", str(1000000 // by), str(10000000 // by), "50"], "limiter"),
-        ("`ring 1000 10000000 0`", ["ring", "1000", str(10000000 // by), "0"], "ring"),
-        ("`ring 1000000 0 16`", ["ring", str(1000000 // by), "0", "16"], "ring"),
-        ("`turns pair 10000000`", ["turns", "pair", str(10000000 // by)], "turns"),
-        ("`turns sleeps 1000000`", ["turns", "sleeps", str(1000000 // by)], "turns"),
-        ("`turns spawn 1000000`", ["turns", "spawn", str(1000000 // by)], None),
-        ("`turns come 10000000`", ["turns", "come", str(10000000 // by)], None),
-        ("`churn 10000000 1000`", ["churn", str(10000000 // by), "1000"], None),
-        ("`errands 10000000 1000`", ["errands", str(10000000 // by), "1000"], None),
-        ("`sweep 1000000 100`", ["sweep", str(1000000 // by), "100"], None),
+        (["beats", million, "0"], "beats"),
+        (["beats", million, "60"], "beats"),
+        (["buckets", million, ten, "50"], "limiter"),
+        (["ring", "1000", ten, "0"], "ring"),
+        (["ring", million, "0", "16"], "ring"),
+        (["turns", "pair", ten], "turns"),
+        (["turns", "sleeps", million], "turns"),
+        (["turns", "spawn", million], None),
+        (["turns", "come", ten], None),
+        (["churn", ten, "1000"], None),
+        (["errands", ten, "1000"], None),
+        (["sweep", million, "100"], None),
     ]
     full = []
-    for label, words, plain in rows:
-        other = [b.path(plain), *words[1:]] if plain else None
-        full.append((label, [b.bench, *words], other, None))
+    for words, plain in rows:
+        full.append((f"`{' '.join(words)}`", [b.bench, *words], [b.path(plain), *words[1:]] if plain else None, None))
     b.table("Workloads of `mono_bench`", "mono_bench WORKLOAD ..", full)
+
+
+def memory(b):
+    """Prints the bytes of one of many: the peak memory of many without that of one, by how many there are."""
+    count = 1000000 // b.by
+    print(f"\n## Memory\n\nPeak memory of {count} without that of one, by {count}.\n\n| Each | Command | Bytes |\n|---|---|---|")
+    for each, words in (
+        ("a task with a sleep", ["turns", "sleeps", "{}"]),
+        ("a session in a queue of two", ["beats", "{}", "0"]),
+        ("an actor without messages", ["ring", "{}", "0", "0"]),
+    ):
+        many, one = (b.once([b.bench, *(word.format(n) for word in words)], None)[1] for n in (count, 2))
+        print(f"| {each} | `mono_bench {' '.join(words).format(count)}` | {1024 * (many - one) / count:.0f} |", flush=True)
+
+
+def script(turns):
+    """Returns a script whose ten tasks each end so many turns."""
+    lines = ["limits 100 100 100", "task", *["spawn 1"] * 10, *(f"join {i}" for i in range(10)), "done 0"]
+    return "\n".join([*lines, "task", *["yield"] * turns, "done 0", ""])
+
+
+def counted(b):
+    """Prints what is counted in instructions, for which the machine may be busy."""
+    if not shutil.which("valgrind"):
+        return
+    print("\n## Instructions\n\nCommand: `valgrind --tool=callgrind PROGRAM ..`.\n\n| What | Instructions |\n|---|---|")
+    for words in ("spawn", "pair", "sleeps"):
+        few, many = (b.instructions([b.bench, "turns", words, str(n)]) for n in (1000, 11000))
+        print(f"| one of `mono_bench turns {words} N` | {(many - few) / 10000:.0f} |", flush=True)
+    whole = []
+    for turns in (10, 110):
+        with open(b.path("script"), "w", encoding="ascii") as out:
+            out.write(script(turns))
+        whole.append(b.instructions([b.program, "run", "0", "65536"], b.path("script")))
+    print(f"| a turn of a script's task in `monoio run`, with its journal | {(whole[1] - whole[0]) / 1000:.0f} |", flush=True)
+    for work in WHEEL:
+        print(f"| `mono_bench wheel {work} 1000`, the whole run | {b.instructions([b.bench, 'wheel', work, '1000'])} |", flush=True)
+
+
+WHEEL = ("insert_fire", "insert_cancel", "reset_later", "short_ticks", "far_jump", "next_expiration", "far_many")
 
 
 def wheel(b):
     anchors = os.environ.get("ANCHORS")
     print("\n## Wheel\n\nCommand: `mono_bench wheel WORKLOAD N timed RUNS`, nanoseconds a key of the best run.\n")
-    print("| Workload | " + " | ".join(("1,000", "100,000", "1,000,000")) + " |\n|---|---|---|---|")
-    for work in ("insert_fire", "insert_cancel", "reset_later", "short_ticks", "far_jump", "next_expiration", "far_many"):
+    counts = [(1000, 101), (100000 // b.by, 9), (1000000 // b.by, 3)]
+    print("| Workload | " + " | ".join(f"{count:,}" for count, _ in counts) + " |\n|---|---|---|---|")
+    for work in WHEEL:
         cells = []
-        for count, runs in ((1000, 101), (100000, 9), (1000000, 3)):
-            count, runs = (count // b.by, 2) if b.quick else (count, runs)
+        for count, runs in counts:
             if work == "far_many" and count > 1000:
                 cells.append("")
                 continue
@@ -153,6 +207,8 @@ def main():
         replays(b)
         services(b)
         workloads(b)
+        memory(b)
+        counted(b)
         wheel(b)
 
 
