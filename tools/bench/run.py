@@ -165,15 +165,15 @@ def counted(b):
     print("\n## Instructions\n\nCommand: `valgrind --tool=callgrind PROGRAM ..`.\n\n| What | Instructions |\n|---|---|")
     for words in ("spawn", "pair", "sleeps"):
         few, many = (b.instructions([b.bench, "turns", words, str(n)]) for n in (1000, 11000))
-        print(f"| one of `mono_bench turns {words} N` | {(many - few) / 10000:.0f} |", flush=True)
+        print(f"| one of `turns {words} N` | {(many - few) / 10000:.0f} |", flush=True)
     whole = []
     for turns in (10, 110):
         with open(b.path("script"), "w", encoding="ascii") as out:
             out.write(script(turns))
         whole.append(b.instructions([b.program, "run", "0", "65536"], b.path("script")))
-    print(f"| a turn of a script's task in `monoio run`, with its journal | {(whole[1] - whole[0]) / 1000:.0f} |", flush=True)
+    print(f"| a turn of a script's task in `monoio run` | {(whole[1] - whole[0]) / 1000:.0f} |", flush=True)
     for work in WHEEL:
-        print(f"| `mono_bench wheel {work} 1000`, the whole run | {b.instructions([b.bench, 'wheel', work, '1000'])} |", flush=True)
+        print(f"| `wheel {work} 1000` | {b.instructions([b.bench, 'wheel', work, '1000'])} |", flush=True)
 
 
 WHEEL = ("insert_fire", "insert_cancel", "reset_later", "short_ticks", "far_jump", "next_expiration", "far_many")
