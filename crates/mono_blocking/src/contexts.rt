@@ -74,6 +74,7 @@ pub trait JobContext: Context {
 /// A context that hands out remote wakers.
 pub trait RemoteContext<U: Unpark>: Context {
     /// Returns a remote waker of the running task, which wakes it from any thread. Refused for want of memory only.
-    fn remote_waker(&self) -> Result<RemoteWaker<U>, AllocError>
-        ensures { IfOk result (λ waker. waker ≡ Self.number self.now) };
+    fn remote_waker(&mut self) -> Result<RemoteWaker<U>, AllocError>
+        ensures waker { IfOk result (λ waker. waker ≡ Self.number self.old) }
+        ensures same { self.new ≡ self.old };
 }

@@ -23,4 +23,5 @@ pub mod ErrorTexts
 pub mod JobActs
 pub mod CallActs
 pub mod Faults
+pub mod TaskWaits
 pub mod Budgets

@@ -103,8 +103,8 @@ impl<F: Drop, O: Drop, P: ThreadPool + Drop, U: Unpark, W: SharedState + Drop> C
         ensures waker { IfOk result (λ waker. self.old.waker ≡ Some waker) }
         ensures same { self.new ≡ self.old }
     {
-        match &self.waker {
-            Some(waker) => waker.clone(),
+        match &mut self.waker {
+            Some(waker) => waker.hand_out(),
             None => Err(AllocError),
         }
     }

@@ -159,7 +159,11 @@ impl<
     U: Unpark,
     W: SharedState + Drop,
 > RemoteContext<U> for Cx<F, O, P, U, W> {
-    fn remote_waker(&self) -> Result<RemoteWaker<U>, AllocError> {
-        self.own_waker()
+    fn remote_waker(&mut self) -> Result<RemoteWaker<U>, AllocError> {
+        let me = self.parts.me;
+        match &mut self.waker {
+            Some(waker) if waker.task() == me => waker.hand_out(),
+            _ => Err(AllocError),
+        }
     }
 }

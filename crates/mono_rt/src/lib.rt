@@ -14,6 +14,7 @@ mod parts;
 mod runtimes;
 mod spawn_calls;
 mod spawns;
+mod task_waits;
 mod turns;
 mod wakers;
 
@@ -38,7 +39,7 @@ pub use mono_machine::{
 pub use mono_model::{Host, Poll};
 pub use mono_shared::{SharedContext, SharedState};
 pub use mono_task::{
-    Context, JoinContext, JoinHandle, SpawnContext, SpawnRefused, TaskError, TaskFuture,
+    Context, JoinContext, JoinHandle, SpawnContext, SpawnRefused, TaskError, TaskFuture, TaskPhase,
 };
 pub use mono_time::{
     Elapsed, Error, Interval, LateError, MissedTickBehavior, Sleep, SleepError, SleepFor, Tick,
@@ -47,3 +48,4 @@ pub use mono_time::{
 };
 pub use parts::{Entry, Journal, RunError, laws};
 pub use runtimes::Runtime;
+pub use task_waits::{TaskWait, WaitsFor};

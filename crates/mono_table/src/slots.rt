@@ -110,6 +110,14 @@ impl<T: Drop, W: Drop> Slots<T, W> {
         }
     }
 
+    /// Returns the note that is kept with the value of a number, if there is one.
+    pub fn note(&self, number: u64) -> Option<&W> {
+        match self.places.get(number) {
+            Some(Slot::Kept(_value, Some(note))) => Some(note),
+            _ => None,
+        }
+    }
+
     /// Puts a value back at a number that is taken out, with a note to keep with it. It takes no memory.
     #[inline(always)]
     pub fn put(&mut self, number: u64, value: T, beside: Option<W>)
