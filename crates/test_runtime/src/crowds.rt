@@ -1,13 +1,15 @@
 // Many tasks whose remote wakers are woken, while they live and after their ends.
-ghost use Rattle.std.specs.Prelude.{◌≡◌, ⊤, false};
+ghost use Rattle.std.specs.Prelude.{◌≡◌, ⊤, false, None};
 ghost use Rattle.mono_rt.specs.Reaches.{Reaches};
 
+use crate::runs::a_runtime;
 use crate::turns::Gives;
-use mono_blocking::NoPool;
+use mono_blocking::{BlockingHandle, BlockingStrategy, NoPool};
 use mono_driver::StepDriver;
 use mono_inbox::{NoUnpark, RemoteWaker};
+use mono_machine::Limits;
 use mono_model::Host;
-use mono_rt::{Cx, start};
+use mono_rt::{Cx, RunError, Runtime, TaskWait, start};
 use mono_task::{Context, Poll, TaskFuture};
 use std::alloc::Global;
 use std::sync::atomic::{AtomicU64, Ordering};
@@ -161,6 +163,55 @@ impl TaskFuture<Own> for Member {
     }
 
     fn cancel(self, _cx: &mut Own) {}
+}
+
+/// Returns the live tasks after one turn of this main task. It has no clauses, so callers have none to carry.
+fn left_after_one_turn<R: Host>(
+    rt: &R,
+    alloc: Global,
+    runtime: &mut Runtime<Member, u64, StepDriver, NoPool<Gives>>,
+    main: Member,
+) -> Vec<TaskWait>
+    requires { runtime.old.cx.parts.tasks.turn ≡ None }
+{
+    let answer = runtime.block_on(rt, alloc, main, 1);
+    match (answer, runtime.tasks(alloc)) {
+        (Err(RunError::Turns), Ok(list)) => list,
+        _ => Vec::new(alloc),
+    }
+}
+
+/// Returns whether there is one row, and its task handed out its waker and is not stuck.
+fn is_handed_out(list: &[TaskWait]) -> bool {
+    match list {
+        [row] => row.is_handed_out && !row.is_stuck(),
+        _ => false,
+    }
+}
+
+const ONE: Limits = Limits {
+    tasks: 1,
+    jobs: 0,
+    sleeps: 0,
+};
+
+#[test]
+fn a_task_whose_waker_was_handed_out_is_not_stuck(rt: HostRuntime) {
+    let alloc = rt.alloc();
+    let shared = Shared {
+        wakers: Mutex::new(Vec::new(alloc)),
+        ended: AtomicU64::new(0),
+    };
+    let main = Member {
+        part: Part::Gives,
+        shared: Arc::new(alloc, shared).expect(&rt, "memory"),
+    };
+    let pool = BlockingHandle::Empty(BlockingStrategy::Panic);
+    let driver = StepDriver::new(Vec::new(alloc));
+    let mut runtime = a_runtime(&rt, alloc, driver, pool, ONE, true);
+    let list = left_after_one_turn(&rt, alloc, &mut runtime, main);
+    assert!(rt; runtime.into_pool().is_none());
+    assert!(rt; is_handed_out(&list));
 }
 
 #[test]

@@ -6,7 +6,10 @@ use crate::turns::Gives;
 use mono_blocking::{BlockingHandle, BlockingStrategy, NoPool};
 use mono_machine::Limits;
 use mono_model::Host;
-use mono_rt::{Driver, Entry, Journal, RunError, Runtime, SpawnRefused, StepDriver};
+use mono_rt::{
+    Driver, Entry, Journal, RunError, Runtime, SpawnRefused, StepDriver, TaskPhase, TaskWait,
+    WaitsFor,
+};
 use mono_task::{Poll, TaskFuture};
 use mono_time::{Sleep, TimeContext, sleep};
 use std::alloc::Global;
@@ -244,6 +247,40 @@ fn blocks(rt: HostRuntime) {
     assert!(rt; waits(&rt, alloc, Some(0), RunError::Driver));
     let one = quiet(&rt, alloc, None);
     assert!(rt; ends(&rt, alloc, one, Work::Sleeps(5, None), 10, Ok(5), Some(10)));
+}
+
+/// Returns the row of an idle task that waits for this source.
+fn idle(task: u64, waits_for: WaitsFor) -> TaskWait {
+    TaskWait {
+        task,
+        phase: TaskPhase::Idle,
+        waits_for,
+        is_handed_out: false,
+    }
+}
+
+/// Returns whether the list has exactly these two rows.
+fn has_two_rows(list: &[TaskWait], first: TaskWait, second: TaskWait) -> bool {
+    match list {
+        [one, two] => *one == first && *two == second,
+        _ => false,
+    }
+}
+
+// A task that sleeps for a second has an armed sleep. The main task registered nowhere, so it is stuck.
+#[test]
+fn a_task_that_registered_nowhere_is_stuck(rt: HostRuntime) {
+    let alloc = rt.alloc();
+    let mut runtime = quiet(&rt, alloc, None);
+    assert!(rt; runtime.spawn(alloc, Work::Sleeps(1000, None)).is_ok());
+    let answer = outcome_of(&rt, alloc, &mut runtime, Work::Waits, 2);
+    let list = runtime.tasks(alloc).expect(&rt, "memory");
+    let sleeps = idle(0, WaitsFor::Sleep(0, 1000));
+    let stuck = idle(1, WaitsFor::Nothing);
+    assert!(rt; answer == Err(RunError::Turns));
+    assert!(rt; has_two_rows(&list, sleeps, stuck));
+    assert!(rt; !sleeps.is_stuck() & stuck.is_stuck());
+    assert!(rt; runtime.into_pool().is_none());
 }
 
 /// A main task that wakes itself in each turn ends so if the first call of the driver fails, which is a submit.
