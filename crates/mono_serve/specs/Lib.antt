@@ -1,0 +1,3 @@
+pub mod BucketCalls
+pub mod Takes
+pub mod Laws

@@ -1,0 +1,393 @@
+// A take of tokens as a future.
+ghost use Rattle.std.specs.Prelude.{◌≡◌, false};
+ghost use Rattle.std.specs.Option.{option_map};
+ghost use Rattle.std.specs.declared.option.Option.TheVariants.{None};
+ghost use Rattle.mono_model.specs.Poll.{OnPending};
+ghost use Rattle.mono_model.specs.Tasks.{woken, woken_if_any};
+ghost use Rattle.mono_time.specs.Instants.{nanos_of};
+ghost use Rattle.mono_serve.specs.BucketCalls.{Joins, Asks, GivesUp};
+ghost use Rattle.mono_serve.specs.Takes.{deadline_of, is_over, MayGoOn, LeavesLine, FailsAwake, Naps, FirstNap, MakesSleep, Rests, AsksFor, TakePolls, TakeCancels};
+ghost use Rattle.mono_serve.specs.declared.takes.Stage.TheVariants.{Fresh};
+
+use crate::buckets::{Asked, Buckets};
+use mono_limit::LimitError;
+use mono_model::{Host, Poll};
+use mono_shared::SharedContext;
+use mono_sync::Holds;
+use mono_task::TaskFuture;
+use mono_time::{Error, Instant, Sleep, SleepError, TimeContext, sleep_until};
+use std::alloc::{AllocError, Global};
+use std::marker::PhantomData;
+use std::mem;
+
+/// A future that takes tokens of a bucket, and waits until the bucket has them.
+///
+/// It waits until no earlier future waits for the bucket. Then it sleeps exactly until the tick at which the bucket has
+/// the tokens.
+#[derive(Drop)]
+pub struct Take<W> {
+    pub(crate) bucket: u64,
+    pub(crate) n: u64,
+    pub(crate) stage: Stage,
+    shared: PhantomData<W>,
+}
+
+/// The place of a take on its way to the tokens.
+#[derive(Drop)]
+pub enum Stage {
+    /// It was not polled.
+    Fresh,
+    /// It waits with this ticket.
+    Waits(u64),
+    /// It is the first with this ticket, and sleeps until the bucket has the tokens.
+    Sleeps(u64, Sleep),
+    /// It has answered.
+    Over,
+}
+
+/// The reason why no tokens were taken.
+#[derive(Debug, Drop)]
+pub enum TakeError {
+    /// The limiter refused the take, or was out of memory.
+    Refused(LimitError),
+    /// The allocation of a place in the line failed.
+    Memory,
+    /// The bucket has the tokens past the last instant.
+    Far,
+    /// The sleep was refused.
+    Timer(SleepError),
+}
+
+impl<W> Take<W> {
+    /// Returns a future that takes `n` tokens of the bucket.
+    pub fn new(bucket: u64, n: u64) -> Take<W>
+        ensures bucket { result.bucket ≡ bucket }
+        ensures n { result.n ≡ n }
+        ensures stage { result.stage ≡ Fresh }
+    {
+        Take {
+            bucket,
+            n,
+            stage: Stage::Fresh,
+            shared: PhantomData,
+        }
+    }
+}
+
+// Returns the instant of a tick, unless it is past the last one.
+fn deadline_of(tick: u128) -> Option<Instant>
+    ensures { option_map nanos_of result ≡ deadline_of tick }
+{
+    Instant::from_nanos(tick.saturating_mul(1000000))
+}
+
+// Appends a task to the bucket's line.
+fn join_part<W: Holds<Buckets>>(whole: &mut W, bucket: u64, task: u64) -> Result<u64, AllocError>
+    ensures answer { Joins (W.part whole.old) bucket task result (W.part whole.new) }
+    ensures leads { W.leads whole.old whole.new }
+{
+    whole.part_mut().join(bucket, task)
+}
+
+// Asks the buckets for a future.
+fn ask_part<W: Holds<Buckets>>(
+    whole: &mut W,
+    alloc: Global,
+    now: Instant,
+    ticket: u64,
+    bucket: u64,
+    n: u64,
+) -> Asked
+    ensures answer { Asks (W.part whole.old) (nanos_of now) ticket bucket n result (W.part whole.new) }
+    ensures leads { W.leads whole.old whole.new }
+{
+    whole.part_mut().ask(alloc, now, ticket, bucket, n)
+}
+
+// Takes a future out of the line.
+fn leave_part<W: Holds<Buckets>>(whole: &mut W, ticket: u64, bucket: u64) -> Option<u64>
+    ensures answer { GivesUp (W.part whole.old) ticket bucket result (W.part whole.new) }
+    ensures leads { W.leads whole.old whole.new }
+{
+    whole.part_mut().give_up(ticket, bucket)
+}
+
+// Appends the running task to the bucket's line.
+fn join<W: Holds<Buckets>, C: SharedContext<W>>(cx: &mut C, bucket: u64) -> Result<u64, AllocError>
+    ensures answer { Joins (W.part (C.shared cx.old)) bucket (C.number cx.old) result (W.part (C.shared cx.new)) }
+    ensures work { C.work cx.new ≡ C.work cx.old }
+    ensures reached { C.reaches cx.old cx.new }
+{
+    let me = cx.me();
+    join_part(cx.shared_mut(), bucket, me)
+}
+
+// Asks the buckets for the running task's future.
+fn ask<W: Holds<Buckets>, C: SharedContext<W>>(
+    alloc: Global,
+    cx: &mut C,
+    ticket: u64,
+    bucket: u64,
+    n: u64,
+) -> Asked
+    ensures answer { Asks (W.part (C.shared cx.old)) (C.nanos cx.old) ticket bucket n result (W.part (C.shared cx.new)) }
+    ensures work { C.work cx.new ≡ C.work cx.old }
+    ensures reached { C.reaches cx.old cx.new }
+{
+    let now = Instant::now(cx);
+    ask_part(cx.shared_mut(), alloc, now, ticket, bucket, n)
+}
+
+// Takes the running task's future out of the line.
+fn leave<W: Holds<Buckets>, C: SharedContext<W>>(
+    cx: &mut C,
+    ticket: u64,
+    bucket: u64,
+) -> Option<u64>
+    ensures answer { GivesUp (W.part (C.shared cx.old)) ticket bucket result (W.part (C.shared cx.new)) }
+    ensures work { C.work cx.new ≡ C.work cx.old }
+    ensures reached { C.reaches cx.old cx.new }
+{
+    leave_part(cx.shared_mut(), ticket, bucket)
+}
+
+// Wakes the task, if any.
+fn wake<W: Holds<Buckets>, C: SharedContext<W>>(cx: &mut C, task: Option<u64>)
+    ensures part { W.part (C.shared cx.new) ≡ W.part (C.shared cx.old) }
+    ensures work { C.work cx.new ≡ woken_if_any (C.work cx.old) task }
+    ensures reached { C.reaches cx.old cx.new }
+{
+    if let Some(task) = task {
+        let _ = cx.wake(task);
+    }
+}
+
+// Queues the running task again after its turn.
+fn again<W: Holds<Buckets>, C: SharedContext<W>>(cx: &mut C)
+    ensures part { W.part (C.shared cx.new) ≡ W.part (C.shared cx.old) }
+    ensures work { C.work cx.new ≡ woken (C.work cx.old) (C.number cx.old) }
+    ensures reached { C.reaches cx.old cx.new }
+{
+    let me = cx.me();
+    let _ = cx.wake(me);
+}
+
+// Takes the running task's future out of the line, and wakes the task that is the first from now on.
+fn give_way<W: Holds<Buckets>, C: SharedContext<W>>(cx: &mut C, ticket: u64, bucket: u64)
+    ensures left { LeavesLine (λ x. W.part (C.shared x)) C.work ticket bucket cx.old cx.new }
+    ensures reached { C.reaches cx.old cx.new }
+{
+    let next = leave::<W, C>(cx, ticket, bucket);
+    wake::<W, C>(cx, next);
+}
+
+impl<W> Take<W> {
+    // Removes a refused sleep, and leaves the line.
+    fn fail_awake<C: TimeContext + SharedContext<W>>(
+        &mut self,
+        cx: &mut C,
+        ticket: u64,
+        sleep: Sleep,
+        error: Error,
+    ) -> Option<Poll<Result<(), TakeError>>>
+    where
+        W: Holds<Buckets>,
+        ensures fails { FailsAwake (λ x. W.part (C.shared x)) C.sleeps C.work C.reaches (TakeError.Timer (SleepError.Timer error)) ticket self.old.bucket sleep cx.old result self.new.stage cx.new }
+        ensures again { MayGoOn result (is_over self.new.stage ≡ false) }
+        ensures bucket { self.new.bucket ≡ self.old.bucket }
+        ensures n { self.new.n ≡ self.old.n }
+        ensures reached { C.reaches cx.old cx.new }
+    {
+        sleep.cancel(cx);
+        give_way::<W, C>(cx, ticket, self.bucket);
+        self.stage = Stage::Over;
+        Some(Poll::Ready(Err(TakeError::Timer(SleepError::Timer(error)))))
+    }
+
+    // Polls the sleep. Returns no answer if it is over.
+    fn nap<C: TimeContext + SharedContext<W>, R: Host>(
+        &mut self,
+        rt: &R,
+        alloc: Global,
+        cx: &mut C,
+        ticket: u64,
+        sleep: Sleep,
+    ) -> Option<Poll<Result<(), TakeError>>>
+    where
+        W: Holds<Buckets>,
+        ensures naps { Naps (λ x. W.part (C.shared x)) C.number C.sleeps C.work C.reaches ticket self.old.bucket sleep cx.old result self.new.stage cx.new }
+        ensures again { MayGoOn result (is_over self.new.stage ≡ false) }
+        ensures bucket { self.new.bucket ≡ self.old.bucket }
+        ensures n { self.new.n ≡ self.old.n }
+        ensures reached { C.reaches cx.old cx.new }
+    {
+        let mut sleep = sleep;
+        match sleep.poll(rt, alloc, cx) {
+            Poll::Pending => {
+                self.stage = Stage::Sleeps(ticket, sleep);
+                Some(Poll::Pending)
+            }
+            Poll::Ready(Ok(())) => {
+                sleep.cancel(cx);
+                self.stage = Stage::Waits(ticket);
+                None
+            }
+            Poll::Ready(Err(error)) => self.fail_awake(cx, ticket, sleep, error),
+        }
+    }
+
+    // Polls a new sleep. If it is over at once, the task runs again after its turn.
+    fn first_nap<C: TimeContext + SharedContext<W>, R: Host>(
+        &mut self,
+        rt: &R,
+        alloc: Global,
+        cx: &mut C,
+        ticket: u64,
+        sleep: Sleep,
+    ) -> Poll<Result<(), TakeError>>
+    where
+        W: Holds<Buckets>,
+        ensures naps { FirstNap (λ x. W.part (C.shared x)) C.number C.sleeps C.work C.reaches ticket self.old.bucket sleep cx.old result self.new.stage cx.new }
+        ensures again { OnPending result (is_over self.new.stage ≡ false) }
+        ensures reached { C.reaches cx.old cx.new }
+    {
+        match self.nap(rt, alloc, cx, ticket, sleep) {
+            Some(answer) => answer,
+            None => {
+                again::<W, C>(cx);
+                Poll::Pending
+            }
+        }
+    }
+
+    // Sleeps until a tick.
+    fn rest<C: TimeContext + SharedContext<W>, R: Host>(
+        &mut self,
+        rt: &R,
+        alloc: Global,
+        cx: &mut C,
+        ticket: u64,
+        tick: u128,
+    ) -> Poll<Result<(), TakeError>>
+    where
+        W: Holds<Buckets>,
+        ensures rests { Rests (λ x. W.part (C.shared x)) C.number C.sleeps C.work C.reaches (deadline_of tick) ticket self.old.bucket cx.old result self.new.stage cx.new }
+        ensures again { OnPending result (is_over self.new.stage ≡ false) }
+        ensures reached { C.reaches cx.old cx.new }
+    {
+        match deadline_of(tick) {
+            None => {
+                give_way::<W, C>(cx, ticket, self.bucket);
+                self.stage = Stage::Over;
+                Poll::Ready(Err(TakeError::Far))
+            }
+            Some(deadline) => self.rest_until(rt, alloc, cx, ticket, deadline),
+        }
+    }
+
+    // Sleeps until a deadline.
+    fn rest_until<C: TimeContext + SharedContext<W>, R: Host>(
+        &mut self,
+        rt: &R,
+        alloc: Global,
+        cx: &mut C,
+        ticket: u64,
+        deadline: Instant,
+    ) -> Poll<Result<(), TakeError>>
+    where
+        W: Holds<Buckets>,
+        ensures makes { MakesSleep (λ x. W.part (C.shared x)) C.number C.sleeps C.work C.reaches (nanos_of deadline) ticket self.old.bucket cx.old result self.new.stage cx.new }
+        ensures again { OnPending result (is_over self.new.stage ≡ false) }
+        ensures reached { C.reaches cx.old cx.new }
+    {
+        match sleep_until(alloc, cx, deadline) {
+            Ok(sleep) => self.first_nap(rt, alloc, cx, ticket, sleep),
+            Err(error) => {
+                give_way::<W, C>(cx, ticket, self.bucket);
+                self.stage = Stage::Over;
+                Poll::Ready(Err(TakeError::Timer(error)))
+            }
+        }
+    }
+
+    // Asks for the tokens, and sleeps if the bucket has too few.
+    fn go_on<C: TimeContext + SharedContext<W>, R: Host>(
+        &mut self,
+        rt: &R,
+        alloc: Global,
+        cx: &mut C,
+        ticket: u64,
+    ) -> Poll<Result<(), TakeError>>
+    where
+        W: Holds<Buckets>,
+        ensures asks { AsksFor (λ x. W.part (C.shared x)) C.number C.nanos C.sleeps C.work C.reaches ticket self.old.bucket self.old.n cx.old result self.new.stage cx.new }
+        ensures again { OnPending result (is_over self.new.stage ≡ false) }
+        ensures reached { C.reaches cx.old cx.new }
+    {
+        match ask::<W, C>(alloc, cx, ticket, self.bucket, self.n) {
+            Asked::Waits => {
+                self.stage = Stage::Waits(ticket);
+                Poll::Pending
+            }
+            Asked::Granted(next) => {
+                wake::<W, C>(cx, next);
+                self.stage = Stage::Over;
+                Poll::Ready(Ok(()))
+            }
+            Asked::Refused(error, next) => {
+                wake::<W, C>(cx, next);
+                self.stage = Stage::Over;
+                Poll::Ready(Err(TakeError::Refused(error)))
+            }
+            Asked::Short(tick) => self.rest(rt, alloc, cx, ticket, tick),
+        }
+    }
+}
+
+/// The future answers once it has the tokens. It fails if the limiter refuses them, if the bucket has them past the last
+/// instant, if the sleep is refused, or if out of memory.
+impl<W: Holds<Buckets>, C: TimeContext + SharedContext<W>> TaskFuture<C> for Take<W> {
+    type Output = Result<(), TakeError>;
+
+    ghost is_spent = { λ f. is_over f.stage };
+
+    ghost polls = { λ f c r g d. TakePolls (λ x. W.part (C.shared x)) C.number C.nanos C.sleeps C.work C.reaches f.stage f.bucket f.n c r g.stage d };
+
+    ghost cancels = { λ f c d. TakeCancels (λ x. W.part (C.shared x)) C.sleeps C.work C.reaches f.stage f.bucket c d };
+
+    fn spent(&self) -> bool {
+        match &self.stage {
+            Stage::Fresh => false,
+            Stage::Waits(_) => false,
+            Stage::Sleeps(_, _) => false,
+            Stage::Over => true,
+        }
+    }
+
+    fn poll<R: Host>(&mut self, rt: &R, alloc: Global, cx: &mut C) -> Poll<Result<(), TakeError>> {
+        match mem::replace(&mut self.stage, Stage::Over) {
+            Stage::Fresh => match join::<W, C>(cx, self.bucket) {
+                Ok(ticket) => self.go_on(rt, alloc, cx, ticket),
+                Err(_) => Poll::Ready(Err(TakeError::Memory)),
+            },
+            Stage::Waits(ticket) => self.go_on(rt, alloc, cx, ticket),
+            Stage::Sleeps(ticket, sleep) => match self.nap(rt, alloc, cx, ticket, sleep) {
+                Some(answer) => answer,
+                None => self.go_on(rt, alloc, cx, ticket),
+            },
+            Stage::Over => unreachable!(),
+        }
+    }
+
+    fn cancel(self, cx: &mut C) {
+        match self.stage {
+            Stage::Waits(ticket) => give_way::<W, C>(cx, ticket, self.bucket),
+            Stage::Sleeps(ticket, sleep) => {
+                sleep.cancel(cx);
+                give_way::<W, C>(cx, ticket, self.bucket);
+            }
+            Stage::Fresh => {}
+            Stage::Over => {}
+        }
+    }
+}
