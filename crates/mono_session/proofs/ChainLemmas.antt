@@ -10,7 +10,7 @@ abbrev pub between : Option ℕ → Option ℕ → Place
 between before after = record { before = before; after = after }
 
 -- A map of pairs after the value of one pair changed.
-pub changed_here : (change : Option Place → Option Place) (f g : ℕ × ℕ → Option Place) (queue member : ℕ) (w : Place)
+pub changed_here : {X : Type 0} (change : Option X → Option X) (f g : ℕ × ℕ → Option X) (queue member : ℕ) (w : X)
     → ((k : ℕ × ℕ) → g k ≡ cond (pair_eq (queue, member) k) (Some w) (f k)) → change (f (queue, member)) ≡ Some w
     → (q m : ℕ) → g (q, m) ≡ cond (nat_eq queue q && nat_eq member m) (change (f (q, m))) (f (q, m))
 changed_here change f g queue member w all here q m = all (q, m) ∙ by (nat_eq queue q) (nat_eq member m) (eqb_tells queue q) (eqb_tells member m)

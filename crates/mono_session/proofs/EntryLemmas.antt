@@ -1,17 +1,22 @@
 -- Entries, by key and by session, as they come and leave.
-use Rattle.std.proofs.Common.{◌≡◌, ℕ, ◌+◌, true, false, Bool, cond, List, [], ◌∷◌, ◌++◌, length, Some, None, Option, refl, ap, sym, ◌∙◌, subst, arith}
-use Rattle.std.specs.Prelude.{◌==◌, ◌&&◌, ◌||◌, not, filter, is_some, if◌then◌else◌}
+use Rattle.std.proofs.Common.{◌≡◌, ℕ, ◌+◌, true, false, Bool, cond, List, [], ◌∷◌, ◌++◌, length, Some, None, Option, refl, ap, sym, ◌∙◌, arith}
+use Rattle.std.specs.Prelude.{◌==◌, ◌&&◌, ◌||◌, not, nat_eq, filter, is_some, if◌then◌else◌, Result, Ok, Err, IsOk, IfOk}
+use Rattle.std.specs.HashMap.{get}
 use Rattle.std.proofs.lemmas.Bool.Decides.{nat_tests}
 use Rattle.std.proofs.lemmas.List.{length-append}
 use Rattle.mono_session.specs.Keeper.{Entry, queue_in, first_of, stands_in, is_entry}
-use Rattle.mono_session.specs.Links.{is_in, IsOnce, left_by}
-use Rattle.mono_session.specs.Queues.{Keeps, with_last, without_member, place_at, member_count}
-use Rattle.mono_session.specs.Entries.{keys_in, Entered}
+use Rattle.mono_session.specs.Links.{pair_eq, is_in, IsOnce, left_by, linked_after, with_last_end, last_end}
+use Rattle.mono_session.specs.Nodes.{queue_place, key_place, place_by}
+use Rattle.mono_session.specs.Queues.{Keeps, with_last, without_member, Closed, Alike}
+use Rattle.mono_session.specs.Entries.{keys_in, Entered, queue_chains, key_chains, entry_count}
 use Rattle.mono_session.specs.declared.entries.Entries.{Entries}
+use Rattle.mono_session.specs.declared.nodes.Node.{Node}
 use Rattle.mono_session.proofs.CallHistoryLemmas.{queue_last, queue_released}
-use Rattle.mono_session.proofs.QueueLemmas.{keeps_same, contains-keeps}
+use Rattle.mono_session.proofs.ChainLemmas.{between}
+use Rattle.mono_session.proofs.NodeLemmas.{put, removed, swapped, place_none}
+use Rattle.mono_session.proofs.QueueLemmas.{keeps_same, keeps_alike, contains-keeps, CameBehind, pushed, closed_after, left_place}
 
-true-false : true ≡ false → ⊥
+pub true-false : true ≡ false → ⊥
 true-false e = cc
 
 -- ---- by key and by session
@@ -120,34 +125,89 @@ one_less (e ∷ es) s key stands once = by (e.session == s) (e.key == key) refl 
     by false false fa fb f o rest = omega (arith, rest f o)
 
 -- ---- an entry comes, or leaves
-pub entered_last : (old new : Entries) (es : List Entry) (s key : ℕ) → Entered old es
-    → ((lists : ℕ → List ℕ) → Keeps old.queues lists → is_in (lists key) s ≡ false → Keeps new.queues (with_last lists key s))
-    → ((lists : ℕ → List ℕ) → Keeps old.keys lists → is_in (lists s) key ≡ false → Keeps new.keys (with_last lists s key))
-    → (place_at old.queues key s ≡ None → member_count new.queues ≡ member_count old.queues + 1)
-    → stands_in es s key ≡ false → Entered new (es ++ record { session = s; key = key } ∷ [])
-entered_last old new es s key entered queues keys count out = record {
-  queues = keeps_same new.queues (with_last (queue_in es) key s) (queue_in (es ++ record { session = s; key = key } ∷ [])) (λ q. sym (queue_last es s key q))
-      (queues (queue_in es) entered.queues (sym (stands-queue es s key) ∙ out));
-  keys = keeps_same new.keys (with_last (keys_in es) s key) (keys_in (es ++ record { session = s; key = key } ∷ [])) (λ q. sym (keys_last es s key q))
-      (keys (keys_in es) entered.keys (sym (stands-keys es s key) ∙ out));
-  count = omega (arith, count (none_from (place_at old.queues key s) (contains-keeps old.queues (queue_in es) key s entered.queues ∙ sym (stands-queue es s key) ∙ out)), entered.count, length-append es (record { session = s; key = key } ∷ []));
+-- The entries of tables that read alike.
+pub entered_alike : (old new : Entries) (es : List Entry) → Alike (queue_chains old) (queue_chains new) → Alike (key_chains old) (key_chains new) → entry_count new ≡ entry_count old → Entered old es → Entered new es
+entered_alike old new es queues keys count entered = record {
+  queues = keeps_alike (queue_chains old) (queue_chains new) (queue_in es) queues.ends queues.places entered.queues;
+  keys = keeps_alike (key_chains old) (key_chains new) (keys_in es) keys.ends keys.places entered.keys;
+  count = count ∙ entered.count;
 }
-  where
-    none_from : {X : Type 0} (o : Option X) → is_some o ≡ false → o ≡ None
-    none_from None e = refl
-    none_from (Some x) e = cc
+
+-- A map has one more entry, since it had none with this key.
+pub count_put : {E : Type 0} (r : Result (Option Node) E) (o : Option Node) (n m : ℕ) → IsOk r → IfOk r (λ x. x ≡ o) → IfOk r (λ x. n ≡ m + (if is_some x then 0 else 1)) → o ≡ None → n ≡ m + 1
+count_put (Ok x) o n m ok same len none = len ∙ ap (λ y. m + cond (is_some y) 0 1) (same ∙ none)
+count_put (Err e) o n m ok same len none = cc
+
+pub came_queue : (old new : Entries) (s key : ℕ) (node : Node) (before : Option ℕ) (put_in one : ℕ × ℕ → Option Node) → before ≡ last_end (get nat_eq old.ends key)
+    → ((q : ℕ) → get nat_eq new.ends q ≡ cond (nat_eq key q) (with_last_end s (get nat_eq old.ends q)) (get nat_eq old.ends q)) → queue_place node ≡ between before None
+    → ((k : ℕ × ℕ) → put_in k ≡ cond (pair_eq (key, s) k) (Some node) (get pair_eq old.nodes k))
+    → ((q m : ℕ) → place_by queue_place (one (q, m)) ≡ cond (nat_eq key q) (linked_after before m (Some s) (place_by queue_place (put_in (q, m)))) (place_by queue_place (put_in (q, m))))
+    → ((q m : ℕ) → place_by queue_place (get pair_eq new.nodes (q, m)) ≡ place_by queue_place (one (q, m)))
+    → CameBehind (queue_chains old) (queue_chains new) key s before
+came_queue old new s key node before put_in one last ends is first second third = record {
+  is_last = last;
+  ends = ends;
+  places = λ q m. third q m ∙ second q m
+      ∙ ap (λ v. cond (nat_eq key q) (linked_after before m (Some s) v) v) (put queue_place (get pair_eq old.nodes) put_in key s node (between before None) first is q m);
+}
+
+pub came_keys : (old new : Entries) (s key : ℕ) (node : Node) (before : Option ℕ) (put_in one : ℕ × ℕ → Option Node) → before ≡ last_end (get nat_eq old.key_ends s)
+    → ((q : ℕ) → get nat_eq new.key_ends q ≡ cond (nat_eq s q) (with_last_end key (get nat_eq old.key_ends q)) (get nat_eq old.key_ends q)) → key_place node ≡ between before None
+    → ((k : ℕ × ℕ) → put_in k ≡ cond (pair_eq (key, s) k) (Some node) (get pair_eq old.nodes k))
+    → ((q m : ℕ) → place_by key_place (one (q, m)) ≡ place_by key_place (put_in (q, m)))
+    → ((q m : ℕ) → place_by key_place (get pair_eq new.nodes (m, q)) ≡ cond (nat_eq s q) (linked_after before m (Some key) (place_by key_place (one (m, q)))) (place_by key_place (one (m, q))))
+    → CameBehind (key_chains old) (key_chains new) s key before
+came_keys old new s key node before put_in one last ends is first second third = record {
+  is_last = last;
+  ends = ends;
+  places = λ q m. third q m
+      ∙ ap (λ v. cond (nat_eq s q) (linked_after before m (Some key) v) v)
+      (second m q ∙ put key_place (get pair_eq old.nodes) put_in key s node (between before None) first is m q
+      ∙ swapped (nat_eq key m) (nat_eq s q) (Some (between before None)) (place_by key_place (get pair_eq old.nodes (m, q))));
+}
+
+pub entered_last : (old new : Entries) (es : List Entry) (s key : ℕ) (before before_key : Option ℕ) → Entered old es
+    → CameBehind (queue_chains old) (queue_chains new) key s before → CameBehind (key_chains old) (key_chains new) s key before_key
+    → (get pair_eq old.nodes (key, s) ≡ None → entry_count new ≡ entry_count old + 1)
+    → stands_in es s key ≡ false → Entered new (es ++ record { session = s; key = key } ∷ [])
+entered_last old new es s key before before_key entered queues keys count out = record {
+  queues = keeps_same (queue_chains new) (with_last (queue_in es) key s) (queue_in (es ++ record { session = s; key = key } ∷ [])) (λ q. sym (queue_last es s key q))
+      (pushed (queue_chains old) (queue_chains new) key s before (queue_in es) queues entered.queues (sym (stands-queue es s key) ∙ out));
+  keys = keeps_same (key_chains new) (with_last (keys_in es) s key) (keys_in (es ++ record { session = s; key = key } ∷ [])) (λ q. sym (keys_last es s key q))
+      (pushed (key_chains old) (key_chains new) s key before_key (keys_in es) keys entered.keys (sym (stands-keys es s key) ∙ out));
+  count = omega (arith, count (place_none queue_place (get pair_eq old.nodes (key, s)) (contains-keeps (queue_chains old) (queue_in es) key s entered.queues ∙ sym (stands-queue es s key) ∙ out)), entered.count, length-append es (record { session = s; key = key } ∷ []));
+}
 
 pub entered_left : (old new : Entries) (es : List Entry) (s key : ℕ) → Entered old es
-    → Keeps new.queues (without_member (queue_in es) key s) → Keeps new.keys (without_member (keys_in es) s key)
-    → member_count new.queues + (if is_some (place_at old.queues key s) then 1 else 0) ≡ member_count old.queues
-    → stands_in es s key ≡ true → Entered new (filter (λ e. not (is_entry s key e)) es)
+    → Keeps (queue_chains new) (without_member (queue_in es) key s) → Keeps (key_chains new) (without_member (keys_in es) s key)
+    → entry_count new + 1 ≡ entry_count old → stands_in es s key ≡ true → Entered new (filter (λ e. not (is_entry s key e)) es)
 entered_left old new es s key entered queues keys count stands = record {
-  queues = keeps_same new.queues (without_member (queue_in es) key s) (queue_in (filter (λ e. not (is_entry s key e)) es)) (λ q. sym (queue_released es s key q)) queues;
-  keys = keeps_same new.keys (without_member (keys_in es) s key) (keys_in (filter (λ e. not (is_entry s key e)) es)) (λ q. sym (keys_released es s key q)) keys;
-  count =
-      let one : member_count new.queues + 1 ≡ member_count old.queues = subst (λ b. member_count new.queues + cond b 1 0 ≡ member_count old.queues) (contains-keeps old.queues (queue_in es) key s entered.queues ∙ sym (stands-queue es s key) ∙ stands) count in
-      omega (arith, one, entered.count, one_less es s key stands (entered.queues.once key));
+  queues = keeps_same (queue_chains new) (without_member (queue_in es) key s) (queue_in (filter (λ e. not (is_entry s key e)) es)) (λ q. sym (queue_released es s key q)) queues;
+  keys = keeps_same (key_chains new) (without_member (keys_in es) s key) (keys_in (filter (λ e. not (is_entry s key e)) es)) (λ q. sym (keys_released es s key q)) keys;
+  count = omega (arith, count, entered.count, one_less es s key stands (entered.queues.once key));
 }
+
+-- A node is removed, and then its neighbours are joined in the one chain and in the other.
+pub left_both : (old mid one new : Entries) (es : List Entry) (s key : ℕ) (node : Node) → Entered old es → Some node ≡ get pair_eq old.nodes (key, s)
+    → ((q : ℕ) → get nat_eq mid.ends q ≡ get nat_eq old.ends q) → ((q : ℕ) → get nat_eq mid.key_ends q ≡ get nat_eq old.key_ends q)
+    → ((k : ℕ × ℕ) → get pair_eq mid.nodes k ≡ cond (pair_eq (key, s) k) None (get pair_eq old.nodes k))
+    → Closed (queue_chains mid) (queue_chains one) key (queue_place node) → Alike (key_chains mid) (key_chains one)
+    → Alike (queue_chains one) (queue_chains new) → Closed (key_chains one) (key_chains new) s (key_place node)
+    → entry_count new + 1 ≡ entry_count old → stands_in es s key ≡ true → Entered new (filter (λ e. not (is_entry s key e)) es)
+left_both old mid one new es s key node entered at ends key_ends gone queue_one key_one queue_new key_new count stands =
+    entered_left old new es s key entered
+    (keeps_alike (queue_chains one) (queue_chains new) (without_member (queue_in es) key s) queue_new.ends queue_new.places
+    (left_place (queue_chains old) (queue_chains one) key s (queue_place node) (queue_in es)
+    (closed_after (queue_chains old) (queue_chains mid) (queue_chains one) key s (queue_place node) ends
+    (λ q m. removed queue_place (get pair_eq old.nodes) (get pair_eq mid.nodes) key s gone q m) (ap (place_by queue_place) at) queue_one)
+    entered.queues))
+    (left_place (key_chains old) (key_chains new) s key (key_place node) (keys_in es)
+    (closed_after (key_chains old) (key_chains one) (key_chains new) s key (key_place node) (λ q. key_one.ends q ∙ key_ends q)
+    (λ q m. key_one.places q m ∙ removed key_place (get pair_eq old.nodes) (get pair_eq mid.nodes) key s gone m q
+    ∙ swapped (nat_eq key m) (nat_eq s q) None (place_by key_place (get pair_eq old.nodes (m, q))))
+    (ap (place_by key_place) at) key_new)
+    entered.keys)
+    count stands
 
 -- ---- a session leaves all queues
 -- those that are not of the session stay without one of its entries
@@ -179,3 +239,7 @@ first_stands (x ∷ xs) m e = grind (arith, nat_tests)
 
 pub key_stands : (es : List Entry) (s key : ℕ) → Some key ≡ first_of (keys_in es s) → stands_in es s key ≡ true
 key_stands es s key first = stands-keys es s key ∙ first_stands (keys_in es s) key first
+
+-- The first key of a session does not fail to leave.
+pub not_left : (es : List Entry) (s key : ℕ) → Some key ≡ first_of (keys_in es s) → false ≡ stands_in es s key → ⊥
+not_left es s key first stands = true-false (sym (key_stands es s key first) ∙ sym stands)

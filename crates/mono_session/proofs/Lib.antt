@@ -3,6 +3,7 @@ pub mod CallHistoryLemmas
 pub mod MemberLemmas
 pub mod ExampleLemmas
 pub mod ChainLemmas
+pub mod NodeLemmas
 pub mod QueueLemmas
 pub mod EntryLemmas
 pub mod SessionSleepLemmas

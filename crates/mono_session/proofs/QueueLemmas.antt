@@ -4,11 +4,10 @@ use Rattle.std.specs.Prelude.{◌==◌, ◌&&◌, nat_eq, is_some, Result, Ok, E
 use Rattle.std.proofs.lemmas.Bool.Decides.{nat_tests}
 use Rattle.mono_session.specs.Keeper.{first_of}
 use Rattle.mono_session.specs.Links.{is_in, IsOnce, last_of, ends_with, ends_of, place_in, left_by, linked_after, linked_before, with_last_end, last_end, closed_ends}
-use Rattle.mono_session.specs.Queues.{ends_at, place_at, Keeps, with_last, without_member}
+use Rattle.mono_session.specs.Queues.{Chains, ends_at, place_at, Keeps, with_last, without_member, Closed}
 use Rattle.mono_session.specs.declared.places.Ends.{Ends}
 use Rattle.mono_session.specs.declared.places.Place.{Place}
-use Rattle.mono_session.specs.declared.queues.Queues.{Queues}
-use Rattle.mono_session.proofs.ChainLemmas.{between, place_in-some, once-last, place-last, last-end, ends-last, place-new, last_apart, other_after, joined, once-left, place-left, ends-left, left_by-none}
+use Rattle.mono_session.proofs.ChainLemmas.{between, place_in-some, once-last, place-last, last-end, ends-last, place-new, last_apart, other_after, joined, once-left, place-left, ends-left}
 
 eq-from : (s t : ℕ) → (s == t) ≡ true → s ≡ t
 eq-from s t f = grind (arith, nat_tests)
@@ -17,7 +16,7 @@ eq-tells : (s t : ℕ) → s ≡ t → (s == t) ≡ true
 eq-tells s t f = grind (arith, nat_tests)
 
 -- other queues that are equal
-pub keeps_same : (queues : Queues) (lists others : ℕ → List ℕ) → ((q : ℕ) → lists q ≡ others q) → Keeps queues lists → Keeps queues others
+pub keeps_same : (queues : Chains) (lists others : ℕ → List ℕ) → ((q : ℕ) → lists q ≡ others q) → Keeps queues lists → Keeps queues others
 keeps_same queues lists others same keeps = record {
   ends = λ q. keeps.ends q ∙ ap ends_of (same q);
   places = λ q m. keeps.places q m ∙ ap (λ xs. place_in None xs m) (same q);
@@ -25,14 +24,14 @@ keeps_same queues lists others same keeps = record {
 }
 
 -- Queues that read alike.
-pub keeps_alike : (old new : Queues) (lists : ℕ → List ℕ) → ((q : ℕ) → ends_at new q ≡ ends_at old q) → ((q m : ℕ) → place_at new q m ≡ place_at old q m) → Keeps old lists → Keeps new lists
+pub keeps_alike : (old new : Chains) (lists : ℕ → List ℕ) → ((q : ℕ) → ends_at new q ≡ ends_at old q) → ((q m : ℕ) → place_at new q m ≡ place_at old q m) → Keeps old lists → Keeps new lists
 keeps_alike old new lists ends places keeps = record {
   ends = λ q. ends q ∙ keeps.ends q;
   places = λ q m. places q m ∙ keeps.places q m;
   once = keeps.once;
 }
 
-pub contains-keeps : (queues : Queues) (lists : ℕ → List ℕ) (q m : ℕ) → Keeps queues lists → is_some (place_at queues q m) ≡ is_in (lists q) m
+pub contains-keeps : (queues : Chains) (lists : ℕ → List ℕ) (q m : ℕ) → Keeps queues lists → is_some (place_at queues q m) ≡ is_in (lists q) m
 contains-keeps queues lists q m keeps = ap is_some (keeps.places q m) ∙ place_in-some None (lists q) m
 
 first_end : Option Ends → Option ℕ
@@ -59,20 +58,20 @@ first-some (x ∷ xs) ends e = by (last_of (Some x) xs) e
     by None f = cc
     by (Some l) f = cc
 
-pub first_is_none : (queues : Queues) (lists : ℕ → List ℕ) (q : ℕ) → None ≡ ends_at queues q → Keeps queues lists → None ≡ first_of (lists q)
+pub first_is_none : (queues : Chains) (lists : ℕ → List ℕ) (q : ℕ) → None ≡ ends_at queues q → Keeps queues lists → None ≡ first_of (lists q)
 first_is_none queues lists q e keeps = first-none (lists q) (e ∙ keeps.ends q)
 
-pub first_is_some : (queues : Queues) (lists : ℕ → List ℕ) (q : ℕ) (ends : Ends) → Some ends ≡ ends_at queues q → Keeps queues lists → Some ends.first ≡ first_of (lists q)
+pub first_is_some : (queues : Chains) (lists : ℕ → List ℕ) (q : ℕ) (ends : Ends) → Some ends ≡ ends_at queues q → Keeps queues lists → Some ends.first ≡ first_of (lists q)
 first_is_some queues lists q ends e keeps = first-some (lists q) ends (e ∙ keeps.ends q)
 
 -- The queues after a member was appended to one.
-pub record CameBehind (old new : Queues) (queue member : ℕ) (before : Option ℕ) : Type 0 where
+pub record CameBehind (old new : Chains) (queue member : ℕ) (before : Option ℕ) : Type 0 where
   pub is_last : before ≡ last_end (ends_at old queue)
   pub ends : (q : ℕ) → ends_at new q ≡ cond (nat_eq queue q) (with_last_end member (ends_at old q)) (ends_at old q)
   pub places : (q m : ℕ) → place_at new q m
       ≡ cond (nat_eq queue q) (linked_after before m (Some member) (cond (nat_eq queue q && nat_eq member m) (Some (between before None)) (place_at old q m))) (cond (nat_eq queue q && nat_eq member m) (Some (between before None)) (place_at old q m))
 
-pub pushed : (old new : Queues) (queue member : ℕ) (before : Option ℕ) (lists : ℕ → List ℕ) → CameBehind old new queue member before → Keeps old lists → is_in (lists queue) member ≡ false → Keeps new (with_last lists queue member)
+pub pushed : (old new : Chains) (queue member : ℕ) (before : Option ℕ) (lists : ℕ → List ℕ) → CameBehind old new queue member before → Keeps old lists → is_in (lists queue) member ≡ false → Keeps new (with_last lists queue member)
 pushed old new queue member before lists came keeps out = record {
   ends = λ q. came.ends q ∙ ends-by q (queue == q);
   places = λ q m. came.places q m ∙ places-by q m (queue == q) refl;
@@ -114,12 +113,12 @@ pushed old new queue member before lists came keeps out = record {
     places-by q m true is = here q m is (member == m) refl
 
 -- The queues after a member left a place.
-pub record LeftPlace (old new : Queues) (queue member : ℕ) (place : Place) : Type 0 where
+pub record LeftPlace (old new : Chains) (queue member : ℕ) (place : Place) : Type 0 where
   pub was : Some place ≡ place_at old queue member
   pub ends : (q : ℕ) → ends_at new q ≡ cond (nat_eq queue q) (closed_ends place.before place.after (ends_at old q)) (ends_at old q)
   pub places : (q m : ℕ) → place_at new q m ≡ cond (nat_eq queue q) (joined place member m (place_at old q m)) (place_at old q m)
 
-pub left_place : (old new : Queues) (queue member : ℕ) (place : Place) (lists : ℕ → List ℕ) → LeftPlace old new queue member place → Keeps old lists → Keeps new (without_member lists queue member)
+pub left_place : (old new : Chains) (queue member : ℕ) (place : Place) (lists : ℕ → List ℕ) → LeftPlace old new queue member place → Keeps old lists → Keeps new (without_member lists queue member)
 left_place old new queue member place lists left keeps = record {
   ends = λ q. left.ends q ∙ ends-by q (queue == q) refl;
   places = λ q m. left.places q m ∙ places-by q m (queue == q) refl;
@@ -141,22 +140,26 @@ left_place old new queue member place lists left keeps = record {
     places-by q m true is = ap (joined place member m) (keeps.places q m) ∙ sym (place-left None (lists q) member place m tt (keeps.once q) (place_here q is))
     places-by q m false is = keeps.places q m
 
--- None left, since the member was not there.
-pub none_left : (old : Queues) (queue member : ℕ) (lists : ℕ → List ℕ) → None ≡ place_at old queue member → Keeps old lists → Keeps old (without_member lists queue member)
-none_left old queue member lists none keeps = keeps_same old lists (without_member lists queue member) (λ q. by q (queue == q) refl) keeps
+-- two changes of the places in turn
+pub in_turn : (a : Bool) (place : Place) (m : ℕ) (p q r : Option Place) → q ≡ cond a (linked_after place.before m place.after p) p → r ≡ cond a (linked_before place.after m place.before q) q
+    → r ≡ cond a (linked_before place.after m place.before (linked_after place.before m place.after p)) p
+in_turn false place m p q r e f = f ∙ e
+in_turn true place m p q r e f = f ∙ ap (linked_before place.after m place.before) e
+
+-- The neighbours of a member are joined after it lost its place.
+pub closed_after : (old mid new : Chains) (queue member : ℕ) (place : Place) → ((q : ℕ) → ends_at mid q ≡ ends_at old q)
+    → ((q m : ℕ) → place_at mid q m ≡ cond (nat_eq queue q && nat_eq member m) None (place_at old q m)) → Some place ≡ place_at old queue member → Closed mid new queue place → LeftPlace old new queue member place
+closed_after old mid new queue member place ends places was closed = record {
+  was = was;
+  ends = λ q. closed.ends q ∙ ap (λ o. cond (nat_eq queue q) (closed_ends place.before place.after o) o) (ends q);
+  places = λ q m. closed.places q m ∙ by (nat_eq queue q) (nat_eq member m) m (place_at mid q m) (place_at old q m) (places q m);
+}
   where
-    out : is_in (lists queue) member ≡ false
-    out = sym (contains-keeps old lists queue member keeps) ∙ ap is_some (sym none)
-
-    by : (q : ℕ) (b : Bool) → (queue == q) ≡ b → lists q ≡ cond b (left_by member (lists q)) (lists q)
-    by q true is = sym (left_by-none member (lists q) (ap (λ p. is_in (lists p) member) (sym (eq-from queue q is)) ∙ out))
-    by q false is = refl
-
--- three changes of the places in turn
-pub in_turn : (a b : Bool) (place : Place) (m : ℕ) (p0 p1 p2 p3 : Option Place) → p3 ≡ cond a (linked_before place.after m place.before p2) p2 → p2 ≡ cond a (linked_after place.before m place.after p1) p1 → p1 ≡ cond (a && b) None p0
-    → p3 ≡ cond a (linked_before place.after m place.before (linked_after place.before m place.after (cond b None p0))) p0
-in_turn false b place m p0 p1 p2 p3 e3 e2 e1 = e3 ∙ e2 ∙ e1
-in_turn true b place m p0 p1 p2 p3 e3 e2 e1 = e3 ∙ ap (linked_before place.after m place.before) (e2 ∙ ap (linked_after place.before m place.after) e1)
+    by : (a b : Bool) (m : ℕ) (p o : Option Place) → p ≡ cond (a && b) None o
+        → cond a (linked_before place.after m place.before (linked_after place.before m place.after p)) p
+        ≡ cond a (linked_before place.after m place.before (linked_after place.before m place.after (cond b None o))) o
+    by true b m p o e = ap (λ x. linked_before place.after m place.before (linked_after place.before m place.after x)) e
+    by false b m p o e = e
 
 pub on_ok : {T E : Type 0} (r : Result T E) (P : Type 0) → IsOk r → OnOk r P → P
 on_ok (Ok x) P ok holds = holds

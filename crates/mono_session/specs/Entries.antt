@@ -1,7 +1,10 @@
 -- The entries of all queues, by key and by session.
-use Rattle.std.specs.Prelude.{◌≡◌, ℕ, ◌==◌, if◌then◌else◌, List, [], ◌∷◌, length}
+use Rattle.std.specs.Prelude.{◌≡◌, ◌<◌, ℕ, ◌==◌, if◌then◌else◌, List, [], ◌∷◌, length, nat_eq}
+use Rattle.std.specs.HashMap.{get, spare, hash_map_len}
 use Rattle.mono_session.specs.Keeper.{Entry, queue_in}
-use Rattle.mono_session.specs.Queues.{Keeps, HasRoom, member_count}
+use Rattle.mono_session.specs.Links.{pair_eq}
+use Rattle.mono_session.specs.Nodes.{queue_place, key_place, place_by}
+use Rattle.mono_session.specs.Queues.{Chains, Keeps}
 use Rattle.mono_session.specs.declared.entries.Entries.{Entries}
 
 -- The keys in whose queues a session is.
@@ -9,12 +12,22 @@ abbrev pub keys_in : List Entry → ℕ → List ℕ
 keys_in [] s = []
 keys_in (entry ∷ entries) s = if entry.session == s then entry.key ∷ keys_in entries s else keys_in entries s
 
+-- The queue of each key, and the keys of each session.
+abbrev pub queue_chains : Entries → Chains
+queue_chains kept = record { ends = λ key. get nat_eq kept.ends key; places = λ key s. place_by queue_place (get pair_eq kept.nodes (key, s)) }
+
+abbrev pub key_chains : Entries → Chains
+key_chains kept = record { ends = λ s. get nat_eq kept.key_ends s; places = λ s key. place_by key_place (get pair_eq kept.nodes (key, s)) }
+
+abbrev pub entry_count : Entries → ℕ
+entry_count kept = hash_map_len kept.nodes
+
 -- The table has the sessions of these entries by key, and their keys by session.
 pub record Entered (kept : Entries) (entries : List Entry) : Type 0 where
-  pub queues : Keeps kept.queues (queue_in entries)
-  pub keys : Keeps kept.keys (keys_in entries)
-  pub count : member_count kept.queues ≡ length entries
+  pub queues : Keeps (queue_chains kept) (queue_in entries)
+  pub keys : Keeps (key_chains kept) (keys_in entries)
+  pub count : entry_count kept ≡ length entries
 
 -- There is room for one more entry.
 abbrev pub HasPlace : Entries → Type 0
-HasPlace kept = HasRoom kept.queues × HasRoom kept.keys
+HasPlace kept = (0 < spare kept.ends) × (0 < spare kept.key_ends) × (0 < spare kept.nodes)

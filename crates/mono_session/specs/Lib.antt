@@ -5,6 +5,7 @@ pub mod Steps
 pub mod Laws
 pub mod Examples
 pub mod Links
+pub mod Nodes
 pub mod Queues
 pub mod Entries
 pub mod SessionSleeps

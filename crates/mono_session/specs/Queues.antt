@@ -1,29 +1,24 @@
--- The memory of queues: for each queue its ends, and for each member of a queue its neighbours.
-use Rattle.std.specs.Prelude.{◌≡◌, ◌<◌, ℕ, if◌then◌else◌, ◌==◌, List, [], ◌∷◌, ◌++◌, Option, None, nat_eq}
-use Rattle.std.specs.HashMap.{get, spare, hash_map_len}
-use Rattle.mono_session.specs.Links.{pair_eq, IsOnce, ends_of, place_in, left_by}
+-- Chains of queues: for each queue its ends, and for each member of a queue its neighbours.
+use Rattle.std.specs.Prelude.{◌≡◌, ℕ, if◌then◌else◌, ◌==◌, List, [], ◌∷◌, ◌++◌, Option, None, nat_eq, cond}
+use Rattle.mono_session.specs.Links.{IsOnce, ends_of, place_in, left_by, linked_after, linked_before, closed_ends}
 use Rattle.mono_session.specs.declared.places.Ends.{Ends}
 use Rattle.mono_session.specs.declared.places.Place.{Place}
-use Rattle.mono_session.specs.declared.queues.Queues.{Queues}
 
-abbrev pub ends_at : Queues → ℕ → Option Ends
-ends_at queues q = get nat_eq queues.ends q
+pub record Chains : Type 0 where
+  pub ends : ℕ → Option Ends
+  pub places : ℕ → ℕ → Option Place
 
-abbrev pub place_at : Queues → ℕ → ℕ → Option Place
-place_at queues q m = get pair_eq queues.places (q, m)
+abbrev pub ends_at : Chains → ℕ → Option Ends
+ends_at chains q = chains.ends q
+
+abbrev pub place_at : Chains → ℕ → ℕ → Option Place
+place_at chains q m = chains.places q m
 
 -- The ends and the neighbours are those of these lists, in which each member occurs once.
-pub record Keeps (queues : Queues) (lists : ℕ → List ℕ) : Type 0 where
-  pub ends : (q : ℕ) → ends_at queues q ≡ ends_of (lists q)
-  pub places : (q m : ℕ) → place_at queues q m ≡ place_in None (lists q) m
+pub record Keeps (chains : Chains) (lists : ℕ → List ℕ) : Type 0 where
+  pub ends : (q : ℕ) → ends_at chains q ≡ ends_of (lists q)
+  pub places : (q m : ℕ) → place_at chains q m ≡ place_in None (lists q) m
   pub once : (q : ℕ) → IsOnce (lists q)
-
--- There is room for one more member and for one more queue.
-abbrev pub HasRoom : Queues → Type 0
-HasRoom queues = (0 < spare queues.ends) × (0 < spare queues.places)
-
-abbrev pub no_lists : ℕ → List ℕ
-no_lists q = []
 
 -- A queue after a member was appended.
 abbrev pub with_last : (ℕ → List ℕ) → ℕ → ℕ → ℕ → List ℕ
@@ -33,6 +28,12 @@ with_last lists queue member q = if queue == q then lists q ++ member ∷ [] els
 abbrev pub without_member : (ℕ → List ℕ) → ℕ → ℕ → ℕ → List ℕ
 without_member lists queue member q = if queue == q then left_by member (lists q) else lists q
 
--- The number of members in all queues.
-abbrev pub member_count : Queues → ℕ
-member_count queues = hash_map_len queues.places
+-- In one queue the neighbours at a place are joined to each other.
+pub record Closed (old new : Chains) (queue : ℕ) (place : Place) : Type 0 where
+  pub ends : (q : ℕ) → ends_at new q ≡ cond (nat_eq queue q) (closed_ends place.before place.after (ends_at old q)) (ends_at old q)
+  pub places : (q m : ℕ) → place_at new q m ≡ cond (nat_eq queue q) (linked_before place.after m place.before (linked_after place.before m place.after (place_at old q m))) (place_at old q m)
+
+-- All ends and neighbours are the same.
+pub record Alike (old new : Chains) : Type 0 where
+  pub ends : (q : ℕ) → ends_at new q ≡ ends_at old q
+  pub places : (q m : ℕ) → place_at new q m ≡ place_at old q m

@@ -7,8 +7,8 @@ mod entries;
 mod error;
 mod keeper;
 mod laws;
+mod nodes;
 mod places;
-mod queues;
 mod rows;
 
 pub use error::SessionError;

@@ -1,7 +1,7 @@
-// The ends of queues, and the neighbours of their members.
-ghost use Rattle.std.specs.Prelude.{◌≡◌, ◌<◌, ◌&&◌, ℕ, cond, nat_eq, Option, None, Some};
-ghost use Rattle.std.specs.HashMap.{get, spare, hash_map_len};
-ghost use Rattle.mono_session.specs.Links.{pair_eq, with_after, with_before, linked_after, linked_before, with_last_end, last_end, closed_ends};
+// The ends of queues, and the neighbours of a member.
+ghost use Rattle.std.specs.Prelude.{◌≡◌, ◌<◌, ℕ, cond, nat_eq};
+ghost use Rattle.std.specs.HashMap.{get, spare};
+ghost use Rattle.mono_session.specs.Links.{with_last_end, last_end, closed_ends};
 
 use std::collections::HashMap;
 
@@ -17,49 +17,6 @@ pub struct Ends {
 pub struct Place {
     pub before: Option<u64>,
     pub after: Option<u64>,
-}
-
-/// The neighbours of each member, by queue and member.
-pub type Places = HashMap<(u64, u64), Place>;
-
-// Sets the member that follows this one, if this is in the queue.
-fn set_after(places: &mut Places, queue: u64, member: u64, after: Option<u64>)
-    ensures places { (q m : ℕ) → get pair_eq places.new (q, m) ≡ cond (nat_eq queue q && nat_eq member m) (with_after after (get pair_eq places.old (q, m))) (get pair_eq places.old (q, m)) }
-    ensures len { hash_map_len places.new ≡ hash_map_len places.old }
-{
-    if let Some(place) = places.get_mut(&(queue, member)) {
-        place.after = after;
-    }
-}
-
-// Sets the member that precedes this one, if this is in the queue.
-fn set_before(places: &mut Places, queue: u64, member: u64, before: Option<u64>)
-    ensures places { (q m : ℕ) → get pair_eq places.new (q, m) ≡ cond (nat_eq queue q && nat_eq member m) (with_before before (get pair_eq places.old (q, m))) (get pair_eq places.old (q, m)) }
-    ensures len { hash_map_len places.new ≡ hash_map_len places.old }
-{
-    if let Some(place) = places.get_mut(&(queue, member)) {
-        place.before = before;
-    }
-}
-
-/// Sets the member that follows this one, if there is one and it is in the queue.
-pub fn link_after(places: &mut Places, queue: u64, member: Option<u64>, after: Option<u64>)
-    ensures places { (q m : ℕ) → get pair_eq places.new (q, m) ≡ cond (nat_eq queue q) (linked_after member m after (get pair_eq places.old (q, m))) (get pair_eq places.old (q, m)) }
-    ensures len { hash_map_len places.new ≡ hash_map_len places.old }
-{
-    if let Some(member) = member {
-        set_after(places, queue, member, after);
-    }
-}
-
-/// Sets the member that precedes this one, if there is one and it is in the queue.
-pub fn link_before(places: &mut Places, queue: u64, member: Option<u64>, before: Option<u64>)
-    ensures places { (q m : ℕ) → get pair_eq places.new (q, m) ≡ cond (nat_eq queue q) (linked_before member m before (get pair_eq places.old (q, m))) (get pair_eq places.old (q, m)) }
-    ensures len { hash_map_len places.new ≡ hash_map_len places.old }
-{
-    if let Some(member) = member {
-        set_before(places, queue, member, before);
-    }
 }
 
 /// Makes a member the last of a queue, and returns the last member before.

@@ -1,14 +1,23 @@
-use Rattle.std.proofs.Common.{refl, ap, sym, subst}
+use Rattle.std.proofs.Common.{◌≡◌, Some, refl, ap, subst}
 use Rattle.std.specs.Option.{IsSome}
 use Rattle.std.specs.HashMap.{get}
 use Rattle.mono_session.specs.Links.{pair_eq, with_before}
-use Rattle.mono_session.specs.declared.places.Place.{Place}
-use Rattle.mono_session.proofs.ChainLemmas.{changed_here}
-use Rattle.mono_session.proofs.places.set_before.Goals as goal
+use Rattle.mono_session.specs.Nodes.{queue_place, key_place}
+use Rattle.mono_session.specs.declared.nodes.Node.{Node}
+use Rattle.mono_session.proofs.NodeLemmas.{written, kept, link_as}
+use Rattle.mono_session.proofs.nodes.set_before.Goals as goal
 
-pub returns-in-Some-clause-places : goal.returns-in-Some-clause-places
-returns-in-Some-clause-places c =
-    let w : Place = record { before = c.args.before; after = c.in-Some.place.now.after } in
-    changed_here (with_before c.args.before) (get pair_eq c.args.places.now) (get pair_eq (c.get_mut.follows.lender w)) c.args.queue c.args.member w
-    ((c.get_mut.follows.holds w).3 (subst IsSome c.in-Some.ensures.value refl)).0
-    (ap (with_before c.args.before) (sym c.in-Some.ensures.value))
+pub returns-in-Some-clause-changed : goal.returns-in-Some-clause-changed
+returns-in-Some-clause-changed c = λ q m.
+    let v : Node = c.in-Some.node.now in
+    let w : Node = record v { before = c.unwrap_or-node.result; has_before = c.is_some-node.result } in
+    let is : with_before c.args.number (Some (queue_place v)) ≡ Some (queue_place w) = ap (λ o. with_before o (Some (queue_place v))) (link_as c.is_some-node.result c.unwrap_or-node.result c.args.number c.is_some-node.ensures c.unwrap_or-node.ensures) in
+    written queue_place (get pair_eq c.args.nodes.now) (get pair_eq (c.get_mut.follows.lender w)) c.args.key c.args.session v w (with_before c.args.number)
+    ((c.get_mut.follows.holds w).3 (subst IsSome c.in-Some.ensures.value refl)).0 c.in-Some.ensures.value is q m
+
+pub returns-in-Some-clause-others : goal.returns-in-Some-clause-others
+returns-in-Some-clause-others c = λ q m.
+    let v : Node = c.in-Some.node.now in
+    let w : Node = record v { before = c.unwrap_or-node.result; has_before = c.is_some-node.result } in
+    kept key_place (get pair_eq c.args.nodes.now) (get pair_eq (c.get_mut.follows.lender w)) c.args.key c.args.session v w
+    ((c.get_mut.follows.holds w).3 (subst IsSome c.in-Some.ensures.value refl)).0 c.in-Some.ensures.value refl q m
