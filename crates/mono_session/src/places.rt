@@ -25,19 +25,17 @@ pub fn put_last(ends: &mut HashMap<u64, Ends>, queue: u64, member: u64) -> Optio
     ensures last { result ≡ last_end (get nat_eq ends.old queue) }
     ensures ends { (q : ℕ) → get nat_eq ends.new q ≡ cond (nat_eq queue q) (with_last_end member (get nat_eq ends.old q)) (get nat_eq ends.old q) }
 {
-    let old = ends.get(&queue).copied();
-    let new = match old {
-        None => Ends {
-            first: member,
-            last: member,
-        },
-        Some(ends) => Ends {
-            first: ends.first,
-            last: member,
-        },
+    if let Some(ends) = ends.get_mut(&queue) {
+        let last = ends.last;
+        ends.last = member;
+        return Some(last);
+    }
+    let only = Ends {
+        first: member,
+        last: member,
     };
-    let _ = ends.insert(queue, new);
-    old.map(|ends| ends.last)
+    let _ = ends.insert(queue, only);
+    None
 }
 
 /// Updates the ends of a queue after a member between these two has left it.
