@@ -125,9 +125,9 @@ module _ {O : Type 0} where
       the_same : (y x : O) → Some y ≡ Some x → y ≡ x
       the_same y x is = cc
   completed_by false tasks t q task output x kept is = elim (out_set tasks.table t q None x (rw kept at is)) [
-      | inl here ↦ absurd (none_some None x refl here.1)
-      | inr there ↦ inr there
-    ]
+    | inl here ↦ absurd (none_some None x refl here.1)
+    | inr there ↦ inr there
+  ]
 
   pub output_completed : (v : Option (Task O)) (tasks : Tasks O) (t q : ℕ) (output x : O) → output_at (completed_value v tasks t output) q ≡ Some x → ((q ≡ t) × (output ≡ x)) ⊎ (output_at tasks q ≡ Some x)
   output_completed None tasks t q output x is = inr is
