@@ -1,7 +1,7 @@
 -- The places in both chains, as nodes change.
 use Rattle.std.proofs.Common.{◌≡◌, ℕ, true, false, Bool, cond, Some, None, Option, refl, ap, sym, ◌∙◌}
 use Rattle.std.specs.Prelude.{◌&&◌, nat_eq, is_some}
-use Rattle.core.specs.Option.{unwrap_or}
+use Rattle.std.specs.Option.{unwrap_or}
 use Rattle.mono_session.specs.Links.{pair_eq}
 use Rattle.mono_session.specs.Nodes.{link, place_by}
 use Rattle.mono_session.specs.declared.nodes.Node.{Node}
