@@ -48,6 +48,21 @@ fn in_time(alloc: Global, cx: &mut Desk) -> bool {
     ticks_once(cx, &mut now, &[0, 10, 20]) && ticks_once(cx, &mut later, &[50, 60, 70])
 }
 
+// Returns whether the interval's tick as a future waits for its deadline, answers it, and leaves the interval to tick
+// at the next one.
+fn ticks_as_future<R: Host>(rt: &R, alloc: Global, cx: &mut Desk) -> bool {
+    let Ok(mut ticks) = interval_at(alloc, cx, at_millis(50), Duration::from_millis(10)) else {
+        return false;
+    };
+    let early = polled(rt, alloc, cx, &mut ticks.tick());
+    go_to(cx, 50);
+    let mut tick = ticks.tick();
+    let first = polled(rt, alloc, cx, &mut tick);
+    tick.cancel(cx);
+    let is_first = early == Poll::Pending && first == Poll::Ready(Ok(at_millis(50)));
+    is_first && ticks_once(cx, &mut ticks, &[60, 70])
+}
+
 // Returns whether missed ticks follow at once.
 fn burst(alloc: Global, cx: &mut Desk) -> bool {
     let Ok(mut ticks) = interval(alloc, cx, Duration::from_millis(50)) else {
@@ -151,6 +166,8 @@ fn taken_back(alloc: Global, cx: &mut Desk) -> bool {
 enum Case {
     // An interval from now on, and one from a start.
     Ticks,
+    // A tick as a future.
+    Future,
     // Ticks that were missed follow at once.
     Burst,
     // How an interval continues: its start, when its first tick is polled, and the next deadline.
@@ -162,8 +179,9 @@ enum Case {
 }
 
 // A tick that is 5 ms late is not missed.
-const CASES: [Case; 12] = [
+const CASES: [Case; 13] = [
     Case::Ticks,
+    Case::Future,
     Case::Burst,
     Case::GoesOn(MissedTickBehavior::Skip, 0, 75, 100),
     Case::GoesOn(MissedTickBehavior::Delay, 0, 200, 250),
@@ -183,6 +201,7 @@ fn all_hold<R: Host + Abort>(rt: &R, alloc: Global, cases: &[Case]) {
         let mut cx = empty_desk(rt, alloc, at_millis(0));
         let holds = match case {
             Case::Ticks => in_time(alloc, &mut cx),
+            Case::Future => ticks_as_future(rt, alloc, &mut cx),
             Case::Burst => burst(alloc, &mut cx),
             Case::GoesOn(behavior, start, now, next) => {
                 goes_on(alloc, &mut cx, *behavior, *start, *now, *next)

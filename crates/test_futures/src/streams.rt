@@ -100,6 +100,40 @@ fn doubles<R: Host>(rt: &R, alloc: Global, cx: &mut Board) -> bool {
     first == 2 && second == 4 && last == None && cx.notes == 116227
 }
 
+/// Returns whether two items and the end come as the answers of two futures. The second waits once for the item, and is
+/// spent only after the end.
+fn comes_next<R: Host>(rt: &R, alloc: Global, cx: &mut Board) -> bool {
+    let mut twice = StreamExt::<Board>::then(
+        iter([1u64, 2]),
+        |x: u64| Step {
+            digit: x,
+            waits: x / 2,
+            value: x.wrapping_mul(2),
+        },
+    );
+    let mut next = StreamExt::<Board>::next(&mut twice);
+    let first = next.poll(rt, alloc, cx);
+    next.cancel(cx);
+    let mut next = StreamExt::<Board>::next(&mut twice);
+    let waits = next.poll(rt, alloc, cx);
+    if next.spent() {
+        return false;
+    }
+    let second = next.poll(rt, alloc, cx);
+    if next.spent() {
+        return false;
+    }
+    let last = next.poll(rt, alloc, cx);
+    let items = (first, waits, second, last);
+    let two = (
+        Poll::Ready(Some(2)),
+        Poll::Pending,
+        Poll::Ready(Some(4)),
+        Poll::Ready(None),
+    );
+    items == two && next.spent()
+}
+
 /// Returns whether a future that handles 300 items, the last of which waits once, is ready at the third poll, and wakes
 /// its own task once, before that wait.
 fn handles<R: Host>(rt: &R, alloc: Global, cx: &mut Board) -> bool {
@@ -113,5 +147,6 @@ fn mapped_made_and_handled_items(rt: HostRuntime) {
     let alloc = rt.alloc();
     let mut cx = empty_board(&rt, alloc, 2);
     assert!(rt; adds_one(&rt, alloc, &mut cx) && doubles(&rt, alloc, &mut cx));
+    assert!(rt; comes_next(&rt, alloc, &mut cx));
     assert!(rt; handles(&rt, alloc, &mut cx));
 }
