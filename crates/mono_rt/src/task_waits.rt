@@ -64,19 +64,37 @@ impl TaskWait {
 impl fmt::Display for TaskWait {
     fn fmt<W: fmt::Write>(&self, f: &mut fmt::Formatter<W>) -> fmt::Result {
         let task = self.task;
-        match (self.phase, self.waits_for) {
-            (TaskPhase::Finished, _) => write!(f, "task {task} has finished"),
-            (TaskPhase::Queued, WaitsFor::Nothing) => write!(f, "task {task} is queued"),
-            (TaskPhase::Running, WaitsFor::Nothing) => write!(f, "task {task} runs"),
-            (_, WaitsFor::Sleep(sleep, tick)) => {
+        if self.phase == TaskPhase::Finished {
+            return write!(f, "task {task} has finished");
+        }
+        match self.waits_for {
+            WaitsFor::Sleep(sleep, tick) => {
                 write!(f, "task {task} waits for sleep {sleep} until {tick} ms")
             }
-            (_, WaitsFor::Task(other)) => write!(f, "task {task} waits for task {other}"),
-            (_, WaitsFor::Job(job)) => write!(f, "task {task} waits for job {job}"),
-            (_, WaitsFor::Nothing) if self.is_handed_out => {
+            WaitsFor::Task(other) => write!(f, "task {task} waits for task {other}"),
+            WaitsFor::Job(job) => write!(f, "task {task} waits for job {job}"),
+            WaitsFor::Nothing => write_phase(f, task, self.phase, self.is_handed_out),
+        }
+    }
+}
+
+// Writes the phase of a task that waits for no source.
+fn write_phase<W: fmt::Write>(
+    f: &mut fmt::Formatter<W>,
+    task: u64,
+    phase: TaskPhase,
+    is_handed_out: bool,
+) -> fmt::Result {
+    match phase {
+        TaskPhase::Finished => write!(f, "task {task} has finished"),
+        TaskPhase::Queued => write!(f, "task {task} is queued"),
+        TaskPhase::Running => write!(f, "task {task} runs"),
+        TaskPhase::Idle => {
+            if is_handed_out {
                 write!(f, "task {task} waits for another thread")
+            } else {
+                write!(f, "task {task} waits for nothing: stuck")
             }
-            (_, WaitsFor::Nothing) => write!(f, "task {task} waits for nothing: stuck"),
         }
     }
 }
