@@ -2,6 +2,7 @@ use Rattle.std.proofs.Common.{sym, ◌∙◌, refl, None}
 use Rattle.std.specs.Prelude.{slice_index_or}
 use Rattle.mono_run.specs.ScriptTurns.{job_steps}
 use Rattle.mono_run.proofs.SegmentLemmas.{handled, unhandled}
+use Rattle.mono_rt.specs.Reaches.{reaches_itself}
 use Rattle.mono_run.proofs.tasks.Own.await_own_job.Goals as goal
 
 pub returns-in-Some-clause-goes : goal.returns-in-Some-clause-goes
@@ -11,3 +12,6 @@ returns-in-Some-clause-goes c = λ task here f had.
 pub returns-in-None-clause-goes : goal.returns-in-None-clause-goes
 returns-in-None-clause-goes c = λ task here f had.
     unhandled task (slice_index_or c.args.self.now.jobs c.args.i None) (λ h q. job_steps h here f q) f c.args.cx.now c.args.cx.now (sym c.get.ensures ∙ c.in-None.is) refl refl
+
+pub returns-in-None-clause-reached : goal.returns-in-None-clause-reached
+returns-in-None-clause-reached c = reaches_itself (λ n. n) c.args.cx.now

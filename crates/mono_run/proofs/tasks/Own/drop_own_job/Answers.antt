@@ -5,6 +5,7 @@ use Rattle.mono_machine.specs.declared.events.TurnStep.TheVariants as step
 use Rattle.mono_run.specs.ScriptTurns.{acted}
 use Rattle.mono_run.proofs.SegmentLemmas.{handled, unhandled}
 use Rattle.mono_run.proofs.TaskCallLemmas.{job_dropped}
+use Rattle.mono_rt.specs.Reaches.{reaches_itself}
 use Rattle.mono_run.proofs.tasks.Own.drop_own_job.Goals as goal
 
 pub returns-in-Some-clause-goes : goal.returns-in-Some-clause-goes
@@ -17,3 +18,6 @@ returns-in-Some-clause-goes c = λ task f had.
 pub returns-in-None-clause-goes : goal.returns-in-None-clause-goes
 returns-in-None-clause-goes c = λ task f had.
     unhandled task (slice_index_or c.args.self.now.jobs c.args.i None) (λ h q. acted (step.Act (act.DropJob h)) f q) f c.args.cx.now c.args.cx.now (sym c.get.ensures ∙ c.in-None.is) refl refl
+
+pub returns-in-None-clause-reached : goal.returns-in-None-clause-reached
+returns-in-None-clause-reached c = reaches_itself (λ n. n) c.args.cx.now
