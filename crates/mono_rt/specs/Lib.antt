@@ -25,3 +25,4 @@ pub mod CallActs
 pub mod Faults
 pub mod TaskWaits
 pub mod Budgets
+pub mod Views

@@ -1,13 +1,11 @@
 // A whole run of a runtime of its own.
-ghost use Rattle.std.specs.Prelude.{⊤, ◌≡◌, ℕ, IfOk, Option, None, true, []};
-ghost use Rattle.mono_machine.specs.Machine.{Machine, start_machine};
-ghost use Rattle.mono_machine.specs.Steps.{Run};
+ghost use Rattle.std.specs.Prelude.{⊤, ◌≡◌, IfOk, true, []};
+ghost use Rattle.mono_machine.specs.Machine.{start_machine};
 ghost use Rattle.mono_blocking.specs.JobSpawns.{strategy_of};
 ghost use Rattle.mono_rt.specs.JournalRoom.{IsOneLong};
-ghost use Rattle.mono_rt.specs.Journals.{events_in, reports_in, Registers};
-ghost use Rattle.mono_rt.specs.Numbering.{answer_numbered};
 ghost use Rattle.mono_rt.specs.Rounds.{Blocked};
-ghost use Rattle.mono_rt.specs.DriverReadings.{IsTold, telling};
+ghost use Rattle.mono_rt.specs.DriverReadings.{IsTold};
+ghost use Rattle.mono_rt.specs.Views.{exposed, BlocksFrom, IsRunFrom, ParksFrom};
 
 use crate::contexts::Cx;
 use crate::parts::{Journal, RunError};
@@ -45,11 +43,11 @@ where
     D: Driver,
     P: ThreadPool + Drop,
     requires callable { (f : F) → F.can_poll f }
-    ensures blocked { IfOk result (λ r. (new : Machine) × Blocked true turns (answer_numbered O.output_number r.0) (start_machine limits (strategy_of pool)) r.1.history.entries new []) }
+    ensures blocked { IfOk result (λ r. BlocksFrom O.output_number turns (start_machine limits (strategy_of pool)) r) }
     ensures given { IfOk result (λ r. IfOk r.0 (F.gives future)) }
-    ensures told { IfOk result (λ r. IsTold r.0 (telling (D.readings driver) (D.time driver) (D.parks driver) (D.submits driver) (D.faults driver) (D.can_fail driver)) r.1.history.entries) }
-    ensures run { IfOk result (λ r. (new : Machine) × Run (start_machine limits (strategy_of pool)) (events_in r.1.history.entries) (reports_in r.1.history.entries) new) }
-    ensures parks { IfOk result (λ r. (new : Machine) × ((left : ℕ → Option ℕ) × Registers None (start_machine limits (strategy_of pool)) (λ s. None) r.1.history.entries new left)) }
+    ensures told { IfOk result (λ r. IsTold r.0 (exposed D.Clock driver) r.1.history.entries) }
+    ensures run { IfOk result (λ r. IsRunFrom (start_machine limits (strategy_of pool)) r.1) }
+    ensures parks { IfOk result (λ r. ParksFrom (start_machine limits (strategy_of pool)) r.1) }
     ensures full { IfOk result (λ r. r.1.is_full ≡ true → IsOneLong O.output_number (λ a b. ⊤) F.TaskFuture) }
 {
     let mut runtime = Runtime::new(alloc, driver, pool, limits, true, start, ())?;

@@ -4,17 +4,16 @@ ghost use Rattle.mono_model.specs.Table.{next_number};
 ghost use Rattle.mono_model.specs.Tasks.{spawned};
 ghost use Rattle.mono_task.specs.Work.{GivesOutput};
 ghost use Rattle.mono_rt.specs.Outputs.{AddsNone};
-ghost use Rattle.mono_rt.specs.Numbering.{answer_numbered};
 ghost use Rattle.mono_rt.specs.Journals.{Goes, Does, Stays};
 ghost use Rattle.mono_rt.specs.Rounds.{WaitEnds, PauseEnds, Round, RoundBreaks, PassEnds, Ends, IsSpawn, IsRefused, Blocked, cost};
 ghost use Rattle.mono_rt.specs.SpawnErrors.{OnCapacity, OnMemory, HasPlace};
 ghost use Rattle.mono_model.specs.Table.{is_full};
 ghost use Rattle.mono_rt.specs.Faults.{FaultsBy, FaultsParked};
-ghost use Rattle.mono_rt.specs.FuturePolls.{Polling, PollsMain, OnMain};
+ghost use Rattle.mono_rt.specs.FuturePolls.{Polling, OnMain};
 ghost use Rattle.mono_rt.specs.JournalRoom.{Fills};
-ghost use Rattle.mono_rt.specs.Reaches.{IsAligned};
 ghost use Rattle.mono_rt.specs.PossibleAnswers.{AnswersNoMore};
 ghost use Rattle.mono_rt.specs.DriverReadings.{telling, going, Telling, TellingSo, Still, EndsWaited};
+ghost use Rattle.mono_rt.specs.Views.{Blocks, Rests, HasOwnFutures, is_at_limit, HoldsSamePlaces, GivesNoMore, LeadsShared, TellsDriver, PollsMainTask, FillsJournal};
 
 use crate::contexts::Cx;
 use crate::parts::RunError;
@@ -290,18 +289,18 @@ where
         turns: u64,
     ) -> Result<O, RunError>
         requires callable { (f : F) → F.can_poll f }
-        requires rests { self.old.cx.parts.tasks.turn ≡ None }
-        ensures blocked { Does O.output_number (Blocked self.old.cx.parts.has_timers turns (answer_numbered O.output_number result)) self.old.cx.parts self.new.cx.parts self.old.journal self.new.journal }
-        ensures place { HasPlace result (is_full self.old.cx.parts.tasks.tasks.table self.old.cx.parts.tasks.tasks.limit) }
-        ensures given { IfOk result (λ output. IsAligned self.old.cx → F.gives future output) }
-        ensures answers { AnswersNoMore F.gives self.old.cx self.new.cx }
-        ensures shared { W.leads self.old.cx.shared self.new.cx.shared }
-        ensures rests { self.new.cx.parts.tasks.turn ≡ None }
-        ensures polled { OnMain result (Does O.output_number (PollsMain O.output_number W.leads F.TaskFuture self.old.cx.parts.has_timers future self.old.cx.futures.items self.new.cx.futures.items) self.old.cx.parts self.new.cx.parts self.old.journal self.new.journal) }
+        requires rests { Rests self.old }
+        ensures blocked { Blocks O.output_number turns result self.old self.new }
+        ensures place { HasPlace result (is_at_limit self.old) }
+        ensures given { IfOk result (λ output. HasOwnFutures self.old → F.gives future output) }
+        ensures answers { GivesNoMore F.gives self.old self.new }
+        ensures shared { LeadsShared W.leads self.old self.new }
+        ensures rests { Rests self.new }
+        ensures polled { OnMain result (PollsMainTask O.output_number W.leads F.TaskFuture future self.old self.new) }
         ensures faults { FaultsBy result (D.faults self.old.driver) (D.faults self.new.driver) }
-        ensures told { TellingSo result (telling (D.readings self.old.driver) (D.time self.old.driver) (D.parks self.old.driver) (D.submits self.old.driver) (D.faults self.old.driver) (D.can_fail self.old.driver)) self.old.journal self.new.journal (telling (D.readings self.new.driver) (D.time self.new.driver) (D.parks self.new.driver) (D.submits self.new.driver) (D.faults self.new.driver) (D.can_fail self.new.driver)) }
-        ensures full { Fills O.output_number W.leads F.TaskFuture self.old.cx self.old.journal self.new.journal }
-        ensures held { self.new.journal.entries.held ≡ self.old.journal.entries.held }
+        ensures told { TellsDriver result D.Clock self.old self.new }
+        ensures full { FillsJournal O.output_number W.leads F.TaskFuture self.old self.new }
+        ensures held { HoldsSamePlaces self.old self.new }
     {
         match self.start_main(alloc, future) {
             Err(error) => Err(error),

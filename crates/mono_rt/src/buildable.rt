@@ -1,9 +1,7 @@
 // How a runtime is made from its parts.
 ghost use Rattle.std.specs.Prelude.{◌≡◌, ℕ, IfOk, None, false, []};
-ghost use Rattle.mono_machine.specs.Machine.{start_machine};
 ghost use Rattle.mono_blocking.specs.JobSpawns.{strategy_of};
-ghost use Rattle.mono_time.specs.Timers.{registered_of};
-ghost use Rattle.mono_rt.specs.Refinement.{hosting_of, Matches};
+ghost use Rattle.mono_rt.specs.Views.{RefinesStart, futures_of, shared_of, jobs_of, is_timed, registered_in, Rests};
 
 use crate::builder::{ENTRIES, RuntimeBuilder};
 use crate::parts::Journal;
@@ -34,17 +32,17 @@ impl<F: Drop, O: Outcome + Drop, D: Driver, P: ThreadPool + Drop, W: SharedState
         start: Instant,
         shared: W,
     ) -> Result<Runtime<F, O, D, P, W>, AllocError>
-        ensures shared { IfOk result (λ runtime. runtime.cx.shared ≡ shared) }
-        ensures stands { IfOk result (λ runtime. Matches O.output_number hosting_of runtime.cx.parts (start_machine limits (strategy_of pool))) }
-        ensures pool { IfOk result (λ runtime. runtime.cx.parts.blocking.pool ≡ pool) }
-        ensures timers { IfOk result (λ runtime. runtime.cx.parts.has_timers ≡ has_timers) }
+        ensures shared { IfOk result (λ runtime. shared_of runtime ≡ shared) }
+        ensures stands { IfOk result (λ runtime. RefinesStart O.output_number limits (strategy_of pool) runtime) }
+        ensures pool { IfOk result (λ runtime. (jobs_of runtime).pool ≡ pool) }
+        ensures timers { IfOk result (λ runtime. is_timed runtime ≡ has_timers) }
         ensures driver { IfOk result (λ runtime. runtime.driver ≡ driver) }
-        ensures rests { IfOk result (λ runtime. runtime.cx.parts.tasks.turn ≡ None) }
+        ensures rests { IfOk result (λ runtime. Rests runtime) }
         ensures journal { IfOk result (λ runtime. runtime.journal.entries.items ≡ []) }
         ensures history { IfOk result (λ runtime. runtime.journal.history.entries ≡ []) }
-        ensures futures { IfOk result (λ runtime. runtime.cx.futures.items ≡ []) }
+        ensures futures { IfOk result (λ runtime. futures_of runtime ≡ []) }
         ensures unfull { IfOk result (λ runtime. runtime.journal.is_full ≡ false) }
-        ensures registered { IfOk result (λ runtime. (s : ℕ) → registered_of runtime.cx.parts.timers s ≡ None) }
+        ensures registered { IfOk result (λ runtime. (s : ℕ) → registered_in runtime s ≡ None) }
     {
         let builder = RuntimeBuilder {
             driver,
@@ -65,7 +63,7 @@ impl<F: Drop, O: Outcome + Drop, D: Driver, P: ThreadPool + Drop, W: SharedState
 
     /// Returns the value that the tasks share, between two calls of `block_on`.
     pub fn shared(&self) -> &W
-        ensures { result.now ≡ self.now.cx.shared }
+        ensures { result.now ≡ shared_of self.now }
     {
         &self.cx.shared
     }

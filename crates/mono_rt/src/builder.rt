@@ -5,12 +5,11 @@ ghost use Rattle.mono_time.specs.Instants.{nanos_of};
 ghost use Rattle.mono_time.specs.Timers.{registered_of};
 ghost use Rattle.mono_blocking.specs.JobSpawns.{strategy_of, IsApart};
 ghost use Rattle.mono_rt.specs.Refinement.{hosting_of, Matches};
-ghost use Rattle.mono_rt.specs.Reaches.{IsAligned};
-ghost use Rattle.mono_rt.specs.DriverReadings.{telling};
 ghost use Rattle.mono_rt.specs.Starts.{RunsFrom};
 ghost use Rattle.mono_machine.specs.declared.events.Blocking.TheVariants as none;
 ghost use Rattle.mono_blocking.specs.declared.strategy.BlockingHandle.TheVariants.{Attached, Empty};
 ghost use Rattle.mono_blocking.specs.declared.strategy.BlockingStrategy.TheVariants.{Panic};
+ghost use Rattle.mono_rt.specs.Views.{exposed, RefinesStart, HasNewJournal, default_start, futures_of, shared_of, jobs_of, is_timed, registered_in, Rests, IsAtZero, HasOwnFutures};
 
 use crate::contexts::Cx;
 use crate::parts::{Journal, Parts, RunError, new_journal};
@@ -175,17 +174,17 @@ impl<D: Buildable, P: ThreadPool + Drop> RuntimeBuilder<D, P> {
         self,
         alloc: Global,
     ) -> Result<Runtime<F, O, D, P>, AllocError>
-        ensures stands { IfOk result (λ made. Matches O.output_number hosting_of made.cx.parts (start_machine self.limits (strategy_of self.pool))) }
-        ensures timers { IfOk result (λ made. made.cx.parts.has_timers ≡ D.marks_timers) }
-        ensures pool { IfOk result (λ made. made.cx.parts.blocking.pool ≡ self.pool) }
+        ensures stands { IfOk result (λ made. RefinesStart O.output_number self.limits (strategy_of self.pool) made) }
+        ensures timers { IfOk result (λ made. is_timed made ≡ D.marks_timers) }
+        ensures pool { IfOk result (λ made. (jobs_of made).pool ≡ self.pool) }
         ensures driver { IfOk result (λ made. made.driver ≡ self.driver) }
-        ensures journal { IfOk result (λ made. (made.journal.entries.items ≡ []) × (made.journal.is_full ≡ not self.keeps_journal)) }
+        ensures journal { IfOk result (λ made. HasNewJournal self.keeps_journal made) }
         ensures history { IfOk result (λ made. made.journal.history.entries ≡ []) }
-        ensures futures { IfOk result (λ made. made.cx.futures.items ≡ []) }
-        ensures rests { IfOk result (λ made. made.cx.parts.tasks.turn ≡ None) }
-        ensures me { IfOk result (λ made. (made.cx.parts.me ≡ 0) × (nanos_of made.cx.parts.now ≡ 0)) }
-        ensures registered { IfOk result (λ made. (s : ℕ) → registered_of made.cx.parts.timers s ≡ None) }
-        ensures aligned { IfOk result (λ made. IsAligned made.cx) }
+        ensures futures { IfOk result (λ made. futures_of made ≡ []) }
+        ensures rests { IfOk result (λ made. Rests made) }
+        ensures me { IfOk result (λ made. IsAtZero made) }
+        ensures registered { IfOk result (λ made. (s : ℕ) → registered_in made s ≡ None) }
+        ensures aligned { IfOk result (λ made. HasOwnFutures made) }
     {
         D::build(alloc, self, ())
     }
@@ -196,18 +195,18 @@ impl<D: Buildable, P: ThreadPool + Drop> RuntimeBuilder<D, P> {
         alloc: Global,
         shared: W,
     ) -> Result<Runtime<F, O, D, P, W>, AllocError>
-        ensures stands { IfOk result (λ made. Matches O.output_number hosting_of made.cx.parts (start_machine self.limits (strategy_of self.pool))) }
-        ensures shared { IfOk result (λ made. made.cx.shared ≡ shared) }
-        ensures timers { IfOk result (λ made. made.cx.parts.has_timers ≡ D.marks_timers) }
-        ensures pool { IfOk result (λ made. made.cx.parts.blocking.pool ≡ self.pool) }
+        ensures stands { IfOk result (λ made. RefinesStart O.output_number self.limits (strategy_of self.pool) made) }
+        ensures shared { IfOk result (λ made. shared_of made ≡ shared) }
+        ensures timers { IfOk result (λ made. is_timed made ≡ D.marks_timers) }
+        ensures pool { IfOk result (λ made. (jobs_of made).pool ≡ self.pool) }
         ensures driver { IfOk result (λ made. made.driver ≡ self.driver) }
-        ensures journal { IfOk result (λ made. (made.journal.entries.items ≡ []) × (made.journal.is_full ≡ not self.keeps_journal)) }
+        ensures journal { IfOk result (λ made. HasNewJournal self.keeps_journal made) }
         ensures history { IfOk result (λ made. made.journal.history.entries ≡ []) }
-        ensures futures { IfOk result (λ made. made.cx.futures.items ≡ []) }
-        ensures rests { IfOk result (λ made. made.cx.parts.tasks.turn ≡ None) }
-        ensures me { IfOk result (λ made. (made.cx.parts.me ≡ 0) × (nanos_of made.cx.parts.now ≡ 0)) }
-        ensures registered { IfOk result (λ made. (s : ℕ) → registered_of made.cx.parts.timers s ≡ None) }
-        ensures aligned { IfOk result (λ made. IsAligned made.cx) }
+        ensures futures { IfOk result (λ made. futures_of made ≡ []) }
+        ensures rests { IfOk result (λ made. Rests made) }
+        ensures me { IfOk result (λ made. IsAtZero made) }
+        ensures registered { IfOk result (λ made. (s : ℕ) → registered_in made s ≡ None) }
+        ensures aligned { IfOk result (λ made. HasOwnFutures made) }
     {
         D::build(alloc, self, shared)
     }
@@ -282,17 +281,17 @@ pub trait Buildable: Driver + Sized {
         this: RuntimeBuilder<Self, P>,
         shared: W,
     ) -> Result<Runtime<F, O, Self, P, W>, AllocError>
-        ensures shared { IfOk result (λ made. made.cx.shared ≡ shared) }
-        ensures stands { IfOk result (λ made. Matches O.output_number hosting_of made.cx.parts (start_machine this.limits (strategy_of this.pool))) }
-        ensures timers { IfOk result (λ made. made.cx.parts.has_timers ≡ marks_timers) }
-        ensures pool { IfOk result (λ made. made.cx.parts.blocking.pool ≡ this.pool) }
+        ensures shared { IfOk result (λ made. shared_of made ≡ shared) }
+        ensures stands { IfOk result (λ made. RefinesStart O.output_number this.limits (strategy_of this.pool) made) }
+        ensures timers { IfOk result (λ made. is_timed made ≡ marks_timers) }
+        ensures pool { IfOk result (λ made. (jobs_of made).pool ≡ this.pool) }
         ensures driver { IfOk result (λ made. made.driver ≡ this.driver) }
-        ensures journal { IfOk result (λ made. (made.journal.entries.items ≡ []) × (made.journal.is_full ≡ not this.keeps_journal)) }
+        ensures journal { IfOk result (λ made. HasNewJournal this.keeps_journal made) }
         ensures history { IfOk result (λ made. made.journal.history.entries ≡ []) }
-        ensures futures { IfOk result (λ made. made.cx.futures.items ≡ []) }
-        ensures rests { IfOk result (λ made. made.cx.parts.tasks.turn ≡ None) }
-        ensures me { IfOk result (λ made. (made.cx.parts.me ≡ 0) × (nanos_of made.cx.parts.now ≡ 0)) }
-        ensures registered { IfOk result (λ made. (s : ℕ) → registered_of made.cx.parts.timers s ≡ None) }
+        ensures futures { IfOk result (λ made. futures_of made ≡ []) }
+        ensures rests { IfOk result (λ made. Rests made) }
+        ensures me { IfOk result (λ made. IsAtZero made) }
+        ensures registered { IfOk result (λ made. (s : ℕ) → registered_in made s ≡ None) }
     {
         this.make(alloc, Self::has_timers(), zero(), shared)
     }
@@ -338,8 +337,8 @@ impl<F: Drop, O: Outcome + Drop, D: Driver, P: ThreadPool + Drop, W: SharedState
 > {
     /// Returns the attached pool (`some`); None if and only if none is attached (`none`).
     pub fn into_pool(self) -> Option<P>
-        ensures some { IfSome result (λ pool. self.cx.parts.blocking.pool ≡ Attached pool) }
-        ensures none { IfNone result (IsApart self.cx.parts.blocking.pool) }
+        ensures some { IfSome result (λ pool. (jobs_of self).pool ≡ Attached pool) }
+        ensures none { IfNone result (IsApart (jobs_of self).pool) }
     {
         let (blocking, _journal) = self.apart();
         blocking.into_pool()
@@ -384,7 +383,7 @@ where
     D: Buildable,
     P: ThreadPool + Drop,
     requires { (f : F) → F.can_poll f }
-    ensures { RunsFrom O.output_number D.marks_timers turns result (start_machine (record { tasks = 2 ^ 20; jobs = 2 ^ 20; sleeps = 2 ^ 20 }) none.Panic) (telling (D.readings driver) (D.time driver) (D.parks driver) (D.submits driver) (D.faults driver) (D.can_fail driver)) }
+    ensures { RunsFrom O.output_number D.marks_timers turns result default_start (exposed D.Clock driver) }
 {
     let builder: RuntimeBuilder<D, P> = RuntimeBuilder::new(driver);
     match builder.build(alloc) {

@@ -12,9 +12,8 @@ ghost use Rattle.mono_task.specs.Work.{without_outputs};
 ghost use Rattle.mono_time.specs.Instants.{nanos_of};
 ghost use Rattle.mono_time.specs.Sleeps.{Added, sleep_poll_answer, with_polled_sleep, sleep_reset_answer, with_reset_sleep, sleep_remove_answer, with_removed_sleep};
 ghost use Rattle.mono_time.specs.Timers.{sleeps_of};
-ghost use Rattle.mono_rt.specs.CallActs.{noted_wake, noted_join, noted_drop, noted_sleep, lacks_sleep, noted_poll, noted_gone, noted_reset};
-ghost use Rattle.mono_rt.specs.Spawns.{noted_spawn, lacks_spawn};
 ghost use Rattle.mono_rt.specs.Reaches.{ReachesSharing, sharing_itself, sharing_on, by_shared};
+ghost use Rattle.mono_rt.specs.Views.{running_in, WakesAlone, LacksMemory, tasks_in, work_in, sleeps_in, futures_in, KeepsWork, NotesSpawn, NotesWake, NotesJoin, NotesDrop, NotesSleep, NotesPoll, NotesGone, NotesReset};
 
 use crate::parts::Parts;
 use crate::wakers::Wakers;
@@ -67,14 +66,14 @@ impl<F: Drop, O: Outcome + Drop, P: ThreadPool + Drop, U: Unpark, W: SharedState
     /// }
     /// ```
     pub fn spawn(&mut self, alloc: Global, future: F) -> Result<JoinHandle<O>, SpawnRefused<F>>
-        ensures number { IfOk result (λ handle. handle ≡ next_number self.old.parts.tasks.tasks.table) }
-        ensures tasks { OnOk result (self.new.parts.tasks.tasks ≡ spawned self.old.parts.tasks.tasks) }
-        ensures futures { OnOk result (self.new.futures.items ≡ self.old.futures.items ++ Some future ∷ []) }
-        ensures refused { OnErr result (self.new.parts.tasks ≡ self.old.parts.tasks) }
-        ensures none { OnErr result (self.new.futures.items ≡ self.old.futures.items) }
+        ensures number { IfOk result (λ handle. handle ≡ next_number (tasks_in self.old).table) }
+        ensures tasks { OnOk result (tasks_in self.new ≡ spawned (tasks_in self.old)) }
+        ensures futures { OnOk result (futures_in self.new ≡ futures_in self.old ++ Some future ∷ []) }
+        ensures refused { OnErr result (KeepsWork self.old self.new) }
+        ensures none { OnErr result (futures_in self.new ≡ futures_in self.old) }
         ensures back { IfErr result (λ refusal. refused_future refusal ≡ future) }
-        ensures full { IsRefusedIfFull self.old.parts.tasks.tasks result }
-        ensures kept { self.new.parts ≡ record self.old.parts { tasks = self.new.parts.tasks; acts = noted_spawn self.old.parts.acts result; is_out_of_memory = lacks_spawn self.old.parts.is_out_of_memory result } }
+        ensures full { IsRefusedIfFull (tasks_in self.old) result }
+        ensures kept { NotesSpawn result self.old self.new }
         ensures reached { ReachesSharing O.output_number W.leads self.old self.new }
     {
         if self.parts.tasks.has_no_place() {
@@ -133,10 +132,10 @@ impl<F: Drop, O: Outcome + Drop, P: ThreadPool + Drop, U: Unpark, W: SharedState
     }
 
     fn wake(&mut self, task: u64) -> Result<Woke, TaskError>
-        ensures answer { result ≡ wake_answer (without_outputs self.old.parts.tasks.tasks) task }
-        ensures work { without_outputs self.new.parts.tasks.tasks ≡ woken (without_outputs self.old.parts.tasks.tasks) task }
-        ensures woke { (self.new.parts.tasks.tasks ≡ woken self.old.parts.tasks.tasks task) × (self.new.parts.timers ≡ self.old.parts.timers) × (self.new.shared ≡ self.old.shared) }
-        ensures kept { self.new ≡ record self.old { parts = record self.old.parts { tasks = self.new.parts.tasks; acts = noted_wake self.old.parts.acts task result } } }
+        ensures answer { result ≡ wake_answer (work_in self.old) task }
+        ensures work { work_in self.new ≡ woken (work_in self.old) task }
+        ensures woke { WakesAlone task self.old self.new }
+        ensures kept { NotesWake task result self.old self.new }
         ensures reached { ReachesSharing O.output_number W.leads self.old self.new }
     {
         self.parts.wake(task)
@@ -163,18 +162,18 @@ impl<
     ghost tasks = { λ c. c.parts.tasks.tasks };
 
     fn poll_join(&mut self, task: u64) -> Result<Poll<O>, TaskError>
-        ensures answer { result ≡ join_answer self.old.parts.tasks.tasks task }
-        ensures tasks { self.new.parts.tasks.tasks ≡ joined self.old.parts.tasks.tasks task self.old.parts.me }
-        ensures kept { self.new ≡ record self.old { parts = record self.old.parts { tasks = self.new.parts.tasks; acts = noted_join O.output_number self.old.parts.acts task result } } }
+        ensures answer { result ≡ join_answer (tasks_in self.old) task }
+        ensures tasks { tasks_in self.new ≡ joined (tasks_in self.old) task (running_in self.old) }
+        ensures kept { NotesJoin O.output_number task result self.old self.new }
         ensures reached { ReachesSharing O.output_number W.leads self.old self.new }
     {
         self.parts.poll_join(task)
     }
 
     fn drop_join(&mut self, task: u64) -> Result<Option<O>, TaskError>
-        ensures answer { result ≡ drop_answer self.old.parts.tasks.tasks task }
-        ensures tasks { self.new.parts.tasks.tasks ≡ join_dropped self.old.parts.tasks.tasks task }
-        ensures kept { self.new ≡ record self.old { parts = record self.old.parts { tasks = self.new.parts.tasks; acts = noted_drop O.output_number self.old.parts.acts task result } } }
+        ensures answer { result ≡ drop_answer (tasks_in self.old) task }
+        ensures tasks { tasks_in self.new ≡ join_dropped (tasks_in self.old) task }
+        ensures kept { NotesDrop O.output_number task result self.old self.new }
         ensures reached { ReachesSharing O.output_number W.leads self.old self.new }
     {
         self.parts.drop_join(task)
@@ -194,40 +193,40 @@ impl<F: Drop, O: Outcome + Drop, P: ThreadPool + Drop, U: Unpark, W: SharedState
     ghost sleeps = { λ c. sleeps_of c.parts.timers };
 
     fn add_sleep(&mut self, alloc: Global, deadline: Instant) -> Result<u64, SleepError>
-        ensures added { Added (sleeps_of self.old.parts.timers) (nanos_of deadline) result (sleeps_of self.new.parts.timers) }
-        ensures memory { result ≡ Err Memory → self.new.parts.is_out_of_memory ≡ true }
-        ensures work { without_outputs self.new.parts.tasks.tasks ≡ without_outputs self.old.parts.tasks.tasks }
-        ensures kept { self.new ≡ record self.old { parts = record self.old.parts { timers = self.new.parts.timers; acts = noted_sleep self.old.parts.acts (nanos_of deadline) result; is_out_of_memory = lacks_sleep self.old.parts.is_out_of_memory result } } }
+        ensures added { Added (sleeps_in self.old) (nanos_of deadline) result (sleeps_in self.new) }
+        ensures memory { result ≡ Err Memory → LacksMemory self.new }
+        ensures work { work_in self.new ≡ work_in self.old }
+        ensures kept { NotesSleep (nanos_of deadline) result self.old self.new }
         ensures reached { ReachesSharing O.output_number W.leads self.old self.new }
     {
         self.parts.add_sleep(alloc, deadline)
     }
 
     fn poll_sleep(&mut self, sleep: u64) -> Result<Poll<()>, Error>
-        ensures answer { result ≡ sleep_poll_answer (sleeps_of self.old.parts.timers) sleep }
-        ensures sleeps { sleeps_of self.new.parts.timers ≡ with_polled_sleep (sleeps_of self.old.parts.timers) sleep self.old.parts.me }
-        ensures work { without_outputs self.new.parts.tasks.tasks ≡ without_outputs self.old.parts.tasks.tasks }
-        ensures kept { self.new ≡ record self.old { parts = record self.old.parts { timers = self.new.parts.timers; acts = noted_poll self.old.parts.acts sleep result } } }
+        ensures answer { result ≡ sleep_poll_answer (sleeps_in self.old) sleep }
+        ensures sleeps { sleeps_in self.new ≡ with_polled_sleep (sleeps_in self.old) sleep (running_in self.old) }
+        ensures work { work_in self.new ≡ work_in self.old }
+        ensures kept { NotesPoll sleep result self.old self.new }
         ensures reached { ReachesSharing O.output_number W.leads self.old self.new }
     {
         self.parts.poll_sleep(sleep)
     }
 
     fn reset_sleep(&mut self, sleep: u64, deadline: Instant) -> Result<(), Error>
-        ensures answer { result ≡ without_waker (sleep_reset_answer (sleeps_of self.old.parts.timers) sleep (nanos_of deadline)) }
-        ensures sleeps { sleeps_of self.new.parts.timers ≡ with_reset_sleep (sleeps_of self.old.parts.timers) sleep (nanos_of deadline) }
-        ensures work { without_outputs self.new.parts.tasks.tasks ≡ woken_if_any (without_outputs self.old.parts.tasks.tasks) (waker_in (sleep_reset_answer (sleeps_of self.old.parts.timers) sleep (nanos_of deadline))) }
-        ensures kept { self.new ≡ record self.old { parts = record self.old.parts { tasks = self.new.parts.tasks; timers = self.new.parts.timers; acts = noted_reset self.old.parts.acts (sleeps_of self.old.parts.timers).greatest sleep (nanos_of deadline) result } } }
+        ensures answer { result ≡ without_waker (sleep_reset_answer (sleeps_in self.old) sleep (nanos_of deadline)) }
+        ensures sleeps { sleeps_in self.new ≡ with_reset_sleep (sleeps_in self.old) sleep (nanos_of deadline) }
+        ensures work { work_in self.new ≡ woken_if_any (work_in self.old) (waker_in (sleep_reset_answer (sleeps_in self.old) sleep (nanos_of deadline))) }
+        ensures kept { NotesReset sleep (nanos_of deadline) result self.old self.new }
         ensures reached { ReachesSharing O.output_number W.leads self.old self.new }
     {
         self.parts.reset_sleep(sleep, deadline)
     }
 
     fn drop_sleep(&mut self, sleep: u64) -> Result<(), Error>
-        ensures answer { result ≡ sleep_remove_answer (sleeps_of self.old.parts.timers) sleep }
-        ensures sleeps { sleeps_of self.new.parts.timers ≡ with_removed_sleep (sleeps_of self.old.parts.timers) sleep }
-        ensures work { without_outputs self.new.parts.tasks.tasks ≡ without_outputs self.old.parts.tasks.tasks }
-        ensures kept { self.new ≡ record self.old { parts = record self.old.parts { timers = self.new.parts.timers; acts = noted_gone self.old.parts.acts sleep result } } }
+        ensures answer { result ≡ sleep_remove_answer (sleeps_in self.old) sleep }
+        ensures sleeps { sleeps_in self.new ≡ with_removed_sleep (sleeps_in self.old) sleep }
+        ensures work { work_in self.new ≡ work_in self.old }
+        ensures kept { NotesGone sleep result self.old self.new }
         ensures reached { ReachesSharing O.output_number W.leads self.old self.new }
     {
         self.parts.drop_sleep(sleep)

@@ -2,6 +2,7 @@
 ghost use Rattle.std.specs.Prelude.{◌≡◌, IfNone, IfSome};
 ghost use Rattle.mono_blocking.specs.JobSpawns.{IsApart};
 ghost use Rattle.mono_blocking.specs.declared.strategy.BlockingHandle.TheVariants.{Attached};
+ghost use Rattle.mono_rt.specs.Views.{jobs_of};
 
 use crate::contexts::Cx;
 use crate::parts::{Journal, Parts};
@@ -22,8 +23,8 @@ impl<F: Drop, O: Outcome + Drop, D: Driver, P: ThreadPool + Drop, W: SharedState
     /// attached (`some`, `none`).
     pub fn into_driver(self) -> (D, Option<P>, Journal)
         ensures driver { result.0 ≡ self.driver }
-        ensures some { IfSome result.1 (λ pool. self.cx.parts.blocking.pool ≡ Attached pool) }
-        ensures none { IfNone result.1 (IsApart self.cx.parts.blocking.pool) }
+        ensures some { IfSome result.1 (λ pool. (jobs_of self).pool ≡ Attached pool) }
+        ensures none { IfNone result.1 (IsApart (jobs_of self).pool) }
         ensures journal { result.2 ≡ self.journal }
     {
         let Runtime {

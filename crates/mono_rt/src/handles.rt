@@ -1,16 +1,12 @@
 // The handles of tasks between two calls that run turns.
-ghost use Rattle.std.specs.Prelude.{◌≡◌, None, OnOk};
+ghost use Rattle.std.specs.Prelude.{◌≡◌, OnOk};
 ghost use Rattle.mono_model.specs.Joins.{join_answer, drop_answer, join_dropped, finished_answer};
-ghost use Rattle.mono_machine.specs.Machine.{Machine};
 ghost use Rattle.mono_task.specs.Work.{GivesOutput};
-ghost use Rattle.mono_rt.specs.Handles.{TakesOutput, PollsHandle, DropsHandle};
-ghost use Rattle.mono_rt.specs.Journals.{Does};
+ghost use Rattle.mono_rt.specs.Handles.{TakesOutput};
 ghost use Rattle.mono_rt.specs.Rounds.{Ends};
 ghost use Rattle.mono_rt.specs.Faults.{FaultsBy};
-ghost use Rattle.mono_rt.specs.FuturePolls.{Polling, OnMain};
-ghost use Rattle.mono_rt.specs.JournalRoom.{Fills};
-ghost use Rattle.mono_rt.specs.DriverReadings.{telling, TellingSo};
-ghost use Rattle.mono_rt.specs.Refinement.{hosting_of, Matches};
+ghost use Rattle.mono_rt.specs.FuturePolls.{OnMain};
+ghost use Rattle.mono_rt.specs.Views.{PollsHandleOf, DropsHandleOf, tasks_of, is_timed, Rests, Grows, ChangesTasks, HoldsSamePlaces, LeadsShared, TellsDriver, PollsItsFutures, FillsJournal};
 
 use crate::contexts::Cx;
 use crate::parts::RunError;
@@ -32,7 +28,7 @@ impl<F: Drop, O: Outcome + Drop, D: Driver, P: ThreadPool + Drop, W: SharedState
 > {
     /// Returns whether a task has finished. Refused with `NoTask`, then with `NoHandle`.
     pub fn is_finished(&self, handle: &JoinHandle<O>) -> Result<bool, TaskError>
-        ensures { result ≡ finished_answer self.now.cx.parts.tasks.tasks handle.now }
+        ensures { result ≡ finished_answer (tasks_of self.now) handle.now }
     {
         self.cx.parts.tasks.is_finished(handle.task())
     }
@@ -42,10 +38,10 @@ impl<F: Drop, O: Outcome + Drop, D: Driver, P: ThreadPool + Drop, W: SharedState
     /// Refused with `NoTask`, then with `NoHandle`, then with `Taken` (`answer`). Only an output changes anything: the
     /// machine answers it to a poll by any task (`machine`). The journal does not record the poll (`same`).
     pub fn poll_join(&mut self, handle: &JoinHandle<O>) -> Result<Poll<O>, TaskError>
-        ensures answer { result ≡ join_answer self.old.cx.parts.tasks.tasks handle.now }
-        ensures taken { TakesOutput self.old.cx.parts.tasks.tasks handle.now result self.new.cx.parts.tasks.tasks }
-        ensures machine { (m : Machine) → Matches O.output_number hosting_of self.old.cx.parts m → PollsHandle O.output_number m handle.now result (Matches O.output_number hosting_of self.new.cx.parts) }
-        ensures same { self.new ≡ record self.old { cx = record self.old.cx { parts = record self.old.cx.parts { tasks = record self.old.cx.parts.tasks { tasks = self.new.cx.parts.tasks.tasks } } } } }
+        ensures answer { result ≡ join_answer (tasks_of self.old) handle.now }
+        ensures taken { TakesOutput (tasks_of self.old) handle.now result (tasks_of self.new) }
+        ensures machine { PollsHandleOf O.output_number handle.now result self.old self.new }
+        ensures same { ChangesTasks self.old self.new }
     {
         let task = handle.task();
         if !self.cx.parts.tasks.is_finished(task)? {
@@ -59,10 +55,10 @@ impl<F: Drop, O: Outcome + Drop, D: Driver, P: ThreadPool + Drop, W: SharedState
     /// Refused with `NoTask`, then with `NoHandle` (`answer`). The drop is the machine's, with its reply (`machine`).
     /// The journal does not record it (`same`).
     pub fn drop_join(&mut self, handle: JoinHandle<O>) -> Result<Option<O>, TaskError>
-        ensures answer { result ≡ drop_answer self.old.cx.parts.tasks.tasks handle }
-        ensures dropped { self.new.cx.parts.tasks.tasks ≡ join_dropped self.old.cx.parts.tasks.tasks handle }
-        ensures machine { (m : Machine) → Matches O.output_number hosting_of self.old.cx.parts m → DropsHandle O.output_number m handle result (Matches O.output_number hosting_of self.new.cx.parts) }
-        ensures same { self.new ≡ record self.old { cx = record self.old.cx { parts = record self.old.cx.parts { tasks = record self.old.cx.parts.tasks { tasks = self.new.cx.parts.tasks.tasks } } } } }
+        ensures answer { result ≡ drop_answer (tasks_of self.old) handle }
+        ensures dropped { tasks_of self.new ≡ join_dropped (tasks_of self.old) handle }
+        ensures machine { DropsHandleOf O.output_number handle result self.old self.new }
+        ensures same { ChangesTasks self.old self.new }
     {
         self.cx.parts.tasks.drop_join(handle.task())
     }
@@ -95,16 +91,16 @@ where
         turns: u64,
     ) -> Result<(), RunError>
         requires callable { (f : F) → F.can_poll f }
-        requires rests { self.old.cx.parts.tasks.turn ≡ None }
-        ensures given { OnOk result (GivesOutput self.new.cx.parts.tasks.tasks handle.now) }
-        ensures ends { Does O.output_number (Ends self.old.cx.parts.has_timers handle.now turns result) self.old.cx.parts self.new.cx.parts self.old.journal self.new.journal }
-        ensures shared { W.leads self.old.cx.shared self.new.cx.shared }
-        ensures rests { self.new.cx.parts.tasks.turn ≡ None }
-        ensures polled { OnMain result (Does O.output_number (Polling O.output_number W.leads F.TaskFuture self.old.cx.parts.has_timers self.old.cx.futures.items self.new.cx.futures.items) self.old.cx.parts self.new.cx.parts self.old.journal self.new.journal) }
+        requires rests { Rests self.old }
+        ensures given { OnOk result (GivesOutput (tasks_of self.new) handle.now) }
+        ensures ends { Grows O.output_number (Ends (is_timed self.old) handle.now turns result) self.old self.new }
+        ensures shared { LeadsShared W.leads self.old self.new }
+        ensures rests { Rests self.new }
+        ensures polled { OnMain result (PollsItsFutures O.output_number W.leads F.TaskFuture self.old self.new) }
         ensures faults { FaultsBy result (D.faults self.old.driver) (D.faults self.new.driver) }
-        ensures told { TellingSo result (telling (D.readings self.old.driver) (D.time self.old.driver) (D.parks self.old.driver) (D.submits self.old.driver) (D.faults self.old.driver) (D.can_fail self.old.driver)) self.old.journal self.new.journal (telling (D.readings self.new.driver) (D.time self.new.driver) (D.parks self.new.driver) (D.submits self.new.driver) (D.faults self.new.driver) (D.can_fail self.new.driver)) }
-        ensures full { Fills O.output_number W.leads F.TaskFuture self.old.cx self.old.journal self.new.journal }
-        ensures held { self.new.journal.entries.held ≡ self.old.journal.entries.held }
+        ensures told { TellsDriver result D.Clock self.old self.new }
+        ensures full { FillsJournal O.output_number W.leads F.TaskFuture self.old self.new }
+        ensures held { HoldsSamePlaces self.old self.new }
     {
         let answer = self.run(rt, alloc, handle.task(), turns);
         self.cx.wakers.retire_ended(rt);

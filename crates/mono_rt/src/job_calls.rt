@@ -3,6 +3,7 @@ ghost use Rattle.std.specs.Prelude.{◌≡◌, IfOk};
 ghost use Rattle.mono_rt.specs.JobActs.{SpawnsJob, PollsJob, DropsJob, AsksWhetherEnded};
 ghost use Rattle.mono_rt.specs.Reaches.{ReachesSharing};
 ghost use Rattle.mono_blocking.specs.JobSpawns.{strategy_of, refusals_of};
+ghost use Rattle.mono_rt.specs.Views.{OnParts, ChangesParts};
 
 use crate::contexts::Cx;
 use mono_blocking::{
@@ -42,8 +43,8 @@ impl<F: Drop, O: Outcome + Drop, P: ThreadPool + Drop, U: Unpark, W: SharedState
         alloc: Global,
         job: P::Job,
     ) -> Result<JobHandle, SpawnError<P::Job>>
-        ensures spawned { SpawnsJob P.Job.output_number P.refusals job result self.old.parts self.new.parts }
-        ensures same { self.new ≡ record self.old { parts = self.new.parts } }
+        ensures spawned { OnParts (SpawnsJob P.Job.output_number P.refusals job result) self.old self.new }
+        ensures same { ChangesParts self.old self.new }
         ensures reached { ReachesSharing O.output_number W.leads self.old self.new }
     {
         self.parts.spawn_blocking(rt, alloc, job)
@@ -53,8 +54,8 @@ impl<F: Drop, O: Outcome + Drop, P: ThreadPool + Drop, U: Unpark, W: SharedState
     /// `NoHandle`. The drop is an act of the turn. If this call is the first to see the job's end, the end is an act
     /// right before it (`dropped`).
     pub fn drop_job(&mut self, job: u64) -> Result<Option<Result<OutputOf<P>, JoinError>>, Refusal>
-        ensures dropped { DropsJob P.Job.Output.output_number job result self.old.parts self.new.parts }
-        ensures same { self.new ≡ record self.old { parts = self.new.parts } }
+        ensures dropped { OnParts (DropsJob P.Job.Output.output_number job result) self.old self.new }
+        ensures same { ChangesParts self.old self.new }
         ensures reached { ReachesSharing O.output_number W.leads self.old self.new }
     {
         self.parts.drop_job(job)
@@ -63,8 +64,8 @@ impl<F: Drop, O: Outcome + Drop, P: ThreadPool + Drop, U: Unpark, W: SharedState
     /// Returns whether a job has ended. Refused as `NoTask`, and then as `NoHandle`. It is a question: the turn records
     /// none of it. If it saw the end, the next poll or drop records that (`asked`).
     pub fn job_finished(&mut self, job: u64) -> Result<bool, Refusal>
-        ensures asked { AsksWhetherEnded job result self.old.parts self.new.parts }
-        ensures same { self.new ≡ record self.old { parts = self.new.parts } }
+        ensures asked { OnParts (AsksWhetherEnded job result) self.old self.new }
+        ensures same { ChangesParts self.old self.new }
         ensures reached { ReachesSharing O.output_number W.leads self.old self.new }
     {
         self.parts.has_job_ended(job)
@@ -98,8 +99,8 @@ where
     /// job was not polled. Otherwise the poll is an act of the turn. If this call is the first to see the job's end,
     /// the end is an act right before it (`polled`).
     pub fn poll_job(&mut self, job: u64) -> Result<Poll<Result<OutputOf<P>, JoinError>>, PollJob>
-        ensures polled { PollsJob P.Job.Output.output_number job result self.old.parts self.new.parts }
-        ensures same { self.new ≡ record self.old { parts = self.new.parts } }
+        ensures polled { OnParts (PollsJob P.Job.Output.output_number job result) self.old self.new }
+        ensures same { ChangesParts self.old self.new }
         ensures reached { ReachesSharing O.output_number W.leads self.old self.new }
     {
         match self.own_waker() {

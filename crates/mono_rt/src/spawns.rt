@@ -2,11 +2,8 @@
 ghost use Rattle.std.specs.Prelude.{◌≡◌, ◌++◌, ◌∷◌, [], Some, IfOk, IfErr, OnOk, OnErr};
 ghost use Rattle.mono_model.specs.Table.{next_number};
 ghost use Rattle.mono_model.specs.Tasks.{spawned};
-ghost use Rattle.mono_machine.specs.Machine.{Machine};
 ghost use Rattle.mono_task.specs.Spawns.{refused_future, IsRefusedIfFull};
-ghost use Rattle.mono_rt.specs.Spawns.{SpawnsTask};
-ghost use Rattle.mono_rt.specs.Refinement.{hosting_of, Matches};
-ghost use Rattle.mono_rt.specs.Reaches.{IsAligned};
+ghost use Rattle.mono_rt.specs.Views.{SpawnsOne, turn_of, context_of, tasks_of, futures_of, shared_of, is_timed, HasOwnFutures, KeepsTasks};
 
 use crate::contexts::Cx;
 use crate::runtimes::Runtime;
@@ -40,17 +37,17 @@ impl<F: Drop, O: Outcome + Drop, D: Driver, P: ThreadPool + Drop, W: SharedState
     /// }
     /// ```
     pub fn spawn(&mut self, alloc: Global, future: F) -> Result<JoinHandle<O>, SpawnRefused<F>>
-        ensures number { IfOk result (λ handle. handle ≡ next_number self.old.cx.parts.tasks.tasks.table) }
-        ensures tasks { OnOk result (self.new.cx.parts.tasks.tasks ≡ spawned self.old.cx.parts.tasks.tasks) }
-        ensures futures { OnOk result (self.new.cx.futures.items ≡ self.old.cx.futures.items ++ Some future ∷ []) }
-        ensures machine { (m : Machine) → Matches O.output_number hosting_of self.old.cx.parts m → SpawnsTask m result (Matches O.output_number hosting_of self.new.cx.parts) }
+        ensures number { IfOk result (λ handle. handle ≡ next_number (tasks_of self.old).table) }
+        ensures tasks { OnOk result (tasks_of self.new ≡ spawned (tasks_of self.old)) }
+        ensures futures { OnOk result (futures_of self.new ≡ futures_of self.old ++ Some future ∷ []) }
+        ensures machine { SpawnsOne O.output_number result self.old self.new }
         ensures back { IfErr result (λ refusal. refused_future refusal ≡ future) }
-        ensures full { IsRefusedIfFull self.old.cx.parts.tasks.tasks result }
-        ensures refused { OnErr result ((self.new.cx.parts ≡ self.old.cx.parts) × (self.new.cx.futures.items ≡ self.old.cx.futures.items)) }
-        ensures aligned { IsAligned self.old.cx → IsAligned self.new.cx }
-        ensures has_timers { self.new.cx.parts.has_timers ≡ self.old.cx.parts.has_timers }
-        ensures turn { self.new.cx.parts.tasks.turn ≡ self.old.cx.parts.tasks.turn }
-        ensures shared { self.new.cx.shared ≡ self.old.cx.shared }
+        ensures full { IsRefusedIfFull (tasks_of self.old) result }
+        ensures refused { OnErr result (KeepsTasks self.old self.new) }
+        ensures aligned { HasOwnFutures self.old → HasOwnFutures self.new }
+        ensures has_timers { is_timed self.new ≡ is_timed self.old }
+        ensures turn { turn_of self.new ≡ turn_of self.old }
+        ensures shared { shared_of self.new ≡ shared_of self.old }
         ensures journal { self.new.journal ≡ self.old.journal }
     {
         if self.cx.parts.tasks.has_no_place() {
@@ -71,7 +68,7 @@ impl<F: Drop, O: Outcome + Drop, D: Driver, P: ThreadPool + Drop, W: SharedState
 
     /// Returns the context: the tasks, sleeps and futures between two calls.
     pub fn context(&self) -> &Cx<F, O, P, D::Unpark, W>
-        ensures { result.now ≡ self.now.cx }
+        ensures { result.now ≡ context_of self.now }
     {
         &self.cx
     }

@@ -7,7 +7,8 @@ ghost use Rattle.mono_machine.specs.Machine.{Machine};
 ghost use Rattle.mono_machine.specs.Watches.{job_waiter};
 ghost use Rattle.mono_rt.specs.declared.task_waits.WaitsFor.TheVariants as source;
 ghost use Rattle.mono_rt.specs.Refinement.{Matches, hosting_of};
-ghost use Rattle.mono_rt.specs.TaskWaits.{each_below, watch, tick_watch, watches, row_by, own_rows, or_nothing, rows_of, row_of, task_waits};
+ghost use Rattle.mono_rt.specs.TaskWaits.{each_below, watch, tick_watch, watches, row_by, own_rows, or_nothing, rows_of, row_of};
+ghost use Rattle.mono_rt.specs.Views.{ListsWaits};
 
 use crate::parts::Parts;
 use crate::runtimes::Runtime;
@@ -283,7 +284,7 @@ impl<F: Drop, O: Outcome + Drop, D: Driver, P: ThreadPool + Drop, W: SharedState
     /// let list = runtime.tasks(alloc).expect(&rt, "memory");
     /// ```
     pub fn tasks(&self, alloc: Global) -> Result<Vec<TaskWait>, AllocError>
-        ensures { IfOk result (λ list. (m : Machine) → Matches O.output_number hosting_of self.now.cx.parts m → map row_of list.items ≡ task_waits m) }
+        ensures { IfOk result (λ list. ListsWaits O.output_number list.items self.now) }
     {
         let watches = all_watches(alloc, &self.cx.parts)?;
         let mut list = Vec::new(alloc);
