@@ -1,5 +1,6 @@
 // Calls on a runtime, and a running task that makes calls on its context.
-ghost use Rattle.std.specs.Prelude.{◌≡◌, None, IfOk};
+ghost use Rattle.std.specs.Prelude.{IfOk};
+ghost use Rattle.mono_rt.specs.Views.{Rests};
 
 use crate::contexts::{Ask, Errand, Keeps, WENT_WRONG, refused_with};
 use crate::grows::{Called, Ended, Grows, done_where, refusals};
@@ -14,7 +15,7 @@ use std::sync::atomic::{AtomicU64, Ordering};
 pub type Running = Runtime<Errand, u64, TimeDriver<StepDriver>, Keeps>;
 
 fn running(alloc: Global) -> Result<Running, AllocError>
-    ensures rests { IfOk result (λ made. made.cx.parts.tasks.turn ≡ None) }
+    ensures rests { IfOk result (λ made. Rests made) }
 {
     let driver = TimeDriver::new(StepDriver::new(Vec::new(alloc)));
     let builder: RuntimeBuilder<TimeDriver<StepDriver>, Keeps> = RuntimeBuilder::new(driver);
@@ -85,7 +86,7 @@ fn had_turn<R: Host>(
     calls: u64,
     told: &Arc<AtomicU64, Global>,
 ) -> Ended
-    requires rests { runtime.old.cx.parts.tasks.turn ≡ None }
+    requires rests { Rests runtime.old }
 {
     let says_so = match Arc::try_clone(told) {
         Ok(theirs) => says_memory(rt, alloc, runtime, Errand::Asks(ask, calls, theirs)),
@@ -101,8 +102,8 @@ fn had_turn<R: Host>(
 
 // Returns whether the runtime answers out of memory after the errand's turn.
 fn says_memory<R: Host>(rt: &R, alloc: Global, runtime: &mut Running, errand: Errand) -> bool
-    requires rests { runtime.old.cx.parts.tasks.turn ≡ None }
-    ensures rests { runtime.new.cx.parts.tasks.turn ≡ None }
+    requires rests { Rests runtime.old }
+    ensures rests { Rests runtime.new }
 {
     matches!(
         runtime.block_on(rt, alloc, errand, 1),
@@ -112,7 +113,7 @@ fn says_memory<R: Host>(rt: &R, alloc: Global, runtime: &mut Running, errand: Er
 
 // Returns whether another task on the runtime has its expected output.
 fn is_usable<R: Host>(rt: &R, alloc: Global, runtime: &mut Running) -> bool
-    requires rests { runtime.old.cx.parts.tasks.turn ≡ None }
+    requires rests { Rests runtime.old }
 {
     matches!(
         runtime.block_on(rt, alloc, Errand::Ready(9), u64::MAX),

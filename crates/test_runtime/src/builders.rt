@@ -1,5 +1,6 @@
 // The settings of a builder, and a start on the defaults.
-ghost use Rattle.std.specs.Prelude.{◌≡◌, None};
+
+ghost use Rattle.mono_rt.specs.Views.{Rests};
 
 use crate::turns::Gives;
 use crate::waits::{Work, Worked, outcome_of, ready};
@@ -25,7 +26,7 @@ fn entries_are_at_least_256(rt: HostRuntime) {
 
 /// Builds a runtime with timers and a journal.
 fn built<R: Abort>(rt: &R, alloc: Global) -> Worked<TimeDriver<StepDriver>>
-    ensures { result.cx.parts.tasks.turn ≡ None }
+    ensures { Rests result }
 {
     builder(alloc)
         .with_blocking_strategy(BlockingStrategy::ExecuteLocal)

@@ -1,6 +1,7 @@
 // Many tasks whose remote wakers are woken, while they live and after their ends.
-ghost use Rattle.std.specs.Prelude.{◌≡◌, ⊤, false, None};
+ghost use Rattle.std.specs.Prelude.{◌≡◌, ⊤, false};
 ghost use Rattle.mono_rt.specs.Reaches.{Reaches};
+ghost use Rattle.mono_rt.specs.Views.{Rests};
 
 use crate::runs::a_runtime;
 use crate::turns::Gives;
@@ -172,7 +173,7 @@ fn left_after_one_turn<R: Host>(
     runtime: &mut Runtime<Member, u64, StepDriver, NoPool<Gives>>,
     main: Member,
 ) -> Vec<TaskWait>
-    requires { runtime.old.cx.parts.tasks.turn ≡ None }
+    requires { Rests runtime.old }
 {
     let answer = runtime.block_on(rt, alloc, main, 1);
     match (answer, runtime.tasks(alloc)) {

@@ -1,5 +1,6 @@
 // A driver whose submit or park fails.
-ghost use Rattle.std.specs.Prelude.{◌≡◌, ⊤, false, None};
+ghost use Rattle.std.specs.Prelude.{⊤, false};
+ghost use Rattle.mono_rt.specs.Views.{Rests};
 
 use crate::runs::a_runtime;
 use crate::turns::Gives;
@@ -55,7 +56,7 @@ fn busy_outcome<R: Host>(
     alloc: Global,
     runtime: &mut Runtime<Busy, u64, StepDriver, NoPool<Gives>>,
 ) -> Result<u64, RunError>
-    requires { runtime.old.cx.parts.tasks.turn ≡ None }
+    requires { Rests runtime.old }
 {
     runtime.block_on(rt, alloc, Busy, 1000)
 }

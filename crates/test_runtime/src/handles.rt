@@ -1,5 +1,6 @@
 // Handles of tasks, between two calls that run turns.
-ghost use Rattle.std.specs.Prelude.{◌≡◌, None};
+ghost use Rattle.std.specs.Prelude.{◌≡◌};
+ghost use Rattle.mono_rt.specs.Views.{Rests};
 
 use crate::waits::{Quiet, Work, quiet, ready};
 use mono_model::Host;
@@ -10,7 +11,7 @@ use std::process::Abort;
 
 /// Returns a runtime that has had no turn, and the handle of its one task.
 fn with_task<R: Abort>(rt: &R, alloc: Global, task: Work) -> (Quiet, JoinHandle<u64>)
-    ensures { result.0.cx.parts.tasks.turn ≡ None }
+    ensures { Rests result.0 }
 {
     let mut runtime = quiet(rt, alloc, None);
     match runtime.spawn(alloc, task) {
@@ -43,7 +44,7 @@ fn wait_for<R: Host>(
     runtime: &mut Quiet,
     handle: &JoinHandle<u64>,
 ) -> Result<(), RunError>
-    requires { runtime.old.cx.parts.tasks.turn ≡ None }
+    requires { Rests runtime.old }
 {
     runtime.run_until(rt, alloc, handle, 10)
 }

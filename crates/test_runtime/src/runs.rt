@@ -1,5 +1,6 @@
 // Runtimes of the tests, and the answer of a main task on one.
-ghost use Rattle.std.specs.Prelude.{◌≡◌, None};
+
+ghost use Rattle.mono_rt.specs.Views.{Rests};
 
 use crate::turns::{Gives, Shared, Task, Turns};
 use mono_blocking::{BlockingHandle, ThreadPool};
@@ -23,7 +24,7 @@ pub(crate) fn a_runtime<F: Drop, D: Driver, P: ThreadPool + Drop, R: Abort>(
     limits: Limits,
     has_timers: bool,
 ) -> Runtime<F, u64, D, P>
-    ensures { result.cx.parts.tasks.turn ≡ None }
+    ensures { Rests result }
 {
     let start = Instant::from_nanos(0).expect(rt, "an instant");
     Runtime::new(alloc, driver, pool, limits, has_timers, start, ()).expect(rt, "memory")
@@ -43,7 +44,7 @@ pub(crate) fn sleeping<P: ThreadPool<Job = Gives> + Drop, R: Abort>(
     pool: BlockingHandle<P>,
     jobs: u64,
 ) -> Sleeping<P>
-    ensures { result.cx.parts.tasks.turn ≡ None }
+    ensures { Rests result }
 {
     let limits = Limits {
         tasks: 2,
@@ -76,7 +77,7 @@ pub(crate) fn answer_of<P: ThreadPool<Job = Gives> + Drop, R: Host>(
     main: Turns,
     units: u64,
 ) -> Result<u64, RunError>
-    requires { runtime.old.cx.parts.tasks.turn ≡ None }
+    requires { Rests runtime.old }
 {
     runtime.block_on(rt, alloc, main, units)
 }

@@ -1,5 +1,6 @@
 // Small futures on a driver that never waits.
-ghost use Rattle.std.specs.Prelude.{◌≡◌, ⊤, false, None};
+ghost use Rattle.std.specs.Prelude.{⊤, false};
+ghost use Rattle.mono_rt.specs.Views.{Rests};
 
 use crate::runs::a_runtime;
 use crate::turns::Gives;
@@ -111,7 +112,7 @@ pub(crate) fn outcome_of<D: Driver, R: Host>(
     main: Work,
     units: u64,
 ) -> Result<u64, RunError>
-    requires { runtime.old.cx.parts.tasks.turn ≡ None }
+    requires { Rests runtime.old }
 {
     runtime.block_on(rt, alloc, main, units)
 }
@@ -127,7 +128,7 @@ fn stepping<R: Abort>(rt: &R, alloc: Global, fails: Option<u64>) -> StepDriver {
 
 /// Returns a runtime on such a driver.
 pub(crate) fn quiet<R: Abort>(rt: &R, alloc: Global, fails: Option<u64>) -> Quiet
-    ensures { result.cx.parts.tasks.turn ≡ None }
+    ensures { Rests result }
 {
     let pool = BlockingHandle::Empty(BlockingStrategy::Panic);
     a_runtime(rt, alloc, stepping(rt, alloc, fails), pool, LIMITS, true)
@@ -140,7 +141,7 @@ pub(crate) fn ready<R: Abort>(rt: &R, alloc: Global, output: u64) -> Work {
 
 /// Returns a runtime with a spawned task that is ready with 2.
 fn with_two<R: Abort>(rt: &R, alloc: Global) -> Quiet
-    ensures { result.cx.parts.tasks.turn ≡ None }
+    ensures { Rests result }
 {
     let two = ready(rt, alloc, 2);
     let mut runtime = quiet(rt, alloc, None);
@@ -172,7 +173,7 @@ fn ends<R: Host>(
     answer: Result<u64, RunError>,
     entries: Option<usize>,
 ) -> bool
-    requires { runtime.cx.parts.tasks.turn ≡ None }
+    requires { Rests runtime }
 {
     let mut runtime = runtime;
     let ended = outcome_of(rt, alloc, &mut runtime, main, units);

@@ -1,9 +1,9 @@
 //! Two tasks of one runtime that take from a shared bucket.
 #![tactic(auto)]
 
-ghost use Rattle.std.specs.Prelude.{◌≡◌, None};
 ghost use Rattle.mono_limit.specs.Limits.{limits_of};
 ghost use Rattle.use_buckets.specs.Readings.{KeepsRate};
+ghost use Rattle.mono_rt.specs.Views.{Rests};
 
 mod buckets;
 mod takers;
@@ -20,9 +20,9 @@ type Running = Runtime<Taker, u64, TimeDriver<StepDriver>, NoPool, Buckets>;
 // Runs a taker together with those that were spawned. In each order of their calls, no more tokens of a bucket are
 // granted than it had before, and one for each period that has ended.
 fn run_taker<R: Host>(rt: &R, alloc: Global, runtime: &mut Running, taker: Taker) -> Option<u64>
-    requires { runtime.old.cx.parts.tasks.turn ≡ None }
+    requires { Rests runtime.old }
     ensures rate { KeepsRate (limits_of runtime.old.cx.shared.limiter) (limits_of runtime.new.cx.shared.limiter) }
-    ensures rests { runtime.new.cx.parts.tasks.turn ≡ None }
+    ensures rests { Rests runtime.new }
 {
     rate_is_kept();
     runtime.block_on(rt, alloc, taker, 100000).ok()
