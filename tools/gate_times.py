@@ -1,5 +1,5 @@
 #!/usr/bin/env python3
-"""Runs the gate from nothing and prints the processor seconds of each crate, as a table for docs/ARCHITECTURE.md.
+"""Runs the gate from nothing and prints the processor seconds of each crate, as a table.
 
 usage: tools/gate_times.py [RT CI'S ARGUMENTS ..]     (without arguments: --anew)
 
