@@ -1,38 +1,51 @@
 #!/usr/bin/env python3
-"""Tries the wrong bodies of crates/NAME/planted on a copy of the repository, outside the gate.
+"""Tries the mutants of crates/NAME/planted on a copy of the repository, outside CI.
 
-usage: tools/planted.py [CRATE ..]
+usage: tools/planted.py [--jobs N] [--built FOLDER] [--no-tests] [CRATE ..]
 
-Each planted/*.edit has the form of a must-fail edit. For each a row is printed: the crate, the body, and what refuses it:
-"clause" with the prover's words, "proof's text" where only a name that the edit took away is missed, "test" where the
-prover lets it through and a test of the crate or of one above it fails, or the stored run of a program above it, with that
-crate, "no verdict" where the tests of one do not end in time, "bad edit" where it does not apply or compile, or "GOT
-THROUGH". What the prover refuses is printed first.
+Each planted/*.edit has the form of a must-fail edit. For each a row is printed: the crate, the mutant, and what refuses it:
+"clause" with the prover's words, "proof's text" if a proof only misses a name that the edit took away, "limit" if the prover
+gave up at a limit of its own, "test" if the prover lets it through and a test of the crate or of one above it fails, or the
+stored run of a program above it, with that crate, "no verdict" if a check or the tests of a crate do not end well, "bad
+edit" if it does not apply or compile, or "GOT THROUGH". The last lines count the kinds for each crate.
+
+A proof rests on the contracts of the functions that it calls, and never on their bodies. So an edit of bodies alone is
+tried by a check of these functions. One check takes several edits of different functions; an edit whose function calls one
+that is refused in the same check is tried again. Any other edit is tried by a check of its crate. First the functions are
+checked as they are.
+
+The libraries below a crate are taken from FOLDER/NAME.rlib, or as `rt` built them in this repository, or are proved in the
+copy. N checks run at a time (2), each when memory is free. With --no-tests, what the prover lets through is not tested.
 """
+import argparse
+import collections
 import os
-import re
 import shutil
 import subprocess
 import sys
 import tempfile
+from concurrent.futures import ThreadPoolExecutor
+from queue import Queue
 
 sys.dont_write_bytecode = True
 import below
+import prover
+from edits import Edit, module_of
 
 TOP = below.TOP
 # How long the tests of one crate may take, in seconds.
 LIMIT = 600
-LINE = re.compile(r"^rt: must-fail (\w+)/([\w-]+)\.edit: (.*)$")
+# How many edits one check takes at most.
+MOST = 8
+KINDS = ("clause", "proof's text", "limit", "test", "let through", "GOT THROUGH", "no verdict", "bad edit")
 
 
 def crates(names):
-    have = sorted(
-        name for name in os.listdir(os.path.join(TOP, "crates"))
-        if os.path.isdir(os.path.join(TOP, "crates", name, "planted"))
-    )
+    folder = os.path.join(TOP, "crates")
+    have = [name for name in below.libraries() if os.path.isdir(os.path.join(folder, name, "planted"))]
     unknown = [name for name in names if name not in have]
     if unknown:
-        sys.exit("no planted bodies in: " + " ".join(unknown))
+        sys.exit("no mutants in: " + " ".join(unknown))
     return names or have
 
 
@@ -44,41 +57,154 @@ def copy_of_the_repository(folder):
     return copy
 
 
-def plant(copy, crate):
-    folder = os.path.join(copy, "crates", crate)
-    shutil.rmtree(os.path.join(folder, "must-fail"), ignore_errors=True)
-    shutil.copytree(os.path.join(folder, "planted"), os.path.join(folder, "must-fail"))
+def batches(edits, folder):
+    """Groups of edits of different functions, each with the texts of all its edits."""
+    made = []
+    for edit in edits:
+        for group, functions, texts in made:
+            if len(group) < MOST and not functions & set(edit.functions):
+                over = edit.over(folder, texts)
+                if over is not None:
+                    group.append(edit)
+                    functions |= set(edit.functions)
+                    texts.update(over)
+                    break
+        else:
+            made.append(([edit], set(edit.functions), dict(edit.texts)))
+    return [(group, texts) for group, _, texts in made]
 
 
-def verdict(text):
-    if text.startswith("refused"):
-        if "took away" in text or "names what" in text or "form of" in text:
-            return "proof's text", text
-        return "clause", text.split("note: ", 1)[-1]
-    if "BAD EDIT" in text:
-        return "bad edit", text
-    return "", text
+class Trial:
+    """Tries the edits of one crate by the prover. `verdicts` has for each edit's name its kind and a text."""
+
+    def __init__(self, of, jobs):
+        self.of, self.crate = of, of.crate.name
+        self.verdicts = {}
+        self.workers = Queue()
+        self.workers.put(0)
+        self.jobs = jobs
+
+    def say(self, edit, kind, text):
+        self.verdicts[edit.name] = kind, text
+        if kind != "let through":
+            print_row(self.crate, edit.name, kind, text)
+
+    def check(self, texts, only, holes=True):
+        worker = self.workers.get()
+        try:
+            return prover.Told(self.crate, *self.of.check(worker, texts, only, holes))
+        finally:
+            self.workers.put(worker)
+
+    def check_as_they_are(self, edits):
+        """Checks the functions of the edits without any edit, and returns the edits whose functions are proved so.
+
+        If the prover does not know the path of a function, its module is asked for, or at the root the whole crate.
+        """
+        asked, told = edits, None
+        while asked:
+            paths = sorted({path for edit in asked for path in edit.functions})
+            told = self.check({}, paths)
+            unknown = told.unknown() & set(paths)
+            if not unknown:
+                break
+            for edit in asked:
+                ask_for_modules(edit, unknown)
+            asked = [edit for edit in asked if edit.functions is not None]
+        self.of.share(self.jobs)
+        for worker in range(1, self.jobs):
+            self.workers.put(worker)
+        good = []
+        for edit in asked:
+            said = [text for path in edit.functions for text in told.of(path)]
+            if said and all(is_proved(text) for text in said):
+                good.append(edit)
+            else:
+                self.say(edit, "no verdict", f"not proved without it: {(said or told.errors() or ['?'])[0]}")
+        return good
+
+    def try_bodies(self, edits):
+        """Tries edits of bodies by checks of their functions. An edit whose function is not known is left to try_whole."""
+        left = self.check_as_they_are(edits)
+        with ThreadPoolExecutor(self.jobs) as pool:
+            while left:
+                again = list(pool.map(lambda batch: self.try_batch(*batch), batches(left, self.of.crate.folder)))
+                left = [edit for edits in again for edit in edits]
+
+    def try_batch(self, group, texts):
+        """Tries edits of different functions, and returns those that have to be tried again."""
+        paths = sorted({path for edit in group for path in edit.functions})
+        told = self.check(texts, paths)
+        if not told.has_ended or any(told.unread(edit.texts) for edit in group):
+            if len(group) > 1:
+                return [*self.try_parts(group[::2]), *self.try_parts(group[1::2])]
+            self.say(group[0], *unended(told, group[0]))
+            return []
+        again = []
+        for edit in group:
+            found = self.found(told, edit, len(group) == 1)
+            if found:
+                self.say(edit, *found)
+            else:
+                again.append(edit)
+        return again
+
+    def try_parts(self, group):
+        return [edit for batch in batches(group, self.of.crate.folder) for edit in self.try_batch(*batch)]
+
+    def found(self, told, edit, is_alone):
+        """What a check came to for an edit, or None if it has to be tried in other company."""
+        said = [text for path in edit.functions for text in told.of(path)]
+        refused = [text for text in said if not is_proved(text) and not prover.RESTS.match(text) and text != "could not tell"]
+        if refused:
+            line, misses = told.reason(edit.functions)
+            return ("proof's text" if misses else "clause"), line or refused[0]
+        if said and all(is_proved(text) for text in said):
+            return "let through", ""
+        if not is_alone:
+            return None
+        if "could not tell" in said:
+            return "limit", next((line for line in told.text.split("\n") if prover.LIMIT.search(line)), "")
+        return "no verdict", (said or ["the prover says nothing of its function"])[0]
+
+    def try_whole(self, edits):
+        """Tries each edit by a check of the whole crate."""
+        with ThreadPoolExecutor(self.jobs) as pool:
+            list(pool.map(self.try_one, edits))
+
+    def try_one(self, edit):
+        told = self.check(edit.texts, None, holes=False)
+        if told.status == 0:
+            return self.say(edit, "let through", "")
+        if not told.has_ended or told.unread(edit.texts):
+            return self.say(edit, *unended(told, edit))
+        if told.status == 3:
+            return self.say(edit, "limit", next((line for line in told.text.split("\n") if prover.LIMIT.search(line)), ""))
+        lines = [line for line in told.errors() if ": error" in line or line.startswith("note: ")]
+        firm = [line for line in lines if not (prover.PLACE.match(line)[1].startswith("proofs/") and prover.MISSES.search(line))]
+        return self.say(edit, "clause" if firm or not lines else "proof's text", (firm or lines or [""])[0])
 
 
-def apply(folder, edit):
-    """Applies an edit to the sources of the copy; gives what has to be put back."""
-    before = {}
-    file = old = None
-    with open(edit, encoding="utf-8") as lines:
-        for line in lines:
-            word, _, rest = line.rstrip("\n").partition(": ")
-            if word == "file":
-                file = os.path.join(folder, rest)
-                with open(file, encoding="utf-8") as text:
-                    before.setdefault(file, text.read())
-            elif word == "old":
-                old = rest
-            elif word == "new":
-                with open(file, encoding="utf-8") as text:
-                    now = text.read()
-                with open(file, "w", encoding="utf-8") as text:
-                    text.write(now.replace(old, rest, 1))
-    return before
+def ask_for_modules(edit, unknown):
+    """Puts the module in the place of a function that is not known."""
+    for path in unknown & set(edit.functions):
+        module = "::".join(module_of(edit.functions[path][0]))
+        if not module or path == module:
+            edit.functions = None
+            return
+        edit.functions[module] = edit.functions.pop(path)
+
+
+def is_proved(said):
+    return said in ("no holes", "proved")
+
+
+def unended(told, edit):
+    """The verdict on an edit whose check says nothing of functions."""
+    line = told.unread(edit.texts) or next((line for line in told.text.split("\n") if "error" in line), "")
+    if told.status in (1, 2) and line:
+        return "bad edit", line
+    return "no verdict", f"its check ended with status {told.status}: {told.text.strip().rpartition(chr(10))[2]}"
 
 
 def has_tests(copy, crate):
@@ -145,7 +271,9 @@ def run_program(copy, crate):
 
 def failing_tests(copy, crate, edit):
     """The kind of verdict, and the nearest crate of which a test fails with the edit, or does not end."""
-    before = apply(os.path.join(copy, "crates", crate), edit)
+    folder = os.path.join(copy, "crates", crate)
+    before = {path: stored(folder, path) for path in edit.texts}
+    write(folder, {path: text.encode() for path, text in edit.texts.items()})
     kind, text = "GOT THROUGH", "the prover and all tests"
     for name in above(crate):
         try:
@@ -160,47 +288,66 @@ def failing_tests(copy, crate, edit):
         if status not in (0, 2):
             kind, text = "test", f"of {name}"
             break
-    for file, text_before in before.items():
-        with open(file, "w", encoding="utf-8") as out:
-            out.write(text_before)
+    write(folder, before)
     return kind, text
+
+
+def write(folder, texts):
+    for path, text in texts.items():
+        with open(os.path.join(folder, path), "wb") as out:
+            out.write(text)
 
 
 def print_row(crate, name, kind, text):
     print(f"{crate:14} {name[: -len('.edit')]:45} {kind:13} {text[:160]}", flush=True)
 
 
-def try_crate(copy, crate):
-    plant(copy, crate)
-    subprocess.run(["rt", "check"], cwd=os.path.join(copy, "crates", crate), stdout=subprocess.DEVNULL)
-    run = subprocess.run(["rt", "must-fail", crate], cwd=copy, stdout=subprocess.PIPE, stderr=subprocess.STDOUT, text=True)
-    told = {}
-    for line in run.stdout.splitlines():
-        found = LINE.match(line)
-        if found and found.group(1) == crate:
-            told[found.group(2)] = found.group(3)
-    left = []
-    for name in sorted(os.listdir(os.path.join(copy, "crates", crate, "planted"))):
-        kind, text = verdict(told.get(name[: -len(".edit")], "not tried"))
-        if kind:
-            print_row(crate, name, kind, text)
-        else:
-            left.append(name)
-    through = 0
-    for name in left:
-        kind, text = failing_tests(copy, crate, os.path.join(copy, "crates", crate, "planted", name))
-        through += kind == "GOT THROUGH"
-        print_row(crate, name, kind, text)
-    return through
+def try_crate(rtlib, copy, crate, options):
+    """Tries the crate's edits, and returns how many have each kind of verdict."""
+    folder = os.path.join(copy, "crates", crate)
+    planted = os.path.join(folder, "planted")
+    edits = [Edit(folder, os.path.join(planted, name)) for name in sorted(os.listdir(planted)) if name.endswith(".edit")]
+    trial = Trial(prover.Prover(rtlib, copy, crate, options.built), options.jobs)
+    for edit in edits:
+        if edit.bad:
+            trial.say(edit, "bad edit", edit.bad)
+    good = [edit for edit in edits if not edit.bad]
+    trial.try_bodies([edit for edit in good if edit.functions is not None])
+    trial.try_whole([edit for edit in good if edit.functions is None and edit.name not in trial.verdicts])
+    for edit in good:
+        if trial.verdicts[edit.name][0] == "let through":
+            trial.verdicts[edit.name] = ("let through", "no test was tried") if options.no_tests else failing_tests(copy, crate, edit)
+            print_row(crate, edit.name, *trial.verdicts[edit.name])
+    shutil.rmtree(trial.of.kept, ignore_errors=True)
+    return collections.Counter(kind for kind, _ in trial.verdicts.values())
+
+
+def counts(found):
+    return ", ".join(f"{found[kind]} {kind}" for kind in KINDS if found[kind])
+
+
+def options_of(words):
+    parser = argparse.ArgumentParser(usage=__doc__)
+    parser.add_argument("--jobs", type=int, default=2)
+    parser.add_argument("--built")
+    parser.add_argument("--no-tests", action="store_true")
+    parser.add_argument("crates", nargs="*")
+    return parser.parse_args(words)
 
 
 def main():
+    options = options_of(sys.argv[1:])
     below.need_rt()
-    with tempfile.TemporaryDirectory() as folder:
+    all_found = collections.Counter()
+    with tempfile.TemporaryDirectory(prefix="planted-") as folder:
         copy = copy_of_the_repository(folder)
-        through = sum(try_crate(copy, crate) for crate in crates(sys.argv[1:]))
-    print(f"{through} got through")
-    return 1 if through else 0
+        rtlib = prover.kit()
+        for crate in crates(options.crates):
+            found = try_crate(rtlib, copy, crate, options)
+            all_found += found
+            print(f"{crate}: {counts(found)}", flush=True)
+    print(f"all: {counts(all_found)}")
+    return 1 if all_found["GOT THROUGH"] else 0
 
 
 if __name__ == "__main__":
