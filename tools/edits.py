@@ -1,4 +1,4 @@
-"""Reads the edits of crates/NAME/planted, and finds the functions whose bodies an edit changes, for tools/planted.py."""
+"""Reads the edits of crates/*/planted, and finds the functions whose bodies an edit changes, for tools/planted.py."""
 import os
 import re
 
@@ -12,8 +12,8 @@ CLAUSE = re.compile(r"\b(?:requires|ensures|ghost)\b\*?[\s\w:]*$")
 class Edit:
     """One edit of a crate: the texts that it makes, the functions whose bodies alone it changes, or why it is bad.
 
-    `texts` has the new text of each file by its path in the crate. `functions` has for each changed body the path of its
-    function below the crate, with its file and its lines; it is None if more than bodies is changed.
+    `texts` has the new text of each file by its path in the crate. `functions` has for each changed body the path of
+    its function below the crate, with its file and its lines; it is None if more than bodies is changed.
     """
 
     def __init__(self, folder, path):

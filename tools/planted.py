@@ -1,21 +1,23 @@
 #!/usr/bin/env python3
-"""Tries the mutants of crates/NAME/planted on a copy of the repository, outside CI.
+"""Tries the mutants of crates/*/planted on a copy of the repository, outside CI.
 
 usage: tools/planted.py [--jobs N] [--built FOLDER] [--no-tests] [CRATE ..]
 
-Each planted/*.edit has the form of a must-fail edit. For each a row is printed: the crate, the mutant, and what refuses it:
-"clause" with the prover's words, "proof's text" if a proof only misses a name that the edit took away, "limit" if the prover
-gave up at a limit of its own, "test" if the prover lets it through and a test of the crate or of one above it fails, or the
-stored run of a program above it, with that crate, "no verdict" if a check or the tests of a crate do not end well, "bad
-edit" if it does not apply or compile, or "GOT THROUGH". The last lines count the kinds for each crate.
+Each planted/*.edit has the form of a must-fail edit. For each a row is printed: the crate, the mutant, and what
+refuses it. That is "clause" with the prover's words, or "proof's text" if a proof only misses a name that the edit
+took away. It is "limit" if the prover gave up at a limit of its own. It is "test" if the prover lets the edit through
+and a test of the crate or of one above it fails, or the stored run of a program above it, with that crate. It is "no
+verdict" if a check or the tests of a crate do not end well, "bad edit" if it does not apply or compile, or "GOT
+THROUGH". Then the kinds are counted for each crate.
 
-A proof rests on the contracts of the functions that it calls, and never on their bodies. So an edit of bodies alone is
-tried by a check of these functions. One check takes several edits of different functions; an edit whose function calls one
-that is refused in the same check is tried again. Any other edit is tried by a check of its crate. First the functions are
-checked as they are.
+A proof rests on the contracts of the functions that it calls, and never on their bodies. So an edit of bodies alone
+is tried by a check of these functions. One check takes several edits of different functions; an edit whose function
+calls one that is refused in the same check is tried again. Any other edit is tried by a check of its crate. First the
+functions are checked as they are.
 
-The libraries below a crate are taken from FOLDER/NAME.rlib, or as `rt` built them in this repository, or are proved in the
-copy. N checks run at a time (2), each when memory is free. With --no-tests, what the prover lets through is not tested.
+The libraries below a crate are taken from FOLDER/NAME.rlib, or as `rt` built them in this repository, or are proved
+in the copy. N checks run at a time (2), each when memory is free. With --no-tests, what the prover lets through is
+not tested.
 """
 import argparse
 import collections
@@ -124,7 +126,7 @@ class Trial:
         return good
 
     def try_bodies(self, edits):
-        """Tries edits of bodies by checks of their functions. An edit whose function is not known is left to try_whole."""
+        """Tries edits of bodies by checks of their functions, and leaves one of an unknown function to try_whole."""
         left = self.check_as_they_are(edits)
         with ThreadPoolExecutor(self.jobs) as pool:
             while left:
@@ -155,16 +157,16 @@ class Trial:
     def found(self, told, edit, is_alone):
         """What a check came to for an edit, or None if it has to be tried in other company."""
         said = [text for path in edit.functions for text in told.of(path)]
-        refused = [text for text in said if not is_proved(text) and not prover.RESTS.match(text) and text != "could not tell"]
+        refused = [text for text in said if not is_proved(text) and not is_open(text)]
         if refused:
             line, misses = told.reason(edit.functions)
             return ("proof's text" if misses else "clause"), line or refused[0]
         if said and all(is_proved(text) for text in said):
-            return "let through", ""
+            return "let through", "by the prover"
         if not is_alone:
             return None
         if "could not tell" in said:
-            return "limit", next((line for line in told.text.split("\n") if prover.LIMIT.search(line)), "")
+            return "limit", told.limit()
         return "no verdict", (said or ["the prover says nothing of its function"])[0]
 
     def try_whole(self, edits):
@@ -175,14 +177,13 @@ class Trial:
     def try_one(self, edit):
         told = self.check(edit.texts, None, holes=False)
         if told.status == 0:
-            return self.say(edit, "let through", "")
+            return self.say(edit, "let through", "by the prover")
         if not told.has_ended or told.unread(edit.texts):
             return self.say(edit, *unended(told, edit))
         if told.status == 3:
-            return self.say(edit, "limit", next((line for line in told.text.split("\n") if prover.LIMIT.search(line)), ""))
-        lines = [line for line in told.errors() if ": error" in line or line.startswith("note: ")]
-        firm = [line for line in lines if not (prover.PLACE.match(line)[1].startswith("proofs/") and prover.MISSES.search(line))]
-        return self.say(edit, "clause" if firm or not lines else "proof's text", (firm or lines or [""])[0])
+            return self.say(edit, "limit", told.limit())
+        line, misses = told.reason()
+        return self.say(edit, "proof's text" if misses else "clause", line)
 
 
 def ask_for_modules(edit, unknown):
@@ -197,6 +198,11 @@ def ask_for_modules(edit, unknown):
 
 def is_proved(said):
     return said in ("no holes", "proved")
+
+
+def is_open(said):
+    """Whether the prover says nothing of the function itself."""
+    return said == "could not tell" or prover.RESTS.match(said) is not None
 
 
 def unended(told, edit):
@@ -269,27 +275,34 @@ def run_program(copy, crate):
     return 2 if run.returncode == 2 else 1
 
 
-def failing_tests(copy, crate, edit):
+def failing_tests(copy, crate, edit, jobs):
     """The kind of verdict, and the nearest crate of which a test fails with the edit, or does not end."""
     folder = os.path.join(copy, "crates", crate)
     before = {path: stored(folder, path) for path in edit.texts}
     write(folder, {path: text.encode() for path, text in edit.texts.items()})
-    kind, text = "GOT THROUGH", "the prover and all tests"
-    for name in above(crate):
-        try:
-            status = 0
-            if has_tests(copy, name):
-                status = run_tests(copy, name)
-            elif has_input(copy, name):
-                status = run_program(copy, name)
-        except subprocess.TimeoutExpired:
-            kind, text = "no verdict", f"the tests of {name} had not ended after {LIMIT} seconds"
-            break
-        if status not in (0, 2):
-            kind, text = "test", f"of {name}"
-            break
+    found = []
+
+    def tries(name):
+        if not found:
+            found.extend(failure_of(copy, name))
+
+    with ThreadPoolExecutor(jobs) as pool:
+        list(pool.map(tries, above(crate)))
     write(folder, before)
-    return kind, text
+    return found[0] if found else ("GOT THROUGH", "the prover and all tests")
+
+
+def failure_of(copy, name):
+    """The verdict by the tests or the stored run of a crate, if one fails or does not end."""
+    try:
+        status = 0
+        if has_tests(copy, name):
+            status = run_tests(copy, name)
+        elif has_input(copy, name):
+            status = run_program(copy, name)
+    except subprocess.TimeoutExpired:
+        return [("no verdict", f"the tests of {name} had not ended after {LIMIT} seconds")]
+    return [("test", f"of {name}")] if status not in (0, 2) else []
 
 
 def write(folder, texts):
@@ -306,7 +319,8 @@ def try_crate(rtlib, copy, crate, options):
     """Tries the crate's edits, and returns how many have each kind of verdict."""
     folder = os.path.join(copy, "crates", crate)
     planted = os.path.join(folder, "planted")
-    edits = [Edit(folder, os.path.join(planted, name)) for name in sorted(os.listdir(planted)) if name.endswith(".edit")]
+    names = sorted(name for name in os.listdir(planted) if name.endswith(".edit"))
+    edits = [Edit(folder, os.path.join(planted, name)) for name in names]
     trial = Trial(prover.Prover(rtlib, copy, crate, options.built), options.jobs)
     for edit in edits:
         if edit.bad:
@@ -316,7 +330,8 @@ def try_crate(rtlib, copy, crate, options):
     trial.try_whole([edit for edit in good if edit.functions is None and edit.name not in trial.verdicts])
     for edit in good:
         if trial.verdicts[edit.name][0] == "let through":
-            trial.verdicts[edit.name] = ("let through", "no test was tried") if options.no_tests else failing_tests(copy, crate, edit)
+            if not options.no_tests:
+                trial.verdicts[edit.name] = failing_tests(copy, crate, edit, options.jobs)
             print_row(crate, edit.name, *trial.verdicts[edit.name])
     shutil.rmtree(trial.of.kept, ignore_errors=True)
     return collections.Counter(kind for kind, _ in trial.verdicts.values())

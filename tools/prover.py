@@ -70,9 +70,9 @@ class Prover:
             os.makedirs(os.path.dirname(library.rlib), exist_ok=True)
             os.symlink(os.path.abspath(ready), library.rlib)
             return
-        if self.rtlib.text_of(os.path.join(own, "stamp")) == library.stamp() and not os.path.exists(os.path.dirname(library.rlib)):
-            os.makedirs(os.path.dirname(os.path.dirname(library.rlib)), exist_ok=True)
-            os.symlink(own, os.path.dirname(library.rlib))
+        if self.rtlib.text_of(os.path.join(own, "stamp")) == library.stamp():
+            os.makedirs(os.path.join(library.folder, "out"), exist_ok=True)
+            os.symlink(own, os.path.join(library.folder, "out", "rlib"))
             return
         library.out = sys.stderr
         if library.build_rlib(["--jobs", "1"], anew=False) != 0:
@@ -141,10 +141,16 @@ class Told:
     def errors(self):
         return [line for line in self.text.split("\n") if PLACE.match(line)]
 
-    def reason(self, functions):
-        """The first line about one of these functions, and whether it and its kind say that a proof only misses a name."""
-        lines = [line for line in self.errors() if any(is_about(PLACE.match(line), *of) for of in functions.items())]
-        firm = [line for line in lines if not (PLACE.match(line)[1].startswith("proofs/") and MISSES.search(line))]
+    def limit(self):
+        """The line about a limit of the prover."""
+        return next((line for line in self.text.split("\n") if LIMIT.search(line)), "")
+
+    def reason(self, functions=None):
+        """The first line about one of these functions, and whether its like say only that a proof misses a name."""
+        lines = [line for line in self.errors() if ": error" in line or line.startswith("note: ")]
+        if functions is not None:
+            lines = [line for line in lines if any(is_about(PLACE.match(line), *of) for of in functions.items())]
+        firm = [line for line in lines if not misses_a_name(line)]
         return (firm or lines or [""])[0], bool(lines) and not firm
 
     def unread(self, changed):
@@ -156,6 +162,11 @@ class Told:
                 if re.match(r"error(\[|:)", said) and (not re.match(r"error: `", said) or UNREAD.search(said)):
                     return line
         return None
+
+
+def misses_a_name(line):
+    """Whether the line says that a proof names what the edit took away."""
+    return PLACE.match(line)[1].startswith("proofs/") and MISSES.search(line) is not None
 
 
 def is_about(place, path, of):
