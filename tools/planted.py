@@ -64,7 +64,7 @@ def batches(edits, folder):
     made = []
     for edit in edits:
         for group, functions, texts in made:
-            if len(group) < MOST and not functions & set(edit.functions):
+            if len(group) < MOST and not any(is_within(one, other) for one in functions for other in edit.functions):
                 over = edit.over(folder, texts)
                 if over is not None:
                     group.append(edit)
@@ -74,6 +74,11 @@ def batches(edits, folder):
         else:
             made.append(([edit], set(edit.functions), dict(edit.texts)))
     return [(group, texts) for group, _, texts in made]
+
+
+def is_within(one, other):
+    """Whether one of two paths is the other, or a module or a type that holds it."""
+    return f"{one}::".startswith(f"{other}::") or f"{other}::".startswith(f"{one}::")
 
 
 class Trial:
