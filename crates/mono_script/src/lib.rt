@@ -11,6 +11,7 @@ mod failures;
 mod faults;
 mod follows;
 mod forms;
+mod inputs;
 mod limiter_lines;
 mod line_forms;
 mod line_words;
@@ -30,6 +31,7 @@ pub use exits::{exit_code, joins_workers, words_behind};
 pub use failures::failure_sentence;
 pub use faults::line_sentence;
 pub use follows::{FollowedCommand, follow_command};
+pub use inputs::reads_input;
 pub use mono_blocking::{NoSpawner, Spawner, ThreadSpawner};
 pub use mono_driver::{Clock, Instant, ListClock, SystemClock};
 pub use mono_text::{

@@ -56,7 +56,7 @@ fn made<R: Host + Send + 'static, C: Clock + Drop, P: Spawner>(
 }
 
 // Returns whether the command reads the source, for each clock.
-fn reads(command: Command) -> bool
+pub(crate) fn reads(command: Command) -> bool
     ensures { (readings : Option (List ℕ)) → result ≡ (meaning readings command).reads }
 {
     match command {
