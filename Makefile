@@ -10,7 +10,8 @@
 #   make soak        random inputs for a minute (SECONDS=n), each report checked by an independent machine; their journals
 #                    too; then each allocation, read and write fails in turn, scripts run with workers, and each library
 #                    call that leaves its object as it was is refused memory
-#   make soak-threads  repeats the tests of threads for a minute (SECONDS=n), some of them under valgrind's helgrind
+#   make soak-threads  runs larger tests of threads once (1,000,000 parks, 32 workers, 64 threads at an inbox), and repeats
+#                    the others for a minute (SECONDS=n), some of them under valgrind's helgrind
 #   make bench       measures the programs next to plain Rust programs, and prints the tables of docs/PERFORMANCE.md
 #   make planted     tries the mutants of crates/*/planted on a copy (CRATE=name: of one crate)
 #   make gate-times  the gate from nothing, with the processor seconds of each crate
