@@ -27,7 +27,7 @@ use Rattle.mono_run.specs.Script.{Script, IsSound}
 use Rattle.mono_run.specs.TaskPolls.{new_task, PollsTask}
 use Rattle.mono_run.specs.declared.tasks.ScriptTask.{ScriptTask}
 use Rattle.mono_run.proofs.ScriptTurnLemmas.{driven_main}
-use Rattle.mono_run.specs.RunRecord.{Ran, RunsScript, RanBy, ReadsSo, told_first, answer_of, told}
+use Rattle.mono_run.specs.RunRecord.{Ran, RunsScript, RanBy, ReadsSo, ParksSo, told_first, answer_of, told}
 use Rattle.mono_run.specs.declared.runs.RunEnd.{RunEnd}
 use Rattle.mono_run.specs.declared.runs.RunEnd.TheVariants as ran
 use Rattle.mono_run.specs.declared.runs.ScriptRun.{ScriptRun}
@@ -37,20 +37,24 @@ pub same_answer : (a : Result ℕ RunError) → answer_numbered (λ n. n) a ≡ 
 same_answer (Ok o) = refl
 same_answer (Err e) = refl
 
+-- The entries are those of a call with this answer, and the parks are those of the wheel.
+abbrev pub DoneBy : ℕ → Result ℕ RunError → Machine → List Entry → Type 0
+DoneBy turns answer m part = (new : Machine) × (Blocked true turns (answer_numbered (λ n. n) answer) m part new [] × ParksSo m part new)
+
 whole : (run : ScriptRun) (limits : Limits) (turns : ℕ) (part : List Entry) (answer : Result ℕ RunError)
-    → ((new : Machine) × Blocked true turns (answer_numbered (λ n. n) answer) (start_machine limits strategy.Attached) part new [])
+    → DoneBy turns answer (start_machine limits strategy.Attached) part
     → answer ≡ answer_of run.end → run.text.items ≡ journal_text (map told part) (output_in (answer_of run.end))
     → (made : Ran limits turns run.end run.text.items) × (made.entries ≡ part)
 whole run limits turns part answer b is text =
-    let same = subst (λ a. Blocked true turns a (start_machine limits strategy.Attached) part b.0 []) (same_answer answer) b.1 in
-    (record { entries = part; last = b.0; blocked = subst (λ a. Blocked true turns a (start_machine limits strategy.Attached) part b.0 []) is same; text = text }, refl)
+    let same = subst (λ a. Blocked true turns a (start_machine limits strategy.Attached) part b.0 []) (same_answer answer) b.1.0 in
+    (record { entries = part; last = b.0; blocked = subst (λ a. Blocked true turns a (start_machine limits strategy.Attached) part b.0 []) is same; parks = b.1.1; text = text }, refl)
 
 -- the printed lines are those of the history
 by_history : (j : Journal) (run : ScriptRun) → j.is_full ≡ false → run.text.items ≡ journal_text (map told j.entries.items) (output_in (answer_of run.end)) → run.text.items ≡ journal_text (map told j.history.entries) (output_in (answer_of run.end))
 by_history j run unfull text = text ∙ ap (λ es. journal_text (map told es) (output_in (answer_of run.end))) (j.kept unfull)
 
 pub told_ran : {E : Type 0} (r : Result ScriptRun E) (limits : Limits) (turns : ℕ) (j : Journal) (answer : Result ℕ RunError)
-    → ((new : Machine) × Blocked true turns (answer_numbered (λ n. n) answer) (start_machine limits strategy.Attached) j.history.entries new [])
+    → DoneBy turns answer (start_machine limits strategy.Attached) j.history.entries
     → IfOk r (λ run. answer ≡ answer_of run.end) → OnOk r (j.is_full ≡ false) → IfOk r (λ run. run.text.items ≡ journal_text (map told j.entries.items) (output_in (answer_of run.end)))
     → IfOk r (λ run. Ran limits turns run.end run.text.items)
 told_ran (Ok run) limits turns j answer blocked is kept text = (whole run limits turns j.history.entries answer blocked is (by_history j run kept text)).0
@@ -69,7 +73,7 @@ reads_so (suc n) None new part tells = tt
 reads_so (suc n) (Some readings) new part tells = in_order (told_first (suc n) (Some readings)) new going going readings part refl tells
 
 made_reads : (workers : ℕ) (readings : Option (List ℕ)) (run : ScriptRun) (limits : Limits) (turns : ℕ) (part : List Entry) (answer : Result ℕ RunError)
-    → ((new : Machine) × Blocked true turns (answer_numbered (λ n. n) answer) (start_machine limits strategy.Attached) part new [])
+    → DoneBy turns answer (start_machine limits strategy.Attached) part
     → IsTold answer (told_first workers readings) part
     → answer ≡ answer_of run.end → run.text.items ≡ journal_text (map told part) (output_in (answer_of run.end))
     → (made : RanBy workers readings limits turns run.end run.text.items) × (made.ran.entries ≡ part)
@@ -84,7 +88,7 @@ made_reads workers readings run limits turns part answer b t is text =
     )
 
 pub told_reads : {E : Type 0} (workers : ℕ) (readings : Option (List ℕ)) (r : Result ScriptRun E) (limits : Limits) (turns : ℕ) (j : Journal) (answer : Result ℕ RunError)
-    → ((new : Machine) × Blocked true turns (answer_numbered (λ n. n) answer) (start_machine limits strategy.Attached) j.history.entries new [])
+    → DoneBy turns answer (start_machine limits strategy.Attached) j.history.entries
     → IsTold answer (told_first workers readings) j.history.entries
     → IfOk r (λ run. answer ≡ answer_of run.end) → OnOk r (j.is_full ≡ false) → IfOk r (λ run. run.text.items ≡ journal_text (map told j.entries.items) (output_in (answer_of run.end)))
     → IfOk r (λ run. RanBy workers readings limits turns run.end run.text.items)
@@ -128,7 +132,7 @@ driven_does future h main had left c d j k unspent polls cancels e s turns answe
     driven_by future unspent polls cancels e s turns main left answer l.history.entries is first kinds sound polled blocked
 
 pub told_driven : {E : Type 0} (workers : ℕ) (readings : Option (List ℕ)) (r : Result ScriptRun E) (s : Script) (turns : ℕ) (j : Journal) (answer : Result ℕ RunError)
-    → ((new : Machine) × Blocked true turns (answer_numbered (λ n. n) answer) (start_machine s.limits strategy.Attached) j.history.entries new [])
+    → DoneBy turns answer (start_machine s.limits strategy.Attached) j.history.entries
     → IsTold answer (told_first workers readings) j.history.entries
     → ((e : RunEnd) → answer ≡ answer_of e → IsSound (length s.kinds) s → Driven s (map told j.history.entries))
     → IfOk r (λ run. answer ≡ answer_of run.end) → OnOk r (j.is_full ≡ false) → IfOk r (λ run. run.text.items ≡ journal_text (map told j.entries.items) (output_in (answer_of run.end)))

@@ -1,6 +1,7 @@
 pub mod JournalTextLemmas
 pub mod SpawnCountLemmas
 pub mod ScriptTurnLemmas
+pub mod ParkLemmas
 pub mod BlockOnLemmas
 pub mod MainPlaceLemmas
 pub mod BodyCountLemmas

@@ -4,6 +4,7 @@ use Rattle.mono_machine.specs.Machine.{Machine, start_machine}
 use Rattle.mono_machine.specs.declared.events.Limits.{Limits}
 use Rattle.mono_machine.specs.declared.events.Blocking.TheVariants as strategy
 use Rattle.mono_rt.specs.Rounds.{Blocked, output_in}
+use Rattle.mono_rt.specs.Journals.{Registers}
 use Rattle.mono_rt.specs.Readings.{readings_in, AreFirst, AreSums}
 use Rattle.mono_rt.specs.DriverReadings.{Told, telling}
 use Rattle.mono_rt.specs.declared.parts.errors.RunError.{RunError}
@@ -34,12 +35,18 @@ answer_of (ran.Output o) = Ok o
 answer_of ran.Turns = Err error.Turns
 answer_of ran.Capacity = Err error.AtCapacity
 
+-- Each park with an end is until the wheel's next expiration. That is the least start of a slot over the registered
+-- ticks at that moment, less the last reading in whole milliseconds. No sleep is registered at the start.
+abbrev pub ParksSo : Machine → List Entry → Machine → Type 0
+ParksSo old part new = (left : ℕ → Option ℕ) × Registers None old (λ s. None) part new left
+
 -- A run with these limits and this budget ended so and wrote this: the lines of a journal of one call from the
 -- machine's start. The line of the main task's output is there if and only if it gave one.
 pub record Ran (limits : Limits) (turns : ℕ) (e : RunEnd) (output : List ℕ) : Type 0 where
   pub entries : List Entry
   pub last : Machine
   pub blocked : Blocked true turns (answer_of e) (start_machine limits strategy.Attached) entries last []
+  pub parks : ParksSo (start_machine limits strategy.Attached) entries last
   pub text : output ≡ journal_text (map told entries) (output_in (answer_of e))
 
 -- What the driver of a run exposes at its start: without workers the time 0, else the readings of its clock, if it
