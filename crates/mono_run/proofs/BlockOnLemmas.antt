@@ -11,7 +11,8 @@ use Rattle.mono_rt.specs.declared.parts.journals.Journal.{Journal}
 use Rattle.mono_run.specs.Journal.{journal_text}
 use Rattle.mono_rt.specs.DriverReadings.{Told, Course, going, Tells, IsTold, EndsSo}
 use Rattle.mono_rt.specs.declared.parts.journals.Entry.{Entry}
-use Rattle.mono_rt.proofs.ReadingLemmas.{in_order, sums_from}
+use Rattle.mono_rt.specs.declared.parts.errors.RunError.TheVariants as error
+use Rattle.mono_rt.proofs.ReadingLemmas.{in_order, sums_from, sure_goes}
 use Rattle.mono_model.specs.declared.poll.Poll.{Poll}
 use Rattle.mono_task.specs.Members.{FutureOf}
 use Rattle.mono_rt.specs.FuturePolls.{PollsMain, OnMain}
@@ -71,6 +72,11 @@ reads_so : (workers : ℕ) (readings : Option (List ℕ)) (new : Told) (part : L
 reads_so zero readings new part tells = sums_from (told_first zero readings) new going 0 part (omega arith) refl tells
 reads_so (suc n) None new part tells = tt
 reads_so (suc n) (Some readings) new part tells = in_order (told_first (suc n) (Some readings)) new going going readings part refl tells
+
+-- the driver of a run does not fail
+pub no_fault : (workers : ℕ) (readings : Option (List ℕ)) (answer : Result ℕ RunError) (part : List Entry) → IsTold answer (told_first workers readings) part → answer ≡ Err error.Driver → ⊥
+no_fault zero readings answer part t is = (sure_goes (told_first zero readings) t.new t.after part refl t.tells).0 (subst (λ a. EndsSo a t.after) is t.ends)
+no_fault (suc n) readings answer part t is = (sure_goes (told_first (suc n) readings) t.new t.after part refl t.tells).0 (subst (λ a. EndsSo a t.after) is t.ends)
 
 made_reads : (workers : ℕ) (readings : Option (List ℕ)) (run : ScriptRun) (limits : Limits) (turns : ℕ) (part : List Entry) (answer : Result ℕ RunError)
     → DoneBy turns answer (start_machine limits strategy.Attached) part

@@ -21,8 +21,7 @@ parked_of number R c d j k l m st empty same none does =
     let went = did.went in
     let left = registered_of d.timers in
     let bare : went.part ≡ l.history.entries = sym (ap (λ x. x.history.entries) same ∙ went.grew ∙ ap (λ xs. xs ++ went.part) empty) in
-    let part : went.part ++ [] ≡ l.history.entries = append-nil went.part ∙ bare in
-    (
+    let part : went.part ++ [] ≡ l.history.entries = append-nil went.part ∙ bare in (
       went.new,
       (
         subst (λ xs. R m xs went.new []) part (did.is []),

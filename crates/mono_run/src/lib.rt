@@ -14,6 +14,7 @@ mod tasks;
 pub use drivers::{ScriptDriver, ScriptUnpark};
 pub use entries::{journal_lines, put_entry};
 pub use jobs::ScriptJob;
+pub use mono_rt::TaskWait;
 pub use parser::{BodyLine, Script, ScriptRead, TaskKind, read_script};
 pub use runs::{RunEnd, ScriptRun, run_script};
 pub use scripts::{

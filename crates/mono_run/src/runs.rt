@@ -1,9 +1,10 @@
 // The run of a script on a runtime.
-ghost use Rattle.std.specs.Prelude.{◌≡◌, false, length, map, IfOk, IfSome, OnOk};
+ghost use Rattle.std.specs.Prelude.{◌≡◌, ◌≢◌, false, length, map, Err, IfOk, IfSome, IfNone, OnOk};
 ghost use Rattle.mono_blocking.specs.Counts.{counted_by};
 ghost use Rattle.mono_run.specs.Journal.{journal_text};
 ghost use Rattle.mono_run.specs.Script.{IsSound};
 ghost use Rattle.mono_rt.specs.Rounds.{output_in};
+ghost use Rattle.mono_rt.specs.declared.parts.errors.RunError.TheVariants as error;
 ghost use Rattle.mono_rt.specs.DriverReadings.{telling};
 ghost use Rattle.mono_run.specs.ScriptDrivers.{readings_of, time_of, parks_of, submits_of, faults_of, can_fail_of};
 ghost use Rattle.mono_run.specs.RunRecord.{Ran, RunsScript, RanBy, told_first, answer_of, told};
@@ -14,7 +15,7 @@ use crate::{ScriptDriver, ScriptJob, ScriptTask};
 use mono_blocking::{BlockingHandle, DefaultThreadPool, Spawner};
 use mono_driver::{Clock, StepDriver, ThreadDriver};
 use mono_model::Host;
-use mono_rt::{Instant, Journal, RunError, Runtime};
+use mono_rt::{Instant, Journal, RunError, Runtime, TaskWait};
 use std::alloc::{AllocError, Global};
 
 /// How a run ended.
@@ -33,6 +34,9 @@ pub enum RunEnd {
 pub struct ScriptRun {
     pub end: RunEnd,
     pub text: Vec<u8>,
+    /// The live tasks with the sources for which they wait, if the budget was spent, at most 4096 tasks may be live, and
+    /// memory lasted.
+    pub waits: Vec<TaskWait>,
 }
 
 type ScriptRuntime<'a, C> = Runtime<
@@ -59,16 +63,18 @@ fn driver_for<C: Clock + Drop>(
     }
 }
 
-// Returns how a run with this answer ended. The driver never fails; out of memory is no end.
+// Returns how a run with this answer ended. Out of memory is no end, and the driver never fails.
 fn end_of(answer: &Result<u64, RunError>) -> Option<RunEnd>
-    ensures { IfSome result (λ end. answer.now ≡ answer_of end) }
+    requires { answer.now ≢ Err error.Driver }
+    ensures some { IfSome result (λ end. answer.now ≡ answer_of end) }
+    ensures none { IfNone result (answer.now ≡ Err error.Memory) }
 {
     match answer {
         Ok(output) => Some(RunEnd::Output(*output)),
         Err(RunError::Turns) => Some(RunEnd::Turns),
         Err(RunError::AtCapacity) => Some(RunEnd::Capacity),
         Err(RunError::Memory) => None,
-        Err(RunError::Driver) => None,
+        Err(RunError::Driver) => unreachable!(),
     }
 }
 
@@ -88,7 +94,9 @@ fn told_of(
     alloc: Global,
     journal: &Journal,
     answer: &Result<u64, RunError>,
+    waits: Vec<TaskWait>,
 ) -> Result<ScriptRun, AllocError>
+    requires { answer.now ≢ Err error.Driver }
     ensures answer { IfOk result (λ run. answer.now ≡ answer_of run.end) }
     ensures kept { OnOk result (journal.now.is_full ≡ false) }
     ensures text { IfOk result (λ run. run.text.items ≡ journal_text (map told journal.now.entries.items) (output_in (answer_of run.end))) }
@@ -100,7 +108,27 @@ fn told_of(
         return Err(AllocError);
     }
     let text = journal_lines(alloc, journal, output_of(end))?;
-    Ok(ScriptRun { end, text })
+    Ok(ScriptRun { end, text, waits })
+}
+
+// The greatest limit of tasks with which the live tasks are listed. The time of the list is at most its square.
+const MOST_LISTED: u64 = 4096;
+
+// Returns the live tasks with the sources for which they wait, if the budget was spent, the limit of tasks is not above
+// `MOST_LISTED`, and memory lasts.
+fn waits_of<C: Clock + Drop>(
+    alloc: Global,
+    runtime: &ScriptRuntime<C>,
+    answer: &Result<u64, RunError>,
+    most_tasks: u64,
+) -> Vec<TaskWait> {
+    if !matches!(answer, Err(RunError::Turns)) || most_tasks > MOST_LISTED {
+        return Vec::new(alloc);
+    }
+    match runtime.tasks(alloc) {
+        Ok(waits) => waits,
+        Err(_) => Vec::new(alloc),
+    }
 }
 
 // Closes the pool, so that its workers end.
@@ -125,7 +153,7 @@ fn zero() -> Instant {
 /// It returns how the run ended, and the lines of its journal (`ran`). Without workers each reading in the journal is
 /// the sum of the parks before it. With workers, if the clock exposes its readings, they are these, in order (`reads`).
 /// If the script is sound, the turns in the journal are those that its lines give (`driven`). Once a call ran out of
-/// memory, nothing is returned. The workers end when they have run the queued jobs, for each answer. They go on waiting
+/// memory, nothing is returned. No driver's error is hidden so, since the driver cannot fail. The workers end when they have run the queued jobs, for each answer. They go on waiting
 /// only if there was no memory for the runtime itself. The thread that started them joins them.
 pub fn run_script<R: Host + Send + 'static, C: Clock + Drop, P: Spawner>(
     rt: &R,
@@ -156,7 +184,8 @@ pub fn run_script<R: Host + Send + 'static, C: Clock + Drop, P: Spawner>(
     let mut runtime = made?;
     let main = ScriptTask::new(&script.kinds, 0);
     let answer = runtime.block_on(rt, alloc, main, turns);
-    let told = told_of(alloc, runtime.journal(), &answer);
+    let waits = waits_of(alloc, &runtime, &answer, script.limits.tasks);
+    let told = told_of(alloc, runtime.journal(), &answer, waits);
     end_workers(rt, runtime);
     told
 }

@@ -12,7 +12,7 @@ use Rattle.mono_run.specs.Script.{Script, IsSound}
 use Rattle.mono_run.specs.TaskPolls.{no_own}
 use Rattle.mono_run.specs.RunRecord.{Ran, RunsScript, RanBy, ParksSo, told_first}
 use Rattle.mono_run.proofs.ParkLemmas.{parked_of}
-use Rattle.mono_run.proofs.BlockOnLemmas.{DoneBy, told_ran, told_reads, told_driven, driven_does}
+use Rattle.mono_run.proofs.BlockOnLemmas.{DoneBy, told_ran, told_reads, told_driven, driven_does, no_fault}
 use Rattle.mono_run.proofs.runs.run_script.Goals as goal
 
 pub returns-clause-ran : goal.returns-clause-ran
@@ -70,3 +70,13 @@ returns-clause-driven g c =
     c.in_ok-runtime.ensures.timers c.in_ok-runtime.ensures.futures (c.in_ok-runtime.ensures.stands) c.in_ok-runtime.ensures.history c.journal.ensures is
     (c.new-main.ensures ∙ ap (λ k. record { kinds = k; kind = 0; at = 0; own = no_own }) (sym (ap (λ f. f.kinds) c.new-main.ensures))) (ap (λ f. f.kinds.now) c.new-main.ensures ∙ c.deref.ensures.value) sound (blocked.0, blocked.1.0))
     c.told_of-told.ensures.answer c.told_of-told.ensures.kept c.told_of-told.ensures.text)
+
+pub told_of-told-requires : goal.told_of-told-requires
+told_of-told-requires g c =
+    let made = c.in_ok-runtime.runtime in
+    let j = c.journal.result.now in
+    let readings = g.C.Clock.readings c.args.clock in
+    let first : telling (readings_of g.C.Clock.readings made.driver) (time_of made.driver) (parks_of made.driver) (submits_of made.driver) (faults_of made.driver) (can_fail_of made.driver) ≡ told_first c.args.workers readings
+    = ap (λ d. telling (readings_of g.C.Clock.readings d) (time_of d) (parks_of d) (submits_of d) (faults_of d) (can_fail_of d)) c.in_ok-runtime.ensures.driver ∙ c.in_ok-driver.ensures in
+    no_fault c.args.workers readings c.block_on-answer.result j.history.entries
+    (subst (λ t. IsTold c.block_on-answer.result t j.history.entries) first (told_in j c.in_ok-runtime.ensures.history c.journal.ensures c.block_on-answer.ensures.told))
