@@ -48,18 +48,28 @@ fn in_time(alloc: Global, cx: &mut Desk) -> bool {
     ticks_once(cx, &mut now, &[0, 10, 20]) && ticks_once(cx, &mut later, &[50, 60, 70])
 }
 
-// Returns whether the interval's tick as a future waits for its deadline, answers it, and leaves the interval to tick
-// at the next one.
+// Returns whether the future of the interval's next tick answers this tick.
+fn ticks_by_future<R: Host>(
+    rt: &R,
+    alloc: Global,
+    cx: &mut Desk,
+    interval: &mut Interval,
+    millis: u32,
+) -> bool {
+    interval.tick().poll(rt, alloc, cx) == Poll::Ready(Ok(at_millis(millis)))
+}
+
+// Returns whether the interval's tick as a future waits for its deadline, is given up, answers that deadline at last,
+// and leaves the interval to tick at the next one.
 fn ticks_as_future<R: Host>(rt: &R, alloc: Global, cx: &mut Desk) -> bool {
     let Ok(mut ticks) = interval_at(alloc, cx, at_millis(50), Duration::from_millis(10)) else {
         return false;
     };
-    let early = polled(rt, alloc, cx, &mut ticks.tick());
-    go_to(cx, 50);
     let mut tick = ticks.tick();
-    let first = polled(rt, alloc, cx, &mut tick);
+    let early = polled(rt, alloc, cx, &mut tick);
     tick.cancel(cx);
-    let is_first = early == Poll::Pending && first == Poll::Ready(Ok(at_millis(50)));
+    go_to(cx, 50);
+    let is_first = early == Poll::Pending && ticks_by_future(rt, alloc, cx, &mut ticks, 50);
     is_first && ticks_once(cx, &mut ticks, &[60, 70])
 }
 

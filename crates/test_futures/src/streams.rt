@@ -100,6 +100,25 @@ fn doubles<R: Host>(rt: &R, alloc: Global, cx: &mut Board) -> bool {
     first == 2 && second == 4 && last == None && cx.notes == 116227
 }
 
+/// Returns what the future of a stream's next item answers at its first poll.
+fn next_of<S: Stream<Board, Item = u64>, R: Host>(
+    rt: &R,
+    alloc: Global,
+    cx: &mut Board,
+    stream: &mut S,
+) -> Poll<Option<u64>>
+    requires { S.can_poll stream.old }
+{
+    StreamExt::<Board>::next(stream).poll(rt, alloc, cx)
+}
+
+/// Returns whether the first item comes as the answer of a future, after one that was given up unpolled.
+fn comes_first<R: Host>(rt: &R, alloc: Global, cx: &mut Board) -> bool {
+    let mut numbers = iter([7u64, 8]);
+    StreamExt::<Board>::next(&mut numbers).cancel(cx);
+    next_of(rt, alloc, cx, &mut numbers) == Poll::Ready(Some(7))
+}
+
 /// Returns whether two items and the end come as the answers of two futures. The second waits once for the item, and is
 /// spent only after the end.
 fn comes_next<R: Host>(rt: &R, alloc: Global, cx: &mut Board) -> bool {
@@ -147,6 +166,6 @@ fn mapped_made_and_handled_items(rt: HostRuntime) {
     let alloc = rt.alloc();
     let mut cx = empty_board(&rt, alloc, 2);
     assert!(rt; adds_one(&rt, alloc, &mut cx) && doubles(&rt, alloc, &mut cx));
-    assert!(rt; comes_next(&rt, alloc, &mut cx));
+    assert!(rt; comes_first(&rt, alloc, &mut cx) && comes_next(&rt, alloc, &mut cx));
     assert!(rt; handles(&rt, alloc, &mut cx));
 }
