@@ -8,7 +8,7 @@ use help::{VERSION, help_of, is_only};
 use mono_script::{
     Ended, FollowedCommand, Status, StdinSource, StdoutSink, SystemClock, ThreadSpawner, complaint,
     exit_code, explained, failure_sentence, follow_command, joins_workers, line_sentence,
-    words_behind,
+    reads_input, words_behind,
 };
 use std::alloc::{AllocError, Global};
 use std::io::IsTerminal;
@@ -73,21 +73,13 @@ fn shown(rt: &HostRuntime, text: &str) -> u8 {
     }
 }
 
-// Prints on standard error which input the command expects if a person is at the terminal.
+// Prints on standard error that the command reads standard input if a person is at the terminal.
 fn tell_waiting(rt: &HostRuntime, words: &Vec<String>, stdin: &Stdin) {
-    if reads_lines(first_word(words)) && stdin.is_terminal() {
+    if reads_input(words) && stdin.is_terminal() {
         let _ = eprintln!(rt;
             "monoio: reading lines from standard input; end with ^D at the beginning of a line"
         );
     }
-}
-
-// Returns whether a command of this name reads standard input.
-fn reads_lines(command: &str) -> bool {
-    matches!(
-        command,
-        "replay" | "run" | "sessions" | "limiter" | "actors" | "check"
-    )
 }
 
 // Returns where and why a journal is no run.
@@ -208,11 +200,18 @@ fn bad_line_after(
     }
 }
 
+// Returns whether the command of this name answers lines as they come.
+fn can_follow(command: &str) -> bool {
+    matches!(command, "replay" | "sessions" | "limiter" | "actors")
+}
+
 // Answers each line as soon as it was read, and returns the status.
 fn follow(rt: &HostRuntime, words: &Vec<String>) -> u8 {
     let alloc = rt.alloc();
     let stdin = rt.stdin();
-    tell_waiting(rt, words, &stdin);
+    if can_follow(first_word(words)) {
+        tell_waiting(rt, words, &stdin);
+    }
     let mut source = StdinSource::new(stdin);
     let mut sink = StdoutSink::new(rt.stdout());
     let Some(ended) = follow_command(alloc, words, &mut source, &mut sink) else {
