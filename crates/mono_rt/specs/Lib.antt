@@ -26,3 +26,5 @@ pub mod Faults
 pub mod TaskWaits
 pub mod Budgets
 pub mod Views
+pub mod EndedTasks
+pub mod Remains

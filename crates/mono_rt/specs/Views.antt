@@ -110,6 +110,10 @@ module _ {F O D P W U J A V : Type 0} where
   abbrev pub is_at_limit : Runtime F O D P W U J A V → Bool
   is_at_limit r = is_full r.cx.parts.tasks.tasks.table r.cx.parts.tasks.tasks.limit
 
+  -- Whether no entry to come is stored: the journal is not kept, or is full.
+  abbrev pub keeps_none : Runtime F O D P W U J A V → Bool
+  keeps_none r = r.journal.is_full
+
   -- The runtime refines this machine.
   abbrev pub Refines : (O → ℕ) → Runtime F O D P W U J A V → Machine → Type 0
   Refines number r m = Matches number hosting_of r.cx.parts m

@@ -1,19 +1,20 @@
 // Rounds of turns, waits on the driver, and the main task.
-ghost use Rattle.std.specs.Prelude.{◌≡◌, ◌<◌, ◌≤◌, ◌+◌, ◌++◌, ◌∷◌, [], None, false, length, Some, IfOk, OnOk, IfErr, OnErr, if◌then◌else◌};
+ghost use Rattle.std.specs.Prelude.{◌≡◌, ◌<◌, ◌≤◌, ◌+◌, ◌++◌, ◌∷◌, ◌⊎◌, [], None, false, length, Some, IfOk, OnOk, IfErr, OnErr, if◌then◌else◌};
 ghost use Rattle.mono_model.specs.Table.{next_number};
 ghost use Rattle.mono_model.specs.Tasks.{spawned};
 ghost use Rattle.mono_task.specs.Work.{GivesOutput};
 ghost use Rattle.mono_rt.specs.Outputs.{AddsNone};
 ghost use Rattle.mono_rt.specs.Journals.{Goes, Does, Stays};
 ghost use Rattle.mono_rt.specs.Rounds.{WaitEnds, PauseEnds, Round, RoundBreaks, PassEnds, Ends, IsSpawn, IsRefused, Blocked, cost};
-ghost use Rattle.mono_rt.specs.SpawnErrors.{OnCapacity, OnMemory, HasPlace};
+ghost use Rattle.mono_rt.specs.SpawnErrors.{OnCapacity, OnMemory, HasPlace, AnswersPlace, IfRefused};
 ghost use Rattle.mono_model.specs.Table.{is_full};
 ghost use Rattle.mono_rt.specs.Faults.{FaultsBy, FaultsParked};
 ghost use Rattle.mono_rt.specs.FuturePolls.{Polling, OnMain};
 ghost use Rattle.mono_rt.specs.JournalRoom.{Fills};
 ghost use Rattle.mono_rt.specs.PossibleAnswers.{AnswersNoMore};
+ghost use Rattle.mono_rt.specs.Remains.{KeepsContext, KeepsStrategy, HasRetired};
 ghost use Rattle.mono_rt.specs.DriverReadings.{telling, going, Telling, TellingSo, Still, EndsWaited};
-ghost use Rattle.mono_rt.specs.Views.{Blocks, Rests, HasOwnFutures, is_at_limit, HoldsSamePlaces, GivesNoMore, LeadsShared, TellsDriver, PollsMainTask, FillsJournal};
+ghost use Rattle.mono_rt.specs.Views.{Blocks, Rests, HasOwnFutures, is_at_limit, keeps_none, HoldsSamePlaces, GivesNoMore, LeadsShared, TellsDriver, PollsMainTask, FillsJournal};
 
 use crate::contexts::Cx;
 use crate::parts::RunError;
@@ -107,7 +108,9 @@ impl<F: Drop, O: Outcome + Drop, D: Driver, P: ThreadPool + Drop, W: SharedState
         ensures goes { Goes O.output_number self.old.cx.parts self.new.cx.parts self.old.journal self.new.journal }
         ensures spawned { IfOk result (λ t. Does O.output_number (IsSpawn t) self.old.cx.parts self.new.cx.parts self.old.journal self.new.journal) }
         ensures refused { IfErr result (λ error. OnCapacity error (Does O.output_number IsRefused self.old.cx.parts self.new.cx.parts self.old.journal self.new.journal)) }
-        ensures place { HasPlace result (is_full self.old.cx.parts.tasks.tasks.table self.old.cx.parts.tasks.tasks.limit) }
+        ensures place { AnswersPlace result (is_full self.old.cx.parts.tasks.tasks.table self.old.cx.parts.tasks.tasks.limit) self.old.journal.is_full }
+        ensures untouched { IfRefused result (self.new.cx ≡ self.old.cx) }
+        ensures unkept { OnErr result ((self.new.cx.futures.reserved ≡ self.old.cx.futures.reserved) ⊎ (self.new.cx.futures.reserved ≡ None)) }
         ensures has_timers { self.new.cx.parts.has_timers ≡ self.old.cx.parts.has_timers }
         ensures turn { self.new.cx.parts.tasks.turn ≡ self.old.cx.parts.tasks.turn }
         ensures shared { self.new.cx.shared ≡ self.old.cx.shared }
@@ -291,10 +294,13 @@ where
         requires callable { (f : F) → F.can_poll f }
         requires rests { Rests self.old }
         ensures blocked { Blocks O.output_number turns result self.old self.new }
-        ensures place { HasPlace result (is_at_limit self.old) }
+        ensures place { AnswersPlace result (is_at_limit self.old) (keeps_none self.old) }
+        ensures untouched { IfRefused result (KeepsContext self.old self.new) }
+        ensures strategy { KeepsStrategy O.output_number self.old self.new }
         ensures given { IfOk result (λ output. HasOwnFutures self.old → F.gives future output) }
         ensures answers { GivesNoMore F.gives self.old self.new }
         ensures shared { LeadsShared W.leads self.old self.new }
+        ensures retired { OnMain result (HasRetired self.new) }
         ensures rests { Rests self.new }
         ensures polled { OnMain result (PollsMainTask O.output_number W.leads F.TaskFuture future self.old self.new) }
         ensures faults { FaultsBy result (D.faults self.old.driver) (D.faults self.new.driver) }

@@ -369,7 +369,7 @@ impl<F: Drop, O: Outcome + Drop, D: Driver, P: ThreadPool + Drop, W: SharedState
 
 /// Makes a runtime with the defaults on this driver, and runs the future on it as `Runtime::block_on` does. There is a
 /// history from the machine's start that `Blocked` specifies for the answer, and whose readings and parks are the
-/// driver's.
+/// driver's (`history`). An answer is one that the future gives (`given`).
 pub fn start<D, F, O, P, R: Host>(
     rt: &R,
     alloc: Global,
@@ -383,7 +383,8 @@ where
     D: Buildable,
     P: ThreadPool + Drop,
     requires { (f : F) → F.can_poll f }
-    ensures { RunsFrom O.output_number D.marks_timers turns result default_start (exposed D.Clock driver) }
+    ensures given { IfOk result (F.gives future) }
+    ensures history { RunsFrom O.output_number D.marks_timers turns result default_start (exposed D.Clock driver) }
 {
     let builder: RuntimeBuilder<D, P> = RuntimeBuilder::new(driver);
     match builder.build(alloc) {

@@ -12,6 +12,7 @@ ghost use Rattle.mono_task.specs.Work.{without_outputs};
 ghost use Rattle.mono_time.specs.Instants.{nanos_of};
 ghost use Rattle.mono_time.specs.Sleeps.{Added, sleep_poll_answer, with_polled_sleep, sleep_reset_answer, with_reset_sleep, sleep_remove_answer, with_removed_sleep};
 ghost use Rattle.mono_time.specs.Timers.{sleeps_of};
+ghost use Rattle.mono_rt.specs.Remains.{ChangesPartsAndFutures, NotesMemory};
 ghost use Rattle.mono_rt.specs.Reaches.{ReachesSharing, sharing_itself, sharing_on, by_shared};
 ghost use Rattle.mono_rt.specs.Views.{running_in, WakesAlone, LacksMemory, tasks_in, work_in, sleeps_in, futures_in, KeepsWork, NotesSpawn, NotesWake, NotesJoin, NotesDrop, NotesSleep, NotesPoll, NotesGone, NotesReset};
 
@@ -73,6 +74,7 @@ impl<F: Drop, O: Outcome + Drop, P: ThreadPool + Drop, U: Unpark, W: SharedState
         ensures none { OnErr result (futures_in self.new ≡ futures_in self.old) }
         ensures back { IfErr result (λ refusal. refused_future refusal ≡ future) }
         ensures full { IsRefusedIfFull (tasks_in self.old) result }
+        ensures same { ChangesPartsAndFutures self.old self.new }
         ensures kept { NotesSpawn result self.old self.new }
         ensures reached { ReachesSharing O.output_number W.leads self.old self.new }
     {
@@ -93,19 +95,39 @@ impl<F: Drop, O: Outcome + Drop, P: ThreadPool + Drop, U: Unpark, W: SharedState
             Err(SpawnTask::Memory) => Err(SpawnRefused::Memory(self.futures.abort())),
         }
     }
+
+    /// Returns a remote waker of the task whose turn runs (`task`): a clone of the waker made before its first turn
+    /// (`waker`). It fails only if out of memory. The flag of the turn notes that (`noted`), so the runtime answers
+    /// Memory.
+    pub fn remote_waker(&mut self) -> Result<RemoteWaker<U>, AllocError>
+        ensures task { IfOk result (λ waker. waker ≡ running_in self.old) }
+        ensures waker { IfOk result (λ waker. self.old.waker ≡ Some waker) }
+        ensures same { OnOk result (self.new ≡ self.old) }
+        ensures noted { OnErr result (NotesMemory self.old self.new) }
+        ensures reached { ReachesSharing O.output_number W.leads self.old self.new }
+    {
+        match hand_out(&mut self.waker, self.parts.me) {
+            Ok(waker) => Ok(waker),
+            Err(error) => {
+                self.parts.is_out_of_memory = true;
+                Err(error)
+            }
+        }
+    }
 }
 
-impl<F: Drop, O: Drop, P: ThreadPool + Drop, U: Unpark, W: SharedState + Drop> Cx<F, O, P, U, W> {
-    /// Returns a remote waker of the task whose turn runs (`task`): a clone of the waker made before its first turn. It
-    /// fails only if it runs out of memory. If the first waker could not be allocated, the runtime answers Memory.
-    pub fn remote_waker(&mut self) -> Result<RemoteWaker<U>, AllocError>
-        ensures waker { IfOk result (λ waker. self.old.waker ≡ Some waker) }
-        ensures same { self.new ≡ self.old }
-    {
-        match &mut self.waker {
-            Some(waker) => waker.hand_out(),
-            None => Err(AllocError),
-        }
+/// Returns a further waker of this task, if the waker is its own and a clone could be made.
+pub(crate) fn hand_out<U: Unpark>(
+    waker: &mut Option<RemoteWaker<U>>,
+    task: u64,
+) -> Result<RemoteWaker<U>, AllocError>
+    ensures task { IfOk result (λ copy. copy ≡ task) }
+    ensures waker { IfOk result (λ copy. waker.old ≡ Some copy) }
+    ensures same { waker.new ≡ waker.old }
+{
+    match waker {
+        Some(own) if own.task() == task => own.hand_out(),
+        _ => Err(AllocError),
     }
 }
 

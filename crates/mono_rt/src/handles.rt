@@ -2,6 +2,7 @@
 ghost use Rattle.std.specs.Prelude.{◌≡◌, OnOk};
 ghost use Rattle.mono_model.specs.Joins.{join_answer, drop_answer, join_dropped, finished_answer};
 ghost use Rattle.mono_task.specs.Work.{GivesOutput};
+ghost use Rattle.mono_rt.specs.Remains.{KeepsStrategy, HasRetired};
 ghost use Rattle.mono_rt.specs.Handles.{TakesOutput};
 ghost use Rattle.mono_rt.specs.Rounds.{Ends};
 ghost use Rattle.mono_rt.specs.Faults.{FaultsBy};
@@ -101,6 +102,8 @@ where
         ensures told { TellsDriver result D.Clock self.old self.new }
         ensures full { FillsJournal O.output_number W.leads F.TaskFuture self.old self.new }
         ensures held { HoldsSamePlaces self.old self.new }
+        ensures retired { HasRetired self.new }
+        ensures strategy { KeepsStrategy O.output_number self.old self.new }
     {
         let answer = self.run(rt, alloc, handle.task(), turns);
         self.cx.wakers.retire_ended(rt);

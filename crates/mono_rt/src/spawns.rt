@@ -3,6 +3,7 @@ ghost use Rattle.std.specs.Prelude.{◌≡◌, ◌++◌, ◌∷◌, [], Some, If
 ghost use Rattle.mono_model.specs.Table.{next_number};
 ghost use Rattle.mono_model.specs.Tasks.{spawned};
 ghost use Rattle.mono_task.specs.Spawns.{refused_future, IsRefusedIfFull};
+ghost use Rattle.mono_rt.specs.Remains.{ChangesTasksAlone};
 ghost use Rattle.mono_rt.specs.Views.{SpawnsOne, turn_of, context_of, tasks_of, futures_of, shared_of, is_timed, HasOwnFutures, KeepsTasks};
 
 use crate::contexts::Cx;
@@ -27,8 +28,8 @@ impl<F: Drop, O: Outcome + Drop, D: Driver, P: ThreadPool + Drop, W: SharedState
     /// Refused with `AtCapacity` if and only if the number of live tasks is at the limit or the next number is 2^64 - 1
     /// (`full`); otherwise with `Memory` if an allocation failed. For each machine that the context refined, the spawn
     /// is the machine's, with its reply (`machine`). A refused future is handed back (`back`), and all tasks, sleeps and
-    /// futures are as before (`refused`). Each future still has its task's number (`aligned`). The journal keeps what
-    /// `block_on` did, and does not record the spawn (`journal`).
+    /// futures are as before (`refused`). Each future still has its task's number (`aligned`). The journal does not
+    /// record the spawn, and the driver gets no call (`journal`, `same`).
     ///
     /// ```rust
     /// // use_channel/src/main.rt
@@ -49,6 +50,7 @@ impl<F: Drop, O: Outcome + Drop, D: Driver, P: ThreadPool + Drop, W: SharedState
         ensures turn { turn_of self.new ≡ turn_of self.old }
         ensures shared { shared_of self.new ≡ shared_of self.old }
         ensures journal { self.new.journal ≡ self.old.journal }
+        ensures same { ChangesTasksAlone self.old self.new }
     {
         if self.cx.parts.tasks.has_no_place() {
             return Err(SpawnRefused::AtCapacity(future));

@@ -1,10 +1,11 @@
 // A turn of the task at the queue's front.
-ghost use Rattle.std.specs.Prelude.{◌≡◌, ◌<◌, Bool, None, Some, true, false, length, IfSome, is_some, not, slice_set};
+ghost use Rattle.std.specs.Prelude.{◌≡◌, ◌<◌, ◌++◌, ◌∷◌, [], Bool, None, Some, true, false, length, IfSome, is_some, not, slice_set};
 ghost use Rattle.mono_model.specs.Table.{value_at};
 ghost use Rattle.mono_machine.specs.Machine.{Machine};
 ghost use Rattle.mono_rt.specs.Record.{no_acts};
 ghost use Rattle.mono_rt.specs.Refinement.{hosting_of, Matches};
 ghost use Rattle.mono_table.specs.Slots.{lent_at};
+ghost use Rattle.mono_rt.specs.EndedTasks.{closed_in};
 ghost use Rattle.mono_rt.specs.Turns.{Begins, Pauses, Completes, Runs, Turn};
 ghost use Rattle.mono_rt.specs.PartTurns.{IsTurnOf};
 ghost use Rattle.mono_rt.specs.PossibleAnswers.{AnswersNoMore};
@@ -82,6 +83,7 @@ impl<F: Drop, O: Outcome + Drop, P: ThreadPool + Drop, U: Unpark, W: SharedState
         requires runs { is_some self.old.parts.tasks.turn ≡ true }
         requires lent { lent_at self.old.futures task ≡ true }
         ensures completes { Completes output result self.old self.new }
+        ensures closed { closed_in self.new.wakers.retired.entries self.new.wakers.ended.items ≡ closed_in self.old.wakers.retired.entries self.old.wakers.ended.items ++ task ∷ [] }
         ensures gone { self.new.futures.lent ≡ slice_set self.old.futures.lent task false }
     {
         let waker = mem::replace(&mut self.waker, None);

@@ -1,9 +1,10 @@
 // The remote wakers of a runtime's tasks, and when the inbox learns of them.
-ghost use Rattle.std.specs.Prelude.{◌≡◌, ◌++◌, ◌∷◌, [], IfSome, IfNone};
+ghost use Rattle.std.specs.Prelude.{◌≡◌, ◌++◌, ◌∷◌, ◌<◌, ◌⊎◌, [], IfSome, IfNone, vec_len, vec_capacity};
 ghost use Rattle.mono_rt.specs.Drains.{IsReady};
+ghost use Rattle.mono_rt.specs.EndedTasks.{all_in, closed_in};
 
 use crate::parts::{Journal, Taken, TakenTasks, take_waiting};
-use mono_history::History;
+use mono_history::{History, Tells};
 use mono_inbox::{Inbox, RemoteWaker, Unpark};
 use mono_machine::List;
 use mono_model::Host;
@@ -24,11 +25,29 @@ pub struct Wakers<U: Unpark> {
     // each task below this number was made known
     known: u64,
     // tasks that ended and were not made unknown since
-    ended: Vec<u64>,
+    pub(crate) ended: Vec<u64>,
     // the waker of a task that ended, which serves the next task
     spare: Option<RemoteWaker<U>>,
     // in proofs alone: the lists that the drains took from the inbox, in order
     pub(crate) taken: History<List<u64>>,
+    // in proofs alone: the lists of tasks that were made unknown, in order
+    pub(crate) retired: History<List<u64>>,
+}
+
+/// Tasks that are made unknown together, as an entry of a history.
+struct Together;
+
+impl Tells<Vec<u64>, List<u64>> for Together {
+    ghost entry = { λ tasks. tasks.items };
+}
+
+/// One task that is made unknown alone, as an entry of a history.
+struct Alone;
+
+impl Tells<u64, List<u64>> for Alone {
+    ghost use Rattle.std.specs.Prelude.{◌∷◌, []};
+
+    ghost entry = { λ task. task ∷ [] };
 }
 
 impl<U: Unpark> Wakers<U> {
@@ -41,6 +60,7 @@ impl<U: Unpark> Wakers<U> {
             ended,
             spare: None,
             taken: History::new(),
+            retired: History::new(),
         })
     }
 
@@ -87,29 +107,44 @@ impl<U: Unpark> Wakers<U> {
         self.known = self.inbox.know_row(rt, alloc, self.known, until);
     }
 
-    /// Records that the task ended, with its waker. The task is made unknown with others, at the latest by the next
-    /// `retire_ended`.
+    /// Records that the task ended, with its waker (`closed`). The task is made unknown with others, at the latest by
+    /// the next `retire_ended`.
     #[inline(always)]
-    pub(crate) fn close<R: Host>(&mut self, rt: &R, task: u64, waker: Option<RemoteWaker<U>>) {
+    pub(crate) fn close<R: Host>(&mut self, rt: &R, task: u64, waker: Option<RemoteWaker<U>>)
+        ensures closed { closed_in self.new.retired.entries self.new.ended.items ≡ closed_in self.old.retired.entries self.old.ended.items ++ task ∷ [] }
+    {
         if self.spare.is_none() {
             self.spare = waker;
         }
-        if self.ended.len() == self.ended.capacity() {
-            self.retire_ended(rt);
-        }
+        self.make_room(rt);
         if self.ended.len() < self.ended.capacity() {
             self.ended.push_reserved(task);
         } else {
             self.inbox.retire(rt, task);
+            self.retired = self.retired.told::<u64, Alone>(&task);
         }
     }
 
-    /// Makes the tasks that ended unknown, under one lock, if there are any.
+    /// Makes the tasks that ended unknown if their list is full. So it has room, or is empty.
+    #[inline(always)]
+    fn make_room<R: Host>(&mut self, rt: &R)
+        ensures room { (vec_len self.new.ended < vec_capacity self.new.ended) ⊎ (self.new.ended.items ≡ []) }
+        ensures closed { closed_in self.new.retired.entries self.new.ended.items ≡ closed_in self.old.retired.entries self.old.ended.items }
+    {
+        if self.ended.len() == self.ended.capacity() {
+            self.retire_ended(rt);
+        }
+    }
+
+    /// Makes the tasks that ended unknown, under one lock, if there are any. None is left (`none`).
     pub(crate) fn retire_ended<R: Host>(&mut self, rt: &R)
-        ensures { self.new.taken ≡ self.old.taken }
+        ensures none { self.new.ended.items ≡ [] }
+        ensures retired { all_in self.new.retired.entries ≡ closed_in self.old.retired.entries self.old.ended.items }
+        ensures taken { self.new.taken ≡ self.old.taken }
     {
         if !self.ended.is_empty() {
             self.inbox.retire_all(rt, &self.ended);
+            self.retired = self.retired.told::<Vec<u64>, Together>(&self.ended);
             self.ended.clear();
         }
     }
@@ -128,6 +163,7 @@ impl<U: Unpark> Wakers<U> {
         ensures history { journal.new.history.entries ≡ journal.old.history.entries }
         ensures full { journal.new.is_full ≡ journal.old.is_full }
         ensures held { journal.new.entries.held ≡ journal.old.entries.held }
+        ensures closed { closed_in self.new.retired.entries self.new.ended.items ≡ closed_in self.old.retired.entries self.old.ended.items }
     {
         self.retire_ended(rt);
         let answer = take_waiting(alloc, &mut self.inbox.lock(rt), journal);

@@ -66,7 +66,7 @@ fn wake_each<R: Host>(rt: &R, shared: &Shared) -> u64 {
 
 /// Stores the waker of the running task, if there is one.
 fn keep_waker<R: Host>(rt: &R, shared: &Shared, cx: &mut Own)
-    ensures { cx.new ≡ cx.old }
+    ensures { Reaches (λ n. n) cx.old cx.new }
 {
     if let Ok(waker) = cx.remote_waker() {
         let _ = shared.wakers.lock(rt).push(waker);

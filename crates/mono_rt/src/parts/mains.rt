@@ -1,5 +1,5 @@
 // How a main task is made, and how its handle is dropped.
-ghost use Rattle.std.specs.Prelude.{◌≡◌, ◌<◌, ◌+◌, true, Some, Ok, IfOk, OnOk, IfErr, OnErr};
+ghost use Rattle.std.specs.Prelude.{◌≡◌, ◌<◌, ◌+◌, true, false, Some, Ok, IfOk, OnOk, IfErr, OnErr};
 ghost use Rattle.std.specs.Option.{option_map};
 ghost use Rattle.mono_model.specs.Table.{next_number, is_full};
 ghost use Rattle.mono_model.specs.Tasks.{spawned};
@@ -59,26 +59,27 @@ impl<O: Outcome + Drop, P: ThreadPool + Drop> Parts<O, Blockings<P>> {
         }
     }
 
-    /// Records that the main task gets no place, and returns the error: `AtCapacity`, or `Memory` if the journal gets no
-    /// room for the entry.
+    /// Records that the main task gets no place, and returns the error: `AtCapacity`, or `Memory` if a kept journal gets
+    /// no room for the entry (`kept`).
     pub fn refuse_main(&mut self, journal: &mut Journal) -> RunError
         requires { is_full self.old.tasks.tasks.table self.old.tasks.tasks.limit ≡ true }
         ensures same { self.new ≡ self.old }
         ensures goes { Goes O.output_number self.old self.new journal.old journal.new }
         ensures refused { OnCapacity result (Does O.output_number IsRefused self.old self.new journal.old journal.new) }
         ensures unmade { OnMemory result (Does O.output_number Stays self.old self.new journal.old journal.new) }
+        ensures kept { OnMemory result (journal.old.is_full ≡ false) }
         ensures told { (told : Told) → Telling (Still going) told going journal.old journal.new told }
         ensures full { journal.new.is_full ≡ journal.old.is_full }
         ensures held { journal.new.entries.held ≡ journal.old.entries.held }
     {
-        if journal.reserve(1).is_err() {
-            return RunError::Memory;
-        }
-        journal.push(Entry::Ran(
+        let added = journal.add(Entry::Ran(
             Event::Act(Act::Spawn),
             Report::Reply(Reply::Refused(Refusal::AtCapacity)),
         ));
-        RunError::AtCapacity
+        match added {
+            Err(_) => RunError::Memory,
+            Ok(()) => RunError::AtCapacity,
+        }
     }
 
     /// Drops the handle of the main task, and returns its output, whose number is in the journal. The entry takes the

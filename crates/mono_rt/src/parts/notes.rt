@@ -1,5 +1,5 @@
 // How a journal records entries. Its history has every entry, and memory may keep fewer.
-ghost use Rattle.std.specs.Prelude.{◌≡◌, ◌≤◌, ◌<◌, ◌||◌, ◌++◌, ◌∷◌, [], OnOk, IfSome, IfNone, length, slice_get, ℕ, ◌+◌, Some};
+ghost use Rattle.std.specs.Prelude.{◌≡◌, ◌≤◌, ◌<◌, ◌||◌, ◌++◌, ◌∷◌, [], false, OnOk, OnErr, IfSome, IfNone, length, slice_get, ℕ, ◌+◌, Some};
 ghost use Rattle.mono_machine.specs.declared.events.Event.TheVariants as event;
 ghost use Rattle.mono_machine.specs.declared.events.Report.TheVariants as report;
 ghost use Rattle.mono_rt.specs.declared.parts.journals.Entry.TheVariants.{Ran};
@@ -77,6 +77,24 @@ fn keep(entries: &mut RoomList<Entry>, is_full: bool, entry: Entry)
     if !is_full {
         entries.push(entry);
     }
+}
+
+// Keeps one more entry, for which it reserves room, unless the journal is full.
+fn keep_with_room(
+    entries: &mut RoomList<Entry>,
+    is_full: bool,
+    entry: Entry,
+) -> Result<(), AllocError>
+    ensures kept { OnOk result (IsKept is_full entries.old.items is_full entries.new.items entry) }
+    ensures refused { OnErr result ((entries.new.items ≡ entries.old.items) × (is_full ≡ false)) }
+    ensures held { entries.new.held ≡ entries.old.held }
+{
+    if is_full {
+        return Ok(());
+    }
+    entries.reserve(1)?;
+    entries.push(entry);
+    Ok(())
 }
 
 // Keeps one more turn, unless the journal is full or memory lost an act. Returns whether the journal is full now.
@@ -194,6 +212,23 @@ impl Journal {
         let history = self.history.and(&entry);
         keep(&mut self.entries, self.is_full, entry);
         self.history = history;
+    }
+
+    /// Adds one entry, for which it reserves room. A full journal needs none, so only a kept one may fail (`refused`).
+    pub(crate) fn add(&mut self, entry: Entry) -> Result<(), AllocError>
+        ensures added { OnOk result (self.new.history.entries ≡ self.old.history.entries ++ entry ∷ []) }
+        ensures refused { OnErr result ((self.new.history.entries ≡ self.old.history.entries) × (self.old.is_full ≡ false)) }
+        ensures full { self.new.is_full ≡ self.old.is_full }
+        ensures held { self.new.entries.held ≡ self.old.entries.held }
+    {
+        let history = self.history.and(&entry);
+        match keep_with_room(&mut self.entries, self.is_full, entry) {
+            Err(error) => Err(error),
+            Ok(()) => {
+                self.history = history;
+                Ok(())
+            }
+        }
     }
 
     /// Adds one entry, for which there is room, and holds room for another one.

@@ -4,13 +4,15 @@ use Rattle.mono_machine.specs.Machine.{start_machine}
 use Rattle.mono_rt.specs.DriverReadings.{telling}
 use Rattle.mono_rt.proofs.DriverLemmas.{same_told}
 use Rattle.mono_rt.proofs.StartLemmas.{same_start, none_made, runs_from}
+use Rattle.mono_rt.specs.Reaches.{IsAligned}
+use Rattle.mono_rt.proofs.PossibleAnswerLemmas.{ok_given}
 use Rattle.mono_rt.proofs.builder.start.Goals as goal
 
-pub returns-in-Err : goal.returns-in-Err
-returns-in-Err g c = none_made g.O.Outcome.output_number _ _ _ _
+pub returns-in-Err-clause-history : goal.returns-in-Err-clause-history
+returns-in-Err-clause-history g c = none_made g.O.Outcome.output_number _ _ _ _
 
-pub returns-in-Ok : goal.returns-in-Ok
-returns-in-Ok g c =
+pub returns-in-Ok-clause-history : goal.returns-in-Ok-clause-history
+returns-in-Ok-clause-history g c =
     let made = c.in-Ok.runtime in
     let left = c.block_on.new.self in
     let built = c.new-builder.result in
@@ -22,3 +24,6 @@ returns-in-Ok g c =
     (same_start built.limits _ built.pool _ c.new-builder.ensures.limits c.new-builder.ensures.pool)
     (same_told g.D.Clock.readings g.D.Clock.time g.D.Clock.parks g.D.Clock.submits g.D.Clock.faults g.D.Clock.can_fail (c.in-Ok.ensures.driver ∙ c.new-builder.ensures.driver))
     c.in-Ok.ensures.stands c.in-Ok.ensures.history c.block_on.ensures.blocked c.block_on.ensures.told
+
+pub returns-in-Ok-clause-given : goal.returns-in-Ok-clause-given
+returns-in-Ok-clause-given g c = ok_given (IsAligned c.in-Ok.runtime.cx) (g.F.TaskFuture.gives c.args.future) c.block_on.result c.in-Ok.ensures.aligned c.block_on.ensures.given

@@ -11,6 +11,9 @@ use Rattle.mono_rt.proofs.FuturePollLemmas.{polls_on, polls_drop, polls_main, sa
 use Rattle.mono_rt.proofs.JournalRoomLemmas.{fills_on, fills_not, fills_still}
 use Rattle.mono_rt.proofs.FaultLemmas.{capacity_faults, faults_after}
 use Rattle.mono_rt.specs.Outputs.{AddsNone}
+use Rattle.mono_rt.proofs.EndedTaskLemmas.{if_main}
+use Rattle.mono_rt.proofs.PlaceLemmas.{placed, same_answer, same_refusal, not_refused}
+use Rattle.mono_rt.proofs.StrategyLemmas.{same_strategy}
 use Rattle.mono_rt.proofs.OutputLemmas.{adds_itself, adds_dropped, output_dropped}
 use Rattle.mono_rt.proofs.PossibleAnswerLemmas.{no_more_on, no_more_by, no_more_spawned, given_later}
 use Rattle.mono_rt.proofs.runtimes.Runtime.block_on.Goals as goal
@@ -125,7 +128,25 @@ pub returns-in-Some-clause-faults : goal.returns-in-Some-clause-faults
 returns-in-Some-clause-faults g c = (rw c.in-Ok-answer.is at c.run-answer.ensures.faults) ∙ c.start_main.ensures.faults
 
 pub returns-in-Err-answer-clause-place : goal.returns-in-Err-answer-clause-place
-returns-in-Err-answer-clause-place g c = rw c.in-Ok.ensures.place c.in-Err-answer.ensures.placed
+returns-in-Err-answer-clause-place g c = placed c.in-Err-answer.error _ _ c.in-Ok.ensures.place c.in-Err-answer.ensures.placed
+
+pub returns-in-Err-clause-place : goal.returns-in-Err-clause-place
+returns-in-Err-clause-place g c = same_answer c.in-Err.error _ _ c.in-Err.ensures.place
+
+pub returns-in-Err-clause-untouched : goal.returns-in-Err-clause-untouched
+returns-in-Err-clause-untouched g c = same_refusal c.in-Err.error _ c.in-Err.ensures.untouched
+
+pub returns-in-Err-answer-clause-untouched : goal.returns-in-Err-answer-clause-untouched
+returns-in-Err-answer-clause-untouched g c = not_refused c.in-Err-answer.error _ c.in-Err-answer.ensures.placed
+
+pub returns-in-Err-clause-strategy : goal.returns-in-Err-clause-strategy
+returns-in-Err-clause-strategy g c = same_strategy g.O.Outcome.output_number _ _ _ _ _ (returns-in-Err-clause-blocked g c)
+
+pub returns-in-Err-answer-clause-strategy : goal.returns-in-Err-answer-clause-strategy
+returns-in-Err-answer-clause-strategy g c = same_strategy g.O.Outcome.output_number _ _ _ _ _ (returns-in-Err-answer-clause-blocked g c)
+
+pub returns-in-Some-clause-strategy : goal.returns-in-Some-clause-strategy
+returns-in-Some-clause-strategy g c = same_strategy g.O.Outcome.output_number _ _ _ _ _ (returns-in-Some-clause-blocked g c)
 
 -- the output that was taken is the one that was there
 same_output : {A : Type 0} (v : Option A) (x y : A) → v ≡ Some x → v ≡ Some y → x ≡ y
@@ -167,3 +188,12 @@ returns-in-Some-clause-answers g c =
     no_more_on gives old.cx started.cx _ (no_more_spawned gives old.cx started.cx c.args.future c.in-Ok.ensures.tasks c.in-Ok.ensures.made)
     (no_more_on gives started.cx ran.cx _ c.run-answer.ensures.answers
     (no_more_by gives ran.cx _ (subst (AddsNone ran.cx.parts.tasks.tasks) (sym c.end_main-output.ensures.left) (adds_dropped ran.cx.parts.tasks.tasks c.in-Ok.main)) refl))
+
+pub returns-in-Err-clause-retired : goal.returns-in-Err-clause-retired
+returns-in-Err-clause-retired g c = none_made ⊤ c.in-Err.error _ _ c.in-Err.ensures.refused
+
+pub returns-in-Err-answer-clause-retired : goal.returns-in-Err-answer-clause-retired
+returns-in-Err-answer-clause-retired g c = if_main c.in-Err-answer.error _ c.retire_ended.ensures.none
+
+pub returns-in-Some-clause-retired : goal.returns-in-Some-clause-retired
+returns-in-Some-clause-retired g c = c.retire_ended.ensures.none

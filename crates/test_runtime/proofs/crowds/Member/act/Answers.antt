@@ -8,7 +8,7 @@ pub returns-in-Waits : goal.returns-in-Waits
 returns-in-Waits g c = reaches_itself (λ n. n) c.args.cx.now
 
 pub returns-in-Gives : goal.returns-in-Gives
-returns-in-Gives g c = rw c.keep_waker.ensures (reaches_itself (λ n. n) c.args.cx.now)
+returns-in-Gives g c = c.keep_waker.ensures
 
 pub returns-in-Ends : goal.returns-in-Ends
 returns-in-Ends g c = reaches_itself (λ n. n) c.args.cx.now

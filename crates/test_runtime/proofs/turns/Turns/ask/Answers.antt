@@ -1,5 +1,4 @@
-use Rattle.std.proofs.Common.{sym, subst}
-use Rattle.mono_rt.specs.Reaches.{Reaches, reaches_itself}
+use Rattle.mono_rt.specs.Reaches.{reaches_itself}
 use Rattle.test_runtime.proofs.turns.Turns.ask.Goals as goal
 
 pub returns-in-RunAll : goal.returns-in-RunAll
@@ -12,4 +11,4 @@ pub returns-in-SetFlag : goal.returns-in-SetFlag
 returns-in-SetFlag g c = reaches_itself g.O.Outcome.output_number c.args.cx.now
 
 pub returns-in-Waker : goal.returns-in-Waker
-returns-in-Waker g c = subst (Reaches g.O.Outcome.output_number c.args.cx.now) (sym c.remote_waker.ensures.same) (reaches_itself g.O.Outcome.output_number c.args.cx.now)
+returns-in-Waker g c = c.remote_waker.ensures.reached

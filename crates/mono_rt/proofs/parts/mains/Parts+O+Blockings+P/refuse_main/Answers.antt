@@ -1,9 +1,8 @@
 use Rattle.std.proofs.Common.{refl}
 use Rattle.mono_rt.specs.Rounds.{IsRefused}
 use Rattle.mono_rt.specs.DriverReadings.{going}
-use Rattle.mono_rt.proofs.JournalLemmas.{goes_of, does_stay, does_full}
-use Rattle.mono_rt.proofs.RoundLemmas.{stay_on}
-use Rattle.mono_rt.proofs.DriverLemmas.{tells_nothing, tells_one, telling_on}
+use Rattle.mono_rt.proofs.JournalLemmas.{goes_of, goes_nowhere, does_stay, does_full}
+use Rattle.mono_rt.proofs.DriverLemmas.{tells_nothing, tells_one}
 use Rattle.mono_machine.specs.declared.events.Act.TheVariants as act
 use Rattle.mono_machine.specs.declared.events.Event.TheVariants as event
 use Rattle.mono_machine.specs.declared.events.Refusal.TheVariants as refusal
@@ -12,23 +11,20 @@ use Rattle.mono_machine.specs.declared.events.Report.TheVariants as report
 use Rattle.mono_rt.specs.declared.parts.journals.Entry.TheVariants.{Ran}
 use Rattle.mono_rt.proofs.parts.mains.Parts+O+Blockings+P.refuse_main.Goals as goal
 
-pub returns-then-is_err-clause-unmade : goal.returns-then-is_err-clause-unmade
-returns-then-is_err-clause-unmade g c = does_stay g.O.Outcome.output_number c.args.self.now c.args.self.now c.args.journal.now c.reserve.new.self refl refl refl refl c.reserve.ensures.history
+pub returns-in-Err-clause-goes : goal.returns-in-Err-clause-goes
+returns-in-Err-clause-goes g c = goes_nowhere g.O.Outcome.output_number c.args.self.now c.args.self.now c.args.journal.now c.add-added.new.self refl refl refl refl c.in-Err.ensures.refused.0
 
-pub returns-then-is_err-clause-told : goal.returns-then-is_err-clause-told
-returns-then-is_err-clause-told g c = λ told. tells_nothing refl refl c.reserve.ensures.history
+pub returns-in-Err-clause-unmade : goal.returns-in-Err-clause-unmade
+returns-in-Err-clause-unmade g c = does_stay g.O.Outcome.output_number c.args.self.now c.args.self.now c.args.journal.now c.add-added.new.self refl refl refl refl c.in-Err.ensures.refused.0
 
-pub returns-clause-refused : goal.returns-clause-refused
-returns-clause-refused g c =
-    let number = g.O.Outcome.output_number in
-    let old = c.args.self.now in
-    stay_on number IsRefused old old old c.args.journal.now c.reserve.new.self c.push.new.self
-    (does_stay number old old c.args.journal.now c.reserve.new.self refl refl refl refl c.reserve.ensures.history)
-    (does_full number old old c.reserve.new.self c.push.new.self c.push.ensures.history c.requires refl refl refl refl)
+pub returns-in-Err-clause-told : goal.returns-in-Err-clause-told
+returns-in-Err-clause-told g c = λ told. tells_nothing refl refl c.in-Err.ensures.refused.0
 
-pub returns-clause-goes : goal.returns-clause-goes
-returns-clause-goes g c = goes_of g.O.Outcome.output_number IsRefused c.args.self.now c.args.self.now c.args.journal.now c.push.new.self (returns-clause-refused g c)
+pub returns-in-Ok-clause-refused : goal.returns-in-Ok-clause-refused
+returns-in-Ok-clause-refused g c = does_full g.O.Outcome.output_number c.args.self.now c.args.self.now c.args.journal.now c.add-added.new.self c.in-Ok.ensures.added c.requires refl refl refl refl
 
-pub returns-clause-told : goal.returns-clause-told
-returns-clause-told g c = λ told. telling_on {j = c.reserve.new.self} (tells_nothing refl refl c.reserve.ensures.history)
-    (tells_one {a = told} going (Ran (event.Act act.Spawn) (report.Reply (reply.Refused refusal.AtCapacity))) refl (_, (going, ((refl, refl), (refl, refl)))) c.push.ensures.history)
+pub returns-in-Ok-clause-goes : goal.returns-in-Ok-clause-goes
+returns-in-Ok-clause-goes g c = goes_of g.O.Outcome.output_number IsRefused c.args.self.now c.args.self.now c.args.journal.now c.add-added.new.self (returns-in-Ok-clause-refused g c)
+
+pub returns-in-Ok-clause-told : goal.returns-in-Ok-clause-told
+returns-in-Ok-clause-told g c = λ told. tells_one {a = told} going (Ran (event.Act act.Spawn) (report.Reply (reply.Refused refusal.AtCapacity))) refl (_, (going, ((refl, refl), (refl, refl)))) c.in-Ok.ensures.added
