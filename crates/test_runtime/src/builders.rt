@@ -1,5 +1,5 @@
 // The settings of a builder, and a start on the defaults.
-
+ghost use Rattle.std.specs.Prelude.{◌≡◌, IfOk, is_some, true};
 ghost use Rattle.mono_rt.specs.Views.{Rests};
 
 use crate::turns::Gives;
@@ -7,7 +7,7 @@ use crate::waits::{Work, Worked, outcome_of, ready};
 use mono_blocking::{BlockingStrategy, DefaultThreadPool, NoPool, NoSpawner};
 use mono_model::Host;
 use mono_rt::{RunError, Runtime, RuntimeBuilder, StepDriver, TimeDriver, start};
-use std::alloc::Global;
+use std::alloc::{AllocError, Global};
 use std::process::Abort;
 
 /// Returns a builder on a driver that never waits.
@@ -122,4 +122,55 @@ fn the_last_call_decides_on_a_pool(rt: HostRuntime) {
     let alloc = rt.alloc();
     assert!(rt; has_pool(&rt, alloc, true));
     assert!(rt; !has_pool(&rt, alloc, false));
+}
+
+/// The answer of a main task, and the pool that comes back.
+type Ended = (Result<u64, RunError>, Option<DefaultThreadPool<Gives>>);
+
+/// Runs a main task on a runtime with this pool. A pool comes back also after the run, whatever the answer.
+fn run_with_pool<R: Host>(
+    rt: &R,
+    alloc: Global,
+    pool: DefaultThreadPool<Gives>,
+    main: Work,
+    units: u64,
+) -> Result<Ended, AllocError>
+    ensures { IfOk result (λ ended. is_some ended.1 ≡ true) }
+{
+    let builder: RuntimeBuilder<StepDriver, DefaultThreadPool<Gives>> = RuntimeBuilder::new(
+        StepDriver::new(Vec::new(alloc)),
+    );
+    let mut runtime: Runtime<Work, u64, _, _> = builder.attach_thread_pool(pool).build(alloc)?;
+    let answer = runtime.block_on(rt, alloc, main, units);
+    Ok((answer, runtime.into_pool()))
+}
+
+/// Returns how a main task ends on a runtime with a pool, and whether the pool comes back.
+fn with_pool<R: Host + Abort + Send + 'static>(
+    rt: &R,
+    alloc: Global,
+    main: Work,
+    units: u64,
+) -> (Result<u64, RunError>, bool) {
+    let mut spawner = NoSpawner::new();
+    let pool = DefaultThreadPool::new(rt, alloc, 0, &mut spawner).expect(rt, "memory");
+    let (answer, left) = run_with_pool(rt, alloc, pool, main, units).expect(rt, "memory");
+    match left {
+        Some(pool) => {
+            pool.close(rt);
+            (answer, true)
+        }
+        None => (answer, false),
+    }
+}
+
+#[test]
+fn a_pool_comes_back_after_a_run(rt: HostRuntime) {
+    let alloc = rt.alloc();
+    let one = ready(&rt, alloc, 1);
+    assert_eq!(rt; with_pool(&rt, alloc, one, 10), (Ok(1), true));
+    assert_eq!(rt;
+        with_pool(&rt, alloc, Work::Waits, 3),
+        (Err(RunError::Turns), true)
+    );
 }

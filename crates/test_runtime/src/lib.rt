@@ -22,6 +22,8 @@ mod runs;
 #[cfg(test)]
 mod runtimes;
 #[cfg(test)]
+mod submits;
+#[cfg(test)]
 mod turns;
 #[cfg(test)]
 mod waits;
