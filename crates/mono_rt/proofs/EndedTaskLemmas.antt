@@ -34,7 +34,7 @@ no_room len capacity xs (inl room) full = absurd (full room)
 no_room len capacity xs (inr none) full = none
 
 -- a fact that holds in each case
-pub if_main : {A : Type 0} (e : RunError) (P : Type 0) → P → OnMain {A} (Err e) P
+pub if_main : {A : Type 0} (e : RunError) (P : Type 0) → P → OnMain {A = A} (Err e) P
 if_main error.Turns P is = is
 if_main error.Driver P is = is
 if_main error.AtCapacity P is = tt
