@@ -34,8 +34,8 @@ no_room len capacity xs (inl room) full = absurd (full room)
 no_room len capacity xs (inr none) full = none
 
 -- a fact that holds in each case
-pub if_main : {A : Type 0} (e : RunError) (P : Type 0) → P → OnMain {A = A} (Err e) P
-if_main error.Turns P is = is
-if_main error.Driver P is = is
-if_main error.AtCapacity P is = tt
-if_main error.Memory P is = tt
+pub if_main : (A : Type 0) (e : RunError) (P : Type 0) → P → OnMain {A = A} (Err e) P
+if_main A error.Turns P is = is
+if_main A error.Driver P is = is
+if_main A error.AtCapacity P is = tt
+if_main A error.Memory P is = tt

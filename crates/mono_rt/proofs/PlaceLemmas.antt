@@ -9,40 +9,40 @@ true-false : true ≡ false → ⊥
 true-false e = cc
 
 -- there is no place
-pub refused_place : {A : Type 0} (e : RunError) (full keeps_none : Bool) (P : Type 0) → full ≡ true → OnCapacity e P → OnMemory e (keeps_none ≡ false) → AnswersPlace {A = A} (Err e) full keeps_none
-refused_place Memory full keeps_none P is refused kept = λ x. kept
-refused_place AtCapacity full keeps_none P is refused kept = is
-refused_place Driver full keeps_none P is refused kept = absurd refused
-refused_place Turns full keeps_none P is refused kept = absurd refused
+pub refused_place : (A : Type 0) (e : RunError) (full keeps_none : Bool) (P : Type 0) → full ≡ true → OnCapacity e P → OnMemory e (keeps_none ≡ false) → AnswersPlace {A = A} (Err e) full keeps_none
+refused_place A Memory full keeps_none P is refused kept = λ x. kept
+refused_place A AtCapacity full keeps_none P is refused kept = is
+refused_place A Driver full keeps_none P is refused kept = absurd refused
+refused_place A Turns full keeps_none P is refused kept = absurd refused
 
 -- there is one
-pub placed : {A B : Type 0} (e : RunError) (full keeps_none : Bool) → full ≡ false → HasPlace {A = A} (Err e) false → AnswersPlace {A = B} (Err e) full keeps_none
-placed Memory full keeps_none is has = λ x. absurd (true-false (sym x ∙ is))
-placed AtCapacity full keeps_none is has = absurd (true-false (sym has))
-placed Driver full keeps_none is has = is
-placed Turns full keeps_none is has = is
+pub placed : (A B : Type 0) (e : RunError) (full keeps_none : Bool) → full ≡ false → HasPlace {A = A} (Err e) false → AnswersPlace {A = B} (Err e) full keeps_none
+placed A B Memory full keeps_none is has = λ x. absurd (true-false (sym x ∙ is))
+placed A B AtCapacity full keeps_none is has = absurd (true-false (sym has))
+placed A B Driver full keeps_none is has = is
+placed A B Turns full keeps_none is has = is
 
-pub not_refused : {A B : Type 0} (e : RunError) (P : Type 0) → HasPlace {A = A} (Err e) false → IfRefused {A = B} (Err e) P
-not_refused Memory P has = tt
-not_refused AtCapacity P has = absurd (true-false (sym has))
-not_refused Driver P has = tt
-not_refused Turns P has = tt
+pub not_refused : (A B : Type 0) (e : RunError) (P : Type 0) → HasPlace {A = A} (Err e) false → IfRefused {A = B} (Err e) P
+not_refused A B Memory P has = tt
+not_refused A B AtCapacity P has = absurd (true-false (sym has))
+not_refused A B Driver P has = tt
+not_refused A B Turns P has = tt
 
-pub if_refused : {A : Type 0} (e : RunError) (P : Type 0) → P → IfRefused {A = A} (Err e) P
-if_refused Memory P is = tt
-if_refused AtCapacity P is = is
-if_refused Driver P is = tt
-if_refused Turns P is = tt
+pub if_refused : (A : Type 0) (e : RunError) (P : Type 0) → P → IfRefused {A = A} (Err e) P
+if_refused A Memory P is = tt
+if_refused A AtCapacity P is = is
+if_refused A Driver P is = tt
+if_refused A Turns P is = tt
 
 -- the same of a call with an answer of another type
-pub same_answer : {A B : Type 0} (e : RunError) (full keeps_none : Bool) → AnswersPlace {A = A} (Err e) full keeps_none → AnswersPlace {A = B} (Err e) full keeps_none
-same_answer Memory full keeps_none is = is
-same_answer AtCapacity full keeps_none is = is
-same_answer Driver full keeps_none is = is
-same_answer Turns full keeps_none is = is
+pub same_answer : (A B : Type 0) (e : RunError) (full keeps_none : Bool) → AnswersPlace {A = A} (Err e) full keeps_none → AnswersPlace {A = B} (Err e) full keeps_none
+same_answer A B Memory full keeps_none is = is
+same_answer A B AtCapacity full keeps_none is = is
+same_answer A B Driver full keeps_none is = is
+same_answer A B Turns full keeps_none is = is
 
-pub same_refusal : {A B : Type 0} (e : RunError) (P : Type 0) → IfRefused {A = A} (Err e) P → IfRefused {A = B} (Err e) P
-same_refusal Memory P is = tt
-same_refusal AtCapacity P is = is
-same_refusal Driver P is = tt
-same_refusal Turns P is = tt
+pub same_refusal : (A B : Type 0) (e : RunError) (P : Type 0) → IfRefused {A = A} (Err e) P → IfRefused {A = B} (Err e) P
+same_refusal A B Memory P is = tt
+same_refusal A B AtCapacity P is = is
+same_refusal A B Driver P is = tt
+same_refusal A B Turns P is = tt

@@ -128,16 +128,16 @@ pub returns-in-Some-clause-faults : goal.returns-in-Some-clause-faults
 returns-in-Some-clause-faults g c = (rw c.in-Ok-answer.is at c.run-answer.ensures.faults) ∙ c.start_main.ensures.faults
 
 pub returns-in-Err-answer-clause-place : goal.returns-in-Err-answer-clause-place
-returns-in-Err-answer-clause-place g c = placed c.in-Err-answer.error _ _ c.in-Ok.ensures.place c.in-Err-answer.ensures.placed
+returns-in-Err-answer-clause-place g c = placed ⊤ ⊤ c.in-Err-answer.error _ _ c.in-Ok.ensures.place c.in-Err-answer.ensures.placed
 
 pub returns-in-Err-clause-place : goal.returns-in-Err-clause-place
-returns-in-Err-clause-place g c = same_answer c.in-Err.error _ _ c.in-Err.ensures.place
+returns-in-Err-clause-place g c = same_answer ⊤ ⊤ c.in-Err.error _ _ c.in-Err.ensures.place
 
 pub returns-in-Err-clause-untouched : goal.returns-in-Err-clause-untouched
-returns-in-Err-clause-untouched g c = same_refusal c.in-Err.error _ c.in-Err.ensures.untouched
+returns-in-Err-clause-untouched g c = same_refusal ⊤ ⊤ c.in-Err.error _ c.in-Err.ensures.untouched
 
 pub returns-in-Err-answer-clause-untouched : goal.returns-in-Err-answer-clause-untouched
-returns-in-Err-answer-clause-untouched g c = not_refused c.in-Err-answer.error _ c.in-Err-answer.ensures.placed
+returns-in-Err-answer-clause-untouched g c = not_refused ⊤ ⊤ c.in-Err-answer.error _ c.in-Err-answer.ensures.placed
 
 pub returns-in-Err-clause-strategy : goal.returns-in-Err-clause-strategy
 returns-in-Err-clause-strategy g c = same_strategy g.O.Outcome.output_number _ _ _ _ _ (returns-in-Err-clause-blocked g c)
@@ -193,7 +193,7 @@ pub returns-in-Err-clause-retired : goal.returns-in-Err-clause-retired
 returns-in-Err-clause-retired g c = none_made ⊤ c.in-Err.error _ _ c.in-Err.ensures.refused
 
 pub returns-in-Err-answer-clause-retired : goal.returns-in-Err-answer-clause-retired
-returns-in-Err-answer-clause-retired g c = if_main c.in-Err-answer.error _ c.retire_ended.ensures.none
+returns-in-Err-answer-clause-retired g c = if_main ⊤ c.in-Err-answer.error _ c.retire_ended.ensures.none
 
 pub returns-in-Some-clause-retired : goal.returns-in-Some-clause-retired
 returns-in-Some-clause-retired g c = c.retire_ended.ensures.none

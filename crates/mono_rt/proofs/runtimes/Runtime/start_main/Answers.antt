@@ -60,23 +60,23 @@ pub returns-in-Ok-start_main-clause-tasks : goal.returns-in-Ok-start_main-clause
 returns-in-Ok-start_main-clause-tasks g c = c.in-Ok-start_main.ensures.made
 
 pub returns-then-has_no_place-clause-place : goal.returns-then-has_no_place-clause-place
-returns-then-has_no_place-clause-place g c = refused_place c.refuse_main.result _ _ _ (sym c.has_no_place.ensures ∙ c.if-has_no_place.true) c.refuse_main.ensures.refused c.refuse_main.ensures.kept
+returns-then-has_no_place-clause-place g c = refused_place ⊤ c.refuse_main.result _ _ _ (sym c.has_no_place.ensures ∙ c.if-has_no_place.true) c.refuse_main.ensures.refused c.refuse_main.ensures.kept
 
 pub returns-in-Err-clause-place : goal.returns-in-Err-clause-place
-returns-in-Err-clause-place g c = placed {A = ⊤} Memory _ _ (sym c.has_no_place.ensures ∙ c.if-has_no_place.false) tt
+returns-in-Err-clause-place g c = placed ⊤ ⊤ Memory _ _ (sym c.has_no_place.ensures ∙ c.if-has_no_place.false) tt
 
 pub returns-in-Err-start_main-clause-place : goal.returns-in-Err-start_main-clause-place
 returns-in-Err-start_main-clause-place g c =
     let free = sym c.has_no_place.ensures ∙ c.if-has_no_place.false in
-    placed c.in-Err-start_main.error _ _ free (subst (HasPlace (Err c.in-Err-start_main.error)) free c.in-Err-start_main.ensures.place)
+    placed ⊤ ⊤ c.in-Err-start_main.error _ _ free (subst (HasPlace {A = ⊤} (Err c.in-Err-start_main.error)) free c.in-Err-start_main.ensures.place)
 
 pub returns-then-has_no_place-clause-untouched : goal.returns-then-has_no_place-clause-untouched
-returns-then-has_no_place-clause-untouched g c = if_refused c.refuse_main.result _ (ap (λ p. record c.args.self.now.cx { parts = p }) c.refuse_main.ensures.same)
+returns-then-has_no_place-clause-untouched g c = if_refused ⊤ c.refuse_main.result _ (ap (λ p. record c.args.self.now.cx { parts = p }) c.refuse_main.ensures.same)
 
 pub returns-in-Err-start_main-clause-untouched : goal.returns-in-Err-start_main-clause-untouched
 returns-in-Err-start_main-clause-untouched g c =
     let free = sym c.has_no_place.ensures ∙ c.if-has_no_place.false in
-    not_refused c.in-Err-start_main.error _ (subst (HasPlace (Err c.in-Err-start_main.error)) free c.in-Err-start_main.ensures.place)
+    not_refused ⊤ ⊤ c.in-Err-start_main.error _ (subst (HasPlace {A = ⊤} (Err c.in-Err-start_main.error)) free c.in-Err-start_main.ensures.place)
 
 pub returns-then-has_no_place-clause-unkept : goal.returns-then-has_no_place-clause-unkept
 returns-then-has_no_place-clause-unkept g c = inl refl
