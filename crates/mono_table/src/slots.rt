@@ -1,5 +1,6 @@
 // Values by number that may be taken out and put back.
 ghost use Rattle.std.specs.Prelude.{◌≡◌, ◌++◌, ◌∷◌, [], true, false, None, Some, OnOk, OnErr, IfErr, IfSome, is_some, slice_set};
+ghost use Rattle.std.specs.Option.{option_copied};
 ghost use Rattle.mono_model.specs.Table.{value_at};
 ghost use Rattle.mono_table.specs.Slots.{lent_at, SameSlots};
 
@@ -23,9 +24,9 @@ pub enum Slot<T, W> {
 /// The place of the next number has a value before that number is given out: it is reserved (`reserve_value`), and then
 /// given out (`commit`) or taken back (`abort`).
 ///
-/// The view has three fields. `items` lists for each number its value, or none if it is taken out or removed. `lent`
-/// says which numbers are taken out. `reserved` is the value that is reserved for the next number. The view does not
-/// show the note that is kept with a value.
+/// The view has five fields. `items` lists for each number its value, or none if it is taken out or removed. `notes`
+/// lists for each number the note that is kept with its value, or none. `lent` says which numbers are taken out.
+/// `reserved` and `reserved_note` are the value that is reserved for the next number, and its note.
 ///
 /// It costs as much as its table (`mono_table`): it gives a page back once all its numbers were given out and all its
 /// places were removed.
@@ -35,17 +36,17 @@ pub struct Slots<T, W> {
 }
 
 impl<T, W> Model for Slots<T, W> {
-    ghost use Rattle.mono_table.specs.Slots.{Seen, items_of, lent_of, value_in};
+    ghost use Rattle.mono_table.specs.Slots.{Seen, seen_of};
 
-    ghost Value = { Seen T };
+    ghost Value = { Seen T W };
 
-    ghost view = { λ a. record { items = items_of a.places.table; lent = lent_of a.places.table; reserved = value_in a.places.reserved } };
+    ghost view = { λ a. seen_of a.places.table a.places.reserved };
 }
 
 impl<T: Drop, W: Drop> Slots<T, W> {
     /// Creates slots that have given out no number. It takes no memory.
     pub fn new(alloc: Global) -> Slots<T, W>
-        ensures { result ≡ record { items = []; lent = []; reserved = None } }
+        ensures { result ≡ record { items = []; notes = []; lent = []; reserved = None; reserved_note = None } }
     {
         Slots {
             places: ReadyTable::new(alloc),
@@ -58,6 +59,7 @@ impl<T: Drop, W: Drop> Slots<T, W> {
     #[inline(always)]
     pub fn reserve_value(&mut self, alloc: Global, value: T) -> Result<(), T>
         ensures reserved { OnOk result (self.new.reserved ≡ Some value) }
+        ensures note { OnOk result (self.new.reserved_note ≡ None) }
         ensures same { SameSlots self.old self.new }
         ensures back { IfErr result (λ v. v ≡ value) }
         ensures refused { OnErr result (self.new ≡ self.old) }
@@ -69,11 +71,12 @@ impl<T: Drop, W: Drop> Slots<T, W> {
         }
     }
 
-    /// Gives the next number out, with the reserved value. It takes no memory.
+    /// Gives the next number out, with the reserved value and its note. It takes no memory.
     #[inline(always)]
     pub fn commit(&mut self)
         requires { is_some self.old.reserved ≡ true }
         ensures items { self.new.items ≡ self.old.items ++ self.old.reserved ∷ [] }
+        ensures notes { self.new.notes ≡ self.old.notes ++ self.old.reserved_note ∷ [] }
         ensures lent { self.new.lent ≡ self.old.lent ++ false ∷ [] }
     {
         self.places.commit();
@@ -98,7 +101,9 @@ impl<T: Drop, W: Drop> Slots<T, W> {
     #[inline(always)]
     pub fn take(&mut self, number: u64) -> (Option<T>, Option<W>)
         ensures value { result.0 ≡ value_at self.old.items number }
+        ensures note { result.1 ≡ value_at self.old.notes number }
         ensures items { self.new.items ≡ slice_set self.old.items number None }
+        ensures notes { self.new.notes ≡ slice_set self.old.notes number None }
         ensures lent { IfSome result.0 (λ value. lent_at self.new number ≡ true) }
     {
         if !self.places.has(number) {
@@ -111,7 +116,9 @@ impl<T: Drop, W: Drop> Slots<T, W> {
     }
 
     /// Returns the note that is kept with the value of a number, if there is one.
-    pub fn note(&self, number: u64) -> Option<&W> {
+    pub fn note(&self, number: u64) -> Option<&W>
+        ensures { option_copied result ≡ value_at self.now.notes number }
+    {
         match self.places.get(number) {
             Some(Slot::Kept(_value, Some(note))) => Some(note),
             _ => None,
@@ -123,6 +130,7 @@ impl<T: Drop, W: Drop> Slots<T, W> {
     pub fn put(&mut self, number: u64, value: T, beside: Option<W>)
         requires { lent_at self.old number ≡ true }
         ensures items { self.new.items ≡ slice_set self.old.items number (Some value) }
+        ensures notes { self.new.notes ≡ slice_set self.old.notes number beside }
         ensures lent { self.new.lent ≡ slice_set self.old.lent number false }
     {
         drop(self.places.replace(number, Slot::Kept(value, beside)));
@@ -134,6 +142,7 @@ impl<T: Drop, W: Drop> Slots<T, W> {
     pub fn remove(&mut self, number: u64)
         requires { lent_at self.old number ≡ true }
         ensures items { self.new.items ≡ self.old.items }
+        ensures notes { self.new.notes ≡ self.old.notes }
         ensures lent { self.new.lent ≡ slice_set self.old.lent number false }
     {
         self.places.remove(number);
