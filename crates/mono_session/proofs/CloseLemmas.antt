@@ -119,7 +119,7 @@ pub all_greatest : (keeper : Keeper) (list : List ℕ) → (without_all keeper l
 all_greatest keeper [] = refl
 all_greatest keeper (x ∷ xs) = all_greatest (without_session keeper x) xs
 
-all_length : (keeper : Keeper) (list : List ℕ) → length (without_all keeper list).sessions ≡ length keeper.sessions
+pub all_length : (keeper : Keeper) (list : List ℕ) → length (without_all keeper list).sessions ≡ length keeper.sessions
 all_length keeper [] = refl
 all_length keeper (x ∷ xs) = all_length (without_session keeper x) xs ∙ length-set keeper.sessions x None
 
@@ -141,7 +141,7 @@ all_none : (keeper : Keeper) (list : List ℕ) (s : ℕ) → value_at keeper.ses
 all_none keeper [] s none = none
 all_none keeper (x ∷ xs) s none = all_none (without_session keeper x) xs s (none_stays keeper x s none)
 
-all_gone : (keeper : Keeper) (list : List ℕ) (s : ℕ) → s < length keeper.sessions → Contains list s → value_at (without_all keeper list).sessions s ≡ None
+pub all_gone : (keeper : Keeper) (list : List ℕ) (s : ℕ) → s < length keeper.sessions → Contains list s → value_at (without_all keeper list).sessions s ≡ None
 all_gone keeper [] s inside (k, within, at) = absurd (omega (arith, within))
 all_gone keeper (x ∷ xs) s inside (zero, within, at) =
     all_none (without_session keeper x) xs s (ap (λ q. value_at (without_session keeper x).sessions q) (sym at) ∙ get_or-set_same keeper.sessions x None None (omega (arith, inside, at)))
@@ -179,10 +179,10 @@ none_closed : (a b : Answer) (s : ℕ) → a ≡ b → times (closed_by b) s ≡
 none_closed a b s same none = ap (λ x. times (closed_by x) s) same ∙ none
 
 -- ---- one step, for a session that is open
-abbrev StaysOpen : Keeper → ℕ → Session → Answer → Keeper → Type 0
+abbrev pub StaysOpen : Keeper → ℕ → Session → Answer → Keeper → Type 0
 StaysOpen old s session a mid = (value_at mid.sessions s ≡ Some session) × (mid.greatest < closing_tick session) × (times (closed_by a) s ≡ 0)
 
-abbrev IsClosed : ℕ → Session → Answer → Keeper → Type 0
+abbrev pub IsClosed : ℕ → Session → Answer → Keeper → Type 0
 IsClosed s session a mid = (value_at mid.sessions s ≡ None) × (s < length mid.sessions) × (closing_tick session ≤ mid.greatest) × (times (closed_by a) s ≡ 1)
 
 module _ (old : Keeper) (s : ℕ) (session : Session) (at : value_at old.sessions s ≡ Some session) (early : old.greatest < closing_tick session) where
@@ -220,7 +220,7 @@ module _ (old : Keeper) (s : ℕ) (session : Session) (at : value_at old.session
   clock_goes n (answer.Owner q) mid step = absurd step
   clock_goes n answer.Free mid step = absurd step
 
-  step_goes : (c : Call) (a : Answer) (mid : Keeper) → is_on s c ≡ false → Step old c a mid → StaysOpen old s session a mid ⊎ IsClosed s session a mid
+  pub step_goes : (c : Call) (a : Answer) (mid : Keeper) → is_on s c ≡ false → Step old c a mid → StaysOpen old s session a mid ⊎ IsClosed s session a mid
   step_goes (call.Open limit) a mid off step = inl (stays_open a mid _ step.1 (after_open old s (Some session) at inside_of limit) (none_closed a _ s step.0 (closed-number _ s)))
   step_goes (call.Beat o) a mid off step = inl (stays_open a mid _ step.1 (after_beat old s (Some session) at inside_of o (not_on o s off)) (none_closed a _ s step.0 (closed-done _ s)))
   step_goes (call.Close o) a mid off step = inl (stays_open a mid _ step.1 (after_close old s (Some session) at inside_of o (not_on o s off)) (none_closed a _ s step.0 (closed-done _ s)))
@@ -230,7 +230,7 @@ module _ (old : Keeper) (s : ℕ) (session : Session) (at : value_at old.session
   step_goes (call.Clock n) a mid off step = clock_goes n a mid step
 
 -- ---- one step, for a session that is not open any more
-abbrev StaysShut : ℕ → Keeper → Type 0
+abbrev pub StaysShut : ℕ → Keeper → Type 0
 StaysShut s mid = (value_at mid.sessions s ≡ None) × (s < length mid.sessions)
 
 module _ (old : Keeper) (s : ℕ) (at : value_at old.sessions s ≡ None) (inside : s < length old.sessions) where
@@ -262,7 +262,7 @@ module _ (old : Keeper) (s : ℕ) (at : value_at old.sessions s ≡ None) (insid
   shut_clock n (answer.Owner q) mid step = absurd step
   shut_clock n answer.Free mid step = absurd step
 
-  step_shut : (c : Call) (a : Answer) (mid : Keeper) → Step old c a mid → StaysShut s mid × (times (closed_by a) s ≡ 0)
+  pub step_shut : (c : Call) (a : Answer) (mid : Keeper) → Step old c a mid → StaysShut s mid × (times (closed_by a) s ≡ 0)
   step_shut (call.Open limit) a mid step = (let stays = after_open old s None at inside limit in (moves mid _ step.1 (stays.0, stays.2), none_closed a _ s step.0 (closed-number _ s)))
   step_shut (call.Beat o) a mid step = (moves mid _ step.1 (shut_beat o), none_closed a _ s step.0 (closed-done _ s))
   step_shut (call.Close o) a mid step = (moves mid _ step.1 (shut_close o), none_closed a _ s step.0 (closed-done _ s))
@@ -307,7 +307,7 @@ clock_grows old mid n answer.Free step = absurd step
 same_tick : (old mid x : Keeper) → mid ≡ x → x.greatest ≡ old.greatest → old.greatest ≤ mid.greatest
 same_tick old mid x same tick = omega (arith, ap (λ (k : Keeper). k.greatest) same, tick)
 
-step_grows : (old mid : Keeper) (c : Call) (a : Answer) → Step old c a mid → old.greatest ≤ mid.greatest
+pub step_grows : (old mid : Keeper) (c : Call) (a : Answer) → Step old c a mid → old.greatest ≤ mid.greatest
 step_grows old mid (call.Open limit) a step = same_tick old mid _ step.1 (granted_greatest old _ (open_answer old limit) refl)
 step_grows old mid (call.Beat o) a step = same_tick old mid _ step.1 (granted_greatest old _ (beat_answer old o) (beat_greatest old o (value_at old.sessions o)))
 step_grows old mid (call.Close o) a step = same_tick old mid _ step.1 (granted_greatest old _ (close_answer old o) refl)

@@ -19,7 +19,7 @@ use Rattle.mono_session.proofs.SessionSleepLemmas.{value-map}
 none-some : {X : Type 0} (x : X) → None ≡ Some x → ⊥
 none-some x e = cc
 
-abbrev IsDue : Table Session → ℕ → ℕ → Type 0
+abbrev pub IsDue : Table Session → ℕ → ℕ → Type 0
 IsDue table g s = HasCome g (closing_value (value_at table s))
 
 -- s is due, and no session is closed at a lower tick
@@ -32,7 +32,7 @@ abbrev pub CloseInTurn : Table Session → ℕ → List ℕ → Type 0
 CloseInTurn table g [] = (s : ℕ) → IsDue table g s → ⊥
 CloseInTurn table g (s ∷ due) = IsFirst table g s × CloseInTurn (without table s) g due
 
-due_given : (table : Table Session) (g s : ℕ) → IsDue table g s → s < length table
+pub due_given : (table : Table Session) (g s : ℕ) → IsDue table g s → s < length table
 due_given table g s due = elim (cases_lt s (length table)) [
   | inl inside ↦ inside
   | inr past ↦ absurd (subst (λ v. HasCome g (closing_value v)) (get_or_past table s None past) due)

@@ -8,3 +8,4 @@ pub mod QueueLemmas
 pub mod EntryLemmas
 pub mod SessionSleepLemmas
 pub mod CloseListLemmas
+pub mod NextCloseLemmas

@@ -2,6 +2,8 @@ pub mod Keeper
 pub mod Calls
 pub mod Answers
 pub mod Steps
+pub mod Holders
+pub mod Expirations
 pub mod Laws
 pub mod Examples
 pub mod Links

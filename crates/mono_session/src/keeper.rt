@@ -1,11 +1,13 @@
 // The sessions, over timers and queues.
-ghost use Rattle.std.specs.Prelude.{◌≡◌, ◌≤◌, ◌+◌, ◌++◌, ◌∷◌, [], ℕ, List, true, Some, if◌then◌else◌, IfOk, OnErr, vec_len, vec_capacity};
+ghost use Rattle.std.specs.Prelude.{◌≡◌, ◌≤◌, ◌+◌, ◌++◌, ◌∷◌, [], ℕ, List, true, Some, if◌then◌else◌, IfOk, IfSome, OnErr, vec_len, vec_capacity};
 ghost use Rattle.mono_model.specs.Due.{ListsDue};
 ghost use Rattle.mono_model.specs.Table.{value_at, count_of};
 ghost use Rattle.mono_time.specs.Instants.{nanos_of};
 ghost use Rattle.mono_time.specs.Sleeps.{with_removed_sleep};
 ghost use Rattle.mono_time.specs.Timers.{sleeps_of, elapsed_tick};
 ghost use Rattle.mono_wheel.specs.Credit.{most_takes};
+ghost use Rattle.mono_session.specs.Expirations.{NextClose, IsInTime, IsAhead};
+ghost use Rattle.mono_session.specs.Holders.{holds, waits};
 ghost use Rattle.mono_session.specs.Keeper.{Keeper, Session, no_sessions, is_open, open_answer, opened, beat_answer, beaten, close_answer, closed, acquire_answer, acquired, release_answer, released, owner_answer, with_greatest, without_session};
 ghost use Rattle.mono_model.specs.Memory.{OrLacksMemory};
 ghost use Rattle.mono_session.specs.Steps.{closing_value, greatest_at, without_all};
@@ -190,6 +192,42 @@ impl Sessions {
         ensures { (k : Keeper) → StandsFor self.now k → result ≡ owner_answer k key }
     {
         self.entries.owner(key)
+    }
+
+    /// Returns whether a session is open.
+    pub fn is_open(&self, session: u64) -> bool
+        ensures { (k : Keeper) → StandsFor self.now k → result ≡ is_open k session }
+    {
+        self.limits.has(session)
+    }
+
+    /// Returns whether a session is the holder of a key.
+    pub fn is_holder(&self, session: u64, key: u64) -> bool
+        ensures { (k : Keeper) → StandsFor self.now k → result ≡ holds k session key }
+    {
+        match self.owner(key) {
+            None => false,
+            Some(holder) => holder == session,
+        }
+    }
+
+    /// Returns whether a session is in the queue of a key behind another session.
+    pub fn is_waiting(&self, session: u64, key: u64) -> bool
+        ensures { (k : Keeper) → StandsFor self.now k → result ≡ waits k session key }
+    {
+        self.entries.contains(session, key) && !self.is_holder(session, key)
+    }
+
+    /// Returns the next tick at which the clock may close a session: the first start of a slot of the wheel that has
+    /// one (`next`). It is `None` if and only if no session is open (`in_time`, `ahead`).
+    ///
+    /// It is above the greatest tick of the clock so far, and at most the closing tick of each open session.
+    pub fn next_expiration(&self) -> Option<u64>
+        ensures next { NextClose self.now result }
+        ensures in_time { (k : Keeper) → StandsFor self.now k → IsInTime k result }
+        ensures ahead { (k : Keeper) → StandsFor self.now k → IfSome result (IsAhead k) }
+    {
+        self.timers.next_expiration_time()
     }
 
     /// Returns how many sessions are open.
