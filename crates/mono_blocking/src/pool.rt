@@ -1,5 +1,5 @@
 // A pool of threads over one locked queue.
-ghost use Rattle.std.specs.Prelude.{◌≡◌, ◌-◌, ◌<◌, ◌≤◌, IfOk, OnOk};
+ghost use Rattle.std.specs.Prelude.{◌≡◌, ◌⊎◌, ◌-◌, ◌<◌, ◌≤◌, IfOk, OnOk};
 ghost use Rattle.mono_blocking.specs.Pool.{Offers};
 ghost use Rattle.mono_blocking.specs.declared.strategy.Offered.TheVariants.{Here};
 ghost use Rattle.mono_blocking.specs.Counts.{counted_by, HasRisen};
@@ -26,7 +26,8 @@ pub struct DefaultThreadPool<J: Job> {
 impl<J: Job> DefaultThreadPool<J> {
     /// Asks the spawner for `num_threads` workers, by exactly that number of calls of `start` (`starts`). The spawner's
     /// count of refusals rises by one for each worker that did not start (`exact`). So fewer workers start only if that
-    /// count rose (`fewer`). If the call is out of memory, the workers that started end.
+    /// count rose (`fewer`), and none starts if the spawner can keep no thread (`kept`). If the call is out of memory,
+    /// the workers that started end.
     pub fn new<R: Host + Send + 'static, P: Spawner>(
         rt: &R,
         alloc: Global,
@@ -41,6 +42,7 @@ impl<J: Job> DefaultThreadPool<J> {
         ensures workers { IfOk result (λ pool. pool.workers ≤ num_threads) }
         ensures fewer { IfOk result (λ pool. pool.workers < num_threads → HasRisen (P.refusals spawner.old) (P.refusals spawner.new)) }
         ensures exact { IfOk result (λ pool. P.refusals spawner.new ≡ counted_by (num_threads - pool.workers) (P.refusals spawner.old)) }
+        ensures kept { IfOk result (λ pool. (pool.workers ≡ 0) ⊎ ((s : P) × P.can_keep s)) }
         ensures later { P.refusals spawner.old ≤ P.refusals spawner.new }
     {
         let queue = Arc::new(alloc, Queue::new(alloc))?;
@@ -75,8 +77,8 @@ impl<J: Job> Drop for DefaultThreadPool<J> {
     }
 }
 
-/// A pool without workers runs each task on the caller; otherwise the workers run the tasks in order. A task comes back
-/// if the queue is out of memory; it is never refused.
+/// A pool runs a task on the caller if and only if it has no worker (`here`, `only`); otherwise the workers run the
+/// tasks in order. A task comes back if the queue is out of memory; it is never refused.
 impl<J: Job> ThreadPool for DefaultThreadPool<J> {
     type Job = J;
 
@@ -92,6 +94,7 @@ impl<J: Job> ThreadPool for DefaultThreadPool<J> {
     ) -> Offered
         ensures offer { Offers task.old task.new 0 0 result }
         ensures here { self.old.workers ≡ 0 → (result ≡ Here) × (self.new.workers ≡ 0) }
+        ensures only { result ≡ Here → self.old.workers ≡ 0 }
     {
         if self.workers == 0 {
             return Offered::Here;
@@ -123,6 +126,7 @@ where
     ensures workers { IfOk result (λ started. started ≤ num_threads) }
     ensures fewer { IfOk result (λ started. started < num_threads → HasRisen (P.refusals spawner.old) (P.refusals spawner.new)) }
     ensures exact { IfOk result (λ started. P.refusals spawner.new ≡ counted_by (num_threads - started) (P.refusals spawner.old)) }
+    ensures kept { IfOk result (λ started. (started ≡ 0) ⊎ ((s : P) × P.can_keep s)) }
     ensures later { P.refusals spawner.old ≤ P.refusals spawner.new }
 {
     let mut started = 0;

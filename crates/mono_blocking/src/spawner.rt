@@ -61,8 +61,8 @@ pub trait Spawner {
 
     /// Starts a thread that runs the worker. The count of starts rises by one, at most to 2^64 - 1, for each answer
     /// (`starts`). The count of refusals rises by one if the start is refused, and stays otherwise (`refused`,
-    /// `granted`). So a start is refused only if that count rose in this call (`rose`). A refused start drops its
-    /// worker.
+    /// `granted`). So a start is refused only if that count rose in this call (`rose`). A spawner that can keep no
+    /// thread refuses each start (`kept`). A refused start drops its worker.
     final fn start<R: Host + Send + 'static, J: Job + Send + 'static>(
         &mut self,
         rt: &R,
@@ -75,6 +75,7 @@ pub trait Spawner {
         ensures refused { OnErr result (refusals self.new ≡ counted_by 1 (refusals self.old)) }
         ensures rose { OnErr result (HasRisen (refusals self.old) (refusals self.new)) }
         ensures granted { OnOk result (refusals self.new ≡ refusals self.old) }
+        ensures kept { OnOk result ((spawner : Self) × can_keep spawner) }
     {
         let Some(entry) = self.admit() else {
             return Err(StartFault);

@@ -10,6 +10,7 @@ mod parker;
 mod parts;
 mod recorded_inbox;
 mod registry;
+mod rows;
 mod shares;
 mod standings;
 mod state;

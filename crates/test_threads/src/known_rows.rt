@@ -44,9 +44,9 @@ const FORGOTTEN: &[(u64, bool)] = &[
 
 /// Returns whether a row is known, and all woken tasks are taken.
 fn is_known<R: Host + Abort>(rt: &R, alloc: Global, inbox: &Inbox<NoUnpark>) -> bool {
-    let first = inbox.know_row(rt, alloc, 3, 10000);
-    let second = inbox.know_row(rt, alloc, 7, 7);
-    let third = inbox.know_row(rt, alloc, 20000, 5);
+    let first = inbox.lock(rt).know_row(alloc, 3, 10000);
+    let second = inbox.lock(rt).know_row(alloc, 7, 7);
+    let third = inbox.lock(rt).know_row(alloc, 20000, 5);
     let are_known = (first == 10000) & (second == 7) & (third == 20000);
     are_known & is_listed_so(rt, inbox, KNOWN) & takes(rt, alloc, inbox, &[3, 9999, 4096])
 }
@@ -125,7 +125,7 @@ fn forget_rows<R: Host + Abort>(rt: &R, alloc: Global, inbox: &Inbox<NoUnpark>) 
 
 /// Returns whether rows of known tasks are forgotten, some of which wait.
 fn are_forgotten<R: Host + Abort>(rt: &R, alloc: Global, inbox: &Inbox<NoUnpark>) -> bool {
-    let known = inbox.know_row(rt, alloc, 0, 10000);
+    let known = inbox.lock(rt).know_row(alloc, 0, 10000);
     let wait = is_listed_so(rt, inbox, WAITING);
     forget_rows(rt, alloc, inbox);
     (known == 10000) & wait & is_listed_so(rt, inbox, AFTER_ROWS) & takes(rt, alloc, inbox, LEFT)
@@ -133,7 +133,7 @@ fn are_forgotten<R: Host + Abort>(rt: &R, alloc: Global, inbox: &Inbox<NoUnpark>
 
 /// Returns whether all of them are known again.
 fn are_known_again<R: Host + Abort>(rt: &R, alloc: Global, inbox: &Inbox<NoUnpark>) -> bool {
-    let known = inbox.know_row(rt, alloc, 0, 10000);
+    let known = inbox.lock(rt).know_row(alloc, 0, 10000);
     let are_listed = is_listed_so(rt, inbox, AGAIN);
     (known == 10000) & are_listed & takes(rt, alloc, inbox, &[5, 4096, 9999, 10])
 }

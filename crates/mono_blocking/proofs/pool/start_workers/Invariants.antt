@@ -1,4 +1,4 @@
-use Rattle.std.proofs.Common.{◌≡◌, ◌-◌, ◌≤◌}
+use Rattle.std.proofs.Common.{◌≡◌, ◌-◌, ◌≤◌, ◌⊎◌}
 use Rattle.mono_blocking.specs.Counts.{counted_by}
 use Rattle.mono_blocking.proofs.pool.start_workers.Given as goal
 
@@ -7,3 +7,4 @@ invariant-loop g l =
     (g.P.Spawner.starts l.spawner ≡ counted_by l.counter (g.P.Spawner.starts l.initial.spawner))
     × (g.P.Spawner.refusals l.spawner ≡ counted_by (l.counter - l.started) (g.P.Spawner.refusals l.initial.spawner))
     × (l.started ≤ l.counter)
+    × ((l.started ≡ 0) ⊎ ((s : g.P) × g.P.Spawner.can_keep s))

@@ -1,7 +1,0 @@
-use Rattle.std.proofs.Common.{refl, arith}
-use Rattle.mono_inbox.specs.State.{is_known}
-use Rattle.mono_inbox.proofs.RowLemmas.{row_start}
-use Rattle.mono_inbox.proofs.inbox.know_row_of.Goals as goal
-
-pub loop-next-init : goal.loop-next-init
-loop-next-init c = (omega arith, λ less. less, record { known = λ t. row_start c.args.from t (is_known c.args.state.now.state t); waiting = refl })
