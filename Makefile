@@ -12,7 +12,8 @@
 #                    call that leaves its object as it was is refused memory
 #   make soak-threads  runs larger tests of threads once (1,000,000 parks, 32 workers, 64 threads at an inbox), and repeats
 #                    the others for a minute (SECONDS=n), some of them under valgrind's helgrind
-#   make bench       measures the programs next to plain Rust programs, and prints the tables of docs/PERFORMANCE.md
+#   make bench       measures the programs next to plain Rust programs, which rustc builds, and prints the tables of
+#                    docs/PERFORMANCE.md
 #   make planted     tries the mutants of crates/*/planted on a copy (CRATE=name: of one crate)
 #   make gate-times  the gate from nothing, with the processor seconds of each crate
 
@@ -22,7 +23,7 @@ CRATE =
 SECONDS = 60
 SIZE =
 
-.PHONY: help run build has-rt test examples soak soak-threads try bench planted gate-times
+.PHONY: help run build has-rt has-rustc test examples soak soak-threads try bench planted gate-times
 
 help:
 	@sed -n 's/^#   //p' Makefile
@@ -36,9 +37,12 @@ build: has-rt
 	@python3 tools/progress.py monoio bin/build.log rt run -- --version
 	@cp crates/monoio/out/monoio bin/monoio
 
-# A sentence where the kit is missing.
+# A sentence if a tool is missing.
 has-rt:
 	@command -v rt > /dev/null || { echo 'the Rattle kit is missing: put its command rt on the path'; exit 1; }
+
+has-rustc:
+	@command -v rustc > /dev/null || { echo 'rustc is missing: it builds the plain Rust programs of tools/bench'; exit 1; }
 
 test: has-rt
 	rt ci
@@ -55,7 +59,7 @@ soak: build
 	python3 tools/soak/soak.py bin/monoio $(SECONDS)
 	python3 tools/soak/faults.py bin/monoio
 	python3 tools/soak/scripts.py bin/monoio
-	cd crates/test_out_of_memory && rt run -- send 300 > /dev/null
+	@python3 tools/progress.py test_out_of_memory bin/refused.log rt run -- send 300
 	cp crates/test_out_of_memory/out/test_out_of_memory bin/refused
 	python3 tools/soak/refused.py bin/refused
 
@@ -66,8 +70,8 @@ try: has-rt
 	@echo 'unproved: this runs the program before any proof'
 	@python3 tools/unproved.py bin/monoio-unproved $(WORDS) < $(EXAMPLE)
 
-bench: build
-	cd crates/mono_bench && rt run -- all > /dev/null
+bench: has-rustc build
+	@python3 tools/progress.py mono_bench bin/bench.log rt run -- all
 	@python3 tools/bench/run.py bin/monoio crates/mono_bench/out/mono_bench $(SIZE)
 
 planted: has-rt
