@@ -22,7 +22,7 @@ import below
 BEGINS = re.compile(r"^rt: chose --jobs .* for (\w+)$|^crate (\w+): modules loaded=")
 GOES_ON = re.compile(r"^so far: (.* functions checked)")
 PROVED = re.compile(r"^logic=proved \w+=(\d+)")
-FAILED = re.compile(r": error(\[|:)|^error(\[|:)|: no proof: |: not proved$|^logic=not-proved| NOT PROVED")
+FAILED = re.compile(r": error(\[|:)|^error(\[|:)|: no proof: |: not proved$| NOT PROVED")
 WAITS = re.compile(r"^rt: (.*waiting.*)")
 # How much of the log stands at the end of a command that failed without a line of the kinds above.
 TAIL = 30
@@ -83,13 +83,13 @@ class Progress:
         if line not in self.failures and "no proof: it calls " not in line:
             self.failures.append(line)
 
-    def end(self, status):
+    def end(self, status, log):
         """Shows how the command ended."""
         if status == 0:
             self.done, self.name, self.doing = self.all, "", "all proved"
             self.show()
         else:
-            print("\n".join(self.failures or self.tail), flush=True)
+            print(*(self.failures or self.tail), f"status {status}; the whole text: {log}", sep="\n", flush=True)
 
 
 def lines_of(pipe, seconds):
@@ -119,6 +119,8 @@ def follow(run, progress, log):
 
 
 def main():
+    if len(sys.argv) < 4:
+        sys.exit(__doc__)
     crate, log, command = sys.argv[1], sys.argv[2], sys.argv[3:]
     below.need_rt()
     for it in (signal.SIGINT, signal.SIGTERM, signal.SIGHUP):
@@ -128,7 +130,7 @@ def main():
     run = subprocess.Popen(command, cwd=folder, stdin=subprocess.DEVNULL, stdout=subprocess.PIPE, stderr=subprocess.STDOUT)
     try:
         status = follow(run, progress, log)
-        progress.end(status)
+        progress.end(status, log)
     except BrokenPipeError:
         # Whoever read the lines has gone, so what Python still has to write goes nowhere.
         os.dup2(os.open(os.devnull, os.O_WRONLY), sys.stdout.fileno())
