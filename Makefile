@@ -50,7 +50,7 @@ test: has-rt
 examples: build
 	@for input in examples/*.events; do \
 	    words=$$(cat $${input%.events}.words 2> /dev/null || echo '$(WORDS)'); \
-	    bin/monoio $$words < $$input | cmp -s - $${input%.events}.reports \
+	    bin/monoio $$words < $$input 2> /dev/null | cmp -s - $${input%.events}.reports \
 	        || { echo "$$input: not the stored reports"; exit 1; }; \
 	done; echo 'each example has its stored reports'
 	@python3 tools/man_page.py bin/monoio
