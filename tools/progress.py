@@ -124,7 +124,9 @@ def main():
     crate, log, command = sys.argv[1], sys.argv[2], sys.argv[3:]
     below.need_rt()
     for it in (signal.SIGINT, signal.SIGTERM, signal.SIGHUP):
-        signal.signal(it, lambda number, _: sys.exit(128 + number))
+        # A signal that the caller ignores, as nohup does, stays so.
+        if signal.getsignal(it) is not signal.SIG_IGN:
+            signal.signal(it, lambda number, _: sys.exit(128 + number))
     progress = Progress(crate)
     folder = os.path.join(below.TOP, "crates", crate)
     run = subprocess.Popen(command, cwd=folder, stdin=subprocess.DEVNULL, stdout=subprocess.PIPE, stderr=subprocess.STDOUT)
