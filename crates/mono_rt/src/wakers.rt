@@ -104,10 +104,7 @@ impl<U: Unpark> Wakers<U> {
     /// Makes this task and a row of tasks after it known, as far as memory lasts.
     fn know<R: Host>(&mut self, rt: &R, alloc: Global, task: u64) {
         let until = task.saturating_add(LOT as u64);
-        self.known = self
-            .inbox
-            .lock(rt)
-            .know_row(alloc, self.known, until);
+        self.known = self.inbox.lock(rt).know_row(alloc, self.known, until);
     }
 
     /// Records that the task ended, with its waker (`closed`). The task is made unknown with others, at the latest by
