@@ -25,6 +25,8 @@ use Rattle.mono_blocking.specs.declared.jobs.refusals.PollJob.{PollJob}
 use Rattle.mono_blocking.specs.declared.jobs.refusals.PollJob.TheVariants as polling
 use Rattle.mono_rt.specs.JobActs.{lacks_after, AsksJob, PollsJob}
 use Rattle.mono_rt.specs.Spawns.{lacks_spawn}
+use Rattle.mono_rt.specs.Remains.{NotesMemory as NotesLack}
+use Rattle.mono_rt.specs.declared.contexts.Cx.{Cx}
 use Rattle.mono_rt.specs.declared.parts.state.Parts.{Parts}
 
 module _ {O F : Type 0} where
@@ -80,3 +82,13 @@ found j (Ok false) old new shown = shown.0
 found j (Ok true) old new (inl told) = inl told
 found j (Ok true) old new (inr seen) = inr seen.0
 found j (Err e) old new shown = shown
+
+-- a further waker was refused, or handed out
+module _ {F O P U W J A V X E : Type 0} where
+  pub lack_noted : (answer : Result X E) (c d : Cx F O P U W J A V) → OnErr answer (NotesLack c d) → OnErr answer (d.parts.is_out_of_memory ≡ true)
+  lack_noted (Ok x) c d noted = tt
+  lack_noted (Err e) c d noted = ap (λ x. x.parts.is_out_of_memory) noted
+
+  pub lack_work : (answer : Result X E) (c d : Cx F O P U W J A V) → OnOk answer (d ≡ c) → OnErr answer (NotesLack c d) → without_outputs d.parts.tasks.tasks ≡ without_outputs c.parts.tasks.tasks
+  lack_work (Ok x) c d same noted = ap (λ x. without_outputs x.parts.tasks.tasks) same
+  lack_work (Err e) c d same noted = ap (λ x. without_outputs x.parts.tasks.tasks) noted

@@ -117,7 +117,7 @@ impl<F: Drop, O: Outcome + Drop, P: ThreadPool + Drop, U: Unpark, W: SharedState
 }
 
 /// Returns a further waker of this task, if the waker is its own and a clone could be made.
-pub(crate) fn hand_out<U: Unpark>(
+fn hand_out<U: Unpark>(
     waker: &mut Option<RemoteWaker<U>>,
     task: u64,
 ) -> Result<RemoteWaker<U>, AllocError>

@@ -5,7 +5,7 @@ ghost use Rattle.mono_rt.specs.Reaches.{ReachesSharing};
 ghost use Rattle.mono_blocking.specs.JobSpawns.{strategy_of, refusals_of};
 ghost use Rattle.mono_rt.specs.Views.{OnParts, ChangesParts};
 
-use crate::contexts::{Cx, hand_out};
+use crate::contexts::Cx;
 use mono_blocking::{
     Job, JobContext, JobHandle, JobWaker, OutputOf, PollJob, RemoteContext, SpawnError, ThreadPool,
 };
@@ -161,6 +161,6 @@ impl<
     W: SharedState + Drop,
 > RemoteContext<U> for Cx<F, O, P, U, W> {
     fn remote_waker(&mut self) -> Result<RemoteWaker<U>, AllocError> {
-        hand_out(&mut self.waker, self.parts.me)
+        Cx::remote_waker(self)
     }
 }
