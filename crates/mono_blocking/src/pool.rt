@@ -26,7 +26,7 @@ pub struct DefaultThreadPool<J: Job> {
 impl<J: Job> DefaultThreadPool<J> {
     /// Asks the spawner for `num_threads` workers, by exactly that number of calls of `start` (`starts`). The spawner's
     /// count of refusals rises by one for each worker that did not start (`exact`). So fewer workers start only if that
-    /// count rose (`fewer`), and none starts if the spawner can keep no thread (`kept`). If the call is out of memory,
+    /// count rose (`fewer`), and none starts if the spawner admits none (`admits`). If the call is out of memory,
     /// the workers that started end.
     pub fn new<R: Host + Send + 'static, P: Spawner>(
         rt: &R,
@@ -42,7 +42,7 @@ impl<J: Job> DefaultThreadPool<J> {
         ensures workers { IfOk result (λ pool. pool.workers ≤ num_threads) }
         ensures fewer { IfOk result (λ pool. pool.workers < num_threads → HasRisen (P.refusals spawner.old) (P.refusals spawner.new)) }
         ensures exact { IfOk result (λ pool. P.refusals spawner.new ≡ counted_by (num_threads - pool.workers) (P.refusals spawner.old)) }
-        ensures kept { IfOk result (λ pool. (pool.workers ≡ 0) ⊎ ((s : P) × P.can_keep s)) }
+        ensures admits { IfOk result (λ pool. (pool.workers ≡ 0) ⊎ ((s : P) × P.has_admitted s)) }
         ensures later { P.refusals spawner.old ≤ P.refusals spawner.new }
     {
         let queue = Arc::new(alloc, Queue::new(alloc))?;
@@ -126,7 +126,7 @@ where
     ensures workers { IfOk result (λ started. started ≤ num_threads) }
     ensures fewer { IfOk result (λ started. started < num_threads → HasRisen (P.refusals spawner.old) (P.refusals spawner.new)) }
     ensures exact { IfOk result (λ started. P.refusals spawner.new ≡ counted_by (num_threads - started) (P.refusals spawner.old)) }
-    ensures kept { IfOk result (λ started. (started ≡ 0) ⊎ ((s : P) × P.can_keep s)) }
+    ensures admits { IfOk result (λ started. (started ≡ 0) ⊎ ((s : P) × P.has_admitted s)) }
     ensures later { P.refusals spawner.old ≤ P.refusals spawner.new }
 {
     let mut started = 0;

@@ -41,11 +41,15 @@ pub trait Spawner {
     /// Whether one more thread can be kept.
     ghost can_keep: { Self → Type 0 } = { λ _. ⊤ };
 
+    /// What holds of a spawner that has just admitted a start: ⊥ if it admits none.
+    ghost has_admitted: { Self → Type 0 } = { λ _. ⊤ };
+
     /// Counts a start, and returns the code that the thread runs first. Returns `None`, and counts a refusal, if no
     /// thread may be made.
     fn admit(&mut self) -> Option<Self::Entry>
         ensures starts { starts self.new ≡ counted_by 1 (starts self.old) }
         ensures admitted { IfSome result (λ _. can_keep self.new × (refusals self.new ≡ refusals self.old)) }
+        ensures granted { IfSome result (λ _. has_admitted self.new) }
         ensures refused { IfNone result (refusals self.new ≡ counted_by 1 (refusals self.old)) };
 
     /// Keeps the thread that was made for an admitted start.
@@ -61,8 +65,8 @@ pub trait Spawner {
 
     /// Starts a thread that runs the worker. The count of starts rises by one, at most to 2^64 - 1, for each answer
     /// (`starts`). The count of refusals rises by one if the start is refused, and stays otherwise (`refused`,
-    /// `granted`). So a start is refused only if that count rose in this call (`rose`). A spawner that can keep no
-    /// thread refuses each start (`kept`). A refused start drops its worker.
+    /// `granted`). So a start is refused only if that count rose in this call (`rose`). A spawner that admits no start
+    /// refuses each (`admits`). A refused start drops its worker.
     final fn start<R: Host + Send + 'static, J: Job + Send + 'static>(
         &mut self,
         rt: &R,
@@ -75,7 +79,7 @@ pub trait Spawner {
         ensures refused { OnErr result (refusals self.new ≡ counted_by 1 (refusals self.old)) }
         ensures rose { OnErr result (HasRisen (refusals self.old) (refusals self.new)) }
         ensures granted { OnOk result (refusals self.new ≡ refusals self.old) }
-        ensures kept { OnOk result ((spawner : Self) × can_keep spawner) }
+        ensures admits { OnOk result ((spawner : Self) × has_admitted spawner) }
     {
         let Some(entry) = self.admit() else {
             return Err(StartFault);

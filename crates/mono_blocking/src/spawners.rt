@@ -1,5 +1,5 @@
 // A spawner that refuses each start, and a spawner that starts threads and joins them.
-ghost use Rattle.std.specs.Prelude.{◌≡◌, ◌<◌, IsNone, IfNone, IfSome};
+ghost use Rattle.std.specs.Prelude.{◌≡◌, ◌<◌, IsNone, IfNone, IfSome, ⊤};
 ghost use Rattle.std.specs.Vec.{vec_len, vec_capacity};
 ghost use Rattle.mono_blocking.specs.Counts.{counted_by};
 
@@ -43,7 +43,7 @@ impl Asked {
     }
 }
 
-/// A spawner that refuses each start: it can keep no thread (`can_keep`).
+/// A spawner that refuses each start: it admits none (`has_admitted`).
 #[derive(Drop)]
 pub struct NoSpawner {
     asked: Asked,
@@ -68,12 +68,13 @@ impl Spawner for NoSpawner {
 
     ghost refusals = { λ spawner. spawner.asked.refusals };
 
-    ghost can_keep = { λ _. ⊥ };
+    ghost has_admitted = { λ _. ⊥ };
 
     fn admit(&mut self) -> Option<()>
         ensures starts { self.new.asked.starts ≡ counted_by 1 self.old.asked.starts }
         ensures none { IsNone result }
-        ensures admitted { IfSome result (λ _. ⊥ × (self.new.asked.refusals ≡ self.old.asked.refusals)) }
+        ensures admitted { IfSome result (λ _. ⊤ × (self.new.asked.refusals ≡ self.old.asked.refusals)) }
+        ensures granted { IfSome result (λ _. ⊥) }
         ensures refused { IfNone result (self.new.asked.refusals ≡ counted_by 1 self.old.asked.refusals) }
     {
         self.asked.count();
@@ -82,7 +83,7 @@ impl Spawner for NoSpawner {
     }
 
     fn keep(&mut self, thread: JoinHandle<()>)
-        requires { ⊥ }
+        requires { ⊤ }
         ensures starts { self.new.asked.starts ≡ self.old.asked.starts }
         ensures refusals { self.new.asked.refusals ≡ self.old.asked.refusals }
     {

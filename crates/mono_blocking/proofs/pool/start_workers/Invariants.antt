@@ -7,4 +7,4 @@ invariant-loop g l =
     (g.P.Spawner.starts l.spawner ≡ counted_by l.counter (g.P.Spawner.starts l.initial.spawner))
     × (g.P.Spawner.refusals l.spawner ≡ counted_by (l.counter - l.started) (g.P.Spawner.refusals l.initial.spawner))
     × (l.started ≤ l.counter)
-    × ((l.started ≡ 0) ⊎ ((s : g.row.P.Denot) × g.P.Spawner.can_keep s))
+    × ((l.started ≡ 0) ⊎ ((s : g.row.P.Denot) × g.P.Spawner.has_admitted s))

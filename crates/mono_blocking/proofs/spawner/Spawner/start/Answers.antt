@@ -1,4 +1,4 @@
 use Rattle.mono_blocking.proofs.spawner.Spawner.start.Goals as goal
 
-pub returns-in-Ok-clause-kept : goal.returns-in-Ok-clause-kept
-returns-in-Ok-clause-kept g c = (c.admit.new.self, c.in-Some.ensures.admitted.0)
+pub returns-in-Ok-clause-admits : goal.returns-in-Ok-clause-admits
+returns-in-Ok-clause-admits g c = (c.admit.new.self, c.in-Some.ensures.granted)
