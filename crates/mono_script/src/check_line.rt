@@ -58,11 +58,13 @@ pub(crate) fn output_of_check(
             status: Status::Done,
             text: yes(alloc)?,
             bad_line: None,
+            waits: Vec::new(alloc),
         }),
         Answer::No(failure) => Ok(Output {
             status: Status::NotARun,
             text: no(alloc, failure.line)?,
             bad_line: None,
+            waits: Vec::new(alloc),
         }),
     }
 }

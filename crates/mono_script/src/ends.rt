@@ -9,6 +9,7 @@ ghost use Rattle.mono_script.specs.Checks.{FailsFor};
 use crate::check_line::failure_of;
 use crate::command::Command;
 use crate::line_words::fault;
+use mono_run::TaskWait;
 use mono_text::Fault;
 use mono_trace_lines::Failure;
 use std::alloc::{AllocError, Global};
@@ -58,12 +59,13 @@ impl Status {
     }
 }
 
-// The bytes to write, the status after them, and the first bad line if one is named.
+// The bytes to write, the status after them, the first bad line if one is named, and the live tasks that are left.
 #[derive(Drop)]
 pub(crate) struct Output {
     pub status: Status,
     pub text: Vec<u8>,
     pub bad_line: Option<usize>,
+    pub waits: Vec<TaskWait>,
 }
 
 /// The end of a command.
@@ -77,6 +79,8 @@ pub struct Ended {
     pub(crate) input: Vec<u8>,
     /// The first bad line, if one was named.
     pub(crate) bad_line: Option<usize>,
+    /// The live tasks of a run that spent its budget.
+    pub(crate) waits: Vec<TaskWait>,
 }
 
 impl Ended {
@@ -90,6 +94,7 @@ impl Ended {
             status,
             input: Vec::new(alloc),
             bad_line: None,
+            waits: Vec::new(alloc),
         }
     }
 
@@ -105,6 +110,12 @@ impl Ended {
         ensures { result ≡ self.now.bad_line }
     {
         self.bad_line
+    }
+
+    /// Returns the live tasks of a run that spent its budget, with the sources for which they wait. The list is empty
+    /// for each other end, if the script's limit of tasks is above 4096, and if there was no memory for the list.
+    pub fn waits(&self) -> &[TaskWait] {
+        &self.waits
     }
 
     /// Returns the fault of the first bad line: why it is no line of the command, and the word that shows it. The fault
@@ -146,5 +157,6 @@ pub(crate) fn bad_line(alloc: Global, n: usize) -> Result<Output, AllocError>
         status: Status::BadLine,
         text,
         bad_line: Some(n),
+        waits: Vec::new(alloc),
     })
 }

@@ -45,5 +45,6 @@ pub(crate) fn output_of_load(
         status: Status::Done,
         text: line_of(alloc, sum)?,
         bad_line: None,
+        waits: Vec::new(alloc),
     })
 }

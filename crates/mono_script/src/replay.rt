@@ -103,6 +103,7 @@ pub(crate) fn output_of_replay(
             status: Status::Done,
             text,
             bad_line: None,
+            waits: Vec::new(alloc),
         }),
     }
 }

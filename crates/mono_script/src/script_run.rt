@@ -42,6 +42,7 @@ pub(crate) fn output_of_run<R: Host + Send + 'static, C: Clock + Drop, P: Spawne
                 status: status_of(run.end),
                 text: run.text,
                 bad_line: None,
+                waits: run.waits,
             })
         }
     }

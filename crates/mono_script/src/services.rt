@@ -18,6 +18,7 @@ pub(crate) fn output_of(alloc: Global, served: Served) -> Result<Output, AllocEr
             status: Status::Done,
             text,
             bad_line: None,
+            waits: Vec::new(alloc),
         }),
     }
 }

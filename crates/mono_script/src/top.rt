@@ -137,6 +137,7 @@ fn carry_out<S: Source, K: Sink, R: Host + Send + 'static, C: Clock + Drop, P: S
             status: write_output(sink, output.status, &output.text),
             input,
             bad_line: output.bad_line,
+            waits: output.waits,
         },
         Err(_) => Ended::without_input(alloc, command, Status::OutOfMemory),
     }

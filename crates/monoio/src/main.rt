@@ -90,11 +90,21 @@ fn failure_text(alloc: Global, ended: &Ended) -> Result<String, AllocError> {
     }
 }
 
+// Prints that the budget was spent, and the live tasks with the sources for which they wait.
+fn tell_turns(rt: &HostRuntime, ended: &Ended) {
+    let spent = "the run had no turn left; the output is what it did";
+    say(rt, String::from_str(rt.alloc(), spent));
+    for wait in ended.waits() {
+        let _ = eprintln!(rt; "monoio: {wait}");
+    }
+}
+
 // Prints why the command ended. It prints nothing for a closed pipe downstream.
 fn tell(rt: &HostRuntime, command: &str, ended: &Ended, source: &StdinSource, sink: &StdoutSink) {
     match ended.status() {
         Status::BadLine => say(rt, bad_line_text(rt.alloc(), command, ended)),
         Status::NotARun => say(rt, failure_text(rt.alloc(), ended)),
+        Status::Turns => tell_turns(rt, ended),
         status => tell_status(rt, status, source, sink),
     }
 }
@@ -109,10 +119,6 @@ fn tell_status(rt: &HostRuntime, status: Status, source: &StdinSource, sink: &St
             system_text(alloc, "standard input can't be read", source.error()),
         ),
         Status::WriteFault => tell_unwritten(rt, sink.error()),
-        Status::Turns => say(
-            rt,
-            String::from_str(alloc, "the run had no turn left; the output is what it did"),
-        ),
         Status::Capacity => say(
             rt,
             String::from_str(

@@ -1,6 +1,6 @@
 //! The top call from bytes to bytes: the promises on which a caller may rely, and tests that no plain example has.
-//! These are calls that fail, inputs that are no text or have no end, long inputs, a clock that is read, and a worker
-//! that begins late.
+//! These are calls that fail, inputs that are no text or have no end, long inputs, a clock that is read, a worker
+//! that begins late, and the live tasks of a run that spent its budget.
 #![tactic(auto)]
 
 mod caller;
@@ -8,6 +8,8 @@ mod caller;
 mod cases;
 #[cfg(test)]
 mod late;
+#[cfg(test)]
+mod live_tasks;
 #[cfg(test)]
 mod many;
 #[cfg(test)]

@@ -23,8 +23,8 @@ fn listed(alloc: Global, call: Option<u64>) -> Result<Vec<u64>, AllocError> {
     Ok(calls)
 }
 
-// Returns a clock that always reads `millis` milliseconds.
-fn clock_at(alloc: Global, millis: u64) -> Option<ListClock> {
+/// Returns a clock that always reads `millis` milliseconds.
+pub(crate) fn clock_at(alloc: Global, millis: u64) -> Option<ListClock> {
     let instant = Instant::from_nanos(u128::from(millis) * 1000000)?;
     let mut readings = Vec::new(alloc);
     readings.push(instant).ok()?;
