@@ -113,8 +113,10 @@ impl Ended {
     }
 
     /// Returns the live tasks of a run that spent its budget, with the sources for which they wait. The list is empty
-    /// for each other end, if the script's limit of tasks is above 4096, and if there was no memory for the list.
-    pub fn waits(&self) -> &[TaskWait] {
+    /// for each other command and run, if the script's limit of tasks is above 4096, and if there was no memory for it.
+    pub fn waits(&self) -> &[TaskWait]
+        ensures { result.now ≡ self.now.waits.items }
+    {
         &self.waits
     }
 
