@@ -9,3 +9,4 @@ pub mod BadLineLemmas
 pub mod NumberLemmas
 pub mod MainPlaceLemmas
 pub mod FollowLemmas
+pub mod TopCallLemmas

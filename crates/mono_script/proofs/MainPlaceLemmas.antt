@@ -15,7 +15,7 @@ use Rattle.mono_script.specs.Endings.{Ends, IsInput, IsRead, status_code, max_in
 use Rattle.mono_script.specs.Meanings.{running, run_status}
 use Rattle.mono_script.specs.declared.command.Command.TheVariants as command
 use Rattle.mono_script.specs.declared.ends.Status.{Status}
-use Rattle.mono_script.proofs.StatusLemmas.{sound, capacity, answer_to_good}
+use Rattle.mono_script.proofs.StatusLemmas.{sound, answer_to_good}
 
 -- ---- an input spells one limit of tasks
 

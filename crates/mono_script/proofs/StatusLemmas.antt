@@ -42,80 +42,6 @@ sound readings (command.Limiter buckets retries) = sound_serving limiter_line.ca
 sound readings (command.Actors actors messages) = sound_serving line_text FitsLine Answers (no_actors actors messages)
 sound readings (command.Check l g) = sound_checking l g
 
--- ---- one status, one number
-
-pub done : (s : Status) → status_code s ≡ 0 → s ≡ status.Done
-done status.Done e = refl
-done status.Usage e = absurd (omega (arith, e))
-done status.BadLine e = absurd (omega (arith, e))
-done status.ReadFault e = absurd (omega (arith, e))
-done status.WriteFault e = absurd (omega (arith, e))
-done status.OutOfMemory e = absurd (omega (arith, e))
-done status.TooLong e = absurd (omega (arith, e))
-done status.Turns e = absurd (omega (arith, e))
-done status.Capacity e = absurd (omega (arith, e))
-done status.NotARun e = absurd (omega (arith, e))
-
-pub not_a_run : (s : Status) → status_code s ≡ 11 → s ≡ status.NotARun
-not_a_run status.NotARun e = refl
-not_a_run status.Done e = absurd (omega (arith, e))
-not_a_run status.Usage e = absurd (omega (arith, e))
-not_a_run status.BadLine e = absurd (omega (arith, e))
-not_a_run status.ReadFault e = absurd (omega (arith, e))
-not_a_run status.WriteFault e = absurd (omega (arith, e))
-not_a_run status.OutOfMemory e = absurd (omega (arith, e))
-not_a_run status.TooLong e = absurd (omega (arith, e))
-not_a_run status.Turns e = absurd (omega (arith, e))
-not_a_run status.Capacity e = absurd (omega (arith, e))
-
-pub bad_line : (s : Status) → status_code s ≡ 3 → s ≡ status.BadLine
-bad_line status.BadLine e = refl
-bad_line status.Done e = absurd (omega (arith, e))
-bad_line status.Usage e = absurd (omega (arith, e))
-bad_line status.ReadFault e = absurd (omega (arith, e))
-bad_line status.WriteFault e = absurd (omega (arith, e))
-bad_line status.OutOfMemory e = absurd (omega (arith, e))
-bad_line status.TooLong e = absurd (omega (arith, e))
-bad_line status.Turns e = absurd (omega (arith, e))
-bad_line status.Capacity e = absurd (omega (arith, e))
-bad_line status.NotARun e = absurd (omega (arith, e))
-
-pub write_fault : (s : Status) → status_code s ≡ 5 → s ≡ status.WriteFault
-write_fault status.WriteFault e = refl
-write_fault status.Done e = absurd (omega (arith, e))
-write_fault status.Usage e = absurd (omega (arith, e))
-write_fault status.BadLine e = absurd (omega (arith, e))
-write_fault status.ReadFault e = absurd (omega (arith, e))
-write_fault status.OutOfMemory e = absurd (omega (arith, e))
-write_fault status.TooLong e = absurd (omega (arith, e))
-write_fault status.Turns e = absurd (omega (arith, e))
-write_fault status.Capacity e = absurd (omega (arith, e))
-write_fault status.NotARun e = absurd (omega (arith, e))
-
-pub turns : (s : Status) → status_code s ≡ 8 → s ≡ status.Turns
-turns status.Turns e = refl
-turns status.Done e = absurd (omega (arith, e))
-turns status.Usage e = absurd (omega (arith, e))
-turns status.BadLine e = absurd (omega (arith, e))
-turns status.ReadFault e = absurd (omega (arith, e))
-turns status.WriteFault e = absurd (omega (arith, e))
-turns status.OutOfMemory e = absurd (omega (arith, e))
-turns status.TooLong e = absurd (omega (arith, e))
-turns status.Capacity e = absurd (omega (arith, e))
-turns status.NotARun e = absurd (omega (arith, e))
-
-pub capacity : (s : Status) → status_code s ≡ 10 → s ≡ status.Capacity
-capacity status.Capacity e = refl
-capacity status.Done e = absurd (omega (arith, e))
-capacity status.Usage e = absurd (omega (arith, e))
-capacity status.BadLine e = absurd (omega (arith, e))
-capacity status.ReadFault e = absurd (omega (arith, e))
-capacity status.WriteFault e = absurd (omega (arith, e))
-capacity status.OutOfMemory e = absurd (omega (arith, e))
-capacity status.TooLong e = absurd (omega (arith, e))
-capacity status.Turns e = absurd (omega (arith, e))
-capacity status.NotARun e = absurd (omega (arith, e))
-
 -- ---- when a status is returned
 
 longer : (left : Option (List ℕ)) (input : List ℕ) → left ≡ Some input → IsLongerThan max_input left → max_input < length input
@@ -259,9 +185,3 @@ rose_in_writing status.TooLong old new stays less = absurd (omega (arith, less, 
 rose_in_writing status.NotARun old new stays less = absurd (omega (arith, less, stays (λ e. omega (arith, ap status_code e))))
 rose_in_writing status.Turns old new stays less = absurd (omega (arith, less, stays (λ e. omega (arith, ap status_code e))))
 rose_in_writing status.Capacity old new stays less = absurd (omega (arith, less, stays (λ e. omega (arith, ap status_code e))))
-
--- ---- the meaning of a number
-
-pub says : (m : Meaning) (left rest before after : Option (List ℕ)) (R W : Type 0) (code n : ℕ) (s t : Status)
-    → code ≡ status_code s → Ends m left rest before after R W s → code ≡ n → (status_code s ≡ n → s ≡ t) → Ends m left rest before after R W t
-says m left rest before after R W code n s t e p is same = subst (Ends m left rest before after R W) (same (sym e ∙ is)) p

@@ -7,3 +7,4 @@ pub mod Meanings
 pub mod LineWords
 pub mod Checks
 pub mod Follows
+pub mod TopCall

@@ -1,14 +1,13 @@
 // How the program exits, by the command's end and by its words.
 ghost use Rattle.std.specs.Prelude.{◌≡◌, ◌≢◌, ◌↔◌, true, IfSome, IfNone, IsTrue, drop};
-ghost use Rattle.mono_script.specs.Endings.{status_code};
+ghost use Rattle.mono_script.specs.TopCall.{code_of};
 ghost use Rattle.mono_script.specs.declared.ends.Status.TheVariants as status;
 
 use crate::ends::{Ended, Status};
 
 /// Returns the number with which a program ends: that of the command's status, or 2 if the words were no command.
 pub fn exit_code(ended: &Option<Ended>) -> u8
-    ensures some { IfSome ended.now (λ e. result ≡ status_code e.status) }
-    ensures none { IfNone ended.now (result ≡ 2) }
+    ensures { result ≡ code_of ended.now }
 {
     match ended {
         Some(ended) => ended.status.code(),

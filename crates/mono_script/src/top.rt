@@ -1,12 +1,10 @@
 // The top call: words, source and sink to a status.
-ghost use Rattle.std.specs.Prelude.{◌≡◌, ◌≢◌, ◌≤◌, ◌<◌, ◌↔◌, ◌⊎◌, true, false, List, ℕ, Option, Some, None, length, IfOk, IfSome, IfNone, IsErrOf, map, string_bytes};
+ghost use Rattle.std.specs.Prelude.{◌≡◌, ◌≢◌, ◌≤◌, ◌<◌, ◌⊎◌, true, false, List, ℕ, Option, None, IfOk, IfSome, IfNone, IsErrOf, map, string_bytes};
 ghost use Rattle.mono_text.specs.Environment.{HasRisen, IsLongerThan};
 ghost use Rattle.mono_script.specs.Command.{FitsCommand, IsCommand, IsNoCommand};
-ghost use Rattle.mono_script.specs.Endings.{HasInput, IsInput, HasAnswered, NamesBadLine, IsCutShort, IsRead, IsLine, IsOutput, IsAnswered, Ends, IsWritten, Asks, status_code, max_input};
+ghost use Rattle.mono_script.specs.Endings.{HasInput, IsLine, IsOutput, Ends, IsWritten, Asks, max_input};
 ghost use Rattle.mono_script.specs.Meanings.{meaning};
-ghost use Rattle.mono_run.specs.Script.{Script};
-ghost use Rattle.mono_run.specs.ScriptText.{Spells};
-ghost use Rattle.mono_script.specs.declared.command.Command.TheVariants as command;
+ghost use Rattle.mono_script.specs.TopCall.{CarriesOut, code_of, view_of};
 ghost use Rattle.mono_script.specs.declared.ends.Status.TheVariants as status;
 ghost use Rattle.mono_text.specs.declared.source.InputError.TheVariants as input_error;
 
@@ -14,6 +12,7 @@ use crate::actor_calls::output_of_actors;
 use crate::check_line::output_of_check;
 use crate::command::{Command, read_command};
 use crate::ends::{Ended, Output, Status};
+use crate::exits::exit_code;
 use crate::limiter_lines::output_of_limiter;
 use crate::load_line::output_of_load;
 use crate::replay::output_of_replay;
@@ -144,8 +143,8 @@ fn carry_out<S: Source, K: Sink, R: Host + Send + 'static, C: Clock + Drop, P: S
 }
 
 /// Carries out the command as [`program`] does, and returns its end: the status, the input that was read, and the first
-/// bad line if one was named. It returns None if and only if the words are no command (`none`, `command`); then nothing
-/// is read or written.
+/// bad line if one was named. The clause `ends` is the contract of `program`, with the number that [`exit_code`] gives.
+/// It returns None if and only if the words are no command (`none`, `command`).
 pub fn explained<S: Source, K: Sink, C: Clock + Drop, P: Spawner, R: Host + Send + 'static>(
     rt: &R,
     alloc: Global,
@@ -155,19 +154,12 @@ pub fn explained<S: Source, K: Sink, C: Clock + Drop, P: Spawner, R: Host + Send
     clock: C,
     spawner: &mut P,
 ) -> Option<Ended>
+    ensures ends { CarriesOut (map string_bytes words.now.items) (C.readings clock) (view_of (S.left source.old) (S.faults source.old) (K.written sink.old) (K.faults sink.old) (P.starts spawner.old)) (view_of (S.left source.new) (S.faults source.new) (K.written sink.new) (K.faults sink.new) (P.starts spawner.new)) (code_of result) }
     ensures none { IfNone result (IsNoCommand (map string_bytes words.now.items)) }
-    ensures untouched { IfNone result ((S.left source.new ≡ S.left source.old) × (S.faults source.new ≡ S.faults source.old) × (K.written sink.new ≡ K.written sink.old) × (K.faults sink.new ≡ K.faults sink.old)) }
     ensures command { IfSome result (λ e. IsCommand (map string_bytes words.now.items) e.command) }
-    ensures ends { IfSome result (λ e. Ends (meaning (C.readings clock) e.command) (S.left source.old) (S.left source.new) (K.written sink.old) (K.written sink.new) (HasRisen (S.faults source.old) (S.faults source.new)) (HasRisen (K.faults sink.old) (K.faults sink.new)) e.status) }
     ensures line { IfSome result (λ e. e.status ≡ status.BadLine → IsLine (meaning (C.readings clock) e.command) e.input.items status.BadLine e.bad_line) }
     ensures input { IfSome result (λ e. e.status ≡ status.BadLine → HasInput (meaning (C.readings clock) e.command).reads (S.left source.old) e.input.items (S.left source.new)) }
     ensures checked { IfSome result (λ e. e.status ≡ status.NotARun → HasInput (meaning (C.readings clock) e.command).reads (S.left source.old) e.input.items (S.left source.new)) }
-    ensures later { (S.faults source.old ≤ S.faults source.new) × (K.faults sink.old ≤ K.faults sink.new) }
-    ensures read_stays { IfSome result (λ e. e.status ≢ status.ReadFault → S.faults source.new ≡ S.faults source.old) }
-    ensures write_stays { IfSome result (λ e. e.status ≢ status.WriteFault → K.faults sink.new ≡ K.faults sink.old) }
-    ensures unread { IfSome result (λ e. (meaning (C.readings clock) e.command).reads ≡ false → S.left source.new ≡ S.left source.old) }
-    ensures asks { IfSome result (λ e. Asks (meaning (C.readings clock) e.command).workers (P.starts spawner.old) (P.starts spawner.new) e.status) }
-    ensures unasked { IfNone result (P.starts spawner.new ≡ P.starts spawner.old) }
 {
     match read_command(words) {
         Some(command) => Some(carry_out(rt, alloc, command, source, sink, clock, spawner)),
@@ -176,13 +168,15 @@ pub fn explained<S: Source, K: Sink, C: Clock + Drop, P: Spawner, R: Host + Send
 }
 
 /// Carries out the command that the words spell: reads the source, makes the answer and writes it. The words are those
-/// after the program's name.
+/// after the program's name. It returns the number of the status.
 ///
-/// One record (`Meaning`) defines a command. It says whether the command reads, and for how many threads it asks; which
-/// input is good, and which line of another is the first bad one. It also says which status and output answer a good
-/// input, if the clock exposes these readings. Each status has a clause of its name that gives its meaning, for every
-/// command. The clauses `usage`, `too_long_where` and `bad_line_where` give the conditions, as an if and only if, in
-/// the order of usage, reading, bad line, writing.
+/// The contract is one record, `CarriesOut` (`specs/TopCall`), and [`explained`] has the same. Another record
+/// (`Meaning`) defines a command. It says whether the command reads, and for how many threads it asks; which input is
+/// good, and which line of another is the first bad one. It also says which status and output answer a good input, if
+/// the clock exposes these readings.
+///
+/// Each status has a field of its name that gives its meaning, for every command. The fields `usage`, `too_long_where`
+/// and `bad_line_where` give the conditions, as an if and only if, in the order of usage, reading, bad line, writing.
 ///
 /// A read or a write fault is returned only if the count of that object rose in this call, and whenever it rose
 /// (`read_fault_where`, `write_fault_where`). It may run out of memory at any time before the first write. `complete`
@@ -191,7 +185,7 @@ pub fn explained<S: Source, K: Sink, C: Clock + Drop, P: Spawner, R: Host + Send
 ///
 /// `starts` says by the status how often the spawner was asked for a thread. A run that is answered asked for each of
 /// its workers, a run that ended before that asked for none, and no other command asks. Words that are no command ask
-/// for none (`no_starts`).
+/// for none (`untouched`).
 pub fn program<S: Source, K: Sink, C: Clock + Drop, P: Spawner, R: Host + Send + 'static>(
     rt: &R,
     alloc: Global,
@@ -201,31 +195,8 @@ pub fn program<S: Source, K: Sink, C: Clock + Drop, P: Spawner, R: Host + Send +
     clock: C,
     spawner: &mut P,
 ) -> u8
-    ensures usage { result ≡ 2 ↔ IsNoCommand (map string_bytes words.now.items) }
-    ensures untouched { result ≡ 2 → (S.left source.new ≡ S.left source.old) × (K.written sink.new ≡ K.written sink.old) }
-    ensures done { result ≡ 0 → (c : Command) → IsCommand (map string_bytes words.now.items) c → HasAnswered (meaning (C.readings clock) c) status.Done (S.left source.old) (S.left source.new) (K.written sink.old) (K.written sink.new) }
-    ensures not_a_run { result ≡ 11 → (c : Command) → IsCommand (map string_bytes words.now.items) c → HasAnswered (meaning (C.readings clock) c) status.NotARun (S.left source.old) (S.left source.new) (K.written sink.old) (K.written sink.new) }
-    ensures turns { result ≡ 8 → (c : Command) → IsCommand (map string_bytes words.now.items) c → HasAnswered (meaning (C.readings clock) c) status.Turns (S.left source.old) (S.left source.new) (K.written sink.old) (K.written sink.new) }
-    ensures capacity { result ≡ 10 → (c : Command) → IsCommand (map string_bytes words.now.items) c → HasAnswered (meaning (C.readings clock) c) status.Capacity (S.left source.old) (S.left source.new) (K.written sink.old) (K.written sink.new) }
-    ensures bad_line { result ≡ 3 → (c : Command) → IsCommand (map string_bytes words.now.items) c → NamesBadLine (meaning (C.readings clock) c) (S.left source.old) (S.left source.new) (K.written sink.old) (K.written sink.new) }
-    ensures read_fault { result ≡ 4 → HasRisen (S.faults source.old) (S.faults source.new) × (K.written sink.new ≡ K.written sink.old) }
-    ensures write_fault { result ≡ 5 → HasRisen (K.faults sink.old) (K.faults sink.new) × ((c : Command) → IsCommand (map string_bytes words.now.items) c → IsCutShort (meaning (C.readings clock) c) (S.left source.old) (S.left source.new) (K.written sink.old) (K.written sink.new)) }
-    ensures out_of_memory { result ≡ 6 → K.written sink.new ≡ K.written sink.old }
-    ensures too_long { result ≡ 7 → IsLongerThan max_input (S.left source.old) × (K.written sink.new ≡ K.written sink.old) }
-    ensures others { (s : Status) × (result ≡ status_code s) }
-    ensures too_long_where { (c : Command) (input : List ℕ) → IsCommand (map string_bytes words.now.items) c → IsInput (meaning (C.readings clock) c).reads (S.left source.old) input → IsRead result → (result ≡ 7 ↔ max_input < length input) }
-    ensures bad_line_where { (c : Command) (input : List ℕ) → IsCommand (map string_bytes words.now.items) c → IsInput (meaning (C.readings clock) c).reads (S.left source.old) input → IsRead result → result ≢ 5 → (result ≡ 3 ↔ (length input ≤ max_input) × ((n : ℕ) × (meaning (C.readings clock) c).IsFirstBad input n)) }
-    ensures complete { (c : Command) (input : List ℕ) → IsCommand (map string_bytes words.now.items) c → IsInput (meaning (C.readings clock) c).reads (S.left source.old) input → length input ≤ max_input → (meaning (C.readings clock) c).IsGood input → ((meaning (C.readings clock) c).reads ≡ true → HasRisen (S.faults source.old) (S.faults source.new) → ⊥) → (HasRisen (K.faults sink.old) (K.faults sink.new) → ⊥) → (result ≡ 6) ⊎ IsAnswered (meaning (C.readings clock) c) input result }
-    ensures unread { (c : Command) → IsCommand (map string_bytes words.now.items) c → (meaning (C.readings clock) c).reads ≡ false → S.left source.new ≡ S.left source.old }
-    ensures read_fault_where { S.faults source.old < S.faults source.new → result ≡ 4 }
-    ensures write_fault_where { K.faults sink.old < K.faults sink.new → result ≡ 5 }
-    ensures counts { (S.faults source.old ≤ S.faults source.new) × (K.faults sink.old ≤ K.faults sink.new) }
-    ensures capacity_where { (workers turns : ℕ) (input : List ℕ) (script : Script) → IsCommand (map string_bytes words.now.items) (command.Run workers turns) → IsInput true (S.left source.old) input → length input ≤ max_input → Spells input script → IsRead result → result ≢ 5 → (result ≡ 10 ↔ script.limits.tasks ≡ 0) }
-    ensures starts { (c : Command) (s : Status) → IsCommand (map string_bytes words.now.items) c → result ≡ status_code s → Asks (meaning (C.readings clock) c).workers (P.starts spawner.old) (P.starts spawner.new) s }
-    ensures no_starts { result ≡ 2 → P.starts spawner.new ≡ P.starts spawner.old }
+    ensures { CarriesOut (map string_bytes words.now.items) (C.readings clock) (view_of (S.left source.old) (S.faults source.old) (K.written sink.old) (K.faults sink.old) (P.starts spawner.old)) (view_of (S.left source.new) (S.faults source.new) (K.written sink.new) (K.faults sink.new) (P.starts spawner.new)) result }
 {
-    match explained(rt, alloc, words, source, sink, clock, spawner) {
-        Some(ended) => ended.status.code(),
-        None => Status::Usage.code(),
-    }
+    let ended = explained(rt, alloc, words, source, sink, clock, spawner);
+    exit_code(&ended)
 }

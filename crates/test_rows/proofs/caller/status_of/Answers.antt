@@ -7,6 +7,9 @@ use Rattle.mono_script.specs.Endings.{IsAnswered, status_code}
 use Rattle.mono_script.specs.Meanings.{replaying}
 use Rattle.test_rows.proofs.caller.status_of.Goals as goal
 
+pub returns-clause-usage : goal.returns-clause-usage
+returns-clause-usage g c = c.program.ensures.usage
+
 pub returns-clause-no_read_fault : goal.returns-clause-no_read_fault
 returns-clause-no_read_fault g c = λ e. never (c.program.ensures.read_fault e).0
 
