@@ -64,6 +64,22 @@ fn asked_of<'a>(words: &'a Vec<String>, first: &'a str) -> &'a str {
     }
 }
 
+// Returns why words that ask for help name no page, if they do and more is wrong than the command's name.
+fn help_complaint(alloc: Global, words: &Vec<String>) -> Result<Option<String>, AllocError> {
+    match words.as_slice() {
+        [first, _command, third, ..] if first.as_str() == "help" => {
+            let word = shown(alloc, third.as_bytes())?;
+            Ok(Some(format!(in alloc;
+                "help: \"{word}\" is a word too many: it takes one command"
+            )?))
+        }
+        [first, _word, ..] if first.as_str() == "--help" || first.as_str() == "-h" => {
+            Ok(Some(format!(in alloc; "\"{first}\" stands alone, or after one command")?))
+        }
+        _ => Ok(None),
+    }
+}
+
 /// Returns in one sentence why words are no command: the word that is wrong, and the form expected there. For words
 /// that are a command it says that nothing is wrong.
 pub fn complaint(alloc: Global, words: &Vec<String>) -> Result<String, AllocError> {
@@ -72,6 +88,9 @@ pub fn complaint(alloc: Global, words: &Vec<String>) -> Result<String, AllocErro
             "usage: monoio COMMAND WORD .. < INPUT; COMMAND is {COMMANDS}; monoio --help says more"
         );
     };
+    if let Some(text) = help_complaint(alloc, words)? {
+        return Ok(text);
+    }
     let command = asked_of(words, command.as_str());
     if !is_command(command) {
         let command = shown(alloc, command.as_bytes())?;

@@ -24,7 +24,7 @@ fn says(alloc: Global, words: &Vec<String>, sentence: &str) -> bool {
 }
 
 // Words, and the complaints about them.
-const CASES: [(&str, &str); 18] = [
+const CASES: [(&str, &str); 20] = [
     (
         "",
         "usage: monoio COMMAND WORD .. < INPUT; COMMAND is replay, run, load, sessions, limiter, actors or check; monoio --help says more",
@@ -36,6 +36,14 @@ const CASES: [(&str, &str); 18] = [
     (
         "help reply",
         "\"reply\" is no command: replay, run, load, sessions, limiter, actors or check; monoio --help says more",
+    ),
+    (
+        "help replay run",
+        "help: \"run\" is a word too many: it takes one command",
+    ),
+    (
+        "--help replay",
+        "\"--help\" stands alone, or after one command",
     ),
     (
         "replay detached 1 1 1",
