@@ -1,2 +1,4 @@
 pub mod BucketLemmas
 pub mod LineLemmas
+pub mod LeaseLemmas
+pub mod LeaseLawLemmas

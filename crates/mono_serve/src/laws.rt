@@ -1,4 +1,5 @@
-//! Laws that hold over any calls of buckets.
+//! Laws that hold over any calls of buckets and of leases.
+ghost use Rattle.mono_serve.specs.LeaseLaws.{ClosesOnTime, OneHolder, NoWakeIsLost, KeeperIsInTime};
 ghost use Rattle.mono_serve.specs.Laws.{RateIsKept, FirstComeFirstServed};
 
 /// Shows that over any calls of any tasks a bucket gives at most the tokens that it had before, and one for each period
@@ -10,4 +11,25 @@ pub fn rate_is_kept()
 /// Shows that the first task that waits for a bucket is the one that came first.
 pub fn first_come_first_served()
     ensures { FirstComeFirstServed }
+{}
+
+/// Shows that a session that no call renews or closes is open if and only if the clock has not reached its closing tick.
+pub fn closes_on_time()
+    ensures { ClosesOnTime }
+{}
+
+/// Shows that once a future was told that its session holds a key, no other session holds it until the session releases
+/// it or is closed.
+pub fn one_holder()
+    ensures { OneHolder }
+{}
+
+/// Shows that after the wakes of a call each task in the line has its session in its key's queue behind another.
+pub fn no_wake_is_lost()
+    ensures { NoWakeIsLost }
+{}
+
+/// Shows that a keeper that is not woken sleeps at most until the next session is to be closed.
+pub fn keeper_is_in_time()
+    ensures { KeeperIsInTime }
 {}

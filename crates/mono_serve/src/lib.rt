@@ -1,9 +1,18 @@
-//! Services that the tasks of one runtime await: tokens of buckets that they share.
+//! Services that the tasks of one runtime await: tokens of buckets, and keys of sessions, that they share.
 #![tactic(auto)]
 
 mod buckets;
+mod keepers;
 pub mod laws;
+mod lease_parts;
+mod leases;
+pub mod locks;
+mod served;
 mod takes;
+mod wakes;
 
 pub use buckets::{Asked, Buckets, Waiter};
+pub use keepers::{Keeper, KeeperError};
+pub use leases::{Claimed, Leases, LockWaiter, Looked};
+pub use locks::{Acquire, AcquireError};
 pub use takes::{Take, TakeError};

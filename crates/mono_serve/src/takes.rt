@@ -75,7 +75,7 @@ impl<W> Take<W> {
 }
 
 // Returns the instant of a tick, unless it is past the last one.
-fn deadline_of(tick: u128) -> Option<Instant>
+pub(crate) fn deadline_of(tick: u128) -> Option<Instant>
     ensures { option_map nanos_of result ≡ deadline_of tick }
 {
     Instant::from_nanos(tick.saturating_mul(1000000))

@@ -1,0 +1,21 @@
+use Rattle.std.proofs.Common.{refl}
+use Rattle.mono_session.specs.Calls as call
+use Rattle.mono_time.specs.Instants.{nanos_of}
+use Rattle.mono_serve.proofs.LeaseLemmas.{lacks_at, acquires}
+use Rattle.mono_serve.proofs.leases.Leases.enter.Goals as goal
+
+pub returns-in-Err : goal.returns-in-Err
+returns-in-Err c = (lacks_at _ _ (nanos_of c.args.now) (call.Acquire c.args.session c.args.key) _ c.in-Err.ensures refl, (refl, refl), (refl, refl))
+
+pub returns-in-Err-acquire : goal.returns-in-Err-acquire
+returns-in-Err-acquire c = (acquires _ _ _ (nanos_of c.args.now) c.args.session c.args.key _ c.in-Ok.ensures c.in-Err-acquire.ensures.step, (refl, refl), (refl, refl))
+
+pub returns-in-Ok-true : goal.returns-in-Ok-true
+returns-in-Ok-true c = (acquires _ _ _ (nanos_of c.args.now) c.args.session c.args.key _ c.in-Ok.ensures c.in-Ok-true.ensures.step, (refl, refl), (refl, refl))
+
+pub returns-in-Ok-false : goal.returns-in-Ok-false
+returns-in-Ok-false c = (
+  acquires _ _ _ (nanos_of c.args.now) c.args.session c.args.key _ c.in-Ok.ensures c.in-Ok-false.ensures.step,
+  (refl, c.push_back_reserved.ensures.items, c.requires.next),
+  (refl, refl),
+)
