@@ -1,7 +1,5 @@
 // A task that makes the calls of a list, and a task that keeps the leases.
-ghost use Rattle.std.specs.Prelude.{◌≡◌, ⊤, false};
-ghost use Rattle.mono_time.specs.Naps.{nap_spent};
-ghost use Rattle.mono_serve.specs.Takes as takes;
+ghost use Rattle.std.specs.Prelude.{⊤, false};
 ghost use Rattle.mono_sync.specs.Runs.{Leads};
 ghost use Rattle.mono_serve.specs.BucketCalls as buckets;
 ghost use Rattle.mono_serve.specs.LeaseCalls as leases;
@@ -75,41 +73,80 @@ impl Party {
         }
     }
 
+    // Makes the next call, or begins to wait. The task runs again after its turn, unless no call is left.
+    fn go_on<C: SharedContext<Desk>>(&mut self, alloc: Global, cx: &mut C) -> Poll<u64>
+        ensures { C.reaches cx.old cx.new }
+    {
+        match self.deeds {
+            [] => Poll::Ready(self.name),
+            [deed, rest @ ..] => {
+                self.deeds = rest;
+                self.begin(alloc, cx, *deed);
+                Poll::Pending
+            }
+        }
+    }
+
     // Makes a call, or begins to wait.
-    fn begin<C: TimeContext + SharedContext<Desk>>(&mut self, alloc: Global, cx: &mut C, deed: Deed)
+    fn begin<C: SharedContext<Desk>>(&mut self, alloc: Global, cx: &mut C, deed: Deed)
         ensures { C.reaches cx.old cx.new }
     {
         match deed {
             Deed::Nap(ms) => {
                 self.doing = Doing::Naps(sleep_for(Duration::from_millis(ms)));
+                again(cx);
             }
             Deed::Acquire(session, key, patience_ms) => {
-                self.doing = Doing::Acquires(
-                    Acquire::new(session, key),
-                    sleep_for(Duration::from_millis(patience_ms)),
-                );
+                let patience = sleep_for(Duration::from_millis(patience_ms));
+                self.doing = Doing::Acquires(Acquire::new(session, key), patience);
+                again(cx);
             }
             Deed::Take(bucket, n, patience_ms) => {
-                self.doing = Doing::Takes(
-                    Take::new(bucket, n),
-                    sleep_for(Duration::from_millis(patience_ms)),
-                );
+                let patience = sleep_for(Duration::from_millis(patience_ms));
+                self.doing = Doing::Takes(Take::new(bucket, n), patience);
+                again(cx);
             }
             Deed::Open(limit_ms) => {
                 let answer = locks::open::<Desk, C>(alloc, cx, limit_ms);
-                note(cx, self.name, opened(answer));
+                answered(cx, self.name, opened(answer));
             }
             Deed::Beat(session) => {
                 let answer = locks::beat::<Desk, C>(alloc, cx, session);
-                note(cx, self.name, done(answer));
+                answered(cx, self.name, done(answer));
             }
             Deed::Close(session) => {
                 let answer = locks::close::<Desk, C>(alloc, cx, session);
-                note(cx, self.name, done(answer));
+                answered(cx, self.name, done(answer));
             }
             Deed::Release(session, key) => {
                 let answer = locks::release::<Desk, C>(alloc, cx, session, key);
-                note(cx, self.name, done(answer));
+                answered(cx, self.name, done(answer));
+            }
+        }
+    }
+
+    // Sleeps on.
+    fn nap<R: Host, C: TimeContext + SharedContext<Desk>>(
+        &mut self,
+        rt: &R,
+        alloc: Global,
+        cx: &mut C,
+        nap: SleepFor,
+    ) -> Poll<u64>
+        ensures { C.reaches cx.old cx.new }
+    {
+        let mut nap = nap;
+        if TaskFuture::<C>::spent(&nap) {
+            return Poll::Ready(0);
+        }
+        match TaskFuture::<C>::poll(&mut nap, rt, alloc, cx) {
+            Poll::Pending => {
+                self.doing = Doing::Naps(nap);
+                Poll::Pending
+            }
+            Poll::Ready(_) => {
+                again(cx);
+                Poll::Pending
             }
         }
     }
@@ -123,31 +160,47 @@ impl Party {
         acquire: Acquire<Desk>,
         patience: SleepFor,
     ) -> Poll<u64>
-        requires acquire { acquire.has_answered ≡ false }
-        requires patience { nap_spent patience ≡ false }
         ensures { C.reaches cx.old cx.new }
     {
         let mut acquire = acquire;
-        let mut patience = patience;
+        if TaskFuture::<C>::spent(&acquire) {
+            return Poll::Ready(0);
+        }
         match acquire.poll(rt, alloc, cx) {
             Poll::Ready(answer) => {
                 patience.cancel(cx);
-                note(cx, self.name, acquired(answer));
-                again(cx);
+                answered(cx, self.name, acquired(answer));
                 Poll::Pending
             }
-            Poll::Pending => match TaskFuture::<C>::poll(&mut patience, rt, alloc, cx) {
-                Poll::Pending => {
-                    self.doing = Doing::Acquires(acquire, patience);
-                    Poll::Pending
-                }
-                Poll::Ready(_) => {
-                    acquire.cancel(cx);
-                    note(cx, self.name, Answer::GaveUp);
-                    again(cx);
-                    Poll::Pending
-                }
-            },
+            Poll::Pending => self.be_patient(rt, alloc, cx, acquire, patience),
+        }
+    }
+
+    // Gives up the key if the task's patience has ended.
+    fn be_patient<R: Host, C: TimeContext + SharedContext<Desk>>(
+        &mut self,
+        rt: &R,
+        alloc: Global,
+        cx: &mut C,
+        acquire: Acquire<Desk>,
+        patience: SleepFor,
+    ) -> Poll<u64>
+        ensures { C.reaches cx.old cx.new }
+    {
+        let mut patience = patience;
+        if TaskFuture::<C>::spent(&patience) {
+            return Poll::Ready(0);
+        }
+        match TaskFuture::<C>::poll(&mut patience, rt, alloc, cx) {
+            Poll::Pending => {
+                self.doing = Doing::Acquires(acquire, patience);
+                Poll::Pending
+            }
+            Poll::Ready(_) => {
+                acquire.cancel(cx);
+                answered(cx, self.name, Answer::GaveUp);
+                Poll::Pending
+            }
         }
     }
 
@@ -160,31 +213,70 @@ impl Party {
         take: Take<Desk>,
         patience: SleepFor,
     ) -> Poll<u64>
-        requires take { takes.is_over take.stage ≡ false }
-        requires patience { nap_spent patience ≡ false }
         ensures { C.reaches cx.old cx.new }
     {
         let mut take = take;
-        let mut patience = patience;
+        if TaskFuture::<C>::spent(&take) {
+            return Poll::Ready(0);
+        }
         match take.poll(rt, alloc, cx) {
             Poll::Ready(answer) => {
                 patience.cancel(cx);
-                note(cx, self.name, took(answer));
-                again(cx);
+                answered(cx, self.name, took(answer));
                 Poll::Pending
             }
-            Poll::Pending => match TaskFuture::<C>::poll(&mut patience, rt, alloc, cx) {
-                Poll::Pending => {
-                    self.doing = Doing::Takes(take, patience);
-                    Poll::Pending
-                }
-                Poll::Ready(_) => {
-                    take.cancel(cx);
-                    note(cx, self.name, Answer::GaveUp);
-                    again(cx);
-                    Poll::Pending
-                }
-            },
+            Poll::Pending => self.be_patient_for_tokens(rt, alloc, cx, take, patience),
+        }
+    }
+
+    // Gives up the tokens if the task's patience has ended.
+    fn be_patient_for_tokens<R: Host, C: TimeContext + SharedContext<Desk>>(
+        &mut self,
+        rt: &R,
+        alloc: Global,
+        cx: &mut C,
+        take: Take<Desk>,
+        patience: SleepFor,
+    ) -> Poll<u64>
+        ensures { C.reaches cx.old cx.new }
+    {
+        let mut patience = patience;
+        if TaskFuture::<C>::spent(&patience) {
+            return Poll::Ready(0);
+        }
+        match TaskFuture::<C>::poll(&mut patience, rt, alloc, cx) {
+            Poll::Pending => {
+                self.doing = Doing::Takes(take, patience);
+                Poll::Pending
+            }
+            Poll::Ready(_) => {
+                take.cancel(cx);
+                answered(cx, self.name, Answer::GaveUp);
+                Poll::Pending
+            }
+        }
+    }
+
+    // Keeps the leases.
+    fn keep<R: Host, C: TimeContext + SharedContext<Desk>>(
+        &mut self,
+        rt: &R,
+        alloc: Global,
+        cx: &mut C,
+        keeper: Keeper<Desk>,
+    ) -> Poll<u64>
+        ensures { C.reaches cx.old cx.new }
+    {
+        let mut keeper = keeper;
+        if TaskFuture::<C>::spent(&keeper) {
+            return Poll::Ready(0);
+        }
+        match keeper.poll(rt, alloc, cx) {
+            Poll::Pending => {
+                self.doing = Doing::Keeps(keeper);
+                Poll::Pending
+            }
+            Poll::Ready(_) => Poll::Ready(1),
         }
     }
 }
@@ -230,6 +322,14 @@ fn again<C: SharedContext<Desk>>(cx: &mut C)
     let _ = cx.wake(me);
 }
 
+// Notes an answer, and queues the running task again after its turn.
+fn answered<C: SharedContext<Desk>>(cx: &mut C, name: u64, answer: Answer)
+    ensures { C.reaches cx.old cx.new }
+{
+    note(cx, name, answer);
+    again(cx);
+}
+
 // Notes an answer, if there is memory for it.
 fn note<C: SharedContext<Desk>>(cx: &mut C, name: u64, answer: Answer)
     ensures { C.reaches cx.old cx.new }
@@ -267,56 +367,11 @@ impl<C: TimeContext + SharedContext<Desk>> TaskFuture<C> for Party {
 
     fn poll<R: Host>(&mut self, rt: &R, alloc: Global, cx: &mut C) -> Poll<u64> {
         match mem::replace(&mut self.doing, Doing::Nothing) {
-            Doing::Nothing => match self.deeds {
-                [] => Poll::Ready(self.name),
-                [deed, rest @ ..] => {
-                    self.deeds = rest;
-                    self.begin(alloc, cx, *deed);
-                    again(cx);
-                    Poll::Pending
-                }
-            },
-            Doing::Naps(nap) => {
-                let mut nap = nap;
-                if TaskFuture::<C>::spent(&nap) {
-                    return Poll::Ready(0);
-                }
-                match TaskFuture::<C>::poll(&mut nap, rt, alloc, cx) {
-                    Poll::Pending => {
-                        self.doing = Doing::Naps(nap);
-                        Poll::Pending
-                    }
-                    Poll::Ready(_) => {
-                        again(cx);
-                        Poll::Pending
-                    }
-                }
-            }
-            Doing::Acquires(acquire, patience) => {
-                if TaskFuture::<C>::spent(&acquire) || TaskFuture::<C>::spent(&patience) {
-                    return Poll::Ready(0);
-                }
-                self.wait(rt, alloc, cx, acquire, patience)
-            }
-            Doing::Takes(take, patience) => {
-                if TaskFuture::<C>::spent(&take) || TaskFuture::<C>::spent(&patience) {
-                    return Poll::Ready(0);
-                }
-                self.wait_for_tokens(rt, alloc, cx, take, patience)
-            }
-            Doing::Keeps(keeper) => {
-                let mut keeper = keeper;
-                if TaskFuture::<C>::spent(&keeper) {
-                    return Poll::Ready(0);
-                }
-                match keeper.poll(rt, alloc, cx) {
-                    Poll::Pending => {
-                        self.doing = Doing::Keeps(keeper);
-                        Poll::Pending
-                    }
-                    Poll::Ready(_) => Poll::Ready(1),
-                }
-            }
+            Doing::Nothing => self.go_on(alloc, cx),
+            Doing::Naps(nap) => self.nap(rt, alloc, cx, nap),
+            Doing::Acquires(acquire, patience) => self.wait(rt, alloc, cx, acquire, patience),
+            Doing::Takes(take, patience) => self.wait_for_tokens(rt, alloc, cx, take, patience),
+            Doing::Keeps(keeper) => self.keep(rt, alloc, cx, keeper),
         }
     }
 
