@@ -15,7 +15,7 @@ returns-in-Err-acquire c = (acquires _ _ _ (nanos_of c.args.now) c.args.session 
 pub returns-in-Ok-true : goal.returns-in-Ok-true
 returns-in-Ok-true c = (
   subst (λ b. MovesTo c.args.self.now.sessions (CallsAt (nanos_of c.args.now) (call.Acquire c.args.session c.args.key) (of_first (Ok b))) c.acquire.new.self) c.in-Ok-true.field-0-test
-  (acquires _ _ _ (nanos_of c.args.now) c.args.session c.args.key (Ok c.in-Ok-true.field-0) c.in-Ok.ensures c.in-Ok-true.ensures.step),
+      (acquires _ _ _ (nanos_of c.args.now) c.args.session c.args.key (Ok c.in-Ok-true.field-0) c.in-Ok.ensures c.in-Ok-true.ensures.step),
   (refl, refl),
   (refl, refl),
 )
@@ -23,7 +23,7 @@ returns-in-Ok-true c = (
 pub returns-in-Ok-false : goal.returns-in-Ok-false
 returns-in-Ok-false c = (
   subst (λ b. MovesTo c.args.self.now.sessions (CallsAt (nanos_of c.args.now) (call.Acquire c.args.session c.args.key) (of_first (Ok b))) c.acquire.new.self) c.in-Ok-false.field-0-test
-  (acquires _ _ _ (nanos_of c.args.now) c.args.session c.args.key (Ok c.in-Ok-false.field-0) c.in-Ok.ensures c.in-Ok-false.ensures.step),
+      (acquires _ _ _ (nanos_of c.args.now) c.args.session c.args.key (Ok c.in-Ok-false.field-0) c.in-Ok.ensures c.in-Ok-false.ensures.step),
   (refl, c.push_back_reserved.ensures.items, c.requires.next),
   (refl, refl),
 )
