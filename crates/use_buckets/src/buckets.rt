@@ -1,5 +1,5 @@
 // Buckets of tokens that tasks share, and a take from one.
-ghost use Rattle.std.specs.Prelude.{◌≡◌, ◌<◌, ⊤, false};
+ghost use Rattle.std.specs.Prelude.{◌≡◌, false};
 ghost use Rattle.mono_model.specs.Poll.{OnPending};
 ghost use Rattle.mono_limit.specs.Limits.{limits_of};
 ghost use Rattle.use_buckets.specs.Readings.{Called, called_itself, called_on};
@@ -9,11 +9,8 @@ use mono_limit::{LimitError, Limiter, Take};
 use mono_rt::{
     Host, Instant, Poll, SharedContext, SharedState, Sleep, TaskFuture, TimeContext, sleep_until,
 };
-use mono_wheel::Steps;
 use std::alloc::{AllocError, Global};
-use std::marker::Brand;
 use std::mem;
-use std::sync::ledger::{Blank, Ledger};
 
 /// A limiter that tasks share.
 #[derive(Drop)]
@@ -55,7 +52,7 @@ impl Buckets {
     pub fn take(&mut self, alloc: Global, now: Instant, bucket: u64, n: u64) -> Told
         ensures { Called (limits_of self.old.limiter) (limits_of self.new.limiter) }
     {
-        go_on::<Brand>(&mut self.limiter, alloc, now, Blank::new(1));
+        go_on(&mut self.limiter, alloc, now);
         answer_to(self.limiter.take(bucket, n))
     }
 }
@@ -72,16 +69,12 @@ fn answer_to(answer: Result<Take, LimitError>) -> Told {
     }
 }
 
-// Advances the clock. There are no retries, so none is due.
-fn go_on<L: Ledger>(limiter: &mut Limiter, alloc: Global, now: Instant, blank: Blank)
-    requires { (blank.name ≡ L.name) × (blank.parts ≡ L.parts) × (0 < L.parts) }
+// Advances the clock, unless memory ran out. There are no retries, so none is due.
+fn go_on(limiter: &mut Limiter, alloc: Global, now: Instant)
     ensures { Called (limits_of limiter.old) (limits_of limiter.new) }
 {
-    let mut steps: Steps<L> = Steps::new(blank);
     let mut due = Vec::new(alloc);
-    if due.reserve(limiter.live()).is_ok() {
-        limiter.clock(now, &mut due, &mut steps);
-    }
+    let _ = limiter.advance(alloc, now, &mut due);
 }
 
 /// A future that takes n tokens of a bucket that the tasks share, and sleeps until the given instant if the bucket has
@@ -135,10 +128,6 @@ impl<C: TimeContext + SharedContext<Buckets>> TaskFuture<C> for Taking {
     type Output = bool;
 
     ghost is_spent = { is_over };
-
-    ghost polls = { λ f c r g d. ⊤ };
-
-    ghost cancels = { λ f c d. ⊤ };
 
     fn spent(&self) -> bool {
         match self {

@@ -3,7 +3,7 @@
 
 ghost use Rattle.mono_limit.specs.Limits.{limits_of};
 ghost use Rattle.use_buckets.specs.Readings.{KeepsRate};
-ghost use Rattle.mono_rt.specs.Views.{Rests};
+ghost use Rattle.mono_rt.specs.Views.{Rests, shared_of};
 
 mod buckets;
 mod takers;
@@ -21,7 +21,7 @@ type Running = Runtime<Taker, u64, TimeDriver<StepDriver>, NoPool, Buckets>;
 // granted than it had before, and one for each period that has ended.
 fn run_taker<R: Host>(rt: &R, alloc: Global, runtime: &mut Running, taker: Taker) -> Option<u64>
     requires { Rests runtime.old }
-    ensures rate { KeepsRate (limits_of runtime.old.cx.shared.limiter) (limits_of runtime.new.cx.shared.limiter) }
+    ensures rate { KeepsRate (limits_of (shared_of runtime.old).limiter) (limits_of (shared_of runtime.new).limiter) }
     ensures rests { Rests runtime.new }
 {
     rate_is_kept();

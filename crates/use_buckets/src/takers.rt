@@ -1,5 +1,4 @@
 // A task that takes from a bucket again and again.
-ghost use Rattle.std.specs.Prelude.{⊤};
 ghost use Rattle.use_buckets.specs.Takings.{is_over};
 
 use crate::buckets::{Buckets, Taking};
@@ -29,10 +28,6 @@ impl<C: TimeContext + SharedContext<Buckets>> TaskFuture<C> for Taker {
     type Output = u64;
 
     ghost is_spent = { λ f. is_over f.taking };
-
-    ghost polls = { λ f c r g d. ⊤ };
-
-    ghost cancels = { λ f c d. ⊤ };
 
     fn spent(&self) -> bool {
         TaskFuture::<C>::spent(&self.taking)
