@@ -1,4 +1,5 @@
 -- The message that comes back.
+use Rattle.std.specs.Prelude.{Bool, true, false}
 use Rattle.mono_channel.specs.declared.errors.TrySendError.{TrySendError}
 use Rattle.mono_channel.specs.declared.errors.TrySendError.TheVariants.{Full, Closed}
 use Rattle.mono_channel.specs.declared.errors.SendError.{SendError}
@@ -9,6 +10,11 @@ module _ {T : Type 0} where
   abbrev pub message_of : TrySendError T → T
   message_of (Full x) = x
   message_of (Closed x) = x
+
+  -- whether it was refused since the channel or the sender was closed
+  abbrev pub is_shut : TrySendError T → Bool
+  is_shut (Full x) = false
+  is_shut (Closed x) = true
 
   -- the message that was not sent
   abbrev pub unsent : SendError T → T

@@ -1,8 +1,9 @@
 // What the ends of a channel share under its lock: who waits, and whether the channel is closed.
-ghost use Rattle.std.specs.Prelude.{◌≡◌, ◌+◌, ◌-◌, ◌<◌, ◌≤◌, ◌^◌, ◌⊎◌, slice_get, slice_set, true, false, [], ◌++◌, ◌∷◌, Some, None, Err, IfOk, OnOk, MatchResult, MatchOption};
+ghost use Rattle.std.specs.Prelude.{◌≡◌, ◌≢◌, ◌+◌, ◌-◌, ◌<◌, ◌≤◌, ◌^◌, true, false, [], ◌++◌, ◌∷◌, Some, None, Err, IfOk, IfErr, OnSome, MatchResult, MatchOption};
 ghost use Rattle.crossbeam_queue.specs.Passes.{view, IsPassOf, IsSamePass};
 ghost use Rattle.mono_channel.specs.Delivery.{Arrived, hand, sender};
-ghost use Rattle.mono_channel.specs.Errors.{message_of};
+ghost use Rattle.mono_channel.specs.Errors.{message_of, is_shut};
+ghost use Rattle.mono_channel.specs.Seats.{Seats};
 ghost use Rattle.mono_channel.specs.declared.errors.TryRecvError.TheVariants.{Empty, Disconnected};
 
 use crate::errors::{TryRecvError, TrySendError};
@@ -29,7 +30,10 @@ pub(crate) struct Gate<U: Unpark> {
 
 impl<U: Unpark> Gate<U> {
     /// Returns the gate of a new channel, which has one sender.
-    pub(crate) fn new(alloc: Global) -> Gate<U> {
+    pub(crate) fn new(alloc: Global) -> Gate<U>
+        ensures open { (result.is_closed ≡ false) × (result.senders ≡ 1) }
+        ensures none { (result.receiver ≡ None) × (result.waiting.items ≡ []) }
+    {
         Gate {
             alloc,
             is_closed: false,
@@ -42,7 +46,8 @@ impl<U: Unpark> Gate<U> {
 
     /// Counts a further sender.
     pub(crate) fn join(&mut self)
-        ensures { self.old.senders < 2 ^ 63 → self.new.senders ≡ self.old.senders + 1 }
+        ensures counted { self.old.senders < 2 ^ 63 → self.new.senders ≡ self.old.senders + 1 }
+        ensures same { (self.new.is_closed ≡ self.old.is_closed) × (self.new.receiver ≡ self.old.receiver) × (self.new.waiting ≡ self.old.waiting) }
     {
         self.senders = self.senders.saturating_add(1);
     }
@@ -51,6 +56,7 @@ impl<U: Unpark> Gate<U> {
     pub(crate) fn leave(&mut self) -> Option<RemoteWaker<U>>
         ensures last { self.old.senders ≤ 1 → (self.new.is_closed ≡ true) × (result ≡ self.old.receiver) }
         ensures others { 1 < self.old.senders → (self.new.is_closed ≡ self.old.is_closed) × (self.new.receiver ≡ self.old.receiver) × (result ≡ None) }
+        ensures counted { self.new.senders ≡ self.old.senders - 1 }
     {
         self.senders = self.senders.saturating_sub(1);
         if self.senders > 0 {
@@ -80,7 +86,8 @@ impl<U: Unpark> Gate<U> {
     fn let_go(&mut self) -> Vec<RemoteWaker<U>>
         ensures woken { result.items ≡ self.old.waiting.items }
         ensures none { self.new.waiting.items ≡ [] }
-        ensures closed { self.new.is_closed ≡ self.old.is_closed }
+        ensures same { (self.new.is_closed ≡ self.old.is_closed) × (self.new.receiver ≡ self.old.receiver) }
+        ensures round { self.new.round ≢ self.old.round }
     {
         self.round = self.round.wrapping_add(1);
         mem::replace(&mut self.waiting, Vec::new(self.alloc))
@@ -93,9 +100,9 @@ impl<U: Unpark> Gate<U> {
         waker: RemoteWaker<U>,
         seat: Option<(u64, usize)>,
     ) -> Result<(u64, usize), AllocError>
-        ensures kept { IfOk result (λ s. (s.0 ≡ self.old.round) × (slice_get self.new.waiting.items s.1 ≡ Some waker)) }
-        ensures others { IfOk result (λ s. (self.new.waiting.items ≡ slice_set self.old.waiting.items s.1 waker) ⊎ (self.new.waiting.items ≡ self.old.waiting.items ++ waker ∷ [])) }
-        ensures same { (self.new.receiver ≡ self.old.receiver) × (self.new.is_closed ≡ self.old.is_closed) }
+        ensures kept { IfOk result (λ s. Seats self.old.waiting.items seat self.old.round waker s self.new.waiting.items) }
+        ensures refused { IfErr result (λ e. self.new.waiting.items ≡ self.old.waiting.items) }
+        ensures same { (self.new.receiver ≡ self.old.receiver) × (self.new.is_closed ≡ self.old.is_closed) × (self.new.round ≡ self.old.round) }
     {
         if let Some((round, at)) = seat {
             if round == self.round && at < self.waiting.len() {
@@ -122,7 +129,8 @@ pub(crate) fn put<T: Drop, U: Unpark, R: Host>(
     requires sends { (view end.old).sends ≡ true }
     ensures queue { IsSamePass end.old end.new }
     ensures put { MatchResult result (λ first. (view end.new ≡ sender ((view end.old).sent ++ message ∷ [])) × (first ≡ gate.old.receiver) × (gate.new.receiver ≡ None)) (λ e. (message_of e ≡ message) × (view end.new ≡ view end.old) × (gate.new ≡ gate.old)) }
-    ensures open { OnOk result (gate.old.is_closed ≡ false) }
+    ensures closed { MatchResult result (λ first. gate.old.is_closed ≡ false) (λ e. is_shut e ≡ gate.old.is_closed) }
+    ensures same { (gate.new.is_closed ≡ gate.old.is_closed) × (gate.new.waiting ≡ gate.old.waiting) }
 {
     if gate.is_closed {
         return Err(TrySendError::Closed(message));
@@ -146,6 +154,8 @@ pub(crate) fn take<T: Drop, U: Unpark, R: Host>(
     requires receives { (view end.old).receives ≡ true }
     ensures queue { IsSamePass end.old end.new }
     ensures taken { MatchOption result ((view end.new ≡ view end.old) × (gate.new ≡ gate.old) × Arrived (view end.old).received (view end.old).settled) (λ r. (view end.new ≡ hand ((view end.old).received ++ r.0 ∷ []) (view end.old).settled) × (r.1.items ≡ gate.old.waiting.items)) }
+    ensures none { OnSome result (gate.new.waiting.items ≡ []) }
+    ensures same { (gate.new.is_closed ≡ gate.old.is_closed) × (gate.new.receiver ≡ gate.old.receiver) }
 {
     match queue.pop_as::<Received, R>(rt, end) {
         Some(message) => Some((message, gate.let_go())),
@@ -166,7 +176,8 @@ pub(crate) fn take_or_wait<T: Drop, U: Unpark, R: Host>(
     requires receives { (view end.old).receives ≡ true }
     ensures queue { IsSamePass end.old end.new }
     ensures taken { MatchResult result (λ r. (view end.new ≡ hand ((view end.old).received ++ r.0 ∷ []) (view end.old).settled) × (r.1.items ≡ gate.old.waiting.items)) (λ e. (view end.new ≡ view end.old) × Arrived (view end.old).received (view end.old).settled) }
-    ensures registered { result ≡ Err Empty → gate.new.receiver ≡ Some waker }
+    ensures registered { result ≡ Err Empty → (gate.new.receiver ≡ Some waker) × (gate.old.is_closed ≡ false) }
+    ensures waiting { MatchResult result (λ r. gate.new.waiting.items ≡ []) (λ e. gate.new.waiting.items ≡ gate.old.waiting.items) }
     ensures closed { result ≡ Err Disconnected → gate.old.is_closed ≡ true }
 {
     match take(rt, gate, queue, end) {

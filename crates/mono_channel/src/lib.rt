@@ -4,11 +4,13 @@
 mod ends;
 mod errors;
 mod gate;
+mod messages;
 mod receiver;
 mod rule;
 mod sender;
 
 pub use ends::{Receiver, Sender};
 pub use errors::{SendError, TryRecvError, TrySendError};
+pub use messages::{Recv, Send};
 pub use rule::{Delivery, Hand};
 pub use sender::channel;

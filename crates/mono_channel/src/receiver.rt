@@ -77,7 +77,7 @@ impl<T: Drop, U: Unpark> Receiver<T, U> {
     }
 
     // Looks again, and waits if there is no message.
-    fn take_or_pend<R: Host>(
+    pub(crate) fn take_or_pend<R: Host>(
         &mut self,
         rt: &R,
         waker: RemoteWaker<U>,

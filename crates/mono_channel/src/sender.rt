@@ -140,7 +140,7 @@ impl<T: Drop, U: Unpark> Sender<T, U> {
     }
 
     // Looks again for a place, and waits if there is none.
-    fn send_or_pend<R: Host>(
+    pub(crate) fn send_or_pend<R: Host>(
         &mut self,
         rt: &R,
         waker: RemoteWaker<U>,
