@@ -6,6 +6,7 @@ mod buckets;
 mod churn;
 mod errands;
 mod ring;
+mod sparse;
 mod sweep;
 mod turns;
 mod wheel;
@@ -18,9 +19,10 @@ const HELP: &str = "usage: mono_bench WORKLOAD ..
        mono_bench all: a small run of each";
 
 // The words of each workload.
-const HELPS: [&str; 8] = [
+const HELPS: [&str; 9] = [
     wheel::HELP,
     churn::HELP,
+    sparse::HELP,
     errands::HELP,
     buckets::HELP,
     beats::HELP,
@@ -33,6 +35,7 @@ const HELPS: [&str; 8] = [
 fn run_all<R: Host + Send + 'static>(rt: &HostRuntime, host: &R) -> io::Result<bool> {
     wheel::run_small(rt)?;
     churn::run_small(rt)?;
+    sparse::run_small(rt)?;
     errands::run_small(rt, host)?;
     buckets::run_small(rt)?;
     beats::run_small(rt)?;
@@ -53,6 +56,7 @@ fn run_workload<R: Host + Send + 'static>(
     match name {
         "wheel" => wheel::run_words(rt, words),
         "churn" => churn::run_words(rt, words),
+        "sparse" => sparse::run_words(rt, words),
         "errands" => errands::run_words(rt, host, words),
         "buckets" => buckets::run_words(rt, words),
         "beats" => beats::run_words(rt, words),
