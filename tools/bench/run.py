@@ -131,6 +131,8 @@ def workloads(b):
         (["turns", "come", ten], None),
         (["churn", ten, "1000"], None),
         (["errands", ten, "1000"], None),
+        (["sparse", "retries", ten, "1000000000"], None),
+        (["sparse", "actors", ten, "1000000000"], None),
         (["sweep", million, "100"], None),
     ]
     full = []
@@ -142,14 +144,16 @@ def workloads(b):
 def memory(b):
     """Prints the bytes of one of many: the peak memory of many without that of one, by how many there are."""
     count = 1000000 // b.by
-    print(f"\n## Memory\n\nPeak memory of {count} without that of one, by {count}.\n\n| Each | Command | Bytes |\n|---|---|---|")
-    for each, words in (
-        ("a task with a sleep", ["turns", "sleeps", "{}"]),
-        ("a session in a queue of two", ["beats", "{}", "0"]),
-        ("an actor without messages", ["ring", "{}", "0", "0"]),
+    print(f"\n## Memory\n\nPeak memory of many without that of two, by how many live.\n\n| Each | Command | Bytes |\n|---|---|---|")
+    for each, words, n, every in (
+        ("a task with a sleep", ["turns", "sleeps", "{}"], count, 1),
+        ("a session in a queue of two", ["beats", "{}", "0"], count, 1),
+        ("an actor without messages", ["ring", "{}", "0", "0"], count, 1),
+        ("the only live task of 64", ["sparse", "tasks", "{}", "64"], 16 * count, 64),
+        ("the only live task of 256", ["sparse", "tasks", "{}", "256"], 16 * count, 256),
     ):
-        many, one = (b.once([b.bench, *(word.format(n) for word in words)], None)[1] for n in (count, 2))
-        print(f"| {each} | `mono_bench {' '.join(words).format(count)}` | {1024 * (many - one) / count:.0f} |", flush=True)
+        many, two = (b.once([b.bench, *(word.format(m) for word in words)], None)[1] for m in (n, 2 * every))
+        print(f"| {each} | `mono_bench {' '.join(words).format(n)}` | {1024 * (many - two) * every / n:.0f} |", flush=True)
 
 
 def script(turns):
