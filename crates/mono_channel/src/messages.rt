@@ -48,7 +48,7 @@ impl<T: Drop, U: Unpark> Receiver<T, U> {
         cx: &mut C,
     ) -> Poll<Result<Option<T>, AllocError>>
         ensures polled { PollsToReceive self.old result self.new }
-        ensures same { cx.new ≡ cx.old }
+        ensures reached { C.reaches cx.old cx.new }
     {
         match self.try_recv(rt) {
             Ok(message) => return Poll::Ready(Ok(Some(message))),
@@ -82,7 +82,7 @@ impl<T: Drop, U: Unpark> Sender<T, U> {
     ) -> Poll<Result<(), SendError<T>>>
         requires { kept.old ≡ None }
         ensures polled { PollsToSend self.old (Some message) result self.new kept.new }
-        ensures same { cx.new ≡ cx.old }
+        ensures reached { C.reaches cx.old cx.new }
     {
         let again = match self.try_send(rt, message) {
             Ok(()) => return Poll::Ready(Ok(())),
@@ -103,7 +103,7 @@ impl<T: Drop, U: Unpark, C: RemoteContext<U>> TaskFuture<C> for Recv<T, U> {
 
     ghost is_spent = { λ f. is_none f.receiver };
 
-    ghost polls = { λ f c r g d. RecvPolls f.receiver r g.receiver × (d ≡ c) };
+    ghost polls = { λ f c r g d. RecvPolls f.receiver r g.receiver × C.reaches c d };
 
     ghost gives = { λ f. RecvGives f.receiver };
 
@@ -142,7 +142,7 @@ impl<T: Drop, U: Unpark, C: RemoteContext<U>> TaskFuture<C> for Send<T, U> {
 
     ghost is_spent = { λ f. is_none f.unsent };
 
-    ghost polls = { λ f c r g d. SendPolls f.unsent r g.unsent × (d ≡ c) };
+    ghost polls = { λ f c r g d. SendPolls f.unsent r g.unsent × C.reaches c d };
 
     ghost gives = { λ f. SendGives f.unsent };
 
