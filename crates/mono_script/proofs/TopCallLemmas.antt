@@ -40,19 +40,23 @@ pub carried : (words : List (List ℕ)) (readings : Option (List ℕ)) (a b : Vi
     → ((meaning readings k).reads ≡ false → b.left ≡ a.left) → Asks (meaning readings k).workers a.starts b.starts s
     → CarriesOut words readings a b (status_code s)
 carried words readings a b k s is ends later read_stays write_stays unread asks = record {
-  usage = (λ two. absurd (no_usage (meaning readings k) a.left b.left a.written b.written (HasRisen a.read_faults b.read_faults) (HasRisen a.write_faults b.write_faults) s ends two), λ no. absurd (no k is));
+  usage = (λ two. absurd (no_usage (meaning readings k) a.left b.left a.written b.written (HasRisen a.read_faults b.read_faults) (HasRisen a.write_faults b.write_faults) s ends two), λ none_spelled. absurd (none_spelled k is));
   untouched = λ two. absurd (no_usage (meaning readings k) a.left b.left a.written b.written (HasRisen a.read_faults b.read_faults) (HasRisen a.write_faults b.write_faults) s ends two);
   done = λ e c spelled. moved words k c (λ c. EndsIn (meaning readings c) a b status.Done) is (by (meaning readings k) a b s status.Done ends (status_once s status.Done e)) spelled;
   not_a_run = λ e c spelled. moved words k c (λ c. EndsIn (meaning readings c) a b status.NotARun) is (by (meaning readings k) a b s status.NotARun ends (status_once s status.NotARun e)) spelled;
   turns = λ e c spelled. moved words k c (λ c. EndsIn (meaning readings c) a b status.Turns) is (by (meaning readings k) a b s status.Turns ends (status_once s status.Turns e)) spelled;
   capacity = λ e c spelled. moved words k c (λ c. EndsIn (meaning readings c) a b status.Capacity) is (by (meaning readings k) a b s status.Capacity ends (status_once s status.Capacity e)) spelled;
   bad_line = λ e c spelled. moved words k c (λ c. EndsIn (meaning readings c) a b status.BadLine) is (by (meaning readings k) a b s status.BadLine ends (status_once s status.BadLine e)) spelled;
-  read_fault = λ e. (by (meaning readings k) a b s status.ReadFault ends (status_once s status.ReadFault e)).1;
+  read_fault = λ e.
+      let p = by (meaning readings k) a b s status.ReadFault ends (status_once s status.ReadFault e) in
+      (p.1, p.2);
   write_fault = λ e.
       let p = by (meaning readings k) a b s status.WriteFault ends (status_once s status.WriteFault e) in
       (p.0, λ c spelled. (moved words k c (λ c. EndsIn (meaning readings c) a b status.WriteFault) is p spelled).1);
   out_of_memory = λ e. by (meaning readings k) a b s status.OutOfMemory ends (status_once s status.OutOfMemory e);
-  too_long = λ e. (by (meaning readings k) a b s status.TooLong ends (status_once s status.TooLong e)).1;
+  too_long = λ e.
+      let p = by (meaning readings k) a b s status.TooLong ends (status_once s status.TooLong e) in
+      (p.1, p.2);
   others = (s, refl);
   too_long_where = λ c input spelled told read.
       let p = moved words k c (λ c. EndsIn (meaning readings c) a b s) is ends spelled in
@@ -80,8 +84,8 @@ carried words readings a b k s is ends later read_stays write_stays unread asks 
 -- Words that are no command end with Usage, and leave all as it was.
 pub refused : (words : List (List ℕ)) (readings : Option (List ℕ)) (a b : View) → IsNoCommand words → b ≡ a
     → CarriesOut words readings a b 2
-refused words readings a b no same = record {
-  usage = (λ _. no, λ _. refl);
+refused words readings a b none_spelled same = record {
+  usage = (λ _. none_spelled, λ _. refl);
   untouched = λ _. same;
   done = λ e. absurd (omega (arith, e));
   not_a_run = λ e. absurd (omega (arith, e));
@@ -93,13 +97,13 @@ refused words readings a b no same = record {
   out_of_memory = λ e. absurd (omega (arith, e));
   too_long = λ e. absurd (omega (arith, e));
   others = (status.Usage, refl);
-  too_long_where = λ c input spelled. absurd (no c spelled);
-  bad_line_where = λ c input spelled. absurd (no c spelled);
-  complete = λ c input spelled. absurd (no c spelled);
-  capacity_where = λ workers turns input script spelled. absurd (no (command.Run workers turns) spelled);
-  unread = λ c spelled. absurd (no c spelled);
+  too_long_where = λ c input spelled. absurd (none_spelled c spelled);
+  bad_line_where = λ c input spelled. absurd (none_spelled c spelled);
+  complete = λ c input spelled. absurd (none_spelled c spelled);
+  capacity_where = λ workers turns input script spelled. absurd (none_spelled (command.Run workers turns) spelled);
+  unread = λ c spelled. absurd (none_spelled c spelled);
   counts = (omega (arith, ap (λ v. v.read_faults) same), omega (arith, ap (λ v. v.write_faults) same));
   read_fault_where = λ less. absurd (omega (arith, less, ap (λ v. v.read_faults) same));
   write_fault_where = λ less. absurd (omega (arith, less, ap (λ v. v.write_faults) same));
-  starts = λ c t spelled. absurd (no c spelled);
+  starts = λ c t spelled. absurd (none_spelled c spelled);
 }
