@@ -1,5 +1,5 @@
-use Rattle.std.proofs.Common.{◌≡◌, ℕ, ⊤, subst, sym}
-use Rattle.std.specs.Prelude.{Result, Ok, Err, OnOk, OnErr, List}
+use Rattle.std.proofs.Common.{◌≡◌, ℕ, subst, sym}
+use Rattle.std.specs.Prelude.{⊤, Result, Ok, Err, OnOk, OnErr, List}
 use Rattle.mono_time.specs.Instants.{nanos_of}
 use Rattle.mono_limit.specs.Limiter.{Limits}
 use Rattle.mono_limit.specs.Limits.{limits_of, ListsInto}
@@ -13,4 +13,4 @@ after_step (Ok x) old new n before after (due, is, step) refused = called_clock 
 after_step (Err e) old new n before after lists (same, is) = subst (λ x. Called (limits_of old) (limits_of x)) (sym same) (called_itself (limits_of old))
 
 pub returns : goal.returns
-returns g c = after_step c.advance.result c.args.limiter.now c.advance.new.self (nanos_of c.args.now) _ _ c.advance.ensures.due c.advance.ensures.refused
+returns c = after_step c.advance.result c.args.limiter.now c.advance.new.self (nanos_of c.args.now) _ _ c.advance.ensures.due c.advance.ensures.refused
