@@ -4,10 +4,6 @@
 #[cfg(test)]
 mod calls;
 #[cfg(test)]
-mod closes;
-#[cfg(test)]
 mod crossings;
-#[cfg(test)]
-mod lanes;
 #[cfg(test)]
 mod wakes;

@@ -4,8 +4,6 @@
 #[cfg(test)]
 mod channels;
 #[cfg(test)]
-mod futures;
-#[cfg(test)]
 mod memory;
 #[cfg(test)]
 mod notices;
