@@ -1,0 +1,87 @@
+//! Tasks of one runtime that wait for a lock in its queue.
+#![tactic(auto)]
+
+ghost use Rattle.std.specs.Prelude.{◌≡◌, IfSome};
+ghost use Rattle.mono_rt.specs.Views.{Rests, turn_of};
+
+mod clients;
+mod locks;
+
+use clients::Client;
+use locks::Locks;
+use mono_rt::{Host, JoinHandle, NoPool, Runtime, RuntimeBuilder, StepDriver, TimeDriver};
+use std::alloc::Global;
+use std::io;
+
+type Running = Runtime<Client, u64, TimeDriver<StepDriver>, NoPool, Locks>;
+
+type Handle = JoinHandle<u64>;
+
+// Returns a runtime whose tasks share a lock.
+fn lock_runtime(alloc: Global) -> Option<Running>
+    ensures { IfSome result (λ made. Rests made) }
+{
+    let driver = TimeDriver::new(StepDriver::new(Vec::new(alloc)));
+    let builder: RuntimeBuilder<TimeDriver<StepDriver>, NoPool> = RuntimeBuilder::new(driver);
+    let locks = Locks::new(alloc, 3).ok()?;
+    match builder.build_sharing(alloc, locks) {
+        Ok(made) => Some(made),
+        Err(_) => None,
+    }
+}
+
+// Spawns a task that holds the lock for this many milliseconds.
+fn spawn(alloc: Global, runtime: &mut Running, millis: u64) -> Option<Handle>
+    ensures { turn_of runtime.new ≡ turn_of runtime.old }
+{
+    runtime.spawn(alloc, Client::new(millis)).ok()
+}
+
+// Runs the tasks until this one has ended. Drops its handle, and returns its output.
+fn output_of<R: Host>(rt: &R, alloc: Global, runtime: &mut Running, handle: Handle) -> Option<u64>
+    requires { Rests runtime.old }
+    ensures { Rests runtime.new }
+{
+    let ended = runtime.run_until(rt, alloc, &handle, 1000);
+    let output = runtime.drop_join(handle);
+    if ended.is_err() {
+        return None;
+    }
+    output.unwrap_or(None)
+}
+
+// Spawns three tasks that hold the lock for these times.
+fn spawn_all(
+    alloc: Global,
+    runtime: &mut Running,
+    times: (u64, u64, u64),
+) -> Option<(Handle, Handle, Handle)>
+    ensures { turn_of runtime.new ≡ turn_of runtime.old }
+{
+    let first = spawn(alloc, runtime, times.0)?;
+    let second = spawn(alloc, runtime, times.1)?;
+    let third = spawn(alloc, runtime, times.2)?;
+    Some((first, second, third))
+}
+
+// Runs three tasks that hold one lock for these times. Returns at which millisecond each one released it.
+fn released_at<R: Host>(rt: &R, alloc: Global, times: (u64, u64, u64)) -> Option<(u64, u64, u64)> {
+    let mut runtime = lock_runtime(alloc)?;
+    let (first, second, third) = spawn_all(alloc, &mut runtime, times)?;
+    let first = output_of(rt, alloc, &mut runtime, first)?;
+    let second = output_of(rt, alloc, &mut runtime, second)?;
+    let third = output_of(rt, alloc, &mut runtime, third)?;
+    Some((first, second, third))
+}
+
+fn main(rt: HostRuntime) -> io::Result<()> {
+    for times in [(10, 20, 30), (30, 20, 10), (500, 400, 200)] {
+        match released_at(&rt, rt.alloc(), times) {
+            Some((first, second, third)) => println!(rt;
+                "released at {first}, {second} and {third} ms"
+            )?,
+            None => println!(rt; "gave up")?,
+        }
+    }
+    Ok(())
+}
