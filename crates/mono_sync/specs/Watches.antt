@@ -1,5 +1,5 @@
 -- A watched value, and the effect of its calls.
-use Rattle.std.specs.Prelude.{true, false, ◌≡◌, ◌≢◌, ◌<◌, ◌≤◌, ◌+◌, ◌⊎◌, ℕ, List, [], ◌∷◌, ◌++◌, Option, Some, None, Result, Ok, Err}
+use Rattle.std.specs.Prelude.{true, false, ◌≡◌, ◌≢◌, ◌<◌, ◌≤◌, ◌+◌, ◌^◌, ◌⊎◌, ℕ, List, [], ◌∷◌, ◌++◌, Option, Some, None, Result, Ok, Err}
 use Rattle.mono_sync.specs.declared.lines.Waiter.{Waiter}
 use Rattle.mono_sync.specs.declared.watch.Watch.{Watch}
 use Rattle.mono_sync.specs.declared.watch.Replaced.{Replaced}
@@ -12,10 +12,10 @@ module _ {T : Type 0} where
   abbrev pub Kept : Watch T → Watch T → Type 0
   Kept a b = (b.value ≡ a.value) × (b.version ≡ a.version) × (b.is_closed ≡ a.is_closed)
 
-  -- The value is replaced and all waiting tasks are served, or the new value comes back.
+  -- The value is replaced and all waiting tasks are served. The new value comes back if it was closed or no version is left.
   abbrev pub Sends : Watch T → T → Result (Replaced T) T → Watch T → Type 0
   Sends a x (Ok r) b = (a.is_closed ≡ false) × (b.value ≡ x) × (r.old ≡ a.value) × (b.version ≡ a.version + 1) × (r.woken.items ≡ a.line.waiters.items) × (b.line.waiters.items ≡ []) × (b.line.next ≡ a.line.next) × (b.is_closed ≡ false)
-  Sends a x (Err y) b = (y ≡ x) × (b ≡ a)
+  Sends a x (Err y) b = (y ≡ x) × ((a.is_closed ≡ true) ⊎ (2 ^ 64 ≤ a.version + 1)) × (b ≡ a)
 
   -- A future that has seen a version asks for another.
   abbrev pub Changes : Watch T → ℕ → Option ℕ → ℕ → Changing → Watch T → Type 0

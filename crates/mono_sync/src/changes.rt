@@ -1,6 +1,7 @@
 // The calls of a task on a watched value: it waits for another value, and replaces it.
-ghost use Rattle.std.specs.Prelude.{◌≡◌, false};
+ghost use Rattle.std.specs.Prelude.{◌≡◌, true, false};
 ghost use Rattle.std.specs.declared.option.Option.TheVariants.{None};
+ghost use Rattle.mono_model.specs.Poll.{OnReady};
 ghost use Rattle.mono_sync.specs.Watches.{Sends, Changes, GivesUp, Closes};
 ghost use Rattle.mono_sync.specs.Changes.{ChangedPolls, SendWakes, CloseWakes};
 
@@ -176,9 +177,9 @@ impl<T: Drop, W: Holds<Watch<T>>, C: SharedContext<W>> TaskFuture<C> for Changed
 
     ghost is_spent = { λ f. f.has_answered };
 
-    ghost polls = { λ f c r g d. ChangedPolls (λ x. W.part (C.shared x)) C.number C.work f.seen f.ticket c r g.ticket d };
+    ghost polls = { λ f c r g d. ChangedPolls (λ x. W.part (C.shared x)) C.number C.work f.seen f.ticket c r g.ticket d × (g.seen ≡ f.seen) × OnReady r ((g.ticket ≡ None) × (g.has_answered ≡ true)) };
 
-    ghost cancels = { λ f c d. GivesUp (W.part (C.shared c)) f.ticket (W.part (C.shared d)) };
+    ghost cancels = { λ f c d. GivesUp (W.part (C.shared c)) f.ticket (W.part (C.shared d)) × (C.work d ≡ C.work c) };
 
     fn spent(&self) -> bool {
         self.has_answered

@@ -1,5 +1,6 @@
 // The calls of a task on a channel for one message: it sends and receives.
-ghost use Rattle.std.specs.Prelude.{◌≡◌, false};
+ghost use Rattle.std.specs.Prelude.{◌≡◌, true, false};
+ghost use Rattle.mono_model.specs.Poll.{OnReady};
 ghost use Rattle.mono_sync.specs.Oneshot.{Sends, Receives, Closes, GivesUp};
 ghost use Rattle.mono_sync.specs.Deliveries.{RecvPolls, SendWakes, CloseWakes};
 
@@ -138,9 +139,9 @@ impl<T: Drop, W: Holds<Oneshot<T>>, C: SharedContext<W>> TaskFuture<C> for Recv<
 
     ghost is_spent = { λ f. f.has_answered };
 
-    ghost polls = { λ f c r g d. RecvPolls (λ x. W.part (C.shared x)) C.number C.work c r d };
+    ghost polls = { λ f c r g d. RecvPolls (λ x. W.part (C.shared x)) C.number C.work c r d × OnReady r (g.has_answered ≡ true) };
 
-    ghost cancels = { λ f c d. GivesUp (W.part (C.shared c)) (W.part (C.shared d)) };
+    ghost cancels = { λ f c d. GivesUp (W.part (C.shared c)) (W.part (C.shared d)) × (C.work d ≡ C.work c) };
 
     fn spent(&self) -> bool {
         self.has_answered

@@ -1,6 +1,7 @@
 // The calls of a task on a channel: it sends and receives.
-ghost use Rattle.std.specs.Prelude.{◌≡◌, false};
+ghost use Rattle.std.specs.Prelude.{◌≡◌, true, false};
 ghost use Rattle.std.specs.declared.option.Option.TheVariants.{None, Some};
+ghost use Rattle.mono_model.specs.Poll.{OnReady};
 ghost use Rattle.mono_sync.specs.Mpsc.{TriesToSend, TriesToReceive, Sends, Receives, GivesUpSend, GivesUpReceive, Closes};
 ghost use Rattle.mono_sync.specs.Messages.{SendPolls, SendCancels, RecvPolls, RecvCancels, TrySendWakes, TryRecvWakes, CloseWakes, has_none};
 
@@ -295,7 +296,7 @@ impl<T: Drop, W: Holds<Channel<T>>, C: SharedContext<W>> TaskFuture<C> for Send<
 
     ghost is_spent = { λ f. has_none f.message };
 
-    ghost polls = { λ f c r g d. SendPolls (λ x. W.part (C.shared x)) C.number C.work f.message f.ticket c r g.message g.ticket d };
+    ghost polls = { λ f c r g d. SendPolls (λ x. W.part (C.shared x)) C.number C.work f.message f.ticket c r g.message g.ticket d × OnReady r ((g.message ≡ None) × (g.ticket ≡ None)) };
 
     ghost cancels = { λ f c d. SendCancels (λ x. W.part (C.shared x)) C.number C.work f.ticket c d };
 
@@ -352,7 +353,7 @@ impl<T: Drop, W: Holds<Channel<T>>, C: SharedContext<W>> TaskFuture<C> for Recv<
 
     ghost is_spent = { λ f. f.has_answered };
 
-    ghost polls = { λ f c r g d. RecvPolls (λ x. W.part (C.shared x)) C.number C.work f.ticket c r g.ticket d };
+    ghost polls = { λ f c r g d. RecvPolls (λ x. W.part (C.shared x)) C.number C.work f.ticket c r g.ticket d × OnReady r ((g.ticket ≡ None) × (g.has_answered ≡ true)) };
 
     ghost cancels = { λ f c d. RecvCancels (λ x. W.part (C.shared x)) C.number C.work f.ticket c d };
 

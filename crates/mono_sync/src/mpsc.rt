@@ -91,6 +91,7 @@ impl<T: Drop> Channel<T> {
         ensures receivers { result.receivers.waiters.items ≡ [] }
         ensures reserved { result.senders.granted ≡ 0 }
         ensures promised { result.receivers.granted ≡ 0 }
+        ensures tickets { (result.senders.next ≡ 0) × (result.receivers.next ≡ 0) }
     {
         Channel {
             queue: VecDeque::new(alloc),

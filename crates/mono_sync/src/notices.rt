@@ -48,6 +48,7 @@ impl Notify {
     pub fn new(alloc: Global) -> Notify
         ensures waiters { result.line.waiters.items ≡ [] }
         ensures kept { result.is_notified ≡ false }
+        ensures tickets { (result.line.next ≡ 0) × (result.cleared ≡ 0) }
     {
         Notify {
             is_notified: false,

@@ -1,6 +1,7 @@
 // The calls of a task on a notice: it waits, and notifies.
-ghost use Rattle.std.specs.Prelude.{◌≡◌, false};
+ghost use Rattle.std.specs.Prelude.{◌≡◌, true, false};
 ghost use Rattle.std.specs.declared.option.Option.TheVariants.{None};
+ghost use Rattle.mono_model.specs.Poll.{OnReady};
 ghost use Rattle.mono_sync.specs.Notices.{NotifiesOne, NotifiesAll, Awaits, GivesUp};
 ghost use Rattle.mono_sync.specs.Notifications.{NotifiedPolls, NotifiedCancels, OneWakes, AllWakes};
 
@@ -130,7 +131,7 @@ impl<W: Holds<Notify>, C: SharedContext<W>> TaskFuture<C> for Notified<W> {
 
     ghost is_spent = { λ f. f.has_answered };
 
-    ghost polls = { λ f c r g d. NotifiedPolls (λ x. W.part (C.shared x)) C.number C.work f.ticket c r g.ticket d };
+    ghost polls = { λ f c r g d. NotifiedPolls (λ x. W.part (C.shared x)) C.number C.work f.ticket c r g.ticket d × OnReady r ((g.ticket ≡ None) × (g.has_answered ≡ true)) };
 
     ghost cancels = { λ f c d. NotifiedCancels (λ x. W.part (C.shared x)) C.number C.work f.ticket c d };
 

@@ -1,6 +1,7 @@
 // The calls of a task on a semaphore: it acquires and releases.
-ghost use Rattle.std.specs.Prelude.{◌≡◌, false};
+ghost use Rattle.std.specs.Prelude.{◌≡◌, true, false};
 ghost use Rattle.std.specs.declared.option.Option.TheVariants.{None};
+ghost use Rattle.mono_model.specs.Poll.{OnReady};
 ghost use Rattle.mono_sync.specs.Semaphores.{TriesToAcquire, Acquires, Releases, GivesUp, Closes};
 ghost use Rattle.mono_sync.specs.Permits.{AcquirePolls, AcquireCancels, ReleaseWakes, CloseWakes};
 
@@ -170,7 +171,7 @@ impl<W: Holds<Semaphore>, C: SharedContext<W>> TaskFuture<C> for Acquire<W> {
 
     ghost is_spent = { λ f. f.has_answered };
 
-    ghost polls = { λ f c r g d. AcquirePolls (λ x. W.part (C.shared x)) C.number C.work f.ticket c r g.ticket d };
+    ghost polls = { λ f c r g d. AcquirePolls (λ x. W.part (C.shared x)) C.number C.work f.ticket c r g.ticket d × OnReady r ((g.ticket ≡ None) × (g.has_answered ≡ true)) };
 
     ghost cancels = { λ f c d. AcquireCancels (λ x. W.part (C.shared x)) C.number C.work f.ticket c d };
 

@@ -66,6 +66,7 @@ impl Semaphore {
         ensures available { result.available ≡ permits }
         ensures waiters { result.line.waiters.items ≡ [] }
         ensures granted { result.line.granted ≡ 0 }
+        ensures tickets { result.line.next ≡ 0 }
         ensures open { result.is_closed ≡ false }
     {
         Semaphore {

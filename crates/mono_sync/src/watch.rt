@@ -60,6 +60,7 @@ impl<T: Drop> Watch<T> {
         ensures version { result.version ≡ 0 }
         ensures open { result.is_closed ≡ false }
         ensures waiters { result.line.waiters.items ≡ [] }
+        ensures tickets { result.line.next ≡ 0 }
     {
         Watch {
             value,

@@ -28,7 +28,7 @@ const LEAST_ROOM: usize = 4;
 /// The tasks of an executor, by their numbers, and their run queue.
 ///
 /// Numbers count from 0 and are never given twice. A task is live while it has not finished or its handle is kept. The
-/// table keeps nothing of a task that is not live.
+/// table removes the entry of a task that is not live; 40 bytes stay for each 65,536 numbers.
 #[derive(Drop)]
 pub struct Tasks<O> {
     // The numbers of the queued tasks, the front first, with room for each task that has not finished.

@@ -20,8 +20,9 @@ use std::sync::ledger::Ledger;
 /// The sleeps of an executor, by their numbers, on a [`Wheel`].
 ///
 /// A sleep is fresh, armed at a tick, or elapsed. An armed sleep has at most one waker, the task that polled it last.
-/// Ticks are milliseconds below 2^63. Only `new` and `add` take memory. A sleep's number is never given twice, and the
-/// table keeps nothing of a removed sleep: each key of the wheel belongs to a live sleep (`holds`).
+/// Ticks are milliseconds below 2^63. Only `new` and `add` take memory. A sleep's number is never given twice. The
+/// table removes a removed sleep's entry, and each key of the wheel belongs to a live sleep (`holds`); 40 bytes stay for
+/// each 65,536 numbers.
 #[derive(Drop)]
 pub struct Timers {
     wheel: Wheel,
