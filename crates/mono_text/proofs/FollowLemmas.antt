@@ -251,6 +251,10 @@ module _ {S A : Type 0} (text : A → List ℕ) (Fits : A → Type 0) (Answers :
   goes_on start now new pending rest left mid before written after p a =
       (after_answers start now new pending rest a.0.0 left mid before written after p a.0.1 a.0.2, a.1)
 
+  -- without a line feed no line is answered
+  pub nothing_ready : (now : S) (pending : List ℕ) (written : Option (List ℕ)) → HasNoFeed pending → Answered text Fits Answers now pending None now pending written written
+  nothing_ready now pending written whole = (([], not_advanced now pending [], written_none written), whole)
+
   -- a read failed
   pub unread : (start now : S) (pending : List ℕ) (left mid next before written : Option (List ℕ)) → Standing start now pending left mid before written → next ≡ mid
       → HasFollowed text Fits Answers start end.ReadFault pending left next before written

@@ -131,6 +131,28 @@ fn answer_block<V: Service, K: Sink>(
     }
 }
 
+// Answers the whole lines at the front of what was read, and writes the answers. Without a line feed there is none, so a
+// long line is not read again with each block.
+fn answer_pending<V: Service, K: Sink>(
+    alloc: Global,
+    service: &mut V,
+    pending: Vec<u8>,
+    has_feed: bool,
+    sink: &mut K,
+) -> Block
+    requires { has_feed ≡ false → HasNoFeed pending.items }
+    ensures { Answered V.text V.fits V.answers service.old pending.items result.end service.new result.rest.items (K.written sink.old) (K.written sink.new) }
+{
+    if !has_feed {
+        return Block {
+            end: None,
+            lines: 0,
+            rest: pending,
+        };
+    }
+    answer_block(alloc, service, &pending, sink)
+}
+
 // Returns how an input ends after these bytes.
 fn end_behind(pending: &[u8]) -> FollowEnd
     ensures { result ≡ end_of pending.now }
@@ -172,14 +194,16 @@ fn follow_through<V: Service, S: Source, K: Sink>(
                 rest: pending,
             };
         }
-        if pending.extend_from_slice(front_of(block, n)).is_err() {
+        let fresh = front_of(block, n);
+        let has_feed = Reader::new(fresh).has_line();
+        if pending.extend_from_slice(fresh).is_err() {
             return Followed {
                 end: FollowEnd::OutOfMemory,
                 lines,
                 rest: pending,
             };
         }
-        let made = answer_block(alloc, &mut service, &pending, sink);
+        let made = answer_pending(alloc, &mut service, pending, has_feed, sink);
         lines = lines.saturating_add(made.lines);
         if let Some(end) = made.end {
             return Followed {
