@@ -1,0 +1,52 @@
+// The shared value of the tasks.
+ghost use Rattle.std.specs.Prelude.{refl};
+ghost use Rattle.mono_sync.specs.Runs.{Leads, leads_itself, leads_on};
+ghost use Rattle.mono_serve.specs.BucketCalls.{Step};
+
+use crate::takers::Answer;
+use mono_rt::SharedState;
+use mono_serve::Buckets;
+use mono_sync::Holds;
+
+/// The answer of a task, and when it came.
+#[derive(Clone, Copy)]
+pub struct Note {
+    /// The time in milliseconds.
+    pub at_ms: u64,
+    /// The number of the taker.
+    pub name: u64,
+    /// The answer.
+    pub answer: Answer,
+}
+
+/// Buckets, and notes of the answers.
+#[derive(Drop)]
+pub struct Shelf {
+    /// The buckets.
+    pub buckets: Buckets,
+    /// The notes, in the order in which they were made.
+    pub notes: Vec<Note>,
+}
+
+/// Calls of the buckets were made, and notes were taken.
+impl SharedState for Shelf {
+    ghost leads = { λ a b. Leads Step a.buckets b.buckets };
+
+    ghost leads_itself = { λ a. leads_itself Step a.buckets };
+
+    ghost leads_on = { λ a b c. leads_on Step a.buckets b.buckets c.buckets };
+}
+
+impl Holds<Buckets> for Shelf {
+    ghost part = { λ w. w.buckets };
+
+    ghost with_part = { λ w x. record w { buckets = x } };
+
+    fn part_mut(&mut self) -> &mut Buckets {
+        &mut self.buckets
+    }
+
+    ghost part_with = { λ w x. refl };
+
+    ghost leads_with = { λ w x led. led };
+}
