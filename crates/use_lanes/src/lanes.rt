@@ -1,113 +1,108 @@
 // The task that sends numbers, and the task that receives them.
-ghost use Rattle.std.specs.Prelude.{◌≡◌, false};
+ghost use Rattle.use_lanes.specs.Lanes.{is_over};
 
-use mono_blocking::{Job, NoPool};
-use mono_channel::{Receiver, Sender};
-use mono_inbox::{RemoteWaker, UnparkHandle};
-use mono_joinword::Outcome;
-use mono_model::{Host, Poll};
-use mono_rt::Cx;
-use mono_task::TaskFuture;
+use mono_channel::{Receiver, Recv, Send, Sender};
+use mono_rt::{Context, Host, Poll, RemoteContext, TaskFuture, UnparkHandle};
 use std::alloc::Global;
-
-/// A job that is never made.
-#[derive(Drop)]
-pub struct Idle;
-
-impl Outcome for Idle {
-    ghost output_number = { λ job. 0 };
-
-    fn number(&self) -> u64 {
-        0
-    }
-}
-
-impl Job for Idle {
-    type Output = u64;
-
-    type Unpark = UnparkHandle;
-
-    fn run(self) -> u64 {
-        0
-    }
-}
-
-/// The context of both tasks.
-pub type Own = Cx<Lane, u64, NoPool<Idle>, UnparkHandle>;
+use std::mem;
 
 /// A task of one of the two runtimes.
 #[derive(Drop)]
 pub enum Lane {
-    /// It sends the numbers from one up to another, and answers how many it sent.
-    Sends(Sender<u64, UnparkHandle>, u64, u64),
-    /// It receives until the channel is closed, and answers the sum of the numbers, each times its place.
-    Receives(Receiver<u64, UnparkHandle>, u64, u64),
-}
-
-// Sends the numbers from `next` up to `end`, until each place is taken. The message that was not sent is made anew.
-fn send_some<R: Host>(
-    rt: &R,
-    waker: &RemoteWaker<UnparkHandle>,
-    sender: &mut Sender<u64, UnparkHandle>,
-    next: &mut u64,
-    end: u64,
-) -> Poll<u64> {
-    for number in *next..end {
-        let mut message = Some(number);
-        match sender.poll_send(rt, waker, &mut message) {
-            Poll::Ready(Ok(())) => *next = number.saturating_add(1),
-            Poll::Ready(Err(_)) => return Poll::Ready(number),
-            Poll::Pending => return Poll::Pending,
-        }
-    }
-    sender.close(rt);
-    Poll::Ready(*next)
-}
-
-// Receives until no message is queued.
-fn receive_some<R: Host>(
-    rt: &R,
-    waker: &RemoteWaker<UnparkHandle>,
-    receiver: &mut Receiver<u64, UnparkHandle>,
-    place: &mut u64,
-    sum: &mut u64,
-) -> Poll<u64> {
-    for _ in 0..u64::MAX {
-        match receiver.poll_recv(rt, waker) {
-            Poll::Ready(Ok(Some(number))) => {
-                *place = place.wrapping_add(1);
-                *sum = sum.wrapping_add(number.wrapping_mul(*place));
-            }
-            Poll::Ready(_) => return Poll::Ready(*sum),
-            Poll::Pending => return Poll::Pending,
-        }
-    }
-    Poll::Ready(*sum)
+    /// It sends this number, and then so many more.
+    Sends(Send<u64, UnparkHandle>, u64, u64),
+    /// It receives; how many numbers came, and their sum, each times its place.
+    Receives(Recv<u64, UnparkHandle>, u64, u64),
+    /// It has answered.
+    Over,
 }
 
 impl Lane {
-    // Sends or receives until the task waits or has ended.
-    fn go_on<R: Host>(&mut self, rt: &R, waker: &RemoteWaker<UnparkHandle>) -> Poll<u64> {
-        match self {
-            Lane::Sends(sender, next, end) => send_some(rt, waker, sender, next, *end),
-            Lane::Receives(receiver, place, sum) => receive_some(rt, waker, receiver, place, sum),
-        }
+    /// Returns a task that sends 0 and the numbers after it below `count`, and then closes its sender. It answers how many
+    /// it sent.
+    pub fn producer(sender: Sender<u64, UnparkHandle>, count: u64) -> Lane {
+        Lane::Sends(sender.send(0), 0, count.saturating_sub(1))
+    }
+
+    /// Returns a task that receives until the channel is closed. It answers the sum of the numbers, each times its place, or
+    /// 0 if out of memory.
+    pub fn consumer(receiver: Receiver<u64, UnparkHandle>) -> Lane {
+        Lane::Receives(receiver.recv(), 0, 0)
     }
 }
 
-impl TaskFuture<Own> for Lane {
+// Queues the running task again after its turn.
+fn again<C: Context>(cx: &mut C)
+    ensures { C.reaches cx.old cx.new }
+{
+    let me = cx.me();
+    let _ = cx.wake(me);
+}
+
+impl<C: RemoteContext<UnparkHandle>> TaskFuture<C> for Lane {
     type Output = u64;
 
+    ghost is_spent = { is_over };
+
     fn spent(&self) -> bool {
-        false
+        match self {
+            Lane::Over => true,
+            Lane::Sends(send, _, _) => TaskFuture::<C>::spent(send),
+            Lane::Receives(recv, _, _) => TaskFuture::<C>::spent(recv),
+        }
     }
 
-    fn poll<R: Host>(&mut self, rt: &R, _alloc: Global, cx: &mut Own) -> Poll<u64> {
-        let Ok(waker) = cx.remote_waker() else {
-            return Poll::Ready(0);
-        };
-        self.go_on(rt, &waker)
+    fn poll<R: Host>(&mut self, rt: &R, alloc: Global, cx: &mut C) -> Poll<u64> {
+        match mem::replace(self, Lane::Over) {
+            Lane::Over => Poll::Ready(0),
+            Lane::Sends(send, number, left) => {
+                let mut send = send;
+                match send.poll(rt, alloc, cx) {
+                    Poll::Pending => {
+                        *self = Lane::Sends(send, number, left);
+                        Poll::Pending
+                    }
+                    Poll::Ready((sender, answer)) => {
+                        let mut sender = sender;
+                        let sent = number.saturating_add(u64::from(answer.is_ok()));
+                        if left == 0 || answer.is_err() {
+                            sender.close(rt);
+                            return Poll::Ready(sent);
+                        }
+                        *self = Lane::Sends(sender.send(sent), sent, left - 1);
+                        again(cx);
+                        Poll::Pending
+                    }
+                }
+            }
+            Lane::Receives(recv, place, sum) => {
+                let mut recv = recv;
+                match recv.poll(rt, alloc, cx) {
+                    Poll::Pending => {
+                        *self = Lane::Receives(recv, place, sum);
+                        Poll::Pending
+                    }
+                    Poll::Ready((receiver, answer)) => match answer {
+                        Ok(Some(number)) => {
+                            let place = place.wrapping_add(1);
+                            let sum = sum.wrapping_add(number.wrapping_mul(place));
+                            *self = Lane::Receives(receiver.recv(), place, sum);
+                            again(cx);
+                            Poll::Pending
+                        }
+                        Ok(None) => Poll::Ready(sum),
+                        Err(_) => Poll::Ready(0),
+                    },
+                }
+            }
+        }
     }
 
-    fn cancel(self, _cx: &mut Own) {}
+    fn cancel(self, cx: &mut C) {
+        match self {
+            Lane::Over => {}
+            Lane::Sends(send, _, _) => send.cancel(cx),
+            Lane::Receives(recv, _, _) => recv.cancel(cx),
+        }
+    }
 }
