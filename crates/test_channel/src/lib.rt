@@ -4,6 +4,10 @@
 #[cfg(test)]
 mod calls;
 #[cfg(test)]
+mod closes;
+#[cfg(test)]
 mod crossings;
+#[cfg(test)]
+mod lanes;
 #[cfg(test)]
 mod wakes;

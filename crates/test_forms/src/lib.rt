@@ -4,6 +4,8 @@
 #[cfg(test)]
 mod chains;
 #[cfg(test)]
+mod jobs;
+#[cfg(test)]
 mod logs;
 #[cfg(test)]
 mod sequences;

@@ -4,6 +4,8 @@
 #[cfg(test)]
 mod channels;
 #[cfg(test)]
+mod futures;
+#[cfg(test)]
 mod memory;
 #[cfg(test)]
 mod notices;
