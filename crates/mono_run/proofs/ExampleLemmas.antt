@@ -16,7 +16,7 @@ use Rattle.mono_run.specs.Script.{MayStand}
 use Rattle.mono_run.proofs.ScriptTextLemmas.{body_once, may_fit, no_done}
 use Rattle.mono_run.proofs.FirstBadLineLemmas.{bad_in_kind}
 use Rattle.mono_run.specs.LineOrder.{MayFollow, goes_on, ends, front_texts}
-use Rattle.mono_run.specs.Examples.{NoSuchKind, no_such_kind_text, NoSleep, NoKind, EndsInAKind, script, kind, ASleep, ChildTasks, AJob, NotItsTurn, ASleepIsWritten}
+use Rattle.mono_run.specs.Examples.{NoSuchKind, no_such_kind_text, NoSleep, NoKind, EndsInAKind, script, kind, ASleep, ChildTasks, AJob, NotItsTurn, StrayEnd, ASleepIsWritten}
 
 pub a_sleep : ASleep
 a_sleep = (refl, refl, (refl, refl, tt))
@@ -32,6 +32,9 @@ no_sleep d = d
 
 pub not_its_turn : NotItsTurn
 not_its_turn d = cc d.0
+
+pub stray_end : StrayEnd
+stray_end d = d
 
 -- ---- numbers as text, by reading them
 

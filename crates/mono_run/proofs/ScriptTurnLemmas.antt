@@ -59,6 +59,7 @@ use Rattle.mono_run.specs.TaskStages.{lines_of}
 use Rattle.mono_run.specs.TaskPolls.{kind_of, left_of, output_of, place_of, new_task, new_futures, Fits, HasKept, RunsLines, PollsTask, stands_at}
 use Rattle.mono_run.specs.declared.tasks.ScriptTask.{ScriptTask}
 use Rattle.mono_run.specs.RunRecord.{told}
+use Rattle.mono_run.proofs.SegmentLemmas.{own_of, answers_of}
 use Rattle.mono_run.proofs.SpawnCountLemmas.{is_spawn, is_task, made_by, made_in, own_made, act_made, turn_made, AllBelow, MakeBelow, Makes, MakesIf, turn_makes, KindsBelow, sound_below}
 
 abbrev pub Futures : Type 0
@@ -202,11 +203,11 @@ module _ {P U J A V : Type 0} where
   gave kinds t reading steps replies e fs gs f c d answer left after is_unread lines none me now steps_are replies_are is_end placed stands ours over =
       let acts : lines.acts.acts ≡ steps = sym (lines.acts.steps_are ∙ ap (λ r. r.steps ++ lines.acts.acts) none) ∙ steps_are in
       let told : lines.acts.told ≡ replies = sym (lines.acts.replies_are ∙ ap (λ r. r.replies ++ lines.acts.told) none) ∙ replies_are in
-      let answers : lines.replies ≡ own_replies steps replies = sym lines.acts.answers ∙ ap (λ xs. own_replies xs lines.acts.told) acts ∙ ap (own_replies steps) told in
+      let answers : lines.replies ≡ own_replies steps replies = sym (answers_of c.parts.acts d.parts.acts lines.turned.steps lines.replies lines.acts) ∙ ap (λ xs. own_replies xs lines.acts.told) acts ∙ ap (own_replies steps) told in
       record {
         turned = lines.turned;
         gives = ap (λ rs. turn_of (place_of f) t reading rs) (sym answers) ∙ ap (λ x. turn_of (place_of f) x reading lines.replies) (sym me) ∙ ap (λ x. turn_of (place_of f) c.parts.me x lines.replies) (sym now) ∙ lines.gives;
-        own = ap own_steps (sym acts) ∙ lines.acts.own;
+        own = ap own_steps (sym acts) ∙ own_of c.parts.acts d.parts.acts lines.turned.steps lines.replies lines.acts;
         ends = is_end ∙ sym lines.ends;
         after = after;
         stands = lines.after ∙ stands;

@@ -15,7 +15,7 @@ use Rattle.mono_rt.specs.Numbering.{end_of}
 use Rattle.mono_rt.specs.Record.{Record, noted}
 use Rattle.mono_rt.specs.Reaches.{Reaches}
 use Rattle.mono_rt.specs.declared.contexts.Cx.{Cx}
-use Rattle.mono_run.specs.ScriptTurns.{Place, Turned, with_step, stops_at, acted, awaited, is_pending, is_job_end, own_steps, own_replies, turn_of, with_handle}
+use Rattle.mono_run.specs.ScriptTurns.{Place, Turned, with_step, stops_at, acted, awaited, is_pending, ended_job, sees, is_seen, own_steps, own_replies, turn_of, with_handle}
 use Rattle.mono_run.specs.TaskPolls.{Grew, HasKept, RunsLines, Fits, new_futures, new_task, place_of, stands_at}
 use Rattle.mono_run.specs.Segments.{Rest, behind, Goes}
 use Rattle.mono_run.specs.declared.tasks.ScriptTask.{ScriptTask}
@@ -39,20 +39,6 @@ behind_last steps made e after = rw (append-nil steps, append-nil made) refl
 
 -- ---- the record
 
-kept_by : {A : Type 0} (q : Bool) (x : A) (xs ys zs : List A) → xs ≡ ys ++ zs → (if q then xs else x ∷ xs) ≡ (if q then ys else x ∷ ys) ++ zs
-kept_by true x xs ys zs e = e
-kept_by false x xs ys zs e = ap (λ v. x ∷ v) e
-
-own_steps-append : (a b : List TurnStep) → own_steps (a ++ b) ≡ own_steps a ++ own_steps b
-own_steps-append [] b = refl
-own_steps-append (x ∷ a) b = kept_by (is_job_end x) x _ _ _ (own_steps-append a b)
-
-own_replies-append : (a : List TurnStep) (r : List Reply) (b : List TurnStep) (q : List Reply) → length r ≡ length a → own_replies (a ++ b) (r ++ q) ≡ own_replies a r ++ own_replies b q
-own_replies-append [] [] b q e = refl
-own_replies-append [] (y ∷ r) b q e = absurd (omega (arith, e))
-own_replies-append (x ∷ a) [] b q e = absurd (omega (arith, e))
-own_replies-append (x ∷ a) (y ∷ r) b q e = kept_by (is_job_end x) y _ _ _ (own_replies-append a r b q (omega (arith, e)))
-
 pub grew_on : (c d e : Record) (s u : List TurnStep) (r q : List Reply) → Grew c d s r → Grew d e u q → Grew c e (s ++ u) (r ++ q)
 grew_on c d e s u r q a b = record {
   acts = a.acts ++ b.acts;
@@ -60,8 +46,9 @@ grew_on c d e s u r q a b = record {
   steps_are = b.steps_are ∙ ap (λ x. x ++ b.acts) a.steps_are ∙ append_assoc c.steps a.acts b.acts;
   replies_are = b.replies_are ∙ ap (λ x. x ++ b.told) a.replies_are ∙ append_assoc c.replies a.told b.told;
   paired = omega (arith, length-append a.told b.told, length-append a.acts b.acts, a.paired, b.paired);
-  own = own_steps-append a.acts b.acts ∙ ap (λ x. x ++ own_steps b.acts) a.own ∙ ap (λ x. s ++ x) b.own;
-  answers = own_replies-append a.acts a.told b.acts b.told a.paired ∙ ap (λ x. x ++ own_replies b.acts b.told) a.answers ∙ ap (λ x. r ++ x) b.answers;
+  own = λ rest. ap own_steps (append_assoc a.acts b.acts rest) ∙ a.own (b.acts ++ rest) ∙ ap (λ x. s ++ x) (b.own rest) ∙ sym (append_assoc s u (own_steps rest));
+  answers = λ rest more. ap (λ x. own_replies x ((a.told ++ b.told) ++ more)) (append_assoc a.acts b.acts rest) ∙ ap (own_replies (a.acts ++ (b.acts ++ rest))) (append_assoc a.told b.told more)
+      ∙ a.answers (b.acts ++ rest) (b.told ++ more) ∙ ap (λ x. r ++ x) (b.answers rest more) ∙ sym (append_assoc r q (own_replies rest more));
 }
 
 pub grew_none : (c d : Record) → d ≡ c → Grew c d [] []
@@ -71,33 +58,45 @@ grew_none c d is = record {
   steps_are = ap (λ x. x.steps) is ∙ sym (append-nil c.steps);
   replies_are = ap (λ x. x.replies) is ∙ sym (append-nil c.replies);
   paired = refl;
-  own = refl;
-  answers = refl;
+  own = λ rest. refl;
+  answers = λ rest more. refl;
 }
 
--- one act, which is the task's own or not
-grew_by : (q : Bool) (c d : Record) (x : TurnStep) (r : Reply) → is_job_end x ≡ q → d ≡ noted c x r → Grew c d (if q then [] else x ∷ []) (if q then [] else r ∷ [])
-grew_by q c d x r own is = record {
+-- all of the steps and replies
+pub own_of : (c d : Record) (s : List TurnStep) (r : List Reply) (g : Grew c d s r) → own_steps g.acts ≡ s
+own_of c d s r g = ap own_steps (sym (append-nil g.acts)) ∙ g.own [] ∙ append-nil s
+
+pub answers_of : (c d : Record) (s : List TurnStep) (r : List Reply) (g : Grew c d s r) → own_replies g.acts g.told ≡ r
+answers_of c d s r g =
+    ap (λ x. own_replies x g.told) (sym (append-nil g.acts)) ∙ ap (own_replies (g.acts ++ [])) (sym (append-nil g.told)) ∙ g.answers [] [] ∙ append-nil r
+
+pub grew_one : (c d : Record) (x : TurnStep) (r : Reply) → ended_job x ≡ None → d ≡ noted c x r → Grew c d (x ∷ []) (r ∷ [])
+grew_one c d x r own is = record {
   acts = x ∷ [];
   told = r ∷ [];
   steps_are = ap (λ a. a.steps) is;
   replies_are = ap (λ a. a.replies) is;
   paired = refl;
-  own = ap (λ b. if b then [] else x ∷ []) own;
-  answers = ap (λ b. if b then [] else r ∷ []) own;
+  own = λ rest. ap (λ o. if is_seen o rest then own_steps rest else x ∷ own_steps rest) own;
+  answers = λ rest more. ap (λ o. if is_seen o rest then own_replies rest more else r ∷ own_replies rest more) own;
 }
 
-pub grew_one : (c d : Record) (x : TurnStep) (r : Reply) → is_job_end x ≡ false → d ≡ noted c x r → Grew c d (x ∷ []) (r ∷ [])
-grew_one c d x r own is = grew_by false c d x r own is
-
--- an act, perhaps after the end of a job
-pub grew_job : (c d : Record) (j : ℕ) (end : Option job.End) (x : TurnStep) (r : Reply) → is_job_end x ≡ false → d ≡ noted (noted_end c j end) x r → Grew c d (x ∷ []) (r ∷ [])
-grew_job c d j None x r own is = grew_one c d x r own is
-grew_job c d j (Some e) x r own is =
-    let mid = noted_end c j (Some e) in
-    grew_on c mid d [] (x ∷ []) [] (r ∷ [])
-    (grew_by true c mid (step.Act (act.JobEnd j e.how)) (reply.Ended e.waiter) refl refl)
-    (grew_one mid d x r own is)
+-- an act that may have seen the end of a job
+pub grew_job : (c d : Record) (j : ℕ) (end : Option job.End) (x : TurnStep) (r : Reply) → ended_job x ≡ None → sees j x ≡ true → d ≡ noted (noted_end c j end) x r → Grew c d (x ∷ []) (r ∷ [])
+grew_job c d j None x r own saw is = grew_one c d x r own is
+grew_job c d j (Some e) x r own saw is =
+    let end : TurnStep = step.Act (act.JobEnd j e.how) in
+    let told : Reply = reply.Ended e.waiter in
+    record {
+      acts = end ∷ x ∷ [];
+      told = told ∷ r ∷ [];
+      steps_are = ap (λ a. a.steps) is ∙ append_assoc c.steps (end ∷ []) (x ∷ []);
+      replies_are = ap (λ a. a.replies) is ∙ append_assoc c.replies (told ∷ []) (r ∷ []);
+      paired = refl;
+      own = λ rest. ap (λ b. if b then own_steps (x ∷ rest) else end ∷ own_steps (x ∷ rest)) saw ∙ ap (λ o. if is_seen o rest then own_steps rest else x ∷ own_steps rest) own;
+      answers = λ rest more. ap (λ b. if b then own_replies (x ∷ rest) (r ∷ more) else told ∷ own_replies (x ∷ rest) (r ∷ more)) saw
+          ∙ ap (λ o. if is_seen o rest then own_replies rest more else r ∷ own_replies rest more) own;
+    }
 
 -- ---- contexts
 

@@ -27,7 +27,7 @@ use Rattle.mono_machine.specs.declared.events.Refusal.TheVariants as refusal
 use Rattle.mono_machine.specs.declared.events.Blocking.{Blocking}
 use Rattle.mono_machine.specs.declared.events.Blocking.TheVariants as blocking
 use Rattle.mono_time.specs.Futures.{deadline_after}
-use Rattle.mono_run.specs.ScriptTurns.{Place, place, Turned, with_step, stops_at, acted, awaited, with_handle, asked, none_made, if_made, is_pending, task_in, sleep_in, job_in, turn_from, turn_of, sleep_steps, own_steps, own_replies, is_job_end}
+use Rattle.mono_run.specs.ScriptTurns.{Place, place, Turned, with_step, stops_at, acted, awaited, with_handle, asked, none_made, if_made, is_pending, task_in, sleep_in, job_in, turn_from, turn_of, sleep_steps, own_steps, own_replies, ended_job, is_seen}
 use Rattle.mono_run.specs.Script.{Kind, MayStand, AllMayStand, AreSoundKinds}
 use Rattle.mono_run.specs.declared.scripts.body.BodyLine.{BodyLine}
 use Rattle.mono_run.specs.declared.scripts.body.BodyLine.TheVariants as body
@@ -54,32 +54,32 @@ no_replies [] = refl
 no_replies (s ∷ steps) = refl
 
 -- the end of a job makes none
-no_task : (s : TurnStep) (r : Reply) → is_job_end s ≡ true → made_by s r ≡ 0
-no_task (step.Act act.Spawn) r is = absurd (false-true is)
+no_task : (s : TurnStep) (r : Reply) (steps : List TurnStep) → is_seen (ended_job s) steps ≡ true → made_by s r ≡ 0
+no_task (step.Act act.Spawn) r steps is = absurd (false-true is)
   where
     false-true : false ≡ true → ⊥
     false-true e = cc
-no_task (step.Act (act.Wake t)) r is = refl
-no_task (step.Act (act.NewSleep n)) r is = refl
-no_task (step.Act (act.Reset s n)) r is = refl
-no_task (step.Act (act.DropSleep s)) r is = refl
-no_task (step.Act (act.SleepElapsed s)) r is = refl
-no_task (step.Act (act.DropJoin t)) r is = refl
-no_task (step.Act (act.Block o)) r is = refl
-no_task (step.Act (act.DropJob j)) r is = refl
-no_task (step.Act (act.Finished t)) r is = refl
-no_task (step.Act (act.JobFinished j)) r is = refl
-no_task (step.Act (act.JobEnd j h)) r is = refl
-no_task (step.Query q) r is = refl
+no_task (step.Act (act.Wake t)) r steps is = refl
+no_task (step.Act (act.NewSleep n)) r steps is = refl
+no_task (step.Act (act.Reset s n)) r steps is = refl
+no_task (step.Act (act.DropSleep s)) r steps is = refl
+no_task (step.Act (act.SleepElapsed s)) r steps is = refl
+no_task (step.Act (act.DropJoin t)) r steps is = refl
+no_task (step.Act (act.Block o)) r steps is = refl
+no_task (step.Act (act.DropJob j)) r steps is = refl
+no_task (step.Act (act.Finished t)) r steps is = refl
+no_task (step.Act (act.JobFinished j)) r steps is = refl
+no_task (step.Act (act.JobEnd j h)) r steps is = refl
+no_task (step.Query q) r steps is = refl
 
-by_end : (b : Bool) (s : TurnStep) (r : Reply) (steps own : List TurnStep) (rs kept : List Reply) → is_job_end s ≡ b → made_in own kept ≡ made_in steps rs → made_in (cond b own (s ∷ own)) (cond b kept (r ∷ kept)) ≡ made_by s r + made_in steps rs
-by_end true s r steps own rs kept is same = omega (arith, same, no_task s r is)
+by_end : (b : Bool) (s : TurnStep) (r : Reply) (steps own : List TurnStep) (rs kept : List Reply) → is_seen (ended_job s) steps ≡ b → made_in own kept ≡ made_in steps rs → made_in (cond b own (s ∷ own)) (cond b kept (r ∷ kept)) ≡ made_by s r + made_in steps rs
+by_end true s r steps own rs kept is same = omega (arith, same, no_task s r steps is)
 by_end false s r steps own rs kept is same = ap (λ n. made_by s r + n) same
 
 pub own_made : (steps : List TurnStep) (rs : List Reply) → made_in (own_steps steps) (own_replies steps rs) ≡ made_in steps rs
 own_made [] rs = refl
 own_made (s ∷ steps) [] = no_replies (own_steps (s ∷ steps))
-own_made (s ∷ steps) (r ∷ rs) = by_end (is_job_end s) s r steps (own_steps steps) rs (own_replies steps rs) refl (own_made steps rs)
+own_made (s ∷ steps) (r ∷ rs) = by_end (is_seen (ended_job s) steps) s r steps (own_steps steps) rs (own_replies steps rs) refl (own_made steps rs)
 
 -- by the machine
 abbrev pub next : Machine → ℕ

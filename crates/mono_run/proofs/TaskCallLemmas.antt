@@ -1,6 +1,7 @@
 -- The effect of each call of a script's task on the rest of the turn.
 use Rattle.std.proofs.Common.{◌≡◌, ℕ, Bool, true, false, [], ◌∷◌, ◌++◌, Option, Some, None, inl, inr, refl, ap, sym, ◌∙◌, arith}
-use Rattle.std.specs.Prelude.{⊤, Result, Ok, Err}
+use Rattle.std.specs.Prelude.{⊤, ◌==◌, Result, Ok, Err}
+use Rattle.std.proofs.lemmas.Bool.Decides.{nat_tests}
 use Rattle.mono_model.specs.declared.Woke.{Woke}
 use Rattle.mono_model.specs.declared.task_error.TaskError.{TaskError}
 use Rattle.mono_model.specs.declared.poll.Poll.{Poll}
@@ -55,6 +56,11 @@ join_waits : (answer : Result (Poll ℕ) TaskError) → is_pending (join_reply (
 join_waits (Ok (Ready x)) = refl
 join_waits (Ok Pending) = refl
 join_waits (Err e) = refl
+
+-- ---- a call on job j sees the end of job j
+
+same_job : (j : ℕ) → (j == j) ≡ true
+same_job j = grind (arith, nat_tests)
 
 -- ---- refusals that cannot be
 
@@ -119,19 +125,19 @@ module _ {P U J A V : Type 0} (task : ScriptTask) (c d : Cx ScriptTask ℕ P U �
 
   module _ {B : Type 0} (number : B → ℕ) (f : Rest) (j : ℕ) (same : d.futures.items ≡ c.futures.items) where
     pub job_pending : (here : Place) (answer : Result (Poll (Result B JoinError)) PollJob) → PollsJob number j answer c.parts d.parts → waits answer ≡ true → Goes task (job_steps j here f) (stops_at here) c d
-    job_pending here (Ok Pending) p w = goes_pending task f here c d (step.Query (query.Job j)) (step.Act (act.DropJob j)) reply.Pending (grew_job c.parts.acts d.parts.acts j p.asks.end _ _ refl (ap (λ x. x.acts) p.asks.parts)) same refl
+    job_pending here (Ok Pending) p w = goes_pending task f here c d (step.Query (query.Job j)) (step.Act (act.DropJob j)) reply.Pending (grew_job c.parts.acts d.parts.acts j p.asks.end _ _ refl (same_job j) (ap (λ x. x.acts) p.asks.parts)) same refl
     job_pending here (Ok (Ready r)) p w = cc w
     job_pending here (Err e) p w = cc w
 
     pub job_ready : (here : Place) (answer : Result (Poll (Result B JoinError)) PollJob) → PollsJob number j answer c.parts d.parts → waits answer ≡ false → Goes task (job_steps j here f) (acted (step.Act (act.DropJob j)) f) c d
     job_ready here (Ok Pending) p w = cc w
-    job_ready here (Ok (Ready (Ok o))) p w = goes_ready task f here c d (step.Query (query.Job j)) (step.Act (act.DropJob j)) (reply.Output (number o)) (grew_job c.parts.acts d.parts.acts j p.asks.end _ _ refl (ap (λ x. x.acts) p.asks.parts)) same refl
-    job_ready here (Ok (Ready (Err e))) p w = goes_ready task f here c d (step.Query (query.Job j)) (step.Act (act.DropJob j)) reply.Canceled (grew_job c.parts.acts d.parts.acts j p.asks.end _ _ refl (ap (λ x. x.acts) p.asks.parts)) same refl
-    job_ready here (Err (polling.Refused r)) p w = goes_ready task f here c d (step.Query (query.Job j)) (step.Act (act.DropJob j)) (reply.Refused r) (grew_job c.parts.acts d.parts.acts j p.asks.end _ _ refl (ap (λ x. x.acts) p.asks.parts)) same refl
+    job_ready here (Ok (Ready (Ok o))) p w = goes_ready task f here c d (step.Query (query.Job j)) (step.Act (act.DropJob j)) (reply.Output (number o)) (grew_job c.parts.acts d.parts.acts j p.asks.end _ _ refl (same_job j) (ap (λ x. x.acts) p.asks.parts)) same refl
+    job_ready here (Ok (Ready (Err e))) p w = goes_ready task f here c d (step.Query (query.Job j)) (step.Act (act.DropJob j)) reply.Canceled (grew_job c.parts.acts d.parts.acts j p.asks.end _ _ refl (same_job j) (ap (λ x. x.acts) p.asks.parts)) same refl
+    job_ready here (Err (polling.Refused r)) p w = goes_ready task f here c d (step.Query (query.Job j)) (step.Act (act.DropJob j)) (reply.Refused r) (grew_job c.parts.acts d.parts.acts j p.asks.end _ _ refl (same_job j) (ap (λ x. x.acts) p.asks.parts)) same refl
     job_ready here (Err polling.Memory) p w = absurd (not_both d.parts.is_out_of_memory (ap (λ x. x.is_out_of_memory) p) had.memory)
 
     pub job_dropped : (answer : Result (Option (Result B JoinError)) Refusal) → DropsJob number j answer c.parts d.parts → Goes task (acted (step.Act (act.DropJob j)) f) f c d
-    job_dropped answer p = goes_acted task f c d (step.Act (act.DropJob j)) (reply_of (dropped_reply number answer)) (grew_job c.parts.acts d.parts.acts j p.asks.end _ _ refl (ap (λ x. x.acts) p.asks.parts)) same
+    job_dropped answer p = goes_acted task f c d (step.Act (act.DropJob j)) (reply_of (dropped_reply number answer)) (grew_job c.parts.acts d.parts.acts j p.asks.end _ _ refl (same_job j) (ap (λ x. x.acts) p.asks.parts)) same
 
   module _ {W : Type 0} (number : W → ℕ) (work : W) (k : Option ℕ → Rest) (same : d.futures.items ≡ c.futures.items) where
     pub job_made : (handle : JobHandle) → SpawnsJob number (λ _. 0) work (Ok handle) c.parts d.parts → Goes task (asked (step.Act (act.Block (number work))) job_in none_made k) (k (Some handle.job)) c d

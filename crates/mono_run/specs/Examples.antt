@@ -95,6 +95,13 @@ NoSleep = Driven sleeping (spawned ∷ now 0 ∷ last_turn [] 5 0 [] ∷ []) →
 abbrev pub NotItsTurn : Type 0
 NotItsTurn = Driven (script 16 (kind (body.Yield ∷ []) 5 ∷ [])) (spawned ∷ now 0 ∷ turn (poll_sleep 0 ∷ []) 0 (reply.Pending ∷ []) ∷ []) → ⊥
 
+-- a turn with the end of a job of which the call after it does not ask
+abbrev pub StrayEnd : Type 0
+StrayEnd = Driven (script 4 (kind (body.Block 4 ∷ body.Block 5 ∷ body.AwaitJob 1 ∷ []) 1 ∷ []))
+    (spawned ∷ now 0
+    ∷ last_turn (step.Act (act.Block 4) ∷ step.Act (act.Block 5) ∷ step.Act (act.JobEnd 0 how.Ran) ∷ step.Query (query.Job 1) ∷ step.Act (act.DropJob 1) ∷ []) 1 0
+    (reply.Job 0 ∷ reply.Job 1 ∷ reply.Ended None ∷ reply.Output 5 ∷ reply.Dropped None ∷ []) ∷ []) → ⊥
+
 abbrev pub line : List ℕ → List ℕ
 line text = text ++ 10 ∷ []
 

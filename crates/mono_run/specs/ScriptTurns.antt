@@ -1,5 +1,5 @@
 -- The turns that a script's lines give.
-use Rattle.std.specs.Prelude.{◌≡◌, ℕ, Bool, true, false, if◌then◌else◌, List, [], ◌∷◌, ◌++◌, map, slice_index_or, slice_set, Option, Some, None}
+use Rattle.std.specs.Prelude.{◌≡◌, ℕ, Bool, true, false, if◌then◌else◌, ◌==◌, List, [], ◌∷◌, ◌++◌, map, slice_index_or, slice_set, Option, Some, None}
 use Rattle.mono_time.specs.Futures.{deadline_after}
 use Rattle.mono_machine.specs.declared.events.Act.TheVariants as act
 use Rattle.mono_machine.specs.declared.events.Query.TheVariants as query
@@ -146,20 +146,34 @@ abbrev pub turn_of : Place → ℕ → ℕ → List Reply → Option Turned
 turn_of p me t rs =
     with_handle p.sleeping (λ s q. sleep_steps s p (turn_from p.left me t p.output p.tasks p.jobs) q) (turn_from p.left me t p.output p.tasks p.jobs) rs
 
-abbrev pub is_job_end : TurnStep → Bool
-is_job_end (step.Act (act.JobEnd j h)) = true
-is_job_end other = false
+-- the job whose end the step records
+abbrev pub ended_job : TurnStep → Option ℕ
+ended_job (step.Act (act.JobEnd j h)) = Some j
+ended_job other = None
 
--- the steps of a turn without those that record the end of a job
+-- The step is a poll of job j, or its drop.
+abbrev pub sees : ℕ → TurnStep → Bool
+sees j (step.Query (query.Job k)) = j == k
+sees j (step.Act (act.DropJob k)) = j == k
+sees j other = false
+
+-- The first of these steps saw the end of this job.
+abbrev pub is_seen : Option ℕ → List TurnStep → Bool
+is_seen None steps = false
+is_seen (Some j) [] = false
+is_seen (Some j) (s ∷ steps) = sees j s
+
+-- The steps of a turn without each end of a job that the step right after it saw. The script's lines give no end, so
+-- that each other one is refused.
 abbrev pub own_steps : List TurnStep → List TurnStep
 own_steps [] = []
-own_steps (s ∷ steps) = if is_job_end s then own_steps steps else s ∷ own_steps steps
+own_steps (s ∷ steps) = if is_seen (ended_job s) steps then own_steps steps else s ∷ own_steps steps
 
 -- the replies to these steps
 abbrev pub own_replies : List TurnStep → List Reply → List Reply
 own_replies [] rs = []
 own_replies (s ∷ steps) [] = []
-own_replies (s ∷ steps) (r ∷ rs) = if is_job_end s then own_replies steps rs else r ∷ own_replies steps rs
+own_replies (s ∷ steps) (r ∷ rs) = if is_seen (ended_job s) steps then own_replies steps rs else r ∷ own_replies steps rs
 
 -- the places of new tasks of these kinds
 abbrev pub starts_of : List Kind → List ℕ → List (Option Place)

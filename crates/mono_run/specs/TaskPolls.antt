@@ -52,16 +52,16 @@ pub record Fits (task : ScriptTask) : Type 0 where
   pub tasks : length task.own.tasks ≤ task.at
   pub jobs : length task.own.jobs ≤ task.at
 
--- The record grew by acts with their replies. The steps here are the task's own, without those that record the end of a
--- job.
+-- The record grew by acts with their replies. The steps here are the task's own, without the ends of jobs that they saw,
+-- whatever follows.
 pub record Grew (c d : Record) (steps : List TurnStep) (replies : List Reply) : Type 0 where
   pub acts : List TurnStep
   pub told : List Reply
   pub steps_are : d.steps ≡ c.steps ++ acts
   pub replies_are : d.replies ≡ c.replies ++ told
   pub paired : length told ≡ length acts
-  pub own : own_steps acts ≡ steps
-  pub answers : own_replies acts told ≡ replies
+  pub own : (rest : List TurnStep) → own_steps (acts ++ rest) ≡ steps ++ own_steps rest
+  pub answers : (rest : List TurnStep) (more : List Reply) → own_replies (acts ++ rest) (told ++ more) ≡ replies ++ own_replies rest more
 
 -- No call ran out of memory, and there are timers.
 pub record HasKept {O B : Type 0} (c : Parts O B) : Type 0 where

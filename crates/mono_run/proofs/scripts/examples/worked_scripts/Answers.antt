@@ -1,4 +1,4 @@
-use Rattle.mono_run.proofs.ExampleLemmas.{a_sleep, child_tasks, a_job, no_sleep, not_its_turn, a_sleep_is_written, no_kind, ends_in_a_kind, no_such_kind}
+use Rattle.mono_run.proofs.ExampleLemmas.{a_sleep, child_tasks, a_job, no_sleep, not_its_turn, stray_end, a_sleep_is_written, no_kind, ends_in_a_kind, no_such_kind}
 use Rattle.mono_run.proofs.scripts.examples.worked_scripts.Goals as goal
 
 pub returns-clause-a_sleep : goal.returns-clause-a_sleep
@@ -12,6 +12,9 @@ returns-clause-a_job c = a_job
 
 pub returns-clause-not_its_turn : goal.returns-clause-not_its_turn
 returns-clause-not_its_turn c = not_its_turn
+
+pub returns-clause-stray_end : goal.returns-clause-stray_end
+returns-clause-stray_end c = stray_end
 
 pub returns-clause-a_sleep_is_written : goal.returns-clause-a_sleep_is_written
 returns-clause-a_sleep_is_written c = a_sleep_is_written
