@@ -37,7 +37,7 @@ abbrev first_bytes : List Line → List ℕ
 first_bytes [] = []
 first_bytes (l ∷ ls) = l.bytes
 
-tasks_once : (input : List ℕ) (s t : Script) → Spells input s → Spells input t → s.limits.tasks ≡ t.limits.tasks
+pub tasks_once : (input : List ℕ) (s t : Script) → Spells input s → Spells input t → s.limits.tasks ≡ t.limits.tasks
 tasks_once input s t p q =
     let texts : limits_text s.limits ≡ limits_text t.limits = ap first_bytes (sym p.text ∙ q.text) in
     let same : ◌≡◌ {A = Option ℕ} (Some s.limits.tasks) (Some t.limits.tasks) = sym (tasks_again s.limits p.sound.limits) ∙ ap tasks_at texts ∙ tasks_again t.limits q.sound.limits in

@@ -6,9 +6,9 @@ mod pages;
 
 use help::{VERSION, help_of, is_only};
 use mono_script::{
-    Ended, FollowedCommand, Status, StdinSource, StdoutSink, SystemClock, ThreadSpawner, complaint,
-    exit_code, explained, failure_sentence, follow_command, joins_workers, line_sentence,
-    reads_input, words_behind,
+    Ended, FollowedCommand, Status, StdinSource, StdoutSink, SystemClock, ThreadSpawner,
+    call_words, complaint, exit_code, explained, failure_sentence, follow_command, joins_workers,
+    line_sentence, reads_input, words_behind,
 };
 use std::alloc::{AllocError, Global};
 use std::io::IsTerminal;
@@ -179,21 +179,6 @@ fn unread(rt: &HostRuntime, error: &io::Error) -> u8 {
     }
 }
 
-// Returns the words without `--follow`, if that is the second of them.
-fn without_follow(alloc: Global, words: &Vec<String>) -> Result<Option<Vec<String>>, AllocError> {
-    match words.get(1) {
-        Some(second) if second.as_str() == "--follow" => {}
-        _ => return Ok(None),
-    }
-    let mut others = Vec::new(alloc);
-    for at in 0..words.len() {
-        if at != 1 {
-            others.push(words[at].clone()?)?;
-        }
-    }
-    Ok(Some(others))
-}
-
 // Returns the fault of the line at which a following command ended.
 fn bad_line_after(
     alloc: Global,
@@ -252,10 +237,10 @@ fn main(rt: HostRuntime) -> ExitCode {
     if let Some(status) = shown_of(&rt, &words) {
         return ExitCode::from(status);
     }
-    match without_follow(rt.alloc(), &words) {
-        Ok(Some(others)) => return ExitCode::from(follow(&rt, &others)),
-        Ok(None) => {}
-        Err(_) => return ExitCode::from(Status::OutOfMemory.code()),
+    let call = call_words(words);
+    let words = call.words;
+    if call.follows {
+        return ExitCode::from(follow(&rt, &words));
     }
     let Ok(theirs) = rt.clone() else {
         return ExitCode::from(Status::OutOfMemory.code());
