@@ -12,6 +12,8 @@
 #                    call that leaves its object as it was is refused memory
 #   make soak-threads  runs larger tests of threads once (1,000,000 parks, 32 workers, 64 threads at an inbox), and repeats
 #                    the others for a minute (SECONDS=n), some of them under valgrind's helgrind
+#   make year        simulates a year of a lease server (EVENTS=100000000): its memory has to stay flat, and its answers
+#                    have to be those of a plain program, which rustc builds
 #   make bench       measures the programs next to plain Rust programs, which rustc builds, and prints the tables of
 #                    docs/PERFORMANCE.md
 #   make planted     tries the mutants of crates/*/planted on a copy (CRATE=name: of one crate)
@@ -22,8 +24,9 @@ EXAMPLE = examples/both_roundings.events
 CRATE =
 SECONDS = 60
 SIZE =
+EVENTS = 100000000
 
-.PHONY: help run build has-rt has-rustc test examples soak soak-threads try bench planted gate-times
+.PHONY: help run build has-rt has-rustc test examples soak soak-threads year try bench planted gate-times
 
 help:
 	@sed -n 's/^#   //p' Makefile
@@ -65,6 +68,12 @@ soak: build
 
 soak-threads: has-rt
 	python3 tools/soak/threads.py $(SECONDS)
+
+year: has-rustc has-rt
+	@mkdir -p bin
+	@python3 tools/progress.py mono_bench bin/bench.log rt run -- all
+	@rustc --edition 2021 -C opt-level=3 tools/bench/year.rs -o bin/year
+	@python3 tools/soak/year.py crates/mono_bench/out/mono_bench bin/year $(EVENTS)
 
 try: has-rt
 	@echo 'unproved: this runs the program before any proof'

@@ -39,7 +39,7 @@ class Bench:
         return os.path.join(self.folder, name)
 
     def build(self):
-        for name in ("replay", "services", "beats", "limiter", "ring", "turns", "measure"):
+        for name in ("replay", "services", "beats", "limiter", "ring", "turns", "channels", "measure"):
             source = os.path.join(HERE, f"{name}.rs")
             command = ["rustc", "--edition", "2021", "-C", "opt-level=3", "-A", "warnings", source, "-o", self.path(name)]
             subprocess.run(command, check=True)
@@ -127,6 +127,9 @@ def workloads(b):
         (["ring", million, "0", "16"], "ring"),
         (["turns", "pair", ten], "turns"),
         (["turns", "sleeps", million], "turns"),
+        (["channels", "mpsc", million], "channels"),
+        (["channels", "permits", million], "channels"),
+        (["channels", "threads", million], "channels"),
         (["turns", "spawn", million], None),
         (["turns", "come", ten], None),
         (["churn", ten, "1000"], None),
@@ -170,6 +173,9 @@ def counted(b):
     for words in ("spawn", "pair", "sleeps"):
         few, many = (b.instructions([b.bench, "turns", words, str(n)]) for n in (1000, 11000))
         print(f"| one of `turns {words} N` | {(many - few) / 10000:.0f} |", flush=True)
+    for words in ("chain", "hand"):
+        few, many = (b.instructions([b.bench, "forms", words, "1", str(n)]) for n in (1000, 11000))
+        print(f"| a poll of `forms {words} 1 N` | {(many - few) / 30000:.1f} |", flush=True)
     whole = []
     for turns in (10, 110):
         with open(b.path("script"), "w", encoding="ascii") as out:

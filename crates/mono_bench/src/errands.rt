@@ -11,9 +11,9 @@ pub const HELP: &str = "  errands JOBS ALIVE
     So many jobs on a pool without workers, which runs each in the call; each handle is dropped once ALIVE later jobs
     were made, and that of the first one last. Printed is how many outputs came back, and the sum of their numbers.";
 
-// A job that returns its number.
+/// A job that returns its number.
 #[derive(Drop)]
-struct Gives(u64);
+pub struct Gives(pub u64);
 
 impl Outcome for Gives {
     ghost output_number = { λ job. job.0 };

@@ -3,13 +3,16 @@
 
 mod beats;
 mod buckets;
+mod channels;
 mod churn;
 mod errands;
+mod forms;
 mod ring;
 mod sparse;
 mod sweep;
 mod turns;
 mod wheel;
+mod year;
 
 use mono_model::Host;
 use std::process::ExitCode;
@@ -19,7 +22,7 @@ const HELP: &str = "usage: mono_bench WORKLOAD ..
        mono_bench all: a small run of each";
 
 // The words of each workload.
-const HELPS: [&str; 9] = [
+const HELPS: [&str; 12] = [
     wheel::HELP,
     churn::HELP,
     sparse::HELP,
@@ -29,10 +32,13 @@ const HELPS: [&str; 9] = [
     ring::HELP,
     sweep::HELP,
     turns::HELP,
+    channels::HELP,
+    forms::HELP,
+    year::HELP,
 ];
 
 // Does a small run of each workload.
-fn run_all<R: Host + Send + 'static>(rt: &HostRuntime, host: &R) -> io::Result<bool> {
+fn run_all<R: Host + Send + Sync + 'static>(rt: &HostRuntime, host: &R) -> io::Result<bool> {
     wheel::run_small(rt)?;
     churn::run_small(rt)?;
     sparse::run_small(rt)?;
@@ -42,12 +48,15 @@ fn run_all<R: Host + Send + 'static>(rt: &HostRuntime, host: &R) -> io::Result<b
     ring::run_small(rt)?;
     sweep::run_small(rt)?;
     turns::run_small(rt, host)?;
+    channels::run_small(rt, host)?;
+    forms::run_small(rt, host)?;
+    year::run_small(rt, host)?;
     Ok(true)
 }
 
 // Runs a workload with the words after its own. Returns false if there is no such workload, or if the words do not fit
 // it.
-fn run_workload<R: Host + Send + 'static>(
+fn run_workload<R: Host + Send + Sync + 'static>(
     rt: &HostRuntime,
     host: &R,
     name: &str,
@@ -63,6 +72,9 @@ fn run_workload<R: Host + Send + 'static>(
         "ring" => ring::run_words(rt, words),
         "sweep" => sweep::run_words(rt, words),
         "turns" => turns::run_words(rt, host, words),
+        "channels" => channels::run_words(rt, host, words),
+        "forms" => forms::run_words(rt, host, words),
+        "year" => year::run_words(rt, host, words),
         "all" if words.is_empty() => run_all(rt, host),
         _ => Ok(false),
     }
@@ -77,7 +89,7 @@ fn print_help(rt: &HostRuntime) -> io::Result<()> {
 }
 
 // Runs the workload of the words after the program's name, or prints the words of all workloads.
-fn run_words<R: Host + Send + 'static>(
+fn run_words<R: Host + Send + Sync + 'static>(
     rt: &HostRuntime,
     host: &R,
     words: &[String],

@@ -1,0 +1,85 @@
+// Messages and permits between two tasks of one runtime, and messages between two threads.
+mod boards;
+mod lanes;
+mod parties;
+
+use boards::Board;
+use lanes::cross;
+use mono_blocking::NoPool;
+use mono_driver::{StepDriver, TimeDriver};
+use mono_model::Host;
+use mono_rt::{Runtime, RuntimeBuilder};
+use mono_sync::Semaphore;
+use mono_sync::mpsc::Channel;
+use parties::Party;
+use std::alloc::Global;
+use std::io;
+
+/// The words of this workload, and its description.
+pub const HELP: &str = "  channels mpsc|permits|threads N
+    mpsc: a task sends N numbers to another over a channel of one place
+    permits: two tasks take a permit in turn, N times each
+    threads: a task of one thread sends N numbers to a task of another over a channel of 64 places";
+
+type Running = Runtime<Party, u64, TimeDriver<StepDriver>, NoPool, Board>;
+
+// Runs two tasks on one runtime. Returns the answer of the second, or 0 if the runtime gave up.
+fn answer<R: Host>(rt: &R, alloc: Global, first: Party, second: Party) -> u64 {
+    let driver = TimeDriver::new(StepDriver::new(Vec::new(alloc)));
+    let builder: RuntimeBuilder<TimeDriver<StepDriver>, NoPool> = RuntimeBuilder::new(driver);
+    let board = Board {
+        numbers: Channel::new(alloc, 1),
+        permits: Semaphore::new(alloc, 1),
+    };
+    let made: Running = match builder.build_sharing(alloc, board) {
+        Ok(made) => made,
+        Err(_) => return 0,
+    };
+    let mut runtime = made;
+    if runtime.spawn(alloc, first).is_err() {
+        return 0;
+    }
+    match runtime.block_on(rt, alloc, second, u64::MAX) {
+        Ok(answer) => answer,
+        Err(_) => 0,
+    }
+}
+
+// Returns the name and the count of these words.
+fn asked(words: &[String]) -> Option<(&str, u64)> {
+    match words {
+        [name, count] => Some((name.as_str(), count.parse::<u64>().ok()?)),
+        _ => None,
+    }
+}
+
+// Does the work of this name, if there is one, and returns its answer.
+fn work<R: Host + Sync>(rt: &R, alloc: Global, name: &str, count: u64) -> Option<u64> {
+    match name {
+        "mpsc" => Some(answer(rt, alloc, Party::Sends(0, count), Party::Takes(0, count))),
+        "permits" => Some(answer(rt, alloc, Party::Wants(0, count), Party::Wants(0, count))),
+        "threads" => cross(rt, alloc, count),
+        _ => None,
+    }
+}
+
+/// Runs the workload of the words. Returns false if they name none.
+pub fn run_words<R: Host + Sync>(rt: &HostRuntime, host: &R, words: &[String]) -> io::Result<bool> {
+    let Some((name, count)) = asked(words) else {
+        return Ok(false);
+    };
+    match work(host, rt.alloc(), name, count) {
+        Some(answer) => {
+            println!(rt; "channels {name} {count}: {answer}")?;
+            Ok(true)
+        }
+        None => Ok(false),
+    }
+}
+
+/// Sends 300 numbers, and prints how many came.
+pub fn run_small<R: Host + Sync>(rt: &HostRuntime, host: &R) -> io::Result<()> {
+    let answer = work(host, rt.alloc(), "mpsc", 300).unwrap_or(0);
+    println!(rt; "channels mpsc 300: {answer}")?;
+    Ok(())
+}
