@@ -8,7 +8,7 @@ use std::collections::{BTreeMap, BTreeSet, HashMap, VecDeque};
 const MOST: usize = 900;
 const LAST: u64 = 1000;
 const BUCKETS: u64 = 100;
-const JOBS: u64 = 100;
+const HANDLES: u64 = 100;
 const LAST_TICK: u64 = (1 << 63) - 1;
 
 fn join(hash: u64, number: u64) -> u64 {
@@ -632,6 +632,7 @@ impl Server {
         }
         let made = (server.sessions.open(1 << 60), server.limiter.retry(1, 1, 1), server.actors.spawn());
         assert_eq!(made, (Ok(0), Ok(0), Ok(0)));
+        server.fill();
         server
     }
 
@@ -641,6 +642,11 @@ impl Server {
 
     fn pick(&mut self, row: usize) -> u64 {
         let steps = self.below(LAST as u32);
+        self.rows[row].back(steps)
+    }
+
+    fn pick_handle(&mut self, row: usize) -> u64 {
+        let steps = self.below(HANDLES as u32);
         self.rows[row].back(steps)
     }
 
@@ -660,8 +666,17 @@ impl Server {
         }
     }
 
-    fn call(&mut self) -> u64 {
-        let kind = self.below(32);
+    /// All clients come at the start.
+    fn fill(&mut self) {
+        for _ in 0..LAST {
+            for kind in [0, 12, 20] {
+                let answer = self.call(kind);
+                self.note(answer);
+            }
+        }
+    }
+
+    fn call(&mut self, kind: u64) -> u64 {
         match kind {
             0..=11 => join(1, self.call_sessions(kind)),
             12..=19 => join(2, self.call_limiter(kind)),
@@ -785,7 +800,7 @@ impl Server {
     fn call_task(&mut self, me: u64) {
         self.rows[TASKS].give(me);
         let kind = self.below(8);
-        if kind < 3 && !self.rows[TASKS].is_long(LAST) {
+        if kind < 3 && !self.rows[TASKS].is_long(HANDLES) {
             let output = self.below(1 << 16);
             let work = match self.below(3) {
                 0 => Work::Ends(output),
@@ -796,7 +811,7 @@ impl Server {
             self.rows[TASKS].give(task);
             return self.note(task);
         }
-        let task = if kind < 3 { self.rows[TASKS].skip() } else { self.pick(TASKS) };
+        let task = if kind < 3 { self.rows[TASKS].skip() } else { self.pick_handle(TASKS) };
         let code = match kind {
             _ if task == me => self.tasks.has_finished(me),
             0..=3 => {
@@ -813,7 +828,7 @@ impl Server {
     fn call_job(&mut self) {
         let kind = self.below(4);
         if kind < 2 {
-            if self.rows[ERRANDS].is_long(JOBS) {
+            if self.rows[ERRANDS].is_long(HANDLES) {
                 let oldest = self.rows[ERRANDS].skip();
                 let code = self.jobs.drop_handle(oldest);
                 return self.note(code);
@@ -825,8 +840,7 @@ impl Server {
             self.rows[ERRANDS].give(job);
             return self.note(job);
         }
-        let steps = self.below(JOBS as u32);
-        let job = self.rows[ERRANDS].back(steps);
+        let job = self.pick_handle(ERRANDS);
         let code = if kind == 2 { self.jobs.wait_for(job) } else { self.jobs.has_ended(job) };
         self.note(code);
     }
@@ -846,7 +860,8 @@ impl Server {
     fn serve(&mut self, me: u64, events: u64) {
         let calls = if self.below(64) == 0 { 1000 } else { self.below(16) };
         for _ in 0..calls {
-            let answer = self.call();
+            let kind = self.below(32);
+            let answer = self.call(kind);
             self.note(answer);
         }
         self.call_task(me);

@@ -1,11 +1,11 @@
 #!/usr/bin/env python3
-"""Runs a year of a lease server, and compares its memory after a month with that at the end.
+"""Runs a year of a lease server, and compares its memory after an hour with that at the end.
 
 usage: tools/soak/year.py PROGRAM PLAIN EVENTS [SEED]
 
 PROGRAM is `mono_bench`, and PLAIN the program of tools/bench/year.rs, which has to print the same lines. Both print a line
-after an hour, in which the services fill, after a month and at the end. The run fails if a line differs, or if the peak
-memory of the last two differs by more than a tenth.
+after an hour, after a month and at the end. The run fails if a line differs, or if the peak memory after the hour and
+that at the end differ by more than a tenth.
 
 A program that `rt try` built has AddressSanitizer, which keeps freed memory: there, set ASAN_OPTIONS to
 quarantine_size_mb=0:thread_local_quarantine_size_kb=0.
@@ -57,7 +57,7 @@ def main():
     if subprocess.run([plain, *words], stdout=subprocess.PIPE, text=True, check=True).stdout != first + second + last:
         sys.exit("the plain program prints other lines")
     print("the plain program prints the same lines")
-    if 10 * abs(after[0] - before[0]) > before[0]:
+    if 10 * abs(after[0] - new[0]) > new[0]:
         sys.exit("the peak memory differs by more than a tenth")
 
 

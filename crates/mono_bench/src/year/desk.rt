@@ -95,8 +95,8 @@ impl Desk {
         })
     }
 
-    /// Makes the buckets, and the session, the retry and the actor that live from the start to the end. Returns whether
-    /// all were made.
+    /// Makes the buckets, the session, the retry and the actor that live from the start to the end, and then those of the
+    /// clients, who all come at the start. Returns whether the former were made.
     pub fn begin(&mut self, alloc: Global) -> bool {
         let mut are_made = true;
         for i in 0..BUCKETS {
@@ -107,7 +107,17 @@ impl Desk {
         let session = self.sessions.open(alloc, 1 << 60);
         let retry = self.limiter.retry(alloc, 1, 1, 1);
         let actor = self.actors.spawn(alloc);
+        self.fill(alloc);
         are_made && session.is_ok() && retry.is_ok() && actor.is_ok()
+    }
+
+    // Makes sessions, retries and actors until each service has as many as it keeps.
+    fn fill(&mut self, alloc: Global) {
+        for _ in 0..LAST {
+            self.do_call(alloc, 0);
+            self.do_call(alloc, 12);
+            self.do_call(alloc, 20);
+        }
     }
 
     /// Returns a number below `end`, or 0 if that is 0.
@@ -129,14 +139,19 @@ impl Desk {
             self.below(16)
         };
         for _ in 0..calls {
-            let answer = self.call(alloc);
-            self.note(answer);
+            let kind = self.below(32);
+            self.do_call(alloc, kind);
         }
     }
 
-    // Makes a call on one of the services, and returns its code.
-    fn call(&mut self, alloc: Global) -> u64 {
-        let kind = self.below(32);
+    // Makes a call of this kind, and counts it.
+    fn do_call(&mut self, alloc: Global, kind: u64) {
+        let answer = self.call(alloc, kind);
+        self.note(answer);
+    }
+
+    // Makes a call of this kind on one of the services, and returns its code.
+    fn call(&mut self, alloc: Global, kind: u64) -> u64 {
         if kind < 12 {
             return join(1, self.call_sessions(alloc, kind));
         }

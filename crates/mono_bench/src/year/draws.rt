@@ -1,9 +1,10 @@
 // What the main task does next, drawn at random.
-use crate::year::desk::{Desk, LAST};
+use crate::year::desk::Desk;
+use crate::year::rows::Row;
 use crate::year::work::Work;
 
-/// How many jobs have handles at a time.
-const JOBS: u64 = 100;
+/// How many tasks, and how many jobs, have handles at a time.
+const HANDLES: u64 = 100;
 
 /// A call on a task.
 #[derive(Clone, Copy, Drop)]
@@ -25,6 +26,11 @@ pub enum JobCall {
 }
 
 impl Desk {
+    // Draws one of the last tasks or jobs.
+    fn pick_handle(&mut self, row: Row) -> u64 {
+        row.back(self.below(HANDLES as u32))
+    }
+
     // Draws the work of a new task.
     fn draw_work(&mut self) -> Work {
         let output = self.below(1 << 16);
@@ -39,12 +45,12 @@ impl Desk {
     fn draw_any_task(&mut self) -> TaskCall {
         let kind = self.below(8);
         if kind < 3 {
-            if self.tasks.is_long(LAST) {
+            if self.tasks.is_long(HANDLES) {
                 return TaskCall::Ends(self.tasks.skip());
             }
             return TaskCall::Spawns(self.draw_work());
         }
-        let task = self.pick(self.tasks);
+        let task = self.pick_handle(self.tasks);
         match kind {
             3 => TaskCall::Ends(task),
             4 => TaskCall::Wakes(task),
@@ -68,13 +74,12 @@ impl Desk {
     pub fn draw_job(&mut self) -> JobCall {
         let kind = self.below(4);
         if kind < 2 {
-            if self.jobs.is_long(JOBS) {
+            if self.jobs.is_long(HANDLES) {
                 return JobCall::Ends(self.jobs.skip());
             }
             return JobCall::Spawns(self.below(1 << 16));
         }
-        let steps = self.below(JOBS as u32);
-        let job = self.jobs.back(steps);
+        let job = self.pick_handle(self.jobs);
         if kind == 2 {
             JobCall::Awaits(job)
         } else {
