@@ -161,7 +161,7 @@ impl Desk {
         join(3, self.call_actors(alloc, kind))
     }
 
-    // Draws one of the last numbers of a service.
+    /// Draws one of the last numbers of a service.
     pub fn pick(&mut self, row: Row) -> u64 {
         row.back(self.below(LAST as u32))
     }
