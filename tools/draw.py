@@ -4,8 +4,8 @@
 usage: tools/draw.py < JOURNAL > PICTURE.svg
 
 Each task has a lane with its turns and, between them, what it waits for. The clock is the last lane, with parks and clock
-steps. An arrow is a wake: from the task that woke, or from the clock. The places from left to right are those of the
-journal, so that what happens at one instant stands apart.
+steps. An arrow is a wake: from the task that woke, or from the clock. A turn names the jobs that it made or saw end. The
+places from left to right are those of the journal, so that what happens at one instant stands apart.
 """
 import sys
 from xml.sax.saxutils import escape
@@ -77,6 +77,9 @@ class Picture:
             self.parts.append(line(x, self.clock - 6, x, self.clock + 6, "#333333", 'stroke-width="2"'))
             self.parts.append(text(x, self.clock + 20, mark.text, 10))
 
+    def draw_note(self, note):
+        self.parts.append(text(x_of(note.place), self.lane(note.task) + 24, note.text, 9, colour=COLOURS["job"]))
+
     def draw_wake(self, wake):
         x, begin, end = x_of(wake.place), self.lane(wake.source), self.lane(wake.task)
         if begin == end:
@@ -97,6 +100,8 @@ class Picture:
         for span in self.of.spans:
             if span.kind == "turn":
                 self.draw_span(span)
+        for note in self.of.notes:
+            self.draw_note(note)
         for mark in self.of.marks:
             self.draw_mark(mark)
         if self.of.output is not None:

@@ -7,6 +7,8 @@ import sys
 Span = collections.namedtuple("Span", "task kind text first last begin end")
 # A wake of a task at a place, by another task or by none, with its cause.
 Wake = collections.namedtuple("Wake", "source task text place nanos")
+# What a turn says of a job: that it made it, or saw its end.
+Note = collections.namedtuple("Note", "task text place")
 # Something of the clock: a step, a park or a drain.
 Mark = collections.namedtuple("Mark", "kind text place begin end")
 
@@ -17,7 +19,7 @@ class Journal:
     """What the lines of a journal say, in their order."""
 
     def __init__(self, lines):
-        self.spans, self.wakes, self.marks = [], [], []
+        self.spans, self.wakes, self.marks, self.notes = [], [], [], []
         self.output = None
         self.nanos, self.place = 0, 0
         # Where a task's wait began and what it waits for, and which task waits for a sleep, a task or a job.
@@ -105,8 +107,12 @@ class Journal:
             self.since[int(reply[5:])] = (self.place, self.nanos, "queued")
         elif word == "wake" and reply in ("queued", "noted"):
             self.wake(task, int(rest[0]), "wake")
-        elif word == "job-end" and reply.startswith("ended "):
-            self.wake(task, int(reply[6:]), f"job {rest[0]} ends")
+        elif word == "block" and reply.startswith("job "):
+            self.notes.append(Note(task, f"{reply} made", self.place))
+        elif word == "job-end" and reply.startswith("ended"):
+            self.notes.append(Note(task, f"job {rest[0]} {rest[1]}", self.place))
+            if reply != "ended":
+                self.wake(task, int(reply[6:]), f"job {rest[0]} ends")
 
     def wake_waiter(self, source, task, text):
         if source in self.waiters:

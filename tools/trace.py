@@ -68,6 +68,9 @@ class Trace:
                 self.park(mark)
             else:
                 self.put(ph="i", s="t", name=mark.text, tid=0, ts=self.times[mark.place])
+        for note in self.of.notes:
+            thread = 0 if note.task is None else note.task + 1
+            self.put(ph="i", s="t", name=note.text, tid=thread, ts=self.times[note.place])
         for number, wake in enumerate(self.of.wakes, 1):
             self.wake(number, wake)
         return json.dumps({"displayTimeUnit": "ms", "traceEvents": self.events}, indent=1)
