@@ -99,7 +99,7 @@ def replays(b):
         checks.append((kind, [b.program, "check", "attached", *LIMITS], journal, ours, small))
     b.table("Replay", "monoio replay attached 4194304 4194304 4194304 < FILE", rows)
     count = str(100000 // b.by)
-    b.table("Load", "monoio load 7 100000", [("load", [b.program, "load", "7", count], [b.path("replay"), "load", "7", count], None)])
+    b.table("Load", f"monoio load 7 {count}", [("load", [b.program, "load", "7", count], [b.path("replay"), "load", "7", count], None)])
     print("\n## Check\n\nCommand: `monoio check` of a journal, by the replay of its events.\n\n| Journal | Ratio |\n|---|---|")
     for kind, check, journal, replay, events in checks:
         times = [min(b.once(words, source)[0] for _ in range(b.runs)) for words, source in ((check, journal), (replay, events))]
