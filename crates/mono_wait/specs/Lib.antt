@@ -6,6 +6,7 @@ pub mod Countdowns
 pub mod Leaves
 pub mod Deadlines
 pub mod Handles
+pub mod Jobs
 pub mod Joins
 pub mod Registers
 pub mod Selects

@@ -3,6 +3,7 @@
 
 mod countdown;
 mod delays;
+mod jobs;
 mod join_lists;
 mod joins;
 pub mod laws;
@@ -18,4 +19,4 @@ mod waits;
 pub use countdown::Countdown;
 pub use leaves::Reaching;
 pub use machines::MachineContext;
-pub use waits::{WaitContext, Waits};
+pub use waits::{JobWaitContext, WaitContext, Waits};

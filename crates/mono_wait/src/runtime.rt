@@ -4,8 +4,8 @@ ghost use Rattle.mono_rt.specs.Refinement.{hosting_of, Matches};
 ghost use Rattle.mono_wait.specs.Runtime.{parts_watcher, parts_same_watcher, parts_same_stirred};
 
 use crate::machines::MachineContext;
-use crate::waits::WaitContext;
-use mono_blocking::ThreadPool;
+use crate::waits::{JobWaitContext, WaitContext};
+use mono_blocking::{Job, ThreadPool};
 use mono_inbox::Unpark;
 use mono_joinword::Outcome;
 use mono_rt::Cx;
@@ -18,6 +18,19 @@ impl<F: Drop, O: Outcome + Drop, P: ThreadPool + Drop, U: Unpark, W: SharedState
     ghost watches_sleeps = { λ c s. refl };
 
     ghost watches_tasks = { λ c u. refl };
+}
+
+impl<
+    F: Drop,
+    O: Outcome + Drop,
+    P: ThreadPool + Drop,
+    U: Unpark,
+    W: SharedState + Drop,
+> JobWaitContext for Cx<F, O, P, U, W>
+where
+    P::Job: Job<Unpark = U>,
+{
+    ghost watches_jobs = { λ c j. refl };
 }
 
 impl<

@@ -2,9 +2,10 @@
 ghost use Rattle.std.specs.Prelude.{◌≡◌, ℕ, Option};
 ghost use Rattle.mono_model.specs.Table.{value_at};
 ghost use Rattle.mono_model.specs.declared.poll.Poll.{Poll};
-ghost use Rattle.mono_machine.specs.Watches.{Source, of_sleep, of_task};
+ghost use Rattle.mono_machine.specs.Watches.{Source, of_sleep, of_task, of_job, job_waiter};
 ghost use Rattle.mono_wait.specs.Sources.{Covers, waiter_in, waker_in};
 
+use mono_blocking::JobContext;
 use mono_task::TaskFuture;
 use mono_time::TimeContext;
 
@@ -16,6 +17,11 @@ pub trait WaitContext: TimeContext {
     ghost watches_sleeps: { (c : Self) (s : ℕ) → watcher c (of_sleep s) ≡ waker_in (value_at (Self.sleeps c).table s) };
 
     ghost watches_tasks: { (c : Self) (u : ℕ) → watcher c (of_task u) ≡ waiter_in (value_at (Self.work c).table u) };
+}
+
+/// A context with blocking jobs that exposes which task waits for a job: its waiter.
+pub trait JobWaitContext: WaitContext + JobContext {
+    ghost watches_jobs: { (c : Self) (j : ℕ) → Self.watcher c (of_job j) ≡ job_waiter (value_at (Self.jobs c).table j) };
 }
 
 /// A future that exposes the sources for which it waits.
