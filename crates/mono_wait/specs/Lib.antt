@@ -7,6 +7,7 @@ pub mod Leaves
 pub mod Deadlines
 pub mod Handles
 pub mod Jobs
+pub mod Ticks
 pub mod Joins
 pub mod Registers
 pub mod Selects

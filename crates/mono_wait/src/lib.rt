@@ -14,6 +14,7 @@ mod runtime;
 mod select_lists;
 mod selects;
 mod sequences;
+mod ticks;
 mod waits;
 
 pub use countdown::Countdown;
