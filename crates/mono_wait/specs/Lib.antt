@@ -25,3 +25,5 @@ pub mod Retries
 pub mod Repeats
 pub mod JoinLists
 pub mod SelectLists
+pub mod Streams
+pub mod ForEaches

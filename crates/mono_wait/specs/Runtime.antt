@@ -3,7 +3,7 @@ use Rattle.std.specs.Prelude.{◌≡◌, ℕ, ⊤, true, zero, suc, map, List, [
 use Rattle.std.specs.Option.{option_map}
 use Rattle.std.proofs.Common.{refl, sym, ap, ◌∙◌}
 use Rattle.mono_model.specs.Table.{Table, value_at}
-use Rattle.mono_model.specs.Tasks.{Tasks, Task, Phase, idle, queued, running, done, taken}
+use Rattle.mono_model.specs.Tasks.{Tasks, Task, Phase, idle, queued, running, done, taken, woken}
 use Rattle.mono_model.specs.Sleeps as model
 use Rattle.mono_model.specs.SleepActs as sleep
 use Rattle.mono_task.specs.Work.{without_outputs, task_without, phase_without}
@@ -16,6 +16,7 @@ use Rattle.mono_rt.specs.Refinement.{Hosting, Matches}
 use Rattle.mono_rt.specs.declared.parts.state.Parts.{Parts}
 use Rattle.mono_machine.specs.Watches.{Source, of_sleep, of_task, of_job, watcher, job_waiter, is_stirred, is_stirred_in}
 use Rattle.mono_wait.specs.Sources.{waiter_in, waker_in}
+use Rattle.mono_wait.specs.WakeEffects.{stirs}
 
 module _ {O B : Type 0} (hosting : B → Hosting) where
   abbrev pub parts_watcher : Parts O B → Source → Option ℕ
@@ -61,3 +62,21 @@ module _ {O B : Type 0} (number : O → ℕ) (hosting : B → Hosting) (parts : 
 
   pub parts_same_stirred : (u : ℕ) → Matches number hosting parts m → is_stirred_in (value_at (without_outputs parts.tasks.tasks).table u) ≡ is_stirred_in (value_at m.tasks.table u)
   parts_same_stirred u st = both_stirred number parts.tasks.tasks.table u ∙ ap (λ t. is_stirred_in (value_at t.table u)) st.tasks
+
+-- a wake stirs the task, whose outputs do not say so
+module _ {O : Type 0} where
+  same_phase : (phase : Phase O) → is_stirred (phase_without phase) ≡ is_stirred phase
+  same_phase idle = refl
+  same_phase queued = refl
+  same_phase (running noted) = refl
+  same_phase (done output) = refl
+  same_phase taken = refl
+
+  same_stirred : (table : Table (Task O)) (u : ℕ) → is_stirred_in (value_at (map (option_map task_without) table) u) ≡ is_stirred_in (value_at table u)
+  same_stirred [] u = refl
+  same_stirred (None ∷ table) zero = refl
+  same_stirred (Some task ∷ table) zero = same_phase task.phase
+  same_stirred (v ∷ table) (suc u) = same_stirred table u
+
+  pub wake_stirs : (before after : Tasks O) (t : ℕ) → after ≡ woken before t → is_stirred_in (value_at (without_outputs after).table t) ≡ true
+  wake_stirs before after t is = same_stirred after.table t ∙ ap (λ tasks. is_stirred_in (value_at tasks.table t)) is ∙ stirs before t

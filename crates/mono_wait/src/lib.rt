@@ -14,10 +14,12 @@ mod runtime;
 mod select_lists;
 mod selects;
 mod sequences;
+mod streams;
 mod ticks;
 mod waits;
 
 pub use countdown::Countdown;
 pub use leaves::Reaching;
 pub use machines::MachineContext;
+pub use streams::StreamWaits;
 pub use waits::{JobWaitContext, WaitContext, Waits};

@@ -1,7 +1,7 @@
 // The runtime's context has the machine's waiting tasks.
 ghost use Rattle.std.specs.Prelude.{refl};
 ghost use Rattle.mono_rt.specs.Refinement.{hosting_of, Matches};
-ghost use Rattle.mono_wait.specs.Runtime.{parts_watcher, parts_same_watcher, parts_same_stirred};
+ghost use Rattle.mono_wait.specs.Runtime.{parts_watcher, parts_same_watcher, parts_same_stirred, wake_stirs};
 
 use crate::machines::MachineContext;
 use crate::waits::{JobWaitContext, WaitContext};
@@ -18,6 +18,8 @@ impl<F: Drop, O: Outcome + Drop, P: ThreadPool + Drop, U: Unpark, W: SharedState
     ghost watches_sleeps = { λ c s. refl };
 
     ghost watches_tasks = { λ c u. refl };
+
+    ghost wakes_stir = { λ c d t answer q. wake_stirs c.parts.tasks.tasks d.parts.tasks.tasks t q.0 };
 }
 
 impl<

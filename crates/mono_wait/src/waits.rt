@@ -1,8 +1,10 @@
 // The sources of a future.
-ghost use Rattle.std.specs.Prelude.{◌≡◌, ℕ, Option};
+ghost use Rattle.std.specs.Prelude.{◌≡◌, ℕ, true, Option, Result};
 ghost use Rattle.mono_model.specs.Table.{value_at};
+ghost use Rattle.mono_model.specs.declared.Woke.{Woke};
 ghost use Rattle.mono_model.specs.declared.poll.Poll.{Poll};
-ghost use Rattle.mono_machine.specs.Watches.{Source, of_sleep, of_task, of_job, job_waiter};
+ghost use Rattle.mono_model.specs.declared.task_error.TaskError.{TaskError};
+ghost use Rattle.mono_machine.specs.Watches.{Source, of_sleep, of_task, of_job, job_waiter, is_stirred_in};
 ghost use Rattle.mono_wait.specs.Sources.{Covers, waiter_in, waker_in};
 
 use mono_blocking::JobContext;
@@ -17,6 +19,8 @@ pub trait WaitContext: TimeContext {
     ghost watches_sleeps: { (c : Self) (s : ℕ) → watcher c (of_sleep s) ≡ waker_in (value_at (Self.sleeps c).table s) };
 
     ghost watches_tasks: { (c : Self) (u : ℕ) → watcher c (of_task u) ≡ waiter_in (value_at (Self.work c).table u) };
+
+    ghost wakes_stir: { (c d : Self) (t : ℕ) (answer : Result Woke TaskError) → Self.wakes c t answer d → is_stirred_in (value_at (Self.work d).table t) ≡ true };
 }
 
 /// A context with blocking jobs that exposes which task waits for a job: its waiter.
