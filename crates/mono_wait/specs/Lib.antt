@@ -27,3 +27,4 @@ pub mod JoinLists
 pub mod SelectLists
 pub mod Streams
 pub mod ForEaches
+pub mod Needings
