@@ -13,6 +13,8 @@ use Rattle.mono_forms.specs.declared.yields.YieldNow.{YieldNow}
 use Rattle.mono_forms.specs.declared.yields.YieldNow.TheVariants.{Fresh, Woken, Over}
 use Rattle.mono_forms.specs.Answers.{ReadyPolls}
 use Rattle.mono_forms.specs.Lazies.{LazyPolls}
+use Rattle.mono_forms.specs.LazySpawns.{SpawnPolls}
+use Rattle.mono_task.specs.declared.error.SpawnRefused.{SpawnRefused}
 use Rattle.mono_machine.specs.Watches.{Source, of_task, is_stirred_in}
 use Rattle.mono_wait.specs.WakeEffects.{stirs}
 use Rattle.mono_wait.specs.Frames.{Frame, CoversIn, HeardIn, same_reached}
@@ -61,3 +63,12 @@ module _ {C T : Type 0} (w : Frame C) where
     pub lazies_cover : (v : Option F) (c : C) (left : Option F) (d : C) → LazyPolls call v c Pending left d → CoversIn w c d (λ x. ⊥)
     lazies_cover (Some f) c left d q = absurd q.0
     lazies_cover None c left d q = absurd q
+
+module _ {C G F O : Type 0} (w : Frame C) (gives : G → F → Type 0) (tasks : C → Tasks O) where
+  pub spawn_reached : (v : Option G) (c : C) (r : Poll (Result ℕ (SpawnRefused F))) (left : Option G) (d : C) → SpawnPolls gives tasks w.reaches v c r left d → w.reaches c d
+  spawn_reached (Some g) c r left d q = q.reached
+  spawn_reached None c r left d q = absurd q
+
+  pub spawns_cover : (v : Option G) (c : C) (left : Option G) (d : C) → SpawnPolls gives tasks w.reaches v c Pending left d → CoversIn w c d (λ x. ⊥)
+  spawns_cover (Some g) c left d q = absurd (no_answer q.answer q.ready)
+  spawns_cover None c left d q = absurd q

@@ -3,15 +3,16 @@ ghost use Rattle.mono_wait.specs.Frames.{frame_of, part_of, same_reached};
 ghost use Rattle.mono_wait.specs.Leads.{LeadNeeds, lead_left, lead_reached, leads_cover};
 ghost use Rattle.mono_wait.specs.Sequences.{FlattenNeeds, flatten_left, flatten_reached, flattens_cover, TryNeeds, try_left, try_reached, tries_cover, RescueNeeds, rescue_left, rescue_reached, rescues_cover};
 ghost use Rattle.mono_wait.specs.Repeats.{RepeatNeeds, repeat_left, repeat_reached, repeats_cover};
-ghost use Rattle.mono_wait.specs.Yields.{yield_reached, yields_cover, ready_reached, readies_cover, lazy_reached, lazies_cover};
+ghost use Rattle.mono_wait.specs.Yields.{yield_reached, yields_cover, ready_reached, readies_cover, lazy_reached, lazies_cover, spawn_reached, spawns_cover};
 ghost use Rattle.mono_forms.specs.Maps.{MapsOk, MapsErr};
 ghost use Rattle.mono_forms.specs.Inspectors.{Sees};
 
 use crate::waits::{WaitContext, Waits};
 use mono_forms::{
-    Flatten, Inspect, Lazy, Loop, Map, MapErr, MapOk, Ready, Repeat, TryFlatten, TryFlattenErr,
-    YieldNow,
+    Flatten, Inspect, Lazy, LazySpawn, Loop, Map, MapErr, MapOk, Ready, Repeat, TryFlatten,
+    TryFlattenErr, YieldNow,
 };
+use mono_task::SpawnContext;
 
 // It needs the sources of its future.
 impl<C, U, A, F> Waits<C> for Map<A, F>
@@ -188,4 +189,21 @@ where
     ghost cancels_reach = { λ f. same_reached (frame_of C.number C.work C.reaches C.watcher C.reaches_itself C.reaches_on) };
 
     ghost covers = { λ f c g d. lazies_cover (frame_of C.number C.work C.reaches C.watcher C.reaches_itself C.reaches_on) F.FnOnce f.func c g.func d };
+}
+
+// It is never pending.
+impl<C, G, F, O> Waits<C> for LazySpawn<G, O>
+where
+    C: WaitContext + SpawnContext<O, Future = F>,
+    F: From<G> + Drop,
+    G: Drop,
+    O: Drop,
+{
+    ghost needs = { λ m x. ⊥ };
+
+    ghost polls_reach = { λ m c r n d. spawn_reached (frame_of C.number C.work C.reaches C.watcher C.reaches_itself C.reaches_on) F.from_gives C.tasks m.future c r n.future d };
+
+    ghost cancels_reach = { λ m. same_reached (frame_of C.number C.work C.reaches C.watcher C.reaches_itself C.reaches_on) };
+
+    ghost covers = { λ m c n d. spawns_cover (frame_of C.number C.work C.reaches C.watcher C.reaches_itself C.reaches_on) F.from_gives C.tasks m.future c n.future d };
 }
