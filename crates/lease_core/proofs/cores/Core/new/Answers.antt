@@ -1,0 +1,13 @@
+use Rattle.std.proofs.Common.{refl, ap, ℕ, rules}
+use Rattle.mono_actor.specs.Actors.{Actors}
+use Rattle.lease_core.proofs.cores.Core.new.Goals as goal
+
+pub returns : goal.returns
+returns c = record {
+  leases = c.in_ok-sessions.ensures.stands;
+  limits = c.in_ok-limiter.ensures;
+  actors = c.in_ok-actors.ensures;
+  waiting = search rules;
+  tick = refl;
+  rests = ap (λ (a : Actors ℕ). a.turn) c.in_ok-actors.ensures;
+}

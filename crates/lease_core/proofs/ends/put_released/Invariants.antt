@@ -1,0 +1,11 @@
+use Rattle.std.proofs.Common.{◌≡◌, ◌≤◌, ◌+◌, ◌++◌, drop, length}
+use Rattle.std.specs.Prelude.{vec_len, vec_capacity}
+use Rattle.lease_core.specs.Waits.{release_end, ended}
+use Rattle.lease_core.proofs.ends.put_released.Given as goal
+
+abbrev pub invariant-loop-waiter : goal.invariant-loop-waiter
+invariant-loop-waiter l = record {
+  told : l.replies.items ++ ended (release_end l.session l.key l.holder) l.tick (drop l.waiter-index l.waiting) ≡ l.fn.replies.items ++ ended (release_end l.session l.key l.holder) l.tick l.waiting;
+  room : vec_len l.replies + length l.waiting ≤ vec_capacity l.replies + l.waiter-index;
+  capacity : vec_capacity l.replies ≡ vec_capacity l.fn.replies;
+}

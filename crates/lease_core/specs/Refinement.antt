@@ -1,0 +1,30 @@
+-- The refinement of a core's state by its services.
+use Rattle.std.specs.Prelude.{◌≡◌, ℕ, None}
+use Rattle.mono_session.specs.Refinement.{StandsFor}
+use Rattle.mono_limit.specs.Limits.{limits_of}
+use Rattle.mono_actor.specs.Callers.{actors_of}
+use Rattle.lease_core.specs.declared.cores.Core.{Core}
+use Rattle.lease_core.specs.declared.requests.Call.{Call}
+use Rattle.lease_core.specs.Cores.{CoreState}
+use Rattle.lease_core.specs.Steps.{Handles, Advances, Finishes}
+
+-- The services refine those of the state, the list of waits is the same, and the tick is that of the leases. No turn runs.
+pub record Refines (core : Core) (state : CoreState) : Type 0 where
+  pub leases : StandsFor core.sessions state.keeper
+  pub limits : limits_of core.limiter ≡ state.limits
+  pub actors : actors_of core.actors ≡ state.actors
+  pub waiting : core.waiting.items ≡ state.waiting
+  pub tick : core.tick ≡ state.keeper.greatest
+  pub rests : (actors_of core.actors).turn ≡ None
+
+-- The core performed the call of a request: for each state that it refined it replied as the state allows, and refines
+-- the state after that.
+abbrev pub Performs : Core → ℕ → ℕ → Call → Core → Type 0
+Performs old number key call new = (s : CoreState) → Refines old s → (t : CoreState) × Handles s number key call new.replies.items t × Refines new t
+
+-- The same of a clock step to n nanoseconds, and of the end of the input.
+abbrev pub Clocks : Core → ℕ → Core → Type 0
+Clocks old n new = (s : CoreState) → Refines old s → (t : CoreState) × Advances s n new.replies.items t × Refines new t
+
+abbrev pub Ends : Core → Core → Type 0
+Ends old new = (s : CoreState) → Refines old s → (t : CoreState) × Finishes s new.replies.items t × Refines new t

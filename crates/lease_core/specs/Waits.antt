@@ -1,0 +1,50 @@
+-- The acquires that wait for their locks, and the ends of their waits.
+use Rattle.std.specs.Prelude.{◌≡◌, ℕ, Bool, false, ◌==◌, not, if◌then◌else◌, List, [], ◌∷◌, ◌++◌, filter, Option, Some, None, is_some}
+use Rattle.std.specs.List.{list_any}
+use Rattle.mono_session.specs.Keeper.{Keeper, owner_answer}
+use Rattle.lease_core.specs.declared.ends.Waiter.{Waiter}
+use Rattle.lease_core.specs.declared.requests.Outcome.{Outcome}
+use Rattle.lease_core.specs.declared.requests.Outcome.TheVariants as outcome
+use Rattle.lease_core.specs.declared.requests.Reply.{Reply}
+
+abbrev pub is_first : ℕ → Option ℕ → Bool
+is_first s None = false
+is_first s (Some first) = first == s
+
+-- The end of a wait, if any, after the session s left the queue of a key, which has this holder now.
+abbrev pub release_end : ℕ → ℕ → Option ℕ → Waiter → Option Outcome
+release_end s key holder w =
+    if not (w.key == key) then None
+    else if w.session == s then Some outcome.Left
+    else if is_first w.session holder then Some outcome.Held
+    else None
+
+-- The end of a wait, if any, after these sessions were closed.
+abbrev pub close_end : List ℕ → Keeper → Waiter → Option Outcome
+close_end gone keeper w =
+    if list_any (λ s. s == w.session) gone then Some outcome.Closed
+    else if is_first w.session (owner_answer keeper w.key) then Some outcome.Held
+    else None
+
+-- The end of each wait when the input ends.
+abbrev pub input_end : Waiter → Option Outcome
+input_end w = Some outcome.Ended
+
+-- The reply of a wait that has ended.
+abbrev pub end_reply : ℕ → Waiter → Option Outcome → List Reply
+end_reply tick w None = []
+end_reply tick w (Some outcome) = record { number = w.number; arrived = w.arrived; tick = tick; outcome = outcome } ∷ []
+
+-- The replies of all waits that have ended, and the waits that go on.
+abbrev pub ended : (Waiter → Option Outcome) → ℕ → List Waiter → List Reply
+ended end_of tick [] = []
+ended end_of tick (w ∷ waiting) = end_reply tick w (end_of w) ++ ended end_of tick waiting
+
+abbrev pub still : (Waiter → Option Outcome) → List Waiter → List Waiter
+still end_of waiting = filter (λ w. not (is_some (end_of w))) waiting
+
+-- The waits that end after these sessions were closed are answered. Nothing ends if none was closed.
+abbrev pub FreesBy : List ℕ → Keeper → ℕ → List Waiter → List Reply → List Reply → List Waiter → Type 0
+FreesBy [] keeper tick waiting out replies left = (replies ≡ out) × (left ≡ waiting)
+FreesBy (s ∷ gone) keeper tick waiting out replies left =
+    (replies ≡ out ++ ended (close_end (s ∷ gone) keeper) tick waiting) × (left ≡ still (close_end (s ∷ gone) keeper) waiting)

@@ -1,0 +1,20 @@
+//! One core of the lease server: leases with locks, token buckets and mailboxes as one plain value.
+#![tactic(auto)]
+
+mod clock_steps;
+mod cores;
+mod ends;
+pub mod laws;
+mod leases;
+mod mails;
+mod performs;
+mod requests;
+mod routes;
+mod sizes;
+mod tells;
+
+pub use cores::Core;
+pub use ends::Waiter;
+pub use requests::{Call, Outcome, Reply, Request};
+pub use routes::core_of;
+pub use sizes::Sizes;
