@@ -6,7 +6,7 @@
 #   make build       proves and builds the program, and leaves it as bin/monoio
 #   make test        the gate: every proof, mutant, test and program; it ends in `rt ci`
 #   make examples    builds the program, and compares each example's reports with those stored beside it, and the
-#                    manual page with --help
+#                    manual page with --help; it fails if a crate use_* never gives up something that it holds
 #   make soak        random inputs for a minute (SECONDS=n), each report checked by an independent machine; their journals
 #                    too; then each allocation, read and write fails in turn, scripts run with workers, and each library
 #                    call that leaves its object as it was is refused memory
@@ -57,6 +57,7 @@ examples: build
 	        || { echo "$$input: not the stored reports"; exit 1; }; \
 	done; echo 'each example has its stored reports'
 	@python3 tools/man_page.py bin/monoio
+	@python3 tools/give_up.py
 
 soak: build
 	python3 tools/soak/soak.py bin/monoio $(SECONDS)
