@@ -7,6 +7,7 @@ Each task has a lane with its turns and, between them, what it waits for. The cl
 steps. An arrow is a wake: from the task that woke, or from the clock. A turn names the jobs that it made or saw end. The
 places from left to right are those of the journal, so that what happens at one instant stands apart.
 """
+import signal
 import sys
 from xml.sax.saxutils import escape
 
@@ -120,6 +121,7 @@ class Picture:
 def main():
     if len(sys.argv) > 1:
         sys.exit(__doc__.strip())
+    signal.signal(signal.SIGPIPE, signal.SIG_DFL)  # a reader that closes the pipe ends the program
     print(Picture(journal.Journal(sys.stdin)).svg())
 
 

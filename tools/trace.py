@@ -7,6 +7,7 @@ Each task is a thread with its turns and its waits, and the clock is one with it
 time of the journal's clock, so it has a microsecond, and what happens at one instant stands one after another.
 """
 import json
+import signal
 import sys
 
 sys.dont_write_bytecode = True
@@ -79,6 +80,7 @@ class Trace:
 def main():
     if len(sys.argv) > 1:
         sys.exit(__doc__.strip())
+    signal.signal(signal.SIGPIPE, signal.SIG_DFL)  # a reader that closes the pipe ends the program
     print(Trace(journal.Journal(sys.stdin)).text())
 
 
