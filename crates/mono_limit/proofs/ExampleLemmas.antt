@@ -1,13 +1,14 @@
 -- Worked runs, by computation.
 use Rattle.std.proofs.Common.{◌≡◌, ◌<◌, true, [], ◌∷◌, ℕ, List, refl, subst, arith, lit<, lit≤}
-use Rattle.std.specs.Prelude.{Ok, Err}
+use Rattle.std.specs.Prelude.{Ok, Err, Option, Some}
 use Rattle.mono_model.specs.Table.{Table}
 use Rattle.mono_model.specs.Due.{ListsDue}
 use Rattle.mono_model.proofs.DueLemmas.{lists, may_list}
 use Rattle.mono_limit.specs.Buckets.{IsLeastTick, tick_of_enough}
 use Rattle.mono_limit.specs.declared.schedules.Schedule.{Schedule}
 use Rattle.mono_limit.specs.Schedules.{waiting_value}
-use Rattle.mono_limit.specs.Examples.{Fills, GivesUp}
+use Rattle.mono_limit.specs.Examples.{Fills, GivesUp, EitherOrder, OneOrder, two_fail, two_due, MayAnswer}
+use Rattle.mono_limit.specs.Limiter.{no_limits}
 use Rattle.mono_limit.proofs.FillLemmas.{enough_at_tick}
 use Rattle.mono_limit.specs.declared.LimitError.TheVariants as error
 use Rattle.mono_limit.specs.declared.Take.TheVariants.{Granted, Short}
@@ -101,3 +102,21 @@ gives_up = (
     ),
   ),
 )
+
+in_order : MayAnswer (no_limits 0 2) two_fail (two_due (0 ∷ 1 ∷ []))
+in_order = (_, (_, (refl, refl), (_, (refl, refl), (_, (refl, refl), (_, (refl, refl), (_, (lit≤ tt, ends _ 100 (0 ∷ 1 ∷ []) refl, refl), refl))))))
+
+turned : MayAnswer (no_limits 0 2) two_fail (two_due (1 ∷ 0 ∷ []))
+turned = (_, (_, (refl, refl), (_, (refl, refl), (_, (refl, refl), (_, (refl, refl), (_, (lit≤ tt, ends _ 100 (1 ∷ 0 ∷ []) refl, refl), refl))))))
+
+pub either_order : EitherOrder
+either_order = (in_order, turned)
+
+first_tick : (a b : ℕ) → (xs ys : List (Option ℕ)) → Some a ∷ xs ≡ Some b ∷ ys → a ≡ b
+first_tick a b xs ys e = cc
+
+same_length : (v w : Option ℕ) → (xs : List (Option ℕ)) → v ∷ w ∷ xs ≡ v ∷ [] → ⊥
+same_length v w xs e = cc
+
+pub one_order : OneOrder
+one_order = (λ same. absurd (omega (arith, first_tick 100 200 _ _ same.ticks)), λ same. same_length _ _ _ same.ticks)

@@ -7,6 +7,8 @@ pub mod ClockStepLemmas
 pub mod RateLemmas
 pub mod WaitLemmas
 pub mod ValidityLemmas
+pub mod SameDueLemmas
+pub mod SameAnswerLemmas
 pub mod RetryStepLemmas
 pub mod SpentRetryLemmas
 pub mod ExampleLemmas

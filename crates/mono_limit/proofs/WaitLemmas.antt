@@ -29,14 +29,14 @@ none-some : {X : Type 0} (x : X) → None ≡ Some x → ⊥
 none-some x e = cc
 
 -- ---- lists
-times-none : (xs : List ℕ) (s : ℕ) → (Contains xs s → ⊥) → times xs s ≡ 0
+pub times-none : (xs : List ℕ) (s : ℕ) → (Contains xs s → ⊥) → times xs s ≡ 0
 times-none [] s out = refl
 times-none (x ∷ xs) s out = elim (eqb_tells x s) [
   | inl t ↦ absurd (out (0, omega arith, t.1))
   | inr t ↦ omega (arith, ap once_if t.0, times-none xs s (λ c. out (suc c.0, omega (arith, c.1), c.2)))
 ]
 
-times-once : (xs : List ℕ) (s : ℕ) → AllPairs (λ a b. a ≢ b) xs → Contains xs s → times xs s ≡ 1
+pub times-once : (xs : List ℕ) (s : ℕ) → AllPairs (λ a b. a ≢ b) xs → Contains xs s → times xs s ≡ 1
 times-once [] s pairs (k, inside, at) = absurd (omega (arith, inside))
 times-once (x ∷ xs) s pairs c = elim (eqb_tells x s) [
   | inl t ↦ omega (arith, ap once_if t.0, times-none xs s (λ more. pairs 0 (suc more.0) s (omega arith) (omega (arith, more.1)) (t.1 ∙ sym more.2)))

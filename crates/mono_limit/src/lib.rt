@@ -14,7 +14,7 @@ mod schedules;
 pub use attempts::{Retry, RetryRefused};
 pub use limiter::Limiter;
 use mono_model::Error;
-pub use rows::{fills, gives_up};
+pub use rows::{either_order, fills, gives_up, one_order};
 
 /// Why a call on the limiter was refused. A refused call changed nothing.
 ///
