@@ -3,6 +3,7 @@ pub mod SpawnCountLemmas
 pub mod ScriptTurnLemmas
 pub mod ParkLemmas
 pub mod BlockOnLemmas
+pub mod UnfullJournalLemmas
 pub mod MainPlaceLemmas
 pub mod BodyCountLemmas
 pub mod LineCutLemmas
@@ -10,6 +11,7 @@ pub mod FrontLemmas
 pub mod SpellingLemmas
 pub mod SegmentLemmas
 pub mod TaskCallLemmas
+pub mod FewActsLemmas
 pub mod ScriptLineLemmas
 pub mod TaskPollLemmas
 pub mod BeginningLemmas

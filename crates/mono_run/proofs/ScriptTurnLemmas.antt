@@ -293,7 +293,7 @@ module _ {P U J A V : Type 0} (future : FutureOf ScriptTask (Cx ScriptTask ℕ P
       → future.polls f c answer left x → Reaches (λ n. n) c x → AfterPoll (λ n. n) (λ a b. ⊤) future answer t left ended x d
       → Gave kinds t reading steps replies e fs gs f
   by_rest kinds t reading steps replies e ended fs gs f c x d Pending left is_unread ours below taken is none me now timers stands memory steps_are replies_are is_end polled reached rest =
-      let lines : RunsLines f c Pending left x = polls f c Pending left x polled ours.fits stands (record {
+      let lines : RunsLines f c Pending left x = (polls f c Pending left x polled).lines ours.fits stands (record {
         memory = sym rest.parts.memory ∙ memory;
         timers = reached.parts.same_timers ∙ timers;
       }) in
@@ -303,7 +303,7 @@ module _ {P U J A V : Type 0} (future : FutureOf ScriptTask (Cx ScriptTask ℕ P
   by_rest kinds t reading steps replies e ended fs gs f c x d (Ready output) left is_unread ours below taken is none me now timers stands memory steps_are replies_are is_end polled reached (y, gives_up, on, done) =
       let same : y ≡ x = cancels left x y gives_up in
       let acts : d.parts.acts ≡ x.parts.acts = done.parts.acts ∙ ap (λ z. z.parts.acts) same in
-      let lines : RunsLines f c (Ready output) left x = polls f c (Ready output) left x polled ours.fits stands (record {
+      let lines : RunsLines f c (Ready output) left x = (polls f c (Ready output) left x polled).lines ours.fits stands (record {
         memory = sym (done.parts.memory ∙ ap (λ z. z.parts.is_out_of_memory) same) ∙ memory;
         timers = reached.parts.same_timers ∙ timers;
       }) in

@@ -1,5 +1,5 @@
 -- One poll of a script's task: the acts that its lines give, from where its last turn stopped.
-use Rattle.std.specs.Prelude.{⊤, ◌≡◌, ◌≤◌, ℕ, true, false, List, [], ◌++◌, length, map, drop, slice_get, Option, Some, None}
+use Rattle.std.specs.Prelude.{⊤, ◌≡◌, ◌≤◌, ℕ, ◌+◌, ◌*◌, true, false, List, [], ◌++◌, length, map, drop, slice_get, Option, Some, None}
 use Rattle.mono_model.specs.declared.poll.Poll.{Poll}
 use Rattle.mono_model.specs.declared.poll.Poll.TheVariants.{Ready, Pending}
 use Rattle.mono_time.specs.Instants.{nanos_of}
@@ -63,6 +63,16 @@ pub record Grew (c d : Record) (steps : List TurnStep) (replies : List Reply) : 
   pub own : (rest : List TurnStep) → own_steps (acts ++ rest) ≡ steps ++ own_steps rest
   pub answers : (rest : List TurnStep) (more : List Reply) → own_replies (acts ++ rest) (told ++ more) ≡ replies ++ own_replies rest more
 
+-- The record grew by at most n acts.
+abbrev pub GrewAtMost : ℕ → Record → Record → Type 0
+GrewAtMost n c d = length d.steps ≤ length c.steps + n
+
+-- A turn of a task of a script has at most this number of acts: two for the sleep for which the task waits, and four for
+-- each of at most 127 lines. Four are those of a line that waits for a job: a poll and a drop, each after an end that it
+-- saw.
+abbrev pub most_acts : ℕ
+most_acts = 2 + 4 * 127
+
 -- No call ran out of memory, and there are timers.
 pub record HasKept {O B : Type 0} (c : Parts O B) : Type 0 where
   pub memory : c.is_out_of_memory ≡ false
@@ -94,6 +104,8 @@ module _ {P U J A V : Type 0} where
     pub kind : left.kind ≡ task.kind
     pub fits : Fits left
 
-  -- One poll of a task of a script, in a turn of a runtime in which no call ran out of memory.
-  abbrev pub PollsTask : ScriptTask → Cx ScriptTask ℕ P U ⊤ J A V → Poll ℕ → ScriptTask → Cx ScriptTask ℕ P U ⊤ J A V → Type 0
-  PollsTask task c answer left d = Fits task → Stands c.parts → HasKept d.parts → RunsLines task c answer left d
+  -- One poll of a task of a script: it has few acts (`few`). In a turn of a runtime in which no call ran out of memory
+  -- they are those of its lines (`lines`).
+  pub record PollsTask (task : ScriptTask) (c : Cx ScriptTask ℕ P U ⊤ J A V) (answer : Poll ℕ) (left : ScriptTask) (d : Cx ScriptTask ℕ P U ⊤ J A V) : Type 0 where
+    pub few : GrewAtMost most_acts c.parts.acts d.parts.acts
+    pub lines : Fits task → Stands c.parts → HasKept d.parts → RunsLines task c answer left d

@@ -88,25 +88,21 @@ fn output_of(end: RunEnd) -> Option<u64>
     }
 }
 
-// Returns the lines of the journal. A turn of a script has fewer acts than make a journal full. No clause says so, so a
-// full journal counts as out of memory.
+// Returns the lines of the journal. It is not full, since a turn of a script has fewer acts than make a journal full.
 fn told_of(
     alloc: Global,
     journal: &Journal,
     answer: &Result<u64, RunError>,
     waits: Vec<TaskWait>,
 ) -> Result<ScriptRun, AllocError>
-    requires { answer.now ≢ Err error.Driver }
+    requires end { answer.now ≢ Err error.Driver }
+    requires kept { journal.now.is_full ≡ false }
     ensures answer { IfOk result (λ run. answer.now ≡ answer_of run.end) }
-    ensures kept { OnOk result (journal.now.is_full ≡ false) }
     ensures text { IfOk result (λ run. run.text.items ≡ journal_text (map told journal.now.entries.items) (output_in (answer_of run.end))) }
 {
     let Some(end) = end_of(answer) else {
         return Err(AllocError);
     };
-    if journal.is_full() {
-        return Err(AllocError);
-    }
     let text = journal_lines(alloc, journal, output_of(end))?;
     Ok(ScriptRun { end, text, waits })
 }
@@ -153,7 +149,8 @@ fn zero() -> Instant {
 /// It returns how the run ended, and the lines of its journal (`ran`). Without workers each reading in the journal is
 /// the sum of the parks before it. With workers, if the clock exposes its readings, they are these, in order (`reads`).
 /// If the script is sound, the turns in the journal are those that its lines give (`driven`). Once a call ran out of
-/// memory, nothing is returned. No driver's error is hidden so, since the driver cannot fail. The workers end when they have run the queued jobs, for each answer. They go on waiting
+/// memory, nothing is returned. This hides no driver's error, since the driver cannot fail, and no full journal, since
+/// a turn has at most 510 acts. The workers end when they have run the queued jobs, for each answer. They go on waiting
 /// only if there was no memory for the runtime itself. The thread that started them joins them.
 pub fn run_script<R: Host + Send + 'static, C: Clock + Drop, P: Spawner>(
     rt: &R,

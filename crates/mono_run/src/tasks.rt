@@ -8,7 +8,7 @@ ghost use Rattle.mono_rt.specs.Reaches.{Reaches};
 ghost use Rattle.mono_run.specs.declared.scripts.body.BodyLine.{BodyLine};
 ghost use Rattle.mono_run.specs.ScriptTurns.{Place, place, turn_from, stops_at, acted, asked, with_handle, join_steps, job_steps, sleep_steps, yielded, if_made, none_made, task_in, sleep_in, job_in};
 ghost use Rattle.mono_run.specs.TaskStages.{body_len};
-ghost use Rattle.mono_run.specs.TaskPolls.{HasKept, Stands, Fits, PollsTask, kind_of, left_of, output_of, no_own};
+ghost use Rattle.mono_run.specs.TaskPolls.{HasKept, Stands, Fits, GrewAtMost, PollsTask, kind_of, left_of, output_of, no_own};
 ghost use Rattle.mono_run.specs.Segments.{Rest, Goes, waits, HasPlaces, if_over, next_if, next_behind, sleep_line, behind_line, at_task, behind_step};
 ghost use Rattle.mono_run.specs.declared.tasks.Next.TheVariants as next;
 ghost use Rattle.mono_run.specs.declared.tasks.ScriptTask.{ScriptTask};
@@ -32,7 +32,7 @@ pub type ScriptContext<'a> = Cx<ScriptTask<'a>, u64, DefaultThreadPool<ScriptJob
 ///
 /// Each poll runs lines of the kind's body from where the poll before stopped. It ends when a line has to wait, or
 /// yields, or the body is done. A refused call leaves no handle, and the task continues. A task takes no memory of its
-/// own.
+/// own. One poll makes at most 510 acts (`few` of `PollsTask`), so that a journal never becomes full.
 #[derive(Drop)]
 pub struct ScriptTask<'a> {
     kinds: &'a [TaskKind],
@@ -77,6 +77,7 @@ fn waits<T, E>(answer: &Result<Poll<T>, E>) -> bool
 // Waits for the sleep, and drops it. Returns false if the task has to wait.
 fn await_sleep(cx: &mut ScriptContext, number: u64) -> bool
     ensures reached { Reaches (λ n. n) cx.old cx.new }
+    ensures few { GrewAtMost 2 cx.old.parts.acts cx.new.parts.acts }
     ensures goes { (task : ScriptTask) (here : Place) (f : Rest) → HasKept cx.new.parts → Goes task (sleep_steps number here f) (if_over result f here) cx.old cx.new }
 {
     let answer = cx.poll_sleep(number);
@@ -101,6 +102,7 @@ fn deadline_from(now: Instant, nanos: u64) -> Option<Instant>
 // Makes a sleep until a deadline, and returns its number unless it is refused.
 fn add_sleep(alloc: Global, cx: &mut ScriptContext, deadline: Instant) -> Option<u64>
     ensures reached { Reaches (λ n. n) cx.old cx.new }
+    ensures few { GrewAtMost 1 cx.old.parts.acts cx.new.parts.acts }
     ensures goes { (task : ScriptTask) (k : Option ℕ → Rest) → Stands cx.old.parts → HasKept cx.new.parts → Goes task (asked (step.Act (act.NewSleep (nanos_of deadline))) sleep_in none_made k) (k result) cx.old cx.new }
 {
     match cx.add_sleep(alloc, deadline) {
@@ -112,6 +114,7 @@ fn add_sleep(alloc: Global, cx: &mut ScriptContext, deadline: Instant) -> Option
 // Makes a sleep of `nanos` nanoseconds, and returns its number unless it is refused.
 fn make_sleep(alloc: Global, cx: &mut ScriptContext, nanos: u64) -> Option<u64>
     ensures reached { Reaches (λ n. n) cx.old cx.new }
+    ensures few { GrewAtMost 1 cx.old.parts.acts cx.new.parts.acts }
     ensures goes { (task : ScriptTask) (k : Option ℕ → Rest) → Stands cx.old.parts → HasKept cx.new.parts → Goes task (with_handle (deadline_after (nanos_of cx.old.parts.now) nanos) (λ d q. asked (step.Act (act.NewSleep d)) sleep_in none_made k q) (k None)) (k result) cx.old cx.new }
 {
     match deadline_from(Instant::now(cx), nanos) {
@@ -123,6 +126,7 @@ fn make_sleep(alloc: Global, cx: &mut ScriptContext, nanos: u64) -> Option<u64>
 // Waits for the task's output, and drops its handle. Returns false if the task has to wait.
 fn await_task(cx: &mut ScriptContext, number: u64) -> bool
     ensures reached { Reaches (λ n. n) cx.old cx.new }
+    ensures few { GrewAtMost 2 cx.old.parts.acts cx.new.parts.acts }
     ensures goes { (task : ScriptTask) (here : Place) (f : Rest) → HasKept cx.new.parts → Goes task (join_steps number here f) (if_over result f here) cx.old cx.new }
 {
     let answer = cx.poll_join(number);
@@ -136,6 +140,7 @@ fn await_task(cx: &mut ScriptContext, number: u64) -> bool
 // Wakes the running task itself.
 fn wake_self(cx: &mut ScriptContext)
     ensures reached { Reaches (λ n. n) cx.old cx.new }
+    ensures few { GrewAtMost 1 cx.old.parts.acts cx.new.parts.acts }
     ensures goes { (task : ScriptTask) (here : Place) → HasKept cx.new.parts → Goes task (yielded cx.old.parts.me here) (stops_at here) cx.old cx.new }
 {
     let me = cx.me();
@@ -145,6 +150,7 @@ fn wake_self(cx: &mut ScriptContext)
 // Waits for the job, and drops its handle. Returns false if the task has to wait.
 fn await_job(cx: &mut ScriptContext, number: u64) -> bool
     ensures reached { Reaches (λ n. n) cx.old cx.new }
+    ensures few { GrewAtMost 4 cx.old.parts.acts cx.new.parts.acts }
     ensures goes { (task : ScriptTask) (here : Place) (f : Rest) → HasKept cx.new.parts → Goes task (job_steps number here f) (if_over result f here) cx.old cx.new }
 {
     let answer = cx.poll_job(number);
@@ -163,6 +169,7 @@ fn spawn_kind<'a>(
     kind: u64,
 ) -> Option<u64>
     ensures reached { Reaches (λ n. n) cx.old cx.new }
+    ensures few { GrewAtMost 1 cx.old.parts.acts cx.new.parts.acts }
     ensures goes { (task : ScriptTask) (k : Option ℕ → Rest) → task.kinds ≡ kinds.entry → HasKept cx.new.parts → Goes task (asked (step.Act act.Spawn) task_in (λ h. if_made h kind) k) (k result) cx.old cx.new }
 {
     match cx.spawn(alloc, ScriptTask::new(kinds, kind as usize)) {
@@ -174,6 +181,7 @@ fn spawn_kind<'a>(
 // Spawns a job with this output, and returns its number unless it was refused.
 fn block<R: Host>(rt: &R, alloc: Global, cx: &mut ScriptContext, output: u64) -> Option<u64>
     ensures reached { Reaches (λ n. n) cx.old cx.new }
+    ensures few { GrewAtMost 1 cx.old.parts.acts cx.new.parts.acts }
     ensures goes { (task : ScriptTask) (k : Option ℕ → Rest) → HasKept cx.new.parts → Goes task (asked (step.Act (act.Block output)) job_in none_made k) (k result) cx.old cx.new }
 {
     match cx.spawn_blocking(rt, alloc, ScriptJob::new(output)) {
@@ -214,6 +222,7 @@ impl Own {
         ensures over { result ≡ true → self.new.sleeping ≡ None }
         ensures still { result ≡ false → self.new.sleeping ≡ self.old.sleeping }
         ensures reached { Reaches (λ n. n) cx.old cx.new }
+        ensures few { GrewAtMost 2 cx.old.parts.acts cx.new.parts.acts }
         ensures goes { (task : ScriptTask) (here : Place) (f : Rest) → HasKept cx.new.parts → Goes task (with_handle self.old.sleeping (λ s q. sleep_steps s here f q) f) (if_over result f here) cx.old cx.new }
     {
         match self.sleeping {
@@ -232,6 +241,7 @@ impl Own {
     // Runs a line on the task's own tasks.
     fn join(&self, cx: &mut ScriptContext, i: u64) -> bool
         ensures reached { Reaches (λ n. n) cx.old cx.new }
+        ensures few { GrewAtMost 2 cx.old.parts.acts cx.new.parts.acts }
         ensures goes { (task : ScriptTask) (here : Place) (f : Rest) → HasKept cx.new.parts → Goes task (with_handle (slice_index_or self.now.tasks i None) (λ h q. join_steps h here f q) f) (if_over result f here) cx.old cx.new }
     {
         match self.tasks.get(i) {
@@ -242,6 +252,7 @@ impl Own {
 
     fn detach(&self, cx: &mut ScriptContext, i: u64)
         ensures reached { Reaches (λ n. n) cx.old cx.new }
+        ensures few { GrewAtMost 1 cx.old.parts.acts cx.new.parts.acts }
         ensures goes { (task : ScriptTask) (f : Rest) → HasKept cx.new.parts → Goes task (with_handle (slice_index_or self.now.tasks i None) (λ h q. acted (step.Act (act.DropJoin h)) f q) f) f cx.old cx.new }
     {
         match self.tasks.get(i) {
@@ -255,6 +266,7 @@ impl Own {
     // Runs a line on the task's own jobs.
     fn await_own_job(&self, cx: &mut ScriptContext, i: u64) -> bool
         ensures reached { Reaches (λ n. n) cx.old cx.new }
+        ensures few { GrewAtMost 4 cx.old.parts.acts cx.new.parts.acts }
         ensures goes { (task : ScriptTask) (here : Place) (f : Rest) → HasKept cx.new.parts → Goes task (with_handle (slice_index_or self.now.jobs i None) (λ h q. job_steps h here f q) f) (if_over result f here) cx.old cx.new }
     {
         match self.jobs.get(i) {
@@ -265,6 +277,7 @@ impl Own {
 
     fn drop_own_job(&self, cx: &mut ScriptContext, i: u64)
         ensures reached { Reaches (λ n. n) cx.old cx.new }
+        ensures few { GrewAtMost 2 cx.old.parts.acts cx.new.parts.acts }
         ensures goes { (task : ScriptTask) (f : Rest) → HasKept cx.new.parts → Goes task (with_handle (slice_index_or self.now.jobs i None) (λ h q. acted (step.Act (act.DropJob h)) f q) f) f cx.old cx.new }
     {
         match self.jobs.get(i) {
@@ -280,6 +293,7 @@ impl Own {
         ensures own { self.new ≡ record self.old { sleeping = self.new.sleeping } }
         ensures over { result ≡ true → self.new.sleeping ≡ None }
         ensures reached { Reaches (λ n. n) cx.old cx.new }
+        ensures few { GrewAtMost 3 cx.old.parts.acts cx.new.parts.acts }
         ensures goes { (task : ScriptTask) (left : List BodyLine) (o : ℕ) (f : Rest) → Stands cx.old.parts → HasKept cx.new.parts → Goes task (sleep_line (deadline_after (nanos_of cx.old.parts.now) nanos) left o self.old f) (if_over result f (place left o self.new.tasks self.new.jobs self.new.sleeping)) cx.old cx.new }
     {
         self.sleeping = make_sleep(alloc, cx, nanos);
@@ -300,6 +314,7 @@ impl Own {
         ensures jobs { length self.new.jobs ≤ length self.old.jobs + 1 }
         ensures stays { result ≡ next.Stays → (length self.new.tasks ≤ length self.old.tasks) × (length self.new.jobs ≤ length self.old.jobs) }
         ensures reached { Reaches (λ n. n) cx.old cx.new }
+        ensures few { GrewAtMost 4 cx.old.parts.acts cx.new.parts.acts }
         ensures goes { (task : ScriptTask) (left : List BodyLine) (o me t : ℕ) → task.kinds ≡ kinds.entry → me ≡ cx.old.parts.me → t ≡ nanos_of cx.old.parts.now → HasPlaces self.old → self.old.sleeping ≡ None → Stands cx.old.parts → HasKept cx.new.parts → Goes task (turn_from (line ∷ left) me t o self.old.tasks self.old.jobs) (behind_line result line left me t o self.new) cx.old cx.new }
     {
         match line {
@@ -356,7 +371,7 @@ impl<'a> ScriptTask<'a> {
     // Returns the line at which the task is; None at the end of the body.
     fn line(&self) -> Option<BodyLine>
         ensures inside { IfSome result (λ _. self.now.at < body_len self.now) }
-        ensures fits { IfSome result (λ _. self.now.at < 2 ^ 64 - 1) }
+        ensures few { IfSome result (λ _. self.now.at < 127) }
         ensures line { IfSome result (λ line. left_of (kind_of self.now) self.now.at ≡ line ∷ left_of (kind_of self.now) (self.now.at + 1)) }
         ensures none { IfNone result (left_of (kind_of self.now) self.now.at ≡ []) }
     {
@@ -391,6 +406,7 @@ impl<'a> ScriptTask<'a> {
         ensures rests { self.old.own.sleeping ≡ None → result ≡ next.GoesOn → self.new.own.sleeping ≡ None }
         ensures fits { Fits self.old → Fits self.new }
         ensures reached { Reaches (λ n. n) cx.old cx.new }
+        ensures few { GrewAtMost 4 cx.old.parts.acts cx.new.parts.acts }
         ensures goes { (maker : ScriptTask) (me t : ℕ) → maker.kinds ≡ self.old.kinds → me ≡ cx.old.parts.me → t ≡ nanos_of cx.old.parts.now → self.old.at < 127 → Fits self.old → self.old.own.sleeping ≡ None → left_of (kind_of self.old) self.old.at ≡ line ∷ left_of (kind_of self.old) (self.old.at + 1) → Stands cx.old.parts → HasKept cx.new.parts → Goes maker (at_task me t self.old) (behind_step result me t self.new) cx.old cx.new }
     {
         match self.own.run_line(rt, alloc, cx, self.kinds, line) {

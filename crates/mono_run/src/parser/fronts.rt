@@ -26,12 +26,15 @@ pub(crate) struct Front {
 }
 
 impl Model for Front {
+    ghost use Rattle.std.specs.Prelude.{◌≤◌, IfSome, length};
     ghost use Rattle.std.specs.Option.{option_map};
     ghost use Rattle.mono_run.specs.Fronts as fronts;
 
     ghost Value = { fronts.Front };
 
     ghost view = { λ a. record { limits = a.limits; kinds = a.kinds.items; inside = option_map (λ v. v.items) a.inside } };
+
+    ghost invariant = { λ a. IfSome a.inside (λ v. length v.items ≤ 127) };
 }
 
 impl Front {
@@ -66,7 +69,8 @@ impl Front {
         body: Vec<BodyLine>,
         text: &[u8],
     ) -> Result<bool, AllocError>
-        requires { self.old.inside ≡ None }
+        requires none { self.old.inside ≡ None }
+        requires few { length body.items ≤ 127 }
         ensures taken { IfOk result (λ taken. IsTrue taken → Continues kinds (front self.old.limits self.old.kinds (Some body.items)) text.now self.new) }
         ensures refused { IfOk result (λ taken. taken ≡ false → ContinuesNever kinds (front self.old.limits self.old.kinds (Some body.items)) text.now) }
     {

@@ -1,10 +1,11 @@
-use Rattle.std.proofs.Common.{ap, sym, ◌∙◌}
+use Rattle.std.proofs.Common.{ap, sym, ◌∙◌, arith}
 use Rattle.mono_machine.specs.declared.events.Act.TheVariants as act
 use Rattle.mono_machine.specs.declared.events.TurnStep.TheVariants as step
 use Rattle.mono_rt.specs.Reaches.{reaches_on}
 use Rattle.mono_run.specs.ScriptTurns.{acted}
 use Rattle.mono_run.proofs.SegmentLemmas.{kept_before, goes_on}
 use Rattle.mono_run.proofs.TaskCallLemmas.{job_pending, job_ready, job_dropped}
+use Rattle.mono_run.proofs.FewActsLemmas.{of_job_poll, of_job_drop}
 use Rattle.mono_run.proofs.tasks.await_job.Goals as goal
 
 pub returns-then-waits-clause-goes : goal.returns-then-waits-clause-goes
@@ -22,3 +23,15 @@ returns-clause-goes c = λ task here f had.
     goes_on task _ (acted (step.Act (act.DropJob c.args.number)) f) f c.args.cx.now mid last
     (job_ready task c.args.cx.now mid before (λ n. n) f c.args.number (ap (λ x. x.futures.items) c.poll_job-answer.ensures.same) here c.poll_job-answer.result c.poll_job-answer.ensures.polled (sym c.waits.ensures ∙ c.if-waits.false))
     (job_dropped task mid last had (λ n. n) f c.args.number (ap (λ x. x.futures.items) c.drop_job.ensures.same) c.drop_job.result c.drop_job.ensures.dropped)
+
+pub returns-then-waits-clause-few : goal.returns-then-waits-clause-few
+returns-then-waits-clause-few c = omega (arith, of_job_poll c.args.cx.now.parts c.poll_job-answer.new.self.parts (λ n. n) c.args.number c.poll_job-answer.result c.poll_job-answer.ensures.polled)
+
+pub returns-clause-few : goal.returns-clause-few
+returns-clause-few c =
+    let mid = c.poll_job-answer.new.self.parts in
+    omega (
+      arith,
+      of_job_poll c.args.cx.now.parts mid (λ n. n) c.args.number c.poll_job-answer.result c.poll_job-answer.ensures.polled,
+      of_job_drop mid c.drop_job.new.self.parts (λ n. n) c.args.number c.drop_job.result c.drop_job.ensures.dropped,
+    )

@@ -6,6 +6,7 @@ use Rattle.mono_run.specs.ScriptTurns.{asked, with_handle, sleep_in, none_made}
 use Rattle.mono_rt.specs.Reaches.{reaches_itself}
 use Rattle.mono_run.specs.Segments.{Goes}
 use Rattle.mono_run.proofs.SegmentLemmas.{goes_by_none}
+use Rattle.mono_run.proofs.FewActsLemmas.{no_act}
 use Rattle.mono_run.proofs.tasks.make_sleep.Goals as goal
 
 pub returns-in-Some-clause-goes : goal.returns-in-Some-clause-goes
@@ -23,3 +24,9 @@ returns-in-None-clause-goes c = λ task k st had.
 
 pub returns-in-None-clause-reached : goal.returns-in-None-clause-reached
 returns-in-None-clause-reached c = reaches_itself _ _
+
+pub returns-in-Some-clause-few : goal.returns-in-Some-clause-few
+returns-in-Some-clause-few c = c.add_sleep.ensures.few
+
+pub returns-in-None-clause-few : goal.returns-in-None-clause-few
+returns-in-None-clause-few c = no_act 1 c.args.cx.now.parts.acts c.args.cx.now.parts.acts refl

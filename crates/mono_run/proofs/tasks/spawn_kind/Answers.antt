@@ -2,6 +2,7 @@ use Rattle.std.proofs.Common.{◌≡◌, ap, sym, ◌∙◌, Some, ◌++◌, ◌
 use Rattle.mono_rt.specs.Spawns.{noted_spawn, lacks_spawn}
 use Rattle.mono_run.specs.TaskPolls.{new_task, no_own}
 use Rattle.mono_run.proofs.TaskCallLemmas.{task_made, task_refused}
+use Rattle.mono_run.proofs.FewActsLemmas.{of_spawn}
 use Rattle.mono_run.proofs.tasks.spawn_kind.Goals as goal
 
 pub returns-in-Ok-clause-goes : goal.returns-in-Ok-clause-goes
@@ -19,3 +20,9 @@ returns-in-Err-clause-goes c = λ task k same had.
     let new = c.spawn.new.self in
     task_refused task old new had k c.args.kind c.in-Err.field-0 (ap (λ x. x.acts) c.spawn.ensures.kept ∙ ap (noted_spawn old.parts.acts) c.in-Err.is)
     (ap (λ x. x.is_out_of_memory) c.spawn.ensures.kept ∙ ap (lacks_spawn old.parts.is_out_of_memory) c.in-Err.is) c.in-Err.ensures.none
+
+pub returns-in-Ok-clause-few : goal.returns-in-Ok-clause-few
+returns-in-Ok-clause-few c = of_spawn c.args.cx.now.parts.acts c.spawn.new.self.parts.acts c.spawn.result (ap (λ x. x.acts) c.spawn.ensures.kept)
+
+pub returns-in-Err-clause-few : goal.returns-in-Err-clause-few
+returns-in-Err-clause-few c = of_spawn c.args.cx.now.parts.acts c.spawn.new.self.parts.acts c.spawn.result (ap (λ x. x.acts) c.spawn.ensures.kept)

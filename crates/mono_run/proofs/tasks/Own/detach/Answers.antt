@@ -6,6 +6,7 @@ use Rattle.mono_run.specs.ScriptTurns.{acted}
 use Rattle.mono_run.proofs.SegmentLemmas.{handled, unhandled}
 use Rattle.mono_run.proofs.TaskCallLemmas.{join_dropped}
 use Rattle.mono_rt.specs.Reaches.{reaches_itself}
+use Rattle.mono_run.proofs.FewActsLemmas.{no_act, one_act}
 use Rattle.mono_run.proofs.tasks.Own.detach.Goals as goal
 
 pub returns-in-Some-clause-goes : goal.returns-in-Some-clause-goes
@@ -22,3 +23,9 @@ returns-in-None-clause-goes c = λ task f had.
 
 pub returns-in-None-clause-reached : goal.returns-in-None-clause-reached
 returns-in-None-clause-reached c = reaches_itself (λ n. n) c.args.cx.now
+
+pub returns-in-Some-clause-few : goal.returns-in-Some-clause-few
+returns-in-Some-clause-few c = one_act c.args.cx.now.parts.acts c.drop_join.new.self.parts.acts _ _ (ap (λ x. x.parts.acts) c.drop_join.ensures.kept)
+
+pub returns-in-None-clause-few : goal.returns-in-None-clause-few
+returns-in-None-clause-few c = no_act 1 c.args.cx.now.parts.acts c.args.cx.now.parts.acts refl

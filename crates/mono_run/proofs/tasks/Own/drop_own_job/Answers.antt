@@ -6,6 +6,7 @@ use Rattle.mono_run.specs.ScriptTurns.{acted}
 use Rattle.mono_run.proofs.SegmentLemmas.{handled, unhandled}
 use Rattle.mono_run.proofs.TaskCallLemmas.{job_dropped}
 use Rattle.mono_rt.specs.Reaches.{reaches_itself}
+use Rattle.mono_run.proofs.FewActsLemmas.{no_act, of_job_drop}
 use Rattle.mono_run.proofs.tasks.Own.drop_own_job.Goals as goal
 
 pub returns-in-Some-clause-goes : goal.returns-in-Some-clause-goes
@@ -21,3 +22,9 @@ returns-in-None-clause-goes c = λ task f had.
 
 pub returns-in-None-clause-reached : goal.returns-in-None-clause-reached
 returns-in-None-clause-reached c = reaches_itself (λ n. n) c.args.cx.now
+
+pub returns-in-Some-clause-few : goal.returns-in-Some-clause-few
+returns-in-Some-clause-few c = of_job_drop c.args.cx.now.parts c.drop_job.new.self.parts (λ n. n) c.in-Some.number c.drop_job.result c.drop_job.ensures.dropped
+
+pub returns-in-None-clause-few : goal.returns-in-None-clause-few
+returns-in-None-clause-few c = no_act 2 c.args.cx.now.parts.acts c.args.cx.now.parts.acts refl

@@ -3,6 +3,7 @@ use Rattle.std.specs.Prelude.{slice_index_or}
 use Rattle.mono_run.specs.ScriptTurns.{join_steps}
 use Rattle.mono_run.proofs.SegmentLemmas.{handled, unhandled}
 use Rattle.mono_rt.specs.Reaches.{reaches_itself}
+use Rattle.mono_run.proofs.FewActsLemmas.{no_act}
 use Rattle.mono_run.proofs.tasks.Own.join.Goals as goal
 
 pub returns-in-Some-clause-goes : goal.returns-in-Some-clause-goes
@@ -15,3 +16,9 @@ returns-in-None-clause-goes c = λ task here f had.
 
 pub returns-in-None-clause-reached : goal.returns-in-None-clause-reached
 returns-in-None-clause-reached c = reaches_itself (λ n. n) c.args.cx.now
+
+pub returns-in-Some-clause-few : goal.returns-in-Some-clause-few
+returns-in-Some-clause-few c = c.await_task.ensures.few
+
+pub returns-in-None-clause-few : goal.returns-in-None-clause-few
+returns-in-None-clause-few c = no_act 2 c.args.cx.now.parts.acts c.args.cx.now.parts.acts refl

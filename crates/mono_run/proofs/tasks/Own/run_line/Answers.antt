@@ -1,4 +1,4 @@
-use Rattle.std.proofs.Common.{ap, sym, None, ◌++◌, ◌∷◌, []}
+use Rattle.std.proofs.Common.{ap, sym, None, ◌++◌, ◌∷◌, [], arith}
 use Rattle.mono_time.specs.Instants.{nanos_of}
 use Rattle.mono_run.specs.ScriptTurns.{place, turn_from}
 use Rattle.mono_run.specs.declared.scripts.body.BodyLine.TheVariants as body
@@ -53,3 +53,27 @@ pub returns-in-Yield-clause-goes : goal.returns-in-Yield-clause-goes
 returns-in-Yield-clause-goes g c = λ task left o me t same me_is t_is places rests st had.
     let own = c.args.self.now in
     rw (c.in-Yield.is, me_is, rests) (c.wake_self.ensures.goes task (place left o own.tasks own.jobs None) had)
+
+pub returns-in-Spawn-clause-few : goal.returns-in-Spawn-clause-few
+returns-in-Spawn-clause-few g c = omega (arith, c.spawn_kind-number.ensures.few)
+
+pub returns-in-Block-clause-few : goal.returns-in-Block-clause-few
+returns-in-Block-clause-few g c = omega (arith, c.block-number.ensures.few)
+
+pub returns-in-Join-clause-few : goal.returns-in-Join-clause-few
+returns-in-Join-clause-few g c = omega (arith, c.join.ensures.few)
+
+pub returns-in-AwaitJob-clause-few : goal.returns-in-AwaitJob-clause-few
+returns-in-AwaitJob-clause-few g c = omega (arith, c.await_own_job.ensures.few)
+
+pub returns-in-AwaitSleep-clause-few : goal.returns-in-AwaitSleep-clause-few
+returns-in-AwaitSleep-clause-few g c = omega (arith, c.sleep_for.ensures.few)
+
+pub returns-in-Detach-clause-few : goal.returns-in-Detach-clause-few
+returns-in-Detach-clause-few g c = omega (arith, c.detach.ensures.few)
+
+pub returns-in-DropJob-clause-few : goal.returns-in-DropJob-clause-few
+returns-in-DropJob-clause-few g c = omega (arith, c.drop_own_job.ensures.few)
+
+pub returns-in-Yield-clause-few : goal.returns-in-Yield-clause-few
+returns-in-Yield-clause-few g c = omega (arith, c.wake_self.ensures.few)

@@ -1,3 +1,4 @@
+use Rattle.std.proofs.Common.{arith}
 use Rattle.mono_rt.specs.Reaches.{reaches_on}
 use Rattle.mono_time.specs.Instants.{nanos_of}
 use Rattle.mono_time.specs.Futures.{deadline_after}
@@ -18,3 +19,6 @@ returns-clause-goes c = λ task left o f st had.
     (c.make_sleep-self.ensures.goes task (waits_for left o own f) st (kept_before mid last c.end_sleep.ensures.reached had))
     (λ here. c.end_sleep.ensures.goes task here f had)
     c.end_sleep.ensures.own c.end_sleep.ensures.still
+
+pub returns-clause-few : goal.returns-clause-few
+returns-clause-few c = omega (arith, c.make_sleep-self.ensures.few, c.end_sleep.ensures.few)

@@ -41,3 +41,12 @@ pub returns-in-Stays-clause-fits : goal.returns-in-Stays-clause-fits
 returns-in-Stays-clause-fits g c = λ f.
     let few = c.run_line.ensures.stays c.in-Stays.is in
     record { short = f.short; tasks = omega (arith, f.tasks, few.0); jobs = omega (arith, f.jobs, few.1) }
+
+pub returns-in-GoesOn-clause-few : goal.returns-in-GoesOn-clause-few
+returns-in-GoesOn-clause-few g c = c.run_line.ensures.few
+
+pub returns-in-Stops-clause-few : goal.returns-in-Stops-clause-few
+returns-in-Stops-clause-few g c = c.run_line.ensures.few
+
+pub returns-in-Stays-clause-few : goal.returns-in-Stays-clause-few
+returns-in-Stays-clause-few g c = c.run_line.ensures.few
