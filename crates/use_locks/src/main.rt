@@ -5,15 +5,15 @@ ghost use Rattle.std.specs.Prelude.{◌≡◌, IfSome};
 ghost use Rattle.mono_rt.specs.Views.{Rests, turn_of};
 
 mod clients;
-mod locks;
 
-use clients::Client;
-use locks::Locks;
+use clients::{Client, Shared};
 use mono_rt::{Host, JoinHandle, NoPool, Runtime, RuntimeBuilder, StepDriver, TimeDriver};
+use mono_serve::{Keeper, Leases};
+use mono_sync::Only;
 use std::alloc::Global;
 use std::io;
 
-type Running = Runtime<Client, u64, TimeDriver<StepDriver>, NoPool, Locks>;
+type Running = Runtime<Client, u64, TimeDriver<StepDriver>, NoPool, Shared>;
 
 type Handle = JoinHandle<u64>;
 
@@ -23,18 +23,18 @@ fn lock_runtime(alloc: Global) -> Option<Running>
 {
     let driver = TimeDriver::new(StepDriver::new(Vec::new(alloc)));
     let builder: RuntimeBuilder<TimeDriver<StepDriver>, NoPool> = RuntimeBuilder::new(driver);
-    let locks = Locks::new(alloc, 3).ok()?;
-    match builder.build_sharing(alloc, locks) {
+    let part = Leases::new(alloc, 3, 3).ok()?;
+    match builder.build_sharing(alloc, Only { part }) {
         Ok(made) => Some(made),
         Err(_) => None,
     }
 }
 
-// Spawns a task that holds the lock for this many milliseconds.
-fn spawn(alloc: Global, runtime: &mut Running, millis: u64) -> Option<Handle>
+// Spawns a task.
+fn spawn(alloc: Global, runtime: &mut Running, client: Client) -> Option<Handle>
     ensures { turn_of runtime.new ≡ turn_of runtime.old }
 {
-    runtime.spawn(alloc, Client::new(millis)).ok()
+    runtime.spawn(alloc, client).ok()
 }
 
 // Runs the tasks until this one has ended. Drops its handle, and returns its output.
@@ -50,7 +50,8 @@ fn output_of<R: Host>(rt: &R, alloc: Global, runtime: &mut Running, handle: Hand
     output.unwrap_or(None)
 }
 
-// Spawns three tasks that hold the lock for these times.
+// Spawns three tasks that hold the lock for these times, and the one that closes their sessions in time. The first has
+// a session of 400 ms, so the second gets the lock then at the latest.
 fn spawn_all(
     alloc: Global,
     runtime: &mut Running,
@@ -58,9 +59,10 @@ fn spawn_all(
 ) -> Option<(Handle, Handle, Handle)>
     ensures { turn_of runtime.new ≡ turn_of runtime.old }
 {
-    let first = spawn(alloc, runtime, times.0)?;
-    let second = spawn(alloc, runtime, times.1)?;
-    let third = spawn(alloc, runtime, times.2)?;
+    spawn(alloc, runtime, Client::Keeps(Keeper::new()))?;
+    let first = spawn(alloc, runtime, Client::new(400, times.0))?;
+    let second = spawn(alloc, runtime, Client::new(2000, times.1))?;
+    let third = spawn(alloc, runtime, Client::new(2000, times.2))?;
     Some((first, second, third))
 }
 
