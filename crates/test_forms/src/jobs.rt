@@ -15,7 +15,7 @@ use std::time::Duration;
 
 /// Gives its number.
 #[derive(Drop)]
-struct Gives(u64);
+pub(crate) struct Gives(pub(crate) u64);
 
 impl Outcome for Gives {
     ghost output_number = { λ job. job.0 };
@@ -77,7 +77,7 @@ impl Job for Squares {
 
 /// A pool that keeps the last task that it took, and runs none. A task that it drops is cancelled.
 #[derive(Drop)]
-struct Keeps {
+pub(crate) struct Keeps {
     kept: Option<BlockingTask<Gives>>,
     drops: bool,
 }
@@ -123,7 +123,7 @@ fn late_code(answer: Result<Result<u64, JobError<Gives>>, LateError>) -> u64 {
 }
 
 /// Runs a main task with so many jobs on a runtime of its own, and returns its answer.
-fn run<F, P, R: Host + Abort>(
+pub(crate) fn run<F, P, R: Host + Abort>(
     rt: &R,
     alloc: Global,
     pool: BlockingHandle<P>,
@@ -154,11 +154,11 @@ where
     answer
 }
 
-fn on_caller() -> BlockingHandle<NoPool<Gives>> {
+pub(crate) fn on_caller() -> BlockingHandle<NoPool<Gives>> {
     BlockingHandle::Empty(BlockingStrategy::ExecuteLocal)
 }
 
-fn keeping(drops: bool) -> BlockingHandle<Keeps> {
+pub(crate) fn keeping(drops: bool) -> BlockingHandle<Keeps> {
     BlockingHandle::Attached(Keeps { kept: None, drops })
 }
 

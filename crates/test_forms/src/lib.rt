@@ -4,8 +4,12 @@
 #[cfg(test)]
 mod chains;
 #[cfg(test)]
+mod contexts;
+#[cfg(test)]
 mod jobs;
 #[cfg(test)]
 mod logs;
+#[cfg(test)]
+mod nests;
 #[cfg(test)]
 mod sequences;
