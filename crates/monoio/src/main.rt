@@ -105,12 +105,19 @@ fn tell(rt: &HostRuntime, command: &str, ended: &Ended, source: &StdinSource, si
         Status::BadLine => say(rt, bad_line_text(rt.alloc(), command, ended)),
         Status::NotARun => say(rt, failure_text(rt.alloc(), ended)),
         Status::Turns => tell_turns(rt, ended),
-        status => tell_status(rt, status, source, sink),
+        status => tell_status(rt, status, "the input", source, sink),
     }
 }
 
-// Prints the meaning of a status, except that of a bad line or of a journal that is no run.
-fn tell_status(rt: &HostRuntime, status: Status, source: &StdinSource, sink: &StdoutSink) {
+// Prints the meaning of a status, except that of a bad line or of a journal that is no run. `long` is what may have more
+// than 2^24 bytes.
+fn tell_status(
+    rt: &HostRuntime,
+    status: Status,
+    long: &str,
+    source: &StdinSource,
+    sink: &StdoutSink,
+) {
     let alloc = rt.alloc();
     match status {
         Status::Done => {}
@@ -126,10 +133,7 @@ fn tell_status(rt: &HostRuntime, status: Status, source: &StdinSource, sink: &St
                 "there is no place for the main task: the script's limit of tasks is 0",
             ),
         ),
-        Status::TooLong => say(
-            rt,
-            String::from_str(alloc, "the input has more than 16777216 bytes"),
-        ),
+        Status::TooLong => say(rt, format!(in alloc; "{long} has more than 16777216 bytes")),
         _ => say(rt, String::from_str(alloc, "out of memory")),
     }
 }
@@ -213,7 +217,7 @@ fn follow(rt: &HostRuntime, words: &Vec<String>) -> u8 {
     if status == Status::BadLine {
         say(rt, bad_line_after(alloc, first_word(words), &ended));
     } else {
-        tell_status(rt, status, &source, &sink);
+        tell_status(rt, status, "a line", &source, &sink);
     }
     status.code()
 }

@@ -31,7 +31,7 @@ steps of a turn are the lines from spawn to job-end, and these:
   job JOB                   pending, ready OUTPUT or canceled
 a refusal is: refused idle, no-task, no-timer, no-handle, taken, at-capacity, invalid, no-pool or ended
 exit status: 0 done, 2 other words, 3 a bad line, 4 a read failed, 5 a write failed, 6 out of memory,
-  7 more than 16777216 bytes of input
+  7 more than 16777216 bytes of input (with --follow, of a line)
 example: printf 'spawn\\nturn; sleep 5000000; poll 0; pending\\nclock 5000000\\n' | monoio replay attached 16 16 16";
 
 const RUN: &str = "usage: monoio run WORKERS TURNS < SCRIPT
@@ -87,7 +87,7 @@ lines, and their answers; SESSION, KEY and MILLIS are below 2^64, NANOS below 2^
   clock NANOS               closed, and the sessions that it closed
 a refusal is: refused at-capacity, invalid, no-session, zero-limit, doubled or not-in
 exit status: 0 done, 2 other words, 3 a bad line, 4 a read failed, 5 a write failed, 6 out of memory,
-  7 more than 16777216 bytes of input
+  7 more than 16777216 bytes of input (with --follow, of a line)
 example: printf 'open 5\\nacquire 0 1\\nowner 1\\nclock 6000000\\n' | monoio sessions 16 16";
 
 const LIMITER: &str = "usage: monoio limiter [--follow] BUCKETS RETRIES < CALLS
@@ -105,7 +105,7 @@ lines, and their answers; the numbers are below 2^64, NANOS below 2^128; a tick 
   clock NANOS               due, and the retries whose wait ends
 a refusal is: refused at-capacity, invalid, bad-bucket, too-many, waiting, bad-retry, no-bucket or no-retry
 exit status: 0 done, 2 other words, 3 a bad line, 4 a read failed, 5 a write failed, 6 out of memory,
-  7 more than 16777216 bytes of input
+  7 more than 16777216 bytes of input (with --follow, of a line)
 example: printf 'bucket 2 10\\ntake 0 2\\ntake 0 1\\nclock 10000000\\ntake 0 1\\n' | monoio limiter 16 16";
 
 const ACTORS: &str = "usage: monoio actors [--follow] ACTORS MESSAGES < CALLS
@@ -123,7 +123,7 @@ lines, and their answers; the numbers are below 2^64, NANOS below 2^128:
   clock NANOS               due, and the actors whose wait ends
 a turn has any number of sends; a refusal is: refused idle, at-capacity, no-actor or invalid
 exit status: 0 done, 2 other words, 3 a bad line, 4 a read failed, 5 a write failed, 6 out of memory,
-  7 more than 16777216 bytes of input
+  7 more than 16777216 bytes of input (with --follow, of a line)
 example: printf 'actor\\nactor\\nsend 0 1 7\\nturn; send 0 8; stay\\n' | monoio actors 16 16";
 
 const CHECK: &str = "usage: monoio check STRATEGY TASKS JOBS SLEEPS < JOURNAL
