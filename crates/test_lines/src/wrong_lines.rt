@@ -86,7 +86,7 @@ const LIMITER: Words = Words::Limiter;
 const ACTORS: Words = Words::Actors;
 
 // The words of a command, an input, and the sentence about its first bad line.
-const CASES: [(Words, &[u8], &[u8]); 52] = [
+const CASES: [(Words, &[u8], &[u8]); 53] = [
     (REPLAY, b"spawn\nspawn", b"line 2: no line feed at the end"),
     (
         REPLAY,
@@ -174,6 +174,11 @@ const CASES: [(Words, &[u8], &[u8]); 52] = [
         REPLAY,
         b"job-end 0 done\n",
         b"line 1: \"done\" is no plain decimal number; expected: job-end JOB ran, or job-end JOB canceled",
+    ),
+    (
+        REPLAY,
+        b"wake \"1\\\"\n",
+        b"line 1: \"\\\"1\\\\\\\"\" is no plain decimal number; expected: wake TASK",
     ),
     (
         REPLAY,
