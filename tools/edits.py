@@ -7,6 +7,7 @@ PARTS = ("src", "specs", "proofs")
 PASSED_OVER = re.compile(r'//[^\n]*|/\*.*?\*/|b?"(?:\\.|[^"\\])*"|b?\'(?:\\[^\']*|[^\'\\\n])\'', re.S)
 TOKEN = re.compile(r"\b(?:fn|impl|trait|mod|macro_rules)\b|[{};\[\]]")
 CLAUSE = re.compile(r"\b(?:requires|ensures|ghost)\b\*?[\s\w:]*$")
+DECLARES = re.compile(r"\b(?:struct|enum|union)\s+(\w+)")
 
 
 class Edit:
@@ -46,7 +47,9 @@ class Edit:
         begin = before.index(old)
         self.texts[file] = before.replace(old, new)
         self.pairs.append((file, old, new))
-        found = function_at(before, file, begin, begin + len(old)) if has_same_braces(old, new) else None
+        found = None
+        if has_same_braces(old, new):
+            found = function_at(before, file, begin, begin + len(old), homes_in(folder))
         if found is None:
             self.functions = None
         elif self.functions is not None:
@@ -121,18 +124,71 @@ def owner_of(head):
     return type_named(of) + type_named(trait) if of else type_named(head)
 
 
-def function_at(text, file, begin, end):
+def homes_in(folder):
+    """The module of each type that a crate declares, by the type's name."""
+    homes = {}
+    for at, _, names in os.walk(os.path.join(folder, "src")):
+        for name in names:
+            if name.endswith(".rt"):
+                path = os.path.join(at, name)
+                for found in DECLARES.finditer(blanked(text_of(path))):
+                    homes[found[1]] = module_of(os.path.relpath(path, folder))
+    return homes
+
+
+def in_angles(text):
+    """What stands between the angle brackets at the front, if there are any, and the rest."""
+    depth = 0
+    for at, letter in enumerate(text):
+        if letter == "<":
+            depth += 1
+        elif letter == ">" and text[at - 1] != "-":
+            depth -= 1
+        if depth == 0:
+            return text[1:at], text[at + bool(at):]
+    return "", text
+
+
+def arguments_of(head):
+    """The names among the arguments of an impl's type, if one of these is no parameter of the impl."""
+    parameters, rest = in_angles(re.sub(r"^impl\b", "", head).strip())
+    own = {part.split(":")[0].split()[-1] for part in without_generics(parameters).split(",") if part.strip()}
+    _, _, arguments = re.sub(r"\bwhere\b.*", "", rest, flags=re.S).partition("<")
+    parts = [part.strip() for part in arguments.strip().removesuffix(">").split(",") if part.strip()]
+    return [] if set(parts) <= own else re.findall(r"\w+", arguments)
+
+
+def owner_in(text, head, homes):
+    """The name of an impl in the path of its methods, and the module of that path if it is not the impl's own.
+
+    The methods of a type for all its arguments are in the module of the type. Those for some arguments are in that of
+    the impl, with the names of the arguments. So are those of a trait, without these names.
+    """
+    name = owner_of(head)
+    if " for " in without_generics(head):
+        return name, None
+    arguments = arguments_of(head)
+    if arguments:
+        return "+".join([name, *arguments]), None
+    declared = {found[1] for found in DECLARES.finditer(text)}
+    return name, None if name in declared else homes.get(name)
+
+
+def function_at(text, file, begin, end, homes):
     """The path, the first and the last line of the function in whose body the place from begin to end stands."""
     if not file.startswith("src/"):
         return None
-    for path, first, opens, closes in functions_of(text, module_of(file)):
+    for path, first, opens, closes in functions_of(text, module_of(file), homes):
         if opens < begin and end <= closes:
             return path, text.count("\n", 0, first) + 1, text.count("\n", 0, closes) + 1
     return None
 
 
-def functions_of(text, module):
-    """Each function that has a body: its path below the crate, where it begins, and where its body begins and ends."""
+def functions_of(text, module, homes):
+    """Each function that has a body: its path below the crate, where it begins, and where its body begins and ends.
+
+    `homes` has the module of each type of the crate.
+    """
     plain = blanked(text)
     found, row, pending, last, depth, body, brackets = [], [], None, 0, 0, None, 0
     for token in TOKEN.finditer(plain):
@@ -148,16 +204,16 @@ def functions_of(text, module):
                 last = closing(plain, at) + 1
                 continue
             if kind == "fn":
-                names = [*module, *[name for name, _ in row], re.match(r"fn\s+(\w+)", plain[begin:])[1]]
+                names = [*owners(module, row), re.match(r"fn\s+(\w+)", plain[begin:])[1]]
                 body = ("::".join(names), begin, at, depth)
             else:
-                row.append((name_of(kind, plain[begin:at]), depth))
+                row.append((*named(kind, plain, plain[begin:at].strip(), homes), depth))
             pending = None
         elif word == "}":
             if body and body[3] == depth:
                 found.append((*body[:3], at))
                 body = None
-            elif row and row[-1][1] == depth:
+            elif row and row[-1][2] == depth:
                 row.pop()
             depth -= 1
         elif word == ";":
@@ -168,11 +224,21 @@ def functions_of(text, module):
     return found
 
 
-def name_of(kind, head):
-    if kind in ("impl", "trait"):
-        return owner_of(head.strip())
+def named(kind, text, head, homes):
+    """The name of what holds functions, and the module of their paths if it is not the own one."""
+    if kind == "impl":
+        return owner_in(text, head, homes)
+    if kind == "trait":
+        return owner_of(head), None
     found = re.match(r"\w+!?\s+(\w+)", head)
-    return found[1] if found else ""
+    return (found[1] if found else ""), None
+
+
+def owners(module, row):
+    """The names before that of a function in this row of holders."""
+    if row and row[-1][1] is not None:
+        return [*row[-1][1], row[-1][0]]
+    return [*module, *[name for name, _, _ in row]]
 
 
 def closing(text, at):
