@@ -1,4 +1,5 @@
-// Long inputs, so that memory grows past its first slack: actors, buckets with retries, and sessions in one queue.
+// Long inputs, so that memory grows past its first slack: actors, buckets with retries, sessions in one queue, and the
+// longest turn of a script.
 use crate::runs::{PLAIN, ends_so};
 use mono_model::Host;
 use mono_text::put_number;
@@ -138,6 +139,30 @@ fn many_sessions(rt: HostRuntime) {
     assert!(&rt;
         matches!(
             is_answered(&rt, rt.alloc(), "sessions 300 300", &input, &output),
+            Some(true)
+        )
+    );
+}
+
+// The longest turn of a script: 127 lines, each with three acts. The journal keeps it whole.
+#[test]
+fn the_longest_turn(rt: HostRuntime) {
+    let n = 127;
+    let input = [
+        once(b"limits 1 0 1\ntask\n"),
+        each(n, b"await-sleep 0\n"),
+        once(b"done 5\n"),
+    ];
+    let output = [
+        once(b"spawn -> task 0\nnow 0\nturn"),
+        each(n, b"; sleep 0; poll @; drop-sleep @"),
+        once(b"; ready 5 -> turn 0"),
+        each(n, b"; sleep @; ready; dropped"),
+        once(b"; done\ndrop-join 0 -> dropped 5\nmain 5\n"),
+    ];
+    assert!(&rt;
+        matches!(
+            is_answered(&rt, rt.alloc(), "run 0 9", &input, &output),
             Some(true)
         )
     );
