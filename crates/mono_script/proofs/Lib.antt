@@ -10,3 +10,4 @@ pub mod NumberLemmas
 pub mod MainPlaceLemmas
 pub mod FollowLemmas
 pub mod TopCallLemmas
+pub mod FollowWordLemmas
