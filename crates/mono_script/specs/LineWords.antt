@@ -23,19 +23,19 @@ line_words (command.Limiter buckets retries) = codes "bucket take retry fail don
 line_words (command.Actors actors messages) = codes "actor send timeout turn clock"
 line_words (command.Check limits strategy) = journal_words
 
--- the words of a turn's steps and ends
-abbrev pub step_words : List ℕ
-step_words = codes "spawn wake sleep reset drop-sleep elapsed drop-join finished block drop-job job-finished job-end poll join job pending ready"
+-- the forms of a turn's steps and ends, a word for each word
+abbrev pub step_forms : List ℕ
+step_forms = codes "spawn; wake 0; sleep 0; reset 0 0; drop-sleep 0; elapsed 0; drop-join 0; finished 0; block 0; drop-job 0; job-finished 0; job-end 0 0; poll 0; join 0; job 0; pending; ready 0"
 
--- The words with which a part of a line begins, with blanks between them.
-abbrev pub part_words : Command → List ℕ
-part_words (command.Replay limits strategy) = step_words
-part_words (command.Run workers turns) = codes ""
-part_words (command.Load seed count) = codes ""
-part_words (command.Sessions sessions entries) = codes ""
-part_words (command.Limiter buckets retries) = codes ""
-part_words (command.Actors actors messages) = codes "send stay stop"
-part_words (command.Check limits strategy) = step_words
+-- The forms of the parts of a line, with an empty word between two of them.
+abbrev pub part_forms : Command → List ℕ
+part_forms (command.Replay limits strategy) = step_forms
+part_forms (command.Run workers turns) = codes ""
+part_forms (command.Load seed count) = codes ""
+part_forms (command.Sessions sessions entries) = codes ""
+part_forms (command.Limiter buckets retries) = codes ""
+part_forms (command.Actors actors messages) = codes "send 0 0; stay; stop"
+part_forms (command.Check limits strategy) = step_forms
 
 -- The words with which a line with a report begins, with blanks between them.
 abbrev pub pair_words : Command → List ℕ
@@ -48,7 +48,7 @@ pair_words (command.Actors actors messages) = codes ""
 pair_words (command.Check limits strategy) = event_words
 
 abbrev pub line_fault_at : Command → List ℕ → ℕ → Option Wrong
-line_fault_at c input n = wrong_at (words (line_words c)) (words (part_words c)) (words (pair_words c)) input n
+line_fault_at c input n = wrong_at (words (line_words c)) (words (part_forms c)) (words (pair_words c)) input n
 
 -- The fault of line n of the input, counted from 1, by the bytes of that line, and for a script by those before it.
 abbrev pub fault_at : Command → List ℕ → ℕ → Option Wrong

@@ -5,9 +5,9 @@ use mono_text::{Fault, Reason};
 use std::alloc::{AllocError, Global};
 use std::format;
 
-// Returns the expected form, after a semicolon, if the word has one.
-fn expected(alloc: Global, command: &str, fault: &Fault) -> Result<String, AllocError> {
-    match form_of(command, fault.head) {
+// Returns the expected form of the line or part that begins with this word, after a semicolon, if it has one.
+fn expected(alloc: Global, command: &str, head: &[u8]) -> Result<String, AllocError> {
+    match form_of(command, head) {
         Some(form) => format!(in alloc; "; expected: {form}"),
         None => Ok(String::new(alloc)),
     }
@@ -21,7 +21,7 @@ fn about_word(
     what: &str,
 ) -> Result<String, AllocError> {
     let word = shown(alloc, fault.word)?;
-    let expected = expected(alloc, command, fault)?;
+    let expected = expected(alloc, command, fault.head)?;
     format!(in alloc; "\"{word}\" {what}{expected}")
 }
 
@@ -53,24 +53,37 @@ fn script_number_text(alloc: Global, fault: &Fault) -> Result<String, AllocError
 }
 
 // Returns the fault of a whole line.
-fn line_text(command: &str, reason: Reason) -> &'static str {
+fn line_text(reason: Reason) -> &'static str {
     match reason {
         Reason::NoLineFeed => "no line feed at the end",
         Reason::CarriageReturn => "a carriage return before the line feed",
         Reason::NoReport => "an event without \" -> \" and its report",
-        Reason::OtherReport => {
-            if command == "check" {
-                "no report behind \" -> \""
-            } else {
-                "\" -> \" and a report stand in a journal alone, which check reads"
-            }
-        }
+        Reason::OtherReport => "no report behind \" -> \"",
         Reason::NoLimits => "the first line of a script is limits TASKS JOBS SLEEPS",
         Reason::NoTask => "a kind begins with task",
         Reason::NoDone => "the kind before has no done OUTPUT",
         Reason::ManyKinds => "more than 64 kinds",
         Reason::LongBody => "more than 127 lines before done OUTPUT",
         _ => "not in the form of its first word",
+    }
+}
+
+// Returns the fault of a turn whose part begins without the gap before it.
+fn gap_text(alloc: Global, command: &str, fault: &Fault) -> Result<String, AllocError> {
+    let word = shown(alloc, fault.word)?;
+    let expected = expected(alloc, command, b"turn")?;
+    format!(in alloc; "no \"; \" before \"{word}\"{expected}")
+}
+
+// Returns the fault of a line with a report that takes none.
+fn needless_text(alloc: Global, command: &str, fault: &Fault) -> Result<String, AllocError> {
+    if command == "check" {
+        about_word(alloc, command, fault, "takes no report")
+    } else {
+        String::from_str(
+            alloc,
+            "\" -> \" and a report stand in a journal alone, which check reads",
+        )
     }
 }
 
@@ -93,6 +106,10 @@ fn reason_text(
             let word = shown(alloc, fault.word)?;
             format!(in alloc; "unknown word \"{word}\" behind \"; \"")
         }
+        Reason::NoGap => gap_text(alloc, command, fault),
+        Reason::OtherHow => about_word(alloc, command, fault, "is neither ran nor canceled"),
+        Reason::OtherPart => about_word(alloc, command, fault, "is not in its form"),
+        Reason::NeedlessReport => needless_text(alloc, command, fault),
         Reason::NoNumber => about_word(alloc, command, fault, "is no plain decimal number"),
         Reason::GreatNumber => {
             about_word(alloc, command, fault, "is above 18446744073709551615")
@@ -108,10 +125,10 @@ fn reason_text(
             script_number_text(alloc, fault)
         }
         Reason::OtherForm => {
-            let expected = expected(alloc, command, fault)?;
+            let expected = expected(alloc, command, fault.head)?;
             format!(in alloc; "not in the form of its first word{expected}")
         }
-        reason => String::from_str(alloc, line_text(command, reason)),
+        reason => String::from_str(alloc, line_text(reason)),
     }
 }
 

@@ -65,11 +65,13 @@ const LIMITER: [&str; 6] = [
     "clock NANOS",
 ];
 
-const ACTORS: [&str; 5] = [
+const ACTORS: [&str; 7] = [
     "actor",
     "send FROM TO MESSAGE, or in a turn send TO MESSAGE",
     "timeout ACTOR MILLIS",
     "turn; send TO MESSAGE; stay, or turn; send TO MESSAGE; stop, with any number of sends",
+    "stay",
+    "stop",
     "clock NANOS",
 ];
 

@@ -2,7 +2,7 @@
 ghost use Rattle.std.specs.Prelude.{◌≡◌};
 ghost use Rattle.std.specs.Option.{option_map};
 ghost use Rattle.mono_text.specs.ReasonTexts.{told};
-ghost use Rattle.mono_script.specs.LineWords.{line_words, part_words, pair_words, line_fault_at, fault_at};
+ghost use Rattle.mono_script.specs.LineWords.{line_words, part_forms, pair_words, line_fault_at, fault_at};
 
 use crate::command::Command;
 use mono_text::{Fault, fault_of_line, fault_of_script};
@@ -30,21 +30,21 @@ pub(crate) fn first_words(command: Command) -> &'static [u8]
     }
 }
 
-const STEP_WORDS: &[u8] =
-    b"spawn wake sleep reset drop-sleep elapsed drop-join finished block drop-job job-finished job-end poll join job pending ready";
+const STEP_FORMS: &[u8] =
+    b"spawn; wake 0; sleep 0; reset 0 0; drop-sleep 0; elapsed 0; drop-join 0; finished 0; block 0; drop-job 0; job-finished 0; job-end 0 0; poll 0; join 0; job 0; pending; ready 0";
 
-// Returns the words with which a part of a line begins, with blanks between them.
-fn first_words_of_parts(command: Command) -> &'static [u8]
-    ensures { result.now ≡ part_words command }
+// Returns the forms of the parts of a line, with an empty word between two of them.
+fn forms_of_parts(command: Command) -> &'static [u8]
+    ensures { result.now ≡ part_forms command }
 {
     match command {
-        Command::Replay(_, _) => STEP_WORDS,
-        Command::Check(_, _) => STEP_WORDS,
+        Command::Replay(_, _) => STEP_FORMS,
+        Command::Check(_, _) => STEP_FORMS,
         Command::Run(_, _) => b"".as_slice(),
         Command::Load(_, _) => b"".as_slice(),
         Command::Sessions(_, _) => b"".as_slice(),
         Command::Limiter(_, _) => b"".as_slice(),
-        Command::Actors(_, _) => b"send stay stop".as_slice(),
+        Command::Actors(_, _) => b"send 0 0; stay; stop".as_slice(),
     }
 }
 
@@ -69,7 +69,7 @@ fn line_fault<'a>(command: Command, input: &'a [u8], n: usize) -> Option<Fault<'
 {
     fault_of_line(
         first_words(command),
-        first_words_of_parts(command),
+        forms_of_parts(command),
         first_words_of_pairs(command),
         input,
         n,

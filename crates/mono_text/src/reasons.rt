@@ -1,11 +1,12 @@
 // Why a line spells no call.
-ghost use Rattle.std.specs.Prelude.{◌≡◌, []};
+ghost use Rattle.std.specs.Prelude.{◌≡◌, [], None};
 ghost use Rattle.std.specs.Option.{option_map};
 ghost use Rattle.mono_text.specs.Words.{words};
 ghost use Rattle.mono_text.specs.Reasons as spec;
 ghost use Rattle.mono_text.specs.ReasonTexts.{told};
 
 use crate::lines::line_at;
+use crate::scripts::count_one;
 use crate::words::{cut, is_above, is_among, is_plain};
 
 /// The reasons for which a line spells no call. If more than one holds, it is the first in this order.
@@ -19,16 +20,24 @@ pub enum Reason {
     UnknownWord,
     /// A word that begins a part of a turn is none of the words of parts.
     UnknownPart,
+    /// A word in a turn begins a part, and no `; ` precedes it.
+    NoGap,
+    /// The word after a job's number is neither `ran` nor `canceled`.
+    OtherHow,
     /// A word in it is no plain decimal number, and its place requires a number.
     NoNumber,
     /// A number in it is above 18446744073709551615.
     GreatNumber,
     /// A number of nanoseconds in it is above 340282366920938463463374607431768211455.
     GreatNanos,
+    /// A part of a turn is in no form of its first word.
+    OtherPart,
     /// It is an event of a journal, and no report follows it.
     NoReport,
     /// The text after ` -> ` is no report.
     OtherReport,
+    /// A report follows, and its first word takes none.
+    NeedlessReport,
     /// The script ends before this line.
     EndsEarly,
     /// It is the first line of a script, and not `limits`.
@@ -94,11 +103,15 @@ fn too_great(is_for_nanos: bool, word: &[u8]) -> Option<Reason>
     }
 }
 
-// Returns whether the word names how a job ended.
-fn is_how(older: &[u8], word: &[u8]) -> bool
-    ensures { result ≡ spec.is_how older.now word.now }
+// Returns the fault of a word that says how a job ended.
+fn how_wrong(word: &[u8]) -> Option<Reason>
+    ensures { result ≡ spec.how_wrong word.now }
 {
-    older == b"job-end".as_slice() && (word == b"ran".as_slice() || word == b"canceled".as_slice())
+    if word == b"ran".as_slice() || word == b"canceled".as_slice() {
+        None
+    } else {
+        Some(Reason::OtherHow)
+    }
 }
 
 // Returns the fault of a word that begins a part.
@@ -112,41 +125,76 @@ fn begins_wrong(parts: &[u8], word: &[u8]) -> Option<Reason>
     }
 }
 
-// Returns the fault of a word that follows the first one of its part.
-fn stands_wrong(older: &[u8], word: &[u8]) -> Option<Reason>
-    ensures { result ≡ spec.stands_wrong older.now word.now }
+// Returns whether the word begins a part, and no empty word precedes it.
+fn lacks_gap(parts: &[u8], first: &[u8], previous: &[u8], word: &[u8]) -> bool
+    ensures { result ≡ spec.lacks_gap (words parts.now) first.now previous.now word.now }
 {
-    if is_plain(word) || is_how(older, word) {
+    previous == b"turn".as_slice() || (first == b"turn".as_slice() && is_among(word, parts))
+}
+
+// Returns the fault of a word at the place of a number.
+fn number_lacks(parts: &[u8], first: &[u8], previous: &[u8], word: &[u8]) -> Option<Reason>
+    ensures { result ≡ spec.number_lacks (words parts.now) first.now previous.now word.now }
+{
+    if is_plain(word) {
         None
+    } else if lacks_gap(parts, first, previous, word) {
+        Some(Reason::NoGap)
     } else {
         Some(Reason::NoNumber)
     }
 }
 
+// Returns the fault of a word that follows the first one of its part.
+fn stands_wrong(
+    parts: &[u8],
+    first: &[u8],
+    older: &[u8],
+    previous: &[u8],
+    word: &[u8],
+) -> Option<Reason>
+    ensures { result ≡ spec.stands_wrong (words parts.now) first.now older.now previous.now word.now }
+{
+    if older == b"job-end".as_slice() {
+        how_wrong(word)
+    } else {
+        number_lacks(parts, first, previous, word)
+    }
+}
+
 // Returns the fault of a word that is not too great.
-fn other_wrong(parts: &[u8], older: &[u8], previous: &[u8], word: &[u8]) -> Option<Reason>
-    ensures { result ≡ spec.other_wrong (words parts.now) older.now previous.now word.now }
+fn other_wrong(
+    parts: &[u8],
+    first: &[u8],
+    older: &[u8],
+    previous: &[u8],
+    word: &[u8],
+) -> Option<Reason>
+    ensures { result ≡ spec.other_wrong (words parts.now) first.now older.now previous.now word.now }
 {
     if word == b"".as_slice() {
         return None;
     }
-    if word == b"->".as_slice() {
-        return Some(Reason::OtherReport);
-    }
     if previous == b"".as_slice() {
         begins_wrong(parts, word)
     } else {
-        stands_wrong(older, word)
+        stands_wrong(parts, first, older, previous, word)
     }
 }
 
-// Returns the fault of a word, by the two words before it.
-fn word_wrong(parts: &[u8], older: &[u8], previous: &[u8], word: &[u8]) -> Option<Reason>
-    ensures { result ≡ spec.word_wrong (words parts.now) older.now previous.now word.now }
+// Returns the fault of a word, by the line's first word and the two words before it.
+fn word_wrong(
+    parts: &[u8],
+    first: &[u8],
+    older: &[u8],
+    previous: &[u8],
+    word: &[u8],
+) -> Option<Reason>
+    ensures { result ≡ spec.word_wrong (words parts.now) first.now older.now previous.now word.now }
 {
     match too_great(is_for_nanos(older, previous), word) {
         Some(reason) => Some(reason),
-        None => other_wrong(parts, older, previous, word),
+        None => other_wrong(parts, first, older, previous, word),
     }
 }
 
@@ -161,9 +209,16 @@ fn head_of<'a>(head: &'a [u8], previous: &[u8], word: &'a [u8]) -> &'a [u8]
     }
 }
 
-// Returns the first wrong word of these, after the first one of the line.
+// Returns whether a report follows the word.
+fn is_arrow(word: &[u8]) -> bool
+    ensures { result ≡ spec.is_arrow word.now }
+{
+    word == b"->".as_slice()
+}
+
+// Returns the first wrong word of these, after the first one of the line and before a report.
 fn first_wrong<'a>(parts: &[u8], first: &'a [u8], others: &'a [u8]) -> Option<Fault<'a>>
-    ensures { option_map told result ≡ spec.first_wrong (words parts.now) first.now [] first.now (words others.now) }
+    ensures { option_map told result ≡ spec.first_wrong (words parts.now) first.now first.now [] first.now (words others.now) }
 {
     let mut head: &[u8] = first;
     let mut older: &[u8] = b"";
@@ -171,8 +226,11 @@ fn first_wrong<'a>(parts: &[u8], first: &'a [u8], others: &'a [u8]) -> Option<Fa
     let mut rest = others;
     'words: loop {
         let (word, behind) = cut(rest);
+        if is_arrow(word) {
+            return None;
+        }
         head = head_of(head, previous, word);
-        if let Some(reason) = word_wrong(parts, older, previous, word) {
+        if let Some(reason) = word_wrong(parts, first, older, previous, word) {
             return Some(Fault { reason, word, head });
         }
         let Some(more) = behind else {
@@ -191,6 +249,125 @@ pub(crate) fn wrong_among<'a>(parts: &[u8], line: &'a [u8]) -> Option<Fault<'a>>
     let (first, behind) = cut(line);
     match behind {
         Some(rest) => first_wrong(parts, first, rest),
+        None => None,
+    }
+}
+
+// Returns whether a part ends before the word.
+fn ends_part(word: &[u8]) -> bool
+    ensures { result ≡ spec.ends_part word.now }
+{
+    word == b"".as_slice() || is_arrow(word)
+}
+
+// Returns how many words of a part these bytes begin with.
+fn words_left(bytes: &[u8]) -> u64
+    ensures { result ≡ spec.count_from 0 (words bytes.now) }
+{
+    let mut count = 0u64;
+    let mut rest = bytes;
+    'words: loop {
+        let (word, behind) = cut(rest);
+        if ends_part(word) {
+            return count;
+        }
+        count = count_one(count);
+        let Some(more) = behind else {
+            return count;
+        };
+        rest = more;
+    }
+}
+
+// Returns whether a form begins with this word and has so many words after it.
+fn has_form(parts: &[u8], word: &[u8], count: u64) -> bool
+    ensures { result ≡ spec.has_form (words parts.now) word.now count }
+{
+    let mut rest = parts;
+    'words: loop {
+        let (name, behind) = cut(rest);
+        let Some(more) = behind else {
+            return word == name && 0 == count;
+        };
+        if word == name && words_left(more) == count {
+            return true;
+        }
+        rest = more;
+    }
+}
+
+// Returns whether the word and those after it are a part in a form, or the word begins none.
+fn fits_form(parts: &[u8], word: &[u8], rest: &[u8]) -> bool
+    ensures { result ≡ spec.fits_form (words parts.now) word.now (words rest.now) }
+{
+    word == b"".as_slice() || is_plain(word) || has_form(parts, word, words_left(rest))
+}
+
+// Returns the reason of a part, if this word begins one and it is in no form.
+fn part_wrong(parts: &[u8], previous: &[u8], word: &[u8], rest: &[u8]) -> Option<Reason>
+    ensures { result ≡ spec.part_wrong (words parts.now) previous.now word.now (words rest.now) }
+{
+    if previous == b"".as_slice() {
+        if fits_form(parts, word, rest) {
+            None
+        } else {
+            Some(Reason::OtherPart)
+        }
+    } else {
+        None
+    }
+}
+
+// Returns the fault of a part, if this word begins one and it is in no form.
+fn part_fault<'a>(parts: &[u8], previous: &[u8], word: &'a [u8], rest: &[u8]) -> Option<Fault<'a>>
+    ensures { option_map told result ≡ spec.or_rest (spec.part_wrong (words parts.now) previous.now word.now (words rest.now)) word.now word.now None }
+{
+    match part_wrong(parts, previous, word, rest) {
+        Some(reason) => Some(Fault {
+            reason,
+            word,
+            head: word,
+        }),
+        None => None,
+    }
+}
+
+// Returns the first of these parts that is in no form of its first word.
+fn first_wrong_part<'a>(parts: &[u8], first: &[u8], others: &'a [u8]) -> Option<Fault<'a>>
+    ensures { option_map told result ≡ spec.first_wrong_part (words parts.now) first.now (words others.now) }
+{
+    let mut previous: &[u8] = first;
+    let mut rest = others;
+    'words: loop {
+        let (word, behind) = cut(rest);
+        if is_arrow(word) {
+            return None;
+        }
+        let Some(more) = behind else {
+            return part_fault(parts, previous, word, b"");
+        };
+        if let Some(reason) = part_wrong(parts, previous, word, more) {
+            return Some(Fault {
+                reason,
+                word,
+                head: word,
+            });
+        }
+        previous = word;
+        rest = more;
+    }
+}
+
+// Returns the first part of a turn that is in no form of its first word.
+fn wrong_part<'a>(parts: &[u8], line: &'a [u8]) -> Option<Fault<'a>>
+    ensures { option_map told result ≡ spec.wrong_part (words parts.now) (words line.now) }
+{
+    let (first, behind) = cut(line);
+    if first != b"turn".as_slice() {
+        return None;
+    }
+    match behind {
+        Some(rest) => first_wrong_part(parts, first, rest),
         None => None,
     }
 }
@@ -217,14 +394,33 @@ pub(crate) fn whole(reason: Reason, line: &[u8]) -> Fault
     }
 }
 
-// Returns the reason of a line whose words are all right.
-fn form_wrong(has_report: bool) -> Reason
-    ensures { result ≡ spec.form_wrong has_report }
+// Returns the reason of a line whose words and parts are all right.
+fn form_wrong(has_report: bool, takes_report: bool) -> Reason
+    ensures { result ≡ spec.form_wrong has_report takes_report }
 {
-    if has_report {
-        Reason::NoReport
-    } else {
-        Reason::OtherForm
+    match (has_report, takes_report) {
+        (true, true) => Reason::OtherReport,
+        (true, false) => Reason::NeedlessReport,
+        (false, true) => Reason::NoReport,
+        (false, false) => Reason::OtherForm,
+    }
+}
+
+// Returns the fault of a line whose words and parts are all right.
+fn form_fault<'a>(pairs: &[u8], line: &'a [u8]) -> Fault<'a>
+    ensures { told result ≡ spec.form_fault (words pairs.now) line.now }
+{
+    let has_report = is_among(b"->", line);
+    whole(form_wrong(has_report, is_among(cut(line).0, pairs)), line)
+}
+
+// Returns the fault of a line whose words are all right.
+fn part_or_form<'a>(parts: &[u8], pairs: &[u8], line: &'a [u8]) -> Fault<'a>
+    ensures { told result ≡ spec.or_else (spec.wrong_part (words parts.now) (words line.now)) (spec.form_fault (words pairs.now) line.now) }
+{
+    match wrong_part(parts, line) {
+        Some(fault) => fault,
+        None => form_fault(pairs, line),
     }
 }
 
@@ -249,15 +445,15 @@ fn wrong_line<'a>(
     }
     match wrong_among(parts, line) {
         Some(fault) => fault,
-        None => whole(form_wrong(is_among(cut(line).0, pairs)), line),
+        None => part_or_form(parts, pairs, line),
     }
 }
 
 /// Returns the fault of line n of the input, counted from 1, or None if there is no such line.
 ///
-/// A call begins with one of `names`, and a step or an end of a turn with one of `parts`. A line that begins with one
-/// of `pairs` has a report at its end. Each of the three is a text of words with blanks between them. The answer
-/// depends on the bytes of the line alone, also for a line that spells a call.
+/// A call begins with one of `names`, and a line that begins with one of `pairs` has a report at its end: both are texts
+/// of words with blanks between them. A step or an end of a turn is in one of the forms of `parts`, as in
+/// `spawn; wake 0; reset 0 0`. The answer depends on the bytes of the line alone, also for a line that spells a call.
 pub fn fault_of_line<'a>(
     names: &[u8],
     parts: &[u8],

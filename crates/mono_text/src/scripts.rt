@@ -22,8 +22,8 @@ struct Seen {
     jobs: u64,
 }
 
-// Returns the count with one more; it ends at 2^64 - 1.
-fn count_one(count: u64) -> u64
+/// Returns the count with one more; it ends at 2^64 - 1.
+pub(crate) fn count_one(count: u64) -> u64
     ensures { result ≡ counted count }
 {
     count.saturating_add(1)

@@ -3,7 +3,7 @@ use mono_text::{Fault, Reason, fault_of_line};
 
 const NAMES: &[u8] = b"spawn wake sleep reset job-end clock turn";
 
-const PARTS: &[u8] = b"spawn wake sleep poll pending ready";
+const PARTS: &[u8] = b"spawn; wake 0; sleep 0; reset 0 0; job-end 0 0; poll 0; pending; ready 0";
 
 // Returns the reason of line n of an input that has no reports.
 fn reason_of(input: &[u8], n: usize) -> Option<Reason> {
@@ -14,7 +14,7 @@ fn reason_of(input: &[u8], n: usize) -> Option<Reason> {
 }
 
 // Inputs, and the reasons of their first lines.
-const CASES: [(&[u8], Reason); 27] = [
+const CASES: [(&[u8], Reason); 50] = [
     (b"spawn", Reason::NoLineFeed),
     (b"poll9\r", Reason::NoLineFeed),
     (b"spawn\r\n", Reason::CarriageReturn),
@@ -50,10 +50,33 @@ const CASES: [(&[u8], Reason); 27] = [
     (b"turn; wake 1; pend\n", Reason::UnknownPart),
     (b"turn; wake 1x; pend\n", Reason::NoNumber),
     (b"job-end 1 canceled\n", Reason::OtherForm),
-    (b"job-end 1 gone\n", Reason::NoNumber),
+    (b"job-end 1 gone\n", Reason::OtherHow),
+    (b"job-end 1 0\n", Reason::OtherHow),
+    (b"job-end 1 ran 2\n", Reason::OtherForm),
     (b"job-end ran\n", Reason::NoNumber),
-    (b"spawn -> task 0\n", Reason::OtherReport),
+    (b"turn; job-end 1 x; pending\n", Reason::OtherHow),
+    (b"turn; job-end 1; pending\n", Reason::OtherPart),
+    (b"spawn -> task 0\n", Reason::NeedlessReport),
+    (b"wake x -> nothing\n", Reason::NoNumber),
     (b"turn\n", Reason::OtherForm),
+    (b"turn;sleep 5; pending\n", Reason::NoGap),
+    (b"turn;pending\n", Reason::NoGap),
+    (b"turn pending\n", Reason::NoGap),
+    (b"turn;pend\n", Reason::NoGap),
+    (b"turn; sleep 5;pending\n", Reason::NoGap),
+    (b"turn; sleep 5;pend\n", Reason::NoNumber),
+    (b"wake sleep\n", Reason::NoNumber),
+    (b"turn; wake; pending\n", Reason::OtherPart),
+    (b"turn; wake 0 0; pending\n", Reason::OtherPart),
+    (b"turn; wake 0; pending 0\n", Reason::OtherPart),
+    (b"turn; wake 0; ready\n", Reason::OtherPart),
+    (b"turn; wake  0; pending\n", Reason::OtherPart),
+    (b"turn; reset 0; pending\n", Reason::OtherPart),
+    (b"turn; reset 0 0; pending; wake 0\n", Reason::OtherForm),
+    (b"turn;  wake 0; pending\n", Reason::OtherForm),
+    (b"turn; 0; pending\n", Reason::OtherForm),
+    (b"turn; wake; pending -> turn 0\n", Reason::OtherPart),
+    (b"spawn; wake\n", Reason::OtherForm),
 ];
 
 #[test]
@@ -88,6 +111,38 @@ fn an_event_of_a_journal_has_a_report(rt: HostRuntime) {
         head: b"spawn",
     };
     assert!(&rt; fault_of_line(NAMES, PARTS, b"spawn wake", b"spawn\n", 1) == Some(fault));
+}
+
+// Returns the reason of a line whose event `spawn` has a report.
+fn reason_with_pairs(line: &[u8]) -> Option<Reason> {
+    match fault_of_line(NAMES, PARTS, b"spawn", line, 1) {
+        Some(fault) => Some(fault.reason),
+        None => None,
+    }
+}
+
+#[test]
+fn a_report_is_missing_wrong_or_needless(rt: HostRuntime) {
+    let cases: [(&[u8], Reason); 4] = [
+        (b"spawn\n", Reason::NoReport),
+        (b"spawn -> tusk 0\n", Reason::OtherReport),
+        (b"wake 0 -> queued\n", Reason::NeedlessReport),
+        (b"wake 0\n", Reason::OtherForm),
+    ];
+    for (line, reason) in cases {
+        assert!(&rt; reason_with_pairs(line) == Some(reason));
+    }
+}
+
+#[test]
+fn the_wrong_part_is_told(rt: HostRuntime) {
+    let fault = Fault {
+        reason: Reason::OtherPart,
+        word: b"reset",
+        head: b"reset",
+    };
+    let input = b"turn; wake 1; reset 5; ready\n";
+    assert!(&rt; fault_of_line(NAMES, PARTS, b"", input, 1) == Some(fault));
 }
 
 #[test]

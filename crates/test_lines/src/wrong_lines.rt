@@ -86,7 +86,7 @@ const LIMITER: Words = Words::Limiter;
 const ACTORS: Words = Words::Actors;
 
 // The words of a command, an input, and the sentence about its first bad line.
-const CASES: [(Words, &[u8], &[u8]); 53] = [
+const CASES: [(Words, &[u8], &[u8]); 60] = [
     (REPLAY, b"spawn\nspawn", b"line 2: no line feed at the end"),
     (
         REPLAY,
@@ -173,7 +173,27 @@ const CASES: [(Words, &[u8], &[u8]); 53] = [
     (
         REPLAY,
         b"job-end 0 done\n",
-        b"line 1: \"done\" is no plain decimal number; expected: job-end JOB ran, or job-end JOB canceled",
+        b"line 1: \"done\" is neither ran nor canceled; expected: job-end JOB ran, or job-end JOB canceled",
+    ),
+    (
+        REPLAY,
+        b"turn;sleep 5; pending\n",
+        b"line 1: no \"; \" before \"sleep\"; expected: turn; STEP; pending, or turn; STEP; ready OUTPUT, with any number of steps",
+    ),
+    (
+        REPLAY,
+        b"turn;pending\n",
+        b"line 1: no \"; \" before \"pending\"; expected: turn; STEP; pending, or turn; STEP; ready OUTPUT, with any number of steps",
+    ),
+    (
+        REPLAY,
+        b"turn; wake; pending\n",
+        b"line 1: \"wake\" is not in its form; expected: wake TASK",
+    ),
+    (
+        REPLAY,
+        b"turn; wake 0 0; pending\n",
+        b"line 1: \"wake\" is not in its form; expected: wake TASK",
     ),
     (
         REPLAY,
@@ -224,6 +244,16 @@ const CASES: [(Words, &[u8], &[u8]); 53] = [
         CHECK,
         b"spawn -> tusk 0\n",
         b"line 1: no report behind \" -> \"",
+    ),
+    (
+        CHECK,
+        b"now 5 -> task 0\n",
+        b"line 1: \"now\" takes no report; expected: now NANOS",
+    ),
+    (
+        CHECK,
+        b"turn; sleep; pending -> turn 0; sleep 0; idle\n",
+        b"line 1: \"sleep\" is not in its form; expected: sleep NANOS",
     ),
     (
         CHECK,
@@ -330,6 +360,11 @@ const CASES: [(Words, &[u8], &[u8]); 53] = [
         ACTORS,
         b"actor\nturn; sent 0 1; stay\n",
         b"line 2: unknown word \"sent\" behind \"; \"",
+    ),
+    (
+        ACTORS,
+        b"actor\nturn; send 0; stay\n",
+        b"line 2: \"send\" is not in its form; expected: send FROM TO MESSAGE, or in a turn send TO MESSAGE",
     ),
     (
         ACTORS,
