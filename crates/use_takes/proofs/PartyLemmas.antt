@@ -1,5 +1,6 @@
 -- A limited take may always be polled.
-use Rattle.std.proofs.Common.{⊤, Option, Some, None}
+use Rattle.std.specs.Prelude.{⊤}
+use Rattle.std.proofs.Common.{Option, Some, None}
 use Rattle.mono_time.specs.NapTimeouts.{LimitCanPoll}
 use Rattle.mono_time.specs.declared.naps.SleepFor.{SleepFor}
 use Rattle.mono_serve.specs.declared.takes.Take.{Take}

@@ -45,13 +45,13 @@ fn spawn_all(alloc: Global, runtime: &mut Running) -> Result<(), AllocError> {
         (0, 4, 9000),
         (2, 1, 9000),
     ];
-    let mut name = 0;
+    let mut name = 0u64;
     for (bucket, n, patience_ms) in takers {
         let taker = Party::taker(name, bucket, n, patience_ms);
         if runtime.spawn(alloc, taker).is_err() {
             return Err(AllocError);
         }
-        name += 1;
+        name = name.saturating_add(1);
     }
     Ok(())
 }
