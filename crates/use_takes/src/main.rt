@@ -32,7 +32,10 @@ fn shelf(alloc: Global) -> Result<Shelf, AllocError> {
 }
 
 // Spawns the takers: the bucket, the tokens, and for how long each waits.
-fn spawn_all(alloc: Global, runtime: &mut Running) -> Result<(), AllocError> {
+fn spawn_all(alloc: Global, runtime: &mut Running) -> Result<(), AllocError>
+    requires { Rests runtime.old }
+    ensures { Rests runtime.new }
+{
     let takers = [
         (0, 2, 9000),
         (0, 3, 9000),
