@@ -30,7 +30,8 @@ MADE = [
     ("makes a timeout", r"\btimeout(_at)?\(alloc", [".cancel(", ".into_inner("]),
     ("makes a task's handle", r"\bcx\.spawn\(", [".cancel_join(", ".cancel(", ".drop_join("]),
     ("makes a job's handle", r"\bcx\.spawn_blocking\(", [".cancel_join(", ".drop_job(", ".cancel("]),
-    ("takes a permit", r"\b(Acquire::new|permits::try_acquire)\b", ["permits::release"]),
+    ("takes a permit", r"\b(Acquire::new\(\)|permits::try_acquire\b)", ["permits::release"]),
+    ("takes a key of a session", r"\bAcquire::new\(\s*\w", ["locks::release", "locks::close"]),
     ("has an end of a channel between runtimes", r"\b(Sender|Receiver)<", [".close("]),
 ]
 
