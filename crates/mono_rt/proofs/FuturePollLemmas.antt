@@ -25,7 +25,7 @@ use Rattle.mono_rt.specs.declared.parts.errors.RunError.{RunError}
 use Rattle.mono_rt.specs.declared.parts.errors.RunError.TheVariants as error
 use Rattle.mono_rt.specs.declared.parts.journals.Entry.{Entry}
 use Rattle.mono_rt.specs.declared.parts.journals.Journal.{Journal}
-use Rattle.mono_rt.proofs.RoundLemmas.{does_on, does_more}
+use Rattle.mono_rt.proofs.RoundLemmas.{does_on, does_more, relation_of}
 use Rattle.mono_rt.proofs.JournalLemmas.{does_stay}
 
 -- a fact of a call goes on, by its answer
@@ -164,3 +164,22 @@ module _ {F O P U W J A V : Type 0} (number : O → ℕ) (leads : W → W → Ty
   pub polls_main : (main : F) (t : ℕ) (fs gs hs : List (Option F)) (a b c : Parts O (Seen P)) (i j k : Journal) → gs ≡ fs ++ Some main ∷ [] → Does number (IsSpawn t) a b i j → Does number (Polling number leads future h gs hs) b c j k → Does number (PollsMain number leads future h main fs hs) a c i k
   polls_main main t fs gs hs a b c i j k made p q = does_on number (IsSpawn t) (Polling number leads future h gs hs) (PollsMain number leads future h main fs hs) a b c i j k
       (λ m mid new xs ys zs stm std stn spawn polls. (t, (mid, (ys, (spawn, subst (λ xs. Polling number leads future h xs hs mid ys new zs) made polls))))) p q
+
+module _ {F O P U W J A V : Type 0} (number : O → ℕ) (leads : W → W → Type 0) (future : FutureOf F (Cx F O P U W J A V) O) (main : F) where
+  -- the whole history has such turns, if it was empty before the call
+  pub polls_whole : (g h : Bool) (fs gs : List (Option F)) (c d : Parts O (Seen P)) (j k l : Journal) (m n : Machine) (answer : Result O RunError) → g ≡ h → fs ≡ [] → m ≡ n → Matches number hosting_of c m → j.history.entries ≡ [] → l ≡ k
+      → OnMain answer (Does number (PollsMain number leads future g main fs gs) c d j k)
+      → OnMain answer ((new : Machine) × ((left : List (Option F)) × PollsMain number leads future h main [] left n l.history.entries new []))
+  polls_whole g h fs gs c d j k l m n answer timers none machine st empty same polled =
+      on_main {X = O} answer (Does number (PollsMain number leads future g main fs gs) c d j k) _
+      (λ did.
+      let whole = relation_of number (PollsMain number leads future g main fs gs) c d j k l m st empty same did in (
+        whole.0,
+        (
+          gs,
+          subst (λ x. PollsMain number leads future h main [] gs x l.history.entries whole.0 []) machine
+              (subst (λ b. PollsMain number leads future b main [] gs m l.history.entries whole.0 []) timers
+              (subst (λ xs. PollsMain number leads future g main xs gs m l.history.entries whole.0 []) none whole.1)),
+        ),
+      ))
+      polled

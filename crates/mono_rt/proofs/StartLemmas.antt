@@ -1,20 +1,27 @@
 -- The history of one call on a new runtime, from the clauses of the runtime's call.
-use Rattle.std.proofs.Common.{◌≡◌, ◌∙◌, ℕ, Bool, [], refl, ap, subst, inl, Err}
+use Rattle.std.proofs.Common.{◌≡◌, ◌∙◌, ◌++◌, ℕ, Bool, List, [], Option, None, refl, ap, sym, subst, inl, append-nil, Err}
 use Rattle.std.specs.Prelude.{Result}
+use Rattle.mono_task.specs.Members.{FutureOf}
+use Rattle.mono_time.specs.Timers.{registered_of}
 use Rattle.mono_blocking.specs.declared.strategy.BlockingHandle.{BlockingHandle}
 use Rattle.mono_blocking.specs.JobSpawns.{Seen, strategy_of}
 use Rattle.mono_machine.specs.Machine.{Machine, start_machine}
 use Rattle.mono_machine.specs.declared.events.Limits.{Limits}
-use Rattle.mono_rt.specs.Journals.{Does}
+use Rattle.mono_rt.specs.Journals.{Does, Registers}
 use Rattle.mono_rt.specs.Numbering.{answer_numbered}
 use Rattle.mono_rt.specs.Rounds.{Blocked}
+use Rattle.mono_rt.specs.FuturePolls.{OnMain, PollsMain}
 use Rattle.mono_rt.specs.Refinement.{hosting_of, Matches}
-use Rattle.mono_rt.specs.DriverReadings.{Told, going, TellingSo}
+use Rattle.mono_rt.specs.DriverReadings.{Told, going, TellingSo, IsTold}
+use Rattle.mono_rt.specs.declared.contexts.Cx.{Cx}
 use Rattle.mono_rt.specs.declared.parts.errors.RunError.{RunError}
 use Rattle.mono_rt.specs.declared.parts.errors.RunError.TheVariants as error
+use Rattle.mono_rt.specs.declared.parts.journals.Entry.{Entry}
 use Rattle.mono_rt.specs.declared.parts.journals.Journal.{Journal}
 use Rattle.mono_rt.specs.declared.parts.state.Parts.{Parts}
-use Rattle.mono_rt.proofs.RoundLemmas.{relation_of}
+use Rattle.mono_rt.proofs.RoundLemmas.{Relation}
+use Rattle.mono_rt.proofs.RegistrationLemmas.{same_ticks}
+use Rattle.mono_rt.proofs.FuturePollLemmas.{polls_whole}
 use Rattle.mono_rt.proofs.DriverLemmas.{told_in}
 use Rattle.mono_rt.specs.Starts.{RunsFrom}
 
@@ -22,19 +29,45 @@ use Rattle.mono_rt.specs.Starts.{RunsFrom}
 pub same_start : {P : Type 0} (l k : Limits) (p q : BlockingHandle P) → l ≡ k → p ≡ q → start_machine l (strategy_of p) ≡ start_machine k (strategy_of q)
 same_start l k p q limits pool = ap (λ x. start_machine x (strategy_of p)) limits ∙ ap (λ x. start_machine k (strategy_of x)) pool
 
--- no runtime could be made
-pub none_made : {O : Type 0} (number : O → ℕ) (h : Bool) (turns : ℕ) (m : Machine) (t : Told) → RunsFrom number h turns (Err error.Memory) m t
-none_made number h turns m t = record {
-  part = [];
-  new = m;
-  blocked = inl (refl, refl);
-  told = record { new = t; after = going; ends = tt; tells = (refl, refl) };
-}
+-- The entries after an empty history are in the relation, and their parks are those of the wheel, if no sleep was registered.
+parks_of : {O P : Type 0} (number : O → ℕ) (R : Relation) (c d : Parts O (Seen P)) (j k : Journal) (m : Machine) → Matches number hosting_of c m → j.history.entries ≡ [] → ((s : ℕ) → registered_of c.timers s ≡ None) → Does number R c d j k
+    → (new : Machine) × (R m k.history.entries new [] × Registers None m (λ s. None) k.history.entries new (registered_of d.timers))
+parks_of number R c d j k m st empty none does =
+    let did = does.did m st in
+    let part : did.went.part ≡ k.history.entries = sym (did.went.grew ∙ ap (λ xs. xs ++ did.went.part) empty) in (
+      did.went.new,
+      (
+        subst (λ xs. R m xs did.went.new []) (append-nil did.went.part ∙ part) (did.is []),
+        subst (λ xs. Registers None m (λ s. None) xs did.went.new (registered_of d.timers)) part
+            (same_ticks None m (λ s. None) (registered_of c.timers) did.went.part did.went.new (registered_of d.timers) (λ s. sym (none s)) did.went.registers),
+      ),
+    )
 
-module _ {O P : Type 0} (number : O → ℕ) where
-  pub runs_from : (g h : Bool) (turns : ℕ) (answer : Result O RunError) (m n : Machine) (s t u : Told) (c d : Parts O (Seen P)) (j k : Journal) → g ≡ h → m ≡ n → s ≡ t → Matches number hosting_of c m → j.history.entries ≡ []
-      → Does number (Blocked g turns (answer_numbered number answer)) c d j k → TellingSo answer s j k u → RunsFrom number h turns answer n t
-  runs_from g h turns answer m n s t u c d j k timers machine told st empty does tells =
-      let b = relation_of number (Blocked g turns (answer_numbered number answer)) c d j k k m st empty refl does in
-      let left : RunsFrom number g turns answer m s = record { part = k.history.entries; new = b.0; blocked = b.1; told = told_in k empty refl tells } in
-      subst (λ x. RunsFrom number x turns answer n t) timers (subst (λ x. RunsFrom number g turns answer x t) machine (subst (λ x. RunsFrom number g turns answer m x) told left))
+module _ {F O P U W J A V : Type 0} (number : O → ℕ) (leads : W → W → Type 0) (future : FutureOf F (Cx F O P U W J A V) O) where
+  -- no runtime could be made
+  pub none_made : (h : Bool) (turns : ℕ) (main : F) (m : Machine) (t : Told) → RunsFrom number leads future h turns main (Err error.Memory) m t
+  none_made h turns main m t = record {
+    part = [];
+    new = m;
+    blocked = inl (refl, refl);
+    left = λ s. None;
+    parks = (refl, λ s. refl);
+    told = record { new = t; after = going; ends = tt; tells = (refl, refl) };
+    polled = tt;
+  }
+
+  pub runs_from : (g h : Bool) (turns : ℕ) (main : F) (fs gs : List (Option F)) (answer : Result O RunError) (m n : Machine) (s t u : Told) (c d : Parts O (Seen P)) (j k : Journal) → g ≡ h → m ≡ n → s ≡ t → fs ≡ []
+      → Matches number hosting_of c m → j.history.entries ≡ [] → ((x : ℕ) → registered_of c.timers x ≡ None)
+      → Does number (Blocked g turns (answer_numbered number answer)) c d j k → TellingSo answer s j k u → OnMain answer (Does number (PollsMain number leads future g main fs gs) c d j k) → RunsFrom number leads future h turns main answer n t
+  runs_from g h turns main fs gs answer m n s t u c d j k timers machine told none st empty unregistered does tells polls =
+      let b = parks_of number (Blocked g turns (answer_numbered number answer)) c d j k m st empty unregistered does in
+      let blocked = subst (λ x. Blocked x turns (answer_numbered number answer) m k.history.entries b.0 []) timers b.1.0 in
+      record {
+        part = k.history.entries;
+        new = b.0;
+        blocked = subst (λ x. Blocked h turns (answer_numbered number answer) x k.history.entries b.0 []) machine blocked;
+        left = registered_of d.timers;
+        parks = subst (λ x. Registers None x (λ y. None) k.history.entries b.0 (registered_of d.timers)) machine b.1.1;
+        told = subst (λ x. IsTold answer x k.history.entries) told (told_in k empty refl tells);
+        polled = polls_whole number leads future main g h fs gs c d j k k m n answer timers none machine st empty refl polls;
+      }

@@ -1,16 +1,24 @@
 -- The history of one call on a new runtime.
-use Rattle.std.specs.Prelude.{ℕ, Bool, List, [], Result}
+use Rattle.std.specs.Prelude.{ℕ, Bool, List, [], Option, None, Result}
+use Rattle.mono_task.specs.Members.{FutureOf}
 use Rattle.mono_machine.specs.Machine.{Machine}
 use Rattle.mono_rt.specs.Numbering.{answer_numbered}
 use Rattle.mono_rt.specs.Rounds.{Blocked}
+use Rattle.mono_rt.specs.Journals.{Registers}
+use Rattle.mono_rt.specs.FuturePolls.{OnMain, PollsMain}
 use Rattle.mono_rt.specs.DriverReadings.{Told, IsTold}
+use Rattle.mono_rt.specs.declared.contexts.Cx.{Cx}
 use Rattle.mono_rt.specs.declared.parts.errors.RunError.{RunError}
 use Rattle.mono_rt.specs.declared.parts.journals.Entry.{Entry}
 
 -- There is a history from this machine on that `Blocked` specifies for the answer. Its readings and parks are those of
--- a driver that exposed this before it.
-pub record RunsFrom {O : Type 0} (number : O → ℕ) (has_timers : Bool) (turns : ℕ) (answer : Result O RunError) (old : Machine) (first : Told) : Type 0 where
+-- a driver that exposed this before it. Each park is until the next expiration over the registered ticks, of which there
+-- are none first. Each turn is one poll of its task's own future, with this one as the main task's, unless memory ran out.
+pub record RunsFrom {F O P U W J A V : Type 0} (number : O → ℕ) (leads : W → W → Type 0) (future : FutureOf F (Cx F O P U W J A V) O) (has_timers : Bool) (turns : ℕ) (main : F) (answer : Result O RunError) (old : Machine) (first : Told) : Type 0 where
   pub part : List Entry
   pub new : Machine
   pub blocked : Blocked has_timers turns (answer_numbered number answer) old part new []
+  pub left : ℕ → Option ℕ
+  pub parks : Registers None old (λ s. None) part new left
   pub told : IsTold answer first part
+  pub polled : OnMain answer ((last : Machine) × ((futures : List (Option F)) × PollsMain number leads future has_timers main [] futures old part last []))

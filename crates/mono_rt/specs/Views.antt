@@ -29,7 +29,7 @@ use Rattle.mono_rt.specs.declared.task_waits.TaskWait.{TaskWait}
 use Rattle.mono_rt.specs.Refinement.{hosting_of, Matches}
 use Rattle.mono_rt.specs.Journals.{Does, Registers, events_in, reports_in}
 use Rattle.mono_rt.specs.JournalRoom.{Fills}
-use Rattle.mono_rt.specs.FuturePolls.{Polling, PollsMain}
+use Rattle.mono_rt.specs.FuturePolls.{Polling, PollsMain, OnMain}
 use Rattle.mono_rt.specs.PossibleAnswers.{AnswersNoMore}
 use Rattle.mono_rt.specs.DriverReadings.{Told, telling, TellingSo}
 use Rattle.mono_rt.specs.Reaches.{IsAligned}
@@ -60,6 +60,12 @@ IsRunFrom old journal = (new : Machine) × Run old (events_in journal.history.en
 -- Each park of the whole history is until the next expiration over the registered ticks, of which there are none first.
 abbrev pub ParksFrom : Machine → Journal → Type 0
 ParksFrom old journal = (new : Machine) × ((left : ℕ → Option ℕ) × Registers None old (λ s. None) journal.history.entries new left)
+
+-- Each turn of the whole history of a run from this machine, with this answer, is one poll of its task's own future, after
+-- the main task was made with its future last. If memory ran out, nothing is said of polls.
+abbrev pub PollsFrom : {F O P U W J A V : Type 0} → (O → ℕ) → (W → W → Type 0) → FutureOf F (Cx F O P U W J A V) O → F → Machine → Result O RunError × Journal → Type 0
+PollsFrom {F} number leads future main old done =
+    OnMain done.0 ((new : Machine) × ((left : List (Option F)) × PollsMain number leads future true main [] left old done.1.history.entries new []))
 
 module _ {F O D P W U J A V : Type 0} where
   -- The tasks of a runtime, with their queue.

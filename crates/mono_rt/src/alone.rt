@@ -5,7 +5,7 @@ ghost use Rattle.mono_blocking.specs.JobSpawns.{strategy_of};
 ghost use Rattle.mono_rt.specs.JournalRoom.{IsOneLong};
 ghost use Rattle.mono_rt.specs.Rounds.{Blocked};
 ghost use Rattle.mono_rt.specs.DriverReadings.{IsTold};
-ghost use Rattle.mono_rt.specs.Views.{exposed, BlocksFrom, IsRunFrom, ParksFrom};
+ghost use Rattle.mono_rt.specs.Views.{exposed, BlocksFrom, IsRunFrom, ParksFrom, PollsFrom};
 
 use crate::contexts::Cx;
 use crate::parts::{Journal, RunError};
@@ -27,6 +27,9 @@ use std::alloc::{AllocError, Global};
 /// driver exposes its time, a reading is that time and the length of the parks since; if it exposes its readings, the
 /// next of them. The journal is full only if a turn made more than 512 acts (`full`). Until then its entries are the
 /// history (`Journal::kept`). An answer is one that the future gives (`given`).
+///
+/// Each turn of the history is one poll of its task's own future, from the futures that the turns before it left,
+/// unless the answer is Memory (`polled`).
 pub fn run_alone<F, O, D, P, R: Host>(
     rt: &R,
     alloc: Global,
@@ -48,6 +51,7 @@ where
     ensures told { IfOk result (λ r. IsTold r.0 (exposed D.Clock driver) r.1.history.entries) }
     ensures run { IfOk result (λ r. IsRunFrom (start_machine limits (strategy_of pool)) r.1) }
     ensures parks { IfOk result (λ r. ParksFrom (start_machine limits (strategy_of pool)) r.1) }
+    ensures polled { IfOk result (λ r. PollsFrom O.output_number (λ a b. ⊤) F.TaskFuture future (start_machine limits (strategy_of pool)) r) }
     ensures full { IfOk result (λ r. r.1.is_full ≡ true → IsOneLong O.output_number (λ a b. ⊤) F.TaskFuture) }
 {
     let mut runtime = Runtime::new(alloc, driver, pool, limits, true, start, ())?;

@@ -1,5 +1,5 @@
 // How a runtime is set up and made.
-ghost use Rattle.std.specs.Prelude.{◌≡◌, ◌^◌, ℕ, max, Bool, true, false, not, None, [], IfOk, IfSome, IfNone};
+ghost use Rattle.std.specs.Prelude.{⊤, ◌≡◌, ◌^◌, ℕ, max, Bool, true, false, not, None, [], IfOk, IfSome, IfNone};
 ghost use Rattle.mono_machine.specs.Machine.{start_machine};
 ghost use Rattle.mono_time.specs.Instants.{nanos_of};
 ghost use Rattle.mono_time.specs.Timers.{registered_of};
@@ -368,8 +368,10 @@ impl<F: Drop, O: Outcome + Drop, D: Driver, P: ThreadPool + Drop, W: SharedState
 }
 
 /// Makes a runtime with the defaults on this driver, and runs the future on it as `Runtime::block_on` does. There is a
-/// history from the machine's start that `Blocked` specifies for the answer, and whose readings and parks are the
-/// driver's (`history`). An answer is one that the future gives (`given`).
+/// history from the machine's start that `Blocked` specifies for the answer (`history`). Its readings and parks are the
+/// driver's. Each park ends at the next expiration over the registered ticks, of which there are none at the start. Each
+/// turn is one poll of its task's own future, unless the answer is Memory. An answer is one that the future gives
+/// (`given`).
 pub fn start<D, F, O, P, R: Host>(
     rt: &R,
     alloc: Global,
@@ -384,7 +386,7 @@ where
     P: ThreadPool + Drop,
     requires { (f : F) → F.can_poll f }
     ensures given { IfOk result (F.gives future) }
-    ensures history { RunsFrom O.output_number D.marks_timers turns result default_start (exposed D.Clock driver) }
+    ensures history { RunsFrom O.output_number (λ a b. ⊤) F.TaskFuture D.marks_timers turns future result default_start (exposed D.Clock driver) }
 {
     let builder: RuntimeBuilder<D, P> = RuntimeBuilder::new(driver);
     match builder.build(alloc) {
