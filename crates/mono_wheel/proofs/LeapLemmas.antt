@@ -1,7 +1,7 @@
 -- The clock goes at once over slots of the top level in which no key is due.
-use Rattle.std.proofs.Common.{arith, ◌≡◌, ◌≢◌, zero, suc, ℕ, ◌+◌, ◌-◌, ◌*◌, ◌^◌, ◌/◌, ◌<◌, ◌≤◌, inl, inr, length, List, [], ◌∷◌, ◌++◌, map, Option, Some, None, get_or, ap, refl, sym, ◌∙◌, subst, set, length-append, get_or-set_same, get_or-set_other, ◌⊎◌}
+use Rattle.std.proofs.Common.{arith, ◌≡◌, ◌≢◌, zero, suc, ℕ, ◌+◌, ◌-◌, ◌*◌, ◌^◌, ◌/◌, ◌<◌, ◌≤◌, inl, inr, length, List, [], ◌∷◌, map, Option, Some, None, get_or, ap, refl, sym, ◌∙◌, subst, set, get_or-set_same, get_or-set_other, ◌⊎◌}
 use Rattle.std.proofs.lemmas.Bool.{cases_lt}
-use Rattle.std.proofs.lemmas.List.{append-nil, get_or_past, length-map}
+use Rattle.std.proofs.lemmas.List.{get_or_past, length-map}
 use Rattle.std.proofs.lemmas.Bool.Decides.{eqb_tells}
 use Rattle.std.proofs.Math.Nat.{div-lt_iff_lt-mul}
 use Rattle.mono_wheel.specs.Start.{above, next_turn, far_digit, slot_of, start, top_level}
@@ -10,7 +10,7 @@ use Rattle.mono_wheel.specs.Model.{Timed, Wheel, Fits, IsPending, timed_after}
 use Rattle.mono_wheel.specs.Credit.{takes, credit_of}
 use Rattle.mono_wheel.specs.Skips.{at_tick}
 use Rattle.mono_wheel.specs.Holdings.{place_in, timed_of, timed_in, StandsIn, Held, Advanced}
-use Rattle.mono_wheel.specs.Leap.{IsFar, IsDueFrom, IsKnown, Known, Spared}
+use Rattle.mono_wheel.specs.Leap.{IsFar, IsDueFrom, IsKnown, Known}
 use Rattle.mono_wheel.specs.declared.entry.Entry.{Entry}
 use Rattle.mono_wheel.proofs.StartLemmas.{div-le_mono, pow-pos, eqb-no, start-above, above-mono, above-start, next_turn-above, next_turn-near, next_turn-whole}
 use Rattle.mono_wheel.proofs.PlaceLemmas.{place-ahead}
@@ -103,97 +103,21 @@ far-counted from to tick count l h is =
     omega (arith, is, less, whole)
 
 -- ---- all keys
--- all keys are far, and together they are taken `count` times while the clock goes from `begin` to `to`
-pub record Leap (begin to : ℕ) (entries : List Entry) (count : ℕ) : Type 0 where
-  pub counted : credit_of begin (map timed_of entries) ≡ credit_of to (map timed_of entries) + count
+same-ticks : (timed : Timed) → timed.registered ≡ timed.tick → timed ≡ record { tick = timed.tick; registered = timed.tick }
+same-ticks timed e = ap (λ r. let t : Timed = record { tick = timed.tick; registered = r } in t) e
 
-credit-more : (e : ℕ) (front : List Entry) (x : Entry) → credit_of e (map timed_of (front ++ x ∷ [])) ≡ credit_of e (map timed_of front) + takes e (timed_of x)
-credit-more e [] x = omega arith
-credit-more e (y ∷ ys) x = let r = credit-more e ys x in omega (arith, r)
+-- a far key is taken no more often from the later tick on
+far-falls : (from to : ℕ) (o : Option Timed) → from ≤ to → IsFar to o → takes to o ≤ takes from o
+far-falls from to None l f = omega arith
+far-falls from to (Some timed) l f = subst (λ t. takes to (Some t) ≤ takes from (Some t)) (sym (same-ticks timed f.0))
+    (let e = far-counted from to timed.tick ((above top_level timed.tick - above top_level from - 1) / 64 - (above top_level timed.tick - above top_level to - 1) / 64) l f.1 refl in omega (arith, e))
 
-pub leap-none : (from to : ℕ) → Leap from to [] 0
-leap-none from to = record { counted = refl }
+all-falls : (from to : ℕ) (os : List (Option Timed)) → from ≤ to → ((key : ℕ) → IsFar to (get_or os key None)) → credit_of to os ≤ credit_of from os
+all-falls from to [] l far = omega arith
+all-falls from to (o ∷ os) l far = let here = far-falls from to o l (far 0) in let rest = all-falls from to os l (λ k. far (suc k)) in omega (arith, here, rest)
 
-pub leap-more : (from to : ℕ) (front : List Entry) (x : Entry) (count more : ℕ) → Leap from to front count → Spared from to (timed_of x) more → Leap from to (front ++ x ∷ []) (count + more)
-leap-more from to front x count more h s = record {
-  counted =
-      let a = credit-more from front x in let b = credit-more to front x in
-      let c = h.counted in let d = s.counted in
-      omega (arith, a, b, c, d);
-}
-
--- The first `key` entries of a table, or all if there are no more.
-pub record Gone (from to count : ℕ) (entries : List Entry) (key : ℕ) : Type 0 where
-  pub front : List Entry
-  pub back : List Entry
-  pub whole : entries ≡ front ++ back
-  pub leap : Leap from to front count
-  pub reached : (length front ≡ key) ⊎ ((back ≡ []) × (length front ≤ key))
-
-pub gone-start : (from to : ℕ) (entries : List Entry) → Gone from to 0 entries 0
-gone-start from to entries = record { front = []; back = entries; whole = refl; leap = leap-none from to; reached = inl refl }
-
-at-seam : (front : List Entry) (x d : Entry) (back : List Entry) → get_or (front ++ x ∷ back) (length front) d ≡ x
-at-seam [] x d back = refl
-at-seam (y ∷ ys) x d back = at-seam ys x d back
-
-snoc : (front : List Entry) (x : Entry) (back : List Entry) → front ++ x ∷ back ≡ (front ++ x ∷ []) ++ back
-snoc [] x back = refl
-snoc (y ∷ ys) x back = ap (λ zs. y ∷ zs) (snoc ys x back)
-
-spared-out : (from to more : ℕ) (x : Entry) → x ≡ no_entry → Spared from to (timed_of x) more → more ≡ 0
-spared-out from to more x e s = let c : takes from None ≡ takes to None + more = subst (λ y. takes from (timed_of y) ≡ takes to (timed_of y) + more) e s.counted in omega (arith, c)
-
-past-end : (front : List Entry) (key : ℕ) (d : Entry) → length front ≤ key → get_or front key d ≡ d
-past-end [] key d l = refl
-past-end (y ∷ ys) zero d l = absurd (omega (arith, l))
-past-end (y ∷ ys) (suc key) d l = past-end ys key d (omega (arith, l))
-
--- one entry more was read
-next-past : (from to count more : ℕ) (entries front : List Entry) (key : ℕ) (x : Entry) → entries ≡ front ++ [] → Leap from to front count → length front ≤ key → x ≡ get_or entries key no_entry → Spared from to (timed_of x) more →
-    Gone from to (count + more) entries (key + 1)
-next-past from to count more entries front key x whole leap low is s =
-    let e : x ≡ no_entry = is ∙ ap (λ es. get_or es key no_entry) (whole ∙ append-nil front) ∙ past-end front key no_entry low in
-    let nothing : more ≡ 0 = spared-out from to more x e s in
-    record {
-      front = front;
-      back = [];
-      whole = whole;
-      leap = subst (λ z. Leap from to front z) (let same : count ≡ count + more = omega (arith, nothing) in same) leap;
-      reached = inr (refl, omega (arith, low));
-    }
-
-next-here : (from to count more : ℕ) (entries front back : List Entry) (y : Entry) (key : ℕ) (x : Entry) → entries ≡ front ++ y ∷ back → Leap from to front count → length front ≡ key → x ≡ get_or entries key no_entry → Spared from to (timed_of x) more →
-    Gone from to (count + more) entries (key + 1)
-next-here from to count more entries front back y key x whole leap at is s =
-    let e : x ≡ y = is ∙ ap (λ es. get_or es key no_entry) whole ∙ ap (λ k. get_or (front ++ y ∷ back) k no_entry) (sym at) ∙ at-seam front y no_entry back in
-    record {
-      front = front ++ x ∷ [];
-      back = back;
-      whole = whole ∙ ap (λ z. front ++ z ∷ back) (sym e) ∙ snoc front x back;
-      leap = leap-more from to front x count more leap s;
-      reached = inl (length-append front (x ∷ []) ∙ ap (λ n. n + 1) at);
-    }
-
-pub gone-next : (from to count more : ℕ) (entries : List Entry) (key : ℕ) (x : Entry) → Gone from to count entries key → x ≡ get_or entries key no_entry → Spared from to (timed_of x) more → Gone from to (count + more) entries (key + 1)
-gone-next from to count more entries key x g is s = by g.back g.whole g.reached
-  where
-    by : (back : List Entry) → entries ≡ g.front ++ back → ((length g.front ≡ key) ⊎ ((back ≡ []) × (length g.front ≤ key))) → Gone from to (count + more) entries (key + 1)
-    by [] whole (inl at) = next-past from to count more entries g.front key x whole g.leap (omega (arith, at)) is s
-    by [] whole (inr past) = next-past from to count more entries g.front key x whole g.leap past.1 is s
-    by (y ∷ back) whole (inl at) = next-here from to count more entries g.front back y key x whole g.leap at is s
-    by (y ∷ back) whole (inr past) = absurd (let e : y ∷ back ≡ [] = past.0 in cc)
-
-pub gone-end : (from to count : ℕ) (entries : List Entry) (key : ℕ) → Gone from to count entries key → length entries ≤ key → Leap from to entries count
-gone-end from to count entries key g low = by g.back g.whole g.reached
-  where
-    by : (back : List Entry) → entries ≡ g.front ++ back → ((length g.front ≡ key) ⊎ ((back ≡ []) × (length g.front ≤ key))) → Leap from to entries count
-    by [] whole reached = subst (λ es. Leap from to es count) (sym (whole ∙ append-nil g.front)) g.leap
-    by (y ∷ back) whole (inl at) = absurd (let n : length entries ≡ length g.front + length (y ∷ back) = ap length whole ∙ length-append g.front (y ∷ back) in let m : length (y ∷ back) ≡ suc (length back) = refl in omega (arith, n, m, at, low))
-    by (y ∷ back) whole (inr past) = absurd (let e : y ∷ back ≡ [] = past.0 in cc)
-
-pub far-read : (to : ℕ) (entries : List Entry) (key : ℕ) (x : Entry) → ((key : ℕ) → IsFar to (timed_in entries key)) → x ≡ get_or entries key no_entry → IsFar to (timed_of x)
-far-read to entries key x far is = subst (IsFar to) (timed-read entries key ∙ ap timed_of (sym is)) (far key)
+pub credit-falls : (from to : ℕ) (entries : List Entry) → from ≤ to → ((key : ℕ) → IsFar to (timed_in entries key)) → credit_of to (map timed_of entries) ≤ credit_of from (map timed_of entries)
+credit-falls from to entries l far = all-falls from to (map timed_of entries) l far
 
 -- ---- which keys are due soonest
 abbrev pub IsBelow : ℕ → Option Timed → Type 0

@@ -1,8 +1,7 @@
 -- The leap of the clock over slots of the top level in which no key is due.
-use Rattle.std.specs.Prelude.{◌≡◌, ℕ, ◌+◌, ◌<◌, ◌≤◌, ◌⊎◌, List, Option, Some, None, slice_index_or}
+use Rattle.std.specs.Prelude.{◌≡◌, ℕ, ◌<◌, ◌≤◌, ◌⊎◌, List, Option, Some, None, slice_index_or}
 use Rattle.mono_wheel.specs.Start.{above, top_level}
 use Rattle.mono_wheel.specs.Model.{Timed}
-use Rattle.mono_wheel.specs.Credit.{takes}
 use Rattle.mono_wheel.specs.Holdings.{timed_in}
 use Rattle.mono_wheel.specs.declared.entry.Entry.{Entry}
 
@@ -10,11 +9,6 @@ use Rattle.mono_wheel.specs.declared.entry.Entry.{Entry}
 abbrev pub IsFar : ℕ → Option Timed → Type 0
 IsFar to None = Unit {0}
 IsFar to (Some timed) = (timed.registered ≡ timed.tick) × (above top_level to < above top_level timed.tick)
-
--- The key is far, and is taken `count` times while the clock moves from `begin` to `to`.
-pub record Spared (begin to : ℕ) (timed : Option Timed) (count : ℕ) : Type 0 where
-  pub far : IsFar to timed
-  pub counted : takes begin timed ≡ takes to timed + count
 
 -- A key that is in is registered at its true tick, which is at least `least`.
 abbrev pub IsDueFrom : ℕ → Option Timed → Type 0

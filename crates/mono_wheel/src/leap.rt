@@ -1,16 +1,11 @@
 //! A leap of the clock over slots of the top level in which no key is due.
-ghost use Rattle.std.specs.Prelude.{◌≡◌, ◌+◌, ◌<◌, ◌≤◌, ℕ, map};
+ghost use Rattle.std.specs.Prelude.{◌≡◌, ◌<◌, ◌≤◌, ℕ};
 ghost use Rattle.mono_wheel.specs.Start.{above, top_level};
-ghost use Rattle.mono_wheel.specs.Credit.{takes, credit_of};
-ghost use Rattle.mono_wheel.specs.Skips.{at_tick};
-ghost use Rattle.mono_wheel.specs.Holdings.{timed_of, timed_in};
-ghost use Rattle.mono_wheel.specs.Leap.{IsFar, IsDueFrom, Known, Spared};
+ghost use Rattle.mono_wheel.specs.Holdings.{timed_in};
+ghost use Rattle.mono_wheel.specs.Leap.{IsDueFrom, Known};
 
-use crate::Steps;
-use crate::entry::Entry;
 use crate::level::LEVELS;
 use crate::slot_links::SlotLinks;
-use std::sync::ledger::Ledger;
 
 /// How many of the keys that are due soonest are recorded at once.
 pub const NEAR: usize = 64;
@@ -23,40 +18,6 @@ const FIRST: usize = (LEVELS - 1) * 64;
 
 /// How many ticks a turn of the top level covers.
 pub const REACH: u64 = 1 << (LEVELS * 6);
-
-// Returns how often a key with this tick is taken while the clock moves from `start` to `goal`, which lies in an
-// earlier slot of the top level than the tick.
-fn far_takes(start: u64, goal: u64, tick: u64) -> u64
-    requires ahead { start ≤ goal }
-    requires far { above top_level goal < above top_level tick }
-    ensures { result + takes goal (at_tick tick) ≡ takes start (at_tick tick) }
-{
-    let end = tick / SPAN;
-    (end - start / SPAN - 1) / 64 - (end - goal / SPAN - 1) / 64
-}
-
-// Returns how often the key of an entry is taken on the way from `start` to `goal`.
-fn spared_of(start: u64, goal: u64, entry: Entry) -> u64
-    requires ahead { start ≤ goal }
-    requires far { IsFar goal (timed_of entry) }
-    ensures { Spared start goal (timed_of entry) result }
-{
-    if entry.tick == 0 {
-        return 0;
-    }
-    far_takes(start, goal, entry.tick)
-}
-
-/// Counts how often all keys together are taken while the clock moves from `start` to `goal`.
-pub fn count_spared<L: Ledger>(start: u64, goal: u64, links: &SlotLinks, steps: &mut Steps<L>)
-    requires ahead { start ≤ goal }
-    requires far { (key : ℕ) → IsFar goal (timed_in links.now.entries key) }
-    ensures { steps.new + credit_of goal (map timed_of links.now.entries) ≡ steps.old + credit_of start (map timed_of links.now.entries) }
-{
-    for key in 0..links.end() {
-        steps.add(spared_of(start, goal, links.entry(key)));
-    }
-}
 
 /// Returns whether some key is ahead and all keys ahead are at the top level.
 pub fn is_high(elapsed: u64, links: &SlotLinks) -> bool {
