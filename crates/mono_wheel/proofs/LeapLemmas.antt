@@ -131,6 +131,18 @@ below-less least less (Some timed) l b = omega (arith, l, b)
 pub below-read : (least : ℕ) (entries : List Entry) (key : ℕ) (x : Entry) → x ≡ get_or entries key no_entry → (x.tick ≢ 0 → least ≤ x.tick) → IsBelow least (timed_in entries key)
 below-read least entries key x is h = subst (IsBelow least) (ap timed_of is ∙ sym (timed-read entries key)) (elim (eqb_tells x.tick 0) [ inl t ↦ rw t.0 tt | inr f ↦ rw f.0 (h f.1) ])
 
+-- one more place, whose key may be the one that does not count
+pub below-more : (entries : List Entry) (near : List ℕ) (key least less place : ℕ) (x : Entry) → x ≡ get_or entries (get_or near place 0) no_entry → less ≤ least
+    → (get_or near place 0 ≢ key → x.tick ≢ 0 → less ≤ x.tick)
+    → ((before : ℕ) → before < place → get_or near before 0 ≢ key → IsBelow least (timed_in entries (get_or near before 0)))
+    → (before : ℕ) → before < place + 1 → get_or near before 0 ≢ key → IsBelow less (timed_in entries (get_or near before 0))
+below-more entries near key least less place x is low here all before l ne = elim (eqb_tells before place) [
+  | inl e ↦
+      let at : get_or near place 0 ≡ get_or near before 0 = ap (λ p. get_or near p 0) (sym e.1) in
+      below-read less entries (get_or near before 0) x (is ∙ ap (λ k. get_or entries k no_entry) at) (here (λ same. ne (sym at ∙ same)))
+  | inr e ↦ below-less least less (timed_in entries (get_or near before 0)) low (all before (let n = e.1 in omega (arith, l, n)) ne)
+]
+
 pub due-from : (limit least : ℕ) (near : List ℕ) (key : ℕ) (o : Option Timed) → least ≤ limit → ((place : ℕ) → place < 64 → get_or near place 0 ≡ key → IsBelow least o) → IsKnown limit near key o → IsDueFrom least o
 due-from limit least near key None l h k = tt
 due-from limit least near key (Some timed) l h (same, inl far) = (same, omega (arith, l, far))

@@ -1,5 +1,5 @@
 //! A leap of the clock over slots of the top level in which no key is due.
-ghost use Rattle.std.specs.Prelude.{◌≡◌, ◌<◌, ◌≤◌, ℕ};
+ghost use Rattle.std.specs.Prelude.{◌≡◌, ◌≢◌, ◌<◌, ◌≤◌, ℕ};
 ghost use Rattle.mono_wheel.specs.Start.{above, top_level};
 ghost use Rattle.mono_wheel.specs.Holdings.{timed_in};
 ghost use Rattle.mono_wheel.specs.Leap.{IsDueFrom, Known};
@@ -89,6 +89,35 @@ pub fn least_near(limit: u64, near: &[usize; NEAR], links: &SlotLinks) -> u64
     for place in 0..NEAR {
         let tick = links.entry(near[place]).tick;
         if tick != 0 && tick < least {
+            least = tick;
+        }
+    }
+    least
+}
+
+/// Returns the one of these keys that is due first.
+pub fn first_near(near: &[usize; NEAR], links: &SlotLinks) -> usize {
+    let mut first = near[0];
+    let mut least = u64::MAX;
+    for place in 0..NEAR {
+        let tick = links.entry(near[place]).tick;
+        if tick != 0 && tick < least {
+            first = near[place];
+            least = tick;
+        }
+    }
+    first
+}
+
+/// Returns the least tick of these keys but one, or the limit if that is less.
+pub fn least_but(key: usize, limit: u64, near: &[usize; NEAR], links: &SlotLinks) -> u64
+    requires known { Known limit near.now links.now.entries }
+    ensures least { 0 < limit → (other : ℕ) → other ≢ key → IsDueFrom result (timed_in links.now.entries other) }
+{
+    let mut least = limit;
+    for place in 0..NEAR {
+        let tick = links.entry(near[place]).tick;
+        if near[place] != key && tick != 0 && tick < least {
             least = tick;
         }
     }

@@ -8,30 +8,30 @@ returns-in-Some-clause-polled g c =
     came-out c.args.self.now c.loop-key.self c.take_due.new.self c.args.now c.in-Some.key
     (since-advanced c.args.self.now c.loop-key.self c.in-Some.ensures.fits c.loop-key.invariant.since) c.in-Some.ensures.fits c.in-Some.ensures.due c.loop-key.invariant.ahead
 
-pub take_alone-requires-clause-none : goal.take_alone-requires-clause-none
-take_alone-requires-clause-none g c = subst (λ w. (key : _) → IsPending w key → ⊥) (sym c.in-None.ensures.due.0) c.in-None.ensures.due.1
+pub take_soon-requires-clause-none : goal.take_soon-requires-clause-none
+take_soon-requires-clause-none g c = subst (λ w. (key : _) → IsPending w key → ⊥) (sym c.in-None.ensures.due.0) c.in-None.ensures.due.1
 
-pub returns-in-Some-take_alone-clause-polled : goal.returns-in-Some-take_alone-clause-polled
-returns-in-Some-take_alone-clause-polled g c =
-    came-later c.args.self.now c.take_due.new.self c.take_alone.new.self c.args.now c.in-Some-take_alone.key
-    (since-advanced c.args.self.now c.take_due.new.self c.in-Some-take_alone.ensures.fits (subst (Since c.args.self.now) (sym c.in-None.ensures.due.0) c.loop-key.invariant.since))
-    c.in-Some-take_alone.ensures.fits c.in-Some-take_alone.ensures.taken
+pub returns-in-Some-take_soon-clause-polled : goal.returns-in-Some-take_soon-clause-polled
+returns-in-Some-take_soon-clause-polled g c =
+    came-later c.args.self.now c.take_due.new.self c.take_soon.new.self c.args.now c.in-Some-take_soon.key
+    (since-advanced c.args.self.now c.take_due.new.self c.in-Some-take_soon.ensures.fits (subst (Since c.args.self.now) (sym c.in-None.ensures.due.0) c.loop-key.invariant.since))
+    c.in-Some-take_soon.ensures.fits c.in-Some-take_soon.ensures.taken
 
 pub go_on-requires-clause-none : goal.go_on-requires-clause-none
-go_on-requires-clause-none g c = subst (λ w. (key : _) → IsPending w key → ⊥) (sym (c.in-None-take_alone.ensures.taken ∙ c.in-None.ensures.due.0)) c.in-None.ensures.due.1
+go_on-requires-clause-none g c = subst (λ w. (key : _) → IsPending w key → ⊥) (sym (c.in-None-take_soon.ensures.taken ∙ c.in-None.ensures.due.0)) c.in-None.ensures.due.1
 
 pub returns-then-not-go_on-clause-polled : goal.returns-then-not-go_on-clause-polled
 returns-then-not-go_on-clause-polled g c =
-    nothing-due c.args.self.now c.take_alone.new.self c.go_on.new.self c.args.now
-    (subst (Since c.args.self.now) (sym (c.in-None-take_alone.ensures.taken ∙ c.in-None.ensures.due.0)) c.loop-key.invariant.since) c.if-not-go_on.ensures.advanced (c.if-not-go_on.ensures.passed refl).0 (c.if-not-go_on.ensures.passed refl).1
+    nothing-due c.args.self.now c.take_soon.new.self c.go_on.new.self c.args.now
+    (subst (Since c.args.self.now) (sym (c.in-None-take_soon.ensures.taken ∙ c.in-None.ensures.due.0)) c.loop-key.invariant.since) c.if-not-go_on.ensures.advanced (c.if-not-go_on.ensures.passed refl).0 (c.if-not-go_on.ensures.passed refl).1
 
 pub loop-key-preserved : goal.loop-key-preserved
 loop-key-preserved g c = record {
-  since = inr (since-twice c.args.self.now c.take_alone.new.self c.go_on.new.self (subst (Since c.args.self.now) (sym (c.in-None-take_alone.ensures.taken ∙ c.in-None.ensures.due.0)) c.loop-key.invariant.since) c.if-not-go_on.ensures.advanced);
+  since = inr (since-twice c.args.self.now c.take_soon.new.self c.go_on.new.self (subst (Since c.args.self.now) (sym (c.in-None-take_soon.ensures.taken ∙ c.in-None.ensures.due.0)) c.loop-key.invariant.since) c.if-not-go_on.ensures.advanced);
   ahead = (c.if-not-go_on.ensures.reached refl).1;
   counted =
       let due = c.in-None.ensures.credit in
-      let alone = c.in-None-take_alone.ensures.steps in
+      let alone = c.in-None-take_soon.ensures.steps in
       let step = c.if-not-go_on.ensures.steps in
       let before = c.loop-key.invariant.counted in
       omega (arith, due, alone, step, before);
@@ -43,17 +43,17 @@ returns-in-Some-clause-steps g c =
     let before = c.loop-key.invariant.counted in
     omega (arith, due, before)
 
-pub returns-in-Some-take_alone-clause-steps : goal.returns-in-Some-take_alone-clause-steps
-returns-in-Some-take_alone-clause-steps g c =
+pub returns-in-Some-take_soon-clause-steps : goal.returns-in-Some-take_soon-clause-steps
+returns-in-Some-take_soon-clause-steps g c =
     let due = c.in-None.ensures.credit in
-    let alone = c.in-Some-take_alone.ensures.steps in
+    let alone = c.in-Some-take_soon.ensures.steps in
     let before = c.loop-key.invariant.counted in
     omega (arith, due, alone, before)
 
 pub returns-then-not-go_on-clause-steps : goal.returns-then-not-go_on-clause-steps
 returns-then-not-go_on-clause-steps g c =
     let due = c.in-None.ensures.credit in
-    let alone = c.in-None-take_alone.ensures.steps in
+    let alone = c.in-None-take_soon.ensures.steps in
     let step = c.if-not-go_on.ensures.steps in
     let before = c.loop-key.invariant.counted in
     omega (arith, due, alone, step, before)
