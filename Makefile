@@ -7,6 +7,7 @@
 #   make test        the gate: every proof, mutant, test and program; it ends in `rt ci`
 #   make examples    builds the program, and compares each example's reports with those stored beside it, and the
 #                    manual page with --help; it fails if a crate use_* never gives up something that it holds
+#   make pages       compiles the first Rust example of each page as it stands, unproved
 #   make soak        random inputs for a minute (SECONDS=n), each report checked by an independent machine; their journals
 #                    too; then each allocation, read and write fails in turn, scripts run with workers, and each library
 #                    call that leaves its object as it was is refused memory
@@ -26,7 +27,7 @@ SECONDS = 60
 SIZE =
 EVENTS = 100000000
 
-.PHONY: help run build has-rt has-rustc test examples soak soak-threads year try bench planted gate-times
+.PHONY: help run build has-rt has-rustc test examples pages soak soak-threads year try bench planted gate-times
 
 help:
 	@sed -n 's/^#   //p' Makefile
@@ -58,6 +59,9 @@ examples: build
 	done; echo 'each example has its stored reports'
 	@python3 tools/man_page.py bin/monoio
 	@python3 tools/give_up.py
+
+pages: has-rt
+	@python3 tools/pages.py
 
 soak: build
 	python3 tools/soak/soak.py bin/monoio $(SECONDS)
