@@ -4,8 +4,6 @@
 #[cfg(test)]
 mod chains;
 #[cfg(test)]
-mod jobs;
-#[cfg(test)]
 mod logs;
 #[cfg(test)]
 mod nests;

@@ -1,0 +1,282 @@
+// Futures that are generic over their context: one spawns tasks, and one starts a job. The job's handle then stands
+// under a timeout and in a race.
+ghost use Rattle.std.specs.Option.{is_none};
+ghost use Rattle.std.specs.Prelude.{⊤};
+
+use crate::jobs::{Gives, keeping, on_caller, run};
+use mono_forms::{Either, FutureExt, race_either};
+use mono_rt::{
+    BlockingHandle, BlockingStrategy, Host, Instant, JobContext, JobHandle, JoinError, JoinHandle,
+    LateError, Limits, NoJob, NoPool, Outcome, Poll, PollJob, RunError, SleepError, SleepFor,
+    SpawnContext, StepDriver, TaskFuture, TimeContext, run_alone, sleep_for, timeout_for,
+};
+use std::alloc::Global;
+use std::process::Abort;
+use std::time::Duration;
+
+/// Spawns a task for each of some numbers, one after the other, and answers the sum of their outputs; 99 if one was
+/// refused.
+#[derive(Drop)]
+struct Sums {
+    left: u64,
+    sum: u64,
+    handle: Option<JoinHandle<u64>>,
+}
+
+impl Sums {
+    // Spawns the next task, which the sum awaits from the next turn on.
+    fn go_on<C, F>(&mut self, alloc: Global, cx: &mut C) -> Poll<u64>
+    where
+        C: SpawnContext<u64, Future = F>,
+        F: From<u64> + Drop,
+        ensures { C.reaches cx.old cx.new }
+    {
+        if self.left == 0 {
+            return Poll::Ready(self.sum);
+        }
+        let Ok(handle) = cx.spawn(alloc, F::from(self.left)) else {
+            return Poll::Ready(99);
+        };
+        self.left -= 1;
+        self.handle = Some(handle);
+        let me = cx.me();
+        let _ = cx.wake(me);
+        Poll::Pending
+    }
+}
+
+impl<C, F> TaskFuture<C> for Sums
+where
+    C: SpawnContext<u64, Future = F>,
+    F: From<u64> + Drop,
+{
+    type Output = u64;
+
+    fn spent(&self) -> bool {
+        false
+    }
+
+    fn poll<R: Host>(&mut self, rt: &R, alloc: Global, cx: &mut C) -> Poll<u64> {
+        let Some(mut handle) = self.handle.take() else {
+            return self.go_on(alloc, cx);
+        };
+        match handle.poll(rt, alloc, cx) {
+            Poll::Pending => {
+                self.handle = Some(handle);
+                Poll::Pending
+            }
+            Poll::Ready(output) => {
+                handle.cancel(cx);
+                self.sum = self.sum.saturating_add(output.unwrap_or(0));
+                self.go_on(alloc, cx)
+            }
+        }
+    }
+
+    fn cancel(self, cx: &mut C) {
+        if let Some(handle) = self.handle {
+            handle.cancel(cx);
+        }
+    }
+}
+
+/// A task that spawns others, or one that answers its number after as many milliseconds.
+#[derive(Drop)]
+enum Work {
+    Sums(Sums),
+    Sleeps(SleepFor, u64),
+}
+
+impl From<u64> for Work {
+    ghost from_gives = { λ _ _. ⊤ };
+
+    fn from(number: u64) -> Work {
+        Work::Sleeps(sleep_for(Duration::from_millis(number)), number)
+    }
+}
+
+impl<C: TimeContext + SpawnContext<u64, Future = Work>> TaskFuture<C> for Work {
+    type Output = u64;
+
+    fn spent(&self) -> bool {
+        false
+    }
+
+    fn poll<R: Host>(&mut self, rt: &R, alloc: Global, cx: &mut C) -> Poll<u64> {
+        match self {
+            Work::Sums(sums) => sums.poll(rt, alloc, cx),
+            Work::Sleeps(sleep, number) => {
+                if TaskFuture::<C>::spent(sleep) {
+                    return Poll::Ready(0);
+                }
+                match TaskFuture::<C>::poll(sleep, rt, alloc, cx) {
+                    Poll::Pending => Poll::Pending,
+                    Poll::Ready(_) => Poll::Ready(*number),
+                }
+            }
+        }
+    }
+
+    fn cancel(self, cx: &mut C) {
+        match self {
+            Work::Sums(sums) => sums.cancel(cx),
+            Work::Sleeps(sleep, _) => sleep.cancel(cx),
+        }
+    }
+}
+
+/// Runs a sum of so many tasks on a runtime of its own, with place for so many tasks.
+fn sum<R: Host + Abort>(rt: &R, alloc: Global, left: u64, tasks: u64) -> Result<u64, RunError> {
+    let limits = Limits {
+        tasks,
+        jobs: 0,
+        sleeps: 1,
+    };
+    let driver = StepDriver::new(Vec::new(alloc));
+    let pool: BlockingHandle<NoPool<NoJob>> = BlockingHandle::Empty(BlockingStrategy::Panic);
+    let work = Work::Sums(Sums {
+        left,
+        sum: 0,
+        handle: None,
+    });
+    let (answer, _journal) = run_alone(
+        rt,
+        alloc,
+        driver,
+        pool,
+        limits,
+        Instant::ZERO,
+        work,
+        1000,
+    ).expect(rt, "memory");
+    answer
+}
+
+#[test]
+fn a_task_spawns_others_one_after_the_other(rt: HostRuntime) {
+    assert_eq!(rt; sum(&rt, rt.alloc(), 3, 2), Ok(6));
+    assert_eq!(rt; sum(&rt, rt.alloc(), 3, 1), Ok(99));
+}
+
+/// Starts a job at its first poll, and answers its handle; 9000 if the job was refused.
+#[derive(Drop)]
+struct Begins<J> {
+    job: Option<J>,
+}
+
+impl<J> FutureExt for Begins<J> {}
+
+impl<J: Outcome + Drop, C: JobContext<Job = J>> TaskFuture<C> for Begins<J> {
+    type Output = Result<JobHandle, u64>;
+
+    ghost is_spent = { λ f. is_none f.job };
+
+    fn spent(&self) -> bool {
+        self.job.is_none()
+    }
+
+    fn poll<R: Host>(&mut self, rt: &R, alloc: Global, cx: &mut C) -> Poll<Result<JobHandle, u64>> {
+        let Some(job) = self.job.take() else {
+            unreachable!()
+        };
+        match cx.spawn_blocking(rt, alloc, job) {
+            Ok(handle) => Poll::Ready(Ok(handle)),
+            Err(_) => Poll::Ready(Err(9000)),
+        }
+    }
+
+    fn cancel(self, _cx: &mut C) {}
+}
+
+/// Returns a future that starts the job which gives this number.
+fn begin(number: u64) -> Begins<Gives> {
+    Begins {
+        job: Some(Gives(number)),
+    }
+}
+
+/// What a job's handle answers.
+type Answer = Result<Result<u64, JoinError>, PollJob>;
+
+type Late = Result<Answer, LateError>;
+
+type First = Either<Answer, Result<(), SleepError>>;
+
+/// Returns the output, or a code.
+fn code(answer: Answer) -> Result<u64, u64> {
+    match answer {
+        Ok(Ok(output)) => Ok(output),
+        Ok(Err(_)) => Err(4000),
+        Err(_) => Err(5000),
+    }
+}
+
+/// Returns the output, or a code.
+fn late_code(answer: Late) -> Result<u64, u64> {
+    match answer {
+        Ok(answer) => code(answer),
+        Err(_) => Err(6000),
+    }
+}
+
+/// Returns the output, or a code.
+fn first_code(answer: First) -> Result<u64, u64> {
+    match answer {
+        Either::Left(answer) => code(answer),
+        Either::Right(_) => Err(7000),
+    }
+}
+
+/// Returns the output or the code.
+fn either(answer: Result<u64, u64>) -> u64 {
+    match answer {
+        Ok(output) => output,
+        Err(code) => code,
+    }
+}
+
+#[test]
+fn a_jobs_handle_stands_under_a_timeout(rt: HostRuntime) {
+    let limit = Duration::from_millis(10);
+    let task = begin(7)
+        .and_then(move |handle: JobHandle| timeout_for(limit, handle).map(|answer: Late| late_code(
+            answer,
+        )))
+        .map(either);
+    assert_eq!(rt; run(&rt, rt.alloc(), on_caller(), 1, task), Ok(7));
+}
+
+#[test]
+fn a_timeout_ends_a_jobs_handle_that_is_late(rt: HostRuntime) {
+    for (drops, answer) in [(false, 6000), (true, 4000)] {
+        let limit = Duration::from_millis(10);
+        let task = begin(7)
+            .and_then(move |handle: JobHandle| timeout_for(limit, handle).map(
+                |answer: Late| late_code(answer),
+            ))
+            .map(either);
+        assert_eq!(rt; run(&rt, rt.alloc(), keeping(drops), 1, task), Ok(answer));
+    }
+}
+
+#[test]
+fn a_jobs_handle_wins_a_race_that_it_ends(rt: HostRuntime) {
+    let limit = Duration::from_millis(10);
+    let task = begin(7)
+        .and_then(move |handle: JobHandle| race_either(handle, sleep_for(limit)).map(
+            |answer: First| first_code(answer),
+        ))
+        .map(either);
+    assert_eq!(rt; run(&rt, rt.alloc(), on_caller(), 1, task), Ok(7));
+}
+
+#[test]
+fn a_jobs_handle_loses_a_race_that_it_does_not_end(rt: HostRuntime) {
+    let limit = Duration::from_millis(10);
+    let task = begin(7)
+        .and_then(move |handle: JobHandle| race_either(handle, sleep_for(limit)).map(
+            |answer: First| first_code(answer),
+        ))
+        .map(either);
+    assert_eq!(rt; run(&rt, rt.alloc(), keeping(false), 1, task), Ok(7000));
+}
