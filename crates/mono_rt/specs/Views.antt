@@ -28,7 +28,7 @@ use Rattle.mono_rt.specs.Numbering.{answer_numbered}
 use Rattle.mono_rt.specs.declared.task_waits.TaskWait.{TaskWait}
 use Rattle.mono_rt.specs.Refinement.{hosting_of, Matches}
 use Rattle.mono_rt.specs.Journals.{Does, Registers, events_in, reports_in}
-use Rattle.mono_rt.specs.JournalRoom.{Fills}
+use Rattle.mono_rt.specs.JournalRoom.{Fills, FillsSo}
 use Rattle.mono_rt.specs.FuturePolls.{Polling, PollsMain, OnMain}
 use Rattle.mono_rt.specs.PossibleAnswers.{AnswersNoMore}
 use Rattle.mono_rt.specs.DriverReadings.{Told, telling, TellingSo}
@@ -116,10 +116,6 @@ module _ {F O D P W U J A V : Type 0} where
   abbrev pub is_at_limit : Runtime F O D P W U J A V → Bool
   is_at_limit r = is_full r.cx.parts.tasks.tasks.table r.cx.parts.tasks.tasks.limit
 
-  -- Whether no entry to come is stored: the journal is not kept, or is full.
-  abbrev pub keeps_none : Runtime F O D P W U J A V → Bool
-  keeps_none r = r.journal.is_full
-
   -- The runtime refines this machine.
   abbrev pub Refines : (O → ℕ) → Runtime F O D P W U J A V → Machine → Type 0
   Refines number r m = Matches number hosting_of r.cx.parts m
@@ -190,6 +186,11 @@ module _ {F O D P W U J A V : Type 0} where
     -- The journal is full only if it was before, or a turn made more acts than its record has room for.
     abbrev pub FillsJournal : Runtime F O D P W U J A V → Runtime F O D P W U J A V → Type 0
     FillsJournal old new = Fills number leads future old.cx old.journal new.journal
+
+    -- The same, by the answer: if the main task was refused, the journal is full only if it was before, or it lacks the
+    -- entry of the refusal alone.
+    abbrev pub FillsJournalBy : {X : Type 0} → Result X RunError → Runtime F O D P W U J A V → Runtime F O D P W U J A V → Type 0
+    FillsJournalBy answer old new = FillsSo number leads future answer old.cx old.journal new.journal
 
 module _ {F O P U W J A V : Type 0} where
   -- The tasks of a context, with their queue.

@@ -4,6 +4,7 @@ ghost use Rattle.mono_machine.specs.Machine.{start_machine};
 ghost use Rattle.mono_blocking.specs.JobSpawns.{strategy_of};
 ghost use Rattle.mono_rt.specs.JournalRoom.{IsOneLong};
 ghost use Rattle.mono_rt.specs.Rounds.{Blocked};
+ghost use Rattle.mono_rt.specs.SpawnErrors.{UnlessRefused, IfRefused};
 ghost use Rattle.mono_rt.specs.DriverReadings.{IsTold};
 ghost use Rattle.mono_rt.specs.Views.{exposed, BlocksFrom, IsRunFrom, ParksFrom, PollsFrom};
 
@@ -25,8 +26,9 @@ use std::alloc::{AllocError, Global};
 /// it is a run of the reference machine from its start (`run`). Each park ends at the next expiration over the
 /// registered ticks, of which there are none at the start (`parks`). The readings are the driver's (`told`). If the
 /// driver exposes its time, a reading is that time and the length of the parks since; if it exposes its readings, the
-/// next of them. The journal is full only if a turn made more than 512 acts (`full`). Until then its entries are the
-/// history (`Journal::kept`). An answer is one that the future gives (`given`).
+/// next of them. The journal is full only if a turn made more than 512 acts (`full`), or there was no memory for the
+/// entry of a refused main task. Then it is empty (`lacks`). Until it is full its entries are the history
+/// (`Journal::kept`). An answer is one that the future gives (`given`).
 ///
 /// Each turn of the history is one poll of its task's own future, from the futures that the turns before it left,
 /// unless the answer is Memory (`polled`).
@@ -52,7 +54,8 @@ where
     ensures run { IfOk result (λ r. IsRunFrom (start_machine limits (strategy_of pool)) r.1) }
     ensures parks { IfOk result (λ r. ParksFrom (start_machine limits (strategy_of pool)) r.1) }
     ensures polled { IfOk result (λ r. PollsFrom O.output_number (λ a b. ⊤) F.TaskFuture future (start_machine limits (strategy_of pool)) r) }
-    ensures full { IfOk result (λ r. r.1.is_full ≡ true → IsOneLong O.output_number (λ a b. ⊤) F.TaskFuture) }
+    ensures full { IfOk result (λ r. UnlessRefused r.0 (r.1.is_full ≡ true → IsOneLong O.output_number (λ a b. ⊤) F.TaskFuture)) }
+    ensures lacks { IfOk result (λ r. IfRefused r.0 (r.1.is_full ≡ true → r.1.entries.items ≡ [])) }
 {
     let mut runtime = Runtime::new(alloc, driver, pool, limits, true, start, ())?;
     let answer = runtime.block_on(rt, alloc, future, turns);

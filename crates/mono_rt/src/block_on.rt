@@ -6,15 +6,15 @@ ghost use Rattle.mono_task.specs.Work.{GivesOutput};
 ghost use Rattle.mono_rt.specs.Outputs.{AddsNone};
 ghost use Rattle.mono_rt.specs.Journals.{Goes, Does, Stays};
 ghost use Rattle.mono_rt.specs.Rounds.{WaitEnds, PauseEnds, Round, RoundBreaks, PassEnds, Ends, IsSpawn, IsRefused, Blocked, cost};
-ghost use Rattle.mono_rt.specs.SpawnErrors.{OnCapacity, OnMemory, HasPlace, AnswersPlace, IfRefused};
+ghost use Rattle.mono_rt.specs.SpawnErrors.{OnCapacity, OnMemory, HasPlace, AnswersPlace, UnlessRefused, IfRefused};
 ghost use Rattle.mono_model.specs.Table.{is_full};
 ghost use Rattle.mono_rt.specs.Faults.{FaultsBy, FaultsParked};
 ghost use Rattle.mono_rt.specs.FuturePolls.{Polling, OnMain};
-ghost use Rattle.mono_rt.specs.JournalRoom.{Fills};
+ghost use Rattle.mono_rt.specs.JournalRoom.{Fills, LacksRefusal};
 ghost use Rattle.mono_rt.specs.PossibleAnswers.{AnswersNoMore};
 ghost use Rattle.mono_rt.specs.Remains.{KeepsContext, KeepsStrategy, HasRetired};
 ghost use Rattle.mono_rt.specs.DriverReadings.{telling, going, Telling, TellingSo, Still, EndsWaited};
-ghost use Rattle.mono_rt.specs.Views.{Blocks, Rests, HasOwnFutures, is_at_limit, keeps_none, HoldsSamePlaces, GivesNoMore, LeadsShared, TellsDriver, PollsMainTask, FillsJournal};
+ghost use Rattle.mono_rt.specs.Views.{Blocks, Rests, HasOwnFutures, is_at_limit, HoldsSamePlaces, GivesNoMore, LeadsShared, TellsDriver, PollsMainTask, FillsJournalBy};
 
 use crate::contexts::Cx;
 use crate::parts::RunError;
@@ -108,7 +108,7 @@ impl<F: Drop, O: Outcome + Drop, D: Driver, P: ThreadPool + Drop, W: SharedState
         ensures goes { Goes O.output_number self.old.cx.parts self.new.cx.parts self.old.journal self.new.journal }
         ensures spawned { IfOk result (λ t. Does O.output_number (IsSpawn t) self.old.cx.parts self.new.cx.parts self.old.journal self.new.journal) }
         ensures refused { IfErr result (λ error. OnCapacity error (Does O.output_number IsRefused self.old.cx.parts self.new.cx.parts self.old.journal self.new.journal)) }
-        ensures place { AnswersPlace result (is_full self.old.cx.parts.tasks.tasks.table self.old.cx.parts.tasks.tasks.limit) self.old.journal.is_full }
+        ensures place { AnswersPlace result (is_full self.old.cx.parts.tasks.tasks.table self.old.cx.parts.tasks.tasks.limit) }
         ensures untouched { IfRefused result (self.new.cx ≡ self.old.cx) }
         ensures unkept { OnErr result ((self.new.cx.futures.reserved ≡ self.old.cx.futures.reserved) ⊎ (self.new.cx.futures.reserved ≡ None)) }
         ensures has_timers { self.new.cx.parts.has_timers ≡ self.old.cx.parts.has_timers }
@@ -121,13 +121,15 @@ impl<F: Drop, O: Outcome + Drop, D: Driver, P: ThreadPool + Drop, W: SharedState
         ensures same_futures { OnErr result (self.new.cx.futures.items ≡ self.old.cx.futures.items) }
         ensures faults { D.faults self.new.driver ≡ D.faults self.old.driver }
         ensures told { Telling (Still going) (telling (D.readings self.old.driver) (D.time self.old.driver) (D.parks self.old.driver) (D.submits self.old.driver) (D.faults self.old.driver) (D.can_fail self.old.driver)) going self.old.journal self.new.journal (telling (D.readings self.new.driver) (D.time self.new.driver) (D.parks self.new.driver) (D.submits self.new.driver) (D.faults self.new.driver) (D.can_fail self.new.driver)) }
-        ensures full { self.new.journal.is_full ≡ self.old.journal.is_full }
+        ensures full { UnlessRefused result (self.new.journal.is_full ≡ self.old.journal.is_full) }
+        ensures lacks { IfRefused result (LacksRefusal self.old.journal self.new.journal) }
         ensures unmade { IfErr result (λ error. OnMemory error (Does O.output_number Stays self.old.cx.parts self.new.cx.parts self.old.journal self.new.journal)) }
         ensures held { IfOk result (λ t. self.new.journal.entries.held ≡ self.old.journal.entries.held + 1) }
         ensures unheld { OnErr result (self.new.journal.entries.held ≡ self.old.journal.entries.held) }
     {
         if self.cx.parts.tasks.has_no_place() {
-            return Err(self.cx.parts.refuse_main(&mut self.journal));
+            self.cx.parts.refuse_main(&mut self.journal);
+            return Err(RunError::AtCapacity);
         }
         match self.cx.futures.reserve_value(alloc, future) {
             Err(_future) => Err(RunError::Memory),
@@ -264,8 +266,8 @@ where
     /// task was made. Then rounds and pauses within the budget follow, up to the call that ran out of memory, and the
     /// drop of the main task's handle. That drop takes no memory, since its room is reserved before the main task.
     ///
-    /// The answer is AtCapacity if the number of live tasks is at the limit or the next number is 2^64 - 1; then memory is
-    /// asked for only for the journal's entry. Otherwise it is not AtCapacity (`place`).
+    /// The answer is AtCapacity if and only if the number of live tasks is at the limit or the next number is 2^64 - 1
+    /// (`place`). If a kept journal then gets no room for the entry of the refusal, it is full from then on (`full`).
     ///
     /// The driver gets one `submit` before each drain that follows no park, and no other. It is parked and read as the
     /// history says, and after a call of it that failed it gets no further one but a reading (`told`).
@@ -294,7 +296,7 @@ where
         requires callable { (f : F) → F.can_poll f }
         requires rests { Rests self.old }
         ensures blocked { Blocks O.output_number turns result self.old self.new }
-        ensures place { AnswersPlace result (is_at_limit self.old) (keeps_none self.old) }
+        ensures place { AnswersPlace result (is_at_limit self.old) }
         ensures untouched { IfRefused result (KeepsContext self.old self.new) }
         ensures strategy { KeepsStrategy O.output_number self.old self.new }
         ensures given { IfOk result (λ output. HasOwnFutures self.old → F.gives future output) }
@@ -305,7 +307,7 @@ where
         ensures polled { OnMain result (PollsMainTask O.output_number W.leads F.TaskFuture future self.old self.new) }
         ensures faults { FaultsBy result (D.faults self.old.driver) (D.faults self.new.driver) }
         ensures told { TellsDriver result D.Clock self.old self.new }
-        ensures full { FillsJournal O.output_number W.leads F.TaskFuture self.old self.new }
+        ensures full { FillsJournalBy O.output_number W.leads F.TaskFuture result self.old self.new }
         ensures held { HoldsSamePlaces self.old self.new }
     {
         match self.start_main(alloc, future) {
