@@ -1,5 +1,5 @@
 -- The result of a run follows from the clauses of the runtime's call.
-use Rattle.std.proofs.Common.{◌∙◌, ap, ◌≡◌, ℕ, zero, suc, true, false, Bool, List, [], length, map, Option, Some, None, Result, Ok, Err, IfOk, refl, sym, subst, arith}
+use Rattle.std.proofs.Common.{◌∙◌, ap, ◌≡◌, ℕ, zero, suc, true, false, Bool, List, [], length, map, Option, Some, None, Result, Ok, Err, IfOk, OnOk, refl, sym, subst, arith}
 use Rattle.std.specs.Prelude.{⊤}
 use Rattle.mono_machine.specs.Machine.{Machine, start_machine}
 use Rattle.mono_machine.specs.declared.events.Limits.{Limits}
@@ -56,7 +56,7 @@ by_history j run unfull text = text ∙ ap (λ es. journal_text (map told es) (o
 
 pub told_ran : {E : Type 0} (r : Result ScriptRun E) (limits : Limits) (turns : ℕ) (j : Journal) (answer : Result ℕ RunError)
     → DoneBy turns answer (start_machine limits strategy.Attached) j.history.entries
-    → IfOk r (λ run. answer ≡ answer_of run.end) → j.is_full ≡ false → IfOk r (λ run. run.text.items ≡ journal_text (map told j.entries.items) (output_in (answer_of run.end)))
+    → IfOk r (λ run. answer ≡ answer_of run.end) → OnOk r (j.is_full ≡ false) → IfOk r (λ run. run.text.items ≡ journal_text (map told j.entries.items) (output_in (answer_of run.end)))
     → IfOk r (λ run. Ran limits turns run.end run.text.items)
 told_ran (Ok run) limits turns j answer blocked is kept text = (whole run limits turns j.history.entries answer blocked is (by_history j run kept text)).0
 told_ran (Err e) limits turns j answer blocked is kept text = tt
@@ -96,7 +96,7 @@ made_reads workers readings run limits turns part answer b t is text =
 pub told_reads : {E : Type 0} (workers : ℕ) (readings : Option (List ℕ)) (r : Result ScriptRun E) (limits : Limits) (turns : ℕ) (j : Journal) (answer : Result ℕ RunError)
     → DoneBy turns answer (start_machine limits strategy.Attached) j.history.entries
     → IsTold answer (told_first workers readings) j.history.entries
-    → IfOk r (λ run. answer ≡ answer_of run.end) → j.is_full ≡ false → IfOk r (λ run. run.text.items ≡ journal_text (map told j.entries.items) (output_in (answer_of run.end)))
+    → IfOk r (λ run. answer ≡ answer_of run.end) → OnOk r (j.is_full ≡ false) → IfOk r (λ run. run.text.items ≡ journal_text (map told j.entries.items) (output_in (answer_of run.end)))
     → IfOk r (λ run. RanBy workers readings limits turns run.end run.text.items)
 told_reads workers readings (Ok run) limits turns j answer blocked tells is kept text = (made_reads workers readings run limits turns j.history.entries answer blocked tells is (by_history j run kept text)).0
 told_reads workers readings (Err e) limits turns j answer blocked tells is kept text = tt
@@ -141,7 +141,7 @@ pub told_driven : {E : Type 0} (workers : ℕ) (readings : Option (List ℕ)) (r
     → DoneBy turns answer (start_machine s.limits strategy.Attached) j.history.entries
     → IsTold answer (told_first workers readings) j.history.entries
     → ((e : RunEnd) → answer ≡ answer_of e → IsSound (length s.kinds) s → Driven s (map told j.history.entries))
-    → IfOk r (λ run. answer ≡ answer_of run.end) → j.is_full ≡ false → IfOk r (λ run. run.text.items ≡ journal_text (map told j.entries.items) (output_in (answer_of run.end)))
+    → IfOk r (λ run. answer ≡ answer_of run.end) → OnOk r (j.is_full ≡ false) → IfOk r (λ run. run.text.items ≡ journal_text (map told j.entries.items) (output_in (answer_of run.end)))
     → IfOk r (λ run. IsSound (length s.kinds) s → RunsScript workers readings s turns run.end run.text.items)
 told_driven workers readings (Ok run) s turns j answer blocked tells driven is kept text = λ sound.
     let made = made_reads workers readings run s.limits turns j.history.entries answer blocked tells is (by_history j run kept text) in

@@ -4,6 +4,7 @@ ghost use Rattle.mono_blocking.specs.Counts.{counted_by};
 ghost use Rattle.mono_run.specs.Journal.{journal_text};
 ghost use Rattle.mono_run.specs.Script.{IsSound};
 ghost use Rattle.mono_rt.specs.Rounds.{output_in};
+ghost use Rattle.mono_rt.specs.SpawnErrors.{UnlessRefused};
 ghost use Rattle.mono_rt.specs.declared.parts.errors.RunError.TheVariants as error;
 ghost use Rattle.mono_rt.specs.DriverReadings.{telling};
 ghost use Rattle.mono_run.specs.ScriptDrivers.{readings_of, time_of, parks_of, submits_of, faults_of, can_fail_of};
@@ -88,7 +89,8 @@ fn output_of(end: RunEnd) -> Option<u64>
     }
 }
 
-// Returns the lines of the journal. It is not full, since a turn of a script has fewer acts than make a journal full.
+// Returns the lines of the journal. A turn of a script has fewer acts than make a journal full. So only a refused main task
+// may fill it, if there was no memory for the entry of the refusal.
 fn told_of(
     alloc: Global,
     journal: &Journal,
@@ -96,13 +98,17 @@ fn told_of(
     waits: Vec<TaskWait>,
 ) -> Result<ScriptRun, AllocError>
     requires end { answer.now ≢ Err error.Driver }
-    requires kept { journal.now.is_full ≡ false }
+    requires unfull { UnlessRefused answer.now (journal.now.is_full ≡ false) }
     ensures answer { IfOk result (λ run. answer.now ≡ answer_of run.end) }
+    ensures kept { OnOk result (journal.now.is_full ≡ false) }
     ensures text { IfOk result (λ run. run.text.items ≡ journal_text (map told journal.now.entries.items) (output_in (answer_of run.end))) }
 {
     let Some(end) = end_of(answer) else {
         return Err(AllocError);
     };
+    if journal.is_full() {
+        return Err(AllocError);
+    }
     let text = journal_lines(alloc, journal, output_of(end))?;
     Ok(ScriptRun { end, text, waits })
 }
@@ -149,9 +155,10 @@ fn zero() -> Instant {
 /// It returns how the run ended, and the lines of its journal (`ran`). Without workers each reading in the journal is
 /// the sum of the parks before it. With workers, if the clock exposes its readings, they are these, in order (`reads`).
 /// If the script is sound, the turns in the journal are those that its lines give (`driven`). Once a call ran out of
-/// memory, nothing is returned. This hides no driver's error, since the driver cannot fail, and no full journal, since
-/// a turn has at most 510 acts. The workers end when they have run the queued jobs, for each answer. They go on waiting
-/// only if there was no memory for the runtime itself. The thread that started them joins them.
+/// memory, nothing is returned. This hides no driver's error, since the driver cannot fail. It hides no full journal,
+/// since a turn has at most 510 acts, unless there was no memory for the entry of a refused main task. The workers end
+/// when they have run the queued jobs, for each answer. They go on waiting only if there was no memory for the runtime
+/// itself. The thread that started them joins them.
 pub fn run_script<R: Host + Send + 'static, C: Clock + Drop, P: Spawner>(
     rt: &R,
     alloc: Global,
