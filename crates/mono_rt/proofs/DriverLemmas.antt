@@ -1,5 +1,5 @@
 -- The readings, parks and submits of a driver, piece by piece.
-use Rattle.std.proofs.Common.{◌≡◌, inl, ◌*◌, ℕ, true, false, Bool, List, [], ◌∷◌, ◌++◌, Some, None, Option, Ok, Err, refl, ap, sym, subst, ◌∙◌, append_assoc, append-nil}
+use Rattle.std.proofs.Common.{◌≡◌, inl, inr, ◌*◌, ℕ, true, false, Bool, List, [], ◌∷◌, ◌++◌, Some, None, Option, Ok, Err, refl, ap, sym, subst, ◌∙◌, append_assoc, append-nil}
 use Rattle.std.specs.Prelude.{⊤, Result, is_err}
 use Rattle.mono_driver.specs.Drivers.{moved, one_more, Faults, IsSure}
 use Rattle.mono_driver.specs.declared.driver.DriverFault.{DriverFault}
@@ -11,7 +11,8 @@ use Rattle.mono_machine.specs.declared.events.Report.{Report}
 use Rattle.mono_rt.specs.SpawnErrors.{OnCapacity}
 use Rattle.mono_rt.proofs.FaultLemmas.{rises_by}
 use Rattle.mono_rt.specs.Drains.{remotes}
-use Rattle.mono_rt.specs.DriverReadings.{Told, telling, Course, going, parked, failed, IsRead, IsHandedIn, IsSureIf, IsDrained, Tells, Telling, TellingSo, LeftBy, LeftSo, IsTold, Still, EndsBy, EndsSo, after_park, after_call, parked_time}
+use Rattle.mono_rt.specs.DriverReadings.{Told, telling, Course, going, parked, failed, IsRead, IsHandedIn, IsSureIf, IsDrained, Tells, Telling, TellingSo, IsTold, Still, EndsBy, EndsSo, EndsWaited, EndsDrained, after_park, after_call, parked_time}
+use Rattle.mono_rt.specs.Rounds.{broken_after}
 use Rattle.mono_rt.specs.declared.parts.errors.RunError.{RunError}
 use Rattle.mono_rt.specs.declared.parts.errors.RunError.TheVariants as error
 use Rattle.mono_rt.specs.declared.parts.journals.Entry.{Entry}
@@ -103,17 +104,36 @@ parked_still None has_failed = refl
 parked_still (Some t) true = refl
 parked_still (Some t) false = refl
 
+going_failed : going ≡ failed → ⊥
+going_failed e = cc
+
+parked_failed : parked ≡ failed → ⊥
+parked_failed e = cc
+
+-- no call failed
+pub unfailed : (x : Course) → x ≡ going → x ≡ failed → ⊥
+unfailed x at is = going_failed (sym at ∙ is)
+
 -- a main task that was not made
-pub capacity_ends : (P : Type 0) (e : RunError) (x : Course) → OnCapacity e P → x ≡ going → EndsBy e x
-capacity_ends P error.Memory x is at = tt
-capacity_ends P error.AtCapacity x is at = at
-capacity_ends P error.Driver x is at = absurd is
-capacity_ends P error.Turns x is at = absurd is
+pub capacity_ends : (P : Type 0) (e : RunError) (x : Course) (a : Told) → OnCapacity e P → x ≡ going → EndsBy e x a a
+capacity_ends P error.Memory x a is at = inl (unfailed x at, refl)
+capacity_ends P error.AtCapacity x a is at = (at, refl)
+capacity_ends P error.Driver x a is at = absurd is
+capacity_ends P error.Turns x a is at = absurd is
 
 -- a drain after a park
 pub drained_wait : (has_failed : Bool) (a b : Told) → b ≡ a → IsDrained (after_park has_failed) a (after_call has_failed) b
 drained_wait true a b same = (same, refl)
 drained_wait false a b same = (same, refl)
+
+-- memory ran out after a park, before the drain or after it
+pub broken_parked : (has_failed : Bool) (x : Course) → x ≡ after_park has_failed → EndsWaited (broken_after has_failed) x
+broken_parked true x at = at
+broken_parked false x at = λ is. parked_failed (sym at ∙ is)
+
+pub broken_waited : (has_failed : Bool) (x : Course) → x ≡ after_call has_failed → EndsWaited (broken_after has_failed) x
+broken_waited true x at = at
+broken_waited false x at = λ is. going_failed (sym at ∙ is)
 
 -- a drain changes no reading and no time
 pub drained_reads : (p q : Course) (a b : Told) → IsDrained p a q b → b.readings ≡ a.readings
@@ -162,39 +182,55 @@ handed_in r has_failed a b is readings time parks submits faults sure = record {
 }
 
 -- a call with this answer
-pub so_by : {A : Type 0} {answer : Result A RunError} {a b : Told} {j k : Journal} → LeftSo answer b b → Telling (EndsSo answer) a going j k b → TellingSo answer a j k b
-so_by {A} {answer} {a} {b} {j} {k} left f = record { last = b; left = left; telling = f }
+pub so_by : {A : Type 0} {answer : Result A RunError} {a b : Told} {j k : Journal} → Telling (λ x. EndsSo answer x b b) a going j k b → TellingSo answer a j k b
+so_by {A} {answer} {a} {b} {j} {k} f = record { last = b; telling = f }
+
+pub so_done : {A : Type 0} {x : A} {a b : Told} {j k : Journal} → Telling (Still going) a going j k b → TellingSo (Ok x) a j k b
+so_done {A} {x} {a} {b} {j} {k} f = so_by (telling_more (λ c e. (e, refl)) f)
+
+pub so_spent : {A : Type 0} {a b : Told} {j k : Journal} → Telling (Still going) a going j k b → TellingSo {A = A} (Err error.Turns) a j k b
+so_spent {A} {a} {b} {j} {k} f = so_by (telling_more (λ c e. (e, refl)) f)
+
+pub so_fails : {A : Type 0} {a b : Told} {j k : Journal} → Telling (Still failed) a going j k b → TellingSo {A = A} (Err error.Driver) a j k b
+so_fails {A} {a} {b} {j} {k} f = so_by (telling_more (λ c e. inl (e, refl)) f)
+
+pub so_broken : {A : Type 0} {a b : Told} {j k : Journal} → Telling (λ x. x ≡ failed → ⊥) a going j k b → TellingSo {A = A} (Err error.Memory) a j k b
+so_broken {A} {a} {b} {j} {k} f = so_by (telling_more (λ c e. inl (e, refl)) f)
+
+-- a submit that failed, by whether its drain had memory
+pub so_failed : {A B : Type 0} (r : Result B RunError) (a b : Told) (j k : Journal) → IsHandedIn true a b → ((old new : Told) (before after : Course) → EndsDrained r before old after new → Telling (Still after) old before j k new) → TellingSo {A = A} (Err error.Driver) a j k b
+so_failed {A} {B} (Ok x) a b j k handed drained = so_fails (drained a b going failed (true, (handed, refl)))
+so_failed {A} {B} (Err e) a b j k handed drained = record { last = a; telling = telling_more (λ c at. inr (at, handed)) (drained a a going going (refl, refl)) }
+
+-- one that did not, and memory ran out in its drain
+pub so_undrained : {A : Type 0} {a b : Told} {j k : Journal} → IsHandedIn false a b → Telling (Still going) a going j k a → TellingSo {A = A} (Err error.Memory) a j k b
+so_undrained {A} {a} {b} {j} {k} handed f = record { last = a; telling = telling_more (λ c at. inr (at, handed)) f }
 
 pub so_after : {A : Type 0} {answer : Result A RunError} {a b c : Told} {i j k : Journal} → Telling (Still going) a going i j b → TellingSo answer b j k c → TellingSo answer a i k c
-so_after {A} {answer} {a} {b} {c} {i} {j} {k} f g = record { last = g.last; left = g.left; telling = telling_on f g.telling }
+so_after {A} {answer} {a} {b} {c} {i} {j} {k} f g = record { last = g.last; telling = telling_on f g.telling }
 
 pub so_past : {A : Type 0} {answer : Result A RunError} {a b : Told} {i j k : Journal} → TellingSo answer a i j b → ((t : Told) (q : Course) → Telling (Still q) t q j k t) → TellingSo answer a i k b
-so_past {A} {answer} {a} {b} {i} {j} {k} f g = record { last = f.last; left = f.left; telling = telling_past f.telling (g f.last) }
+so_past {A} {answer} {a} {b} {i} {j} {k} f g = record { last = f.last; telling = telling_past f.telling (g f.last) }
 
 pub so_at : {A : Type 0} {answer : Result A RunError} {a b c : Told} {j k : Journal} → b ≡ c → TellingSo answer a j k b → TellingSo answer a j k c
 so_at {A} {answer} {a} {b} {c} {j} {k} same f = subst (λ t. TellingSo answer a j k t) same f
 
 -- after an Ok no call has failed
 pub still_of : {A : Type 0} {x : A} {a b : Told} {j k : Journal} → TellingSo (Ok x) a j k b → Telling (Still going) a going j k b
-still_of {A} {x} {a} {b} {j} {k} f = subst (λ t. Telling (Still going) a going j k t) (sym f.left) f.telling
-
--- without a submit after the last entry
-pub left_same : (e : RunError) (a : Told) → LeftBy e a a
-left_same error.Memory a = inl refl
-left_same error.AtCapacity a = refl
-left_same error.Driver a = refl
-left_same error.Turns a = refl
+still_of {A} {x} {a} {b} {j} {k} f =
+    let told = f.telling.tells in
+    subst (λ t. Telling (Still going) a going j k t) (sym told.1.1.1.0.1) (telling_more (λ c e. e.0) f.telling)
 
 -- the answer's value does not matter
 pub so_error : {A B : Type 0} {e : RunError} {a b : Told} {j k : Journal} → TellingSo {A = A} (Err e) a j k b → TellingSo {A = B} (Err e) a j k b
-so_error {A} {B} {e} {a} {b} {j} {k} f = record { last = f.last; left = f.left; telling = telling_more (λ x is. is) f.telling }
+so_error {A} {B} {e} {a} {b} {j} {k} f = record { last = f.last; telling = telling_more (λ x is. is) f.telling }
 
 pub so_value : {A B : Type 0} {x : A} {y : B} {a b : Told} {j k : Journal} → TellingSo (Ok x) a j k b → TellingSo (Ok y) a j k b
-so_value {A} {B} {x} {y} {a} {b} {j} {k} f = record { last = f.last; left = f.left; telling = telling_more (λ x is. is) f.telling }
+so_value {A} {B} {x} {y} {a} {b} {j} {k} f = record { last = f.last; telling = telling_more (λ x is. is) f.telling }
 
 -- from an empty history, the entries that it has then
 pub told_in : {A : Type 0} {answer : Result A RunError} {a b : Told} {j k : Journal} (l : Journal) → j.history.entries ≡ [] → l ≡ k → TellingSo answer a j k b → IsTold answer a l.history.entries
 told_in {A} {answer} {a} {b} {j} {k} l empty same f =
     let first = f.telling.tells in
     let part : first.0 ≡ l.history.entries = sym (ap (λ x. x.history.entries) same ∙ first.1.1.0 ∙ ap (λ xs. xs ++ first.0) empty) in
-    record { new = f.last; after = first.1.0; ends = first.1.1.1.0; tells = subst (λ xs. Tells a going xs f.last first.1.0) part first.1.1.1.1 }
+    record { last = f.last; after = first.1.0; new = b; ends = first.1.1.1.0; tells = subst (λ xs. Tells a going xs f.last first.1.0) part first.1.1.1.1 }

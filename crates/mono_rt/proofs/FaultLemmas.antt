@@ -1,10 +1,11 @@
 -- The driver's count of faults, piece by piece.
-use Rattle.std.proofs.Common.{◌≡◌, ℕ, Bool, Ok, Err, sym, subst}
+use Rattle.std.proofs.Common.{◌≡◌, ℕ, Bool, true, false, Ok, Err, sym, subst}
 use Rattle.std.specs.Prelude.{⊤, Result, is_err}
 use Rattle.mono_driver.specs.Drivers.{Faults, HasRisen}
 use Rattle.mono_driver.specs.declared.driver.DriverFault.{DriverFault}
 use Rattle.mono_rt.specs.SpawnErrors.{OnCapacity}
-use Rattle.mono_rt.specs.Faults.{FaultsOn, RisesIf}
+use Rattle.mono_rt.specs.Faults.{FaultsOn, FaultsParked, RisesIf}
+use Rattle.mono_rt.specs.Rounds.{broken_after}
 use Rattle.mono_rt.specs.declared.parts.errors.RunError.{RunError}
 use Rattle.mono_rt.specs.declared.parts.errors.RunError.TheVariants as error
 
@@ -27,9 +28,14 @@ faults_after e x y z same faults = subst (λ n. FaultsOn e n z) same faults
 pub risen_before : (x y z : ℕ) → HasRisen x y → z ≡ y → HasRisen x z
 risen_before x y z risen same = subst (λ n. HasRisen x n) (sym same) risen
 
+-- a wait that ran out of memory after its park
+pub broken_faults : (b : Bool) (x y : ℕ) → RisesIf b x y → FaultsParked (broken_after b) x y
+broken_faults true x y is = is
+broken_faults false x y is = is
+
 -- a main task that was not made
 pub capacity_faults : (P : Type 0) (e : RunError) (x y : ℕ) → OnCapacity e P → y ≡ x → FaultsOn e x y
-capacity_faults P error.Memory x y is same = tt
+capacity_faults P error.Memory x y is same = same
 capacity_faults P error.AtCapacity x y is same = same
 capacity_faults P error.Driver x y is same = absurd is
 capacity_faults P error.Turns x y is same = absurd is

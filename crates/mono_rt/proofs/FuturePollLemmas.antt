@@ -1,5 +1,5 @@
 -- The futures go along the entries of a journal, piece by piece.
-use Rattle.std.proofs.Common.{◌≡◌, ℕ, true, false, Bool, List, [], ◌∷◌, ◌++◌, Some, None, Option, refl, ap, sym, subst, ◌∙◌}
+use Rattle.std.proofs.Common.{◌≡◌, ℕ, true, false, Bool, List, [], ◌∷◌, ◌++◌, Some, None, Option, inl, inr, refl, ap, sym, subst, ◌∙◌}
 use Rattle.std.specs.Prelude.{⊤, Result, Ok, Err}
 use Rattle.mono_model.specs.declared.Ended.{Ended}
 use Rattle.mono_task.specs.Members.{FutureOf}
@@ -14,7 +14,7 @@ use Rattle.mono_blocking.specs.JobSpawns.{Seen}
 use Rattle.mono_rt.specs.Record.{no_acts}
 use Rattle.mono_rt.specs.Refinement.{hosting_of, Matches}
 use Rattle.mono_rt.specs.Journals.{Did, Does, IsStep, Stays}
-use Rattle.mono_rt.specs.Rounds.{Remotes, Drained, IsPark, ClockIf, Parks, Pauses, Pause, PauseEnds, IsSpawn, DropsFor}
+use Rattle.mono_rt.specs.Rounds.{Remotes, Drained, IsPark, ClockIf, Parks, Pauses, Pause, PausesFail, PauseFails, PauseEnds, IsSpawn, DropsFor}
 use Rattle.mono_rt.specs.Turns.{Turn}
 use Rattle.mono_rt.specs.SpawnErrors.{OnCapacity}
 use Rattle.mono_rt.specs.Journals.{ReadsAt}
@@ -81,6 +81,16 @@ module _ {F O P U W J A V : Type 0} (number : O → ℕ) (leads : W → W → Ty
     pauses_polled g [] old new part rest p polled = parks_polled g old new part rest p polled
     pauses_polled g (front ∷ queue) old new part rest p polled = drained_polled old new part rest p polled
 
+    stays_polled : (old new : Machine) (part rest : List Entry) → Stays old part new rest → Is new rest → Is old part
+    stays_polled old new part rest (same, is) polled reading = subst (λ xs. Polled number leads future h old fs reading xs) (sym same) (subst (λ m. Polled number leads future h m fs reading rest) is (polled reading))
+
+    fails_polled : (g : Bool) (queue : List ℕ) (old new : Machine) (part rest : List Entry) → PausesFail g queue old part new rest → Is new rest → Is old part
+    fails_polled g [] old new part rest (inl whole) polled = parks_polled g old new part rest whole polled
+    fails_polled g [] old new part rest (inr (inl park)) polled = park_polled g old new part rest park polled
+    fails_polled g [] old new part rest (inr (inr p)) polled = park_polled g old p.parked part p.left p.parks (drained_polled p.parked new p.left rest p.drains polled)
+    fails_polled g (front ∷ queue) old new part rest (inl drained) polled = drained_polled old new part rest drained polled
+    fails_polled g (front ∷ queue) old new part rest (inr stays) polled = stays_polled old new part rest stays polled
+
     drop_polled : (main : ℕ) (w : Option ℕ) (old new : Machine) (part rest : List Entry) → DropsFor main w old part new rest → Is new rest → Is old part
     drop_polled main (Some n) old new part rest (is, step) polled reading = subst (λ xs. Polled number leads future h old fs reading xs) (sym is) (new, (tt, step, polled reading))
     drop_polled main None old new part rest (answer, (is, step)) polled reading = subst (λ xs. Polled number leads future h old fs reading xs) (sym is) (new, (tt, step, polled reading))
@@ -97,7 +107,7 @@ module _ {F O P U W J A V : Type 0} (number : O → ℕ) (leads : W → W → Ty
   -- between two rounds, unless memory was refused
   pub polls_pause : (fs gs : List (Option F)) (g : Bool) (r : Result Bool RunError) (c d : Parts O (Seen P)) (j k : Journal) → gs ≡ fs → Does number (PauseEnds g r) c d j k → OnMain r (Does number (Polling number leads future h fs gs) c d j k)
   polls_pause fs gs g (Ok spent) c d j k same p = subst (λ xs. Does number (Polling number leads future h fs xs) c d j k) (sym same) (does_more number (Pause g) (Polling number leads future h fs fs) c d j k (λ m new xs zs stm stn is. pauses_polled fs g m.tasks.queue m new xs zs is) p)
-  polls_pause fs gs g (Err error.Driver) c d j k same p = subst (λ xs. Does number (Polling number leads future h fs xs) c d j k) (sym same) (does_more number (Pause g) (Polling number leads future h fs fs) c d j k (λ m new xs zs stm stn is. pauses_polled fs g m.tasks.queue m new xs zs is) p)
+  polls_pause fs gs g (Err error.Driver) c d j k same p = subst (λ xs. Does number (Polling number leads future h fs xs) c d j k) (sym same) (does_more number (PauseFails g) (Polling number leads future h fs fs) c d j k (λ m new xs zs stm stn is. fails_polled fs g m.tasks.queue m new xs zs is) p)
   polls_pause fs gs g (Err error.Turns) c d j k same p = does_more number (PauseEnds g (Err error.Turns)) (Polling number leads future h fs gs) c d j k (λ m new xs zs stm stn is. absurd is) p
   polls_pause fs gs g (Err error.AtCapacity) c d j k same p = tt
   polls_pause fs gs g (Err error.Memory) c d j k same p = tt

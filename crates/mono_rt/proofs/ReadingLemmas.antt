@@ -1,14 +1,16 @@
 -- The journal's readings and submits are those of the driver.
-use Rattle.std.proofs.Common.{◌≡◌, ◌≤◌, ◌+◌, ◌*◌, ℕ, Bool, true, false, List, [], ◌∷◌, Some, None, Option, refl, ap, sym, subst, ◌∙◌, arith}
-use Rattle.std.specs.Prelude.{min, ◌-◌, ◌^◌}
+use Rattle.std.proofs.Common.{◌≡◌, ◌≤◌, ◌+◌, ◌*◌, ℕ, Bool, true, false, List, [], ◌∷◌, Some, None, Option, refl, ap, sym, subst, ◌∙◌, arith, inl, inr}
+use Rattle.std.specs.Prelude.{min, ◌-◌, ◌^◌, Result, Err}
 use Rattle.mono_model.specs.Ticks.{max_nanos}
 use Rattle.mono_driver.specs.Drivers.{Reads, ReadsTime}
 use Rattle.mono_machine.specs.declared.events.Event.{Event}
 use Rattle.mono_machine.specs.declared.events.Event.TheVariants as event
 use Rattle.mono_rt.specs.Faults.{RisesIf}
 use Rattle.mono_rt.specs.Readings.{readings_in, hand_ins_from, AreFirst, time_after, AreSums}
-use Rattle.mono_rt.specs.DriverReadings.{Told, Course, going, parked, failed, IsMet, IsDrained, IsSureIf, Tells, after_park, after_call, parked_time}
+use Rattle.mono_rt.specs.DriverReadings.{Told, Course, going, parked, failed, IsMet, IsDrained, IsSureIf, Tells, EndsBy, EndsSo, IsTold, after_park, after_call, parked_time}
 use Rattle.mono_rt.proofs.DriverLemmas.{drained_reads, drained_time}
+use Rattle.mono_rt.specs.declared.parts.errors.RunError.{RunError}
+use Rattle.mono_rt.specs.declared.parts.errors.RunError.TheVariants as error
 use Rattle.mono_rt.specs.declared.parts.journals.Entry.{Entry}
 use Rattle.mono_rt.specs.declared.parts.journals.Entry.TheVariants.{Ran, Now, Park}
 
@@ -135,37 +137,50 @@ going_on e = cc
 after_parked : parked ≡ failed → ⊥
 after_parked e = cc
 
-never_fails : (a b : Told) (p q : Course) (part : List Entry) → a.can_fail ≡ false → (p ≡ failed → ⊥) → Tells a p part b q → (q ≡ failed → ⊥) × (b.faults ≡ a.faults)
-never_fails a b p q [] sure not (same, is) = (λ e. not (sym is ∙ e), ap (λ x. x.faults) same)
+never_fails : (a b : Told) (p q : Course) (part : List Entry) → a.can_fail ≡ false → (p ≡ failed → ⊥) → Tells a p part b q → (q ≡ failed → ⊥) × (b.faults ≡ a.faults) × (b.can_fail ≡ false)
+never_fails a b p q [] sure not (same, is) = (λ e. not (sym is ∙ e), ap (λ x. x.faults) same, ap (λ x. x.can_fail) same ∙ sure)
 never_fails a b p q (Now n ∷ part) sure not (at, (mid, (read, rest))) =
     let more = never_fails mid b going q part (read.can_fail ∙ sure) going_on rest in
-    (more.0, more.1 ∙ read.faults)
+    (more.0, more.1 ∙ read.faults, more.2)
 never_fails a b p q (Park w ∷ part) sure not (at, (mid, (f, (is, rest)))) =
     let held : IsSureIf false f mid.can_fail = subst (λ x. IsSureIf x f mid.can_fail) sure is.sure in
     let same : RisesIf false a.faults mid.faults = subst (λ x. RisesIf x a.faults mid.faults) held.0 is.faults in
     let more = never_fails mid b (after_park f) q part held.1 (λ e. after_parked (ap after_park (sym held.0) ∙ e)) rest in
-    (more.0, more.1 ∙ same)
+    (more.0, more.1 ∙ same, more.2)
 never_fails a b p q (Ran (event.Act act) r ∷ part) sure not (mid, (next, ((same, course), rest))) =
     let more = never_fails mid b next q part (ap (λ x. x.can_fail) same ∙ sure) (λ e. not (sym course ∙ e)) rest in
-    (more.0, more.1 ∙ ap (λ x. x.faults) same)
+    (more.0, more.1 ∙ ap (λ x. x.faults) same, more.2)
 never_fails a b p q (Ran (event.Turn steps e) r ∷ part) sure not (mid, (next, ((same, course), rest))) =
     let more = never_fails mid b next q part (ap (λ x. x.can_fail) same ∙ sure) (λ e. not (sym course ∙ e)) rest in
-    (more.0, more.1 ∙ ap (λ x. x.faults) same)
+    (more.0, more.1 ∙ ap (λ x. x.faults) same, more.2)
 never_fails a b p q (Ran (event.Remote t) r ∷ part) sure not (mid, (next, ((same, course), rest))) =
     let more = never_fails mid b next q part (ap (λ x. x.can_fail) same ∙ sure) (λ e. not (sym course ∙ e)) rest in
-    (more.0, more.1 ∙ ap (λ x. x.faults) same)
+    (more.0, more.1 ∙ ap (λ x. x.faults) same, more.2)
 never_fails a b p q (Ran (event.Clock n) r ∷ part) sure not (mid, (next, ((read, course), rest))) =
     let more = never_fails mid b next q part (read.can_fail ∙ sure) (λ e. not (sym course ∙ e)) rest in
-    (more.0, more.1 ∙ read.faults)
+    (more.0, more.1 ∙ read.faults, more.2)
 never_fails a b going q (Ran event.Drain r ∷ part) sure not (mid, (next, ((f, (is, at)), rest))) =
     let held : IsSureIf false f mid.can_fail = subst (λ x. IsSureIf x f mid.can_fail) sure is.sure in
     let same : RisesIf false a.faults mid.faults = subst (λ x. RisesIf x a.faults mid.faults) held.0 is.faults in
     let more = never_fails mid b next q part held.1 (λ e. going_on (ap after_call (sym held.0) ∙ sym at ∙ e)) rest in
-    (more.0, more.1 ∙ same)
+    (more.0, more.1 ∙ same, more.2)
 never_fails a b parked q (Ran event.Drain r ∷ part) sure not (mid, (next, ((same, at), rest))) =
     let more = never_fails mid b next q part (ap (λ x. x.can_fail) same ∙ sure) (λ e. going_on (sym at ∙ e)) rest in
-    (more.0, more.1 ∙ ap (λ x. x.faults) same)
+    (more.0, more.1 ∙ ap (λ x. x.faults) same, more.2)
 never_fails a b failed q (Ran event.Drain r ∷ part) sure not (mid, (next, ((same, at), rest))) = absurd (not refl)
 
-pub sure_goes : (a b : Told) (q : Course) (part : List Entry) → a.can_fail ≡ false → Tells a going part b q → (q ≡ failed → ⊥) × (b.faults ≡ a.faults)
+pub sure_goes : (a b : Told) (q : Course) (part : List Entry) → a.can_fail ≡ false → Tells a going part b q → (q ≡ failed → ⊥) × (b.faults ≡ a.faults) × (b.can_fail ≡ false)
 sure_goes a b q part sure tells = never_fails a b going q part sure going_on tells
+
+not_sure : true ≡ false → ⊥
+not_sure e = cc
+
+-- and so it is no error of a call
+sure_ends : (q : Course) (last new : Told) → (q ≡ failed → ⊥) → last.can_fail ≡ false → EndsBy error.Driver q last new → ⊥
+sure_ends q last new not sure (inl ended) = not ended.0
+sure_ends q last new not sure (inr handed) = not_sure (subst (λ x. IsSureIf x true new.can_fail) sure handed.1.sure).0
+
+pub sure_answer : (answer : Result ℕ RunError) (old : Told) (part : List Entry) → old.can_fail ≡ false → IsTold answer old part → answer ≡ Err error.Driver → ⊥
+sure_answer answer old part sure told is =
+    let stays = sure_goes old told.last told.after part sure told.tells in
+    sure_ends told.after told.last told.new stays.0 stays.2 (subst (λ a. EndsSo a told.after told.last told.new) is told.ends)

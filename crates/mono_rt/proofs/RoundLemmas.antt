@@ -17,8 +17,8 @@ use Rattle.mono_task.specs.Schedule as schedule
 use Rattle.mono_machine.specs.Machine.{Machine, with_tasks}
 use Rattle.mono_rt.specs.Numbering.{numbered}
 use Rattle.mono_rt.specs.Drains.{remotes, listed, drain_of, DrainsAll}
-use Rattle.mono_rt.specs.Rounds.{Drained, OneTurn, Turns, UpToOneTurn, Round, RoundBreaks, ParkedDrained, ParkBreaks, PausesBreak, PauseBreaks, PassBreaks, LaterBreaks, most_turns, most_turns_of, IsPark, IsClock, Parks, Pauses, Pause, Pass, PassEnds, Rounds, Breaks, Ends, PauseEnds, is_main_done, cost, IsSpawn, IsRefused, DropsFor, output_in, RunsMain, Blocked}
-use Rattle.std.specs.Prelude.{⊤, Result, Ok, Err}
+use Rattle.mono_rt.specs.Rounds.{Drained, OneTurn, Turns, UpToOneTurn, Round, RoundBreaks, ParkedDrained, ParkBreaks, ParkFails, WaitEnds, broken_after, PausesBreak, PauseBreaks, PausesFail, PauseFails, PassBreaks, LaterBreaks, most_turns, most_turns_of, IsPark, IsClock, Parks, Pauses, Pause, Pass, PassEnds, Rounds, Breaks, Ends, PauseEnds, is_main_done, cost, IsSpawn, IsRefused, DropsFor, output_in, RunsMain, Blocked}
+use Rattle.std.specs.Prelude.{⊤, Result, Ok, Err, OnOk, OnErr}
 use Rattle.std.specs.Option.{option_map}
 use Rattle.std.proofs.Common.{Option, Some, None}
 use Rattle.mono_model.specs.Table.{value_at}
@@ -55,6 +55,10 @@ no_queue (x ∷ xs) n is none = absurd (omega (arith, is, none))
 pub some_queue : (queue : List ℕ) (h : Bool) (m new : Machine) (part rest : List Entry) → 0 < length queue → Drained m part new rest → Pauses h queue m part new rest
 some_queue [] h m new part rest some is = absurd (omega (arith, some))
 some_queue (x ∷ xs) h m new part rest some is = is
+
+pub some_fails : (queue : List ℕ) (h : Bool) (m new : Machine) (part rest : List Entry) → 0 < length queue → Drained m part new rest ⊎ Stays m part new rest → PausesFail h queue m part new rest
+some_fails [] h m new part rest some is = absurd (omega (arith, some))
+some_fails (x ∷ xs) h m new part rest some is = is
 
 pub some_breaks : (queue : List ℕ) (h : Bool) (m new : Machine) (part rest : List Entry) → 0 < length queue → Stays m part new rest → PausesBreak h queue m part new rest
 some_breaks [] h m new part rest some is = absurd (omega (arith, some))
@@ -210,12 +214,32 @@ module _ {O P : Type 0} (number : O → ℕ) where
   pub park_refused : (h : Bool) (c d : Parts O (Seen P)) (j k : Journal) → Does number Stays c d j k → Does number (ParkBreaks h) c d j k
   park_refused h c d j k p = does_more Stays (ParkBreaks h) c d j k (λ m new xs zs stm stn is. inl is) p
 
-  pub drain_refused : (h : Bool) (a b c : Parts O (Seen P)) (i j k : Journal) → Does number (IsPark h) a b i j → Does number Stays b c j k → Does number (ParkBreaks h) a c i k
-  drain_refused h a b c i j k p q = does_more (IsPark h) (ParkBreaks h) a c i k (λ m new xs zs stm stn is. inr (inl is)) (on_stay (IsPark h) a b c i j k p q)
+  pub drain_refused : (failed h : Bool) (a b c : Parts O (Seen P)) (i j k : Journal) → Does number (IsPark h) a b i j → Does number Stays b c j k → Does number (WaitEnds h (broken_after failed)) a c i k
+  drain_refused true h a b c i j k p q = does_more (IsPark h) (ParkFails h) a c i k (λ m new xs zs stm stn is. inr (inl is)) (on_stay (IsPark h) a b c i j k p q)
+  drain_refused false h a b c i j k p q = does_more (IsPark h) (ParkBreaks h) a c i k (λ m new xs zs stm stn is. inr (inl is)) (on_stay (IsPark h) a b c i j k p q)
 
-  pub clock_refused : (h : Bool) (a b c d : Parts O (Seen P)) (i j k l : Journal) → h ≡ true → Does number (IsPark h) a b i j → Does number Drained b c j k → Does number Stays c d k l → Does number (ParkBreaks h) a d i l
-  clock_refused h a b c d i j k l timers p q s = does_more (ParkedDrained h) (ParkBreaks h) a d i l (λ m new xs zs stm stn is. inr (inr is))
-      (does_on (IsPark h) Drained (ParkedDrained h) a b d i j l (λ m mid new xs ys zs stm std stn park drains. record { parked = mid; left = ys; parks = park; drains = drains; timers = timers }) p (on_stay Drained b c d j k l q s))
+  parked_drained : (h : Bool) (a b c d : Parts O (Seen P)) (i j k l : Journal) → h ≡ true → Does number (IsPark h) a b i j → Does number Drained b c j k → Does number Stays c d k l → Does number (ParkedDrained h) a d i l
+  parked_drained h a b c d i j k l timers p q s =
+      does_on (IsPark h) Drained (ParkedDrained h) a b d i j l (λ m mid new xs ys zs stm std stn park drains. record { parked = mid; left = ys; parks = park; drains = drains; timers = timers }) p (on_stay Drained b c d j k l q s)
+
+  pub clock_refused : (failed h : Bool) (a b c d : Parts O (Seen P)) (i j k l : Journal) → h ≡ true → Does number (IsPark h) a b i j → Does number Drained b c j k → Does number Stays c d k l → Does number (WaitEnds h (broken_after failed)) a d i l
+  clock_refused true h a b c d i j k l timers p q s = does_more (ParkedDrained h) (ParkFails h) a d i l (λ m new xs zs stm stn is. inr (inr is)) (parked_drained h a b c d i j k l timers p q s)
+  clock_refused false h a b c d i j k l timers p q s = does_more (ParkedDrained h) (ParkBreaks h) a d i l (λ m new xs zs stm stn is. inr (inr is)) (parked_drained h a b c d i j k l timers p q s)
+
+  -- memory lasted
+  pub wait_whole : (failed h : Bool) (c d : Parts O (Seen P)) (j k : Journal) → Does number (Parks h) c d j k → Does number (WaitEnds h (Ok failed)) c d j k
+  wait_whole true h c d j k p = does_more (Parks h) (ParkFails h) c d j k (λ m new xs zs stm stn is. inl is) p
+  wait_whole false h c d j k p = p
+
+  -- the driver failed between two rounds
+  pub pause_failed : {X : Type 0} (r : Result X RunError) (h : Bool) (c d : Parts O (Seen P)) (j k : Journal) → 0 < length c.tasks.tasks.queue → OnOk r (Does number Drained c d j k) → OnErr r (Does number Stays c d j k) → Does number (PauseFails h) c d j k
+  pause_failed (Ok x) h c d j k some drained refused =
+      does_more Drained (PauseFails h) c d j k (λ m new xs zs stm stn is. subst (λ q. PausesFail h q m xs new zs) (ap (λ x. x.queue) stm.tasks) (some_fails c.tasks.tasks.queue h m new xs zs some (inl is))) drained
+  pause_failed (Err e) h c d j k some drained refused =
+      does_more Stays (PauseFails h) c d j k (λ m new xs zs stm stn is. subst (λ q. PausesFail h q m xs new zs) (ap (λ x. x.queue) stm.tasks) (some_fails c.tasks.tasks.queue h m new xs zs some (inr is))) refused
+
+  pub pause_unparked : (h : Bool) (c d : Parts O (Seen P)) (j k : Journal) → c.tasks.tasks.queue ≡ [] → Does number (ParkFails h) c d j k → Does number (PauseFails h) c d j k
+  pause_unparked h c d j k none p = does_more (ParkFails h) (PauseFails h) c d j k (λ m new xs zs stm stn is. subst (λ q. PausesFail h q m xs new zs) (sym none ∙ ap (λ x. x.queue) stm.tasks) is) p
 
   pub pause_refused : (h : Bool) (c d : Parts O (Seen P)) (j k : Journal) → 0 < length c.tasks.tasks.queue → Does number Stays c d j k → Does number (PauseBreaks h) c d j k
   pause_refused h c d j k some p = does_more Stays (PauseBreaks h) c d j k (λ m new xs zs stm stn is. subst (λ q. PausesBreak h q m xs new zs) (ap (λ x. x.queue) stm.tasks) (some_breaks c.tasks.tasks.queue h m new xs zs some is)) p
@@ -314,7 +338,7 @@ module _ {O P : Type 0} (number : O → ℕ) where
       p q
   ends_by error.AtCapacity h g main turns units a b c i j k same unfinished some p q = does_on (Rounds h main turns units) (PassEnds g units (Err error.AtCapacity)) (Ends {A = ⊤} h main turns (Err error.AtCapacity)) a b c i j k (λ m mid new xs ys zs stm std stn rounds none. none) p q
   ends_by error.Turns h g main turns units a b c i j k same unfinished some p q = does_on (Rounds h main turns units) (PassEnds g units (Err error.Turns)) (Ends {A = ⊤} h main turns (Err error.Turns)) a b c i j k (λ m mid new xs ys zs stm std stn rounds none. absurd none) p q
-  ends_by error.Driver h g main turns units a b c i j k same unfinished some p q = does_on (Rounds h main turns units) (Pause g) (Breaks h main turns) a b c i j k
+  ends_by error.Driver h g main turns units a b c i j k same unfinished some p q = does_on (Rounds h main turns units) (PauseFails g) (Breaks h main turns) a b c i j k
       (λ m mid new xs ys zs stm std stn rounds pause. record {
         mid = mid;
         more = ys;
@@ -322,7 +346,7 @@ module _ {O P : Type 0} (number : O → ℕ) where
         rounds = rounds;
         unfinished = sym (main_done b mid main std) ∙ unfinished;
         some_left = some;
-        pause = subst (λ x. Pause x mid ys new zs) same pause;
+        pause = subst (λ x. PauseFails x mid ys new zs) same pause;
       })
       p q
 

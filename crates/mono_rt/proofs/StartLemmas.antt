@@ -22,7 +22,7 @@ use Rattle.mono_rt.specs.declared.parts.state.Parts.{Parts}
 use Rattle.mono_rt.proofs.RoundLemmas.{Relation}
 use Rattle.mono_rt.proofs.RegistrationLemmas.{same_ticks}
 use Rattle.mono_rt.proofs.FuturePollLemmas.{polls_whole}
-use Rattle.mono_rt.proofs.DriverLemmas.{told_in}
+use Rattle.mono_rt.proofs.DriverLemmas.{told_in, unfailed}
 use Rattle.mono_rt.specs.Starts.{RunsFrom}
 
 -- the same limits and the same pool
@@ -52,7 +52,7 @@ module _ {F O P U W J A V : Type 0} (number : O → ℕ) (leads : W → W → Ty
     blocked = inl (refl, refl);
     left = λ s. None;
     parks = (refl, λ s. refl);
-    told = record { new = t; after = going; ends = tt; tells = (refl, refl) };
+    told = record { last = t; after = going; new = t; ends = inl (unfailed going refl, refl); tells = (refl, refl) };
     polled = tt;
   }
 

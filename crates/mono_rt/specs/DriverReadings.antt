@@ -103,29 +103,18 @@ Tells old before (Ran e r ∷ part) new after = (mid : Told) × ((next : Course)
 Tells old before (Now n ∷ part) new after = (before ≡ going) × ((mid : Told) × (IsRead n old mid × Tells mid going part new after))
 Tells old before (Park wait ∷ part) new after = (before ≡ going) × ((mid : Told) × ((has_failed : Bool) × (IsParked wait has_failed old mid × Tells mid (after_park has_failed) part new after)))
 
--- By the error: the last call of the driver failed if it is Driver, and none failed if it is Turns or AtCapacity. If
--- memory ran out, either may be.
-abbrev pub EndsBy : RunError → Course → Type 0
-EndsBy error.Turns course = course ≡ going
-EndsBy error.AtCapacity course = course ≡ going
-EndsBy error.Driver course = course ≡ failed
-EndsBy error.Memory course = ⊤
+-- By the error, the course and the driver after the last entry, and the driver now. The last call of the driver failed if
+-- and only if the error is Driver. If memory ran out, there may be one submit more, whose drain did not come.
+abbrev pub EndsBy : RunError → Course → Told → Told → Type 0
+EndsBy error.Turns course last new = (course ≡ going) × (new ≡ last)
+EndsBy error.AtCapacity course last new = (course ≡ going) × (new ≡ last)
+EndsBy error.Driver course last new = ((course ≡ failed) × (new ≡ last)) ⊎ ((course ≡ going) × IsHandedIn true last new)
+EndsBy error.Memory course last new = ((course ≡ failed → ⊥) × (new ≡ last)) ⊎ ((course ≡ going) × IsHandedIn false last new)
 
 -- If the answer is good, no call of the driver failed.
-abbrev pub EndsSo : {A : Type 0} → Result A RunError → Course → Type 0
-EndsSo (Ok x) course = course ≡ going
-EndsSo (Err e) course = EndsBy e course
-
--- The driver after the last entry. If memory ran out, there may be one submit more, whose drain did not come.
-abbrev pub LeftBy : RunError → Told → Told → Type 0
-LeftBy error.Turns last new = new ≡ last
-LeftBy error.AtCapacity last new = new ≡ last
-LeftBy error.Driver last new = new ≡ last
-LeftBy error.Memory last new = (new ≡ last) ⊎ ((has_failed : Bool) × IsHandedIn has_failed last new)
-
-abbrev pub LeftSo : {A : Type 0} → Result A RunError → Told → Told → Type 0
-LeftSo (Ok x) last new = new ≡ last
-LeftSo (Err e) last new = LeftBy e last new
+abbrev pub EndsSo : {A : Type 0} → Result A RunError → Course → Told → Told → Type 0
+EndsSo (Ok x) course last new = (course ≡ going) × (new ≡ last)
+EndsSo (Err e) course last new = EndsBy e course last new
 
 -- the course stays
 abbrev pub Still : Course → Course → Type 0
@@ -136,10 +125,11 @@ abbrev pub EndsParked : Result Bool RunError → Course → Type 0
 EndsParked (Ok has_failed) course = course ≡ after_park has_failed
 EndsParked (Err e) course = course ≡ going
 
--- the course after a park, a drain and, with timers, a clock step, by whether the park failed
+-- the course after a park, a drain and, with timers, a clock step, by whether the park failed; if memory ran out, it did
+-- not
 abbrev pub EndsWaited : Result Bool RunError → Course → Type 0
 EndsWaited (Ok has_failed) course = course ≡ after_call has_failed
-EndsWaited (Err e) course = ⊤
+EndsWaited (Err e) course = course ≡ failed → ⊥
 
 -- the course after a drain; if memory ran out, nothing was drained
 abbrev pub EndsDrained : {A : Type 0} → Result A RunError → Course → Told → Course → Told → Type 0
@@ -153,12 +143,12 @@ pub record Telling (Ends : Course → Type 0) (old : Told) (before : Course) (j 
 -- The same of a call with this answer.
 pub record TellingSo {A : Type 0} (answer : Result A RunError) (old : Told) (j k : Journal) (new : Told) : Type 0 where
   pub last : Told
-  pub left : LeftSo answer last new
-  pub telling : Telling (EndsSo answer) old going j k last
+  pub telling : Telling (λ course. EndsSo answer course last new) old going j k last
 
 -- The readings, parks and submits of a whole history are the driver's, in a call with this answer.
 pub record IsTold {A : Type 0} (answer : Result A RunError) (old : Told) (part : List Entry) : Type 0 where
-  pub new : Told
+  pub last : Told
   pub after : Course
-  pub ends : EndsSo answer after
-  pub tells : Tells old going part new after
+  pub new : Told
+  pub ends : EndsSo answer after last new
+  pub tells : Tells old going part last after

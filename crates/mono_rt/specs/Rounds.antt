@@ -142,10 +142,20 @@ pub record ParkedDrained (has_timers : Bool) (old : Machine) (part : List Entry)
 abbrev pub ParkBreaks : Bool → Machine → List Entry → Machine → List Entry → Type 0
 ParkBreaks has_timers old part new rest = Stays old part new rest ⊎ (IsPark has_timers old part new rest ⊎ ParkedDrained has_timers old part new rest)
 
--- a wait, by its answer
-abbrev pub WaitEnds : {A : Type 0} → Bool → Result A RunError → Machine → List Entry → Machine → List Entry → Type 0
-WaitEnds has_timers (Ok x) old part new rest = Parks has_timers old part new rest
+-- the park failed, and memory lasted or ran out after it
+abbrev pub ParkFails : Bool → Machine → List Entry → Machine → List Entry → Type 0
+ParkFails has_timers old part new rest = Parks has_timers old part new rest ⊎ (IsPark has_timers old part new rest ⊎ ParkedDrained has_timers old part new rest)
+
+-- a wait, by its answer: whether the park failed
+abbrev pub WaitEnds : Bool → Result Bool RunError → Machine → List Entry → Machine → List Entry → Type 0
+WaitEnds has_timers (Ok false) old part new rest = Parks has_timers old part new rest
+WaitEnds has_timers (Ok true) old part new rest = ParkFails has_timers old part new rest
 WaitEnds has_timers (Err e) old part new rest = ParkBreaks has_timers old part new rest
+
+-- the answer of a wait that ran out of memory after its park, by whether the park failed
+abbrev pub broken_after : Bool → Result Bool RunError
+broken_after true = Ok true
+broken_after false = Err error.Memory
 
 -- Memory ran out between two rounds, by the queue: in a wait, or in the drain, which did nothing.
 abbrev pub PausesBreak : Bool → List ℕ → Machine → List Entry → Machine → List Entry → Type 0
@@ -155,10 +165,19 @@ PausesBreak has_timers (front ∷ queue) old part new rest = Stays old part new 
 abbrev pub PauseBreaks : Bool → Machine → List Entry → Machine → List Entry → Type 0
 PauseBreaks has_timers old part new rest = PausesBreak has_timers old.tasks.queue old part new rest
 
+-- The driver failed between two rounds, by the queue: in the park, or in the submit. A drain and, after a park, a clock step
+-- follow, unless memory ran out.
+abbrev pub PausesFail : Bool → List ℕ → Machine → List Entry → Machine → List Entry → Type 0
+PausesFail has_timers [] old part new rest = ParkFails has_timers old part new rest
+PausesFail has_timers (front ∷ queue) old part new rest = Drained old part new rest ⊎ Stays old part new rest
+
+abbrev pub PauseFails : Bool → Machine → List Entry → Machine → List Entry → Type 0
+PauseFails has_timers old part new rest = PausesFail has_timers old.tasks.queue old part new rest
+
 -- the whole pause is recorded, unless memory ran out
 abbrev pub PauseEnds : Bool → Result Bool RunError → Machine → List Entry → Machine → List Entry → Type 0
 PauseEnds has_timers (Ok spent) old part new rest = Pause has_timers old part new rest
-PauseEnds has_timers (Err error.Driver) old part new rest = Pause has_timers old part new rest
+PauseEnds has_timers (Err error.Driver) old part new rest = PauseFails has_timers old part new rest
 PauseEnds has_timers (Err error.Memory) old part new rest = PauseBreaks has_timers old part new rest
 PauseEnds has_timers (Err error.Turns) old part new rest = ⊥
 PauseEnds has_timers (Err error.AtCapacity) old part new rest = ⊥
@@ -186,7 +205,7 @@ pub record PassBreaks (has_timers : Bool) (units : ℕ) (old : Machine) (part : 
 -- if the driver failed, there is no round
 abbrev pub PassEnds : Bool → ℕ → Result ℕ RunError → Machine → List Entry → Machine → List Entry → Type 0
 PassEnds has_timers units (Ok left) old part new rest = Pass has_timers units left old part new rest
-PassEnds has_timers units (Err error.Driver) old part new rest = Pause has_timers old part new rest
+PassEnds has_timers units (Err error.Driver) old part new rest = PauseFails has_timers old part new rest
 PassEnds has_timers units (Err error.Memory) old part new rest = PauseBreaks has_timers old part new rest ⊎ PassBreaks has_timers units old part new rest
 PassEnds has_timers units (Err error.Turns) old part new rest = ⊥
 PassEnds has_timers units (Err error.AtCapacity) old part new rest = ⊥
@@ -211,7 +230,7 @@ pub record Rounds (has_timers : Bool) (main units left : ℕ) (old : Machine) (p
   pub count : ℕ
   pub passes : Passes has_timers main count kept left mid more new rest
 
--- if the driver failed, a last pause follows the rounds
+-- if the driver failed, the pause in which it did follows the rounds
 pub record Breaks (has_timers : Bool) (main units : ℕ) (old : Machine) (part : List Entry) (new : Machine) (rest : List Entry) : Type 0 where
   pub mid : Machine
   pub more : List Entry
@@ -219,7 +238,7 @@ pub record Breaks (has_timers : Bool) (main units : ℕ) (old : Machine) (part :
   pub rounds : Rounds has_timers main units left old part mid more
   pub unfinished : is_main_done main mid ≡ false
   pub some_left : 0 < left
-  pub pause : Pause has_timers mid more new rest
+  pub pause : PauseFails has_timers mid more new rest
 
 -- rounds, and a pass in which memory ran out
 pub record LaterBreaks (has_timers : Bool) (main units : ℕ) (old : Machine) (part : List Entry) (new : Machine) (rest : List Entry) : Type 0 where

@@ -5,7 +5,7 @@ ghost use Rattle.mono_model.specs.Tasks.{spawned};
 ghost use Rattle.mono_task.specs.Work.{GivesOutput};
 ghost use Rattle.mono_rt.specs.Outputs.{AddsNone};
 ghost use Rattle.mono_rt.specs.Journals.{Goes, Does, Stays};
-ghost use Rattle.mono_rt.specs.Rounds.{WaitEnds, PauseEnds, Round, RoundBreaks, PassEnds, Ends, IsSpawn, IsRefused, Blocked, cost};
+ghost use Rattle.mono_rt.specs.Rounds.{WaitEnds, broken_after, PauseEnds, Round, RoundBreaks, PassEnds, Ends, IsSpawn, IsRefused, Blocked, cost};
 ghost use Rattle.mono_rt.specs.SpawnErrors.{OnCapacity, OnMemory, HasPlace, AnswersPlace, UnlessRefused, IfRefused};
 ghost use Rattle.mono_model.specs.Table.{is_full};
 ghost use Rattle.mono_rt.specs.Faults.{FaultsBy, FaultsParked};
@@ -27,6 +27,17 @@ use mono_shared::SharedState;
 use mono_task::TaskFuture;
 use std::alloc::Global;
 
+// Returns the answer of a wait that ran out of memory after its park. A failed park is reported first.
+fn out_of_memory_after(failed: bool) -> Result<bool, RunError>
+    ensures { result ≡ broken_after failed }
+{
+    if failed {
+        Ok(true)
+    } else {
+        Err(RunError::Memory)
+    }
+}
+
 impl<F: Drop, O: Outcome + Drop, D: Driver, P: ThreadPool + Drop, W: SharedState + Drop> Runtime<
     F,
     O,
@@ -35,7 +46,7 @@ impl<F: Drop, O: Outcome + Drop, D: Driver, P: ThreadPool + Drop, W: SharedState
     W,
 > {
     /// Parks the driver, since the queue is empty, drains the inbox, and with timers does a clock step. Returns whether
-    /// the park failed.
+    /// the park failed; if it did, also if memory ran out after it.
     fn wait<R: Host>(&mut self, rt: &R, alloc: Global) -> Result<bool, RunError>
         ensures parks { Does O.output_number (WaitEnds self.old.cx.parts.has_timers result) self.old.cx.parts self.new.cx.parts self.old.journal self.new.journal }
         ensures has_timers { self.new.cx.parts.has_timers ≡ self.old.cx.parts.has_timers }
@@ -51,7 +62,7 @@ impl<F: Drop, O: Outcome + Drop, D: Driver, P: ThreadPool + Drop, W: SharedState
         match self.cx.parts.park(rt, &mut self.driver, &mut self.journal) {
             Err(_) => Err(RunError::Memory),
             Ok(failed) => match self.drain(rt, alloc) {
-                Err(_) => Err(RunError::Memory),
+                Err(_) => out_of_memory_after(failed),
                 Ok(()) => {
                     if self.cx.parts.has_timers {
                         match self
@@ -59,7 +70,7 @@ impl<F: Drop, O: Outcome + Drop, D: Driver, P: ThreadPool + Drop, W: SharedState
                             .parts
                             .clock_step(alloc, &mut self.driver, &mut self.journal, &mut self.due)
                         {
-                            Err(_) => Err(RunError::Memory),
+                            Err(_) => out_of_memory_after(failed),
                             Ok(()) => Ok(failed),
                         }
                     } else {
@@ -71,6 +82,7 @@ impl<F: Drop, O: Outcome + Drop, D: Driver, P: ThreadPool + Drop, W: SharedState
     }
 
     /// Pauses between two rounds. Returns whether the pause costs one of the budget: the queue was empty and still is.
+    /// A submit or park that failed is reported first, also if memory ran out after it.
     fn pause<R: Host>(&mut self, rt: &R, alloc: Global) -> Result<bool, RunError>
         ensures pauses { Does O.output_number (PauseEnds self.old.cx.parts.has_timers result) self.old.cx.parts self.new.cx.parts self.old.journal self.new.journal }
         ensures spent { IfOk result (λ spent. (if spent then 1 else 0) ≡ cost self.old.cx.parts.tasks.tasks.queue self.new.cx.parts.tasks.tasks.queue) }
@@ -88,11 +100,12 @@ impl<F: Drop, O: Outcome + Drop, D: Driver, P: ThreadPool + Drop, W: SharedState
     {
         if self.cx.parts.tasks.queue_len() > 0 {
             let handed = self.driver.submit(rt);
-            return match self.drain(rt, alloc) {
-                Err(_) => Err(RunError::Memory),
-                Ok(()) => match handed {
+            let drained = self.drain(rt, alloc);
+            return match handed {
+                Err(_) => Err(RunError::Driver),
+                Ok(()) => match drained {
+                    Err(_) => Err(RunError::Memory),
                     Ok(()) => Ok(false),
-                    Err(_) => Err(RunError::Driver),
                 },
             };
         }
@@ -269,12 +282,13 @@ where
     /// The answer is AtCapacity if and only if the number of live tasks is at the limit or the next number is 2^64 - 1
     /// (`place`). If a kept journal then gets no room for the entry of the refusal, it is full from then on (`full`).
     ///
-    /// The driver gets one `submit` before each drain that follows no park, and no other. It is parked and read as the
-    /// history says, and after a call of it that failed it gets no further one but a reading (`told`).
+    /// The driver gets one `submit` before each drain that follows no park, and no other; the drain may run out of
+    /// memory. It is parked and read as the history says, and after a call of it that failed it gets no further one but a
+    /// reading (`told`).
     ///
     /// Each turn of the history is one poll of its task's own future, from the futures that the turns before it left,
-    /// unless the answer is Memory (`polled`). The answer is Driver only if the driver's count of faults rose in this
-    /// call. If the count rose, the answer is Driver or Memory (`faults`).
+    /// unless the answer is Memory (`polled`). The answer is Driver if and only if the driver's count of faults rose in
+    /// this call, also if memory ran out after that (`faults`).
     ///
     /// An Ok value is one that the main future gives, if each future has its task's number (`given`). No task may
     /// answer more afterwards than it might before (`answers`).

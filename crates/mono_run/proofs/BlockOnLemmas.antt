@@ -12,7 +12,7 @@ use Rattle.mono_run.specs.Journal.{journal_text}
 use Rattle.mono_rt.specs.DriverReadings.{Told, Course, going, Tells, IsTold, EndsSo}
 use Rattle.mono_rt.specs.declared.parts.journals.Entry.{Entry}
 use Rattle.mono_rt.specs.declared.parts.errors.RunError.TheVariants as error
-use Rattle.mono_rt.proofs.ReadingLemmas.{in_order, sums_from, sure_goes}
+use Rattle.mono_rt.proofs.ReadingLemmas.{in_order, sums_from, sure_answer}
 use Rattle.mono_model.specs.declared.poll.Poll.{Poll}
 use Rattle.mono_task.specs.Members.{FutureOf}
 use Rattle.mono_rt.specs.FuturePolls.{PollsMain, OnMain}
@@ -62,10 +62,10 @@ told_ran (Ok run) limits turns j answer blocked is kept text = (whole run limits
 told_ran (Err e) limits turns j answer blocked is kept text = tt
 
 -- none of these is a fault
-going_by : (e : RunEnd) (x : Course) → EndsSo (answer_of e) x → x ≡ going
-going_by (ran.Output o) x is = is
-going_by ran.Turns x is = is
-going_by ran.Capacity x is = is
+going_by : (e : RunEnd) (x : Course) (last new : Told) → EndsSo (answer_of e) x last new → x ≡ going
+going_by (ran.Output o) x last new is = is.0
+going_by ran.Turns x last new is = is.0
+going_by ran.Capacity x last new is = is.0
 
 -- the readings are those of the driver
 reads_so : (workers : ℕ) (readings : Option (List ℕ)) (new : Told) (part : List Entry) → Tells (told_first workers readings) going part new going → ReadsSo workers readings part
@@ -75,8 +75,8 @@ reads_so (suc n) (Some readings) new part tells = in_order (told_first (suc n) (
 
 -- the driver of a run does not fail
 pub no_fault : (workers : ℕ) (readings : Option (List ℕ)) (answer : Result ℕ RunError) (part : List Entry) → IsTold answer (told_first workers readings) part → answer ≡ Err error.Driver → ⊥
-no_fault zero readings answer part t is = (sure_goes (told_first zero readings) t.new t.after part refl t.tells).0 (subst (λ a. EndsSo a t.after) is t.ends)
-no_fault (suc n) readings answer part t is = (sure_goes (told_first (suc n) readings) t.new t.after part refl t.tells).0 (subst (λ a. EndsSo a t.after) is t.ends)
+no_fault zero readings answer part t is = sure_answer answer (told_first zero readings) part refl t is
+no_fault (suc n) readings answer part t is = sure_answer answer (told_first (suc n) readings) part refl t is
 
 made_reads : (workers : ℕ) (readings : Option (List ℕ)) (run : ScriptRun) (limits : Limits) (turns : ℕ) (part : List Entry) (answer : Result ℕ RunError)
     → DoneBy turns answer (start_machine limits strategy.Attached) part
@@ -87,8 +87,8 @@ made_reads workers readings run limits turns part answer b t is text =
     let w = whole run limits turns part answer b is text in (
       record {
         ran = w.0;
-        reads = subst (ReadsSo workers readings) (sym w.1) (reads_so workers readings t.new part
-            (subst (λ x. Tells (told_first workers readings) going part t.new x) (going_by run.end t.after (subst (λ a. EndsSo a t.after) is t.ends)) t.tells));
+        reads = subst (ReadsSo workers readings) (sym w.1) (reads_so workers readings t.last part
+            (subst (λ x. Tells (told_first workers readings) going part t.last x) (going_by run.end t.after t.last t.new (subst (λ a. EndsSo a t.after t.last t.new) is t.ends)) t.tells));
       },
       w.1,
     )

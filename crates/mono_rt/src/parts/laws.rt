@@ -1,11 +1,13 @@
 // Laws over the entries of a journal.
-ghost use Rattle.std.specs.Prelude.{◌≡◌, ◌≤◌, ◌+◌, ◌-◌, ◌^◌, ℕ, min, Bool, false, List, [], ◌∷◌, Some, None};
+ghost use Rattle.std.specs.Prelude.{◌≡◌, ◌≤◌, ◌+◌, ◌-◌, ◌^◌, ℕ, min, Bool, false, List, [], ◌∷◌, Some, None, Result, Err};
 ghost use Rattle.mono_model.specs.Ticks.{max_nanos};
 ghost use Rattle.mono_machine.specs.declared.events.Event.TheVariants as event;
 ghost use Rattle.mono_machine.specs.declared.events.Report.TheVariants as report;
 ghost use Rattle.mono_rt.specs.declared.parts.journals.Entry.{Entry};
 ghost use Rattle.mono_rt.specs.declared.parts.journals.Entry.TheVariants.{Ran, Now, Park};
-ghost use Rattle.mono_rt.specs.DriverReadings.{Told, Course, going, failed, Tells};
+ghost use Rattle.mono_rt.specs.DriverReadings.{Told, Course, going, failed, Tells, IsTold};
+ghost use Rattle.mono_rt.specs.declared.parts.errors.RunError.{RunError};
+ghost use Rattle.mono_rt.specs.declared.parts.errors.RunError.TheVariants as error;
 ghost use Rattle.mono_machine.specs.Machine.{Machine};
 ghost use Rattle.mono_rt.specs.Rounds.{Rounds};
 ghost use Rattle.mono_rt.specs.Budgets.{Spends};
@@ -31,9 +33,14 @@ pub fn submits_are_counted()
     ensures { (old new : Told) (part : List Entry) → old.submits ≤ 2 ^ 64 - 1 → Tells old going part new going → new.submits ≡ min (old.submits + hand_ins_in part) (2 ^ 64 - 1) }
 {}
 
-/// Shows that no call failed if the driver cannot fail. So `block_on` never answers Driver on it.
+/// Shows that no call failed if the driver cannot fail.
 pub fn a_sure_driver_does_not_fail()
-    ensures { (old new : Told) (after : Course) (part : List Entry) → old.can_fail ≡ false → Tells old going part new after → (after ≡ failed → ⊥) × (new.faults ≡ old.faults) }
+    ensures { (old new : Told) (after : Course) (part : List Entry) → old.can_fail ≡ false → Tells old going part new after → (after ≡ failed → ⊥) × (new.faults ≡ old.faults) × (new.can_fail ≡ false) }
+{}
+
+/// Shows that the answer is not Driver if the driver cannot fail.
+pub fn a_sure_driver_is_no_error()
+    ensures { (answer : Result ℕ RunError) (old : Told) (part : List Entry) → old.can_fail ≡ false → IsTold answer old part → answer ≡ Err error.Driver → ⊥ }
 {}
 
 /// Shows that each unit of a budget is spent by a turn or by a park. So if nothing is left, the turns and some of the

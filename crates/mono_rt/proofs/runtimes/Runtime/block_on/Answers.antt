@@ -3,7 +3,7 @@ use Rattle.std.specs.Prelude.{⊤}
 use Rattle.std.specs.Option.{option_map}
 use Rattle.mono_rt.proofs.RoundLemmas.{blocks_by, blocks_done, blocks_refused}
 use Rattle.mono_rt.specs.DriverReadings.{going}
-use Rattle.mono_rt.proofs.DriverLemmas.{telling_on, telling_past, telling_more, capacity_ends, so_after, so_by, so_error, so_past, so_value, left_same}
+use Rattle.mono_rt.proofs.DriverLemmas.{telling_on, telling_past, telling_more, capacity_ends, so_after, so_by, so_error, so_past, so_value}
 use Rattle.std.proofs.Common.{Err, subst}
 use Rattle.mono_rt.specs.Journals.{Does}
 use Rattle.mono_rt.specs.FuturePolls.{Polling}
@@ -54,7 +54,7 @@ returns-in-Some-clause-blocked g c =
     c.start_main.ensures.has_timers c.in-Ok.ensures.spawned (rw c.in-Ok-answer.is at c.run-answer.ensures.ends) (rw c.in-Some.is at c.end_main-output.ensures.dropped)
 
 pub returns-in-Err-clause-told : goal.returns-in-Err-clause-told
-returns-in-Err-clause-told g c = so_by (left_same c.in-Err.error _) (telling_more (λ x e. capacity_ends _ c.in-Err.error x c.in-Err.ensures.refused e) c.start_main.ensures.told)
+returns-in-Err-clause-told g c = so_by (telling_more (λ x e. capacity_ends _ c.in-Err.error x _ c.in-Err.ensures.refused e) c.start_main.ensures.told)
 
 pub returns-in-Err-answer-clause-told : goal.returns-in-Err-answer-clause-told
 returns-in-Err-answer-clause-told g c = so_error (so_past (so_after c.start_main.ensures.told (rw c.in-Err-answer.is at c.run-answer.ensures.told)) c.end_main-output.ensures.told)

@@ -1,9 +1,9 @@
-use Rattle.std.proofs.Common.{inl, ◌≡◌, cond, ℕ, ◌-◌, ◌<◌, arith, refl, ap, ◌∙◌, sym, subst}
+use Rattle.std.proofs.Common.{◌≡◌, cond, ℕ, ◌-◌, ◌<◌, arith, ap, ◌∙◌, sym, subst}
 use Rattle.mono_rt.specs.Rounds.{PauseEnds}
 use Rattle.mono_rt.proofs.JournalLemmas.{goes_of}
 use Rattle.mono_rt.proofs.RoundLemmas.{does_pass, pass_breaks, pass_broken}
 use Rattle.mono_rt.specs.DriverReadings.{going}
-use Rattle.mono_rt.proofs.DriverLemmas.{telling_on, telling_more, so_by, so_error, still_of}
+use Rattle.mono_rt.proofs.DriverLemmas.{telling_on, telling_more, unfailed, so_done, so_broken, so_error, still_of}
 use Rattle.std.proofs.Common.{true, false}
 use Rattle.std.specs.Prelude.{⊤, Ok, Err}
 use Rattle.mono_rt.specs.Journals.{Does}
@@ -48,16 +48,16 @@ pub returns-in-Err-clause-told : goal.returns-in-Err-clause-told
 returns-in-Err-clause-told g c = so_error (rw c.in-Err.is at c.pause.ensures.told)
 
 pub returns-in-Ok-clause-told : goal.returns-in-Ok-clause-told
-returns-in-Ok-clause-told g c = so_by refl (telling_on {q = going} (still_of (rw c.in-Ok-true.is at c.pause.ensures.told)) c.round.ensures.told)
+returns-in-Ok-clause-told g c = so_done (telling_on {q = going} (still_of (rw c.in-Ok-true.is at c.pause.ensures.told)) c.round.ensures.told)
 
 pub returns-in-Ok-round-clause-told : goal.returns-in-Ok-round-clause-told
-returns-in-Ok-round-clause-told g c = so_by refl (telling_on {q = going} (still_of (rw c.in-Ok-false.is at c.pause.ensures.told)) c.round-in-Ok-false.ensures.told)
+returns-in-Ok-round-clause-told g c = so_done (telling_on {q = going} (still_of (rw c.in-Ok-false.is at c.pause.ensures.told)) c.round-in-Ok-false.ensures.told)
 
 pub returns-in-Err-round-clause-told : goal.returns-in-Err-round-clause-told
-returns-in-Err-round-clause-told g c = so_by (inl refl) (telling_more (λ x e. tt) (telling_on {q = going} (still_of (rw c.in-Ok-true.is at c.pause.ensures.told)) c.round.ensures.told))
+returns-in-Err-round-clause-told g c = so_broken (telling_more unfailed (telling_on {q = going} (still_of (rw c.in-Ok-true.is at c.pause.ensures.told)) c.round.ensures.told))
 
 pub returns-in-Err-round-2-clause-told : goal.returns-in-Err-round-2-clause-told
-returns-in-Err-round-2-clause-told g c = so_by (inl refl) (telling_more (λ x e. tt) (telling_on {q = going} (still_of (rw c.in-Ok-false.is at c.pause.ensures.told)) c.round-in-Ok-false.ensures.told))
+returns-in-Err-round-2-clause-told g c = so_broken (telling_more unfailed (telling_on {q = going} (still_of (rw c.in-Ok-false.is at c.pause.ensures.told)) c.round-in-Ok-false.ensures.told))
 
 pub returns-in-Err-clause-polled : goal.returns-in-Err-clause-polled
 returns-in-Err-clause-polled g c =
@@ -132,6 +132,12 @@ returns-in-Ok-clause-faults g c = c.round.ensures.faults ∙ (rw c.in-Ok-true.is
 
 pub returns-in-Ok-round-clause-faults : goal.returns-in-Ok-round-clause-faults
 returns-in-Ok-round-clause-faults g c = c.round-in-Ok-false.ensures.faults ∙ (rw c.in-Ok-false.is at c.pause.ensures.faults)
+
+pub returns-in-Err-round-clause-faults : goal.returns-in-Err-round-clause-faults
+returns-in-Err-round-clause-faults g c = c.round.ensures.faults ∙ (rw c.in-Ok-true.is at c.pause.ensures.faults)
+
+pub returns-in-Err-round-2-clause-faults : goal.returns-in-Err-round-2-clause-faults
+returns-in-Err-round-2-clause-faults g c = c.round-in-Ok-false.ensures.faults ∙ (rw c.in-Ok-false.is at c.pause.ensures.faults)
 
 pub returns-in-Err-clause-answers : goal.returns-in-Err-clause-answers
 returns-in-Err-clause-answers g c = no_more_by g.F.TaskFuture.gives c.args.self.now.cx c.pause.new.self.cx c.pause.ensures.adds (ap (λ v. v.items) c.pause.ensures.futures)

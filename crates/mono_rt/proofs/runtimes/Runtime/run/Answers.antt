@@ -1,10 +1,10 @@
-use Rattle.std.proofs.Common.{inl, ◌≡◌, refl, true, false, Bool, arith, ap, ◌∙◌, sym, subst}
+use Rattle.std.proofs.Common.{◌≡◌, refl, true, false, Bool, arith, ap, ◌∙◌, sym, subst}
 use Rattle.mono_rt.specs.Rounds.{Rounds}
 use Rattle.mono_rt.proofs.JournalLemmas.{goes_of}
 use Rattle.mono_rt.proofs.RoundLemmas.{does_first, passes_more, ends_done, ends_turns, ends_first, ends_by}
 use Rattle.mono_rt.proofs.runtimes.Runtime.run.Goals.{then-loop-units-test+else-not-has_output, else-loop-units-test}
 use Rattle.mono_rt.specs.DriverReadings.{going}
-use Rattle.mono_rt.proofs.DriverLemmas.{telling_on, telling_more, so_after, so_by, so_error, still_of}
+use Rattle.mono_rt.proofs.DriverLemmas.{telling_on, telling_more, unfailed, so_after, so_done, so_spent, so_broken, so_error, still_of}
 use Rattle.std.specs.Prelude.{⊤, Err}
 use Rattle.mono_rt.specs.Journals.{Does}
 use Rattle.mono_rt.specs.FuturePolls.{Polling}
@@ -77,13 +77,13 @@ pub returns-in-Err-pass-clause-told : goal.returns-in-Err-pass-clause-told
 returns-in-Err-pass-clause-told g c = so_after c.loop-units.invariant.3 (so_error (rw c.in-Err-pass.is at c.pass.ensures.told))
 
 pub returns-then-has_output-clause-told : goal.returns-then-has_output-clause-told
-returns-then-has_output-clause-told g c = so_by refl c.loop-units.invariant.3
+returns-then-has_output-clause-told g c = so_done c.loop-units.invariant.3
 
 pub returns-else-has_output-clause-told : goal.returns-else-has_output-clause-told
-returns-else-has_output-clause-told g c = so_by refl c.loop-units.invariant.3
+returns-else-has_output-clause-told g c = so_spent c.loop-units.invariant.3
 
 pub returns-in-Err-clause-told : goal.returns-in-Err-clause-told
-returns-in-Err-clause-told g c = so_by (inl refl) (telling_more (λ x e. tt) c.round.ensures.told)
+returns-in-Err-clause-told g c = so_broken (telling_more unfailed c.round.ensures.told)
 
 pub returns-in-Err-pass-clause-polled : goal.returns-in-Err-pass-clause-polled
 returns-in-Err-pass-clause-polled g c =
@@ -141,7 +141,7 @@ pub returns-else-has_output-clause-faults : goal.returns-else-has_output-clause-
 returns-else-has_output-clause-faults g c = c.loop-units.invariant.8
 
 pub returns-in-Err-clause-faults : goal.returns-in-Err-clause-faults
-returns-in-Err-clause-faults g c = tt
+returns-in-Err-clause-faults g c = c.round.ensures.faults
 
 pub returns-in-Err-pass-clause-answers : goal.returns-in-Err-pass-clause-answers
 returns-in-Err-pass-clause-answers g c = no_more_on g.F.TaskFuture.gives c.args.self.now.cx c.loop-units.self.cx c.pass.new.self.cx c.loop-units.invariant.9 c.pass.ensures.answers

@@ -1,11 +1,12 @@
 use Rattle.std.proofs.Common.{◌≡◌, true, false, ◌∙◌, sym, subst, refl}
 use Rattle.mono_rt.specs.Journals.{Does}
 use Rattle.mono_rt.specs.Rounds.{Parks}
-use Rattle.mono_rt.proofs.RoundLemmas.{does_parks, does_clocked, park_refused, drain_refused, clock_refused}
-use Rattle.mono_rt.specs.Rounds.{IsPark}
-use Rattle.mono_rt.specs.DriverReadings.{Telling, Still, after_park, after_call}
-use Rattle.mono_rt.proofs.DriverLemmas.{telling_on, telling_more, drained_wait, same_told}
-use Rattle.mono_rt.proofs.FaultLemmas.{rises_before}
+use Rattle.mono_rt.proofs.RoundLemmas.{does_parks, does_clocked, park_refused, drain_refused, clock_refused, wait_whole}
+use Rattle.mono_rt.specs.Rounds.{IsPark, WaitEnds}
+use Rattle.mono_rt.specs.Faults.{FaultsParked}
+use Rattle.mono_rt.specs.DriverReadings.{EndsWaited, after_park, after_call}
+use Rattle.mono_rt.proofs.DriverLemmas.{telling_on, telling_more, drained_wait, same_told, unfailed, broken_parked, broken_waited}
+use Rattle.mono_rt.proofs.FaultLemmas.{rises_before, broken_faults}
 use Rattle.mono_rt.proofs.OutputLemmas.{adds_itself, adds_on}
 use Rattle.mono_rt.proofs.runtimes.Runtime.wait.Goals as goal
 
@@ -16,8 +17,9 @@ returns-else-self-clause-parks g c =
     let parked = c.park.new.journal in
     let drained = c.drain.new.self in
     let none : old.cx.parts.has_timers ≡ false = sym c.drain.ensures.has_timers ∙ c.if-self.false in
-    subst (λ h. Does number (Parks h) old.cx.parts drained.cx.parts old.journal drained.journal) (sym none)
-    (does_parks number old.cx.parts old.cx.parts drained.cx.parts old.journal parked drained.journal (subst (λ h. Does number (IsPark h) old.cx.parts old.cx.parts old.journal parked) none c.in-Ok.ensures.parked) c.in-Ok-drain.ensures.drained)
+    wait_whole number c.in-Ok.failed old.cx.parts.has_timers old.cx.parts drained.cx.parts old.journal drained.journal
+    (subst (λ h. Does number (Parks h) old.cx.parts drained.cx.parts old.journal drained.journal) (sym none)
+    (does_parks number old.cx.parts old.cx.parts drained.cx.parts old.journal parked drained.journal (subst (λ h. Does number (IsPark h) old.cx.parts old.cx.parts old.journal parked) none c.in-Ok.ensures.parked) c.in-Ok-drain.ensures.drained))
 
 pub returns-in-Ok-clock_step-clause-parks : goal.returns-in-Ok-clock_step-clause-parks
 returns-in-Ok-clock_step-clause-parks g c =
@@ -28,9 +30,10 @@ returns-in-Ok-clock_step-clause-parks g c =
     let left = c.clock_step.new.self in
     let last = c.clock_step.new.journal in
     let timers : old.cx.parts.has_timers ≡ true = sym c.drain.ensures.has_timers ∙ c.if-self.true in
-    subst (λ h. Does number (Parks h) old.cx.parts left old.journal last) (sym timers)
+    wait_whole number c.in-Ok.failed old.cx.parts.has_timers old.cx.parts left old.journal last
+    (subst (λ h. Does number (Parks h) old.cx.parts left old.journal last) (sym timers)
     (does_clocked number old.cx.parts old.cx.parts drained.cx.parts left old.journal parked drained.journal last
-    (subst (λ h. Does number (IsPark h) old.cx.parts old.cx.parts old.journal parked) timers c.in-Ok.ensures.parked) c.in-Ok-drain.ensures.drained c.in-Ok-clock_step.ensures.clocked)
+    (subst (λ h. Does number (IsPark h) old.cx.parts old.cx.parts old.journal parked) timers c.in-Ok.ensures.parked) c.in-Ok-drain.ensures.drained c.in-Ok-clock_step.ensures.clocked))
 
 pub returns-in-Err-clause-parks : goal.returns-in-Err-clause-parks
 returns-in-Err-clause-parks g c =
@@ -41,14 +44,16 @@ pub returns-in-Err-drain-clause-parks : goal.returns-in-Err-drain-clause-parks
 returns-in-Err-drain-clause-parks g c =
     let old = c.args.self.now in
     let drained = c.drain.new.self in
-    drain_refused g.O.Outcome.output_number old.cx.parts.has_timers old.cx.parts old.cx.parts drained.cx.parts old.journal c.park.new.journal drained.journal c.in-Ok.ensures.parked c.in-Err-drain.ensures.refused
+    subst (λ r. Does g.O.Outcome.output_number (WaitEnds old.cx.parts.has_timers r) old.cx.parts drained.cx.parts old.journal drained.journal) (sym c.out_of_memory_after.ensures)
+    (drain_refused g.O.Outcome.output_number c.in-Ok.failed old.cx.parts.has_timers old.cx.parts old.cx.parts drained.cx.parts old.journal c.park.new.journal drained.journal c.in-Ok.ensures.parked c.in-Err-drain.ensures.refused)
 
 pub returns-in-Err-clock_step-clause-parks : goal.returns-in-Err-clock_step-clause-parks
 returns-in-Err-clock_step-clause-parks g c =
     let old = c.args.self.now in
     let drained = c.drain.new.self in
-    clock_refused g.O.Outcome.output_number old.cx.parts.has_timers old.cx.parts old.cx.parts drained.cx.parts c.clock_step.new.self old.journal c.park.new.journal drained.journal c.clock_step.new.journal
-    (sym c.drain.ensures.has_timers ∙ c.if-self.true) c.in-Ok.ensures.parked c.in-Ok-drain.ensures.drained c.in-Err-clock_step.ensures.undone
+    subst (λ r. Does g.O.Outcome.output_number (WaitEnds old.cx.parts.has_timers r) old.cx.parts c.clock_step.new.self old.journal c.clock_step.new.journal) (sym c.out_of_memory_after-in-Err-clock_step.ensures)
+    (clock_refused g.O.Outcome.output_number c.in-Ok.failed old.cx.parts.has_timers old.cx.parts old.cx.parts drained.cx.parts c.clock_step.new.self old.journal c.park.new.journal drained.journal c.clock_step.new.journal
+    (sym c.drain.ensures.has_timers ∙ c.if-self.true) c.in-Ok.ensures.parked c.in-Ok-drain.ensures.drained c.in-Err-clock_step.ensures.undone)
 
 pub returns-else-self-clause-told : goal.returns-else-self-clause-told
 returns-else-self-clause-told g c =
@@ -61,17 +66,30 @@ returns-in-Ok-clock_step-clause-told g c =
     telling_on {q = after_call failed} (telling_on {q = after_park failed} c.in-Ok.ensures.told (c.in-Ok-drain.ensures.told _ _ (after_park failed) (after_call failed) (drained_wait failed _ _ (same_told g.D.Clock.readings g.D.Clock.time g.D.Clock.parks g.D.Clock.submits g.D.Clock.faults g.D.Clock.can_fail c.drain.ensures.driver)))) (c.clock_step.ensures.told (after_call failed))
 
 pub returns-in-Err-clause-told : goal.returns-in-Err-clause-told
-returns-in-Err-clause-told g c = telling_more (λ x e. tt) c.park.ensures.told
+returns-in-Err-clause-told g c = telling_more unfailed c.in-Err.ensures.told
 
 pub returns-in-Err-drain-clause-told : goal.returns-in-Err-drain-clause-told
 returns-in-Err-drain-clause-told g c =
     let failed = c.in-Ok.failed in
-    telling_more (λ x e. tt) (telling_on {q = after_park failed} c.in-Ok.ensures.told (c.in-Err-drain.ensures.told _ _ (after_park failed) (after_park failed) (same_told g.D.Clock.readings g.D.Clock.time g.D.Clock.parks g.D.Clock.submits g.D.Clock.faults g.D.Clock.can_fail c.drain.ensures.driver, refl)))
+    telling_more (λ x e. subst (λ r. EndsWaited r x) (sym c.out_of_memory_after.ensures) (broken_parked failed x e)) (telling_on {q = after_park failed} c.in-Ok.ensures.told (c.in-Err-drain.ensures.told _ _ (after_park failed) (after_park failed) (same_told g.D.Clock.readings g.D.Clock.time g.D.Clock.parks g.D.Clock.submits g.D.Clock.faults g.D.Clock.can_fail c.drain.ensures.driver, refl)))
 
 pub returns-in-Err-clock_step-clause-told : goal.returns-in-Err-clock_step-clause-told
 returns-in-Err-clock_step-clause-told g c =
     let failed = c.in-Ok.failed in
-    telling_more (λ x e. tt) (telling_on {q = after_call failed} (telling_on {q = after_park failed} c.in-Ok.ensures.told (c.in-Ok-drain.ensures.told _ _ (after_park failed) (after_call failed) (drained_wait failed _ _ (same_told g.D.Clock.readings g.D.Clock.time g.D.Clock.parks g.D.Clock.submits g.D.Clock.faults g.D.Clock.can_fail c.drain.ensures.driver)))) (c.clock_step.ensures.told (after_call failed)))
+    telling_more (λ x e. subst (λ r. EndsWaited r x) (sym c.out_of_memory_after-in-Err-clock_step.ensures) (broken_waited failed x e)) (telling_on {q = after_call failed} (telling_on {q = after_park failed} c.in-Ok.ensures.told (c.in-Ok-drain.ensures.told _ _ (after_park failed) (after_call failed) (drained_wait failed _ _ (same_told g.D.Clock.readings g.D.Clock.time g.D.Clock.parks g.D.Clock.submits g.D.Clock.faults g.D.Clock.can_fail c.drain.ensures.driver)))) (c.clock_step.ensures.told (after_call failed)))
+
+pub returns-in-Err-clause-faults : goal.returns-in-Err-clause-faults
+returns-in-Err-clause-faults g c = c.in-Err.ensures.faults
+
+pub returns-in-Err-drain-clause-faults : goal.returns-in-Err-drain-clause-faults
+returns-in-Err-drain-clause-faults g c =
+    subst (λ r. FaultsParked r (g.D.Clock.faults c.args.self.now.driver) (g.D.Clock.faults c.drain.new.self.driver)) (sym c.out_of_memory_after.ensures)
+    (broken_faults c.in-Ok.failed _ _ (rises_before c.in-Ok.failed _ _ _ c.in-Ok.ensures.faults c.drain.ensures.faults))
+
+pub returns-in-Err-clock_step-clause-faults : goal.returns-in-Err-clock_step-clause-faults
+returns-in-Err-clock_step-clause-faults g c =
+    subst (λ r. FaultsParked r (g.D.Clock.faults c.args.self.now.driver) (g.D.Clock.faults c.clock_step.new.driver)) (sym c.out_of_memory_after-in-Err-clock_step.ensures)
+    (broken_faults c.in-Ok.failed _ _ (rises_before c.in-Ok.failed _ _ _ c.in-Ok.ensures.faults (c.clock_step.ensures.faults ∙ c.drain.ensures.faults)))
 
 pub returns-else-self-clause-faults : goal.returns-else-self-clause-faults
 returns-else-self-clause-faults g c = rises_before c.in-Ok.failed _ _ _ c.in-Ok.ensures.faults c.drain.ensures.faults
