@@ -189,7 +189,8 @@ const NO_TASK: Limits = Limits {
     sleeps: 16,
 };
 
-/// Returns whether a main task that is refused as at capacity is dropped: its output then has no other holder.
+/// Returns whether a main task that is refused as at capacity is dropped, so that its output has no other holder, and
+/// the refusal is the journal's one entry.
 fn lets_the_refused_go<R: Host + Abort>(rt: &R, alloc: Global, output: &Rc<u64, Global>) -> bool {
     let theirs = Work::Ready(output.clone().expect(rt, "memory"));
     let pool = BlockingHandle::Empty(BlockingStrategy::Panic);
@@ -197,8 +198,9 @@ fn lets_the_refused_go<R: Host + Abort>(rt: &R, alloc: Global, output: &Rc<u64, 
     let mut runtime: Quiet = a_runtime(rt, alloc, driver, pool, NO_TASK, true);
     let answer = outcome_of(rt, alloc, &mut runtime, theirs, 3);
     let owners = Rc::strong_count(output);
+    let is_kept = runtime.journal().len() == 1 && !runtime.journal().is_full();
     let has_no_pool = runtime.into_pool().is_none();
-    has_no_pool & (answer == Err(RunError::AtCapacity)) & (owners == 1)
+    has_no_pool & is_kept & (answer == Err(RunError::AtCapacity)) & (owners == 1)
 }
 
 /// Returns how long a park was, at this place of the journal.
