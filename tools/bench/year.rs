@@ -5,8 +5,9 @@
 
 use std::collections::{BTreeMap, BTreeSet, HashMap, VecDeque};
 
-const MOST: usize = 900;
-const LAST: u64 = 1000;
+const MOST: usize = 12000;
+const ENTRIES: usize = 18000;
+const LAST: u64 = 13200;
 const BUCKETS: u64 = 100;
 const HANDLES: u64 = 100;
 const LAST_TICK: u64 = (1 << 63) - 1;
@@ -136,7 +137,7 @@ impl Sessions {
     }
 
     fn acquire(&mut self, session: u64, key: u64) -> u64 {
-        if self.entries >= MOST {
+        if self.entries >= ENTRIES {
             return 1;
         }
         let Some((_, _, keys)) = self.open.get_mut(&session) else {
@@ -595,6 +596,8 @@ struct Server {
     tasks: Tasks,
     jobs: Jobs,
     rows: [Row; 5],
+    rushes: u64,
+    calm: u64,
     events: u64,
     hash: u64,
     closed: u64,
@@ -619,6 +622,8 @@ impl Server {
             tasks: Tasks::default(),
             jobs: Jobs::default(),
             rows: [Row::new(), Row::new(), Row::new(), Row::new(), Row::new()],
+            rushes: 0,
+            calm: 0,
             events: 0,
             hash: 0,
             closed: 0,
@@ -632,7 +637,6 @@ impl Server {
         }
         let made = (server.sessions.open(1 << 60), server.limiter.retry(1, 1, 1), server.actors.spawn());
         assert_eq!(made, (Ok(0), Ok(0), Ok(0)));
-        server.fill();
         server
     }
 
@@ -666,14 +670,18 @@ impl Server {
         }
     }
 
-    /// All clients come at the start.
+    /// All clients come. These calls are no events. Some pauses later the clock jumps by the most.
     fn fill(&mut self) {
-        for _ in 0..LAST {
-            for kind in [0, 12, 20] {
+        let events = self.events;
+        for _ in 0..2 * LAST {
+            for kind in [0, 9, 9, 12, 13, 20, 21, 22] {
                 let answer = self.call(kind);
                 self.note(answer);
             }
         }
+        self.events = events;
+        self.rushes += 1;
+        self.calm = 64;
     }
 
     fn call(&mut self, kind: u64) -> u64 {
@@ -755,7 +763,7 @@ impl Server {
             }
             21 => {
                 let actor = self.pick(CROWD);
-                let limit = self.below(1 << 17);
+                let limit = self.below(1 << 22);
                 self.actors.timeout(actor, limit)
             }
             22..=26 => {
@@ -846,6 +854,11 @@ impl Server {
     }
 
     fn pause(&mut self) -> u64 {
+        let calm = self.calm;
+        self.calm = calm.saturating_sub(1);
+        if calm == 1 {
+            return 1 << 26;
+        }
         if self.below(2) == 0 {
             return 0;
         }
@@ -858,6 +871,10 @@ impl Server {
 
     /// The calls of a turn of the main task.
     fn serve(&mut self, me: u64, events: u64) {
+        let is_drawn = self.below(1 << 16) == 0;
+        if is_drawn || (self.rushes < 4 && self.calm == 0) {
+            self.fill();
+        }
         let calls = if self.below(64) == 0 { 1000 } else { self.below(16) };
         for _ in 0..calls {
             let kind = self.below(32);

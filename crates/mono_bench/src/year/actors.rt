@@ -21,7 +21,7 @@ impl Desk {
             20 => self.spawn(alloc),
             21 => {
                 let actor = self.pick(self.crowd);
-                let limit = self.below(1 << 17);
+                let limit = self.below(1 << 22);
                 match self.actors.timeout(actor, limit) {
                     Ok(()) => 16,
                     Err(error) => actor_code(error),

@@ -10,11 +10,14 @@ use mono_session::{SessionError, Sessions};
 use mono_shared::SharedState;
 use std::alloc::Global;
 
-/// How many sessions, entries, retries, actors and messages there are at most.
-const MOST: u64 = 900;
+/// How many sessions, retries, actors and messages there are at most.
+const MOST: u64 = 12000;
+
+/// How many entries there are at most.
+const ENTRIES: u64 = 18000;
 
 /// How many numbers of a service are given out before its oldest one is ended.
-pub const LAST: u64 = 1000;
+pub const LAST: u64 = 13200;
 
 /// How many buckets there are.
 const BUCKETS: u64 = 100;
@@ -49,6 +52,10 @@ pub struct Desk {
     pub crowd: Row,
     pub tasks: Row,
     pub jobs: Row,
+    /// How often all clients came.
+    pub rushes: u64,
+    /// How many more pauses there are up to the widest jump of the clock, or 0 after it.
+    pub calm: u64,
 }
 
 /// Any call may have been made.
@@ -71,7 +78,7 @@ fn done_code(answer: Result<(), SessionError>) -> u64 {
 impl Desk {
     /// Returns the services at the clock's zero, and a generator of this seed.
     pub fn new(alloc: Global, seed: u64) -> Option<Desk> {
-        let sessions = Sessions::new(alloc, MOST, MOST).ok()?;
+        let sessions = Sessions::new(alloc, MOST, ENTRIES).ok()?;
         let limiter = Limiter::new(alloc, BUCKETS, MOST).ok()?;
         let actors = Actors::new(alloc, MOST, MOST).ok()?;
         Some(Desk {
@@ -92,11 +99,13 @@ impl Desk {
             crowd: Row::new(),
             tasks: Row::new(),
             jobs: Row::new(),
+            rushes: 0,
+            calm: 0,
         })
     }
 
-    /// Makes the buckets, the session, the retry and the actor that live from the start to the end, and then those of the
-    /// clients, who all come at the start. Returns whether the former were made.
+    /// Makes the buckets, the session, the retry and the actor that live from the start to the end. Returns whether they
+    /// were made.
     pub fn begin(&mut self, alloc: Global) -> bool {
         let mut are_made = true;
         for i in 0..BUCKETS {
@@ -107,17 +116,26 @@ impl Desk {
         let session = self.sessions.open(alloc, 1 << 60);
         let retry = self.limiter.retry(alloc, 1, 1, 1);
         let actor = self.actors.spawn(alloc);
-        self.fill(alloc);
         are_made && session.is_ok() && retry.is_ok() && actor.is_ok()
     }
 
-    // Makes sessions, retries and actors until each service has as many as it keeps.
+    // Makes calls until each service has as much as it keeps: all clients come. These calls are no events. 64 pauses later
+    // the clock jumps by the most.
     fn fill(&mut self, alloc: Global) {
-        for _ in 0..LAST {
+        let events = self.tally.events;
+        for _ in 0..2 * LAST {
             self.do_call(alloc, 0);
+            self.do_call(alloc, 9);
+            self.do_call(alloc, 9);
             self.do_call(alloc, 12);
+            self.do_call(alloc, 13);
             self.do_call(alloc, 20);
+            self.do_call(alloc, 21);
+            self.do_call(alloc, 22);
         }
+        self.tally.events = events;
+        self.rushes = self.rushes.saturating_add(1);
+        self.calm = 64;
     }
 
     /// Returns a number below `end`, or 0 if that is 0.
@@ -131,8 +149,18 @@ impl Desk {
         self.tally.hash = join(self.tally.hash, answer);
     }
 
-    /// Makes some calls: mostly a few, and at times a burst.
+    // Returns whether all clients come now: four times in the first hour, each after the jump of the time before, and later
+    // about once a week.
+    fn is_rush(&mut self) -> bool {
+        let is_drawn = self.below(1 << 16) == 0;
+        is_drawn || (self.rushes < 4 && self.calm == 0)
+    }
+
+    /// Makes some calls: mostly a few, at times a burst, and before them those of all clients if they come now.
     pub fn serve(&mut self, alloc: Global) {
+        if self.is_rush() {
+            self.fill(alloc);
+        }
         let calls = if self.below(64) == 0 {
             1000
         } else {

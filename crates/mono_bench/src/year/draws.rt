@@ -88,8 +88,13 @@ impl Desk {
     }
 
     /// Draws how many milliseconds the clock goes on: often none, mostly up to a second, at times up to four minutes or
-    /// eighteen hours.
+    /// eighteen hours. The last one that a rush counts has eighteen hours.
     pub fn draw_pause(&mut self) -> u64 {
+        let calm = self.calm;
+        self.calm = calm.saturating_sub(1);
+        if calm == 1 {
+            return 1 << 26;
+        }
         if self.below(2) == 0 {
             return 0;
         }
