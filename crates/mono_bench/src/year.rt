@@ -24,8 +24,8 @@ use work::Work;
 /// The words of this workload, and its description.
 pub const HELP: &str = "  year EVENTS SEED
     So many calls on sessions, a limiter, actors, tasks and jobs of one runtime, drawn from the seed. Its clock stands
-    still, goes on, and at times jumps ahead. At times all clients come, whose calls are no events. Printed are counts and a hash of all answers in their order: after an hour
-    (a part in 8,760 of the events), after a month, and at the end.";
+    still, goes on, and at times jumps ahead. At times all clients come, whose calls are no events. Printed are counts and
+    a hash of all answers in their order: after an hour (a part in 8,760 of the events), after a month, and at the end.";
 
 type Running = Runtime<Work, u64, TimeDriver<StepDriver>, DefaultThreadPool<Gives>, Desk>;
 
