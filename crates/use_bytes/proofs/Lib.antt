@@ -1,0 +1,16 @@
+pub mod NumberTextLemmas
+pub mod OutputLemmas
+pub mod LineLemmas
+pub mod ReplayLemmas
+pub mod CheckLemmas
+pub mod WrongCheckLemmas
+pub mod RunLemmas
+pub mod LoadLemmas
+pub mod SleepingLoadLemmas
+pub mod SessionLemmas
+pub mod LimiterLemmas
+pub mod ActorLemmas
+pub mod NoCommandLemmas
+pub mod BadLineLemmas
+pub mod SpentRunLemmas
+pub mod FinishedRunLemmas
