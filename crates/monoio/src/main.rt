@@ -1,10 +1,15 @@
 //! The program: reads standard input and writes standard output, by the words after its name.
 #![tactic(auto)]
 
+ghost use Rattle.std.specs.Prelude.{◌≡◌, ◌≢◌, ◌⊎◌, IfNone, IfSome, map, string_bytes};
+ghost use Rattle.std.specs.IoError.{error_kind};
+ghost use Rattle.std.specs.declared.io.ErrorKind.TheVariants.{OutOfMemory};
+ghost use Rattle.monoio.specs.Pages.{AsksForPage, AsksNothing};
+
 mod help;
 mod pages;
 
-use help::{VERSION, help_of, is_only};
+use help::write_page;
 use mono_script::{
     Ended, FollowedCommand, Status, StdinSource, StdoutSink, SystemClock, ThreadSpawner,
     call_words, complaint, exit_code, explained, failure_sentence, follow_command, joins_workers,
@@ -59,17 +64,6 @@ fn tell_unwritten(rt: &HostRuntime, error: Option<&io::Error>) {
             rt,
             system_text(rt.alloc(), "standard output can't be written", error),
         );
-    }
-}
-
-// Returns the status after a text was shown.
-fn shown(rt: &HostRuntime, text: &str) -> u8 {
-    match println!(rt; "{text}") {
-        Ok(()) => Status::Done.code(),
-        Err(error) => {
-            tell_unwritten(rt, Some(&error));
-            Status::WriteFault.code()
-        }
     }
 }
 
@@ -138,15 +132,18 @@ fn tell_status(
     }
 }
 
-// Returns the status after the help or the version was shown, or None if the words ask for neither.
-fn shown_of(rt: &HostRuntime, words: &Vec<String>) -> Option<u8> {
-    if let Some(page) = help_of(words) {
-        return Some(shown(rt, page));
+// Shows the page for which the words ask, and returns the status: 0, or 5 if a write failed. It returns None if they ask
+// for none.
+fn shown_of(rt: &HostRuntime, words: &Vec<String>) -> Option<u8>
+    ensures some { IfSome result (λ code. AsksForPage (map string_bytes words.now.items) × ((code ≡ 0) ⊎ (code ≡ 5))) }
+    ensures none { IfNone result (AsksNothing (map string_bytes words.now.items)) }
+{
+    let mut sink = StdoutSink::new(rt.stdout());
+    let status = write_page(&mut sink, words)?;
+    if status == Status::WriteFault {
+        tell_unwritten(rt, sink.error());
     }
-    if is_only(words, "--version") {
-        return Some(shown(rt, VERSION));
-    }
-    None
+    Some(status.code())
 }
 
 // Returns the first of the words, or an empty one if there is none.
@@ -171,8 +168,11 @@ fn tell_end(
     }
 }
 
-// Returns the status if the words cannot be read.
-fn unread(rt: &HostRuntime, error: &io::Error) -> u8 {
+// Prints that the words cannot be read, and returns the status: 6 if memory ran out, else 2.
+fn unread(rt: &HostRuntime, error: &io::Error) -> u8
+    ensures memory { error_kind error.now ≡ OutOfMemory → result ≡ 6 }
+    ensures other { error_kind error.now ≢ OutOfMemory → result ≡ 2 }
+{
     say(
         rt,
         format!(in rt.alloc(); "the words can't be read: {error}"),

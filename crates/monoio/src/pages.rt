@@ -1,4 +1,43 @@
-// The texts of `monoio COMMAND --help`.
+// The pages that the program shows, and their texts.
+ghost use Rattle.std.specs.Prelude.{◌≡◌, Some, IfNone, IfSome};
+ghost use Rattle.monoio.specs.Pages.{topic_name, page_text, NamesNoTopic};
+
+const HELP: &str = "usage:
+  monoio replay STRATEGY TASKS JOBS SLEEPS
+      replays the event lines of standard input and writes a report line for each
+      STRATEGY: attached, local or panic; TASKS, JOBS, SLEEPS: limits, numbers below 2^64
+  monoio run WORKERS TURNS
+      runs the script of standard input, and writes the journal of what was done
+      WORKERS: threads for blocking jobs, at most 64, and with 0 time is only counted; TURNS: at most 65536
+  monoio load SEED COUNT
+      replays a long input that the seed gives, and writes one line that sums up its reports
+      SEED: a number below 2^64; COUNT: at most 100000
+  monoio sessions SESSIONS ENTRIES
+      reads lines that say calls on sessions and locks, and writes the answer of each
+      SESSIONS: how many may be open; ENTRIES: how many may stand in all queues; numbers below 2^64
+  monoio limiter BUCKETS RETRIES
+      answers lines that make and use token buckets and retries, a line for each
+      BUCKETS, RETRIES: limits, numbers below 2^64
+  monoio actors ACTORS MESSAGES
+      makes the calls on actors that the lines of standard input say, and writes a line of answers for each
+      ACTORS, MESSAGES: limits, numbers below 2^64
+  monoio check STRATEGY TASKS JOBS SLEEPS
+      reads a journal, event lines with their report lines, and writes yes where it is a run of the machine,
+      or no and the number of the first line that no step allows, or that is out of order or missing
+  monoio COMMAND --follow WORD ..
+      answers each line as soon as it was read, up to the first bad one; of replay, sessions, limiter and actors
+  monoio --help, -h or help
+  monoio COMMAND --help, or help COMMAND
+      shows the command's words, the form of each line that it reads and writes, its statuses and an example
+  monoio --version
+event lines begin with: spawn, wake, sleep, reset, drop-sleep, elapsed, drop-join, finished, block, drop-job, job-finished,
+      job-end, turn, clock, remote, drain; in a turn also poll, join, job, pending, ready
+example: printf 'spawn\\nturn; sleep 5000000; poll 0; pending\\nclock 5000000\\n' | monoio replay attached 16 16 16
+exit status: 0 done, 2 no such command, 3 a bad line, 4 a read failed, 5 a write failed, 6 out of memory,
+      7 more than 16777216 bytes of input (with --follow, of a line), 8 a run had no turn left,
+      10 no place for a run's main task, 11 a journal that is no run\n";
+
+const VERSION: &str = "monoio 0.1.0, after the crate monoio 0.2.4\n";
 
 const REPLAY: &str = "usage: monoio replay [--follow] STRATEGY TASKS JOBS SLEEPS < EVENTS
   applies the events of standard input to an executor, and writes a report line for each
@@ -32,7 +71,7 @@ steps of a turn are the lines from spawn to job-end, and these:
 a refusal is: refused idle, no-task, no-timer, no-handle, taken, at-capacity, invalid, no-pool or ended
 exit status: 0 done, 2 other words, 3 a bad line, 4 a read failed, 5 a write failed, 6 out of memory,
   7 more than 16777216 bytes of input (with --follow, of a line)
-example: printf 'spawn\\nturn; sleep 5000000; poll 0; pending\\nclock 5000000\\n' | monoio replay attached 16 16 16";
+example: printf 'spawn\\nturn; sleep 5000000; poll 0; pending\\nclock 5000000\\n' | monoio replay attached 16 16 16\n";
 
 const RUN: &str = "usage: monoio run WORKERS TURNS < SCRIPT
   runs the script of standard input on a runtime, and writes the journal of what was done
@@ -59,7 +98,7 @@ the journal has these lines:
   main OUTPUT               the output of the main task
 exit status: 0 done, 2 other words, 3 a bad line, 4 a read failed, 5 a write failed, 6 out of memory,
   7 more than 16777216 bytes of input, 8 no turn was left, 10 no place for the main task
-example: printf 'limits 16 16 16\\ntask\\nawait-sleep 5000000\\ndone 5\\n' | monoio run 0 100";
+example: printf 'limits 16 16 16\\ntask\\nawait-sleep 5000000\\ndone 5\\n' | monoio run 0 100\n";
 
 const LOAD: &str = "usage: monoio load SEED COUNT
   replays tasks with a sleep each, whose lengths the seed gives, and reads nothing
@@ -69,7 +108,7 @@ words:
 it writes one line:
   events E fired F refused R order X    the events, the sleeps that fired, the refusals, and a sum of the order of firing
 exit status: 0 done, 2 other words, 5 a write failed, 6 out of memory
-example: monoio load 7 1000";
+example: monoio load 7 1000\n";
 
 const SESSIONS: &str = "usage: monoio sessions [--follow] SESSIONS ENTRIES < CALLS
   answers calls on sessions, which are kept open by heartbeats, and on the locks for which they queue
@@ -88,7 +127,7 @@ lines, and their answers; SESSION, KEY and MILLIS are below 2^64, NANOS below 2^
 a refusal is: refused at-capacity, invalid, no-session, zero-limit, doubled or not-in
 exit status: 0 done, 2 other words, 3 a bad line, 4 a read failed, 5 a write failed, 6 out of memory,
   7 more than 16777216 bytes of input (with --follow, of a line)
-example: printf 'open 5\\nacquire 0 1\\nowner 1\\nclock 6000000\\n' | monoio sessions 16 16";
+example: printf 'open 5\\nacquire 0 1\\nowner 1\\nclock 6000000\\n' | monoio sessions 16 16\n";
 
 const LIMITER: &str = "usage: monoio limiter [--follow] BUCKETS RETRIES < CALLS
   answers calls on token buckets and on retries with exponential backoff
@@ -106,7 +145,7 @@ lines, and their answers; the numbers are below 2^64, NANOS below 2^128; a tick 
 a refusal is: refused at-capacity, invalid, bad-bucket, too-many, waiting, bad-retry, no-bucket or no-retry
 exit status: 0 done, 2 other words, 3 a bad line, 4 a read failed, 5 a write failed, 6 out of memory,
   7 more than 16777216 bytes of input (with --follow, of a line)
-example: printf 'bucket 2 10\\ntake 0 2\\ntake 0 1\\nclock 10000000\\ntake 0 1\\n' | monoio limiter 16 16";
+example: printf 'bucket 2 10\\ntake 0 2\\ntake 0 1\\nclock 10000000\\ntake 0 1\\n' | monoio limiter 16 16\n";
 
 const ACTORS: &str = "usage: monoio actors [--follow] ACTORS MESSAGES < CALLS
   answers calls on actors with mailboxes and receive timeouts
@@ -124,7 +163,7 @@ lines, and their answers; the numbers are below 2^64, NANOS below 2^128:
 a turn has any number of sends; a refusal is: refused idle, at-capacity, no-actor or invalid
 exit status: 0 done, 2 other words, 3 a bad line, 4 a read failed, 5 a write failed, 6 out of memory,
   7 more than 16777216 bytes of input (with --follow, of a line)
-example: printf 'actor\\nactor\\nsend 0 1 7\\nturn; send 0 8; stay\\n' | monoio actors 16 16";
+example: printf 'actor\\nactor\\nsend 0 1 7\\nturn; send 0 8; stay\\n' | monoio actors 16 16\n";
 
 const CHECK: &str = "usage: monoio check STRATEGY TASKS JOBS SLEEPS < JOURNAL
   reads a journal and writes yes if it is a run of the machine with its lines in order, else no and a line
@@ -144,18 +183,61 @@ with now, park or main it is the journal of one whole run: up to the drop of the
 exit status: 0 it is a run, 2 other words, 3 a bad line, 4 a read failed, 5 a write failed, 6 out of memory,
   7 more than 16777216 bytes of input, 11 it is no run
 example: monoio run 0 100 < SCRIPT | monoio check attached 16 16 16
-  of a journal that run wrote: STRATEGY is attached, and the limits are those of the script's first line";
+  of a journal that run wrote: STRATEGY is attached, and the limits are those of the script's first line\n";
 
-/// Returns the text of a command's help, or None if the word names no command.
-pub(crate) fn page_of(command: &str) -> Option<&'static str> {
-    match command {
-        "replay" => Some(REPLAY),
-        "run" => Some(RUN),
-        "load" => Some(LOAD),
-        "sessions" => Some(SESSIONS),
-        "limiter" => Some(LIMITER),
-        "actors" => Some(ACTORS),
-        "check" => Some(CHECK),
+/// A command that has a page.
+#[derive(Clone, Copy, Debug, PartialEq, Eq)]
+pub(crate) enum Topic {
+    Replay,
+    Run,
+    Load,
+    Sessions,
+    Limiter,
+    Actors,
+    Check,
+}
+
+/// A page.
+#[derive(Clone, Copy, Debug, PartialEq, Eq)]
+pub(crate) enum Page {
+    /// The general help.
+    General,
+    /// The version.
+    Version,
+    /// The help of a command.
+    About(Topic),
+}
+
+/// Returns the command of this name.
+pub(crate) fn topic_of(name: &str) -> Option<Topic>
+    ensures some { IfSome result (λ topic. name.now ≡ topic_name topic) }
+    ensures none { IfNone result (NamesNoTopic name.now) }
+{
+    match name {
+        "replay" => Some(Topic::Replay),
+        "run" => Some(Topic::Run),
+        "load" => Some(Topic::Load),
+        "sessions" => Some(Topic::Sessions),
+        "limiter" => Some(Topic::Limiter),
+        "actors" => Some(Topic::Actors),
+        "check" => Some(Topic::Check),
         _ => None,
+    }
+}
+
+/// Returns the text of a page.
+pub(crate) fn text_of(page: Page) -> &'static str
+    ensures { result.now ≡ page_text page }
+{
+    match page {
+        Page::General => HELP,
+        Page::Version => VERSION,
+        Page::About(Topic::Replay) => REPLAY,
+        Page::About(Topic::Run) => RUN,
+        Page::About(Topic::Load) => LOAD,
+        Page::About(Topic::Sessions) => SESSIONS,
+        Page::About(Topic::Limiter) => LIMITER,
+        Page::About(Topic::Actors) => ACTORS,
+        Page::About(Topic::Check) => CHECK,
     }
 }
