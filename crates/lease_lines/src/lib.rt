@@ -1,0 +1,10 @@
+//! The text of requests to the lease server, and of its replies.
+#![tactic(auto)]
+
+mod calls;
+mod causes;
+mod replies;
+mod requests;
+
+pub use replies::{put_bad, put_replies, put_reply};
+pub use requests::request_of;

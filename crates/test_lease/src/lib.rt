@@ -1,0 +1,7 @@
+//! Tests of the core and the lines of the lease server, over their public calls.
+#![tactic(auto)]
+
+#[cfg(test)]
+mod cores;
+#[cfg(test)]
+mod lines;
