@@ -18,6 +18,9 @@
 #   make bench       measures the programs next to plain Rust programs, which rustc builds, and prints the tables of
 #                    docs/PERFORMANCE.md
 #   make planted     tries the mutants of crates/*/planted on a copy (CRATE=name: of one crate)
+#   make server      proves and builds the lease server, runs it on two cores with a generated load for ten seconds, checks
+#                    each reply, and then does so under faults
+#   make server-bench measures the lease server beside the same server on tokio; needs cargo and librust-tokio-dev
 #   make gate-times  the gate from nothing, with the processor seconds of each crate
 
 WORDS = replay attached 16 16 16
@@ -27,7 +30,7 @@ SECONDS = 60
 SIZE =
 EVENTS = 100000000
 
-.PHONY: help run build has-rt has-rustc test examples pages soak soak-threads year try bench planted gate-times
+.PHONY: help run build has-rt has-rustc test examples pages soak soak-threads year try bench planted gate-times server server-bench
 
 help:
 	@sed -n 's/^#   //p' Makefile
@@ -93,3 +96,17 @@ planted: has-rt
 
 gate-times: has-rt
 	python3 tools/gate_times.py
+
+# The program of the server, kept as bin/lease_server.
+bin/lease_server: has-rt
+	@mkdir -p bin
+	cd crates/lease_server && rt run -- 1 10 10 10 10 10 still < stdin > /dev/null
+	@cp crates/lease_server/out/lease_server bin/lease_server
+
+server: bin/lease_server
+	python3 tools/server/run.py bin/lease_server 10
+	python3 tools/server/faults.py bin/lease_server
+
+server-bench: bin/lease_server
+	tools/server/build_peer.sh bin
+	python3 tools/server/figures.py bin/lease_server bin/lease_peer

@@ -1,0 +1,215 @@
+// The threads of the server: a router, a writer, and a runtime for each core.
+ghost use Rattle.std.specs.Prelude.{◌≡◌, IfOk, length};
+
+use crate::clocks::CoreClock;
+use crate::cores::{CoreEnds, CoreTask};
+use crate::router::{Lane, Router, RouterEnds};
+use crate::status::{self, code, worse};
+use crate::words::Settings;
+use crate::writer::Writer;
+use lease_core::Core;
+use mono_channel::{Receiver, Sender, channel};
+use mono_rt::{Host, NoPool, SystemClock, ThreadDriver, TimeDriver, UnparkHandle, start};
+use mono_text::{Sink, Source};
+use std::alloc::{AllocError, Global};
+use std::thread::{self, JoinHandle};
+
+// The places of each channel: batches of requests, and texts of replies.
+const PLACES: usize = 16;
+
+// The bytes that are read at a time.
+const BLOCK: usize = 65536;
+
+// Runs the task of a core on a runtime of this thread.
+fn run_core<R: Host + Copy>(
+    rt: R,
+    alloc: Global,
+    number: u64,
+    settings: &Settings,
+    ends: &mut CoreEnds,
+) -> u64 {
+    let driver = ThreadDriver::new(alloc, CoreClock::new(rt, settings.is_still));
+    match (Core::new(alloc, &settings.sizes), driver) {
+        (Ok(core), Ok(driver)) => {
+            let task = CoreTask::new(core, number, ends);
+            let driver = TimeDriver::new(driver);
+            start::<_, _, _, NoPool, R>(&rt, alloc, driver, task, u64::MAX).unwrap_or(
+                status::MEMORY,
+            )
+        }
+        _ => status::MEMORY,
+    }
+}
+
+// Runs a core and closes its ends, also if its runtime is out of memory.
+fn core_thread<R: Host + Copy>(
+    rt: R,
+    alloc: Global,
+    number: u64,
+    settings: Settings,
+    ends: CoreEnds,
+) -> u64 {
+    let mut ends = ends;
+    let status = run_core(rt, alloc, number, &settings, &mut ends);
+    ends.close(&rt);
+    status
+}
+
+// Runs the writer on a runtime of this thread.
+fn run_writer<R: Host + Copy, K: Sink + Drop>(
+    rt: R,
+    alloc: Global,
+    texts: &mut Receiver<Vec<u8>, UnparkHandle>,
+    sink: K,
+) -> u64 {
+    match ThreadDriver::new(alloc, SystemClock::new(rt)) {
+        Ok(driver) => {
+            let task = Writer::new(texts, sink);
+            start::<_, _, _, NoPool, R>(&rt, alloc, driver, task, u64::MAX).unwrap_or(
+                status::MEMORY,
+            )
+        }
+        Err(_) => status::MEMORY,
+    }
+}
+
+// Runs the writer and closes its end.
+fn writer_thread<R: Host + Copy, K: Sink + Drop>(
+    rt: R,
+    alloc: Global,
+    texts: Receiver<Vec<u8>, UnparkHandle>,
+    sink: K,
+) -> u64 {
+    let mut texts = texts;
+    let status = run_writer(rt, alloc, &mut texts, sink);
+    texts.close(&rt);
+    status
+}
+
+// Returns a block of zeros. Its contract specifies its length alone, so that no proof computes the block.
+fn zeros(alloc: Global, len: usize) -> Result<Vec<u8>, AllocError>
+    ensures { IfOk result (λ block. length block.items ≡ len) }
+{
+    vec![in alloc; 0u8; len]
+}
+
+// Runs the router on a runtime of this thread.
+fn run_router<R: Host + Copy, S: Source + Drop>(
+    rt: R,
+    alloc: Global,
+    source: S,
+    ends: &mut RouterEnds,
+) -> u64 {
+    match (
+        zeros(alloc, BLOCK),
+        ThreadDriver::new(alloc, SystemClock::new(rt)),
+    ) {
+        (Ok(block), Ok(driver)) => {
+            let task = Router::new(alloc, source, ends, block);
+            start::<_, _, _, NoPool, R>(&rt, alloc, driver, task, u64::MAX).unwrap_or(
+                status::MEMORY,
+            )
+        }
+        _ => status::MEMORY,
+    }
+}
+
+// Starts the thread of a core, and keeps its lane and its handle. Returns a status: without a thread the core runs here,
+// with no requests, so that its channels are closed.
+fn start_core<R: Host + Copy + Send + 'static>(
+    rt: R,
+    alloc: Global,
+    number: u64,
+    settings: &Settings,
+    ends: &mut RouterEnds,
+    threads: &mut Vec<JoinHandle<u64>>,
+) -> u64 {
+    if ends.lanes.reserve(1).is_err() || threads.reserve(1).is_err() {
+        return status::MEMORY;
+    }
+    let Ok((mut sender, requests)) = channel(alloc, PLACES) else {
+        return status::MEMORY;
+    };
+    let Ok(texts) = ends.texts.try_clone(&rt) else {
+        return status::MEMORY;
+    };
+    let own = *settings;
+    let theirs = CoreEnds { requests, texts };
+    match thread::spawn(&rt, move || core_thread(rt, alloc, number, own, theirs)) {
+        Ok(thread) => {
+            ends.lanes.push_reserved(Lane::new(alloc, sender));
+            threads.push_reserved(thread);
+            status::DONE
+        }
+        Err(failed) => {
+            sender.close(&rt);
+            let run = failed.value;
+            worse(run(), status::MEMORY)
+        }
+    }
+}
+
+// Starts the thread of each core. Returns a status.
+fn start_cores<R: Host + Copy + Send + 'static>(
+    rt: R,
+    alloc: Global,
+    settings: &Settings,
+    ends: &mut RouterEnds,
+    threads: &mut Vec<JoinHandle<u64>>,
+) -> u64 {
+    for number in 0..settings.cores {
+        let status = start_core(rt, alloc, number, settings, ends, threads);
+        if status != status::DONE {
+            return status;
+        }
+    }
+    status::DONE
+}
+
+// Routes the input, and joins the threads of the cores. Returns the first status that is not `DONE`.
+fn route_all<R: Host + Copy + Send + 'static, S: Source + Drop>(
+    rt: R,
+    alloc: Global,
+    settings: &Settings,
+    source: S,
+    texts: Sender<Vec<u8>, UnparkHandle>,
+) -> u64 {
+    let mut ends = RouterEnds {
+        lanes: Vec::new(alloc),
+        texts,
+    };
+    let mut threads = Vec::new(alloc);
+    let mut status = start_cores(rt, alloc, settings, &mut ends, &mut threads);
+    if status == status::DONE {
+        status = run_router(rt, alloc, source, &mut ends);
+    }
+    ends.close(&rt);
+    for thread in threads {
+        status = worse(status, thread.join(&rt));
+    }
+    status
+}
+
+/// Serves a source of lines, and writes the replies to a sink. Returns the program's exit status.
+pub fn serve<R, S, K>(rt: R, alloc: Global, settings: &Settings, source: S, sink: K) -> u8
+where
+    R: Host + Copy + Send + 'static,
+    S: Source + Drop,
+    K: Sink + Drop + Send + 'static,
+{
+    let Ok((mut texts, written)) = channel(alloc, PLACES) else {
+        return code(status::MEMORY);
+    };
+    match thread::spawn(&rt, move || writer_thread(rt, alloc, written, sink)) {
+        Ok(writer) => {
+            let status = route_all(rt, alloc, settings, source, texts);
+            code(worse(writer.join(&rt), status))
+        }
+        Err(failed) => {
+            texts.close(&rt);
+            let run = failed.value;
+            let _ = run();
+            code(status::MEMORY)
+        }
+    }
+}

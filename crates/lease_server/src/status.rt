@@ -1,0 +1,22 @@
+// The statuses with which the program and its threads end.
+
+/// Each line was answered.
+pub const DONE: u64 = 0;
+/// The words are no numbers of cores and sizes.
+pub const USAGE: u8 = 2;
+/// A read failed.
+pub const READ: u64 = 4;
+/// A write failed.
+pub const WRITE: u64 = 5;
+/// Out of memory, or no thread could be made.
+pub const MEMORY: u64 = 6;
+
+/// Returns the first of two statuses that is not `DONE`.
+pub fn worse(one: u64, two: u64) -> u64 {
+    if one == DONE { two } else { one }
+}
+
+/// Returns the exit status of the program.
+pub fn code(status: u64) -> u8 {
+    u8::try_from(status).unwrap_or(u8::MAX)
+}
