@@ -1,7 +1,9 @@
-//! Tests of blocking jobs as futures, and of futures that spawn and start jobs through any context.
+//! Tests of blocking jobs as futures, also in joins, and of futures that spawn and start jobs through any context.
 #![tactic(auto)]
 
 #[cfg(test)]
 mod contexts;
 #[cfg(test)]
 mod jobs;
+#[cfg(test)]
+mod joins;
