@@ -11,6 +11,7 @@ pub mod ValidStepLemmas
 pub mod FinishedTaskLemmas
 pub mod WakeLemmas
 pub mod WatchTableLemmas
+pub mod LiveTaskLemmas
 pub mod WatchLemmas
 pub mod TakenWaitLemmas
 pub mod SpentOutputLemmas

@@ -128,7 +128,7 @@ module _ (tasks : Tasks ℕ) (t q : ℕ) where
   joined_keeps by = joined_by by (is_issued tasks.table t) (value_at tasks.table t) refl
 
 -- a wake settles the task
-woken_settles : (tasks : Tasks ℕ) (t : ℕ) → Settles t (woken tasks t)
+pub woken_settles : (tasks : Tasks ℕ) (t : ℕ) → Settles t (woken tasks t)
 woken_settles tasks t = by_value (value_at tasks.table t) refl
   where
     by_phase : (task : Task ℕ) → value_at tasks.table t ≡ Some task → (phase : Phase ℕ) → task.phase ≡ phase → Settles t (woken_in phase tasks t task)
@@ -328,7 +328,7 @@ either false false false r w first rest is = rest is
 or_left : (a b : Bool) → a ≡ true → (a || b) ≡ true
 or_left a b is = ap (λ x. x || b) is
 
-or_right : (a b : Bool) → b ≡ true → (a || b) ≡ true
+pub or_right : (a b : Bool) → b ≡ true → (a || b) ≡ true
 or_right true b is = refl
 or_right false b is = is
 
@@ -351,7 +351,7 @@ fires_wake t (s ∷ fired) m is = by_first (fires_wake t fired (after_fire m s))
     by_first later false here all = later (sym (ap (λ b. b || wakes_by_fires t (with_value m.sleeps.table s elapsed) fired) here) ∙ waker_first t m.sleeps.table s fired all)
 
 -- a wake that is listed
-waiting_last : (inbox : List ℕ) (t : ℕ) → is_waiting (with_waiting inbox t) t ≡ true
+pub waiting_last : (inbox : List ℕ) (t : ℕ) → is_waiting (with_waiting inbox t) t ≡ true
 waiting_last [] t = ap (λ b. b || false) (eq-eqb t t refl)
 waiting_last (x ∷ inbox) t = or_right (x == t) _ (waiting_last inbox t)
 

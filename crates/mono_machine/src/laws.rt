@@ -117,8 +117,9 @@ pub fn an_end_changes_its_job_alone()
 /// is taken.
 ///
 /// A source fires if a clock step lists its sleep, if a reset of its sleep answers `Elapsed`, or if its task ends with
-/// its handle kept. A wait is taken by a drop of the source, by the end of its job, or by a poll of the source in
-/// another task's turn.
+/// its handle kept. Threads fire by a wake from outside, other tasks by a wake. A wait is taken by a drop of the source,
+/// by the end of its job, or by a poll of the source in another task's turn. Its own end takes a task's wait for threads
+/// and for other tasks.
 pub fn a_watch_stands()
     ensures { (old : Machine) (e : Event) (answer : Report) (new : Machine) (t : ℕ) (x : Source) → IsValid old → Step old e answer new → IsWatched old t x →
         fires t x e answer ≡ false → is_taken t x e answer ≡ false → IsWatched new t x }
