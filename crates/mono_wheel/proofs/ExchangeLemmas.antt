@@ -140,6 +140,16 @@ lists_known slots heads s node l unknown h =
       | inr b ↦ subst (λ zs. IsIn node zs) (get_or_past (map (ring_of slots) heads) l [] (omega (arith, b, length-map heads (ring_of slots)))) h
     ]
 
+-- a node lies in the table
+room-of : (slots : Slots) (k : ℕ) → is_inner_at slots k ≡ true → k < length (map entry_of slots)
+room-of slots k h = let b : k < length slots = inner-below slots k h in omega (arith, b, length-map slots entry_of)
+  where
+    inner-below : (slots : Slots) (k : ℕ) → is_inner_at slots k ≡ true → k < length slots
+    inner-below slots k h = elim (cases_lt k (length slots)) [
+      | inl b ↦ b
+      | inr b ↦ absurd (false-true (sym (ap is_inner (get_or_past slots k None b)) ∙ h))
+    ]
+
 pub after-add : (old new : Slab Node) (heads : List ℕ) (v : Lists) (limit node : ℕ) (x : Node) → seen old.slots heads (limit - slab_len old) ≡ v → Stand old.slots heads (map (ring_of old.slots) heads) →
     get_or old.slots node None ≡ None → Updates old new node (Some x) → x.is_end ≡ false → x.entry ≡ no_entry → slab_len new ≡ slab_len old + 1 → 0 < v.room →
     Added v (seen new.slots heads (limit - slab_len new)) node
@@ -158,6 +168,7 @@ after-add old new heads v limit node x e s none u inner nothing len room =
         | inl t ↦ ap (λ z. entry_of (get_or new.slots z None)) t.1 ∙ ap entry_of u.changed ∙ nothing ∙ sym (ap entry_of none) ∙ ap (λ z. entry_of (get_or old.slots z None)) (sym t.1)
         | inr t ↦ ap entry_of (u.others k t.1)
       ] ∙ sym (carried_in old.slots k);
+      inside = λ k known. room-of new.slots k (sym (node_in new.slots k) ∙ known);
       room = omega (arith, len, more);
     })
 
@@ -257,16 +268,6 @@ after-list slots s1 s2 heads heads2 v room head x e s none here ends nothing oth
           ]),
     )
 
--- a node lies in the table
-room-of : (slots : Slots) (k : ℕ) → is_inner_at slots k ≡ true → k < length (map entry_of slots)
-room-of slots k h = let b : k < length slots = inner-below slots k h in omega (arith, b, length-map slots entry_of)
-  where
-    inner-below : (slots : Slots) (k : ℕ) → is_inner_at slots k ≡ true → k < length slots
-    inner-below slots k h = elim (cases_lt k (length slots)) [
-      | inl b ↦ b
-      | inr b ↦ absurd (false-true (sym (ap is_inner (get_or_past slots k None b)) ∙ h))
-    ]
-
 -- a node carries other ticks
 pub after-entry : (slots : Slots) (heads : List ℕ) (v : Lists) (room room2 node : ℕ) (x : Node) (entry : Entry) → seen slots heads room ≡ v → room2 ≡ room → Stand slots heads (map (ring_of slots) heads) → get_or slots node None ≡ Some x →
     (let s2 : Slots = set slots node (Some record { prev = x.prev; next = x.next; entry = entry; is_end = x.is_end }) in Stand s2 heads (map (ring_of s2) heads) × (seen s2 heads room2 ≡ with_entry v node entry))
@@ -304,15 +305,6 @@ module _ (slots : Slots) (heads : List ℕ) (room : ℕ) (v : Lists) (e : seen s
 
   within_below : (l k : ℕ) → IsIn k (at (map (ring_of slots) heads) l) → l < length heads
   within_below l k h = elim (cases_lt l (length heads)) [ inl b ↦ b | inr b ↦ absurd (subst (IsIn k) (past slots heads l b) h) ]
-
-  pub seen-apart : (l m k : ℕ) → IsIn k (list_at v l) → IsIn k (list_at v m) → l ≡ m
-  seen-apart l m k h i =
-      let h2 : IsIn k (at (map (ring_of slots) heads) l) = subst (λ w. IsIn k (list_at w l)) (sym e) h in
-      let i2 : IsIn k (at (map (ring_of slots) heads) m) = subst (λ w. IsIn k (list_at w m)) (sym e) i in
-      s.apart l m k (within_below l k h2) (within_below m k i2) h2 i2
-
-  pub seen-room : (k : ℕ) → is_node v k ≡ true → k < length v.entries
-  seen-room k known = subst (λ w. is_node w k ≡ true → k < length w.entries) e (λ h. room-of slots k (sym (node_in slots k) ∙ h)) known
 
   pub seen-in : (l k : ℕ) → IsIn k (list_at v l) → is_node v k ≡ true
   seen-in l k h =

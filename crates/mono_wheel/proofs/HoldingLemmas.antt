@@ -3,7 +3,7 @@ use Rattle.std.proofs.Common.{arith, ◌≡◌, ◌≢◌, zero, suc, ℕ, ◌<�
 use Rattle.std.proofs.lemmas.Bool.Decides.{eqb_tells}
 use Rattle.std.specs.Prelude.{replicate}
 use Rattle.mono_wheel.specs.Rings.{at}
-use Rattle.mono_wheel.specs.Lists.{Lists, IsIn, with_list, without, list_at, is_node}
+use Rattle.mono_wheel.specs.Lists.{Lists, IsIn, IsListed, with_list, without, list_at, is_node}
 use Rattle.mono_wheel.specs.Model.{Timed, Wheel, Changed, Precedes, StandsBehind, Fits, timed_at, Extended}
 use Rattle.mono_wheel.specs.Holdings.{place_of, place_in, timed_of, timed_in, StandsIn, Held}
 use Rattle.mono_wheel.specs.declared.entry.Entry.{Entry}
@@ -228,9 +228,9 @@ pub out-of-lists : (elapsed : ℕ) (entries : List Entry) (links : Lists) (key :
 out-of-lists elapsed entries links key h none = absent elapsed (timed_in entries key) (λ l s. none l (h.found key l s))
 
 -- a key that is in is a known node
-pub in-known : (elapsed : ℕ) (entries : List Entry) (links : Lists) (key : ℕ) → Held elapsed entries links → ((list node : ℕ) → IsIn node (list_at links list) → is_node links node ≡ true) → is_some (timed_in entries key) ≡ true → is_node links key ≡ true
+pub in-known : (elapsed : ℕ) (entries : List Entry) (links : Lists) (key : ℕ) → Held elapsed entries links → (IsListed links key → is_node links key ≡ true) → is_some (timed_in entries key) ≡ true → is_node links key ≡ true
 in-known elapsed entries links key h known there = by (timed_in entries key) refl there
   where
     by : (o : Option Timed) → timed_in entries key ≡ o → is_some o ≡ true → is_node links key ≡ true
     by None e t = absurd (false-true t)
-    by (Some timed) e t = known (place_in elapsed timed.registered) key (h.found key (place_in elapsed timed.registered) (subst (StandsIn elapsed (place_in elapsed timed.registered)) (sym e) refl))
+    by (Some timed) e t = known (place_in elapsed timed.registered, h.found key (place_in elapsed timed.registered) (subst (StandsIn elapsed (place_in elapsed timed.registered)) (sym e) refl))

@@ -1,7 +1,7 @@
 -- What the lists of a wheel show once a key carries other ticks.
 use Rattle.std.proofs.Common.{◌≡◌, zero, suc, ℕ, List, [], ◌∷◌, map, Option, Some, None, get_or, set, ap, refl, sym, ◌∙◌, subst}
 use Rattle.std.proofs.lemmas.List.{map-set}
-use Rattle.mono_wheel.specs.Lists.{Lists, IsIn, list_at, entry_at, no_entry, with_entry}
+use Rattle.mono_wheel.specs.Lists.{Lists, IsIn, IsListed, list_at, entry_at, no_entry, with_entry}
 use Rattle.mono_wheel.specs.Model.{Timed, Wheel, KeepsOrder, StandsBehind}
 use Rattle.mono_wheel.specs.Rings.{at}
 use Rattle.mono_wheel.specs.Holdings.{wheel_of, timed_of, timed_in, place_in, StandsIn, Held}
@@ -47,9 +47,9 @@ order-kept elapsed links new v seen lists same =
     (λ a b p s t. record { line = p.line; behind = subst (λ ls. StandsBehind (at ls p.line) a b) (sym lists) p.behind; same = same a ∙ p.same ∙ sym (same b) })
 
 -- A key that is in is in a list.
-pub stands-listed : (elapsed : ℕ) (entries : List Entry) (links : Lists) (key : ℕ) → Held elapsed entries links → (timed_in entries key ≡ None → ⊥) → (list : ℕ) × IsIn key (list_at links list)
+pub stands-listed : (elapsed : ℕ) (entries : List Entry) (links : Lists) (key : ℕ) → Held elapsed entries links → (timed_in entries key ≡ None → ⊥) → IsListed links key
 stands-listed elapsed entries links key h some = by (timed_in entries key) refl
   where
-    by : (o : Option Timed) → timed_in entries key ≡ o → (list : ℕ) × IsIn key (list_at links list)
+    by : (o : Option Timed) → timed_in entries key ≡ o → IsListed links key
     by None e = absurd (some e)
     by (Some timed) e = (place_in elapsed timed.registered, h.found key (place_in elapsed timed.registered) (subst (StandsIn elapsed (place_in elapsed timed.registered)) (sym e) refl))

@@ -1,7 +1,7 @@
 //! The lists of a wheel, and the slots that have a node.
 ghost use Rattle.std.specs.Prelude.{◌≡◌, ℕ, ◌+◌, ◌<◌, ◌≤◌, true, false, [], ◌∷◌, ◌++◌, List, replicate, IfOk, OnOk, OnErr, IfSome, is_some, if◌then◌else◌, length};
 ghost use Rattle.mono_wheel.specs.Rings.{Distinct};
-ghost use Rattle.mono_wheel.specs.Lists.{list_at, IsIn, IsLoose, is_node, entry_at, no_entry, with_list, with_entry, without, IsLast, PoppedBack, Added, Freed};
+ghost use Rattle.mono_wheel.specs.Lists.{list_at, IsIn, IsListed, IsLoose, is_node, entry_at, no_entry, with_list, with_entry, without, IsLast, PoppedBack, Added, Freed};
 ghost use Rattle.mono_wheel.specs.Holdings.{IsFirstOccupied, timed_in};
 ghost use Rattle.mono_wheel.specs.Start.{slot_count, taken_list, list_count};
 
@@ -53,16 +53,6 @@ impl SlotLinks {
         })
     }
 
-    /// Shows that no node is in two lists or twice in one, and that each is a known node. The call does nothing.
-    pub fn lists_are_disjoint(&self)
-        ensures once { (list : ℕ) → Distinct (list_at self.now list) }
-        ensures apart { (list other node : ℕ) → IsIn node (list_at self.now list) → IsIn node (list_at self.now other) → list ≡ other }
-        ensures known { (list node : ℕ) → IsIn node (list_at self.now list) → is_node self.now node ≡ true }
-        ensures entries { (node : ℕ) → is_node self.now node ≡ true → node < length self.now.entries }
-    {
-        self.links.lists_are_disjoint();
-    }
-
     /// Returns the last node of the list, or `None` if and only if the list is empty.
     pub fn last(&self, list: usize) -> Option<usize>
         requires { list < list_count }
@@ -105,21 +95,23 @@ impl SlotLinks {
         self.links.end()
     }
 
-    /// Returns whether a node carries ticks.
+    /// Returns whether a node carries ticks. A node that is in a list is known (clause `known`).
     pub fn is_in(&self, node: usize) -> bool
-        ensures { result ≡ is_some (timed_in self.now.entries node) }
+        ensures value { result ≡ is_some (timed_in self.now.entries node) }
+        ensures known { IsListed self.now node → is_node self.now node ≡ true }
     {
         self.links.entry(node).tick != 0
     }
 
-    /// Returns the ticks of a known node; nothing changes. It looks the node up as for a write, so that a write
-    /// directly afterwards looks up nothing.
-    pub fn known_entry(&mut self, node: usize) -> Entry
-        requires { is_node self.old node ≡ true }
+    /// Returns the ticks of a node that is in a list, and so is known (clause `known`); nothing changes. It looks the
+    /// node up as for a write, so that a write directly afterwards looks up nothing.
+    pub fn listed_entry(&mut self, node: usize) -> Entry
+        requires { IsListed self.old node }
         ensures value { result ≡ entry_at self.old node }
+        ensures known { is_node self.old node ≡ true }
         ensures same { self.new ≡ self.old }
     {
-        self.links.known_entry(node)
+        self.links.listed_entry(node)
     }
 
     /// Gives a node these ticks.
@@ -182,11 +174,13 @@ impl SlotLinks {
         self.links.pop_back(TAKEN, steps)
     }
 
-    /// Moves the whole list of a slot to the taken list, which is empty, in constant time.
+    /// Moves the whole list of a slot to the taken list, which is empty, in constant time. No node is twice in it (clause
+    /// `once`).
     pub fn take(&mut self, slot: usize)
         requires slot { slot < slot_count }
         requires empty { list_at self.old taken_list ≡ [] }
-        ensures { self.new ≡ with_list (with_list self.old slot []) taken_list (list_at self.old slot) }
+        ensures moved { self.new ≡ with_list (with_list self.old slot []) taken_list (list_at self.old slot) }
+        ensures once { Distinct (list_at self.old slot) }
     {
         self.links.take(slot, TAKEN);
         self.occupied.clear(slot);

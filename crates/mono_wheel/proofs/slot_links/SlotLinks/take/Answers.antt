@@ -1,5 +1,6 @@
 use Rattle.std.proofs.Common.{arith, refl, sym, subst, ◌≡◌, ◌<◌, []}
 use Rattle.mono_wheel.specs.Lists.{list_at, with_list}
+use Rattle.mono_wheel.specs.Rings.{Distinct}
 use Rattle.mono_wheel.specs.Start.{taken_list, list_count}
 use Rattle.mono_wheel.proofs.OccupancyLemmas.{marks-beyond, marks-emptied}
 use Rattle.mono_wheel.proofs.slot_links.SlotLinks.take.Goals as goal
@@ -19,7 +20,10 @@ invariant_of-self c =
     let low : c.args.slot < list_count = let below = c.requires.slot in omega (arith, below) in
     marks-beyond c.clear.new.self (with_list links c.args.slot []) c.take.new.self taken_list (list_at links c.args.slot)
     (marks-emptied c.self.inside.occupied c.clear.new.self links (with_list links c.args.slot []) c.args.slot [] c.self.invariant refl low refl c.clear.ensures.here c.clear.ensures.others)
-    c.take.ensures (omega arith) (omega arith)
+    c.take.ensures.moved (omega arith) (omega arith)
 
-pub returns : goal.returns
-returns c = subst (λ v. c.take.new.self ≡ with_list (with_list v c.args.slot []) taken_list (list_at v c.args.slot)) c.self.view_is c.take.ensures
+pub returns-clause-moved : goal.returns-clause-moved
+returns-clause-moved c = subst (λ v. c.take.new.self ≡ with_list (with_list v c.args.slot []) taken_list (list_at v c.args.slot)) c.self.view_is c.take.ensures.moved
+
+pub returns-clause-once : goal.returns-clause-once
+returns-clause-once c = subst (λ v. Distinct (list_at v c.args.slot)) c.self.view_is c.take.ensures.once

@@ -16,39 +16,39 @@ take-requires-clause-empty g c = taken-empty c.self.inside.elapsed c.self.inside
 
 pub skip_to-goal-requires-clause-cascading : goal.skip_to-goal-requires-clause-cascading
 skip_to-goal-requires-clause-cascading g c =
-    subst (λ es. Cascading c.in-Some.slot.start es c.take.new.self) (sym (ap (λ w. w.entries) c.take.ensures))
+    subst (λ es. Cascading c.in-Some.slot.start es c.take.new.self) (sym (ap (λ w. w.entries) c.take.ensures.moved))
     (slot-cascading c.self.inside.elapsed c.in-Some.slot.start c.in-Some.slot.list c.self.inside.links.entries c.self.inside.links c.take.new.self c.self.invariant.0 c.in-Some.ensures.0
-    (none-pending c.self.inside.elapsed c.self.inside.links.entries c.self.inside.links.nodes c.self.inside.links.lists c.args.self.now c.self.view_is c.requires.none) c.take.ensures
+    (none-pending c.self.inside.elapsed c.self.inside.links.entries c.self.inside.links.nodes c.self.inside.links.lists c.args.self.now c.self.view_is c.requires.none) c.take.ensures.moved
     c.in-Some.slot.start (omega arith)
-    (not-slot c.self.inside.elapsed c.in-Some.slot.start c.in-Some.slot.list c.self.inside.links.entries c.self.inside.links c.take.new.self c.self.invariant.0 c.in-Some.ensures.0 (none-pending c.self.inside.elapsed c.self.inside.links.entries c.self.inside.links.nodes c.self.inside.links.lists c.args.self.now c.self.view_is c.requires.none) c.take.ensures)
-    (slot-waits c.self.inside.elapsed c.in-Some.slot.start c.in-Some.slot.list c.self.inside.links.entries c.self.inside.links c.take.new.self c.self.invariant.0 c.in-Some.ensures.0 (none-pending c.self.inside.elapsed c.self.inside.links.entries c.self.inside.links.nodes c.self.inside.links.lists c.args.self.now c.self.view_is c.requires.none) c.take.ensures))
+    (not-slot c.self.inside.elapsed c.in-Some.slot.start c.in-Some.slot.list c.self.inside.links.entries c.self.inside.links c.take.new.self c.self.invariant.0 c.in-Some.ensures.0 (none-pending c.self.inside.elapsed c.self.inside.links.entries c.self.inside.links.nodes c.self.inside.links.lists c.args.self.now c.self.view_is c.requires.none) c.take.ensures.moved)
+    (slot-waits c.self.inside.elapsed c.in-Some.slot.start c.in-Some.slot.list c.self.inside.links.entries c.self.inside.links c.take.new.self c.self.invariant.0 c.in-Some.ensures.0 (none-pending c.self.inside.elapsed c.self.inside.links.entries c.self.inside.links.nodes c.self.inside.links.lists c.args.self.now c.self.view_is c.requires.none) c.take.ensures.moved))
 
 pub skip_to-goal-requires-clause-list : goal.skip_to-goal-requires-clause-list
-skip_to-goal-requires-clause-list g c = list-below c.self.inside.elapsed c.in-Some.slot.start c.in-Some.slot.list c.self.inside.links.entries c.self.inside.links c.take.new.self c.self.invariant.0 c.in-Some.ensures.0 (none-pending c.self.inside.elapsed c.self.inside.links.entries c.self.inside.links.nodes c.self.inside.links.lists c.args.self.now c.self.view_is c.requires.none) c.take.ensures
+skip_to-goal-requires-clause-list g c = list-below c.self.inside.elapsed c.in-Some.slot.start c.in-Some.slot.list c.self.inside.links.entries c.self.inside.links c.take.new.self c.self.invariant.0 c.in-Some.ensures.0 (none-pending c.self.inside.elapsed c.self.inside.links.entries c.self.inside.links.nodes c.self.inside.links.lists c.args.self.now c.self.view_is c.requires.none) c.take.ensures.moved
 
 pub cascade-requires : goal.cascade-requires
 cascade-requires g c =
-    subst (λ es. Cascading c.skip_to-goal.result es c.take.new.self) (sym (ap (λ w. w.entries) c.take.ensures))
+    subst (λ es. Cascading c.skip_to-goal.result es c.take.new.self) (sym (ap (λ w. w.entries) c.take.ensures.moved))
     (slot-cascading c.self.inside.elapsed c.in-Some.slot.start c.in-Some.slot.list c.self.inside.links.entries c.self.inside.links c.take.new.self c.self.invariant.0 c.in-Some.ensures.0
-    (none-pending c.self.inside.elapsed c.self.inside.links.entries c.self.inside.links.nodes c.self.inside.links.lists c.args.self.now c.self.view_is c.requires.none) c.take.ensures
+    (none-pending c.self.inside.elapsed c.self.inside.links.entries c.self.inside.links.nodes c.self.inside.links.lists c.args.self.now c.self.view_is c.requires.none) c.take.ensures.moved
     c.skip_to-goal.result
-    (goes-later c.self.inside.elapsed c.in-Some.slot.start c.in-Some.slot.list c.self.inside.links.entries c.self.inside.links c.take.new.self c.self.invariant.0 c.in-Some.ensures.0 (none-pending c.self.inside.elapsed c.self.inside.links.entries c.self.inside.links.nodes c.self.inside.links.lists c.args.self.now c.self.view_is c.requires.none) c.take.ensures c.args.now c.args.steps.now c.skip_to-goal.new.steps c.skip_to-goal.result (subst (λ es. ComesTo c.in-Some.slot.start c.args.now (c.in-Some.slot.list / 64) es c.take.new.self c.args.steps.now c.skip_to-goal.new.steps c.skip_to-goal.result) (ap (λ w. w.entries) c.take.ensures) c.skip_to-goal.ensures)) (goes-clear c.self.inside.elapsed c.in-Some.slot.start c.in-Some.slot.list c.self.inside.links.entries c.self.inside.links c.take.new.self c.self.invariant.0 c.in-Some.ensures.0 (none-pending c.self.inside.elapsed c.self.inside.links.entries c.self.inside.links.nodes c.self.inside.links.lists c.args.self.now c.self.view_is c.requires.none) c.take.ensures c.args.now c.args.steps.now c.skip_to-goal.new.steps c.skip_to-goal.result (subst (λ es. ComesTo c.in-Some.slot.start c.args.now (c.in-Some.slot.list / 64) es c.take.new.self c.args.steps.now c.skip_to-goal.new.steps c.skip_to-goal.result) (ap (λ w. w.entries) c.take.ensures) c.skip_to-goal.ensures)) (goes-waits c.self.inside.elapsed c.in-Some.slot.start c.in-Some.slot.list c.self.inside.links.entries c.self.inside.links c.take.new.self c.self.invariant.0 c.in-Some.ensures.0 (none-pending c.self.inside.elapsed c.self.inside.links.entries c.self.inside.links.nodes c.self.inside.links.lists c.args.self.now c.self.view_is c.requires.none) c.take.ensures c.args.now c.args.steps.now c.skip_to-goal.new.steps c.skip_to-goal.result (subst (λ es. ComesTo c.in-Some.slot.start c.args.now (c.in-Some.slot.list / 64) es c.take.new.self c.args.steps.now c.skip_to-goal.new.steps c.skip_to-goal.result) (ap (λ w. w.entries) c.take.ensures) c.skip_to-goal.ensures)))
+    (goes-later c.self.inside.elapsed c.in-Some.slot.start c.in-Some.slot.list c.self.inside.links.entries c.self.inside.links c.take.new.self c.self.invariant.0 c.in-Some.ensures.0 (none-pending c.self.inside.elapsed c.self.inside.links.entries c.self.inside.links.nodes c.self.inside.links.lists c.args.self.now c.self.view_is c.requires.none) c.take.ensures.moved c.args.now c.args.steps.now c.skip_to-goal.new.steps c.skip_to-goal.result (subst (λ es. ComesTo c.in-Some.slot.start c.args.now (c.in-Some.slot.list / 64) es c.take.new.self c.args.steps.now c.skip_to-goal.new.steps c.skip_to-goal.result) (ap (λ w. w.entries) c.take.ensures.moved) c.skip_to-goal.ensures)) (goes-clear c.self.inside.elapsed c.in-Some.slot.start c.in-Some.slot.list c.self.inside.links.entries c.self.inside.links c.take.new.self c.self.invariant.0 c.in-Some.ensures.0 (none-pending c.self.inside.elapsed c.self.inside.links.entries c.self.inside.links.nodes c.self.inside.links.lists c.args.self.now c.self.view_is c.requires.none) c.take.ensures.moved c.args.now c.args.steps.now c.skip_to-goal.new.steps c.skip_to-goal.result (subst (λ es. ComesTo c.in-Some.slot.start c.args.now (c.in-Some.slot.list / 64) es c.take.new.self c.args.steps.now c.skip_to-goal.new.steps c.skip_to-goal.result) (ap (λ w. w.entries) c.take.ensures.moved) c.skip_to-goal.ensures)) (goes-waits c.self.inside.elapsed c.in-Some.slot.start c.in-Some.slot.list c.self.inside.links.entries c.self.inside.links c.take.new.self c.self.invariant.0 c.in-Some.ensures.0 (none-pending c.self.inside.elapsed c.self.inside.links.entries c.self.inside.links.nodes c.self.inside.links.lists c.args.self.now c.self.view_is c.requires.none) c.take.ensures.moved c.args.now c.args.steps.now c.skip_to-goal.new.steps c.skip_to-goal.result (subst (λ es. ComesTo c.in-Some.slot.start c.args.now (c.in-Some.slot.list / 64) es c.take.new.self c.args.steps.now c.skip_to-goal.new.steps c.skip_to-goal.result) (ap (λ w. w.entries) c.take.ensures.moved) c.skip_to-goal.ensures)))
 
 pub returns-in-Some-clause-advanced : goal.returns-in-Some-clause-advanced
 returns-in-Some-clause-advanced g c =
     slot-advanced c.self.inside.elapsed c.in-Some.slot.start c.in-Some.slot.list c.self.inside.links.entries c.self.inside.links c.take.new.self c.self.invariant.0 c.in-Some.ensures.0
-    (none-pending c.self.inside.elapsed c.self.inside.links.entries c.self.inside.links.nodes c.self.inside.links.lists c.args.self.now c.self.view_is c.requires.none) c.take.ensures
+    (none-pending c.self.inside.elapsed c.self.inside.links.entries c.self.inside.links.nodes c.self.inside.links.lists c.args.self.now c.self.view_is c.requires.none) c.take.ensures.moved
     c.skip_to-goal.result
-    (goes-later c.self.inside.elapsed c.in-Some.slot.start c.in-Some.slot.list c.self.inside.links.entries c.self.inside.links c.take.new.self c.self.invariant.0 c.in-Some.ensures.0 (none-pending c.self.inside.elapsed c.self.inside.links.entries c.self.inside.links.nodes c.self.inside.links.lists c.args.self.now c.self.view_is c.requires.none) c.take.ensures c.args.now c.args.steps.now c.skip_to-goal.new.steps c.skip_to-goal.result (subst (λ es. ComesTo c.in-Some.slot.start c.args.now (c.in-Some.slot.list / 64) es c.take.new.self c.args.steps.now c.skip_to-goal.new.steps c.skip_to-goal.result) (ap (λ w. w.entries) c.take.ensures) c.skip_to-goal.ensures)) (goes-clear c.self.inside.elapsed c.in-Some.slot.start c.in-Some.slot.list c.self.inside.links.entries c.self.inside.links c.take.new.self c.self.invariant.0 c.in-Some.ensures.0 (none-pending c.self.inside.elapsed c.self.inside.links.entries c.self.inside.links.nodes c.self.inside.links.lists c.args.self.now c.self.view_is c.requires.none) c.take.ensures c.args.now c.args.steps.now c.skip_to-goal.new.steps c.skip_to-goal.result (subst (λ es. ComesTo c.in-Some.slot.start c.args.now (c.in-Some.slot.list / 64) es c.take.new.self c.args.steps.now c.skip_to-goal.new.steps c.skip_to-goal.result) (ap (λ w. w.entries) c.take.ensures) c.skip_to-goal.ensures)) (goes-waits c.self.inside.elapsed c.in-Some.slot.start c.in-Some.slot.list c.self.inside.links.entries c.self.inside.links c.take.new.self c.self.invariant.0 c.in-Some.ensures.0 (none-pending c.self.inside.elapsed c.self.inside.links.entries c.self.inside.links.nodes c.self.inside.links.lists c.args.self.now c.self.view_is c.requires.none) c.take.ensures c.args.now c.args.steps.now c.skip_to-goal.new.steps c.skip_to-goal.result (subst (λ es. ComesTo c.in-Some.slot.start c.args.now (c.in-Some.slot.list / 64) es c.take.new.self c.args.steps.now c.skip_to-goal.new.steps c.skip_to-goal.result) (ap (λ w. w.entries) c.take.ensures) c.skip_to-goal.ensures))
-    c.cascade.new.links.entries c.cascade.new.links c.cascade.ensures.held (subst (λ es. Cascaded es c.cascade.new.links.entries c.take.new.self c.cascade.new.links) (ap (λ w. w.entries) c.take.ensures) c.cascade.ensures.cascaded) c.args.self.now c.self.view_is
+    (goes-later c.self.inside.elapsed c.in-Some.slot.start c.in-Some.slot.list c.self.inside.links.entries c.self.inside.links c.take.new.self c.self.invariant.0 c.in-Some.ensures.0 (none-pending c.self.inside.elapsed c.self.inside.links.entries c.self.inside.links.nodes c.self.inside.links.lists c.args.self.now c.self.view_is c.requires.none) c.take.ensures.moved c.args.now c.args.steps.now c.skip_to-goal.new.steps c.skip_to-goal.result (subst (λ es. ComesTo c.in-Some.slot.start c.args.now (c.in-Some.slot.list / 64) es c.take.new.self c.args.steps.now c.skip_to-goal.new.steps c.skip_to-goal.result) (ap (λ w. w.entries) c.take.ensures.moved) c.skip_to-goal.ensures)) (goes-clear c.self.inside.elapsed c.in-Some.slot.start c.in-Some.slot.list c.self.inside.links.entries c.self.inside.links c.take.new.self c.self.invariant.0 c.in-Some.ensures.0 (none-pending c.self.inside.elapsed c.self.inside.links.entries c.self.inside.links.nodes c.self.inside.links.lists c.args.self.now c.self.view_is c.requires.none) c.take.ensures.moved c.args.now c.args.steps.now c.skip_to-goal.new.steps c.skip_to-goal.result (subst (λ es. ComesTo c.in-Some.slot.start c.args.now (c.in-Some.slot.list / 64) es c.take.new.self c.args.steps.now c.skip_to-goal.new.steps c.skip_to-goal.result) (ap (λ w. w.entries) c.take.ensures.moved) c.skip_to-goal.ensures)) (goes-waits c.self.inside.elapsed c.in-Some.slot.start c.in-Some.slot.list c.self.inside.links.entries c.self.inside.links c.take.new.self c.self.invariant.0 c.in-Some.ensures.0 (none-pending c.self.inside.elapsed c.self.inside.links.entries c.self.inside.links.nodes c.self.inside.links.lists c.args.self.now c.self.view_is c.requires.none) c.take.ensures.moved c.args.now c.args.steps.now c.skip_to-goal.new.steps c.skip_to-goal.result (subst (λ es. ComesTo c.in-Some.slot.start c.args.now (c.in-Some.slot.list / 64) es c.take.new.self c.args.steps.now c.skip_to-goal.new.steps c.skip_to-goal.result) (ap (λ w. w.entries) c.take.ensures.moved) c.skip_to-goal.ensures))
+    c.cascade.new.links.entries c.cascade.new.links c.cascade.ensures.held (subst (λ es. Cascaded es c.cascade.new.links.entries c.take.new.self c.cascade.new.links) (ap (λ w. w.entries) c.take.ensures.moved) c.cascade.ensures.cascaded) c.args.self.now c.self.view_is
 
 pub returns-in-Some-clause-reached : goal.returns-in-Some-clause-reached
 returns-in-Some-clause-reached g c _ =
     let begins : c.self.inside.elapsed < c.in-Some.slot.start = begin-above c.self.inside.elapsed c.in-Some.slot.start c.in-Some.slot.list c.self.inside.links.entries c.self.inside.links c.take.new.self c.self.invariant.0 c.in-Some.ensures.0
-    (none-pending c.self.inside.elapsed c.self.inside.links.entries c.self.inside.links.nodes c.self.inside.links.lists c.args.self.now c.self.view_is c.requires.none) c.take.ensures in
-    let later = goes-later c.self.inside.elapsed c.in-Some.slot.start c.in-Some.slot.list c.self.inside.links.entries c.self.inside.links c.take.new.self c.self.invariant.0 c.in-Some.ensures.0 (none-pending c.self.inside.elapsed c.self.inside.links.entries c.self.inside.links.nodes c.self.inside.links.lists c.args.self.now c.self.view_is c.requires.none) c.take.ensures c.args.now c.args.steps.now c.skip_to-goal.new.steps c.skip_to-goal.result (subst (λ es. ComesTo c.in-Some.slot.start c.args.now (c.in-Some.slot.list / 64) es c.take.new.self c.args.steps.now c.skip_to-goal.new.steps c.skip_to-goal.result) (ap (λ w. w.entries) c.take.ensures) c.skip_to-goal.ensures) in
+    (none-pending c.self.inside.elapsed c.self.inside.links.entries c.self.inside.links.nodes c.self.inside.links.lists c.args.self.now c.self.view_is c.requires.none) c.take.ensures.moved in
+    let later = goes-later c.self.inside.elapsed c.in-Some.slot.start c.in-Some.slot.list c.self.inside.links.entries c.self.inside.links c.take.new.self c.self.invariant.0 c.in-Some.ensures.0 (none-pending c.self.inside.elapsed c.self.inside.links.entries c.self.inside.links.nodes c.self.inside.links.lists c.args.self.now c.self.view_is c.requires.none) c.take.ensures.moved c.args.now c.args.steps.now c.skip_to-goal.new.steps c.skip_to-goal.result (subst (λ es. ComesTo c.in-Some.slot.start c.args.now (c.in-Some.slot.list / 64) es c.take.new.self c.args.steps.now c.skip_to-goal.new.steps c.skip_to-goal.result) (ap (λ w. w.entries) c.take.ensures.moved) c.skip_to-goal.ensures) in
     let above : c.self.inside.elapsed < c.skip_to-goal.result = omega (arith, begins, later) in
-    (subst (λ w. w.elapsed < c.skip_to-goal.result) c.self.view_is above, goes-by c.self.inside.elapsed c.in-Some.slot.start c.in-Some.slot.list c.self.inside.links.entries c.self.inside.links c.take.new.self c.self.invariant.0 c.in-Some.ensures.0 (none-pending c.self.inside.elapsed c.self.inside.links.entries c.self.inside.links.nodes c.self.inside.links.lists c.args.self.now c.self.view_is c.requires.none) c.take.ensures c.args.now c.args.steps.now c.skip_to-goal.new.steps c.skip_to-goal.result (subst (λ es. ComesTo c.in-Some.slot.start c.args.now (c.in-Some.slot.list / 64) es c.take.new.self c.args.steps.now c.skip_to-goal.new.steps c.skip_to-goal.result) (ap (λ w. w.entries) c.take.ensures) c.skip_to-goal.ensures) c.in-Some.ensures.1)
+    (subst (λ w. w.elapsed < c.skip_to-goal.result) c.self.view_is above, goes-by c.self.inside.elapsed c.in-Some.slot.start c.in-Some.slot.list c.self.inside.links.entries c.self.inside.links c.take.new.self c.self.invariant.0 c.in-Some.ensures.0 (none-pending c.self.inside.elapsed c.self.inside.links.entries c.self.inside.links.nodes c.self.inside.links.lists c.args.self.now c.self.view_is c.requires.none) c.take.ensures.moved c.args.now c.args.steps.now c.skip_to-goal.new.steps c.skip_to-goal.result (subst (λ es. ComesTo c.in-Some.slot.start c.args.now (c.in-Some.slot.list / 64) es c.take.new.self c.args.steps.now c.skip_to-goal.new.steps c.skip_to-goal.result) (ap (λ w. w.entries) c.take.ensures.moved) c.skip_to-goal.ensures) c.in-Some.ensures.1)
 
 pub invariant_of-self : goal.invariant_of-self
 invariant_of-self g c = (
@@ -77,11 +77,11 @@ returns-in-None-clause-passed g c _ = (
 pub returns-in-Some-clause-steps : goal.returns-in-Some-clause-steps
 returns-in-Some-clause-steps g c =
     let fall = goes-credit c.self.inside.elapsed c.in-Some.slot.start c.in-Some.slot.list c.self.inside.links.entries c.self.inside.links c.take.new.self c.self.invariant.0 c.in-Some.ensures.0
-    (none-pending c.self.inside.elapsed c.self.inside.links.entries c.self.inside.links.nodes c.self.inside.links.lists c.args.self.now c.self.view_is c.requires.none) c.take.ensures
-    c.args.now c.args.steps.now c.skip_to-goal.new.steps c.skip_to-goal.result (subst (λ es. ComesTo c.in-Some.slot.start c.args.now (c.in-Some.slot.list / 64) es c.take.new.self c.args.steps.now c.skip_to-goal.new.steps c.skip_to-goal.result) (ap (λ w. w.entries) c.take.ensures) c.skip_to-goal.ensures)
-    c.cascade.new.links.entries c.cascade.new.links c.cascade.ensures.held (subst (λ es. Cascaded es c.cascade.new.links.entries c.take.new.self c.cascade.new.links) (ap (λ w. w.entries) c.take.ensures) c.cascade.ensures.cascaded) (c.lists_are_disjoint.ensures.once c.in-Some.slot.list) in
+    (none-pending c.self.inside.elapsed c.self.inside.links.entries c.self.inside.links.nodes c.self.inside.links.lists c.args.self.now c.self.view_is c.requires.none) c.take.ensures.moved
+    c.args.now c.args.steps.now c.skip_to-goal.new.steps c.skip_to-goal.result (subst (λ es. ComesTo c.in-Some.slot.start c.args.now (c.in-Some.slot.list / 64) es c.take.new.self c.args.steps.now c.skip_to-goal.new.steps c.skip_to-goal.result) (ap (λ w. w.entries) c.take.ensures.moved) c.skip_to-goal.ensures)
+    c.cascade.new.links.entries c.cascade.new.links c.cascade.ensures.held (subst (λ es. Cascaded es c.cascade.new.links.entries c.take.new.self c.cascade.new.links) (ap (λ w. w.entries) c.take.ensures.moved) c.cascade.ensures.cascaded) c.take.ensures.once in
     let taken : length (list_at c.take.new.self taken_list) ≡ length (list_at c.self.inside.links c.in-Some.slot.list) =
-    ap length (at_taken c.self.inside.elapsed c.in-Some.slot.start c.in-Some.slot.list c.self.inside.links.entries c.self.inside.links c.take.new.self c.self.invariant.0 c.in-Some.ensures.0 (none-pending c.self.inside.elapsed c.self.inside.links.entries c.self.inside.links.nodes c.self.inside.links.lists c.args.self.now c.self.view_is c.requires.none) c.take.ensures) in
+    ap length (at_taken c.self.inside.elapsed c.in-Some.slot.start c.in-Some.slot.list c.self.inside.links.entries c.self.inside.links c.take.new.self c.self.invariant.0 c.in-Some.ensures.0 (none-pending c.self.inside.elapsed c.self.inside.links.entries c.self.inside.links.nodes c.self.inside.links.lists c.args.self.now c.self.view_is c.requires.none) c.take.ensures.moved) in
     let steps = c.cascade.ensures.steps in
     subst (λ w. c.cascade.new.steps + credit_of c.skip_to-goal.result (map timed_of c.cascade.new.links.entries) ≡ c.args.steps.now + credit_of w.elapsed w.entries) c.self.view_is (omega (arith, fall, taken, steps))
 
@@ -95,10 +95,10 @@ pub invariant_of-self-in-Some : goal.invariant_of-self-in-Some
 invariant_of-self-in-Some g c =
     let went =
     slot-advanced c.self.inside.elapsed c.in-Some.slot.start c.in-Some.slot.list c.self.inside.links.entries c.self.inside.links c.take.new.self c.self.invariant.0 c.in-Some.ensures.0
-    (none-pending c.self.inside.elapsed c.self.inside.links.entries c.self.inside.links.nodes c.self.inside.links.lists c.args.self.now c.self.view_is c.requires.none) c.take.ensures
+    (none-pending c.self.inside.elapsed c.self.inside.links.entries c.self.inside.links.nodes c.self.inside.links.lists c.args.self.now c.self.view_is c.requires.none) c.take.ensures.moved
     c.skip_to-goal.result
-    (goes-later c.self.inside.elapsed c.in-Some.slot.start c.in-Some.slot.list c.self.inside.links.entries c.self.inside.links c.take.new.self c.self.invariant.0 c.in-Some.ensures.0 (none-pending c.self.inside.elapsed c.self.inside.links.entries c.self.inside.links.nodes c.self.inside.links.lists c.args.self.now c.self.view_is c.requires.none) c.take.ensures c.args.now c.args.steps.now c.skip_to-goal.new.steps c.skip_to-goal.result (subst (λ es. ComesTo c.in-Some.slot.start c.args.now (c.in-Some.slot.list / 64) es c.take.new.self c.args.steps.now c.skip_to-goal.new.steps c.skip_to-goal.result) (ap (λ w. w.entries) c.take.ensures) c.skip_to-goal.ensures)) (goes-clear c.self.inside.elapsed c.in-Some.slot.start c.in-Some.slot.list c.self.inside.links.entries c.self.inside.links c.take.new.self c.self.invariant.0 c.in-Some.ensures.0 (none-pending c.self.inside.elapsed c.self.inside.links.entries c.self.inside.links.nodes c.self.inside.links.lists c.args.self.now c.self.view_is c.requires.none) c.take.ensures c.args.now c.args.steps.now c.skip_to-goal.new.steps c.skip_to-goal.result (subst (λ es. ComesTo c.in-Some.slot.start c.args.now (c.in-Some.slot.list / 64) es c.take.new.self c.args.steps.now c.skip_to-goal.new.steps c.skip_to-goal.result) (ap (λ w. w.entries) c.take.ensures) c.skip_to-goal.ensures)) (goes-waits c.self.inside.elapsed c.in-Some.slot.start c.in-Some.slot.list c.self.inside.links.entries c.self.inside.links c.take.new.self c.self.invariant.0 c.in-Some.ensures.0 (none-pending c.self.inside.elapsed c.self.inside.links.entries c.self.inside.links.nodes c.self.inside.links.lists c.args.self.now c.self.view_is c.requires.none) c.take.ensures c.args.now c.args.steps.now c.skip_to-goal.new.steps c.skip_to-goal.result (subst (λ es. ComesTo c.in-Some.slot.start c.args.now (c.in-Some.slot.list / 64) es c.take.new.self c.args.steps.now c.skip_to-goal.new.steps c.skip_to-goal.result) (ap (λ w. w.entries) c.take.ensures) c.skip_to-goal.ensures))
-    c.cascade.new.links.entries c.cascade.new.links c.cascade.ensures.held (subst (λ es. Cascaded es c.cascade.new.links.entries c.take.new.self c.cascade.new.links) (ap (λ w. w.entries) c.take.ensures) c.cascade.ensures.cascaded) _ refl in (
+    (goes-later c.self.inside.elapsed c.in-Some.slot.start c.in-Some.slot.list c.self.inside.links.entries c.self.inside.links c.take.new.self c.self.invariant.0 c.in-Some.ensures.0 (none-pending c.self.inside.elapsed c.self.inside.links.entries c.self.inside.links.nodes c.self.inside.links.lists c.args.self.now c.self.view_is c.requires.none) c.take.ensures.moved c.args.now c.args.steps.now c.skip_to-goal.new.steps c.skip_to-goal.result (subst (λ es. ComesTo c.in-Some.slot.start c.args.now (c.in-Some.slot.list / 64) es c.take.new.self c.args.steps.now c.skip_to-goal.new.steps c.skip_to-goal.result) (ap (λ w. w.entries) c.take.ensures.moved) c.skip_to-goal.ensures)) (goes-clear c.self.inside.elapsed c.in-Some.slot.start c.in-Some.slot.list c.self.inside.links.entries c.self.inside.links c.take.new.self c.self.invariant.0 c.in-Some.ensures.0 (none-pending c.self.inside.elapsed c.self.inside.links.entries c.self.inside.links.nodes c.self.inside.links.lists c.args.self.now c.self.view_is c.requires.none) c.take.ensures.moved c.args.now c.args.steps.now c.skip_to-goal.new.steps c.skip_to-goal.result (subst (λ es. ComesTo c.in-Some.slot.start c.args.now (c.in-Some.slot.list / 64) es c.take.new.self c.args.steps.now c.skip_to-goal.new.steps c.skip_to-goal.result) (ap (λ w. w.entries) c.take.ensures.moved) c.skip_to-goal.ensures)) (goes-waits c.self.inside.elapsed c.in-Some.slot.start c.in-Some.slot.list c.self.inside.links.entries c.self.inside.links c.take.new.self c.self.invariant.0 c.in-Some.ensures.0 (none-pending c.self.inside.elapsed c.self.inside.links.entries c.self.inside.links.nodes c.self.inside.links.lists c.args.self.now c.self.view_is c.requires.none) c.take.ensures.moved c.args.now c.args.steps.now c.skip_to-goal.new.steps c.skip_to-goal.result (subst (λ es. ComesTo c.in-Some.slot.start c.args.now (c.in-Some.slot.list / 64) es c.take.new.self c.args.steps.now c.skip_to-goal.new.steps c.skip_to-goal.result) (ap (λ w. w.entries) c.take.ensures.moved) c.skip_to-goal.ensures))
+    c.cascade.new.links.entries c.cascade.new.links c.cascade.ensures.held (subst (λ es. Cascaded es c.cascade.new.links.entries c.take.new.self c.cascade.new.links) (ap (λ w. w.entries) c.take.ensures.moved) c.cascade.ensures.cascaded) _ refl in (
       c.cascade.ensures.held,
       known-after c.self.inside.elapsed c.skip_to-goal.result c.self.inside.limit c.self.inside.near c.self.inside.links.entries c.cascade.new.links.entries went.ticks c.self.invariant.1,
     )
