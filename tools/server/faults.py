@@ -4,9 +4,10 @@
 usage: tools/server/faults.py SERVER
 
 An input that is cut off in the middle, at several places; 10,000 clients that hold locks and stop beating at once; a core
-that gets nearly all requests; sizes that are too small; a reader of the replies that pauses. Each ends with status 0, each
-line with one reply, by the rules of its core. A read or a write that fails ends with status 4 or 5. Then each allocation is
-refused in turn: the server ends with status 0 and such replies, or with status 6 and no line answered twice.
+that gets nearly all requests; sizes that are too small; a reader of the replies that pauses; a core that is slow, since its
+thread runs only when another program on its processor does not. Each ends with status 0, each line with one reply, by the
+rules of its core. A read or a write that fails ends with status 4 or 5. Then each allocation is refused in turn: the server
+ends with status 0 and such replies, or with status 6 and no line answered twice.
 """
 import os
 import pathlib
@@ -46,6 +47,39 @@ def slow_reader(server):
             print(f"slow reader: status {program.returncode}")
             sys.exit(1)
     print("a reader that pauses: as documented")
+
+
+def make_slow(program):
+    """Lets the second thread of a program run on one processor, where another program goes before it."""
+    threads = pathlib.Path(f"/proc/{program.pid}/task")
+    while len(found := sorted(int(thread.name) for thread in threads.iterdir())) < 3:
+        time.sleep(0.001)
+    place = {min(os.sched_getaffinity(0))}
+    other = subprocess.Popen([sys.executable, "-c", "while True: pass"])
+    os.sched_setaffinity(other.pid, place)
+    os.sched_setaffinity(found[1], place)
+    os.sched_setscheduler(found[1], os.SCHED_IDLE, os.sched_param(0))
+    return other
+
+
+def slow_core(server):
+    """Serves a load while one of two cores hardly gets a turn: its requests fill its channel, and the router waits."""
+    with tempfile.TemporaryDirectory() as name:
+        lines, replies = pathlib.Path(name) / "lines", pathlib.Path(name) / "replies"
+        load = Load(11, 2, 100)
+        lines.write_text("".join(load.line() + "\n" for _ in range(20000)))
+        with open(replies, "wb") as out:
+            program = subprocess.Popen([server, "2", *SIZES], stdin=subprocess.PIPE, stdout=out)
+            other = make_slow(program)
+            try:
+                program.communicate(lines.read_bytes())
+            finally:
+                other.kill()
+                other.wait()
+        if program.returncode != 0 or not check(2, lines, replies):
+            print(f"slow core: status {program.returncode}")
+            sys.exit(1)
+    print("a core that is slow: as documented")
 
 
 def failed_calls(server):
@@ -108,6 +142,7 @@ def main():
     row("one core has most keys", server, 4, ["7", "4", "300", "100000", "--hot"])
     row("sizes too small", server, 2, ["8", "2", "300", "100000"], sizes=["40", "30", "20", "20", "10"])
     slow_reader(server)
+    slow_core(server)
     failed_calls(server)
     refuse_all(server)
 
