@@ -15,8 +15,7 @@ pub fn exit_code(ended: &Option<Ended>) -> u8
     }
 }
 
-/// Returns whether the program joins the workers. After out of memory it does not, since a pool may then be open and
-/// its workers wait for ever.
+/// Returns whether the program joins the workers before it exits: unless it ran out of memory, when it exits at once.
 pub fn joins_workers(ended: &Option<Ended>) -> bool
     ensures some { IfSome ended.now (λ e. IsTrue result ↔ (e.status ≢ status.OutOfMemory)) }
     ensures none { IfNone ended.now (result ≡ true) }
