@@ -1,10 +1,11 @@
 -- The actors after a clock step, one actor after another.
-use Rattle.std.proofs.Common.{◌≡◌, ◌≢◌, ◌<◌, ◌≤◌, ℕ, ◌+◌, true, false, List, [], ◌∷◌, ◌++◌, length, set, Some, None, Option, refl, ap, sym, subst, ◌∙◌, arith}
+use Rattle.std.proofs.Common.{◌≡◌, ◌≢◌, ◌≤◌, ℕ, ◌+◌, true, false, Bool, List, [], ◌∷◌, ◌++◌, length, set, get_or, Some, None, Option, refl, ap, sym, subst, ◌∙◌, arith}
 use Rattle.std.specs.Prelude.{is_some, sum_by}
 use Rattle.std.specs.Option.{option_map}
 use Rattle.std.proofs.lemmas.List.{length-append, get_or-set_same, get_or-set_other, append-nil, append_assoc}
 use Rattle.std.proofs.lemmas.List.Sums.{sum_by-le-sum_by}
 use Rattle.mono_model.specs.Table.{value_at, count_of}
+use Rattle.mono_wheel.specs.Lists.{IsIn}
 use Rattle.mono_model.specs.Valid.{once_if}
 use Rattle.mono_model.specs.Due.{HasCome, ListsDue}
 use Rattle.mono_actor.specs.Actors.{Mode, idle, queued, running, Actor, Actors, in_mode}
@@ -19,7 +20,7 @@ use Rattle.mono_actor.proofs.TieLemmas.{given, Retimed, ties-same, Owned, owner}
 use Rattle.mono_actor.proofs.CountLemmas.{at-table, there, table-set, sum-set, live-count}
 use Rattle.mono_actor.proofs.TimeoutLemmas.{one_queued}
 use Rattle.mono_actor.proofs.ListLemmas.{lists-first, lists-none}
-use Rattle.mono_actor.proofs.CallLemmas.{none-some, view, stands-of, lines-of, holds-changed, queue-room}
+use Rattle.mono_actor.proofs.CallLemmas.{none-some, view, stands-of, lines-of, holds-changed, seat-free}
 
 same-some : {X : Type 0} (x y : X) → Some x ≡ Some y → x ≡ y
 same-some x y e = cc
@@ -42,7 +43,7 @@ module _ {M : Type 0} where
   pub waiting-live : (actors : Actors M) → waiting_count actors ≤ count_of actors.table
   waiting-live actors = omega (arith, sum_by-le-sum_by one_if_waits one_if_live actors.table one_waits, live-count actors.table)
 
-module _ {M : Type 0} (places : List (Option (Place M))) (timers : Alarms) (queue : List ℕ) (turn : Option ℕ) (greatest live letters cap : ℕ) (holds : Holds places timers queue turn greatest live letters cap)
+module _ {M : Type 0} (places : List (Option (Place M))) (timers : Alarms) (queue : List ℕ) (turn : Option ℕ) (greatest live letters : ℕ) (seats : List Bool) (holds : Holds places timers queue turn greatest live letters seats)
     (most_actors most_messages : ℕ) where
   -- who waits has a key that waits
   waits-key : (a tick : ℕ) → waiting_value (value_at (table_of places) a) ≡ Some tick → (p : Place M) × (value_at places a ≡ Some p) × (tick_at timers p.timer ≡ Some tick)
@@ -59,14 +60,14 @@ module _ {M : Type 0} (places : List (Option (Place M))) (timers : Alarms) (queu
       by None at due = due
       by (Some tick) at due = let found = waits-key a tick at in omega (arith, nothing.none found.0.timer tick found.2, due)
 
-  pub none-holds : (alarms2 : Alarms) → NoneRings timers alarms2 greatest → Holds places alarms2 queue turn greatest live letters cap
+  pub none-holds : (alarms2 : Alarms) → NoneRings timers alarms2 greatest → Holds places alarms2 queue turn greatest live letters seats
   none-holds alarms2 nothing = record {
     ties = ties-same places timers alarms2 holds.ties nothing.ticks nothing.known nothing.numbers;
     lines = holds.lines;
     counts = holds.counts;
     elapsed = omega (arith, nothing.elapsed);
     below = holds.below;
-    fits = holds.fits;
+    seated = holds.seated;
   }
 
   module _ (alarms2 : Alarms) (a : ℕ) (r : Rings timers alarms2 greatest a) where
@@ -95,8 +96,8 @@ module _ {M : Type 0} (places : List (Option (Place M))) (timers : Alarms) (queu
       its_tick : waiting_in (mode_of b.before.mode) ≡ Some alarms2.wheel.elapsed
       its_tick = sym (ap (λ (x : Place M). waiting_in (mode_of x.mode)) same_place) ∙ waits-tick
 
-      pub ring-room : length queue < cap
-      ring-room = queue-room places timers queue turn greatest live letters cap holds a b.before was (waits-idle (mode_of b.before.mode) alarms2.wheel.elapsed its_tick).0
+      pub ring-room : (get_or seats a false ≡ true) × (IsIn a queue → ⊥)
+      ring-room = seat-free places timers queue turn greatest live letters seats holds a b.before was (waits-idle (mode_of b.before.mode) alarms2.wheel.elapsed its_tick).0
 
       after : view (set places a (Some b.after)) (queue ++ a ∷ []) turn greatest most_actors most_messages
           ≡ queued_value (value_at (table_of places) a) (view places queue turn greatest most_actors most_messages) a
@@ -113,11 +114,11 @@ module _ {M : Type 0} (places : List (Option (Place M))) (timers : Alarms) (queu
         numbers = r.numbers;
       }
 
-      pub ring-holds : (queue2 : List ℕ) → turn ≡ None → queue2 ≡ queue ++ a ∷ [] → Holds (set places a w) alarms2 queue2 turn greatest live letters cap
+      pub ring-holds : (queue2 : List ℕ) → turn ≡ None → queue2 ≡ queue ++ a ∷ [] → Holds (set places a w) alarms2 queue2 turn greatest live letters seats
       ring-holds queue2 over last =
-          subst (λ qs. Holds (set places a w) alarms2 qs turn greatest live letters cap) (sym last) (
-          subst (λ x. Holds (set places a x) alarms2 (queue ++ a ∷ []) turn greatest live letters cap) (sym b.is) (
-          holds-changed places timers queue turn greatest live letters cap holds a b.before b.after alarms2 (queue ++ a ∷ []) turn greatest letters was b.timer re r.come holds.below
+          subst (λ qs. Holds (set places a w) alarms2 qs turn greatest live letters seats) (sym last) (
+          subst (λ x. Holds (set places a x) alarms2 (queue ++ a ∷ []) turn greatest live letters seats) (sym b.is) (
+          holds-changed places timers queue turn greatest live letters seats holds a b.before b.after alarms2 (queue ++ a ∷ []) turn greatest letters was b.timer re r.come holds.below
           (sym (ap (λ (x : Actor M). letters + length x.mailbox) b.actor))
           (omega (
             arith,

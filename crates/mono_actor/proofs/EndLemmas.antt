@@ -1,9 +1,10 @@
 -- The actors after the end of a turn.
-use Rattle.std.proofs.Common.{◌≡◌, ◌<◌, ◌≤◌, ◌^◌, ℕ, ◌+◌, true, false, Bool, cond, List, [], ◌∷◌, ◌++◌, length, set, Some, None, Option, refl, ap, sym, subst, ◌∙◌, arith}
+use Rattle.std.proofs.Common.{◌≡◌, ◌<◌, ◌≤◌, ◌^◌, ℕ, ◌+◌, true, false, Bool, cond, List, [], ◌∷◌, ◌++◌, length, set, get_or, Some, None, Option, refl, ap, sym, subst, ◌∙◌, arith}
 use Rattle.std.specs.Prelude.{is_some, ◌==◌, IfSome}
 use Rattle.std.specs.Option.{option_map}
-use Rattle.std.proofs.lemmas.List.{length-append}
+use Rattle.std.proofs.lemmas.List.{length-append, map-set}
 use Rattle.mono_model.specs.Table.{value_at, without}
+use Rattle.mono_wheel.specs.Lists.{IsIn}
 use Rattle.mono_model.specs.Valid.{once_if}
 use Rattle.mono_actor.specs.Actors.{Mode, idle, queued, running, Actor, in_mode, with_table, with_actor, queued_last, wait_from, ended_value, end_answer}
 use Rattle.mono_actor.specs.Steps.{waiting_in}
@@ -19,7 +20,7 @@ use Rattle.mono_actor.proofs.TieLemmas.{of_same, of_sets, ties-gone}
 use Rattle.mono_actor.proofs.CountLemmas.{at-table, there, table-set, counts-gone, letters-least, live-least}
 use Rattle.mono_actor.proofs.TimeoutLemmas.{gone, ends}
 use Rattle.mono_actor.proofs.NewTimeoutLemmas.{waits-ahead}
-use Rattle.mono_actor.proofs.CallLemmas.{none-some, true-false, view, stands-of, lines-of, holds-changed, queue-room}
+use Rattle.mono_actor.proofs.CallLemmas.{none-some, true-false, view, stands-of, lines-of, holds-changed, seat-free}
 
 running-mode : (m : Mode) → is_running m ≡ true → (is_queued m ≡ false) × (waiting_in m ≡ None)
 running-mode (idle w) is = absurd (true-false (sym is))
@@ -39,18 +40,18 @@ some-of None is = absurd (true-false (sym is))
 some-of (Some x) is = (x, refl)
 
 -- no turn runs any more
-pub over-holds : {M : Type 0} (places : List (Option (Place M))) (timers : Alarms) (queue : List ℕ) (turn : Option ℕ) (greatest live letters cap : ℕ) → Holds places timers queue turn greatest live letters cap
-    → Holds places timers queue None greatest live letters cap
-over-holds places timers queue turn greatest live letters cap holds = record {
+pub over-holds : {M : Type 0} (places : List (Option (Place M))) (timers : Alarms) (queue : List ℕ) (turn : Option ℕ) (greatest live letters : ℕ) (seats : List Bool) → Holds places timers queue turn greatest live letters seats
+    → Holds places timers queue None greatest live letters seats
+over-holds places timers queue turn greatest live letters seats holds = record {
   ties = holds.ties;
   lines = record { queue_is = holds.lines.queue_is; turn_is = λ me is. absurd (none-some me is) };
   counts = holds.counts;
   elapsed = holds.elapsed;
   below = holds.below;
-  fits = holds.fits;
+  seated = holds.seated;
 }
 
-module _ {M : Type 0} (places : List (Option (Place M))) (timers : Alarms) (queue : List ℕ) (turn : Option ℕ) (greatest live letters cap : ℕ) (holds : Holds places timers queue turn greatest live letters cap)
+module _ {M : Type 0} (places : List (Option (Place M))) (timers : Alarms) (queue : List ℕ) (turn : Option ℕ) (greatest live letters : ℕ) (seats : List Bool) (holds : Holds places timers queue turn greatest live letters seats)
     (most_actors most_messages me : ℕ) (runs : of_actor is_running (value_at (table_of places) me) ≡ true) (over : turn ≡ None) where
   found : (v : Option (Place M)) → value_at places me ≡ v → is_some v ≡ true
   found None at = absurd (true-false (sym (sym (ap (of_actor is_running) (at-table places me ∙ ap (option_map actor_of) at)) ∙ runs)))
@@ -72,6 +73,9 @@ module _ {M : Type 0} (places : List (Option (Place M))) (timers : Alarms) (queu
       live-least places queue live letters me p holds.counts was,
     )
 
+    pub gone-seat : (get_or seats me false ≡ true) × (IsIn me queue → ⊥)
+    gone-seat = seat-free places timers queue turn greatest live letters seats holds me p was (its-mode p was).0
+
     gone-view : view (set places me None) queue turn greatest most_actors most_messages ≡ with_table (view places queue turn greatest most_actors most_messages) (without (table_of places) me)
     gone-view = ap (with_table (view places queue turn greatest most_actors most_messages)) (table-set places me None)
 
@@ -79,15 +83,15 @@ module _ {M : Type 0} (places : List (Option (Place M))) (timers : Alarms) (queu
     gone-after w is = subst (λ x. view (set places me x) queue turn greatest most_actors most_messages ≡ with_table (view places queue turn greatest most_actors most_messages) (without (table_of places) me)) (sym is) gone-view
 
     pub gone-holds : (w : Option (Place M)) (alarms2 : Alarms) (live2 letters2 : ℕ) → w ≡ None → Freed timers alarms2 p.timer → live2 + 1 ≡ live → letters2 + length p.mailbox ≡ letters
-        → Holds (set places me w) alarms2 queue turn greatest live2 letters2 cap
-    gone-holds w alarms2 live2 letters2 is freed one mail = subst (λ x. Holds (set places me x) alarms2 queue turn greatest live2 letters2 cap) (sym is) (record {
+        → Holds (set places me w) alarms2 queue turn greatest live2 letters2 (set seats me false)
+    gone-holds w alarms2 live2 letters2 is freed one mail = subst (λ x. Holds (set places me x) alarms2 queue turn greatest live2 letters2 (set seats me false)) (sym is) (record {
       ties = ties-gone places timers alarms2 me p holds.ties was (its-mode p was).1 freed;
       lines = lines-of (set places me None) queue turn greatest most_actors most_messages _ true gone-view
           (gone (view places queue turn greatest most_actors most_messages) 0 true me over (ap (of_actor is_queued) (there places me p was) ∙ (its-mode p was).0) (stands-of places queue turn greatest most_actors most_messages holds.lines));
       counts = counts-gone places queue live live2 letters letters2 me p holds.counts was one mail (its-mode p was).0;
       elapsed = omega (arith, holds.elapsed, freed.elapsed);
       below = holds.below;
-      fits = omega (arith, holds.fits, one);
+      seated = ap (λ xs. set xs me false) holds.seated ∙ sym (map-set is_some places me None);
     })
 
   -- The actor stays.
@@ -100,8 +104,8 @@ module _ {M : Type 0} (places : List (Option (Place M))) (timers : Alarms) (queu
         ends false (value_at (table_of places) me) (view places queue turn greatest most_actors most_messages) 0 true me refl
         (ap (of_actor is_queued) (there places me b.before was) ∙ (its-mode b.before was).0) over (stands-of places queue turn greatest most_actors most_messages holds.lines)
 
-    pub rest-room : length queue < cap
-    rest-room = queue-room places timers queue turn greatest live letters cap holds me b.before was (its-mode b.before was).0
+    pub rest-room : (get_or seats me false ≡ true) × (IsIn me queue → ⊥)
+    rest-room = seat-free places timers queue turn greatest live letters seats holds me b.before was (its-mode b.before was).0
 
     module _ (some : (length b.before.mailbox == 0) ≡ false) where
       again-actor : actor_of b.after ≡ in_mode (actor_of b.before) queued
@@ -116,8 +120,8 @@ module _ {M : Type 0} (places : List (Option (Place M))) (timers : Alarms) (queu
           ∙ ap (λ i. cond i (with_actor (view places queue turn greatest most_actors most_messages) me (in_mode (actor_of b.before) (idle (wait_from greatest b.before.timeout))))
           (queued_last (view places queue turn greatest most_actors most_messages) me (actor_of b.before))) some)
 
-      again-holds : Holds (set places me (Some b.after)) timers (queue ++ me ∷ []) turn greatest live letters cap
-      again-holds = holds-changed places timers queue turn greatest live letters cap holds me b.before b.after timers (queue ++ me ∷ []) turn greatest letters was b.timer
+      again-holds : Holds (set places me (Some b.after)) timers (queue ++ me ∷ []) turn greatest live letters seats
+      again-holds = holds-changed places timers queue turn greatest live letters seats holds me b.before b.after timers (queue ++ me ∷ []) turn greatest letters was b.timer
           (of_same timers b.before.timer (waiting_in (mode_of b.after.mode)) ((holds.ties.tied me b.before was).tick ∙ (its-mode b.before was).1 ∙ sym (ap (λ (x : Actor M). waiting_in x.mode) again-actor)))
           holds.elapsed holds.below (sym (ap (λ (x : Actor M). letters + length x.mailbox) again-actor))
           (omega (arith, length-append queue (me ∷ []), ap once_if (its-mode b.before was).0, ap (λ (x : Actor M). once_if (is_queued x.mode)) again-actor))
@@ -136,8 +140,8 @@ module _ {M : Type 0} (places : List (Option (Place M))) (timers : Alarms) (queu
           ∙ ap (λ i. cond i (with_actor (view places queue turn greatest most_actors most_messages) me (in_mode (actor_of b.before) (idle (wait_from greatest b.before.timeout))))
           (queued_last (view places queue turn greatest most_actors most_messages) me (actor_of b.before))) none)
 
-      idle-holds : (alarms2 : Alarms) → Sets timers alarms2 b.before.timer (wait_from greatest b.before.timeout) → Holds (set places me (Some b.after)) alarms2 queue turn greatest live letters cap
-      idle-holds alarms2 sets = holds-changed places timers queue turn greatest live letters cap holds me b.before b.after alarms2 queue turn greatest letters was b.timer
+      idle-holds : (alarms2 : Alarms) → Sets timers alarms2 b.before.timer (wait_from greatest b.before.timeout) → Holds (set places me (Some b.after)) alarms2 queue turn greatest live letters seats
+      idle-holds alarms2 sets = holds-changed places timers queue turn greatest live letters seats holds me b.before b.after alarms2 queue turn greatest letters was b.timer
           (of_sets timers alarms2 b.before.timer _ (subst (λ t. Sets timers alarms2 b.before.timer t) (sym (ap (λ (x : Actor M). waiting_in x.mode) idle-actor)) sets))
           (omega (arith, holds.elapsed, sets.elapsed)) holds.below (sym (ap (λ (x : Actor M). letters + length x.mailbox) idle-actor))
           (omega (arith, ap once_if (its-mode b.before was).0, ap (λ (x : Actor M). once_if (is_queued x.mode)) idle-actor))
@@ -147,12 +151,12 @@ module _ {M : Type 0} (places : List (Option (Place M))) (timers : Alarms) (queu
     answers i is = ap (end_answer false) (there places me b.before was) ∙ ap (λ x. cond x after.Idle after.Again) is
 
     pub rest-again : (r : Rest) (queue2 : List ℕ) → r ≡ rest_of_turn greatest b.before → r ≡ rest.Again → queue2 ≡ queue ++ me ∷ []
-        → Holds (set places me w) timers queue2 turn greatest live letters cap
+        → Holds (set places me w) timers queue2 turn greatest live letters seats
         × (view (set places me w) queue2 turn greatest most_actors most_messages ≡ ended_value false (value_at (table_of places) me) (view places queue turn greatest most_actors most_messages) me)
         × (after.Again ≡ end_answer false (value_at (table_of places) me))
     rest-again r queue2 is again last =
         let some = again-rest (length b.before.mailbox == 0) b.before.timer (wait_from greatest b.before.timeout) (sym again ∙ is) in (
-          subst (λ qs. Holds (set places me w) timers qs turn greatest live letters cap) (sym last) (subst (λ x. Holds (set places me x) timers (queue ++ me ∷ []) turn greatest live letters cap) (sym b.is) (again-holds some)),
+          subst (λ qs. Holds (set places me w) timers qs turn greatest live letters seats) (sym last) (subst (λ x. Holds (set places me x) timers (queue ++ me ∷ []) turn greatest live letters seats) (sym b.is) (again-holds some)),
           subst (λ qs. view (set places me w) qs turn greatest most_actors most_messages ≡ ended_value false (value_at (table_of places) me) (view places queue turn greatest most_actors most_messages) me) (sym last)
               (subst (λ x. view (set places me x) (queue ++ me ∷ []) turn greatest most_actors most_messages ≡ ended_value false (value_at (table_of places) me) (view places queue turn greatest most_actors most_messages) me) (sym b.is) (again-view some)),
           sym (answers false some),
@@ -168,12 +172,12 @@ module _ {M : Type 0} (places : List (Option (Place M))) (timers : Alarms) (queu
         )
 
     pub rest-idle : (r : Rest) (k : ℕ) (t : Option ℕ) (alarms2 : Alarms) → r ≡ rest_of_turn greatest b.before → r ≡ rest.Waits k t → Sets timers alarms2 k t
-        → Holds (set places me w) alarms2 queue turn greatest live letters cap
+        → Holds (set places me w) alarms2 queue turn greatest live letters seats
         × (view (set places me w) queue turn greatest most_actors most_messages ≡ ended_value false (value_at (table_of places) me) (view places queue turn greatest most_actors most_messages) me)
         × (after.Idle ≡ end_answer false (value_at (table_of places) me))
     rest-idle r k t alarms2 is waits sets =
         let told = waits-rest (length b.before.mailbox == 0) k b.before.timer t (wait_from greatest b.before.timeout) (sym waits ∙ is) in (
-          subst (λ x. Holds (set places me x) alarms2 queue turn greatest live letters cap) (sym b.is)
+          subst (λ x. Holds (set places me x) alarms2 queue turn greatest live letters seats) (sym b.is)
               (idle-holds told.0 alarms2 (subst (λ x. Sets timers alarms2 b.before.timer x) told.2 (subst (λ x. Sets timers alarms2 x t) told.1 sets))),
           subst (λ x. view (set places me x) queue turn greatest most_actors most_messages ≡ ended_value false (value_at (table_of places) me) (view places queue turn greatest most_actors most_messages) me) (sym b.is) (idle-view told.0),
           sym (answers true told.0),

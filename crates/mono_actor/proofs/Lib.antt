@@ -16,3 +16,5 @@ pub mod ListLemmas
 pub mod ClockStepLemmas
 pub mod EndLemmas
 pub mod TimeoutTickLemmas
+pub mod QueueLemmas
+pub mod ReceiveLemmas

@@ -26,7 +26,7 @@ pub nil : {X : Type 0} (xs : List X) → xs ++ [] ≡ xs
 nil [] = refl
 nil (x ∷ xs) = ap (λ ys. x ∷ ys) (nil xs)
 
-assoc : {X : Type 0} (xs ys zs : List X) → (xs ++ ys) ++ zs ≡ xs ++ (ys ++ zs)
+pub assoc : {X : Type 0} (xs ys zs : List X) → (xs ++ ys) ++ zs ≡ xs ++ (ys ++ zs)
 assoc [] ys zs = refl
 assoc (x ∷ xs) ys zs = ap (λ us. x ∷ us) (assoc xs ys zs)
 
@@ -60,7 +60,7 @@ module _ {M : Type 0} where
   abbrev pub Holds : Table (Actor M) → ℕ → List (Letter M) → List (Letter M) → Type 0
   Holds table a sent_so_far got = Told (mail table a) sent_so_far got × (length table ≤ a → sent_so_far ≡ got)
 
-  prefix : (m : Option (List (Letter M))) (S G : List (Letter M)) → Told m S G → IsPrefix G S
+  pub prefix : (m : Option (List (Letter M))) (S G : List (Letter M)) → Told m S G → IsPrefix G S
   prefix (Some mailbox) S G told = (mailbox, told)
   prefix None S G told = told
 
@@ -69,7 +69,7 @@ module _ {M : Type 0} where
   keeps old new a S G same long holds = (subst (λ m. Told m S G) (sym same) holds.0, λ le. holds.1 (omega (arith, le, long)))
 
   -- nothing was sent to it, and it got nothing
-  quiet : (table : Table (Actor M)) (a : ℕ) (S G x y : List (Letter M)) → x ≡ [] → y ≡ [] → Holds table a S G → Holds table a (S ++ x) (G ++ y)
+  pub quiet : (table : Table (Actor M)) (a : ℕ) (S G x y : List (Letter M)) → x ≡ [] → y ≡ [] → Holds table a S G → Holds table a (S ++ x) (G ++ y)
   quiet table a S G x y no_x no_y holds =
       subst (λ g. Holds table a (S ++ x) g) (sym (ap (λ z. G ++ z) no_y ∙ nil G)) (subst (λ q. Holds table a q G) (sym (ap (λ z. S ++ z) no_x ∙ nil S)) holds)
 
@@ -116,7 +116,7 @@ module _ {M : Type 0} where
           ]
         ]
 
-    of_spawn : (r : Result ℕ ActorError) (old : Actors M) (actor : Actor M) → actor.mailbox ≡ [] → Holds old.table a S G
+    pub of_spawn : (r : Result ℕ ActorError) (old : Actors M) (actor : Actor M) → actor.mailbox ≡ [] → Holds old.table a S G
         → Holds (if_granted r old (with_table old (with_next old.table actor))).table a (S ++ []) (G ++ got_by_one a (of_number r))
     of_spawn (Ok n) old actor empty holds = quiet _ a S G [] [] refl refl (new_one old.table actor empty holds)
     of_spawn (Err e) old actor empty holds = quiet _ a S G [] [] refl refl holds
@@ -139,7 +139,7 @@ module _ {M : Type 0} where
     idle_or_not true old from to message actor at holds = letter_comes old from to message actor (in_mode (with_letter actor from message) queued) at refl holds (to == a) refl
     idle_or_not false old from to message actor at holds = letter_comes old from to message actor (with_letter actor from message) at refl holds (to == a) refl
 
-    of_sent : (full : Bool) (e : ActorError) (v w : Option (Actor M)) (old : Actors M) (from to : ℕ) (message : M) → value_at old.table to ≡ w → Holds old.table a S G
+    pub of_sent : (full : Bool) (e : ActorError) (v w : Option (Actor M)) (old : Actors M) (from to : ℕ) (message : M) → value_at old.table to ≡ w → Holds old.table a S G
         → Holds (if_granted (cond full (Err e) (sent_value v w)) old (received_value w old from to message)).table a
         (S ++ sent_by a (call.Send from to message) (of_send (cond full (Err e) (sent_value v w)))) (G ++ got_by_one a (of_send (cond full (Err e) (sent_value v w))))
     of_sent true e v w old from to message at holds = quiet _ a S G [] [] refl refl holds
@@ -175,7 +175,7 @@ module _ {M : Type 0} where
     of_mailbox table front actor [] at has holds = quiet _ a S G [] _ refl (none_got (front == a)) (holds_kept table front a actor _ S G at (sym has) holds)
     of_mailbox table front actor (letter ∷ rest) at has holds = got_first table front actor _ letter rest at has refl holds (front == a) refl
 
-    of_front : (v : Option (Actor M)) (table : Table (Actor M)) (front : ℕ) → value_at table front ≡ v → Holds table a S G
+    pub of_front : (v : Option (Actor M)) (table : Table (Actor M)) (front : ℕ) → value_at table front ≡ v → Holds table a S G
         → Holds (begun_table v table front) a (S ++ []) (G ++ cond (front == a) (letters_in (got_value v)) [])
     of_front None table front at holds = quiet _ a S G [] _ refl (none_got (front == a)) holds
     of_front (Some actor) table front at holds = of_mailbox table front actor actor.mailbox at refl holds
@@ -185,7 +185,7 @@ module _ {M : Type 0} where
     of_queue (front ∷ rest) old holds = of_front (value_at old.table front) old.table front refl holds
 
     -- The actor is removed, or stays.
-    of_gone : (table : Table (Actor M)) (me : ℕ) → Holds table a S G → Holds (without table me) a S G
+    pub of_gone : (table : Table (Actor M)) (me : ℕ) → Holds table a S G → Holds (without table me) a S G
     of_gone table me holds = elim (cases_eq a me) [
       | inr apart ↦ holds_other table me a None S G apart holds
       | inl same ↦
@@ -201,7 +201,7 @@ module _ {M : Type 0} where
     of_stay true actors me actor mode at holds = holds_kept actors.table me a actor (in_mode actor mode) S G at refl holds
     of_stay false actors me actor mode at holds = holds_kept actors.table me a actor (in_mode actor queued) S G at refl holds
 
-    of_end : (stop : Bool) (v : Option (Actor M)) (actors : Actors M) (me : ℕ) → value_at actors.table me ≡ v → Holds actors.table a S G → Holds (ended_value stop v actors me).table a S G
+    pub of_end : (stop : Bool) (v : Option (Actor M)) (actors : Actors M) (me : ℕ) → value_at actors.table me ≡ v → Holds actors.table a S G → Holds (ended_value stop v actors me).table a S G
     of_end true v actors me at holds = of_gone actors.table me holds
     of_end false None actors me at holds = holds
     of_end false (Some actor) actors me at holds = of_stay (length actor.mailbox == 0) actors me actor _ at holds
@@ -261,7 +261,7 @@ got_in_order M calls answers most_actors most_messages new a run =
     let holds = run_holds calls answers (no_actors most_actors most_messages) new a [] [] (([], refl), λ le. refl) run in
     prefix (mail new.table a) _ _ holds.0
 
-filter_joined : {X : Type 0} (p : X → Bool) (xs ys : List X) → filter p (xs ++ ys) ≡ filter p xs ++ filter p ys
+pub filter_joined : {X : Type 0} (p : X → Bool) (xs ys : List X) → filter p (xs ++ ys) ≡ filter p xs ++ filter p ys
 filter_joined p [] ys = refl
 filter_joined {X} p (x ∷ xs) ys = by (p x) (filter_joined p xs ys)
   where

@@ -1,5 +1,5 @@
 -- The actors after a new timeout.
-use Rattle.std.proofs.Common.{◌≡◌, ◌<◌, ◌≤◌, ◌^◌, inl, inr, ℕ, ◌+◌, true, cond, List, length, set, Some, None, Option, refl, ap, sym, subst, ◌∙◌, arith}
+use Rattle.std.proofs.Common.{◌≡◌, ◌<◌, ◌≤◌, ◌^◌, inl, inr, ℕ, ◌+◌, true, Bool, cond, List, length, set, Some, None, Option, refl, ap, sym, subst, ◌∙◌, arith}
 use Rattle.std.specs.Prelude.{IfSome, nat_lt}
 use Rattle.std.proofs.lemmas.Bool.{cases_lt, lt-ltb, le-ltb}
 use Rattle.std.proofs.lemmas.Bool.Decides.{eqb_tells}
@@ -34,7 +34,7 @@ waits-ahead elapsed now timeout past = elim (eqb_tells timeout 0) [
           (omega (arith, past, some), omega (arith, not_less))
     ]
 
-module _ {M : Type 0} (places : List (Option (Place M))) (timers : Alarms) (queue : List ℕ) (turn : Option ℕ) (greatest live letters cap : ℕ) (holds : Holds places timers queue turn greatest live letters cap)
+module _ {M : Type 0} (places : List (Option (Place M))) (timers : Alarms) (queue : List ℕ) (turn : Option ℕ) (greatest live letters : ℕ) (seats : List Bool) (holds : Holds places timers queue turn greatest live letters seats)
     (most_actors most_messages a ms : ℕ) (v w : Option (Place M)) (at : value_at places a ≡ v) (b : Becomes (timed_actor greatest ms) v w) where
   was : value_at places a ≡ Some b.before
   was = at ∙ b.was
@@ -48,15 +48,15 @@ module _ {M : Type 0} (places : List (Option (Place M))) (timers : Alarms) (queu
   pub timed-after : view (set places a w) queue turn greatest most_actors most_messages ≡ timed_value (value_at (table_of places) a) (view places queue turn greatest most_actors most_messages) a ms
   timed-after = subst (λ x. view (set places a x) queue turn greatest most_actors most_messages ≡ timed_value (value_at (table_of places) a) (view places queue turn greatest most_actors most_messages) a ms) (sym b.is) after
 
-  timed-holds : (alarms2 : Alarms) → Retimed timers alarms2 b.before.timer (waiting_in (mode_of b.after.mode)) → alarms2.wheel.elapsed ≤ greatest → Holds (set places a w) alarms2 queue turn greatest live letters cap
-  timed-holds alarms2 re elapsed = subst (λ x. Holds (set places a x) alarms2 queue turn greatest live letters cap) (sym b.is) (
-      holds-changed places timers queue turn greatest live letters cap holds a b.before b.after alarms2 queue turn greatest letters was b.timer re elapsed holds.below
+  timed-holds : (alarms2 : Alarms) → Retimed timers alarms2 b.before.timer (waiting_in (mode_of b.after.mode)) → alarms2.wheel.elapsed ≤ greatest → Holds (set places a w) alarms2 queue turn greatest live letters seats
+  timed-holds alarms2 re elapsed = subst (λ x. Holds (set places a x) alarms2 queue turn greatest live letters seats) (sym b.is) (
+      holds-changed places timers queue turn greatest live letters seats holds a b.before b.after alarms2 queue turn greatest letters was b.timer re elapsed holds.below
       (sym (ap (λ (x : Actor M). letters + length x.mailbox) b.actor))
       (ap (λ q. length queue + once_if q) (sym (ap (λ (x : Actor M). is_queued x.mode) b.actor ∙ queued-timed greatest ms (mode_of b.before.mode))))
       (lines-of (set places a (Some b.after)) queue turn greatest most_actors most_messages _ true after
       (timed_stands (value_at (table_of places) a) (view places queue turn greatest most_actors most_messages) 0 true a ms refl (stands-of places queue turn greatest most_actors most_messages holds.lines))))
 
-  pub timed-keeps : (r : Timing) → r ≡ timing_of greatest ms b.before → r ≡ timing.Keeps → Holds (set places a w) timers queue turn greatest live letters cap
+  pub timed-keeps : (r : Timing) → r ≡ timing_of greatest ms b.before → r ≡ timing.Keeps → Holds (set places a w) timers queue turn greatest live letters seats
   timed-keeps r is keeps =
       let busy = timing-keeps greatest ms b.before.timer b.before.mode (sym keeps ∙ is) in
       timed-holds timers (of_same timers b.before.timer (waiting_in (mode_of b.after.mode))
@@ -72,7 +72,7 @@ module _ {M : Type 0} (places : List (Option (Place M))) (timers : Alarms) (queu
       )
 
   pub timed-rearms : (r : Timing) (k : ℕ) (from to : Option ℕ) (mid alarms2 : Alarms) → r ≡ timing_of greatest ms b.before → r ≡ timing.Rearms k from to → Sets timers mid k None → Sets mid alarms2 k to
-      → Holds (set places a w) alarms2 queue turn greatest live letters cap
+      → Holds (set places a w) alarms2 queue turn greatest live letters seats
   timed-rearms r k from to mid alarms2 is rearms cleared put =
       let told = timing-rearms greatest ms b.before.timer k from to b.before.mode (sym rearms ∙ is) in
       let re : Retimed timers alarms2 k to = of_both timers mid alarms2 k None to (of_sets timers mid k None cleared) (of_sets mid alarms2 k to put) in

@@ -1,6 +1,6 @@
 -- The answer of a spawn, and the actors after it.
 use Rattle.std.proofs.Common.{◌≡◌, ◌<◌, ◌≤◌, ◌^◌, ◌-◌, ℕ, ◌+◌, true, false, Bool, cond, List, [], ◌∷◌, ◌++◌, length, Some, None, Option, refl, ap, sym, subst, ◌∙◌, arith, ne_eqb}
-use Rattle.std.specs.Prelude.{◌==◌, ◌||◌, Ok, Err, IsOk}
+use Rattle.std.specs.Prelude.{◌==◌, ◌||◌, is_some, Ok, Err, IsOk}
 use Rattle.std.specs.Option.{option_map}
 use Rattle.std.proofs.lemmas.Bool.{le-leb, lt-leb}
 use Rattle.std.proofs.lemmas.Bool.Decides.{nat_tests}
@@ -37,8 +37,8 @@ none-some : {X : Type 0} (x : X) → None ≡ Some x → ⊥
 none-some x e = cc
 
 -- with no actor
-pub none-hold : {M : Type 0} (timers : Alarms) (cap : ℕ) → timers.wheel.elapsed ≡ 0 → ((key : ℕ) → tick_at timers key ≡ None) → ((key : ℕ) → is_known timers key ≡ false) → Holds {M = M} [] timers [] None 0 0 0 cap
-none-hold {M} timers cap elapsed none free = record {
+pub none-hold : {M : Type 0} (timers : Alarms) (seats : List Bool) → seats ≡ [] → timers.wheel.elapsed ≡ 0 → ((key : ℕ) → tick_at timers key ≡ None) → ((key : ℕ) → is_known timers key ≡ false) → Holds {M = M} [] timers [] None 0 0 0 seats
+none-hold {M} timers seats no_seat elapsed none free = record {
   ties = record {
     tied = λ a place at. absurd (omega (arith, given {V = Place M} [] a place at));
     owned = λ key tick at. absurd (none-some tick (sym (none key) ∙ at));
@@ -51,10 +51,10 @@ none-hold {M} timers cap elapsed none free = record {
   counts = record { live_is = refl; letters_is = refl; listed = refl };
   elapsed = omega (arith, elapsed);
   below = omega arith;
-  fits = omega arith;
+  seated = no_seat;
 }
 
-module _ {M : Type 0} (places : List (Option (Place M))) (timers : Alarms) (queue : List ℕ) (turn : Option ℕ) (greatest live letters cap : ℕ) (holds : Holds places timers queue turn greatest live letters cap)
+module _ {M : Type 0} (places : List (Option (Place M))) (timers : Alarms) (queue : List ℕ) (turn : Option ℕ) (greatest live letters : ℕ) (seats : List Bool) (holds : Holds places timers queue turn greatest live letters seats)
     (most_actors most_messages : ℕ) where
   abbrev newcomer : Actor M
   newcomer = record { mode = idle None; mailbox = []; timeout = 0 }
@@ -91,35 +91,25 @@ module _ {M : Type 0} (places : List (Option (Place M))) (timers : Alarms) (queu
   pub is-granted : live < most_actors → length places < 2 ^ 64 - 1 → IsOk (spawn_answer (view places queue turn greatest most_actors most_messages))
   is-granted room small = subst (λ r. IsOk r) (sym (granted-answer room small)) refl
 
-  pub stays-hold : (alarms2 : Alarms) (cap2 : ℕ) → Stays timers alarms2 → cap ≤ cap2 → Holds places alarms2 queue turn greatest live letters cap2
-  stays-hold alarms2 cap2 stays grown = record {
+  pub stays-hold : (alarms2 : Alarms) → Stays timers alarms2 → Holds places alarms2 queue turn greatest live letters seats
+  stays-hold alarms2 stays = record {
     ties = ties-same places timers alarms2 holds.ties stays.ticks stays.known stays.numbers;
     lines = holds.lines;
     counts = holds.counts;
     elapsed = omega (arith, holds.elapsed, stays.elapsed);
     below = holds.below;
-    fits = omega (arith, holds.fits, grown);
+    seated = holds.seated;
   }
 
   -- the key of an actor that found no memory is given back
-  pub undone-hold : (alarms2 alarms3 : Alarms) (number key cap2 : ℕ) → Added timers alarms2 number key → Freed alarms2 alarms3 key → cap ≤ cap2 → Holds places alarms3 queue turn greatest live letters cap2
-  undone-hold alarms2 alarms3 number key cap2 added freed grown = record {
+  pub undone-hold : (alarms2 alarms3 : Alarms) (number key : ℕ) → Added timers alarms2 number key → Freed alarms2 alarms3 key → Holds places alarms3 queue turn greatest live letters seats
+  undone-hold alarms2 alarms3 number key added freed = record {
     ties = ties-undone places timers alarms2 alarms3 number key holds.ties added freed;
     lines = holds.lines;
     counts = holds.counts;
     elapsed = omega (arith, holds.elapsed, added.elapsed, freed.elapsed);
     below = holds.below;
-    fits = omega (arith, holds.fits, grown);
-  }
-
-  pub room-holds : (cap2 : ℕ) → cap ≤ cap2 → Holds places timers queue turn greatest live letters cap2
-  room-holds cap2 grown = record {
-    ties = holds.ties;
-    lines = holds.lines;
-    counts = holds.counts;
-    elapsed = holds.elapsed;
-    below = holds.below;
-    fits = omega (arith, holds.fits, grown);
+    seated = holds.seated;
   }
 
   module _ (q : Place M) (actor : actor_of q ≡ record { mode = idle None; mailbox = []; timeout = 0 }) where
@@ -131,13 +121,13 @@ module _ {M : Type 0} (places : List (Option (Place M))) (timers : Alarms) (queu
         new-view
         ∙ sym (ap (λ r. if_granted r (view places queue turn greatest most_actors most_messages) (with_table (view places queue turn greatest most_actors most_messages) (with_next (table_of places) newcomer))) (granted-answer room small))
 
-    pub entered-holds : (alarms2 : Alarms) (cap2 : ℕ) → Added timers alarms2 (length places) q.timer → live < cap2 → Holds (places ++ Some q ∷ []) alarms2 queue turn greatest (live + 1) letters cap2
-    entered-holds alarms2 cap2 added fits = record {
+    pub entered-holds : (alarms2 : Alarms) → Added timers alarms2 (length places) q.timer → Holds (places ++ Some q ∷ []) alarms2 queue turn greatest (live + 1) letters (seats ++ true ∷ [])
+    entered-holds alarms2 added = record {
       ties = ties-added places timers alarms2 q holds.ties (ap (λ (x : Actor M). waiting_in x.mode) actor) added;
       lines = lines-of (places ++ Some q ∷ []) queue turn greatest most_actors most_messages _ true new-view
           (spawned_stands (Ok 0) (view places queue turn greatest most_actors most_messages) 0 true newcomer refl (stands-of places queue turn greatest most_actors most_messages holds.lines));
       counts = counts-added places queue live letters q holds.counts (ap (λ (x : Actor M). x.mailbox) actor) (ap (λ (x : Actor M). is_queued x.mode) actor);
       elapsed = omega (arith, holds.elapsed, added.elapsed);
       below = holds.below;
-      fits = omega (arith, fits);
+      seated = ap (λ xs. xs ++ true ∷ []) holds.seated ∙ sym (map-append is_some places (Some q ∷ []));
     }

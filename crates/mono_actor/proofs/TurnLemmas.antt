@@ -1,10 +1,10 @@
 -- The actors after a turn's start and end.
-use Rattle.std.proofs.Common.{◌≡◌, ◌≤◌, ℕ, ◌+◌, ◌-◌, true, List, [], ◌∷◌, length, set, Some, None, Option, refl, ap, sym, subst, ◌∙◌, arith, eq-eqb}
+use Rattle.std.proofs.Common.{◌≡◌, ◌≤◌, ℕ, ◌+◌, ◌-◌, true, Bool, List, [], ◌∷◌, length, set, Some, None, Option, refl, ap, sym, subst, ◌∙◌, arith, eq-eqb}
 use Rattle.std.specs.Prelude.{is_some}
 use Rattle.std.specs.Option.{option_map}
 use Rattle.mono_model.specs.Table.{value_at}
 use Rattle.mono_model.specs.Valid.{times, once_if}
-use Rattle.mono_actor.specs.Actors.{Actor, Actors, idle, queued, running, got_in, rest_of, begun_for, begun_table}
+use Rattle.mono_actor.specs.Actors.{Mode, Actor, idle, queued, running, got_in, rest_of, begun_for, begun_table}
 use Rattle.mono_actor.specs.Steps.{waiting_in}
 use Rattle.mono_actor.specs.QueueInvariants.{is_queued, of_actor}
 use Rattle.mono_actor.specs.Places.{mode_of, actor_of, table_of, Becomes, taken_by, begun_actor, Place}
@@ -17,16 +17,21 @@ use Rattle.mono_actor.proofs.CountLemmas.{at-table, there, table-set, letters-le
 use Rattle.mono_actor.proofs.TimeoutLemmas.{begins, is_once}
 use Rattle.mono_actor.proofs.CallLemmas.{true-false, view, stands-of, lines-of, holds-changed}
 
+pub waits-not : (m : Mode) → is_queued m ≡ true → waiting_in m ≡ None
+waits-not (idle x) e = absurd (true-false (sym e))
+waits-not queued e = refl
+waits-not running e = refl
+
 module _ {M : Type 0} where
-  taken-rest : (mailbox : List (Letter M)) → taken_by (got_in mailbox) + length (rest_of mailbox) ≡ length mailbox
+  pub taken-rest : (mailbox : List (Letter M)) → taken_by (got_in mailbox) + length (rest_of mailbox) ≡ length mailbox
   taken-rest [] = refl
   taken-rest (letter ∷ mailbox) = omega arith
 
-  queued-there : (v : Option (Place M)) → of_actor is_queued (option_map actor_of v) ≡ true → is_some v ≡ true
+  pub queued-there : (v : Option (Place M)) → of_actor is_queued (option_map actor_of v) ≡ true → is_some v ≡ true
   queued-there None is = absurd (true-false (sym is))
   queued-there (Some p) is = refl
 
-module _ {M : Type 0} (places : List (Option (Place M))) (timers : Alarms) (queue : List ℕ) (turn : Option ℕ) (greatest live letters cap : ℕ) (holds : Holds places timers queue turn greatest live letters cap)
+module _ {M : Type 0} (places : List (Option (Place M))) (timers : Alarms) (queue : List ℕ) (turn : Option ℕ) (greatest live letters : ℕ) (seats : List Bool) (holds : Holds places timers queue turn greatest live letters seats)
     (most_actors most_messages front : ℕ) (rest : List ℕ) (is : queue ≡ front ∷ rest) where
   front-queued : of_actor is_queued (value_at (table_of places) front) ≡ true
   front-queued = is_once _ (omega (arith, ap (λ q. times q front) (sym is) ∙ holds.lines.queue_is front, ap once_if (eq-eqb front front refl)))
@@ -54,14 +59,9 @@ module _ {M : Type 0} (places : List (Option (Place M))) (timers : Alarms) (queu
     pub begun-after : view (set places front w) rest (Some front) greatest most_actors most_messages ≡ begun_for queue (view places queue turn greatest most_actors most_messages)
     begun-after = subst (λ x. view (set places front x) rest (Some front) greatest most_actors most_messages ≡ begun_for queue (view places queue turn greatest most_actors most_messages)) (sym b.is) after
 
-    waits-not : (m : Rattle.mono_actor.specs.Actors.Mode) → is_queued m ≡ true → waiting_in m ≡ None
-    waits-not (idle x) e = absurd (true-false (sym e))
-    waits-not queued e = refl
-    waits-not running e = refl
-
-    pub begun-holds : (letters2 : ℕ) → letters2 ≡ letters - taken_by got → Holds (set places front w) timers rest (Some front) greatest live letters2 cap
-    begun-holds letters2 fewer = subst (λ x. Holds (set places front x) timers rest (Some front) greatest live letters2 cap) (sym b.is) (
-        holds-changed places timers queue turn greatest live letters cap holds front b.before b.after timers rest (Some front) greatest letters2 was b.timer
+    pub begun-holds : (letters2 : ℕ) → letters2 ≡ letters - taken_by got → Holds (set places front w) timers rest (Some front) greatest live letters2 seats
+    begun-holds letters2 fewer = subst (λ x. Holds (set places front x) timers rest (Some front) greatest live letters2 seats) (sym b.is) (
+        holds-changed places timers queue turn greatest live letters seats holds front b.before b.after timers rest (Some front) greatest letters2 was b.timer
         (of_same timers b.before.timer (waiting_in (mode_of b.after.mode))
         ((holds.ties.tied front b.before was).tick ∙ waits-not (mode_of b.before.mode) before-queued ∙ sym (ap (λ (x : Actor M). waiting_in x.mode) b.actor)))
         holds.elapsed holds.below

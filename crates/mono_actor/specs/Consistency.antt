@@ -1,5 +1,5 @@
 -- The invariant between the places, the timers and the counts.
-use Rattle.std.specs.Prelude.{◌≡◌, ◌<◌, ◌≤◌, ◌^◌, ℕ, true, List, length, sum_by, Option, Some, None}
+use Rattle.std.specs.Prelude.{◌≡◌, ◌<◌, ◌≤◌, ◌^◌, ℕ, Bool, true, List, length, map, sum_by, is_some, Option, Some, None}
 use Rattle.mono_model.specs.Table.{value_at}
 use Rattle.mono_model.specs.Valid.{times, once_if}
 use Rattle.mono_actor.specs.Actors.{letters_of}
@@ -37,11 +37,11 @@ module _ {M : Type 0} where
     pub letters_is : letters ≡ sum_by letters_of (table_of places)
     pub listed : length queue ≡ sum_by one_if_queued (table_of places)
 
-  -- The queue has room for all live actors, and the wheel's clock is not past the greatest tick.
-  pub record Holds (places : List (Option (Place M))) (timers : Alarms) (queue : List ℕ) (turn : Option ℕ) (greatest live letters room : ℕ) : Type 0 where
+  -- Exactly the live actors have a seat in the queue, and the wheel's clock is not past the greatest tick.
+  pub record Holds (places : List (Option (Place M))) (timers : Alarms) (queue : List ℕ) (turn : Option ℕ) (greatest live letters : ℕ) (seats : List Bool) : Type 0 where
     pub ties : Ties places timers
     pub lines : Lines places queue turn
     pub counts : Counts places queue live letters
     pub elapsed : timers.wheel.elapsed ≤ greatest
     pub below : greatest < 2 ^ 63
-    pub fits : live ≤ room
+    pub seated : seats ≡ map is_some places

@@ -15,3 +15,5 @@ pub mod Timers
 pub mod Consistency
 pub mod Callers
 pub mod ClockSteps
+pub mod Queues
+pub mod Receives

@@ -6,6 +6,7 @@ mod answers;
 pub mod laws;
 mod mailboxes;
 mod places;
+mod queues;
 pub mod rows;
 mod store;
 mod table;

@@ -3,7 +3,8 @@ ghost use Rattle.std.specs.Prelude.{◌≡◌, ◌<◌, ◌^◌, ◌==◌, None,
 ghost use Rattle.mono_model.specs.Ticks.{down};
 ghost use Rattle.mono_time.specs.Instants.{nanos_of};
 ghost use Rattle.mono_actor.specs.Actors.{wait_from};
-ghost use Rattle.mono_actor.specs.Places.{receipt_in, timing_in, rest_in, taken_by};
+ghost use Rattle.mono_actor.specs.QueueInvariants.{is_queued};
+ghost use Rattle.mono_actor.specs.Places.{mode_of, receipt_in, timing_in, rest_in, taken_by};
 ghost use Rattle.mono_actor.specs.Entries.{entry_with, entry_in, notified, timed_entry, rested_entry};
 ghost use Rattle.mono_actor.specs.declared.answers.Got.TheVariants as got;
 ghost use Rattle.mono_actor.specs.declared.places.Mode.TheVariants as place;
@@ -119,6 +120,17 @@ pub fn set_timeout(entry: &mut Entry, now: u64, timeout: u64) -> Timing
             Timing::Rearms(entry.timer, waits_for, tick)
         }
         Mode::Queued | Mode::Running => Timing::Keeps,
+    }
+}
+
+/// Returns whether the actor is queued.
+#[inline(always)]
+pub fn is_queued(entry: &Entry) -> bool
+    ensures { result ≡ is_queued (mode_of entry.now.mode) }
+{
+    match entry.mode {
+        Mode::Queued => true,
+        Mode::Idle(_) | Mode::Running => false,
     }
 }
 

@@ -3,7 +3,8 @@ ghost use Rattle.std.specs.Prelude.{◌≡◌, ◌<◌, ◌+◌, ◌-◌, ◌^�
 ghost use Rattle.slab.specs.Slab.{slab_len};
 ghost use Rattle.mono_model.specs.Table.{value_at};
 ghost use Rattle.mono_actor.specs.Actors.{queued, got_in, in_mode};
-ghost use Rattle.mono_actor.specs.Places.{receipt_of, timing_of, rest_of_turn, delivered, timed_actor, begun_actor, unread, first_of, rested, Changes};
+ghost use Rattle.mono_actor.specs.Places.{receipt_of, timing_of, rest_of_turn, delivered, timed_actor, begun_actor, unread, first_of, rested, table_of, Changes};
+ghost use Rattle.mono_actor.specs.QueueInvariants.{is_queued, of_actor};
 ghost use Rattle.mono_actor.specs.Mailboxes.{Sound};
 ghost use Rattle.mono_actor.specs.Uniqueness.{found};
 ghost use Rattle.mono_actor.specs.declared.places.Mode.TheVariants as place;
@@ -11,8 +12,8 @@ ghost use Rattle.mono_actor.specs.declared.places.Mode.TheVariants as place;
 use crate::answers::Got;
 use crate::mailboxes::{Letter, Link, Mailbox, put, take};
 use crate::places::{
-    Entry, Gone, Receipt, Rest, Timing, end_turn, got_of, new_entry, notify, ring, set_mailbox,
-    set_timeout, start,
+    Entry, Gone, Receipt, Rest, Timing, end_turn, got_of, is_queued, new_entry, notify, ring,
+    set_mailbox, set_timeout, start,
 };
 use mono_table::Table;
 use slab::Slab;
@@ -55,6 +56,17 @@ impl<M> Store<M> {
         ensures { result ≡ is_some (value_at (places_of self.now) actor) }
     {
         self.entries.get(actor).is_some()
+    }
+
+    /// Returns whether a number has an actor that is queued.
+    #[inline(always)]
+    pub(crate) fn is_queued(&self, actor: u64) -> bool
+        ensures { result ≡ of_actor is_queued (value_at (table_of (places_of self.now)) actor) }
+    {
+        match self.entries.get(actor) {
+            None => false,
+            Some(entry) => is_queued(entry),
+        }
     }
 
     /// Adds an actor at the next number, with this key. It is refused only if it is out of memory; nothing changed

@@ -1,6 +1,5 @@
 // Actors by their numbers, and the queue of those that run next.
 ghost use Rattle.std.specs.Prelude.{◌≡◌, ◌<◌, ◌≤◌, ◌^◌, ℕ, ◌+◌, ◌-◌, true, None, Some, IfOk, OnOk, IfErr, OnErr, IfSome, is_some, length, vec_len, vec_capacity};
-ghost use Rattle.std.specs.VecDeque.{deque_capacity};
 ghost use Rattle.mono_model.specs.Table.{value_at, count_of};
 ghost use Rattle.mono_actor.specs.Consistency.{Holds};
 ghost use Rattle.mono_actor.specs.Store.{places_of};
@@ -8,12 +7,12 @@ ghost use Rattle.mono_actor.specs.Store.{places_of};
 use crate::answers::{ActorError, After, Got, SendRefused, Sent};
 use crate::mailboxes::Letter;
 use crate::places::{Receipt, Rest, Timing, clock_tick, taken};
+use crate::queues::Queue;
 use crate::store::Store;
 use crate::timers::Alarms;
 use mono_time::Instant;
 use mono_wheel::Steps;
 use std::alloc::{AllocError, Global};
-use std::collections::VecDeque;
 use std::sync::ledger::Ledger;
 
 /// Actors with mailboxes, whose turns come one after another, and their receive timeouts.
@@ -28,7 +27,7 @@ use std::sync::ledger::Ledger;
 pub struct Actors<M> {
     // The entries of the live actors, by number.
     places: Store<M>,
-    queue: VecDeque<u64>,
+    queue: Queue,
     timers: Alarms,
     turn: Option<u64>,
     // The greatest tick of the clock so far.
@@ -37,11 +36,12 @@ pub struct Actors<M> {
     most_messages: u64,
     live: u64,
     letters: u64,
-    pub ghost holds: { Holds (places_of places) timers queue.items turn greatest live letters (deque_capacity queue) },
+    pub ghost holds: { Holds (places_of places) timers queue.items turn greatest live letters queue.seats },
 }
 
 impl<M> Actors<M> {
     ghost use Rattle.mono_actor.specs.Actors.{no_actors, if_granted, spawn_answer, spawned, send_answer, sent, sent_in, received_value, timeout_answer, timed, begin_answer, begun};
+    ghost use Rattle.mono_actor.specs.Receives.{begin_of_answer, begun_of, waits_at};
     ghost use Rattle.mono_actor.specs.Callers.{OrLacksMemory, actors_of, without_message};
 
     /// Returns a table without actors, with room for `actors` live ones and `messages` messages in all mailboxes.
@@ -51,7 +51,7 @@ impl<M> Actors<M> {
         let timers = Alarms::new(alloc)?;
         Ok(Actors {
             places: Store::new(alloc),
-            queue: VecDeque::new(alloc),
+            queue: Queue::new(alloc),
             timers,
             turn: None,
             greatest: 0,
@@ -74,6 +74,13 @@ impl<M> Actors<M> {
         ensures { result ≡ is_some (actors_of self.now).turn }
     {
         self.turn.is_some()
+    }
+
+    /// Returns whether the actor is live and not queued: no message waits for it, and its timeout has not come.
+    pub fn is_waiting(&self, actor: u64) -> bool
+        ensures { result ≡ waits_at (actors_of self.now) actor }
+    {
+        self.places.is_there(actor) && !self.places.is_queued(actor)
     }
 
     /// Adds an actor with the next number. It is idle, its mailbox is empty, and it has no timeout.
@@ -104,11 +111,11 @@ impl<M> Actors<M> {
         ensures entered { OnOk result (actors_of self.new ≡ spawned (actors_of self.old)) }
         ensures refused { OnErr result (actors_of self.new ≡ actors_of self.old) }
     {
-        self.queue
-            .reserve(self.live as usize + 1 - self.queue.len())?;
+        self.queue.reserve(alloc)?;
         let timer = self.timers.add(alloc, self.places.len())?;
         match self.places.push(alloc, timer) {
             Ok(()) => {
+                self.queue.add();
                 self.live += 1;
                 Ok(())
             }
@@ -168,7 +175,7 @@ impl<M> Actors<M> {
         match receipt {
             Receipt::Queues(timer, tick) => {
                 self.timers.clear(timer, tick);
-                self.queue.push_back_reserved(to);
+                self.queue.push_back(to);
                 Ok(Sent::Queued)
             }
             Receipt::Waits => Ok(Sent::Waits),
@@ -214,6 +221,31 @@ impl<M> Actors<M> {
         self.turn = Some(front);
         Ok((front, got))
     }
+
+    /// Begins the turn of this actor if it is queued; it leaves the queue from wherever it is. It gets the first
+    /// message of its mailbox, or a timeout if and only if its mailbox is empty. No turn may be running. It takes a few
+    /// look-ups, for any number of actors and messages.
+    ///
+    /// Returns `None` if and only if the actor is live and not queued: no message waits for it, and its timeout has not
+    /// come. Refuses the call as `NoActor` if and only if no live actor has the number (`answer`). In both cases nothing
+    /// changes (`after`).
+    pub fn begin_of(&mut self, actor: u64) -> Result<Option<Got<M>>, ActorError>
+        requires { (actors_of self.old).turn ≡ None }
+        ensures answer { result ≡ begin_of_answer (actors_of self.old) actor }
+        ensures after { actors_of self.new ≡ begun_of (actors_of self.old) actor }
+    {
+        if !self.places.is_there(actor) {
+            return Err(ActorError::NoActor);
+        }
+        if !self.places.is_queued(actor) {
+            return Ok(None);
+        }
+        self.queue.remove(actor);
+        let got = self.places.begin_turn(actor);
+        self.letters -= taken(&got);
+        self.turn = Some(actor);
+        Ok(Some(got))
+    }
 }
 
 impl<M: Drop> Actors<M> {
@@ -251,6 +283,7 @@ impl<M: Drop> Actors<M> {
     {
         let gone = self.places.take_away(me);
         self.timers.free(gone.timer);
+        self.queue.free(me);
         self.letters -= gone.letters;
         self.live -= 1;
     }
@@ -264,7 +297,7 @@ impl<M: Drop> Actors<M> {
     {
         match self.places.end_turn(me, self.greatest) {
             Rest::Again => {
-                self.queue.push_back_reserved(me);
+                self.queue.push_back(me);
                 After::Again
             }
             Rest::Waits(timer, tick) => {
@@ -318,7 +351,7 @@ impl<M> Actors<M> {
     {
         let actor = self.timers.poll(self.greatest, steps)?;
         self.places.ring(actor);
-        self.queue.push_back_reserved(actor);
+        self.queue.push_back(actor);
         Some(actor)
     }
 }

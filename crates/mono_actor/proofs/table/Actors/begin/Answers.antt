@@ -28,7 +28,7 @@ invariant_of-self-2 g c =
     let b = c.begin_turn-got.ensures.becomes.becomes in
     let got = subst (λ v. IfSome v (λ p. c.begin_turn-got.result ≡ got_in p.mailbox)) b.was c.begin_turn-got.ensures.got in
     record {
-      holds = rw (c.pop_front.ensures.capacity, c.begin_turn-got.ensures.becomes.is) (begun-holds (places_of t.places) t.timers t.queue.items t.turn t.greatest t.live t.letters _ t.holds t.most_actors t.most_messages c.in-Some.front c.pop_front.new.self.items c.in-Some.ensures.items c.requires
+      holds = rw (c.pop_front.ensures.seats, c.begin_turn-got.ensures.becomes.is) (begun-holds (places_of t.places) t.timers t.queue.items t.turn t.greatest t.live t.letters _ t.holds t.most_actors t.most_messages c.in-Some.front c.pop_front.new.self.items c.in-Some.ensures.items c.requires
           (value_at (places_of t.places) c.in-Some.front) c.begin_turn-got.ensures.becomes.place refl b c.begin_turn-got.result got _ (ap (λ n. t.letters - n) c.taken.ensures));
     }
 

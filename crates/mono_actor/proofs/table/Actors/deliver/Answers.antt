@@ -15,18 +15,21 @@ clear-requires g c =
     (deliver-clears (places_of t.places) t.timers t.queue.items t.turn t.greatest t.live t.letters _ t.holds t.most_actors t.most_messages c.args.to c.args.letter (value_at (places_of t.places) c.args.to) c.in_ok-receipt.ensures.becomes.place refl b
     c.in_ok-receipt.receipt c.in-Queues.timer c.in-Queues.tick is c.in-Queues.is).0
 
-pub push_back_reserved-requires : goal.push_back_reserved-requires
-push_back_reserved-requires g c =
+pub push_back-requires-clause-seat : goal.push_back-requires-clause-seat
+push_back-requires-clause-seat g c =
     let t = c.args.self.now in
     let b = c.in_ok-receipt.ensures.becomes.becomes in
     let is = subst (λ v. IfSome v (λ p. c.in_ok-receipt.receipt ≡ receipt_of p)) b.was c.in_ok-receipt.ensures.receipt in
-    let len = t.queue.ok in
-    omega (
-      arith,
-      len,
-      (deliver-clears (places_of t.places) t.timers t.queue.items t.turn t.greatest t.live t.letters _ t.holds t.most_actors t.most_messages c.args.to c.args.letter (value_at (places_of t.places) c.args.to) c.in_ok-receipt.ensures.becomes.place refl b
-          c.in_ok-receipt.receipt c.in-Queues.timer c.in-Queues.tick is c.in-Queues.is).1,
-    )
+    (deliver-clears (places_of t.places) t.timers t.queue.items t.turn t.greatest t.live t.letters _ t.holds t.most_actors t.most_messages c.args.to c.args.letter (value_at (places_of t.places) c.args.to) c.in_ok-receipt.ensures.becomes.place refl b
+    c.in_ok-receipt.receipt c.in-Queues.timer c.in-Queues.tick is c.in-Queues.is).1
+
+pub push_back-requires-clause-out : goal.push_back-requires-clause-out
+push_back-requires-clause-out g c =
+    let t = c.args.self.now in
+    let b = c.in_ok-receipt.ensures.becomes.becomes in
+    let is = subst (λ v. IfSome v (λ p. c.in_ok-receipt.receipt ≡ receipt_of p)) b.was c.in_ok-receipt.ensures.receipt in
+    (deliver-clears (places_of t.places) t.timers t.queue.items t.turn t.greatest t.live t.letters _ t.holds t.most_actors t.most_messages c.args.to c.args.letter (value_at (places_of t.places) c.args.to) c.in_ok-receipt.ensures.becomes.place refl b
+    c.in_ok-receipt.receipt c.in-Queues.timer c.in-Queues.tick is c.in-Queues.is).2
 
 pub invariant_of-self-in-Queues : goal.invariant_of-self-in-Queues
 invariant_of-self-in-Queues g c =
@@ -34,9 +37,9 @@ invariant_of-self-in-Queues g c =
     let b = c.in_ok-receipt.ensures.becomes.becomes in
     let is = subst (λ v. IfSome v (λ p. c.in_ok-receipt.receipt ≡ receipt_of p)) b.was c.in_ok-receipt.ensures.receipt in
     record {
-      holds = rw (c.push_back_reserved.ensures.capacity, c.in_ok-receipt.ensures.becomes.is)
+      holds = rw (c.push_back.ensures.seats, c.in_ok-receipt.ensures.becomes.is)
           (deliver-queues (places_of t.places) t.timers t.queue.items t.turn t.greatest t.live t.letters _ t.holds t.most_actors t.most_messages c.args.to c.args.letter (value_at (places_of t.places) c.args.to) c.in_ok-receipt.ensures.becomes.place refl b
-          c.in_ok-receipt.receipt c.in-Queues.timer c.in-Queues.tick c.clear.new.self c.push_back_reserved.new.self.items is c.in-Queues.is c.clear.ensures c.push_back_reserved.ensures.items).0;
+          c.in_ok-receipt.receipt c.in-Queues.timer c.in-Queues.tick c.clear.new.self c.push_back.new.self.items is c.in-Queues.is c.clear.ensures c.push_back.ensures.items).0;
     }
 
 pub invariant_of-self-in-Waits : goal.invariant_of-self-in-Waits
@@ -55,7 +58,7 @@ returns-in-Queues-clause-after g c =
     let b = c.in_ok-receipt.ensures.becomes.becomes in
     let is = subst (λ v. IfSome v (λ p. c.in_ok-receipt.receipt ≡ receipt_of p)) b.was c.in_ok-receipt.ensures.receipt in
     rw c.in_ok-receipt.ensures.becomes.is ((deliver-queues (places_of t.places) t.timers t.queue.items t.turn t.greatest t.live t.letters _ t.holds t.most_actors t.most_messages c.args.to c.args.letter (value_at (places_of t.places) c.args.to) c.in_ok-receipt.ensures.becomes.place refl b
-    c.in_ok-receipt.receipt c.in-Queues.timer c.in-Queues.tick c.clear.new.self c.push_back_reserved.new.self.items is c.in-Queues.is c.clear.ensures c.push_back_reserved.ensures.items).1)
+    c.in_ok-receipt.receipt c.in-Queues.timer c.in-Queues.tick c.clear.new.self c.push_back.new.self.items is c.in-Queues.is c.clear.ensures c.push_back.ensures.items).1)
 
 pub returns-in-Waits-clause-after : goal.returns-in-Waits-clause-after
 returns-in-Waits-clause-after g c =

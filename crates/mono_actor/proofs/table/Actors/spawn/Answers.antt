@@ -1,5 +1,5 @@
 use Rattle.mono_actor.specs.Store.{places_of}
-use Rattle.std.proofs.Common.{◌≡◌, ◌<◌, ◌≤◌, ◌^◌, ◌-◌, inl, inr, refl, length, arith, rules}
+use Rattle.std.proofs.Common.{◌<◌, ◌^◌, inl, inr, refl, arith, rules}
 use Rattle.mono_actor.proofs.SpawnLemmas.{refused-answer, last-answer, number-answer, is-granted}
 use Rattle.mono_actor.proofs.table.Actors.spawn.Goals as goal
 
