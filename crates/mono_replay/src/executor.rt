@@ -107,7 +107,6 @@ impl Exec {
         ensures registered { (s : ℕ) → registered_of result.now s ≡ registered_in self.now s }
         ensures next { (m : Machine) → Stands self.now m → (answer : Option ℕ) → NextExpiration (elapsed_tick result.now) (registered_of result.now) (sleeps_of result.now) answer → IsNext m.sleeps.greatest (registered_in self.now) answer }
     {
-        self.parts.timers.registers_armed();
         &self.parts.timers
     }
 }

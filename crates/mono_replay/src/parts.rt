@@ -97,7 +97,6 @@ impl Parts {
         ensures turn { self.new.tasks.turn ≡ self.old.tasks.turn }
         ensures registered { OnOk result ((m : Machine) → Matches self.old m → IsNoneArmedUpTo (sleeps_of self.old.timers) → FollowsAct self.old.timers self.new.timers m.sleeps (act_outcome act m).machine.sleeps) }
     {
-        self.timers.registers_armed();
         match act {
             Act::Spawn => self.spawn(alloc),
             Act::Wake(t) => Ok(wake_reply(self.tasks.wake(t))),
@@ -121,7 +120,6 @@ impl Parts {
         ensures turn { self.new.tasks.turn ≡ self.old.tasks.turn }
         ensures registered { OnOk result ((m : Machine) → Matches self.old m → IsNoneArmedUpTo (sleeps_of self.old.timers) → FollowsAct self.old.timers self.new.timers m.sleeps (query_outcome me query m).machine.sleeps) }
     {
-        self.timers.registers_armed();
         match query {
             Query::Sleep(s) => Ok(poll_reply(self.timers.poll(s, me))),
             Query::Join(t) => Ok(join_reply(self.tasks.poll_join(t, me))),

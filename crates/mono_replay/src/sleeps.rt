@@ -45,7 +45,6 @@ impl Parts {
         ensures turn { self.new.tasks.turn ≡ self.old.tasks.turn }
         ensures registered { (m : Machine) → Matches self.old m → IsNoneArmedUpTo (sleeps_of self.old.timers) → FollowsAct self.old.timers self.new.timers m.sleeps (act_outcome (Act.Reset s n) m).machine.sleeps }
     {
-        self.timers.registers_armed();
         match Instant::from_nanos(n) {
             None => match self.timers.is_elapsed(s) {
                 Err(_) => Reply::Refused(Refusal::NoTimer),

@@ -11,7 +11,7 @@ use Rattle.mono_model.specs.Sleeps.{Sleeps, Arming, IsDueSleep, MayPrecede}
 use Rattle.mono_model.specs.FireOrder.{IsFirstDue, IsNoneDue}
 use Rattle.mono_model.proofs.TableOfLemmas.{table_of-same, value_at-table_of, length-table_of}
 use Rattle.mono_wheel.specs.Start.{start, top_level}
-use Rattle.mono_wheel.specs.Model.{Wheel, Timed, AllFit, Fits, timed_at, timed_after, CameOut, NothingDue}
+use Rattle.mono_wheel.specs.Model.{Wheel, Timed, timed_at, timed_after, CameOut, NothingDue}
 use Rattle.mono_time.specs.Sleeps.{Kept, armed, elapsed}
 use Rattle.mono_model.specs.SleepActs as machine
 use Rattle.mono_time.specs.Entries.{is_armed_state, armed_with, kept_in, kept_of, tick_in, waker_in_state, owner_of, fresh_tick}
@@ -22,6 +22,7 @@ use Rattle.mono_time.specs.declared.entry.State.{State}
 use Rattle.mono_time.specs.declared.entry.State.TheVariants.{Fresh, Unwatched, Armed, Elapsed}
 use Rattle.mono_time.proofs.SleepChangeLemmas.{some-same, none-some, given_inside, kept_of-ticks, owner, holds-written, table-written}
 use Rattle.mono_time.proofs.RefinementLemmas.{value-seen, sleep_there, standing-written}
+use Rattle.mono_time.proofs.FitLemmas.{ahead-none, ahead-came}
 use Rattle.mono_time.proofs.KeyCallLemmas.{kept-armed}
 use Rattle.mono_time.proofs.PlacementLemmas.{placed-unarmed}
 use Rattle.mono_time.proofs.TimersWriteLemmas.{table_kept, kept-there, table-there, is_in-entry}
@@ -35,13 +36,6 @@ max-over from greatest tick now is behind = omega (arith, is, behind)
 
 pub max-below : (greatest tick now : ℕ) → now ≡ max greatest tick → greatest < 2 ^ 63 → tick < 2 ^ 63 → now < 2 ^ 63
 max-below greatest tick now is low small = omega (arith, is, low, small)
-
--- a key that came out was ahead
-pub out-later : (wheel left : Wheel) (now k : ℕ) → AllFit wheel → CameOut wheel left now k → wheel.elapsed ≤ left.elapsed
-out-later wheel left now k fits came = elim (subst (Fits wheel.elapsed) came.due.1 (fits k)) [
-  | inl pending ↦ omega (arith, pending.1, came.due.2)
-  | inr ahead ↦ omega (arith, ahead.0, ahead.1, came.due.2)
-]
 
 armed_ticks : (t u : ℕ) (v w : Option ℕ) → armed t v ≡ armed u w → t ≡ u
 armed_ticks t u v w e = cc
@@ -129,6 +123,7 @@ module _ (wheel left : Wheel) (keys : Table ℕ) (entries : List Entry) (greates
     elapsed = omega (arith, holds.elapsed, less);
     greatest_below = below;
     live_count = holds.live_count;
+    ahead = holds.ahead;
   }
 
   -- nothing is due
@@ -151,6 +146,7 @@ module _ (wheel left : Wheel) (keys : Table ℕ) (entries : List Entry) (greates
       elapsed = omega (arith, nothing.elapsed);
       greatest_below = below;
       live_count = holds.live_count;
+      ahead = ahead-none wheel left holds.ahead now (omega (arith, holds.elapsed, less)) nothing;
     }
 
     kept-none : (q : ℕ) → kept_at left keys entries q ≡ kept_at wheel keys entries q
@@ -221,7 +217,7 @@ module _ (wheel left : Wheel) (keys : Table ℕ) (entries : List Entry) (greates
       fired-number = same ∙ owner wheel left keys entries greatest live holds came-owner.0 k e f at was same (keeps-out wheel left now k came)
 
       pub holds-fired : Holds left keys (set entries k f) now live
-      holds-fired = holds-written wheel left keys entries greatest live holds came-owner.0 k e f at was same (keeps-out wheel left now k came) now came.due.3 below
+      holds-fired = holds-written wheel left keys entries greatest live holds came-owner.0 k e f at was same (keeps-out wheel left now k came) (ahead-came wheel left holds.ahead now k came) now came.due.3 below
           (ap is_some came.out ∙ sym (ap (λ x. is_armed_state x.state) left_as)) (subst (λ x. fresh_tick x.state < 2 ^ 63) (sym left_as) (omega arith))
 
       pub table-fired : table_kept left keys (set entries k f) ≡ with_value (table_kept wheel keys entries) came-owner.0 elapsed

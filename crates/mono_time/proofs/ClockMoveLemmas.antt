@@ -5,7 +5,7 @@ use Rattle.std.proofs.lemmas.Bool.{le-leb, lt-leb, leb-true, leb-false, cases_eq
 use Rattle.std.proofs.lemmas.List.{get_or-set_other, get_or-set_same, get_or_past}
 use Rattle.mono_model.specs.Table.{Table, value_at, with_value}
 use Rattle.mono_wheel.specs.Start.{start, top_level}
-use Rattle.mono_wheel.specs.Model.{Wheel, Timed, timed_at, AllFit, Fits}
+use Rattle.mono_wheel.specs.Model.{Wheel, Timed, timed_at, Fits}
 use Rattle.mono_wheel.proofs.StartLemmas.{start-same, start-above}
 use Rattle.mono_time.specs.Sleeps.{Kept, fresh, armed, elapsed, IsNoneArmedUpTo}
 use Rattle.mono_time.specs.Entries.{is_armed_state, kept_in, kept_of, is_armed_entry}
@@ -16,19 +16,21 @@ use Rattle.mono_time.specs.declared.entry.Entry.{Entry}
 use Rattle.mono_time.specs.declared.entry.State.{State}
 use Rattle.mono_time.specs.declared.entry.State.TheVariants.{Fresh, Unwatched, Armed, Elapsed}
 use Rattle.mono_time.specs.declared.timers.Timers.{Timers}
+use Rattle.mono_time.proofs.FitLemmas.{all-fit}
+use Rattle.mono_time.proofs.TimersWriteLemmas.{value-table}
 
 not-in : (timed : Option Timed) → is_some timed ≡ false → registered_in timed ≡ None
 not-in None is = refl
 not-in (Some t) is = absurd (cc)
 
 -- Each key in the wheel belongs to an armed sleep.
-module _ (wheel : Wheel) (keys : Table ℕ) (entries : List Entry) (greatest live : ℕ) (holds : Holds wheel keys entries greatest live) (fits : AllFit wheel) where
+module _ (wheel : Wheel) (keys : Table ℕ) (entries : List Entry) (greatest live : ℕ) (holds : Holds wheel keys entries greatest live) where
   by-timed : (k : ℕ) (timed : Option Timed) (state : State) → timed_at wheel k ≡ timed → is_some timed ≡ is_armed_state state → IsRegistered wheel.elapsed (Some (kept_in timed state)) (registered_in timed)
   by-timed k timed (Fresh tick) at is = not-in timed is
   by-timed k None Unwatched at is = cc
   by-timed k None (Armed task) at is = cc
-  by-timed k (Some t) Unwatched at is = subst (Fits wheel.elapsed) at (fits k)
-  by-timed k (Some t) (Armed task) at is = subst (Fits wheel.elapsed) at (fits k)
+  by-timed k (Some t) Unwatched at is = subst (Fits wheel.elapsed) at (all-fit wheel holds.ahead k)
+  by-timed k (Some t) (Armed task) at is = subst (Fits wheel.elapsed) at (all-fit wheel holds.ahead k)
   by-timed k timed Elapsed at is = not-in timed is
 
   by-entry : (s k : ℕ) (e : Option Entry) → value_at keys s ≡ Some k → is_some (timed_at wheel k) ≡ is_armed_entry e → IsRegistered wheel.elapsed (kept_of (timed_at wheel k) e) (registered_in (timed_at wheel k))
@@ -84,6 +86,12 @@ pub record Passed (old now : Timers) : Type 0 where
 abbrev pub AreRegistered : Timers → Type 0
 AreRegistered timers = (s : ℕ) → IsRegistered (elapsed_tick timers) (value_at (sleeps_of timers).table s) (registered_of timers s)
 
+-- The timers register each sleep while it is armed, and no other.
+pub all-registered : (timers : Timers) → AreRegistered timers
+all-registered timers = λ s.
+    subst (λ v. IsRegistered timers.wheel.elapsed v (registered_at timers.wheel timers.keys s)) (sym (value-table timers.wheel timers.keys timers.entries.items s))
+    (is-registered timers.wheel timers.keys timers.entries.items timers.greatest timers.live timers.holds s)
+
 stays-put : (e : ℕ) (v : Option Kept) (r : Option ℕ) → moved_registered e e v r ≡ r
 stays-put e None r = refl
 stays-put e (Some (fresh tick)) r = refl
@@ -106,7 +114,7 @@ elapsed-armed tick waker e = cc
 none-armed : (tick : ℕ) (waker : Option ℕ) → None ≡ Some (armed tick waker) → ⊥
 none-armed tick waker e = cc
 
-module _ (old now next : Timers) (are : AreRegistered old) (so : Passed old now) (later : elapsed_tick now ≤ elapsed_tick next) where
+module _ (old now next : Timers) (so : Passed old now) (later : elapsed_tick now ≤ elapsed_tick next) where
   -- a sleep that the call left as it was
   kept-on : (s : ℕ) → registered_of next s ≡ moved_registered (elapsed_tick now) (elapsed_tick next) (value_at (sleeps_of now).table s) (registered_of now s) → value_at (sleeps_of next).table s ≡ value_at (sleeps_of now).table s
       → HasPassed (elapsed_tick old) (elapsed_tick next) (value_at (sleeps_of old).table s) (value_at (sleeps_of next).table s) (registered_of old s) (registered_of next s)
@@ -121,7 +129,7 @@ module _ (old now next : Timers) (are : AreRegistered old) (so : Passed old now)
             same ∙ stays,
             moved ∙ ap (λ v. moved_registered (elapsed_tick now) (elapsed_tick next) v (registered_of now s)) stays
                 ∙ ap (moved_registered (elapsed_tick now) (elapsed_tick next) (value_at (sleeps_of old).table s)) on
-                ∙ moved-twice (elapsed_tick old) (elapsed_tick now) (elapsed_tick next) so.later later (value_at (sleeps_of old).table s) (registered_of old s) (are s),
+                ∙ moved-twice (elapsed_tick old) (elapsed_tick now) (elapsed_tick next) so.later later (value_at (sleeps_of old).table s) (registered_of old s) (all-registered old s),
           )
 
   -- the sleep that fired

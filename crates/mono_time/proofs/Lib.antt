@@ -1,4 +1,5 @@
 pub mod SliceLemmas
+pub mod FitLemmas
 pub mod KeyLemmas
 pub mod SleepChangeLemmas
 pub mod RefinementLemmas

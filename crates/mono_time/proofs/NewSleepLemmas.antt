@@ -18,6 +18,7 @@ use Rattle.mono_time.specs.Representation.{Holds, KeyMade, NoKeyMade, EntriesSta
 use Rattle.mono_time.specs.Refinement.{Standing, seen}
 use Rattle.mono_time.specs.declared.entry.Entry.{Entry}
 use Rattle.mono_time.specs.declared.entry.State.TheVariants.{Fresh}
+use Rattle.mono_time.proofs.FitLemmas.{ahead-same}
 use Rattle.mono_time.proofs.CountLemmas.{count_of-same}
 use Rattle.mono_time.proofs.SleepChangeLemmas.{some-same, none-some, given_inside}
 use Rattle.mono_time.proofs.SliceLemmas.{slice_get-set_in, slice_get-set_other}
@@ -137,6 +138,7 @@ module _ (wheel left : Wheel) (keys : Table ℕ) (entries after : List Entry) (g
       elapsed = omega (arith, made.keys_stay.same_elapsed, holds.elapsed);
       greatest_below = holds.greatest_below;
       live_count = omega (arith, holds.live_count, count_of-with_next keys k);
+      ahead = ahead-same wheel left holds.ahead made.keys_stay.same_ticks made.keys_stay.same_elapsed;
     }
 
     kept_new : kept_at left (keys ++ Some k ∷ []) (set after k new_entry) (length keys) ≡ Some (fresh tick)
@@ -200,6 +202,7 @@ module _ (wheel left : Wheel) (keys : Table ℕ) (entries after : List Entry) (g
       elapsed = omega (arith, none.same_elapsed, holds.elapsed);
       greatest_below = holds.greatest_below;
       live_count = holds.live_count;
+      ahead = ahead-same wheel left holds.ahead none.same_ticks none.same_elapsed;
     }
 
     kept_same : (q : ℕ) → kept_at left keys after q ≡ kept_at wheel keys entries q

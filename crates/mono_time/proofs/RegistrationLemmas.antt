@@ -29,10 +29,7 @@ use Rattle.mono_machine.specs.declared.events.Event.TheVariants as event
 use Rattle.mono_machine.specs.declared.events.TurnStep.{TurnStep}
 use Rattle.mono_time.specs.Registrations.{armed_by_act, by_act, by_clock, registered_by_act, registered_by_steps, registered_after, FollowsAct, IsNext}
 use Rattle.mono_time.proofs.SleepTableLemmas.{value-seen}
-
--- Each sleep is registered if and only if it is armed.
-abbrev pub AreRegistered : Timers → Type 0
-AreRegistered timers = (s : ℕ) → IsRegistered (elapsed_tick timers) (value_at (sleeps_of timers).table s) (registered_of timers s)
+use Rattle.mono_time.proofs.ClockMoveLemmas.{all-registered}
 
 same-arm : (a b : Arming) (r : Option ℕ) → a.arm ≡ b.arm → armed_by_act (Some (armed a)) b r ≡ r
 same-arm a b r is = ap (λ x. cond x r (Some b.tick)) (eq-eqb a.arm b.arm is)
@@ -95,9 +92,9 @@ registered-added old new m n stay q = by (is_full m.sleeps.table m.sleeps.limit)
     by false false = added-follows old new m.sleeps n stay q
 
 -- a poll, a reset and a removal of one sleep
-module _ (old new : Timers) (sleeps : Sleeps) (stands : StandsForSleeps old sleeps) (are : AreRegistered old) (s : ℕ) where
+module _ (old new : Timers) (sleeps : Sleeps) (stands : StandsForSleeps old sleeps) (s : ℕ) where
   seen-registered : IsRegistered (elapsed_tick old) (option_map seen (value_at sleeps.table s)) (registered_of old s)
-  seen-registered = subst (λ v. IsRegistered (elapsed_tick old) v (registered_of old s)) (value-seen old sleeps s stands) (are s)
+  seen-registered = subst (λ v. IsRegistered (elapsed_tick old) v (registered_of old s)) (value-seen old sleeps s stands) (all-registered old s)
 
   polled-tick : (by : ℕ) (v : Option Sleep) (r : Option ℕ) → value_at sleeps.table s ≡ v → IsRegistered (elapsed_tick old) (option_map seen v) r
       → polled_registered sleeps.greatest (option_map seen v) r ≡ by_act v (value_at (machine.if_live v sleeps (λ sleep. machine.after_poll sleep sleeps s by)).table s) r
@@ -234,11 +231,11 @@ reset-sleeps s n m below = by (value_at m.sleeps.table s) refl
     by None at = sym (ap (λ v. machine.if_live v m.sleeps (λ sleep. after_arming sleep m.sleeps s (up n))) at)
     by (Some x) at = ap (λ b. (cond b (refused refusal.Invalid m) (resetting s n m)).machine.sleeps) (le-ltb max_nanos n below)
 
-pub registered-reset-act : (old new : Timers) (m : Machine) (s n now : ℕ) → now ≡ n → now ≤ max_nanos → StandsForSleeps old m.sleeps → AreRegistered old
+pub registered-reset-act : (old new : Timers) (m : Machine) (s n now : ℕ) → now ≡ n → now ≤ max_nanos → StandsForSleeps old m.sleeps
     → RegistersOnly (registered_of old) (registered_of new) s (reset_registered (sleeps_of old).greatest (up now) (value_at (sleeps_of old).table s) (registered_of old s)) → FollowsAct old new m.sleeps (act_outcome (act.Reset s n) m).machine.sleeps
-registered-reset-act old new m s n now is below stands are only =
+registered-reset-act old new m s n now is below stands only =
     subst (λ k. FollowsAct old new m.sleeps (act_outcome (act.Reset s k) m).machine.sleeps) is
-    (subst (λ left. FollowsAct old new m.sleeps left) (sym (reset-sleeps s now m below)) (registered-reset old new m.sleeps stands are s now only))
+    (subst (λ left. FollowsAct old new m.sleeps left) (sym (reset-sleeps s now m below)) (registered-reset old new m.sleeps stands s now only))
 
 -- a clock step
 clock-tick : (e g : ℕ) (v : Option Sleep) (r : Option ℕ) → stepped_registered e g (option_map seen v) r ≡ by_clock e g v r
@@ -279,8 +276,8 @@ unregistered e (Some (table.fresh tick)) r is none = is
 unregistered e (Some (table.armed tick waker)) r is none = absurd (none tick waker refl)
 unregistered e (Some table.elapsed) r is none = is
 
-pub next-is : (timers : Timers) (greatest : ℕ) (answer : Option ℕ) → AreRegistered timers → IsNoneArmedUpTo (sleeps_of timers) → elapsed_tick timers ≡ (sleeps_of timers).greatest → (sleeps_of timers).greatest ≡ greatest
+pub next-is : (timers : Timers) (greatest : ℕ) (answer : Option ℕ) → IsNoneArmedUpTo (sleeps_of timers) → elapsed_tick timers ≡ (sleeps_of timers).greatest → (sleeps_of timers).greatest ≡ greatest
     → NextExpiration (elapsed_tick timers) (registered_of timers) (sleeps_of timers) answer → IsNext greatest (registered_of timers) answer
-next-is timers greatest None are none rest same next = λ s. unregistered (elapsed_tick timers) (value_at (sleeps_of timers).table s) (registered_of timers s) (are s) (next s)
-next-is timers greatest (Some next) are none rest same (inl (pending, is)) = absurd (omega (arith, rest, none pending.0 (elapsed_tick timers) pending.1.0 pending.1.1))
-next-is timers greatest (Some next) are none rest same (inr (not_one, first)) = subst (λ g. FirstSlot g (registered_of timers) next) (rest ∙ same) first
+next-is timers greatest None none rest same next = λ s. unregistered (elapsed_tick timers) (value_at (sleeps_of timers).table s) (registered_of timers s) (all-registered timers s) (next s)
+next-is timers greatest (Some next) none rest same (inl (pending, is)) = absurd (omega (arith, rest, none pending.0 (elapsed_tick timers) pending.1.0 pending.1.1))
+next-is timers greatest (Some next) none rest same (inr (not_one, first)) = subst (λ g. FirstSlot g (registered_of timers) next) (rest ∙ same) first

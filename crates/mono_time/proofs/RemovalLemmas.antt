@@ -16,6 +16,7 @@ use Rattle.mono_time.specs.Refinement.{Standing, seen}
 use Rattle.mono_time.specs.KeyCalls.{Out}
 use Rattle.mono_time.specs.declared.entry.Entry.{Entry}
 use Rattle.mono_model.specs.declared.error.Error.{Error}
+use Rattle.mono_time.proofs.FitLemmas.{ahead-same, ahead-out}
 use Rattle.mono_time.proofs.CountLemmas.{count_of-gone}
 use Rattle.mono_time.proofs.SleepChangeLemmas.{some-same, none-some, given_inside, kept_of-ticks}
 use Rattle.mono_time.proofs.RefinementLemmas.{same_length, sleep_there}
@@ -77,6 +78,7 @@ module _ (wheel mid left : Wheel) (keys : Table ℕ) (entries : List Entry) (gre
     elapsed = omega (arith, same_elapsed, out.elapsed, holds.elapsed);
     greatest_below = holds.greatest_below;
     live_count = omega (arith, count, holds.live_count, count_of-gone keys s k at);
+    ahead = ahead-same mid left (ahead-out wheel mid holds.ahead k out) timed-left same_elapsed;
   }
 
   kept_case : (q : ℕ) → q ≢ s → (v : Option ℕ) → value_at keys q ≡ v → kept_under left entries v ≡ kept_under wheel entries v

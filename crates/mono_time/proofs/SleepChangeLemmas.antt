@@ -7,7 +7,7 @@ use Rattle.mono_model.specs.Table.{Table, value_at, with_value, table_of}
 use Rattle.mono_model.proofs.TableOfLemmas.{table_of-set}
 use Rattle.mono_wheel.specs.Model.{Wheel, Timed, timed_at}
 use Rattle.mono_time.specs.Entries.{is_armed_state, fresh_tick, tick_in, kept_in, kept_of, owner_of, is_armed_entry, fresh_tick_of}
-use Rattle.mono_time.specs.Representation.{Holds, KeepsBut, kept_at, kept_under}
+use Rattle.mono_time.specs.Representation.{Holds, AllAhead, KeepsBut, kept_at, kept_under}
 use Rattle.mono_time.specs.declared.entry.Entry.{Entry}
 use Rattle.mono_time.specs.declared.entry.State.{State}
 use Rattle.mono_time.specs.declared.entry.State.TheVariants.{Fresh, Unwatched, Armed, Elapsed}
@@ -65,8 +65,8 @@ module _ (wheel left : Wheel) (keys : Table ℕ) (entries : List Entry) (greates
     | inr apart ↦ ap owner_of (slice_get-set_other entries k j f apart)
   ]
 
-  pub holds-written : (after : ℕ) → left.elapsed ≤ after → after < 2 ^ 63 → is_some (timed_at left k) ≡ is_armed_state f.state → fresh_tick f.state < 2 ^ 63 → Holds left keys (set entries k f) after live
-  holds-written after gone below is_in fresh = record {
+  pub holds-written : AllAhead left → (after : ℕ) → left.elapsed ≤ after → after < 2 ^ 63 → is_some (timed_at left k) ≡ is_armed_state f.state → fresh_tick f.state < 2 ^ 63 → Holds left keys (set entries k f) after live
+  holds-written ahead after gone below is_in fresh = record {
     owners = λ q j at_q. owner_after j ∙ holds.owners q j at_q;
     reserved = λ q j at_q. keeps.reserved j ∙ holds.reserved q j at_q;
     is_in = λ q j at_q. elim (cases_eq j k) [
@@ -91,4 +91,5 @@ module _ (wheel left : Wheel) (keys : Table ℕ) (entries : List Entry) (greates
     elapsed = gone;
     greatest_below = below;
     live_count = holds.live_count;
+    ahead = ahead;
   }

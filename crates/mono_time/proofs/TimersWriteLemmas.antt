@@ -9,7 +9,7 @@ use Rattle.mono_model.proofs.TableOfLemmas.{value_at-table_of, length-table_of}
 use Rattle.mono_wheel.specs.Model.{Wheel, timed_at}
 use Rattle.mono_time.specs.Sleeps.{Kept}
 use Rattle.mono_time.specs.Entries.{is_armed_state, fresh_tick, kept_in, owner_of, is_armed_entry, fresh_tick_of, kept_of}
-use Rattle.mono_time.specs.Representation.{Holds, kept_at, kept_under}
+use Rattle.mono_time.specs.Representation.{Holds, AllAhead, kept_at, kept_under}
 use Rattle.mono_time.specs.declared.entry.Entry.{Entry}
 use Rattle.mono_time.proofs.SleepChangeLemmas.{none-some, given_inside, holds-written, table-written}
 use Rattle.mono_time.proofs.KeyCallLemmas.{Turned}
@@ -46,8 +46,8 @@ module _ (wheel : Wheel) (keys : Table ℕ) (entries : List Entry) (greatest liv
   table-there = value_at-table_of (kept_at wheel keys entries) (length keys) s (given_inside keys s k at) ∙ kept-there
 
   module _ (left : Wheel) (f : Entry) (same : f.sleep ≡ e.sleep) (kept : Kept) (turned : Turned wheel left k e.state f.state kept) where
-    pub holds-turned : Holds left keys (set entries k f) greatest live
-    holds-turned = holds-written wheel left keys entries greatest live holds s k e f at was same turned.keeps greatest (omega (arith, holds.elapsed, turned.same_elapsed)) holds.greatest_below turned.is_in turned.fresh_below
+    pub holds-turned : AllAhead left → Holds left keys (set entries k f) greatest live
+    holds-turned ahead = holds-written wheel left keys entries greatest live holds s k e f at was same turned.keeps ahead greatest (omega (arith, holds.elapsed, turned.same_elapsed)) holds.greatest_below turned.is_in turned.fresh_below
 
     pub table-turned : table_kept left keys (set entries k f) ≡ with_value (table_kept wheel keys entries) s kept
     table-turned = table-written wheel left keys entries greatest live holds s k e f at was same turned.keeps ∙ ap (λ v. set (table_kept wheel keys entries) s (Some v)) turned.now_kept

@@ -14,8 +14,16 @@ kept_under wheel entries (Some key) = kept_of (timed_at wheel key) (slice_get en
 abbrev pub kept_at : Wheel → Table ℕ → List Entry → ℕ → Option Kept
 kept_at wheel keys entries s = kept_under wheel entries (value_at keys s)
 
+-- Each key in the wheel is registered at the elapsed tick or above, and at most at its tick. If it is registered at the
+-- elapsed tick, it is due there.
+abbrev pub AllAhead : Wheel → Type 0
+AllAhead wheel =
+    (key : ℕ) (timed : Timed) → timed_at wheel key ≡ Some timed
+    → (wheel.elapsed ≤ timed.registered) × (timed.registered ≤ timed.tick) × (timed.registered ≡ wheel.elapsed → timed.tick ≡ wheel.elapsed)
+
 -- Each live sleep has a reserved key with its number. The key is in the wheel if and only if the sleep is armed. Each
--- key in the wheel, and each reserved key, belongs to a live sleep.
+-- key in the wheel, and each reserved key, belongs to a live sleep. A key in the wheel is pending, or registered ahead
+-- (`ahead`).
 pub record Holds (wheel : Wheel) (keys : Table ℕ) (entries : List Entry) (greatest live : ℕ) : Type 0 where
   pub owners : (s k : ℕ) → value_at keys s ≡ Some k → owner_of (slice_get entries k) ≡ Some s
   pub reserved : (s k : ℕ) → value_at keys s ≡ Some k → is_reserved wheel k ≡ true
@@ -27,6 +35,7 @@ pub record Holds (wheel : Wheel) (keys : Table ℕ) (entries : List Entry) (grea
   pub elapsed : wheel.elapsed ≤ greatest
   pub greatest_below : greatest < 2 ^ 63
   pub live_count : live ≡ count_of keys
+  pub ahead : AllAhead wheel
 
 -- All keys but one keep their tick and their order, and a key that is registered at its tick stays so.
 pub record KeepsBut (old new : Wheel) (key : ℕ) : Type 0 where

@@ -109,7 +109,6 @@ pub fn take_due<L: Ledger>(timers: &mut Timers, now: Instant, blank: Blank, room
     ensures rests { IsNoneArmedUpTo (sleeps_of timers.new) }
     ensures registered { (s : ℕ) → registered_of timers.new s ≡ stepped_registered (elapsed_tick timers.old) (elapsed_tick timers.new) (value_at (sleeps_of timers.old).table s) (registered_of timers.old s) }
 {
-    timers.registers_armed();
     let mut steps: Steps<L> = Steps::new(blank);
     let mut due = room;
     while let Some((s, waker)) = timers.clock(now, &mut steps) {

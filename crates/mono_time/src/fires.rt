@@ -26,7 +26,6 @@ fn fire_each<L: Ledger>(
     ensures has_gone { elapsed_tick timers.new ≡ (sleeps_of timers.new).greatest }
     ensures registered { (s : ℕ) → registered_of timers.new s ≡ stepped_registered (elapsed_tick timers.old) (elapsed_tick timers.new) (value_at (sleeps_of timers.old).table s) (registered_of timers.old s) }
 {
-    timers.registers_armed();
     let mut steps: Steps<L> = Steps::new(blank);
     while let Some(one) = timers.clock(now, &mut steps) {
         fired.push_reserved(one);

@@ -253,16 +253,6 @@ impl Timers {
         self.greatest
     }
 
-    /// Shows where sleeps are registered. A sleep is registered if and only if it is armed. Then it is pending, or its
-    /// registered tick is above the tick that the wheel has reached and at most its own (`registered`). The wheel's
-    /// tick is at most the greatest tick (`behind`). The call does nothing.
-    pub fn registers_armed(&self)
-        ensures registered { (s : ℕ) → IsRegistered (elapsed_tick self.now) (value_at (sleeps_of self.now).table s) (registered_of self.now s) }
-        ensures behind { elapsed_tick self.now ≤ (sleeps_of self.now).greatest }
-    {
-        let _ = self.wheel.elapsed();
-    }
-
     /// Fires the next sleep of the clock step to a reading, and returns it with its waker, which is to be woken. The
     /// greatest tick becomes the greater of itself and the reading's tick, rounded down (`none`, `some`).
     ///
@@ -286,7 +276,6 @@ impl Timers {
         ensures steps { steps.new + credit_left self.new ≡ steps.old + credit_left self.old }
         ensures gone { IfSome result (λ x. registered_of self.new x.0 ≡ None) }
     {
-        let _ = self.wheel.elapsed();
         let greatest = self.greatest.max(now.clock_tick());
         self.greatest = greatest;
         match self.wheel.poll(greatest, steps) {
@@ -304,9 +293,15 @@ impl Timers {
     ///
     /// While no clock step is under way it is above the greatest tick and at most the least armed tick (`ahead`). It
     /// exists only if some sleep is armed (`armed`).
+    ///
+    /// A sleep is registered if and only if it is armed. Then it is pending, or its registered tick is above the tick
+    /// that the wheel has reached and at most its own (`registered`). The wheel's tick is at most the greatest tick
+    /// (`behind`). All states of the timers show both, in `holds`.
     pub fn next_expiration_time(&self) -> Option<u64>
         ensures next { NextExpiration (elapsed_tick self.now) (registered_of self.now) (sleeps_of self.now) result }
         ensures armed { IfSome result (λ next. IsOneArmed (sleeps_of self.now)) }
+        ensures registered { (s : ℕ) → IsRegistered (elapsed_tick self.now) (value_at (sleeps_of self.now).table s) (registered_of self.now s) }
+        ensures behind { elapsed_tick self.now ≤ (sleeps_of self.now).greatest }
         ensures ahead { IsNoneArmedUpTo (sleeps_of self.now) → elapsed_tick self.now ≡ (sleeps_of self.now).greatest → IfSome result (λ next. ((sleeps_of self.now).greatest < next) × ((s tick : ℕ) (waker : Option ℕ) → value_at (sleeps_of self.now).table s ≡ Some (armed tick waker) → next ≤ tick)) }
     {
         slots_start_ahead();

@@ -167,7 +167,6 @@ impl<O: Outcome + Drop, B: Drop> Parts<O, B> {
         ensures kept { self.new ≡ record self.old { timers = self.new.timers; acts = noted_poll self.old.acts sleep result } }
         ensures leads { (hosting : B → Hosting) → Leads O.output_number hosting self.old self.new }
     {
-        self.timers.registers_armed();
         let answer = self.timers.poll(sleep, self.me);
         self.acts
             .note(TurnStep::Query(Query::Sleep(sleep)), poll_reply(answer));
@@ -182,7 +181,6 @@ impl<O: Outcome + Drop, B: Drop> Parts<O, B> {
         ensures kept { self.new ≡ record self.old { timers = self.new.timers; acts = noted_gone self.old.acts sleep result } }
         ensures leads { (hosting : B → Hosting) → Leads O.output_number hosting self.old self.new }
     {
-        self.timers.registers_armed();
         let answer = self.timers.remove(sleep);
         self.acts
             .note(TurnStep::Act(Act::DropSleep(sleep)), gone_reply(answer));
@@ -197,7 +195,6 @@ impl<O: Outcome + Drop, B: Drop> Parts<O, B> {
         ensures kept { self.new ≡ record self.old { tasks = self.new.tasks; timers = self.new.timers; acts = noted_reset self.old.acts (sleeps_of self.old.timers).greatest sleep (nanos_of deadline) result } }
         ensures leads { (hosting : B → Hosting) → Leads O.output_number hosting self.old self.new }
     {
-        self.timers.registers_armed();
         let nanos = deadline.as_nanos();
         let step = TurnStep::Act(Act::Reset(sleep, nanos));
         match self.timers.reset(sleep, deadline) {

@@ -52,7 +52,7 @@ loop-s-preserved g c = (
             let behind : FireInTurn old.table old.greatest (fired ++ s ∷ more) = before.4 (s ∷ more) (first, subst (λ x. FireInTurn x.table x.greatest more) one turn) in
             subst (FireInTurn old.table old.greatest) (sym (ap (λ xs. xs ++ more) c.put.ensures.fired ∙ append_assoc fired (s ∷ []) more)) behind,
       ),
-  passed-some c.args.timers.now c.loop-s.timers c.clock.new.self c.registers_armed.ensures.registered c.loop-s.invariant.3 c.clock.ensures.later c.in-Some.s c.in-Some.waker c.in-Some.ensures.reached
+  passed-some c.args.timers.now c.loop-s.timers c.clock.new.self c.loop-s.invariant.3 c.clock.ensures.later c.in-Some.s c.in-Some.waker c.in-Some.ensures.reached
       (ap (λ t. t.table) c.in-Some.ensures.some.1) c.in-Some.ensures.gone c.clock.ensures.registered,
 )
 
@@ -79,5 +79,5 @@ returns-clause-rests g c = subst IsNoneArmedUpTo (sym c.in_default.ensures.none.
 
 pub returns-clause-registered : goal.returns-clause-registered
 returns-clause-registered g c =
-    let passed : Passed c.args.timers.now c.clock.new.self = passed-none c.args.timers.now c.loop-s.timers c.clock.new.self c.registers_armed.ensures.registered c.loop-s.invariant.3 c.clock.ensures.later (ap (λ t. t.table) c.in_default.ensures.none.1) c.clock.ensures.registered in
+    let passed : Passed c.args.timers.now c.clock.new.self = passed-none c.args.timers.now c.loop-s.timers c.clock.new.self c.loop-s.invariant.3 c.clock.ensures.later (ap (λ t. t.table) c.in_default.ensures.none.1) c.clock.ensures.registered in
     all-passed c.args.timers.now c.clock.new.self passed (subst IsNoneArmedUpTo (sym c.in_default.ensures.none.1) c.in_default.ensures.none.0) c.in_default.ensures.elapsed

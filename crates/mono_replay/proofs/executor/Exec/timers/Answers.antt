@@ -16,4 +16,4 @@ pub returns-clause-next : goal.returns-clause-next
 returns-clause-next c = λ m st answer next.
     let timers = c.args.self.now.parts.timers in
     let stands = st.matches.sleeps.keeps.stands in
-    next-is timers m.sleeps.greatest answer c.registers_armed.ensures.registered (none_armed timers _ m.sleeps stands st.valid.sleeps) st.matches.sleeps.has_gone (sym stands.same_greatest) next
+    next-is timers m.sleeps.greatest answer (none_armed timers _ m.sleeps stands st.valid.sleeps) st.matches.sleeps.has_gone (sym stands.same_greatest) next

@@ -42,7 +42,7 @@ returns-in-NewSleep-clause-registered c = always c.new_sleep.result (λ m st non
 
 pub returns-in-DropSleep-clause-registered : goal.returns-in-DropSleep-clause-registered
 returns-in-DropSleep-clause-registered c = λ m st none.
-    rw c.in-DropSleep.is (registered-removed c.args.self.now.timers c.remove.new.self m.sleeps st.sleeps.keeps.stands c.registers_armed.ensures.registered c.in-DropSleep.s c.remove.ensures.registered)
+    rw c.in-DropSleep.is (registered-removed c.args.self.now.timers c.remove.new.self m.sleeps st.sleeps.keeps.stands c.in-DropSleep.s c.remove.ensures.registered)
 
 pub returns-in-Block-clause-registered : goal.returns-in-Block-clause-registered
 returns-in-Block-clause-registered c = always c.block.result (λ m st none.

@@ -28,4 +28,4 @@ returns-in-Join-clause-matches c = λ m st.
 
 pub returns-in-Sleep-clause-registered : goal.returns-in-Sleep-clause-registered
 returns-in-Sleep-clause-registered c = λ m st none.
-    rw c.in-Sleep.is (registered-polled c.args.self.now.timers c.poll.new.self m.sleeps st.sleeps.keeps.stands c.registers_armed.ensures.registered c.in-Sleep.s c.args.me c.poll.ensures.registered)
+    rw c.in-Sleep.is (registered-polled c.args.self.now.timers c.poll.new.self m.sleeps st.sleeps.keeps.stands c.in-Sleep.s c.args.me c.poll.ensures.registered)

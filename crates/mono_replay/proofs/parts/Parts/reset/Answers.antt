@@ -20,8 +20,8 @@ returns-in-Ok-reset-clause-matches c = λ m st.
 
 pub returns-in-Err-reset-clause-registered : goal.returns-in-Err-reset-clause-registered
 returns-in-Err-reset-clause-registered c = λ m st none.
-    registered-reset-act c.args.self.now.timers c.reset.new.self m c.args.s c.args.n (nanos_of c.in-Some.deadline) c.in-Some.ensures.some c.in-Some.deadline.in_range st.sleeps.keeps.stands c.registers_armed.ensures.registered (c.reset.ensures.registered none)
+    registered-reset-act c.args.self.now.timers c.reset.new.self m c.args.s c.args.n (nanos_of c.in-Some.deadline) c.in-Some.ensures.some c.in-Some.deadline.in_range st.sleeps.keeps.stands (c.reset.ensures.registered none)
 
 pub returns-in-Ok-reset-clause-registered : goal.returns-in-Ok-reset-clause-registered
 returns-in-Ok-reset-clause-registered c = λ m st none.
-    registered-reset-act c.args.self.now.timers c.reset.new.self m c.args.s c.args.n (nanos_of c.in-Some.deadline) c.in-Some.ensures.some c.in-Some.deadline.in_range st.sleeps.keeps.stands c.registers_armed.ensures.registered (c.reset.ensures.registered none)
+    registered-reset-act c.args.self.now.timers c.reset.new.self m c.args.s c.args.n (nanos_of c.in-Some.deadline) c.in-Some.ensures.some c.in-Some.deadline.in_range st.sleeps.keeps.stands (c.reset.ensures.registered none)

@@ -15,7 +15,8 @@ use Rattle.mono_time.specs.SlotRegistration.{registered_at, moved_registered}
 use Rattle.mono_time.proofs.CountLemmas.{fewer_armed}
 use Rattle.mono_time.proofs.SlotRegistrationLemmas.{registered-moved, registered-gone, after-out}
 use Rattle.mono_time.proofs.TimersWriteLemmas.{key_inside, table_kept, value-table}
-use Rattle.mono_time.proofs.ClockCallLemmas.{max-later, max-below, max-over, out-later, holds-none, came-owner, holds-fired, table-fired, table-armed, fired-value, table-least, fired-number, machine-fired, table-none, none-armed, machine-none}
+use Rattle.mono_time.proofs.FitLemmas.{all-fit, out-later}
+use Rattle.mono_time.proofs.ClockCallLemmas.{max-later, max-below, max-over, holds-none, came-owner, holds-fired, table-fired, table-armed, fired-value, table-least, fired-number, machine-fired, table-none, none-armed, machine-none}
 use Rattle.mono_time.proofs.timers.Timers.clock.Goals as goal
 
 pub invariant_of-self-in-Some : goal.invariant_of-self-in-Some
@@ -244,7 +245,7 @@ pub returns-in-None-clause-steps : goal.returns-in-None-clause-steps
 returns-in-None-clause-steps g c = c.in-None.ensures.steps
 
 pub returns-in-Some-clause-later : goal.returns-in-Some-clause-later
-returns-in-Some-clause-later g c = out-later c.args.self.now.wheel c.poll.new.self c.max-greatest.result c.in-Some.key c.elapsed.ensures.fits c.in-Some.ensures.polled
+returns-in-Some-clause-later g c = out-later c.args.self.now.wheel c.poll.new.self c.max-greatest.result c.in-Some.key (all-fit c.args.self.now.wheel c.args.self.now.holds.ahead) c.in-Some.ensures.polled
 
 pub returns-in-Some-clause-steps : goal.returns-in-Some-clause-steps
 returns-in-Some-clause-steps g c = c.in-Some.ensures.steps

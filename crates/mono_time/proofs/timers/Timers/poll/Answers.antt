@@ -6,6 +6,7 @@ use Rattle.mono_model.specs.SleepAnswers.{poll_of}
 use Rattle.mono_wheel.specs.Model.{timed_at}
 use Rattle.mono_time.specs.SlotRegistration.{registered_in, registered_under, registered_at, polled_registered}
 use Rattle.mono_time.proofs.SlotRegistrationLemmas.{registers, polled-at}
+use Rattle.mono_time.proofs.FitLemmas.{ahead-polled}
 use Rattle.mono_time.proofs.RefinementLemmas.{none_there}
 use Rattle.mono_time.proofs.KeyCallLemmas.{turned-polled}
 use Rattle.mono_time.proofs.TimersWriteLemmas.{key_inside, is_in-entry, fresh_below-entry, holds-turned, table-turned, table-there, none-there, table_kept}
@@ -48,7 +49,7 @@ invariant_of-self c =
     let was : slice_get t.entries.items k ≡ Some e = slice_get_read t.entries.items _ k e refl (key_inside t.wheel t.keys t.entries.items t.greatest t.live t.holds s k at) c.index_mut-entry.ensures.value in
     let polled = c.poll_entry-is_ready.ensures in
     let turned = turned-polled t.wheel k t.greatest c.poll_entry-is_ready.new.wheel c.args.by e.state c.poll_entry-is_ready.new.entry.state c.poll_entry-is_ready.result polled.polled (is_in-entry t.wheel t.keys t.entries.items t.greatest t.live t.holds s k e at was) in
-    record { holds = holds-turned t.wheel t.keys t.entries.items t.greatest t.live t.holds s k e at was c.poll_entry-is_ready.new.wheel c.poll_entry-is_ready.new.entry polled.sleep _ turned.0 }
+    record { holds = holds-turned t.wheel t.keys t.entries.items t.greatest t.live t.holds s k e at was c.poll_entry-is_ready.new.wheel c.poll_entry-is_ready.new.entry polled.sleep _ turned.0 (ahead-polled t.wheel c.poll_entry-is_ready.new.wheel t.holds.ahead k t.greatest t.holds.elapsed c.args.by e.state c.poll_entry-is_ready.new.entry.state c.poll_entry-is_ready.result polled.polled) }
 
 pub returns-in-None-clause-answer : goal.returns-in-None-clause-answer
 returns-in-None-clause-answer c = let t = c.args.self.now in rw (none-there t.wheel t.keys t.entries.items c.args.sleep (sym c.in-None.ensures)) refl

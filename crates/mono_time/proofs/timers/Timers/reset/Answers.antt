@@ -9,6 +9,7 @@ use Rattle.mono_time.specs.Entries.{kept_in}
 use Rattle.mono_model.specs.Ticks.{up}
 use Rattle.mono_time.specs.SlotRegistration.{registered_in, registered_under, registered_at, reset_registered}
 use Rattle.mono_time.proofs.SlotRegistrationLemmas.{registers, reset-at, above-armed}
+use Rattle.mono_time.proofs.FitLemmas.{ahead-reset}
 use Rattle.mono_time.proofs.RefinementLemmas.{none_there}
 use Rattle.mono_time.proofs.KeyCallLemmas.{turned-reset}
 use Rattle.mono_time.proofs.TimersWriteLemmas.{key_inside, is_in-entry, holds-turned, table-turned, table-there, none-there, table_kept}
@@ -40,7 +41,7 @@ invariant_of-self c =
     let was : slice_get t.entries.items k ≡ Some e = slice_get_read t.entries.items _ k e refl (key_inside t.wheel t.keys t.entries.items t.greatest t.live t.holds s k at) c.index_mut-entry.ensures.value in
     let done = c.reset_entry.ensures in
     let turned = turned-reset t.wheel k t.greatest c.reset_entry.new.wheel c.tick-tick.result e.state c.reset_entry.new.entry.state c.reset_entry.result done.reset in
-    record { holds = holds-turned t.wheel t.keys t.entries.items t.greatest t.live t.holds s k e at was c.reset_entry.new.wheel c.reset_entry.new.entry done.sleep _ turned.0 }
+    record { holds = holds-turned t.wheel t.keys t.entries.items t.greatest t.live t.holds s k e at was c.reset_entry.new.wheel c.reset_entry.new.entry done.sleep _ turned.0 (ahead-reset t.wheel c.reset_entry.new.wheel t.holds.ahead k t.greatest t.holds.elapsed c.tick-tick.result e.state c.reset_entry.new.entry.state c.reset_entry.result done.reset) }
 
 pub returns-in-None-clause-answer : goal.returns-in-None-clause-answer
 returns-in-None-clause-answer c = let t = c.args.self.now in rw (none-there t.wheel t.keys t.entries.items c.args.sleep (sym c.in-None.ensures)) refl

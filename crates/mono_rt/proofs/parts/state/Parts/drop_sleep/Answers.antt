@@ -17,4 +17,4 @@ returns-clause-leads g c = λ hosting.
     (λ m st. c.gone_reply.ensures ∙ ap gone_reply (c.remove-answer.ensures.stands m.sleeps st.sleeps).0)
     c.remove-answer.ensures.sleeps (alike_removed (sleeps_of old.timers) s) c.remove-answer.ensures.elapsed (λ m st. (c.remove-answer.ensures.stands m st).1)
     (rests-removed (sleeps_of old.timers) s)
-    (λ m st. registered-removed old.timers c.remove-answer.new.self m.sleeps st.sleeps c.registers_armed.ensures.registered s c.remove-answer.ensures.registered)
+    (λ m st. registered-removed old.timers c.remove-answer.new.self m.sleeps st.sleeps s c.remove-answer.ensures.registered)

@@ -17,4 +17,4 @@ returns-clause-leads g c = λ hosting.
     (λ m st. c.poll_reply.ensures ∙ ap poll_reply (c.poll-answer.ensures.stands m.sleeps st.sleeps).0)
     c.poll-answer.ensures.sleeps (alike_polled (sleeps_of old.timers) s old.me) c.poll-answer.ensures.elapsed (λ m st. (c.poll-answer.ensures.stands m st).1)
     (rests-polled (sleeps_of old.timers) s old.me)
-    (λ m st. registered-polled old.timers c.poll-answer.new.self m.sleeps st.sleeps c.registers_armed.ensures.registered s old.me c.poll-answer.ensures.registered)
+    (λ m st. registered-polled old.timers c.poll-answer.new.self m.sleeps st.sleeps s old.me c.poll-answer.ensures.registered)

@@ -48,7 +48,7 @@ returns-in-Ok-clause-leads g c = λ hosting.
     by_act number hosting old d _ _ c.note-in-Ok.ensures
     (λ m st. c.reset_reply-reply.ensures ∙ ap (λ x. reset_reply x (up n)) (c.greatest.ensures ∙ ap (λ x. x.greatest) c.reset.ensures.sleeps ∙ alike.greatest ∙ sym st.sleeps.same_greatest) ∙ ap (λ k. reset_reply m.sleeps.greatest (up k)) is ∙ sym (ap (λ o. o.reply) (outcome m st)))
     (λ m st. subst (λ o. Matches number hosting d o.machine) (sym (outcome m st)) (reset_left number hosting m s now waker old d st c.wake_if_any.ensures (c.reset.ensures.stands m.sleeps st.sleeps).1 (gone_on number hosting old.timers c.reset.new.self _ st.has_gone c.reset.ensures.sleeps alike c.reset.ensures.elapsed) (subst IsNoneArmedUpTo (sym c.reset.ensures.sleeps) (rests-reset (sleeps_of old.timers) s now st.no_due)) (ap (λ x. x.is_enabled) c.reset.ensures.sleeps ∙ alike.is_enabled) refl refl (answer m st)))
-    (λ m st. registered-reset-act old.timers c.reset.new.self m s n now (sym is) c.args.deadline.in_range st.sleeps c.registers_armed.ensures.registered (c.reset.ensures.registered st.no_due))
+    (λ m st. registered-reset-act old.timers c.reset.new.self m s n now (sym is) c.args.deadline.in_range st.sleeps (c.reset.ensures.registered st.no_due))
     refl refl (ap (λ x. x.turn) c.wake_if_any.ensures) (ap (λ x. x.turns) c.wake_if_any.ensures) refl refl
     (subst (λ x. KeepsOutputs old.tasks.tasks x.tasks) (sym c.wake_if_any.ensures) (adds_woken_if_any old.tasks.tasks waker).outputs)
 
@@ -68,7 +68,7 @@ returns-in-Err-clause-leads g c = λ hosting.
     (λ m st. subst (StandsForSleeps c.reset.new.self) (unchanged (λ value. woken_by_arming value m (up now)) (value_at m.table s) c.in-Err.error m _ (answer m st)) (c.reset.ensures.stands m st).1)
     (rests-reset (sleeps_of old.timers) s now)
     (λ m st. subst (λ x. FollowsAct old.timers c.reset.new.self m.sleeps x) (unchanged (λ value. woken_by_arming value m.sleeps (up now)) (value_at m.sleeps.table s) c.in-Err.error m.sleeps _ (answer m.sleeps st.sleeps))
-    (registered-reset old.timers c.reset.new.self m.sleeps st.sleeps c.registers_armed.ensures.registered s now (c.reset.ensures.registered st.no_due)))
+    (registered-reset old.timers c.reset.new.self m.sleeps st.sleeps s now (c.reset.ensures.registered st.no_due)))
 
 pub returns-in-Ok-clause-kept : goal.returns-in-Ok-clause-kept
 returns-in-Ok-clause-kept g c =
