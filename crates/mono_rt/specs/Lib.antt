@@ -1,6 +1,7 @@
 pub mod Reaches
 pub mod Outputs
 pub mod PossibleAnswers
+pub mod Pollable
 pub mod Turns
 pub mod FuturePolls
 pub mod JournalRoom

@@ -31,6 +31,7 @@ use Rattle.mono_rt.specs.Journals.{Does, Registers, events_in, reports_in}
 use Rattle.mono_rt.specs.JournalRoom.{Fills, FillsSo}
 use Rattle.mono_rt.specs.FuturePolls.{Polling, PollsMain, OnMain}
 use Rattle.mono_rt.specs.PossibleAnswers.{AnswersNoMore}
+use Rattle.mono_rt.specs.Pollable.{CanTurn}
 use Rattle.mono_rt.specs.DriverReadings.{Told, telling, TellingSo}
 use Rattle.mono_rt.specs.Reaches.{IsAligned}
 use Rattle.mono_rt.specs.declared.contexts.Cx.{Cx}
@@ -165,6 +166,10 @@ module _ {F O D P W U J A V : Type 0} where
   -- No task may answer more than before.
   abbrev pub GivesNoMore : (F → O → Type 0) → Runtime F O D P W U J A V → Runtime F O D P W U J A V → Type 0
   GivesNoMore gives old new = AnswersNoMore gives old.cx new.cx
+
+  -- Each future of the runtime can be polled, and so can each that its turns spawn.
+  abbrev pub CanRun : FutureOf F (Cx F O P U W J A V) O → Runtime F O D P W U J A V → Type 0
+  CanRun future r = CanTurn future r.cx
 
   -- The shared value was led.
   abbrev pub LeadsShared : (W → W → Type 0) → Runtime F O D P W U J A V → Runtime F O D P W U J A V → Type 0

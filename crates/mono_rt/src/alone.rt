@@ -6,6 +6,7 @@ ghost use Rattle.mono_rt.specs.JournalRoom.{IsOneLong};
 ghost use Rattle.mono_rt.specs.Rounds.{Blocked};
 ghost use Rattle.mono_rt.specs.SpawnErrors.{UnlessRefused, IfRefused};
 ghost use Rattle.mono_rt.specs.DriverReadings.{IsTold};
+ghost use Rattle.mono_rt.specs.Pollable.{SpawnsPollable};
 ghost use Rattle.mono_rt.specs.Views.{exposed, BlocksFrom, IsRunFrom, ParksFrom, PollsFrom};
 
 use crate::contexts::Cx;
@@ -32,6 +33,8 @@ use std::alloc::{AllocError, Global};
 ///
 /// Each turn of the history is one poll of its task's own future, from the futures that the turns before it left,
 /// unless the answer is Memory (`polled`).
+///
+/// The future can be polled, and so can each that a turn spawns (`callable`, `others`).
 pub fn run_alone<F, O, D, P, R: Host>(
     rt: &R,
     alloc: Global,
@@ -47,7 +50,8 @@ where
     O: Outcome + Drop,
     D: Driver,
     P: ThreadPool + Drop,
-    requires callable { (f : F) → F.can_poll f }
+    requires callable { F.can_poll future }
+    requires others { SpawnsPollable F.TaskFuture ⊤ }
     ensures blocked { IfOk result (λ r. BlocksFrom O.output_number turns (start_machine limits (strategy_of pool)) r) }
     ensures given { IfOk result (λ r. IfOk r.0 (F.gives future)) }
     ensures told { IfOk result (λ r. IsTold r.0 (exposed D.Clock driver) r.1.history.entries) }

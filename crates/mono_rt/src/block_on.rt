@@ -12,9 +12,10 @@ ghost use Rattle.mono_rt.specs.Faults.{FaultsBy, FaultsParked};
 ghost use Rattle.mono_rt.specs.FuturePolls.{Polling, OnMain};
 ghost use Rattle.mono_rt.specs.JournalRoom.{Fills, LacksRefusal};
 ghost use Rattle.mono_rt.specs.PossibleAnswers.{AnswersNoMore};
+ghost use Rattle.mono_rt.specs.Pollable.{CanTurn};
 ghost use Rattle.mono_rt.specs.Remains.{KeepsContext, KeepsStrategy, HasRetired};
 ghost use Rattle.mono_rt.specs.DriverReadings.{telling, going, Telling, TellingSo, Still, EndsWaited};
-ghost use Rattle.mono_rt.specs.Views.{Blocks, Rests, HasOwnFutures, is_at_limit, HoldsSamePlaces, GivesNoMore, LeadsShared, TellsDriver, PollsMainTask, FillsJournalBy};
+ghost use Rattle.mono_rt.specs.Views.{Blocks, Rests, HasOwnFutures, is_at_limit, HoldsSamePlaces, GivesNoMore, LeadsShared, TellsDriver, PollsMainTask, FillsJournalBy, CanRun};
 
 use crate::contexts::Cx;
 use crate::parts::RunError;
@@ -171,11 +172,12 @@ where
     /// Runs at most 2q + 1 turns of queued tasks while the budget lasts, where q is the queue's length now. Returns the
     /// rest of the budget.
     fn round<R: Host>(&mut self, rt: &R, alloc: Global, units: u64) -> Result<u64, RunError>
-        requires callable { (f : F) → F.can_poll f }
+        requires callable { CanTurn F.TaskFuture self.old.cx }
         requires rests { self.old.cx.parts.tasks.turn ≡ None }
         ensures goes { Goes O.output_number self.old.cx.parts self.new.cx.parts self.old.journal self.new.journal }
         ensures has_timers { self.new.cx.parts.has_timers ≡ self.old.cx.parts.has_timers }
         ensures answers { AnswersNoMore F.gives self.old.cx self.new.cx }
+        ensures callable { CanTurn F.TaskFuture self.new.cx }
         ensures shared { W.leads self.old.cx.shared self.new.cx.shared }
         ensures rests { self.new.cx.parts.tasks.turn ≡ None }
         ensures left { IfOk result (λ left. left ≤ units) }
@@ -201,12 +203,13 @@ where
 
     /// Pauses, and runs a round. Returns the rest of the budget, which is smaller than before.
     fn pass<R: Host>(&mut self, rt: &R, alloc: Global, units: u64) -> Result<u64, RunError>
-        requires callable { (f : F) → F.can_poll f }
+        requires callable { CanTurn F.TaskFuture self.old.cx }
         requires rests { self.old.cx.parts.tasks.turn ≡ None }
         requires some_left { 0 < units }
         ensures passes { Does O.output_number (PassEnds self.old.cx.parts.has_timers units result) self.old.cx.parts self.new.cx.parts self.old.journal self.new.journal }
         ensures has_timers { self.new.cx.parts.has_timers ≡ self.old.cx.parts.has_timers }
         ensures answers { AnswersNoMore F.gives self.old.cx self.new.cx }
+        ensures callable { CanTurn F.TaskFuture self.new.cx }
         ensures shared { W.leads self.old.cx.shared self.new.cx.shared }
         ensures rests { self.new.cx.parts.tasks.turn ≡ None }
         ensures fewer { IfOk result (λ left. left < units) }
@@ -238,12 +241,13 @@ where
         main: u64,
         turns: u64,
     ) -> Result<(), RunError>
-        requires callable { (f : F) → F.can_poll f }
+        requires callable { CanTurn F.TaskFuture self.old.cx }
         requires rests { self.old.cx.parts.tasks.turn ≡ None }
         ensures given { OnOk result (GivesOutput self.new.cx.parts.tasks.tasks main) }
         ensures ends { Does O.output_number (Ends self.old.cx.parts.has_timers main turns result) self.old.cx.parts self.new.cx.parts self.old.journal self.new.journal }
         ensures has_timers { self.new.cx.parts.has_timers ≡ self.old.cx.parts.has_timers }
         ensures answers { AnswersNoMore F.gives self.old.cx self.new.cx }
+        ensures callable { CanTurn F.TaskFuture self.new.cx }
         ensures shared { W.leads self.old.cx.shared self.new.cx.shared }
         ensures rests { self.new.cx.parts.tasks.turn ≡ None }
         ensures polled { OnMain result (Does O.output_number (Polling O.output_number W.leads F.TaskFuture self.old.cx.parts.has_timers self.old.cx.futures.items self.new.cx.futures.items) self.old.cx.parts self.new.cx.parts self.old.journal self.new.journal) }
@@ -293,6 +297,9 @@ where
     /// An Ok value is one that the main future gives, if each future has its task's number (`given`). No task may
     /// answer more afterwards than it might before (`answers`).
     ///
+    /// The main future and those of the runtime can be polled, and so can each that a turn spawns (`callable`,
+    /// `others`). The same holds of the runtime afterwards.
+    ///
     /// ```rust
     /// // use_channel/src/main.rt
     /// match runtime.block_on(rt, alloc, Party::consumer(total), 1000) {
@@ -307,7 +314,8 @@ where
         future: F,
         turns: u64,
     ) -> Result<O, RunError>
-        requires callable { (f : F) → F.can_poll f }
+        requires callable { F.can_poll future }
+        requires others { CanRun F.TaskFuture self.old }
         requires rests { Rests self.old }
         ensures blocked { Blocks O.output_number turns result self.old self.new }
         ensures place { AnswersPlace result (is_at_limit self.old) }
@@ -315,6 +323,7 @@ where
         ensures strategy { KeepsStrategy O.output_number self.old self.new }
         ensures given { IfOk result (λ output. HasOwnFutures self.old → F.gives future output) }
         ensures answers { GivesNoMore F.gives self.old self.new }
+        ensures callable { CanRun F.TaskFuture self.new }
         ensures shared { LeadsShared W.leads self.old self.new }
         ensures retired { OnMain result (HasRetired self.new) }
         ensures rests { Rests self.new }

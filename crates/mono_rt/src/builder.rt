@@ -6,6 +6,7 @@ ghost use Rattle.mono_time.specs.Timers.{registered_of};
 ghost use Rattle.mono_blocking.specs.JobSpawns.{strategy_of, IsApart};
 ghost use Rattle.mono_rt.specs.Refinement.{hosting_of, Matches};
 ghost use Rattle.mono_rt.specs.Starts.{RunsFrom};
+ghost use Rattle.mono_rt.specs.Pollable.{SpawnsPollable};
 ghost use Rattle.mono_machine.specs.declared.events.Blocking.TheVariants as none;
 ghost use Rattle.mono_blocking.specs.declared.strategy.BlockingHandle.TheVariants.{Attached, Empty};
 ghost use Rattle.mono_blocking.specs.declared.strategy.BlockingStrategy.TheVariants.{Panic};
@@ -372,6 +373,8 @@ impl<F: Drop, O: Outcome + Drop, D: Driver, P: ThreadPool + Drop, W: SharedState
 /// driver's. Each park ends at the next expiration over the registered ticks, of which there are none at the start. Each
 /// turn is one poll of its task's own future, unless the answer is Memory. An answer is one that the future gives
 /// (`given`).
+///
+/// The future can be polled, and so can each that a turn spawns (`callable`, `others`).
 pub fn start<D, F, O, P, R: Host>(
     rt: &R,
     alloc: Global,
@@ -384,7 +387,8 @@ where
     O: Outcome + Drop,
     D: Buildable,
     P: ThreadPool + Drop,
-    requires { (f : F) → F.can_poll f }
+    requires callable { F.can_poll future }
+    requires others { SpawnsPollable F.TaskFuture ⊤ }
     ensures given { IfOk result (F.gives future) }
     ensures history { RunsFrom O.output_number (λ a b. ⊤) F.TaskFuture D.marks_timers turns future result default_start (exposed D.Clock driver) }
 {

@@ -7,7 +7,7 @@ ghost use Rattle.mono_rt.specs.Handles.{TakesOutput};
 ghost use Rattle.mono_rt.specs.Rounds.{Ends};
 ghost use Rattle.mono_rt.specs.Faults.{FaultsBy};
 ghost use Rattle.mono_rt.specs.FuturePolls.{OnMain};
-ghost use Rattle.mono_rt.specs.Views.{PollsHandleOf, DropsHandleOf, tasks_of, is_timed, Rests, Grows, ChangesTasks, HoldsSamePlaces, LeadsShared, TellsDriver, PollsItsFutures, FillsJournal};
+ghost use Rattle.mono_rt.specs.Views.{PollsHandleOf, DropsHandleOf, tasks_of, is_timed, Rests, Grows, ChangesTasks, HoldsSamePlaces, LeadsShared, TellsDriver, PollsItsFutures, FillsJournal, CanRun};
 
 use crate::contexts::Cx;
 use crate::parts::RunError;
@@ -91,9 +91,10 @@ where
         handle: &JoinHandle<O>,
         turns: u64,
     ) -> Result<(), RunError>
-        requires callable { (f : F) → F.can_poll f }
+        requires callable { CanRun F.TaskFuture self.old }
         requires rests { Rests self.old }
         ensures given { OnOk result (GivesOutput (tasks_of self.new) handle.now) }
+        ensures callable { CanRun F.TaskFuture self.new }
         ensures ends { Grows O.output_number (Ends (is_timed self.old) handle.now turns result) self.old self.new }
         ensures shared { LeadsShared W.leads self.old self.new }
         ensures rests { Rests self.new }

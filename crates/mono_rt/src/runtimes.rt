@@ -5,6 +5,7 @@ ghost use Rattle.mono_rt.specs.Rounds.{OneTurn, UpToOneTurn};
 ghost use Rattle.mono_rt.specs.FuturePolls.{Polling};
 ghost use Rattle.mono_rt.specs.JournalRoom.{Fills};
 ghost use Rattle.mono_rt.specs.PossibleAnswers.{AnswersNoMore};
+ghost use Rattle.mono_rt.specs.Pollable.{CanTurn};
 ghost use Rattle.mono_rt.specs.DriverReadings.{telling, going, Telling, Still};
 
 use crate::contexts::Cx;
@@ -38,7 +39,7 @@ where
 {
     /// Reads the clock, and runs a turn of the task at the queue's front.
     pub(crate) fn turn<R: Host>(&mut self, rt: &R, alloc: Global) -> Result<(), RunError>
-        requires callable { (f : F) → F.can_poll f }
+        requires callable { CanTurn F.TaskFuture self.old.cx }
         requires rests { self.old.cx.parts.tasks.turn ≡ None }
         requires queued { 0 < length self.old.cx.parts.tasks.tasks.queue }
         ensures goes { Goes O.output_number self.old.cx.parts self.new.cx.parts self.old.journal self.new.journal }
@@ -46,6 +47,7 @@ where
         ensures broken { OnErr result (Does O.output_number UpToOneTurn self.old.cx.parts self.new.cx.parts self.old.journal self.new.journal) }
         ensures polled { OnOk result (Does O.output_number (Polling O.output_number W.leads F.TaskFuture self.old.cx.parts.has_timers self.old.cx.futures.items self.new.cx.futures.items) self.old.cx.parts self.new.cx.parts self.old.journal self.new.journal) }
         ensures answers { AnswersNoMore F.gives self.old.cx self.new.cx }
+        ensures callable { CanTurn F.TaskFuture self.new.cx }
         ensures shared { W.leads self.old.cx.shared self.new.cx.shared }
         ensures has_timers { self.new.cx.parts.has_timers ≡ self.old.cx.parts.has_timers }
         ensures rests { self.new.cx.parts.tasks.turn ≡ None }

@@ -9,6 +9,7 @@ ghost use Rattle.mono_rt.specs.EndedTasks.{closed_in};
 ghost use Rattle.mono_rt.specs.Turns.{Begins, Pauses, Completes, Runs, Turn};
 ghost use Rattle.mono_rt.specs.PartTurns.{IsTurnOf};
 ghost use Rattle.mono_rt.specs.PossibleAnswers.{AnswersNoMore};
+ghost use Rattle.mono_rt.specs.Pollable.{EachCanPoll, CanTurn};
 
 use crate::contexts::Cx;
 use mono_blocking::ThreadPool;
@@ -109,10 +110,12 @@ where
         task: u64,
         taken: Option<F>,
     ) -> (End, Ended)
-        requires callable { (f : F) → F.can_poll f }
+        requires callable { IfSome taken F.can_poll }
+        requires others { CanTurn F.TaskFuture self.old }
         requires runs { self.old.parts.tasks.turn ≡ Some task }
         requires lent { IfSome taken (λ f. lent_at self.old.futures task ≡ true) }
-        ensures { Runs O.output_number W.leads F.TaskFuture taken task result.0 result.1 self.old self.new }
+        ensures callable { EachCanPoll F.can_poll self.new.futures.items }
+        ensures runs { Runs O.output_number W.leads F.TaskFuture taken task result.0 result.1 self.old self.new }
     {
         let Some(mut future) = taken else {
             return (End::Pending, self.pause_turn(task, None));
@@ -132,12 +135,13 @@ where
 
     /// Runs one turn of the task at the queue's front.
     pub(crate) fn turn<R: Host>(&mut self, rt: &R, alloc: Global, now: Instant) -> (u64, End, Ended)
-        requires callable { (f : F) → F.can_poll f }
+        requires callable { CanTurn F.TaskFuture self.old }
         requires rests { self.old.parts.tasks.turn ≡ None }
         requires queued { 0 < length self.old.parts.tasks.tasks.queue }
         ensures turn { Turn O.output_number W.leads F.TaskFuture result.0 now self.old.parts.acts result.1 result.2 self.old self.new }
         ensures is { (is_unread : Bool) → self.old.parts.acts ≡ no_acts is_unread → (m : Machine) → Matches O.output_number hosting_of self.old.parts m → IsTurnOf O.output_number result.0 result.1 result.2 self.old.parts self.new.parts m }
         ensures answers { AnswersNoMore F.gives self.old self.new }
+        ensures callable { CanTurn F.TaskFuture self.new }
         ensures shared { W.leads self.old.shared self.new.shared }
         ensures has_timers { self.new.parts.has_timers ≡ self.old.parts.has_timers }
         ensures rests { self.new.parts.tasks.turn ≡ None }

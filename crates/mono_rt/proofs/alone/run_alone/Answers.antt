@@ -12,6 +12,7 @@ use Rattle.mono_rt.proofs.FuturePollLemmas.{polls_whole}
 use Rattle.mono_rt.proofs.JournalRoomLemmas.{one_long, none_kept}
 use Rattle.mono_rt.specs.Reaches.{IsAligned}
 use Rattle.mono_rt.proofs.PossibleAnswerLemmas.{aligned_new, ok_given}
+use Rattle.mono_rt.proofs.PollableLemmas.{turn_new}
 use Rattle.mono_rt.proofs.alone.run_alone.Goals as goal
 
 pub returns : goal.returns
@@ -36,3 +37,9 @@ returns g c =
       full = one_long number (λ a b. ⊤) g.F.TaskFuture c.block_on-answer.result made.cx made.journal left.journal c.into_journal.result c.in_ok-runtime.ensures.unfull c.into_journal.ensures c.block_on-answer.ensures.full;
       lacks = none_kept number (λ a b. ⊤) g.F.TaskFuture c.block_on-answer.result made.cx made.journal left.journal c.into_journal.result c.in_ok-runtime.ensures.unfull c.in_ok-runtime.ensures.history c.into_journal.ensures c.block_on-answer.ensures.full;
     }
+
+pub block_on-answer-requires-clause-others : goal.block_on-answer-requires-clause-others
+block_on-answer-requires-clause-others g c =
+    let made = c.in_ok-runtime.runtime in
+    turn_new g.F.TaskFuture made.cx c.in_ok-runtime.ensures.futures c.requires.others
+    (aligned_new g.O.Outcome.output_number made.cx (start_machine c.args.limits (strategy_of c.args.pool)) c.in_ok-runtime.ensures.stands refl c.in_ok-runtime.ensures.futures)

@@ -7,6 +7,7 @@ use Rattle.mono_rt.proofs.DriverLemmas.{same_told}
 use Rattle.mono_rt.proofs.StartLemmas.{same_start, none_made, runs_from}
 use Rattle.mono_rt.specs.Reaches.{IsAligned}
 use Rattle.mono_rt.proofs.PossibleAnswerLemmas.{ok_given}
+use Rattle.mono_rt.proofs.PollableLemmas.{turn_new}
 use Rattle.mono_rt.proofs.builder.start.Goals as goal
 
 pub returns-in-Err-clause-history : goal.returns-in-Err-clause-history
@@ -28,3 +29,6 @@ returns-in-Ok-clause-history g c =
 
 pub returns-in-Ok-clause-given : goal.returns-in-Ok-clause-given
 returns-in-Ok-clause-given g c = ok_given (IsAligned c.in-Ok.runtime.cx) (g.F.TaskFuture.gives c.args.future) c.block_on.result c.in-Ok.ensures.aligned c.block_on.ensures.given
+
+pub block_on-requires-clause-others : goal.block_on-requires-clause-others
+block_on-requires-clause-others g c = turn_new g.F.TaskFuture c.in-Ok.runtime.cx c.in-Ok.ensures.futures c.requires.others c.in-Ok.ensures.aligned

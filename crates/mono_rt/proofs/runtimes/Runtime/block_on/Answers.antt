@@ -15,7 +15,8 @@ use Rattle.mono_rt.proofs.EndedTaskLemmas.{if_main}
 use Rattle.mono_rt.proofs.PlaceLemmas.{placed, same_answer, same_refusal, not_refused}
 use Rattle.mono_rt.proofs.StrategyLemmas.{same_strategy}
 use Rattle.mono_rt.proofs.OutputLemmas.{adds_itself, adds_dropped, output_dropped}
-use Rattle.mono_rt.proofs.PossibleAnswerLemmas.{no_more_on, no_more_by, no_more_spawned, given_later}
+use Rattle.mono_rt.proofs.PossibleAnswerLemmas.{aligned_spawned, no_more_on, no_more_by, no_more_spawned, given_later}
+use Rattle.mono_rt.proofs.PollableLemmas.{turn_same, turn_with}
 use Rattle.mono_rt.proofs.runtimes.Runtime.block_on.Goals as goal
 
 -- if the main task has its output, the drop of its handle gives it
@@ -198,3 +199,25 @@ returns-in-Err-answer-clause-retired g c = if_main ⊤ c.in-Err-answer.error _ c
 
 pub returns-in-Some-clause-retired : goal.returns-in-Some-clause-retired
 returns-in-Some-clause-retired g c = c.retire_ended.ensures.none
+
+pub run-answer-requires-clause-callable : goal.run-answer-requires-clause-callable
+run-answer-requires-clause-callable g c =
+    let old = c.args.self.now in
+    let started = c.start_main.new.self in
+    turn_with g.F.TaskFuture old.cx started.cx c.args.future (aligned_spawned old.cx started.cx c.args.future c.in-Ok.ensures.tasks c.in-Ok.ensures.made) c.in-Ok.ensures.made c.requires.callable c.requires.others
+
+pub returns-in-Err-clause-callable : goal.returns-in-Err-clause-callable
+returns-in-Err-clause-callable g c =
+    turn_same g.F.TaskFuture g.F.TaskFuture.gives c.args.self.now.cx c.start_main.new.self.cx (returns-in-Err-clause-answers g c) c.in-Err.ensures.same_futures c.requires.others
+
+pub returns-in-Err-answer-clause-callable : goal.returns-in-Err-answer-clause-callable
+returns-in-Err-answer-clause-callable g c =
+    let gives = g.F.TaskFuture.gives in
+    let ran = c.run-answer.new.self in
+    turn_same g.F.TaskFuture gives ran.cx _ (no_more_by gives ran.cx _ (subst (AddsNone ran.cx.parts.tasks.tasks) (sym c.end_main-output.ensures.left) (adds_dropped ran.cx.parts.tasks.tasks c.in-Ok.main)) refl) refl c.run-answer.ensures.callable
+
+pub returns-in-Some-clause-callable : goal.returns-in-Some-clause-callable
+returns-in-Some-clause-callable g c =
+    let gives = g.F.TaskFuture.gives in
+    let ran = c.run-answer.new.self in
+    turn_same g.F.TaskFuture gives ran.cx _ (no_more_by gives ran.cx _ (subst (AddsNone ran.cx.parts.tasks.tasks) (sym c.end_main-output.ensures.left) (adds_dropped ran.cx.parts.tasks.tasks c.in-Ok.main)) refl) refl c.run-answer.ensures.callable

@@ -11,6 +11,7 @@ use Rattle.mono_rt.specs.FuturePolls.{Polling}
 use Rattle.mono_rt.proofs.FuturePollLemmas.{polls_on, polls_pause, same_error}
 use Rattle.mono_rt.proofs.JournalRoomLemmas.{fills_on, fills_not}
 use Rattle.mono_rt.proofs.PossibleAnswerLemmas.{no_more_on, no_more_by}
+use Rattle.mono_rt.proofs.PollableLemmas.{turn_same}
 use Rattle.mono_rt.proofs.runtimes.Runtime.pass.Goals as goal
 
 no_cost : (u k : ℕ) → 0 ≡ k → u ≡ u - k
@@ -165,3 +166,36 @@ returns-in-Err-round-2-clause-answers g c =
     let old = c.args.self.now in
     let paused = c.pause.new.self in
     no_more_on g.F.TaskFuture.gives old.cx paused.cx c.round-in-Ok-false.new.self.cx (no_more_by g.F.TaskFuture.gives old.cx paused.cx c.pause.ensures.adds (ap (λ v. v.items) c.pause.ensures.futures)) c.round-in-Ok-false.ensures.answers
+
+pub round-requires-clause-callable : goal.round-requires-clause-callable
+round-requires-clause-callable g c =
+    let old = c.args.self.now in
+    let paused = c.pause.new.self in
+    let items = ap (λ v. v.items) c.pause.ensures.futures in
+    turn_same g.F.TaskFuture g.F.TaskFuture.gives old.cx paused.cx (no_more_by g.F.TaskFuture.gives old.cx paused.cx c.pause.ensures.adds items) items c.requires.callable
+
+pub round-requires-in-Ok-false-clause-callable : goal.round-requires-in-Ok-false-clause-callable
+round-requires-in-Ok-false-clause-callable g c =
+    let old = c.args.self.now in
+    let paused = c.pause.new.self in
+    let items = ap (λ v. v.items) c.pause.ensures.futures in
+    turn_same g.F.TaskFuture g.F.TaskFuture.gives old.cx paused.cx (no_more_by g.F.TaskFuture.gives old.cx paused.cx c.pause.ensures.adds items) items c.requires.callable
+
+pub returns-in-Err-clause-callable : goal.returns-in-Err-clause-callable
+returns-in-Err-clause-callable g c =
+    let old = c.args.self.now in
+    let paused = c.pause.new.self in
+    let items = ap (λ v. v.items) c.pause.ensures.futures in
+    turn_same g.F.TaskFuture g.F.TaskFuture.gives old.cx paused.cx (no_more_by g.F.TaskFuture.gives old.cx paused.cx c.pause.ensures.adds items) items c.requires.callable
+
+pub returns-in-Ok-clause-callable : goal.returns-in-Ok-clause-callable
+returns-in-Ok-clause-callable g c = c.round.ensures.callable
+
+pub returns-in-Ok-round-clause-callable : goal.returns-in-Ok-round-clause-callable
+returns-in-Ok-round-clause-callable g c = c.round-in-Ok-false.ensures.callable
+
+pub returns-in-Err-round-clause-callable : goal.returns-in-Err-round-clause-callable
+returns-in-Err-round-clause-callable g c = c.round.ensures.callable
+
+pub returns-in-Err-round-2-clause-callable : goal.returns-in-Err-round-2-clause-callable
+returns-in-Err-round-2-clause-callable g c = c.round-in-Ok-false.ensures.callable

@@ -36,13 +36,14 @@ loop-done-preserved g c = (
   g.W.SharedState.leads_on _ _ _ c.loop-done.invariant.9 c.turn.ensures.shared,
   c.turn.ensures.faults ∙ c.loop-done.invariant.10,
   no_more_on g.F.TaskFuture.gives c.args.self.now.cx c.loop-done.self.cx c.turn.new.self.cx c.loop-done.invariant.11 c.turn.ensures.answers,
+  c.turn.ensures.callable,
 )
 
 pub loop-done-init : goal.loop-done-init
 loop-done-init g c =
     let parts = c.args.self.now.cx.parts in
     let journal = c.args.self.now.journal in
-    (goes_nowhere g.O.Outcome.output_number parts parts journal journal refl refl refl refl refl, c.requires.rests, λ e. refl, no_turns g.O.Outcome.output_number parts journal, refl, tells_nothing refl refl refl, polls_nothing g.O.Outcome.output_number g.W.SharedState.leads g.F.TaskFuture parts.has_timers c.args.self.now.cx.futures.items parts journal, fills_not g.O.Outcome.output_number g.W.SharedState.leads g.F.TaskFuture c.args.self.now.cx journal journal refl, refl, g.W.SharedState.leads_itself _, refl, no_more_itself g.F.TaskFuture.gives c.args.self.now.cx)
+    (goes_nowhere g.O.Outcome.output_number parts parts journal journal refl refl refl refl refl, c.requires.rests, λ e. refl, no_turns g.O.Outcome.output_number parts journal, refl, tells_nothing refl refl refl, polls_nothing g.O.Outcome.output_number g.W.SharedState.leads g.F.TaskFuture parts.has_timers c.args.self.now.cx.futures.items parts journal, fills_not g.O.Outcome.output_number g.W.SharedState.leads g.F.TaskFuture c.args.self.now.cx journal journal refl, refl, g.W.SharedState.leads_itself _, refl, no_more_itself g.F.TaskFuture.gives c.args.self.now.cx, c.requires.callable)
 
 pub returns-then-queue_len-eq0-clause-round : goal.returns-then-queue_len-eq0-clause-round
 returns-then-queue_len-eq0-clause-round g c =
@@ -107,3 +108,15 @@ returns-then-queue_len-eq0-clause-answers g c = c.loop-done.invariant.11
 
 pub returns-clause-answers : goal.returns-clause-answers
 returns-clause-answers g c = c.loop-done.invariant.11
+
+pub turn-requires-clause-callable : goal.turn-requires-clause-callable
+turn-requires-clause-callable g c = c.loop-done.invariant.12
+
+pub returns-in_err-turn-clause-callable : goal.returns-in_err-turn-clause-callable
+returns-in_err-turn-clause-callable g c = c.turn.ensures.callable
+
+pub returns-then-queue_len-eq0-clause-callable : goal.returns-then-queue_len-eq0-clause-callable
+returns-then-queue_len-eq0-clause-callable g c = c.loop-done.invariant.12
+
+pub returns-clause-callable : goal.returns-clause-callable
+returns-clause-callable g c = c.loop-done.invariant.12

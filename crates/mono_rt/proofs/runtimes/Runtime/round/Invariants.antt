@@ -4,6 +4,7 @@ use Rattle.mono_rt.specs.Rounds.{Turns}
 use Rattle.mono_rt.specs.FuturePolls.{Polling}
 use Rattle.mono_rt.specs.JournalRoom.{Fills}
 use Rattle.mono_rt.specs.PossibleAnswers.{AnswersNoMore}
+use Rattle.mono_rt.specs.Pollable.{CanTurn}
 use Rattle.mono_rt.specs.DriverReadings.{telling, Telling, Still, going}
 use Rattle.mono_rt.proofs.runtimes.Runtime.round.Given as goal
 
@@ -21,3 +22,4 @@ invariant-loop-done g l = Goes g.O.Outcome.output_number l.initial.self.cx.parts
     × g.W.SharedState.leads l.initial.self.cx.shared l.self.cx.shared
     × (g.D.Clock.faults l.self.driver ≡ g.D.Clock.faults l.initial.self.driver)
     × AnswersNoMore g.F.TaskFuture.gives l.initial.self.cx l.self.cx
+    × CanTurn g.F.TaskFuture l.self.cx

@@ -32,6 +32,7 @@ loop-units-init g c = (
   c.round.ensures.shared,
   c.round.ensures.faults,
   c.round.ensures.answers,
+  c.round.ensures.callable,
 )
 
 pub loop-units-preserved : goal.loop-units-preserved
@@ -49,6 +50,7 @@ loop-units-preserved g c = (
   g.W.SharedState.leads_on _ _ _ c.loop-units.invariant.7 c.pass.ensures.shared,
   (rw c.in-Ok-pass.is at c.pass.ensures.faults) ∙ c.loop-units.invariant.8,
   no_more_on g.F.TaskFuture.gives c.args.self.now.cx c.loop-units.self.cx c.pass.new.self.cx c.loop-units.invariant.9 c.pass.ensures.answers,
+  c.pass.ensures.callable,
 )
 
 pub returns-in-Err-pass-clause-ends : goal.returns-in-Err-pass-clause-ends
@@ -154,3 +156,18 @@ returns-else-has_output-clause-answers g c = c.loop-units.invariant.9
 
 pub returns-in-Err-clause-answers : goal.returns-in-Err-clause-answers
 returns-in-Err-clause-answers g c = c.round.ensures.answers
+
+pub pass-requires-clause-callable : goal.pass-requires-clause-callable
+pass-requires-clause-callable g c = c.loop-units.invariant.10
+
+pub returns-in-Err-pass-clause-callable : goal.returns-in-Err-pass-clause-callable
+returns-in-Err-pass-clause-callable g c = c.pass.ensures.callable
+
+pub returns-then-has_output-clause-callable : goal.returns-then-has_output-clause-callable
+returns-then-has_output-clause-callable g c = c.loop-units.invariant.10
+
+pub returns-else-has_output-clause-callable : goal.returns-else-has_output-clause-callable
+returns-else-has_output-clause-callable g c = c.loop-units.invariant.10
+
+pub returns-in-Err-clause-callable : goal.returns-in-Err-clause-callable
+returns-in-Err-clause-callable g c = c.round.ensures.callable

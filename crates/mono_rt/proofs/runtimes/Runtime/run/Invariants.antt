@@ -4,6 +4,7 @@ use Rattle.mono_rt.specs.Rounds.{Rounds}
 use Rattle.mono_rt.specs.FuturePolls.{Polling}
 use Rattle.mono_rt.specs.JournalRoom.{Fills}
 use Rattle.mono_rt.specs.PossibleAnswers.{AnswersNoMore}
+use Rattle.mono_rt.specs.Pollable.{CanTurn}
 use Rattle.mono_rt.specs.DriverReadings.{telling, Telling, Still, going}
 use Rattle.mono_rt.proofs.runtimes.Runtime.run.Given as goal
 
@@ -19,6 +20,7 @@ invariant-loop-units g l = Does g.O.Outcome.output_number (Rounds l.fn.self.cx.p
     × g.W.SharedState.leads l.fn.self.cx.shared l.self.cx.shared
     × (g.D.Clock.faults l.self.driver ≡ g.D.Clock.faults l.fn.self.driver)
     × AnswersNoMore g.F.TaskFuture.gives l.fn.self.cx l.self.cx
+    × CanTurn g.F.TaskFuture l.self.cx
 
 -- each pass spends a unit
 abbrev pub decreases-loop-units : goal.decreases-loop-units

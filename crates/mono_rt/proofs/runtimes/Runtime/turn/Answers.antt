@@ -12,6 +12,7 @@ use Rattle.mono_rt.specs.Turns.{Turn}
 use Rattle.mono_rt.proofs.FuturePollLemmas.{polls_turn}
 use Rattle.mono_rt.proofs.JournalRoomLemmas.{fills_turn}
 use Rattle.mono_rt.proofs.PossibleAnswerLemmas.{no_more_same, no_more_around}
+use Rattle.mono_rt.proofs.PollableLemmas.{turn_same}
 use Rattle.mono_rt.proofs.runtimes.Runtime.turn.Goals as goal
 
 pub returns-then-self-clause-goes : goal.returns-then-self-clause-goes
@@ -111,3 +112,27 @@ pub returns-clause-answers : goal.returns-clause-answers
 returns-clause-answers g c =
     let old = c.args.self.now in
     no_more_around g.F.TaskFuture.gives old.cx (record old.cx { parts = c.open_turn.new.self }) c.turn-task.new.self (record c.turn-task.new.self { parts = c.keep_turn.new.self }) c.open_turn.ensures.tasks refl c.turn-task.ensures.answers c.keep_turn.ensures.tasks refl
+
+pub turn-task-requires-clause-callable : goal.turn-task-requires-clause-callable
+turn-task-requires-clause-callable g c =
+    let old = c.args.self.now in
+    let opened = record old.cx { parts = c.open_turn.new.self } in
+    turn_same g.F.TaskFuture g.F.TaskFuture.gives old.cx opened (no_more_same g.F.TaskFuture.gives old.cx opened c.open_turn.ensures.tasks refl) refl c.requires.callable
+
+pub returns-in_default-clause-callable : goal.returns-in_default-clause-callable
+returns-in_default-clause-callable g c =
+    let old = c.args.self.now in
+    let opened = record old.cx { parts = c.open_turn.new.self } in
+    turn_same g.F.TaskFuture g.F.TaskFuture.gives old.cx opened (no_more_same g.F.TaskFuture.gives old.cx opened c.open_turn.ensures.tasks refl) refl c.requires.callable
+
+pub returns-then-self-clause-callable : goal.returns-then-self-clause-callable
+returns-then-self-clause-callable g c =
+    let done = c.turn-task.new.self in
+    let left = record done { parts = c.keep_turn.new.self } in
+    turn_same g.F.TaskFuture g.F.TaskFuture.gives done left (no_more_same g.F.TaskFuture.gives done left c.keep_turn.ensures.tasks refl) refl c.turn-task.ensures.callable
+
+pub returns-clause-callable : goal.returns-clause-callable
+returns-clause-callable g c =
+    let done = c.turn-task.new.self in
+    let left = record done { parts = c.keep_turn.new.self } in
+    turn_same g.F.TaskFuture g.F.TaskFuture.gives done left (no_more_same g.F.TaskFuture.gives done left c.keep_turn.ensures.tasks refl) refl c.turn-task.ensures.callable
