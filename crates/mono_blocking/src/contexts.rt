@@ -1,5 +1,5 @@
 // The calls of a context on blocking jobs, and its remote wakers.
-ghost use Rattle.std.specs.Prelude.{◌≡◌, ℕ, true, IfOk, OnOk, OnErr};
+ghost use Rattle.std.specs.Prelude.{◌≡◌, ℕ, Bool, true, IfOk, OnOk, OnErr};
 ghost use Rattle.mono_model.specs.Jobs.{Jobs};
 ghost use Rattle.mono_machine.specs.declared.events.Blocking.{Blocking};
 ghost use Rattle.mono_blocking.specs.JobSpawns.{Spawned};
@@ -73,12 +73,20 @@ pub trait JobContext: Context {
 
 /// A context that hands out remote wakers.
 pub trait RemoteContext<U: Unpark>: Context {
-    /// Returns a remote waker of the running task, which wakes it from any thread. It fails only if out of memory, and
-    /// the context notes that (`memory`).
+    // whether a remote waker of the running task was handed out in this turn
+    ghost has_handed_out: { Self → Bool };
+
+    // the context once one was
+    ghost handed_out: { Self → Self };
+
+    /// Returns a remote waker of the running task, which wakes it from any thread. The context notes that it handed one
+    /// out, and is as before otherwise (`same`). It fails only if out of memory, and the context notes that (`memory`).
     fn remote_waker(&mut self) -> Result<RemoteWaker<U>, AllocError>
         ensures waker { IfOk result (λ waker. waker ≡ Self.number self.old) }
-        ensures same { OnOk result (self.new ≡ self.old) }
+        ensures same { OnOk result (self.new ≡ handed_out self.old) }
         ensures memory { OnErr result (Self.is_out_of_memory self.new ≡ true) }
         ensures work { Self.work self.new ≡ Self.work self.old }
         ensures reached { Self.reaches self.old self.new };
+
+    ghost hands_out: { (c : Self) → has_handed_out (handed_out c) ≡ true };
 }

@@ -25,7 +25,7 @@ use Rattle.mono_blocking.specs.declared.jobs.refusals.PollJob.{PollJob}
 use Rattle.mono_blocking.specs.declared.jobs.refusals.PollJob.TheVariants as polling
 use Rattle.mono_rt.specs.JobActs.{lacks_after, AsksJob, PollsJob}
 use Rattle.mono_rt.specs.Spawns.{lacks_spawn}
-use Rattle.mono_rt.specs.Remains.{NotesMemory as NotesLack}
+use Rattle.mono_rt.specs.Remains.{HandsOut, NotesMemory as NotesLack}
 use Rattle.mono_rt.specs.declared.contexts.Cx.{Cx}
 use Rattle.mono_rt.specs.declared.parts.state.Parts.{Parts}
 
@@ -89,6 +89,6 @@ module _ {F O P U W J A V X E : Type 0} where
   lack_noted (Ok x) c d noted = tt
   lack_noted (Err e) c d noted = ap (λ x. x.parts.is_out_of_memory) noted
 
-  pub lack_work : (answer : Result X E) (c d : Cx F O P U W J A V) → OnOk answer (d ≡ c) → OnErr answer (NotesLack c d) → without_outputs d.parts.tasks.tasks ≡ without_outputs c.parts.tasks.tasks
+  pub lack_work : (answer : Result X E) (c d : Cx F O P U W J A V) → OnOk answer (HandsOut c d) → OnErr answer (NotesLack c d) → without_outputs d.parts.tasks.tasks ≡ without_outputs c.parts.tasks.tasks
   lack_work (Ok x) c d same noted = ap (λ x. without_outputs x.parts.tasks.tasks) same
   lack_work (Err e) c d same noted = ap (λ x. without_outputs x.parts.tasks.tasks) noted

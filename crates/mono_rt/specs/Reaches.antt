@@ -39,11 +39,13 @@ module _ {F O P U W J A V : Type 0} (number : O → ℕ) (leads : W → W → Ty
     -- the running task finds its own place again
     pub lent : KeepsLent c.futures.lent d.futures.lent
     pub same_waker : d.waker ≡ c.waker
+    -- a waker that was handed out still is
+    pub handed : c.has_handed_out ≡ true → d.has_handed_out ≡ true
     -- the shared value was led
     pub shared : leads c.shared d.shared
 
   pub sharing_itself : ((w : W) → leads w w) → (c : Cx F O P U W J A V) → ReachesSharing c c
-  sharing_itself itself c = record { parts = leads_itself number hosting_of c.parts; keeps = λ t h. refl; grows = le_refl _; aligned = λ h. h; lent = λ t h. h; same_waker = refl; shared = itself c.shared }
+  sharing_itself itself c = record { parts = leads_itself number hosting_of c.parts; keeps = λ t h. refl; grows = le_refl _; aligned = λ h. h; lent = λ t h. h; same_waker = refl; handed = λ h. h; shared = itself c.shared }
 
   pub sharing_on : ((u v w : W) → leads u v → leads v w → leads u w) → (a b c : Cx F O P U W J A V) → ReachesSharing a b → ReachesSharing b c → ReachesSharing a c
   sharing_on on a b c p q = record {
@@ -53,19 +55,21 @@ module _ {F O P U W J A V : Type 0} (number : O → ℕ) (leads : W → W → Ty
     aligned = λ h. q.aligned (p.aligned h);
     lent = λ t h. q.lent t (p.lent t h);
     same_waker = q.same_waker ∙ p.same_waker;
+    handed = λ h. q.handed (p.handed h);
     shared = on a.shared b.shared c.shared p.shared q.shared;
   }
 
   -- a call on the parts alone
   pub by_parts : (c d : Cx F O P U W J A V) → Leads number hosting_of c.parts d.parts → next_number d.parts.tasks.tasks.table ≡ next_number c.parts.tasks.tasks.table → d.futures.items ≡ c.futures.items → d.futures.lent ≡ c.futures.lent → d.waker ≡ c.waker
-      → leads c.shared d.shared → ReachesSharing c d
-  by_parts c d parts next same lent waker shared = record {
+      → (c.has_handed_out ≡ true → d.has_handed_out ≡ true) → leads c.shared d.shared → ReachesSharing c d
+  by_parts c d parts next same lent waker handed shared = record {
     parts = parts;
     keeps = λ t h. ap (λ v. value_at v t) same;
     grows = rw same (le_refl _);
     aligned = λ h. ap length same ∙ h ∙ sym next;
     lent = λ t h. ap (λ xs. slice_index_or xs t false) lent ∙ h;
     same_waker = waker;
+    handed = handed;
     shared = shared;
   }
 
@@ -78,6 +82,7 @@ module _ {F O P U W J A V : Type 0} (number : O → ℕ) (leads : W → W → Ty
     aligned = λ h. h;
     lent = λ t h. h;
     same_waker = refl;
+    handed = λ h. h;
     shared = shared;
   }
 

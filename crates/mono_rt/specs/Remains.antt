@@ -28,6 +28,10 @@ module _ {F O P U W J A V : Type 0} where
   abbrev pub ChangesPartsAndFutures : Cx F O P U W J A V → Cx F O P U W J A V → Type 0
   ChangesPartsAndFutures c d = d ≡ record c { parts = d.parts; futures = d.futures }
 
+  -- Nothing changed but that a remote waker of the running task was handed out.
+  abbrev pub HandsOut : Cx F O P U W J A V → Cx F O P U W J A V → Type 0
+  HandsOut c d = d ≡ record c { has_handed_out = true }
+
   -- Nothing changed but that an allocation of the turn failed.
   abbrev pub NotesMemory : Cx F O P U W J A V → Cx F O P U W J A V → Type 0
   NotesMemory c d = d ≡ record c { parts = record c.parts { is_out_of_memory = true } }

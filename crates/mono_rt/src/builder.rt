@@ -255,6 +255,7 @@ impl<D: Driver, P: ThreadPool + Drop> RuntimeBuilder<D, P> {
                             futures: Slots::new(alloc),
                             wakers,
                             waker: None,
+                            has_handed_out: false,
                             shared,
                         },
                         driver,
@@ -361,6 +362,7 @@ impl<F: Drop, O: Outcome + Drop, D: Driver, P: ThreadPool + Drop, W: SharedState
             futures: _,
             wakers: _,
             waker: _,
+            has_handed_out: _,
             shared: _,
         } = cx;
         let Parts { blocking, .. } = parts;

@@ -12,7 +12,7 @@ ghost use Rattle.mono_task.specs.Work.{without_outputs};
 ghost use Rattle.mono_time.specs.Instants.{nanos_of};
 ghost use Rattle.mono_time.specs.Sleeps.{Added, sleep_poll_answer, with_polled_sleep, sleep_reset_answer, with_reset_sleep, sleep_remove_answer, with_removed_sleep};
 ghost use Rattle.mono_time.specs.Timers.{sleeps_of};
-ghost use Rattle.mono_rt.specs.Remains.{ChangesPartsAndFutures, NotesMemory};
+ghost use Rattle.mono_rt.specs.Remains.{ChangesPartsAndFutures, HandsOut, NotesMemory};
 ghost use Rattle.mono_rt.specs.Reaches.{ReachesSharing, sharing_itself, sharing_on, by_shared};
 ghost use Rattle.mono_rt.specs.Views.{running_in, WakesAlone, LacksMemory, tasks_in, work_in, sleeps_in, futures_in, KeepsWork, NotesSpawn, NotesWake, NotesJoin, NotesDrop, NotesSleep, NotesPoll, NotesGone, NotesReset};
 
@@ -37,6 +37,8 @@ pub struct Cx<F, O, P: ThreadPool, U: Unpark, W = ()> {
     pub(crate) wakers: Wakers<U>,
     // the waker of the task whose turn runs, unless it ran out of memory
     pub(crate) waker: Option<RemoteWaker<U>>,
+    // whether a clone of that waker was handed out in this turn
+    pub(crate) has_handed_out: bool,
     // the shared value of the tasks
     pub(crate) shared: W,
 }
@@ -97,17 +99,20 @@ impl<F: Drop, O: Outcome + Drop, P: ThreadPool + Drop, U: Unpark, W: SharedState
     }
 
     /// Returns a remote waker of the task whose turn runs (`task`): a clone of the waker made before its first turn
-    /// (`waker`). It fails only if out of memory. The flag of the turn notes that (`noted`), so the runtime answers
-    /// Memory.
+    /// (`waker`). The context notes that it handed one out, and is as before otherwise (`same`). It fails only if out of
+    /// memory. The flag of the turn notes that (`noted`), so the runtime answers Memory.
     pub fn remote_waker(&mut self) -> Result<RemoteWaker<U>, AllocError>
         ensures task { IfOk result (λ waker. waker ≡ running_in self.old) }
         ensures waker { IfOk result (λ waker. self.old.waker ≡ Some waker) }
-        ensures same { OnOk result (self.new ≡ self.old) }
+        ensures same { OnOk result (HandsOut self.old self.new) }
         ensures noted { OnErr result (NotesMemory self.old self.new) }
         ensures reached { ReachesSharing O.output_number W.leads self.old self.new }
     {
         match hand_out(&mut self.waker, self.parts.me) {
-            Ok(waker) => Ok(waker),
+            Ok(waker) => {
+                self.has_handed_out = true;
+                Ok(waker)
+            }
             Err(error) => {
                 self.parts.is_out_of_memory = true;
                 Err(error)

@@ -38,6 +38,7 @@ impl<F: Drop, O: Outcome + Drop, D: Driver, P: ThreadPool + Drop, W: SharedState
             futures: _,
             wakers: _,
             waker: _,
+            has_handed_out: _,
             shared: _,
         } = cx;
         let Parts { blocking, .. } = parts;

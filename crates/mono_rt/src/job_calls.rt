@@ -1,5 +1,5 @@
 // The calls of a running task on blocking jobs.
-ghost use Rattle.std.specs.Prelude.{◌≡◌, IfOk};
+ghost use Rattle.std.specs.Prelude.{◌≡◌, true, refl, IfOk};
 ghost use Rattle.mono_rt.specs.JobActs.{SpawnsJob, PollsJob, DropsJob, AsksWhetherEnded};
 ghost use Rattle.mono_rt.specs.Reaches.{ReachesSharing};
 ghost use Rattle.mono_blocking.specs.JobSpawns.{strategy_of, refusals_of};
@@ -160,7 +160,13 @@ impl<
     U: Unpark,
     W: SharedState + Drop,
 > RemoteContext<U> for Cx<F, O, P, U, W> {
+    ghost has_handed_out = { λ c. c.has_handed_out };
+
+    ghost handed_out = { λ c. record c { has_handed_out = true } };
+
     fn remote_waker(&mut self) -> Result<RemoteWaker<U>, AllocError> {
         Cx::remote_waker(self)
     }
+
+    ghost hands_out = { λ c. refl };
 }

@@ -46,7 +46,8 @@ impl<F: Drop, O: Outcome + Drop, P: ThreadPool + Drop, U: Unpark, W: SharedState
     }
 
     /// Runs the queue's front at this reading of the clock, and takes its future out of the table. Before the first
-    /// turn it makes the task's remote waker. The flag of refused memory is then that of this turn.
+    /// turn it makes the task's remote waker. The flag of refused memory is then that of this turn, in which no waker was
+    /// handed out yet.
     fn begin_turn<R: Host>(&mut self, rt: &R, alloc: Global, now: Instant) -> (u64, Option<F>)
         requires rests { self.old.parts.tasks.turn ≡ None }
         requires queued { 0 < length self.old.parts.tasks.tasks.queue }
@@ -60,6 +61,7 @@ impl<F: Drop, O: Outcome + Drop, P: ThreadPool + Drop, U: Unpark, W: SharedState
         };
         let (future, had) = self.futures.take(task);
         self.waker = self.wakers.open(rt, alloc, task, had);
+        self.has_handed_out = false;
         self.parts.me = task;
         self.parts.now = now;
         self.parts.is_out_of_memory = self.waker.is_none();

@@ -1,5 +1,5 @@
 // A value that the tasks of one runtime share.
-ghost use Rattle.std.specs.Prelude.{⊤};
+ghost use Rattle.std.specs.Prelude.{⊤, ℕ, Bool, false};
 
 /// A value that the tasks of one runtime share: each may read and change it in its turn.
 ///
@@ -9,6 +9,9 @@ ghost use Rattle.std.specs.Prelude.{⊤};
 pub trait SharedState {
     // Whether calls on the value lead from the first to the second.
     ghost leads: { Self → Self → Type 0 };
+
+    // Whether the value names this task as one that waits: the tasks that change the value find it there, and wake it.
+    ghost lists: { Self → ℕ → Bool } = { λ a t. false };
 
     ghost leads_itself: { (a : Self) → leads a a };
 
