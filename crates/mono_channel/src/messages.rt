@@ -1,6 +1,7 @@
 // Futures that send and receive, over an end that each hands back.
-ghost use Rattle.std.specs.Prelude.{◌≡◌, is_none};
+ghost use Rattle.std.specs.Prelude.{◌≡◌, true, is_none};
 ghost use Rattle.std.specs.declared.option.Option.TheVariants.{None, Some};
+ghost use Rattle.mono_model.specs.Poll.{OnPending};
 ghost use Rattle.mono_channel.specs.Polls.{PollsToReceive, PollsToSend};
 ghost use Rattle.mono_channel.specs.Messages.{RecvPolls, RecvGives, SendPolls, SendGives};
 
@@ -20,6 +21,8 @@ use std::mem;
 pub struct Recv<T: Drop, U: Unpark> {
     // the receiver, until the future has answered
     pub(crate) receiver: Option<Receiver<T, U>>,
+    // the task that waits, after a pending poll
+    pub(crate) task: u64,
 }
 
 /// A future that sends a message, and waits while each place is taken. Its answer hands the sender back.
@@ -29,6 +32,8 @@ pub struct Recv<T: Drop, U: Unpark> {
 pub struct Send<T: Drop, U: Unpark> {
     // the sender and the message, until the future has answered
     pub(crate) unsent: Option<(Sender<T, U>, T)>,
+    // the task that waits, after a pending poll
+    pub(crate) task: u64,
 }
 
 impl<T: Drop, U: Unpark> Receiver<T, U> {
@@ -38,6 +43,7 @@ impl<T: Drop, U: Unpark> Receiver<T, U> {
     {
         Recv {
             receiver: Some(self),
+            task: 0,
         }
     }
 
@@ -48,6 +54,7 @@ impl<T: Drop, U: Unpark> Receiver<T, U> {
         cx: &mut C,
     ) -> Poll<Result<Option<T>, AllocError>>
         ensures polled { PollsToReceive self.old result self.new }
+        ensures handed { OnPending result (C.has_handed_out cx.new ≡ true) }
         ensures reached { C.reaches cx.old cx.new }
     {
         match self.try_recv(rt) {
@@ -69,6 +76,7 @@ impl<T: Drop, U: Unpark> Sender<T, U> {
     {
         Send {
             unsent: Some((self, message)),
+            task: 0,
         }
     }
 
@@ -82,6 +90,7 @@ impl<T: Drop, U: Unpark> Sender<T, U> {
     ) -> Poll<Result<(), SendError<T>>>
         requires { kept.old ≡ None }
         ensures polled { PollsToSend self.old (Some message) result self.new kept.new }
+        ensures handed { OnPending result (C.has_handed_out cx.new ≡ true) }
         ensures reached { C.reaches cx.old cx.new }
     {
         let again = match self.try_send(rt, message) {
@@ -97,13 +106,13 @@ impl<T: Drop, U: Unpark> Sender<T, U> {
 }
 
 /// The future answers the first message, or none once the channel was closed and no message is left. It fails if out of
-/// memory. The receiver comes with each answer.
+/// memory. The receiver comes with each answer. A pending poll has handed out a waker of the running task.
 impl<T: Drop, U: Unpark, C: RemoteContext<U>> TaskFuture<C> for Recv<T, U> {
     type Output = (Receiver<T, U>, Result<Option<T>, AllocError>);
 
     ghost is_spent = { λ f. is_none f.receiver };
 
-    ghost polls = { λ f c r g d. RecvPolls f.receiver r g.receiver × C.reaches c d };
+    ghost polls = { λ f c r g d. RecvPolls f.receiver r g.receiver × C.reaches c d × OnPending r ((C.has_handed_out d ≡ true) × (g.task ≡ C.number c)) };
 
     ghost gives = { λ f. RecvGives f.receiver };
 
@@ -127,6 +136,7 @@ impl<T: Drop, U: Unpark, C: RemoteContext<U>> TaskFuture<C> for Recv<T, U> {
             Poll::Ready(answer) => Poll::Ready((receiver, answer)),
             Poll::Pending => {
                 self.receiver = Some(receiver);
+                self.task = cx.me();
                 Poll::Pending
             }
         }
@@ -136,13 +146,14 @@ impl<T: Drop, U: Unpark, C: RemoteContext<U>> TaskFuture<C> for Recv<T, U> {
 }
 
 /// The future answers once the message is queued. It fails if the channel or the sender was closed, or if out of memory;
-/// then the message comes back. The sender comes with each answer.
+/// then the message comes back. The sender comes with each answer. A pending poll has handed out a waker of the running
+/// task.
 impl<T: Drop, U: Unpark, C: RemoteContext<U>> TaskFuture<C> for Send<T, U> {
     type Output = (Sender<T, U>, Result<(), SendError<T>>);
 
     ghost is_spent = { λ f. is_none f.unsent };
 
-    ghost polls = { λ f c r g d. SendPolls f.unsent r g.unsent × C.reaches c d };
+    ghost polls = { λ f c r g d. SendPolls f.unsent r g.unsent × C.reaches c d × OnPending r ((C.has_handed_out d ≡ true) × (g.task ≡ C.number c)) };
 
     ghost gives = { λ f. SendGives f.unsent };
 
@@ -168,6 +179,7 @@ impl<T: Drop, U: Unpark, C: RemoteContext<U>> TaskFuture<C> for Send<T, U> {
             Poll::Pending => {
                 let Some(message) = kept else { unreachable!() };
                 self.unsent = Some((sender, message));
+                self.task = cx.me();
                 Poll::Pending
             }
         }
