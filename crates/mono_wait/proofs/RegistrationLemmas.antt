@@ -27,10 +27,10 @@ steps_on me (s ∷ before) after m = steps_on me before after (step_outcome me s
 module _ {C : Type 0} (number : C → ℕ) (work : C → Tasks ⊤) (reaches : C → C → Type 0) (tells : C → Source → Option ℕ) (stands : C → Machine → Type 0)
     (same_number : (a b : C) → reaches a b → number b ≡ number a)
     (leads : (a b : C) → reaches a b → (steps : List TurnStep) × ((m : Machine) → stands a m → stands b (after_steps (number a) steps m)))
-    (same_watcher : (c : C) (m : Machine) (x : Source) → stands c m → tells c x ≡ watcher m x)
+    (same_watcher : (c : C) (m : Machine) (x : Source) (t : ℕ) → stands c m → tells c x ≡ Some t → watcher m x ≡ Some t)
     (same_stirred : (c : C) (m : Machine) → stands c m → is_stirred_in (value_at (work c).table (number c)) ≡ is_stirred_in (value_at m.tasks.table (number c))) where
   pub hears_in : (t : ℕ) (c : C) (m : Machine) (x : Source) → number c ≡ t → stands c m → heard.Hears number work reaches tells c x → Hears m t x
-  hears_in t c m x same st (inl is) = inl (sym (same_watcher c m x st) ∙ is ∙ ap Some same)
+  hears_in t c m x same st (inl is) = inl (same_watcher c m x t st (is ∙ ap Some same))
   hears_in t c m x same st (inr is) = inr (subst (λ n. is_stirred_in (value_at m.tasks.table n) ≡ true) same (sym (same_stirred c m st) ∙ is))
 
   pub registers : TurnRegisters → (c d : C) (x : Source) → Heard number work reaches tells c d x → Registers stands number c d x

@@ -33,7 +33,7 @@ use Rattle.mono_rt.specs.FuturePolls.{TellsTurn}
 use Rattle.mono_rt.specs.declared.contexts.Cx.{Cx}
 use Rattle.mono_machine.specs.Watches.{Source, IsWatched, Hears, drops_in}
 use Rattle.mono_wait.specs.Sources.{Covers, Heard}
-use Rattle.mono_wait.specs.Runtime.{parts_watcher, parts_same_watcher, parts_same_stirred}
+use Rattle.mono_wait.specs.Runtime.{cx_watcher, parts_same_watcher, parts_same_stirred}
 use Rattle.mono_wait.specs.PendingTurns.{TurnRegisters, LeavesAt, LeavesWaiting}
 use Rattle.mono_wait.proofs.RegistrationLemmas.{hears_in}
 
@@ -56,11 +56,11 @@ inside_of table t v at = elim (cases_lt t (length table)) [
   | inr past ↦ absurd (no_some v (sym (get_or_past table t None past) ∙ at))
 ]
 
-module _ {F O P U W J A V : Type 0} (number : O → ℕ) (leads : W → W → Type 0) (future : FutureOf F (Cx F O P U W J A V) O) (needs : F → Source → Type 0)
+module _ {F O P U W J A V : Type 0} (number : O → ℕ) (leads : W → W → Type 0) (lists : W → ℕ → Bool) (future : FutureOf F (Cx F O P U W J A V) O) (needs : F → Source → Type 0)
     (covers : (f : F) (c : Cx F O P U W J A V) (g : F) (d : Cx F O P U W J A V) → future.polls f c Pending g d
-    → Covers (λ c. c.parts.me) (λ c. without_outputs c.parts.tasks.tasks) (ReachesSharing number leads) (λ c. parts_watcher hosting_of c.parts) c d (needs g)) where
+    → Covers (λ c. c.parts.me) (λ c. without_outputs c.parts.tasks.tasks) (ReachesSharing number leads) (cx_watcher lists) c d (needs g)) where
   abbrev HeardIn : Cx F O P U W J A V → Cx F O P U W J A V → Source → Type 0
-  HeardIn = Heard (λ c. c.parts.me) (λ c. without_outputs c.parts.tasks.tasks) (ReachesSharing number leads) (λ c. parts_watcher hosting_of c.parts)
+  HeardIn = Heard (λ c. c.parts.me) (λ c. without_outputs c.parts.tasks.tasks) (ReachesSharing number leads) (cx_watcher lists)
 
   never_ready : (output : O) → end.Pending ≡ end.Ready (number output) → ⊥
   never_ready output e = cc
@@ -107,8 +107,8 @@ module _ {F O P U W J A V : Type 0} (number : O → ℕ) (leads : W → W → Ty
 
         hears : (rest : List ℕ) → m.tasks.queue ≡ t.task ∷ rest → Hears (after_steps t.task b (begun_machine m.tasks.queue m)) t.task x
         hears rest queue =
-            hears_in (λ c. c.parts.me) (λ c. without_outputs c.parts.tasks.tasks) (ReachesSharing number leads) (λ c. parts_watcher hosting_of c.parts) (λ c n. Matches number hosting_of c.parts n)
-            (λ c d r. r.parts.same_me) (λ c d r. (r.parts.steps, r.parts.leads)) (λ c n y st. parts_same_watcher number hosting_of c.parts n y st) (λ c n st. parts_same_stirred number hosting_of c.parts n c.parts.me st)
+            hears_in (λ c. c.parts.me) (λ c. without_outputs c.parts.tasks.tasks) (ReachesSharing number leads) (cx_watcher lists) (λ c n. Matches number hosting_of c.parts n)
+            (λ c d r. r.parts.same_me) (λ c d r. (r.parts.steps, r.parts.leads)) (λ c n y u st is. parts_same_watcher number hosting_of c.parts n c.has_handed_out (lists c.shared) y u st is) (λ c n st. parts_same_stirred number hosting_of c.parts n c.parts.me st)
             t.task it.moment (after_steps t.task b (begun_machine m.tasks.queue m)) x (it.before.parts.same_me ∙ me)
             (subst (λ q. Matches number hosting_of it.moment.parts (after_steps t.task b (begun_machine q m))) (sym queue)
             (subst (λ n. Matches number hosting_of it.moment.parts (after_steps n b (after_begin t.task rest m))) me

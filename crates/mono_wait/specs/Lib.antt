@@ -28,3 +28,4 @@ pub mod SelectLists
 pub mod Streams
 pub mod ForEaches
 pub mod Needings
+pub mod Outsides

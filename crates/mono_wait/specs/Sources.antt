@@ -1,13 +1,30 @@
 -- The running task is registered at a source, or was woken in its turn.
-use Rattle.std.specs.Prelude.{◌≡◌, ◌⊎◌, ℕ, ⊤, Bool, true, false, Option, Some, None}
-use Rattle.mono_model.specs.Table.{value_at}
-use Rattle.mono_model.specs.Tasks.{Tasks, Task}
+use Rattle.std.specs.Prelude.{◌≡◌, ◌⊎◌, ℕ, ⊤, Bool, true, false, ◌==◌, ◌&&◌, if◌then◌else◌, Option, Some, None}
+use Rattle.mono_model.specs.Table.{Table, value_at}
+use Rattle.mono_model.specs.Tasks.{Tasks, Task, is_finished}
 use Rattle.mono_time.specs.Sleeps.{Kept, kept_waker}
 use Rattle.mono_machine.specs.Watches.{Source, is_stirred_in}
 
 abbrev pub waiter_in : {O : Type 0} → Option (Task O) → Option ℕ
 waiter_in None = None
 waiter_in (Some task) = task.waiter
+
+-- Whether a task has finished. A task that is not there has.
+abbrev pub has_ended : {O : Type 0} → Option (Task O) → Bool
+has_ended None = true
+has_ended (Some task) = is_finished task.phase
+
+-- The task u while it has not finished.
+abbrev pub live_in : {O : Type 0} → Table (Task O) → ℕ → Option ℕ
+live_in table u = if has_ended (value_at table u) then None else Some u
+
+-- The running task waits for threads once a waker of it was handed out in this turn.
+abbrev pub outside_watcher : Bool → ℕ → Tasks ⊤ → ℕ → Option ℕ
+outside_watcher has_handed_out me work u = if has_handed_out && (u == me) then live_in work.table u else None
+
+-- A task waits for other tasks if the shared value lists it.
+abbrev pub peers_watcher : Bool → Tasks ⊤ → ℕ → Option ℕ
+peers_watcher is_listed work u = if is_listed then live_in work.table u else None
 
 abbrev pub waker_in : Option Kept → Option ℕ
 waker_in None = None

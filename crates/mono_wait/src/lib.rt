@@ -1,6 +1,7 @@
 //! The sources for which a future waits after a pending poll, and that its task is registered there.
 #![tactic(auto)]
 
+mod channels;
 mod countdown;
 mod delays;
 mod jobs;
@@ -10,6 +11,7 @@ pub mod laws;
 mod leaves;
 mod machines;
 mod needing;
+mod outsides;
 mod races;
 mod runtime;
 mod select_lists;
@@ -23,5 +25,6 @@ pub use countdown::Countdown;
 pub use leaves::Reaching;
 pub use machines::MachineContext;
 pub use needing::{Named, Names, Needing};
+pub use outsides::{FromOutside, Outside};
 pub use streams::StreamWaits;
-pub use waits::{JobWaitContext, WaitContext, Waits};
+pub use waits::{JobWaitContext, RemoteWaitContext, SharedWaitContext, WaitContext, Waits};

@@ -1,5 +1,5 @@
 // A context that refines the machine.
-ghost use Rattle.std.specs.Prelude.{◌≡◌, List};
+ghost use Rattle.std.specs.Prelude.{◌≡◌, ℕ, List, Some};
 ghost use Rattle.mono_model.specs.Table.{value_at};
 ghost use Rattle.mono_machine.specs.Machine.{Machine};
 ghost use Rattle.mono_machine.specs.Turns.{after_steps};
@@ -16,7 +16,8 @@ pub trait MachineContext: WaitContext {
 
     ghost leads: { (a b : Self) → Self.reaches a b → (steps : List TurnStep) × ((m : Machine) → stands a m → stands b (after_steps (Self.number a) steps m)) };
 
-    ghost same_watcher: { (c : Self) (m : Machine) (x : Source) → stands c m → Self.watcher c x ≡ watches.watcher m x };
+    // the task that waits for a source in the context waits for it in the machine
+    ghost same_watcher: { (c : Self) (m : Machine) (x : Source) (t : ℕ) → stands c m → Self.watcher c x ≡ Some t → watches.watcher m x ≡ Some t };
 
     ghost same_stirred: { (c : Self) (m : Machine) → stands c m → is_stirred_in (value_at (Self.work c).table (Self.number c)) ≡ is_stirred_in (value_at m.tasks.table (Self.number c)) };
 }

@@ -4,10 +4,12 @@ ghost use Rattle.mono_model.specs.Table.{value_at};
 ghost use Rattle.mono_model.specs.declared.Woke.{Woke};
 ghost use Rattle.mono_model.specs.declared.poll.Poll.{Poll};
 ghost use Rattle.mono_model.specs.declared.task_error.TaskError.{TaskError};
-ghost use Rattle.mono_machine.specs.Watches.{Source, of_sleep, of_task, of_job, job_waiter, is_stirred_in};
-ghost use Rattle.mono_wait.specs.Sources.{Covers, waiter_in, waker_in};
+ghost use Rattle.mono_machine.specs.Watches.{Source, of_sleep, of_task, of_job, of_outside, of_peers, job_waiter, is_stirred_in};
+ghost use Rattle.mono_wait.specs.Sources.{Covers, waiter_in, waker_in, outside_watcher, peers_watcher};
 
-use mono_blocking::JobContext;
+use mono_blocking::{JobContext, RemoteContext};
+use mono_inbox::Unpark;
+use mono_shared::{SharedContext, SharedState};
 use mono_task::TaskFuture;
 use mono_time::TimeContext;
 
@@ -26,6 +28,17 @@ pub trait WaitContext: TimeContext {
 /// A context with blocking jobs that exposes which task waits for a job: its waiter.
 pub trait JobWaitContext: WaitContext + JobContext {
     ghost watches_jobs: { (c : Self) (j : ℕ) → Self.watcher c (of_job j) ≡ job_waiter (value_at (Self.jobs c).table j) };
+}
+
+/// A context with remote wakers that exposes which task waits for threads: the running task, once a waker of it was
+/// handed out in this turn.
+pub trait RemoteWaitContext<U: Unpark>: WaitContext + RemoteContext<U> {
+    ghost watches_outside: { (c : Self) (u : ℕ) → Self.watcher c (of_outside u) ≡ outside_watcher (Self.has_handed_out c) (Self.number c) (Self.work c) u };
+}
+
+/// A context with a shared value that exposes which tasks wait for other tasks: those that the value lists.
+pub trait SharedWaitContext<W: SharedState>: WaitContext + SharedContext<W> {
+    ghost watches_peers: { (c : Self) (u : ℕ) → Self.watcher c (of_peers u) ≡ peers_watcher (W.lists (Self.shared c) u) (Self.work c) u };
 }
 
 /// A future that exposes the sources for which it waits.

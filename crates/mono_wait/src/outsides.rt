@@ -1,0 +1,100 @@
+// A future that waits for threads.
+ghost use Rattle.std.specs.Prelude.{◌≡◌, true, false};
+ghost use Rattle.mono_model.specs.Poll.{OnPending, OnReady};
+ghost use Rattle.mono_wait.specs.Outsides.{OutsideNeeds, outsides_cover};
+
+use crate::waits::{RemoteWaitContext, Waits};
+use mono_blocking::RemoteContext;
+use mono_inbox::{RemoteWaker, Unpark};
+use mono_model::{Host, Poll};
+use mono_task::TaskFuture;
+use std::alloc::{AllocError, Global};
+use std::marker::PhantomData;
+
+/// Something that happens in other threads. It is handed a waker, and wakes it once it has happened.
+pub trait Outside<U: Unpark>: Drop {
+    /// What it answers.
+    type Output;
+
+    /// Returns the answer if it has happened. Otherwise it keeps the waker, in the place of any other.
+    fn poll_outside<R: Host>(&mut self, rt: &R, waker: RemoteWaker<U>) -> Poll<Self::Output>;
+}
+
+/// A future that waits for something in other threads. Each pending poll has handed it a waker of the running task.
+#[derive(Drop)]
+pub struct FromOutside<X, U> {
+    /// What the future waits for.
+    pub outside: X,
+    // The task that waits, after a pending poll.
+    pub(crate) task: u64,
+    pub(crate) has_answered: bool,
+    unpark: PhantomData<U>,
+}
+
+impl<X, U> FromOutside<X, U> {
+    /// Returns a future that waits for this.
+    pub fn new(outside: X) -> FromOutside<X, U>
+        ensures outside { result.outside ≡ outside }
+        ensures unspent { result.has_answered ≡ false }
+    {
+        FromOutside {
+            outside,
+            task: 0,
+            has_answered: false,
+            unpark: PhantomData,
+        }
+    }
+}
+
+/// The future answers what it waits for answers. It fails if out of memory.
+impl<U: Unpark, X: Outside<U>, C: RemoteContext<U>> TaskFuture<C> for FromOutside<X, U> {
+    type Output = Result<X::Output, AllocError>;
+
+    ghost is_spent = { λ f. f.has_answered };
+
+    ghost polls = { λ f c r g d. C.reaches c d × OnPending r ((C.has_handed_out d ≡ true) × (g.task ≡ C.number c)) × OnReady r (g.has_answered ≡ true) };
+
+    ghost cancels = { λ f c d. d ≡ c };
+
+    fn spent(&self) -> bool {
+        self.has_answered
+    }
+
+    fn poll<R: Host>(
+        &mut self,
+        rt: &R,
+        _alloc: Global,
+        cx: &mut C,
+    ) -> Poll<Result<X::Output, AllocError>> {
+        let me = cx.me();
+        match cx.remote_waker() {
+            Ok(waker) => match self.outside.poll_outside(rt, waker) {
+                Poll::Ready(answer) => {
+                    self.has_answered = true;
+                    Poll::Ready(Ok(answer))
+                }
+                Poll::Pending => {
+                    self.task = me;
+                    Poll::Pending
+                }
+            },
+            Err(failed) => {
+                self.has_answered = true;
+                Poll::Ready(Err(failed))
+            }
+        }
+    }
+
+    fn cancel(self, _cx: &mut C) {}
+}
+
+// It needs the threads that hold a waker of its task.
+impl<U: Unpark, X: Outside<U>, C: RemoteWaitContext<U>> Waits<C> for FromOutside<X, U> {
+    ghost needs = { λ f. OutsideNeeds f.task };
+
+    ghost polls_reach = { λ f c r g d p. p.0 };
+
+    ghost cancels_reach = { λ f c d p. rw p (C.reaches_itself c) };
+
+    ghost covers = { λ f c g d p. outsides_cover C.number C.work C.reaches C.watcher C.reaches_itself C.same_number C.has_handed_out C.watches_outside c d g.task p.0 p.1.0 p.1.1 };
+}
