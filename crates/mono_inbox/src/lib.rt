@@ -2,13 +2,13 @@
 #![tactic(auto)]
 
 mod inbox;
-mod list;
 mod log;
 mod marks;
 mod pages;
 mod parker;
 mod parts;
 mod recorded_inbox;
+mod recorded_state;
 mod registry;
 mod rows;
 mod shares;
@@ -20,6 +20,7 @@ pub use inbox::Inbox;
 pub use log::CallEntry;
 pub use parker::{Parker, Token, UnparkHandle};
 pub use recorded_inbox::{RecordedInbox, RecordedWaker};
+pub use recorded_state::RecordedState;
 pub use registry::{RegisterError, Registry, RegistryState};
 pub use shares::{CallShare, PutReply, Recorded};
 pub use state::InboxState;

@@ -5,8 +5,8 @@ ghost use Rattle.mono_inbox.specs.Log.{Recording};
 ghost use Rattle.mono_inbox.specs.State.{AppendsOnce};
 ghost use Rattle.mono_inbox.specs.Callers.{new_callers, CountsKept};
 
+use crate::recorded_state::RecordedState;
 use crate::shares::{CallShare, PutReply, Recorded};
-use crate::state::InboxState;
 use crate::waker::Unpark;
 use mono_model::Host;
 use std::alloc::{AllocError, Global};
@@ -15,7 +15,7 @@ use std::sync::ledger::{Book, Ledger, Share};
 use std::sync::{Arc, Mutex};
 
 /// The part of a recorded inbox that its wakers share. A thread that holds the lock knows the invariants of `Recorded`
-/// and `InboxState`.
+/// and `RecordedState`.
 #[derive(Drop)]
 struct RecordedShared<U: Unpark, L: Ledger> {
     recorded: Mutex<Recorded<L>>,
@@ -51,7 +51,7 @@ impl<U: Unpark, L: Ledger> RecordedInbox<U, L> {
         for number in 0..callers {
             shares.push_reserved(CallShare::over(number, all.split_off(1, 0)));
         }
-        let state = InboxState::recorded(alloc, capacity, calls)?;
+        let state = RecordedState::new(alloc, capacity, calls)?;
         let recorded = Mutex::new(Recorded::over(state, book));
         let shared = Arc::new(alloc, RecordedShared { recorded, unpark })?;
         Ok((RecordedInbox { shared, callers }, shares))
@@ -111,7 +111,7 @@ impl<U: Unpark, L: Ledger> RecordedInbox<U, L> {
 
     /// Returns the answer of `look` to the state and the calls that it kept. `look` borrows them under the lock, so no
     /// other call is made meanwhile.
-    pub fn look<R: Host, T, F: FnOnce(&InboxState) -> T>(&self, rt: &R, look: F) -> T
+    pub fn look<R: Host, T, F: FnOnce(&RecordedState) -> T>(&self, rt: &R, look: F) -> T
         requires { F.IsAlwaysCallable look }
         ensures { (state : Recording) × FnOnceReturnsAt F.FnOnce look state result }
     {

@@ -12,7 +12,7 @@ impl InboxState {
     pub fn know_row(&mut self, alloc: Global, from: u64, until: u64) -> u64
         ensures least { from ≤ result }
         ensures most { from ≤ until → result ≤ until }
-        ensures known { AlsoKnowsRow self.old.state self.new.state from result }
+        ensures known { AlsoKnowsRow self.old self.new from result }
     {
         let mut next = from;
         while next < until {
@@ -32,7 +32,7 @@ fn know_next_of(state: &mut InboxState, alloc: Global, next: u64, until: u64) ->
     requires { next < until }
     ensures least { next ≤ result }
     ensures most { result ≤ until }
-    ensures known { AlsoKnowsRow state.old.state state.new.state next result }
+    ensures known { AlsoKnowsRow state.old state.new next result }
 {
     let more = state.know_behind(next, (until - next) as usize) as u64;
     if more > 0 {

@@ -6,8 +6,7 @@ ghost use Rattle.mono_inbox.specs.Log.{is_full, with_entry, with_ledger_put};
 ghost use Rattle.mono_inbox.specs.Callers.{IsPutReply, CountsKept};
 ghost use Rattle.mono_inbox.specs.declared.shares.PutReply.TheVariants.{Kept, Unkept};
 
-use crate::inbox::drain_state;
-use crate::state::InboxState;
+use crate::recorded_state::RecordedState;
 use std::alloc::{AllocError, Global};
 use std::marker::Model;
 use std::sync::ledger::{Book, Ledger, Share};
@@ -85,14 +84,14 @@ impl<L: Ledger> CallShare<L> {
 /// The value under the lock of a recorded inbox: its state, and the book of the ledger that counts its wakes.
 #[derive(Drop)]
 pub struct Recorded<L: Ledger> {
-    pub(crate) state: InboxState,
+    pub(crate) state: RecordedState,
     book: Book<L>,
     ghost counted: { book.total ≡ state.log.ledger_puts },
 }
 
 impl<L: Ledger> Recorded<L> {
     /// Returns a state in which no wake was counted, with an empty book.
-    pub(crate) fn over(state: InboxState, book: Book<L>) -> Recorded<L>
+    pub(crate) fn over(state: RecordedState, book: Book<L>) -> Recorded<L>
         requires { book.total ≡ state.log.ledger_puts }
         ensures state { result.state ≡ state }
     {
@@ -140,14 +139,16 @@ impl<L: Ledger> Recorded<L> {
     }
 
     /// Reserves room in `into` and takes all waiting tasks, or takes none.
-    pub(crate) fn drain(&mut self, alloc: Global, into: &mut Vec<u64>) -> Result<(), AllocError>
+    pub(crate) fn drain(&mut self, _alloc: Global, into: &mut Vec<u64>) -> Result<(), AllocError>
         ensures items { OnOk result (into.new.items ≡ into.old.items ++ self.old.state.state.waiting) }
         ensures distinct { HasNoDoubles self.old.state.state.waiting }
         ensures state { OnOk result (self.new.state.state ≡ with_list self.old.state.state []) }
         ensures kept { OnOk result (self.new.state.log ≡ with_entry self.old.state.log (Drain (length self.old.state.state.waiting))) }
         ensures refused { OnErr result ((into.new.items ≡ into.old.items) × (self.new.state ≡ self.old.state)) }
     {
-        drain_state(&mut self.state, alloc, into)
+        into.reserve(self.state.waiting())?;
+        self.state.drain(into);
+        Ok(())
     }
 
     /// Makes the task unknown.

@@ -1,53 +1,53 @@
-// The state of an inbox: which tasks wait, which are known, and the calls that were kept.
-ghost use Rattle.std.specs.Prelude.{◌≡◌, ◌+◌, ◌<◌, ◌≤◌, true, false, IfOk, OnOk, OnErr, MatchOption, length, vec_len, vec_capacity, [], ◌∷◌, ◌++◌};
+// The state of an inbox: which tasks wait, and which are known.
+ghost use Rattle.std.specs.Prelude.{◌≡◌, ◌+◌, ◌<◌, ◌≤◌, false, IfOk, OnOk, OnErr, MatchOption, length, vec_len, vec_capacity, [], ◌∷◌, ◌++◌};
+ghost use Rattle.std.specs.VecDeque.{deque_len, deque_capacity};
 ghost use Rattle.mono_model.specs.Inbox.{is_waiting};
-ghost use Rattle.mono_inbox.specs.declared.log.CallEntry.TheVariants.{Know, Put, DrainOne, Drain, Retire};
-ghost use Rattle.mono_inbox.specs.State.{is_known, put_answer, after_put, with_list, HasNoDoubles, AlsoKnows, AlsoKnowsRow, Forgets, ForgetsRow};
-ghost use Rattle.mono_inbox.specs.History.{is_history, StandsFor, count_puts};
-ghost use Rattle.mono_inbox.specs.Log.{is_full, with_entry, with_ledger_put, new_recording};
+ghost use Rattle.mono_inbox.specs.State.{no_state, is_known, put_answer, after_put, with_list, HasNoDoubles, AlsoKnows, AlsoKnowsRow, Forgets, ForgetsRow};
 
-use crate::list::Listing;
-use crate::log::{CallEntry, CallLog};
+use crate::marks::Marks;
+use crate::standings::{Standing, is_idle};
 use std::alloc::{AllocError, Global};
+use std::collections::VecDeque;
 use std::marker::Model;
 
+/// The number of places that the list reserves for its first task.
+const LEAST_ROOM: usize = 4;
+
 /// The tasks that other threads have woken, each once and in order, and the tasks that other threads may wake.
-///
-/// A recorded state also keeps its calls with their replies, in order, until it is full.
 ///
 /// The memory is eight bytes for each task that is known or waits, and a byte for each of the 4,096 numbers around it.
 /// Nothing remains of a task that has ended, except for 40 bytes for every 1,048,576 numbers.
 #[derive(Drop)]
 pub struct InboxState {
-    listing: Listing,
-    log: CallLog,
+    waiting: VecDeque<u64>,
+    standings: Marks,
+    places: usize,
 }
 
 impl Model for InboxState {
-    ghost use Rattle.mono_inbox.specs.Log.{Recording, IsFaithful};
+    ghost use Rattle.std.specs.Prelude.{map};
+    ghost use Rattle.std.specs.VecDeque.{deque_capacity};
+    ghost use Rattle.mono_inbox.specs.State.{State};
 
-    ghost Value = { Recording };
+    ghost Value = { State };
 
-    ghost view = { λ a. record { state = a.listing; log = a.log } };
+    ghost use Rattle.mono_inbox.specs.Standings.{knows};
+    ghost use Rattle.mono_inbox.specs.Invariants.{IsSound};
 
-    ghost invariant = { λ a. IsFaithful a.listing a.log };
+    ghost view = { λ a. record { waiting = a.waiting.items; known = map knows a.standings } };
+
+    ghost invariant = { λ a. IsSound a.waiting.items a.standings a.places (deque_capacity a.waiting) };
 }
 
 impl InboxState {
-    /// Returns an inbox in which no task waits and no task is known, with room for `capacity` tasks. It keeps no calls.
+    /// Returns an inbox in which no task waits and no task is known, with room for `capacity` tasks.
     pub fn new(alloc: Global, capacity: usize) -> Result<InboxState, AllocError>
-        ensures { IfOk result (λ state. state ≡ new_recording 0) }
-    {
-        InboxState::recorded(alloc, capacity, 0)
-    }
-
-    /// Returns the same inbox as `new`, which keeps `calls` calls.
-    pub fn recorded(alloc: Global, capacity: usize, calls: usize) -> Result<InboxState, AllocError>
-        ensures { IfOk result (λ state. state ≡ new_recording calls) }
+        ensures { IfOk result (λ state. state ≡ no_state) }
     {
         Ok(InboxState {
-            listing: Listing::new(alloc, capacity)?,
-            log: CallLog::new(alloc, calls)?,
+            waiting: VecDeque::with_capacity(alloc, capacity)?,
+            standings: Marks::new(alloc),
+            places: 0,
         })
     }
 
@@ -55,137 +55,141 @@ impl InboxState {
     ///
     /// Nothing changes if it is out of memory. It never is for a task that is known or waits (`wanted`).
     pub fn know(&mut self, alloc: Global, task: u64) -> Result<(), AllocError>
-        ensures known { OnOk result (AlsoKnows self.old.state self.new.state task) }
-        ensures kept { OnOk result (self.new.log ≡ with_entry self.old.log (Know task)) }
+        ensures known { OnOk result (AlsoKnows self.old self.new task) }
         ensures refused { OnErr result (self.new ≡ self.old) }
-        ensures wanted { OnErr result ((is_known self.old.state task ≡ false) × (is_waiting self.old.state.waiting task ≡ false)) }
+        ensures wanted { OnErr result ((is_known self.old task ≡ false) × (is_waiting self.old.waiting task ≡ false)) }
     {
-        self.listing.know(alloc, task)?;
-        self.log.keep(CallEntry::Know(task));
+        match self.standings.standing(task) {
+            Standing::Unknown => {
+                make_room(&mut self.waiting, self.places, 1)?;
+                self.standings.mark(alloc, task, Standing::Known)?;
+                self.places += 1;
+            }
+            Standing::Retired => self.standings.change(task, Standing::Waiting),
+            Standing::Known | Standing::Waiting => {}
+        }
         Ok(())
     }
 
-    /// Makes at most `count` tasks from `task` on known, and returns how many. Returns zero if a later number was made
-    /// known before, if it is out of memory, or if calls are kept.
+    /// Makes at most `count` tasks from `task` on known, with their places in the list, and returns how many. Returns
+    /// zero if a later number was made known before, or if it is out of memory.
     pub(crate) fn know_behind(&mut self, task: u64, count: usize) -> usize
         ensures most { result ≤ count }
-        ensures known { AlsoKnowsRow self.old.state self.new.state task (task + result) }
-        ensures kept { self.new.log ≡ self.old.log }
+        ensures known { AlsoKnowsRow self.old self.new task (task + result) }
     {
-        if !self.log.is_full() {
+        if task as usize != self.standings.len() {
             return 0;
         }
-        self.listing.know_behind(task, count)
+        match make_room(&mut self.waiting, self.places, count) {
+            Err(_) => 0,
+            Ok(()) => {
+                let more = self.standings.extend(count);
+                self.places += more;
+                more
+            }
+        }
     }
 
     /// Appends the task to the list and returns true. Returns false, and keeps the list and the known tasks, if and
     /// only if the task waits already or is not known.
     pub fn put(&mut self, task: u64) -> bool
-        ensures answer { result ≡ put_answer self.old.state task }
-        ensures state { self.new.state ≡ after_put self.old.state task }
-        ensures kept { self.new.log ≡ with_entry self.old.log (Put task result) }
+        ensures answer { result ≡ put_answer self.old task }
+        ensures state { self.new ≡ after_put self.old task }
     {
-        let listed = self.listing.put(task);
-        self.log.keep(CallEntry::Put(task, listed));
-        listed
-    }
-
-    /// Puts the task, and counts the call as a wake with a share.
-    pub(crate) fn put_counted(&mut self, task: u64) -> bool
-        ensures answer { result ≡ put_answer self.old.state task }
-        ensures state { self.new.state ≡ after_put self.old.state task }
-        ensures kept { self.new.log ≡ with_ledger_put self.old.log task result }
-    {
-        let listed = self.listing.put(task);
-        self.log.keep_ledger_put(task, listed);
-        listed
+        match self.standings.standing(task) {
+            Standing::Known => {
+                self.standings.change(task, Standing::Waiting);
+                self.waiting.push_back_reserved(task);
+                true
+            }
+            Standing::Unknown | Standing::Waiting | Standing::Retired => false,
+        }
     }
 
     /// Removes and returns the first waiting task. Returns `None` if and only if the list is empty.
     pub fn drain_one(&mut self) -> Option<u64>
-        ensures task { MatchOption result ((self.old.state.waiting ≡ []) × (self.new.state ≡ self.old.state)) (λ t. (self.old.state.waiting ≡ t ∷ self.new.state.waiting) × (self.new.state.known ≡ self.old.state.known)) }
-        ensures kept { self.new.log ≡ with_entry self.old.log (DrainOne result) }
+        ensures { MatchOption result ((self.old.waiting ≡ []) × (self.new ≡ self.old)) (λ t. (self.old.waiting ≡ t ∷ self.new.waiting) × (self.new.known ≡ self.old.known)) }
     {
-        let task = self.listing.drain_one();
-        self.log.keep(CallEntry::DrainOne(task));
-        task
+        let task = self.waiting.pop_front()?;
+        match self.standings.standing(task) {
+            Standing::Retired => {
+                self.standings.change(task, Standing::Unknown);
+                self.places -= 1;
+            }
+            Standing::Waiting => self.standings.change(task, Standing::Known),
+            Standing::Unknown | Standing::Known => unreachable!(),
+        }
+        Some(task)
     }
 
     /// Appends all waiting tasks to `into` in order, each once, and leaves the list empty.
     pub fn drain(&mut self, into: &mut Vec<u64>)
-        requires { vec_len into.old + length self.old.state.waiting ≤ vec_capacity into.old }
-        ensures items { into.new.items ≡ into.old.items ++ self.old.state.waiting }
+        requires { vec_len into.old + length self.old.waiting ≤ vec_capacity into.old }
+        ensures items { into.new.items ≡ into.old.items ++ self.old.waiting }
         ensures capacity { vec_capacity into.new ≡ vec_capacity into.old }
-        ensures state { self.new.state ≡ with_list self.old.state [] }
-        ensures kept { self.new.log ≡ with_entry self.old.log (Drain (length self.old.state.waiting)) }
-        ensures distinct { HasNoDoubles self.old.state.waiting }
+        ensures state { self.new ≡ with_list self.old [] }
+        ensures distinct { HasNoDoubles self.old.waiting }
     {
-        let tasks = self.listing.waiting() as u64;
-        self.listing.drain(into);
-        self.log.keep(CallEntry::Drain(tasks));
+        let _ = &self.waiting;
+        while let Some(task) = self.drain_one() {
+            into.push_reserved(task);
+        }
     }
 
     /// Returns how many tasks wait.
     pub fn waiting(&self) -> usize
-        ensures count { result ≡ length self.now.state.waiting }
-        ensures distinct { HasNoDoubles self.now.state.waiting }
+        ensures count { result ≡ length self.now.waiting }
+        ensures distinct { HasNoDoubles self.now.waiting }
     {
-        self.listing.waiting()
+        self.waiting.len()
     }
 
     /// Makes the task unknown. The entry of a waiting task stays until the drain.
     #[inline(always)]
     pub fn retire(&mut self, task: u64)
-        ensures state { Forgets self.old.state self.new.state task }
-        ensures kept { self.new.log ≡ with_entry self.old.log (Retire task) }
+        ensures { Forgets self.old self.new task }
     {
-        self.listing.retire(task);
-        self.log.keep(CallEntry::Retire(task));
+        match self.standings.standing(task) {
+            Standing::Known => {
+                self.standings.change(task, Standing::Unknown);
+                self.places -= 1;
+            }
+            Standing::Waiting => self.standings.change(task, Standing::Retired),
+            Standing::Unknown | Standing::Retired => {}
+        }
     }
 
-    /// Makes at most `count` tasks in a row, from `from` on, unknown, and returns how many. Returns zero if the first
-    /// is not known or waits, or if calls are kept.
+    /// Makes at most `count` tasks in a row, from `from` on, unknown, and returns how many. It stops at the page's end,
+    /// and before the first task that waits or is not known.
     #[inline(always)]
     pub(crate) fn retire_row(&mut self, from: u64, count: usize) -> usize
         ensures most { result ≤ count }
-        ensures known { ForgetsRow self.old.state self.new.state from (from + result) }
-        ensures kept { self.new.log ≡ self.old.log }
+        ensures known { ForgetsRow self.old self.new from (from + result) }
     {
-        if self.log.is_full() {
-            return self.listing.retire_row(from, count);
+        if !is_idle(self.standings.standing(from)) {
+            return 0;
         }
-        0
+        let row = self.standings.forget(from, count);
+        self.places -= row;
+        row
     }
+}
 
-    /// Returns the kept calls, in order: a history of one thread, which gives the state if no call was left out.
-    pub fn history(&self) -> &Vec<CallEntry>
-        ensures entries { result.now.items ≡ self.now.log.entries }
-        ensures replies { is_history result.now.items ≡ true }
-        ensures stands { is_full self.now.log ≡ false → StandsFor result.now.items self.now.state }
-    {
-        self.log.entries()
+/// Reserves `count` places in the list in addition to `places`, which include those of the waiting tasks. Room that is
+/// too small at least doubles, so a task's cost does not depend on their number.
+fn make_room(waiting: &mut VecDeque<u64>, places: usize, count: usize) -> Result<(), AllocError>
+    requires waiting { deque_len waiting.old ≤ places }
+    requires places { places ≤ deque_capacity waiting.old }
+    ensures items { waiting.new.items ≡ waiting.old.items }
+    ensures capacity { deque_capacity waiting.old ≤ deque_capacity waiting.new }
+    ensures room { OnOk result (places + count ≤ deque_capacity waiting.new) }
+{
+    if count <= waiting.capacity() - places {
+        return Ok(());
     }
-
-    /// Returns whether the state keeps no further call: the list of calls stays as it is from now on.
-    pub fn is_full(&self) -> bool
-        ensures { result ≡ is_full self.now.log }
-    {
-        self.log.is_full()
-    }
-
-    /// Returns how many kept wakes were made without a share.
-    pub fn plain_puts(&self) -> u64
-        ensures number { result ≡ self.now.log.plain_puts }
-        ensures counted { result + self.now.log.ledger_puts ≡ count_puts self.now.log.entries }
-    {
-        self.log.plain_puts()
-    }
-
-    /// Returns how many kept wakes were made with a share.
-    pub fn ledger_puts(&self) -> u64
-        ensures number { result ≡ self.now.log.ledger_puts }
-        ensures counted { self.now.log.plain_puts + result ≡ count_puts self.now.log.entries }
-    {
-        self.log.ledger_puts()
-    }
+    let least = places.max(LEAST_ROOM).max(count);
+    let Some(more) = (places - waiting.len()).checked_add(least) else {
+        return Err(AllocError);
+    };
+    waiting.reserve(more)
 }

@@ -8,8 +8,7 @@ use Rattle.mono_model.specs.Tasks.{Tasks, Task, spawned, completed_value, paused
 use Rattle.mono_model.specs.Inbox.{is_waiting, with_waiting}
 use Rattle.mono_model.specs.declared.poll.Poll.TheVariants.{Ready, Pending}
 use Rattle.mono_model.specs.declared.task_error.TaskError.{TaskError}
-use Rattle.mono_inbox.specs.Log.{Log, Recording}
-use Rattle.mono_inbox.specs.State.{is_unlisted, after_put, with_list, AlsoKnows, Forgets}
+use Rattle.mono_inbox.specs.State.{State, is_unlisted, after_put, with_list, AlsoKnows, Forgets}
 use Rattle.mono_task.specs.Schedule.{Schedule}
 use Rattle.mono_task.specs.Schedule as schedule
 use Rattle.mono_machine.specs.Machine.{Machine, with_tasks, with_inbox, IsValid}
@@ -33,7 +32,7 @@ use Rattle.mono_machine.proofs.RunLemmas.{first_and_rest}
 abbrev pub with_schedule : Parts → Schedule ℕ → Parts
 with_schedule parts s = record { tasks = s; timers = parts.timers; jobs = parts.jobs; inbox = parts.inbox; blocking = parts.blocking }
 
-abbrev pub with_both : Parts → Schedule ℕ → Recording → Parts
+abbrev pub with_both : Parts → Schedule ℕ → State → Parts
 with_both parts s inbox = record { tasks = s; timers = parts.timers; jobs = parts.jobs; inbox = inbox; blocking = parts.blocking }
 
 -- the same tasks have finished
@@ -56,7 +55,7 @@ also_unfinished true f = refl
 also_unfinished false f = refl
 
 -- one more task, which the inbox knows
-pub spawned_and_known : (parts : Parts) (m : Machine) (s : Schedule ℕ) (inbox : Recording) (t : ℕ) → Matches parts m → s.tasks ≡ spawned m.tasks → t ≡ next_number m.tasks.table → AlsoKnows parts.inbox.state inbox.state t → Matches (with_both parts s inbox) (with_tasks m (spawned m.tasks))
+pub spawned_and_known : (parts : Parts) (m : Machine) (s : Schedule ℕ) (inbox : State) (t : ℕ) → Matches parts m → s.tasks ≡ spawned m.tasks → t ≡ next_number m.tasks.table → AlsoKnows parts.inbox inbox t → Matches (with_both parts s inbox) (with_tasks m (spawned m.tasks))
 spawned_and_known parts m s inbox t st is at knows = record {
   tasks = is;
   sleeps = st.sleeps;
@@ -72,7 +71,7 @@ but_unfinished true f = refl
 but_unfinished false f = refl
 
 -- the task has finished, and the inbox forgets it
-pub completed_and_forgotten : (parts : Parts) (m : Machine) (s : Schedule ℕ) (inbox : Recording) (me output : ℕ) → Matches parts m → s.tasks ≡ completed_value (value_at m.tasks.table me) m.tasks me output → Forgets parts.inbox.state inbox.state me
+pub completed_and_forgotten : (parts : Parts) (m : Machine) (s : Schedule ℕ) (inbox : State) (me output : ℕ) → Matches parts m → s.tasks ≡ completed_value (value_at m.tasks.table me) m.tasks me output → Forgets parts.inbox inbox me
     → Matches (with_both parts s inbox) (with_tasks m (completed_value (value_at m.tasks.table me) m.tasks me output))
 completed_and_forgotten parts m s inbox me output st is forgets = record {
   tasks = is;
@@ -91,7 +90,7 @@ pub ended-pending : (s : Schedule ℕ) (me : ℕ) → s.turn ≡ Some me → (sc
 ended-pending s me is = ap (λ turn. (schedule.ended_by turn s Pending).tasks) is
 
 -- another inbox
-abbrev pub with_state : Parts → Recording → Parts
+abbrev pub with_state : Parts → State → Parts
 with_state parts inbox = record { tasks = parts.tasks; timers = parts.timers; jobs = parts.jobs; inbox = inbox; blocking = parts.blocking }
 
 never_there : (table : Table (Task ℕ)) (t : ℕ) → is_issued table t ≡ false → value_at table t ≡ None
@@ -118,13 +117,12 @@ not_not : (b : Bool) → not (not b) ≡ b
 not_not true = refl
 not_not false = refl
 
-pub unlisted : (parts : Parts) (m : Machine) (t : ℕ) → Matches parts m → is_unlisted parts.inbox.state t ≡ (has_finished (value_at m.tasks.table t) || is_waiting m.inbox t)
-unlisted parts m t st = ap (λ b. not b || is_waiting parts.inbox.state.waiting t) (st.known t) ∙ ap (λ b. b || is_waiting parts.inbox.state.waiting t) (not_not (has_finished (value_at m.tasks.table t)))
+pub unlisted : (parts : Parts) (m : Machine) (t : ℕ) → Matches parts m → is_unlisted parts.inbox t ≡ (has_finished (value_at m.tasks.table t) || is_waiting m.inbox t)
+unlisted parts m t st = ap (λ b. not b || is_waiting parts.inbox.waiting t) (st.known t) ∙ ap (λ b. b || is_waiting parts.inbox.waiting t) (not_not (has_finished (value_at m.tasks.table t)))
     ∙ ap (λ w. has_finished (value_at m.tasks.table t) || is_waiting w t) st.inbox
 
--- the log is no part of a machine
-with_log : (parts : Parts) (m : Machine) (log : Log) → Matches parts m → Matches (with_state parts (record { state = parts.inbox.state; log = log })) m
-with_log parts m log st = record {
+listed_by : (b : Bool) (parts : Parts) (m : Machine) (t : ℕ) → Matches parts m → Matches (with_state parts (cond b parts.inbox (with_list parts.inbox (with_waiting parts.inbox.waiting t)))) (put b m t)
+listed_by true parts m t st = record {
   tasks = st.tasks;
   sleeps = st.sleeps;
   jobs = st.jobs;
@@ -132,10 +130,7 @@ with_log parts m log st = record {
   known = st.known;
   strategy = st.strategy;
 }
-
-listed_by : (b : Bool) (parts : Parts) (m : Machine) (t : ℕ) (log : Log) → Matches parts m → Matches (with_state parts (record { state = cond b parts.inbox.state (with_list parts.inbox.state (with_waiting parts.inbox.state.waiting t)); log = log })) (put b m t)
-listed_by true parts m t log st = with_log parts m log st
-listed_by false parts m t log st = record {
+listed_by false parts m t st = record {
   tasks = st.tasks;
   sleeps = st.sleeps;
   jobs = st.jobs;
@@ -144,11 +139,11 @@ listed_by false parts m t log st = record {
   strategy = st.strategy;
 }
 
-pub remote_put : (parts : Parts) (m : Machine) (t : ℕ) (inbox : Recording) → Matches parts m → inbox.state ≡ after_put parts.inbox.state t → Matches (with_state parts inbox) (after_remote m t)
+pub remote_put : (parts : Parts) (m : Machine) (t : ℕ) (inbox : State) → Matches parts m → inbox ≡ after_put parts.inbox t → Matches (with_state parts inbox) (after_remote m t)
 remote_put parts m t inbox st is =
-    subst (λ x. Matches (with_state parts (record { state = x; log = inbox.log })) (after_remote m t)) (sym is)
-    (subst (Matches (with_state parts (record { state = after_put parts.inbox.state t; log = inbox.log }))) (sym (remote-put m t))
-    (subst (λ b. Matches (with_state parts (record { state = after_put parts.inbox.state t; log = inbox.log })) (put b m t)) (unlisted parts m t st) (listed_by (is_unlisted parts.inbox.state t) parts m t inbox.log st)))
+    subst (λ x. Matches (with_state parts x) (after_remote m t)) (sym is)
+    (subst (Matches (with_state parts (after_put parts.inbox t))) (sym (remote-put m t))
+    (subst (λ b. Matches (with_state parts (after_put parts.inbox t)) (put b m t)) (unlisted parts m t st) (listed_by (is_unlisted parts.inbox t) parts m t st)))
 
 -- a turn begins
 pub begun_matches : (parts : Parts) (m : Machine) (s : Schedule ℕ) (me : ℕ) (rest : List ℕ) → Matches parts m → IsValid m → m.tasks.queue ≡ me ∷ rest → s ≡ schedule.after_begin parts.tasks → Matches (with_schedule parts s) (after_begin me rest m)

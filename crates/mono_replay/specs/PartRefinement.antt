@@ -26,6 +26,6 @@ pub record Matches (parts : Parts) (m : Machine) : Type 0 where
   pub tasks : parts.tasks.tasks ≡ m.tasks
   pub sleeps : Rests parts.timers m.sleeps
   pub jobs : parts.jobs ≡ m.jobs
-  pub inbox : parts.inbox.state.waiting ≡ m.inbox
-  pub known : (t : ℕ) → is_known parts.inbox.state t ≡ not (has_finished (value_at m.tasks.table t))
+  pub inbox : parts.inbox.waiting ≡ m.inbox
+  pub known : (t : ℕ) → is_known parts.inbox t ≡ not (has_finished (value_at m.tasks.table t))
   pub strategy : parts.blocking ≡ m.strategy

@@ -116,7 +116,7 @@ fn kept_puts(history: &Vec<CallEntry>, task: u64) -> u64 {
 }
 
 /// Returns whether the state kept each wake of both tasks, and counted the same number with a share as were gathered.
-fn keeps_all(state: &InboxState, gathered: u64) -> bool {
+fn keeps_all(state: &RecordedState, gathered: u64) -> bool {
     kept_puts(state.history(), 0) == WAKES
         && kept_puts(state.history(), 1) == WAKES
         && state.ledger_puts() == gathered

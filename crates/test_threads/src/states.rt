@@ -1,5 +1,5 @@
 // The state of an inbox: each test is a table of calls with their expected replies.
-use mono_inbox::{CallEntry, InboxState};
+use mono_inbox::{CallEntry, InboxState, RecordedState};
 use std::alloc::Global;
 use std::process::Abort;
 
@@ -18,8 +18,6 @@ enum Call {
     Retires(u64),
     /// This many tasks wait.
     Waits(usize),
-    /// Whether the state keeps no more calls.
-    IsFull(bool),
 }
 
 /// Drains, and returns whether this task was the only waiting one.
@@ -42,7 +40,6 @@ fn answers<R: Abort>(rt: &R, alloc: Global, state: &mut InboxState, call: Call) 
             true
         }
         Call::Waits(tasks) => state.waiting() == tasks,
-        Call::IsFull(is_full) => state.is_full() == is_full,
     }
 }
 
@@ -178,12 +175,11 @@ const KNOWN_ANEW: [Call; 18] = [
 ];
 
 /// The room of a new state, the number below which tasks were known and retired, and the calls after them.
-const CASES: [(usize, u64, &[Call]); 5] = [
+const CASES: [(usize, u64, &[Call]); 4] = [
     (0, 0, &LISTED_ONCE),
     (2, 0, &RETIRED),
     (0, 1_150_000, &KEPT_MARKS),
     (0, 20_000, &KNOWN_ANEW),
-    (4, 0, &[Call::IsFull(true)]),
 ];
 
 #[test]
@@ -193,21 +189,29 @@ fn states_answer_so(rt: HostRuntime) {
     }
 }
 
-const RECORDED: [Call; 13] = [
-    Call::Knows(3, true),
-    Call::Knows(5, true),
-    Call::Knows(u64::MAX, false),
-    Call::Puts(5, true),
-    Call::Puts(3, true),
-    Call::Puts(3, false),
-    Call::DrainsOne(Some(5)),
-    Call::Retires(5),
-    Call::Drains(3),
-    Call::IsFull(false),
-    Call::DrainsOne(None),
-    Call::IsFull(true),
-    Call::Puts(3, true),
-];
+/// Drains, and returns whether this task was the only waiting one.
+fn drains_one_kept<R: Abort>(rt: &R, alloc: Global, state: &mut RecordedState, task: u64) -> bool {
+    let mut tasks = Vec::new(alloc);
+    tasks.reserve(state.waiting()).expect(rt, "memory");
+    state.drain(&mut tasks);
+    tasks.as_slice() == [task].as_slice()
+}
+
+/// Makes tasks 3 and 5 known, and no other, and wakes 5, and 3 twice.
+fn puts_two(alloc: Global, state: &mut RecordedState) -> bool {
+    let are_known = state.know(alloc, 3).is_ok() & state.know(alloc, 5).is_ok();
+    let is_refused = state.know(alloc, u64::MAX).is_err();
+    are_known & is_refused & state.put(5) & state.put(3) & !state.put(3)
+}
+
+/// Takes task 5 and retires it, and takes task 3, until the state keeps no more calls. One more wake is not kept.
+fn takes_two<R: Abort>(rt: &R, alloc: Global, state: &mut RecordedState) -> bool {
+    let is_first = state.drain_one() == Some(5);
+    state.retire(5);
+    let is_open = drains_one_kept(rt, alloc, state, 3) & !state.is_full();
+    let is_empty = state.drain_one() == None;
+    is_first & is_open & is_empty & state.is_full() & state.put(3)
+}
 
 /// The record of these calls.
 const KEPT: [CallEntry; 9] = [
@@ -225,8 +229,8 @@ const KEPT: [CallEntry; 9] = [
 #[test]
 fn a_state_keeps_its_calls(rt: HostRuntime) {
     let alloc = rt.alloc();
-    let mut state = InboxState::recorded(alloc, 4, 9).expect(&rt, "memory");
-    all_answer(&rt, alloc, &mut state, &RECORDED);
+    let mut state = RecordedState::new(alloc, 4, 9).expect(&rt, "memory");
+    assert!(rt; puts_two(alloc, &mut state) && takes_two(&rt, alloc, &mut state));
     assert!(rt; state.plain_puts() == 3 && state.ledger_puts() == 0);
     assert!(rt; state.history().as_slice() == KEPT.as_slice());
 }

@@ -31,8 +31,8 @@ pub(crate) fn take_waiting(
     journal: &mut Journal,
 ) -> Option<Taken>
     ensures ready { IfSome result (λ taken. IsReady taken journal.new) }
-    ensures taken { IfSome result (λ taken. taken.tasks.items ≡ state.old.state.waiting) }
-    ensures emptied { IfSome result (λ taken. state.new.state ≡ with_list state.old.state []) }
+    ensures taken { IfSome result (λ taken. taken.tasks.items ≡ state.old.waiting) }
+    ensures emptied { IfSome result (λ taken. state.new ≡ with_list state.old []) }
     ensures refused { IfNone result (state.new ≡ state.old) }
     ensures history { journal.new.history.entries ≡ journal.old.history.entries }
     ensures full { journal.new.is_full ≡ journal.old.is_full }

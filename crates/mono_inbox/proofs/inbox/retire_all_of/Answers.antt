@@ -16,6 +16,6 @@ pub returns : goal.returns
 returns c =
     let before = c.loop-at.invariant in
     record {
-      known = λ t. ap (λ xs. not (is_waiting xs t) && is_known c.loop-at.state.state t) (sym (none_left c.args.tasks.now c.loop-at.at (omega (arith, c.loop-at-test.false)))) ∙ before.0 t;
+      known = λ t. ap (λ xs. not (is_waiting xs t) && is_known c.loop-at.state t) (sym (none_left c.args.tasks.now c.loop-at.at (omega (arith, c.loop-at-test.false)))) ∙ before.0 t;
       waiting = before.1;
     }

@@ -8,7 +8,7 @@ use Rattle.mono_replay.proofs.parts.Parts.drain.Goals as goal
 pub returns-clause-matches : goal.returns-clause-matches
 returns-clause-matches c = λ m st.
     let old = c.args.self.now in
-    let woken : c.deref.result.now ≡ m.inbox = c.deref.ensures.value ∙ c.drain.ensures.items ∙ ap (λ xs. xs ++ old.inbox.state.waiting) c.in_ok-woken.ensures.items ∙ st.inbox in
+    let woken : c.deref.result.now ≡ m.inbox = c.deref.ensures.value ∙ c.drain.ensures.items ∙ ap (λ xs. xs ++ old.inbox.waiting) c.in_ok-woken.ensures.items ∙ st.inbox in
     record {
       tasks = ap (λ x. x.tasks) c.wake_all.ensures ∙ ap (all_woken old.tasks.tasks) woken ∙ ap (λ t. all_woken t m.inbox) st.tasks;
       sleeps = st.sleeps;

@@ -11,7 +11,7 @@ returns-in-Ready-clause-matches c = λ m st valid.
     let me = c.args.me in
     let output = c.in-Ready.output in
     rw c.in-Ready.is (completed_and_forgotten old m c.end_turn-in-Ready.new.self c.retire.new.self me output st
-    (ap (λ x. x.tasks) c.end_turn-in-Ready.ensures.after ∙ ended-ready old.tasks me output c.requires ∙ ap (λ x. completed_value (value_at x.table me) x me output) st.tasks) c.retire.ensures.state)
+    (ap (λ x. x.tasks) c.end_turn-in-Ready.ensures.after ∙ ended-ready old.tasks me output c.requires ∙ ap (λ x. completed_value (value_at x.table me) x me output) st.tasks) c.retire.ensures)
 
 pub returns-in-Pending-clause-matches : goal.returns-in-Pending-clause-matches
 returns-in-Pending-clause-matches c = λ m st valid.

@@ -2,7 +2,7 @@ use Rattle.std.proofs.Common.{subst}
 use Rattle.mono_inbox.specs.State.{State, HasNoDoubles}
 use Rattle.mono_inbox.specs.Standings.{waits, standing_at}
 use Rattle.mono_inbox.proofs.ListLemmas.{distinct}
-use Rattle.mono_inbox.proofs.list.Listing.drain.Goals as goal
+use Rattle.mono_inbox.proofs.state.InboxState.waiting.Goals as goal
 
 pub returns-clause-distinct : goal.returns-clause-distinct
 returns-clause-distinct c =

@@ -1,6 +1,6 @@
 use Rattle.std.proofs.Common.{refl, arith}
 use Rattle.mono_inbox.proofs.RowRemovalLemmas.{count-without, without-sound, without-known}
-use Rattle.mono_inbox.proofs.list.Listing.retire_row.Goals as goal
+use Rattle.mono_inbox.proofs.state.InboxState.retire_row.Goals as goal
 
 pub overflow_sub-self : goal.overflow_sub-self
 overflow_sub-self c = omega (arith, c.self.invariant.placed, count-without c.self.inside.standings c.args.from c.forget-row.result c.forget-row.ensures.known)

@@ -1,5 +1,5 @@
 use Rattle.std.proofs.Common.{◌≡◌, ◌≤◌, ◌+◌, ◌++◌, length, vec_len, vec_capacity}
-use Rattle.mono_inbox.proofs.list.Listing.drain.Given as goal
+use Rattle.mono_inbox.proofs.state.InboxState.drain.Given as goal
 
 -- The appended tasks and those that still wait are those that waited at first.
 abbrev pub invariant-loop-task : goal.invariant-loop-task

@@ -5,7 +5,7 @@ use Rattle.mono_inbox.proofs.RowGrowthLemmas.{row-sound, row-known}
 use Rattle.mono_inbox.specs.State.{in_row}
 use Rattle.std.specs.Prelude.{◌||◌, slice_index_or, map, false}
 use Rattle.mono_inbox.specs.Standings.{knows}
-use Rattle.mono_inbox.proofs.list.Listing.know_behind.Goals as goal
+use Rattle.mono_inbox.proofs.state.InboxState.know_behind.Goals as goal
 
 pub make_room-requires-clause-waiting : goal.make_room-requires-clause-waiting
 make_room-requires-clause-waiting c =
