@@ -1,7 +1,8 @@
 // The forms as calls on a future.
-ghost use Rattle.std.specs.Prelude.{◌≡◌, Some};
+ghost use Rattle.std.specs.Prelude.{◌≡◌, Some, IfOk, IfErr};
 
 use crate::answers::{Pending, Ready};
+use crate::boxes::Boxed;
 use crate::either_races::RaceEither;
 use crate::eithers::Either;
 use crate::flatten::{Flatten, Then};
@@ -20,6 +21,7 @@ use mono_blocking::{JobHandle, RunJob};
 use mono_combine::{Fallible, Join2, JoinList, PollFn, Select2, SelectList, TryJoin2, TryJoinList};
 use mono_task::{Context, JoinHandle, TaskFuture};
 use mono_time::{Sleep, SleepFor, Timeout, TimeoutFor};
+use std::alloc::{AllocFailed, Global};
 
 /// The forms as calls on a future. An empty impl gives them to a future of your own.
 ///
@@ -103,6 +105,16 @@ pub trait FutureExt: Sized {
         Flatten::First(self)
     }
 
+    /// Puts it into a box, so that a turn moves a pointer in its place. It fails only if out of memory, and then hands the
+    /// future back.
+    final fn boxed(self, alloc: Global) -> Result<Boxed<Self>, AllocFailed<Self>>
+        ensures boxed { IfOk result (λ boxed. boxed.future.value ≡ self) }
+        ensures back { IfErr result (λ refused. refused.value ≡ self) }
+    {
+        let future = Box::new(alloc, self)?;
+        Ok(Boxed { future })
+    }
+
     /// Makes it the first of two.
     final fn left_future<B>(self) -> Either<Self, B>
         ensures { result ≡ Either.Left self }
@@ -155,6 +167,8 @@ impl<F> FutureExt for Lazy<F> {}
 impl<A, F> FutureExt for Inspect<A, F> {}
 
 impl<A> FutureExt for Fuse<A> {}
+
+impl<A> FutureExt for Boxed<A> {}
 
 impl<A, B> FutureExt for RaceEither<A, B> {}
 

@@ -7,6 +7,7 @@
 #![tactic(auto)]
 
 mod answers;
+mod boxes;
 mod either_races;
 mod eithers;
 mod ext;
@@ -26,6 +27,7 @@ mod tries;
 mod yields;
 
 pub use answers::{Pending, Ready};
+pub use boxes::Boxed;
 pub use either_races::RaceEither;
 pub use eithers::Either;
 pub use ext::FutureExt;

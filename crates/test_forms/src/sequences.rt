@@ -278,6 +278,21 @@ fn a_fused_future_waits_after_its_answer(rt: HostRuntime) {
 }
 
 #[test]
+fn a_boxed_future_polls_and_cancels_as_without_its_box(rt: HostRuntime) {
+    let alloc = rt.alloc();
+    for (polls, answer, lines) in [(0, None, "A"), (1, None, "a.A"), (2, Some(7u64), "a.aA.")] {
+        match make_part('a', 1, 7u64).boxed(alloc) {
+            Ok(task) => {
+                let (got, log) = drive(&rt, alloc, task, polls);
+                assert_eq!(rt; got, answer);
+                assert_eq!(rt; log.as_str(), lines);
+            }
+            Err(_) => assert!(rt; false),
+        }
+    }
+}
+
+#[test]
 fn small_forms_answer_at_once_or_in_the_next_poll(rt: HostRuntime) {
     let alloc = rt.alloc();
     let (got, log) = drive(&rt, alloc, ready(7u64), 1);
