@@ -119,6 +119,15 @@ impl<F: Drop, O: Outcome + Drop, P: ThreadPool + Drop, U: Unpark, W: SharedState
             }
         }
     }
+
+    /// Notes that an allocation of the running turn failed, for a future that allocates by itself. The runtime then
+    /// answers Memory after the turn.
+    pub fn note_out_of_memory(&mut self)
+        ensures noted { NotesMemory self.old self.new }
+        ensures reached { ReachesSharing O.output_number W.leads self.old self.new }
+    {
+        self.parts.is_out_of_memory = true;
+    }
 }
 
 /// Returns a further waker of this task, if the waker is its own and a clone could be made.
