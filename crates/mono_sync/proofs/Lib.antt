@@ -4,3 +4,4 @@ pub mod MessageLemmas
 pub mod RoomLemmas
 pub mod OnceLemmas
 pub mod ServedLemmas
+pub mod RenewalLemmas

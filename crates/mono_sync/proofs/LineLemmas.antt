@@ -1,11 +1,12 @@
 -- Tickets rise along a line.
-use Rattle.std.proofs.Common.{◌≡◌, ◌==◌, ◌+◌, ◌<◌, ◌≤◌, ℕ, Bool, true, false, not, cond, List, [], ◌∷◌, ◌++◌, Option, Some, None, Result, Ok, Err, refl, sym, ap, subst, arith}
+use Rattle.std.proofs.Common.{◌≡◌, ◌==◌, ◌+◌, ◌<◌, ◌≤◌, ℕ, Bool, true, false, not, cond, List, [], ◌∷◌, ◌++◌, Option, Some, None, Result, Ok, Err, refl, sym, ap, subst, ◌∙◌, inl, inr, arith}
+use Rattle.std.proofs.lemmas.Bool.Decides.{eqb_tells}
 use Rattle.mono_sync.specs.declared.lines.Waiter.{Waiter}
 use Rattle.mono_sync.specs.declared.lines.Line.{Line}
 use Rattle.mono_sync.specs.declared.semaphores.Semaphore.{Semaphore}
 use Rattle.mono_sync.specs.declared.semaphores.TryAcquireError.TheVariants.{NoPermits, Closed}
 use Rattle.mono_sync.specs.declared.semaphores.Acquiring.TheVariants as acquiring
-use Rattle.mono_sync.specs.Lines.{without, left_by, Serves}
+use Rattle.mono_sync.specs.Lines.{without, left_by, renewed, Renews, Serves}
 use Rattle.mono_sync.specs.Semaphores.{Releases}
 use Rattle.mono_sync.specs.SemaphoreRuns.{Event, tried, asked, released, gave_up, closed, Step, Run}
 use Rattle.mono_sync.specs.Laws.{Rises, FirstComeFirstServed}
@@ -30,8 +31,28 @@ pub rises_left : (ws : List Waiter) (next : ℕ) (ticket : Option ℕ) → Rises
 rises_left ws next None r = r
 rises_left ws next (Some t) r = rises_without 0 ws next t r
 
+same_ticket : (u t : ℕ) → (u == t) ≡ true → u ≡ t
+same_ticket u t is = elim (eqb_tells u t) [ inl here ↦ here.1 | inr apart ↦ absurd (false-true (sym apart.0 ∙ is)) ]
+  where
+    false-true : false ≡ true → ⊥
+    false-true e = cc
+
+rises_renewed_if : (b : Bool) (low t task next : ℕ) (w : Waiter) (ws : List Waiter) → (w.ticket == t) ≡ b → low ≤ w.ticket → w.ticket < next → Rises (w.ticket + 1) ws next → Rises (w.ticket + 1) (renewed ws t task) next
+    → Rises low (cond b (record { ticket = t; task = task } ∷ ws) (w ∷ renewed ws t task)) next
+rises_renewed_if true low t task next w ws is above below rest more = subst (λ n. Rises low (record { ticket = n; task = task } ∷ ws) next) (same_ticket w.ticket t is) (above, below, rest)
+rises_renewed_if false low t task next w ws is above below rest more = (above, below, more)
+
+rises_renewed : (low : ℕ) (ws : List Waiter) (next t task : ℕ) → Rises low ws next → Rises low (renewed ws t task) next
+rises_renewed low [] next t task r = r
+rises_renewed low (w ∷ ws) next t task (above, below, rest) = rises_renewed_if (w.ticket == t) low t task next w ws refl above below rest (rises_renewed (w.ticket + 1) ws next t task rest)
+
 pub along : (xs ys : List Waiter) (n m : ℕ) → ys ≡ xs → m ≡ n → Rises 0 xs n → Rises 0 ys m
 along xs ys n m p q r = subst (λ k. Rises 0 ys k) (sym q) (subst (λ zs. Rises 0 zs n) (sym p) r)
+
+-- Another task in the place of a future does not change the tickets.
+pub renews_rises : (a : Line) (ticket : Option ℕ) (task : ℕ) (b : Line) → Renews a ticket task b → Rises 0 a.waiters.items a.next → Rises 0 b.waiters.items b.next
+renews_rises a None task b s r = absurd s
+renews_rises a (Some t) task b s r = along (renewed a.waiters.items t task) b.waiters.items a.next b.next s.0 s.2 (rises_renewed 0 a.waiters.items a.next t task r)
 
 tail_rises : (w : Waiter) (ws : List Waiter) (next : ℕ) → Rises 0 (w ∷ ws) next → Rises (w.ticket + 1) ws next
 tail_rises w ws next r = r.2
@@ -50,7 +71,7 @@ step_rises : (e : Event) (a b : Semaphore) → Rises 0 a.line.waiters.items a.li
 step_rises (tried (Ok done)) a b r s = subst (λ l. Rises 0 l.waiters.items l.next) (sym s.3) r
 step_rises (tried (Err Closed)) a b r s = moved a b s.1 r
 step_rises (tried (Err NoPermits)) a b r s = moved a b s.2 r
-step_rises (asked ticket task acquiring.Waits) a b r s = along _ _ _ _ s.2.0 s.2.2 r
+step_rises (asked ticket task acquiring.Waits) a b r s = renews_rises a.line ticket task b.line s.2 r
 step_rises (asked ticket task acquiring.Closed) a b r s = along _ _ _ _ s.3.0 s.3.2 r
 step_rises (asked ticket task acquiring.Acquired) a b r s = along _ _ _ _ s.4.0 s.4.2 r
 step_rises (asked ticket task acquiring.Memory) a b r s = along _ _ _ _ s.4.0 s.4.2 r

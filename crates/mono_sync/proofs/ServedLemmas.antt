@@ -9,7 +9,7 @@ use Rattle.mono_sync.specs.declared.mpsc.Sending.TheVariants as sending
 use Rattle.mono_sync.specs.declared.mpsc.Receiving.TheVariants as receiving
 use Rattle.mono_sync.specs.MpscRuns.{Event, tried_to_send, tried_to_receive, asked_to_send, asked_to_receive, gave_up_send, gave_up_receive, closed, Step, Run}
 use Rattle.mono_sync.specs.Laws.{Rises, ServedInOrder}
-use Rattle.mono_sync.proofs.LineLemmas.{rises_end, rises_left, along, served_rises, serves_rises}
+use Rattle.mono_sync.proofs.LineLemmas.{rises_end, rises_left, along, renews_rises, served_rises, serves_rises}
 use Rattle.mono_sync.proofs.MessageLemmas.{nothing_after}
 
 abbrev Rising : Line → Type 0
@@ -44,7 +44,7 @@ module _ {T : Type 0} where
   senders_rise (asked_to_send ticket x task (sending.Closed y)) a b r s = senders_of a b s.2 r
   senders_rise (asked_to_send ticket x task (sending.Memory y first)) a b r s = serves_rises _ _ _ _ first b.senders s.5 s.4 r
   senders_rise (asked_to_send ticket x task (sending.Joined t y)) a b r s = along _ _ _ _ s.5 s.7 (rises_end 0 _ _ (record { ticket = t; task = task }) s.4 r)
-  senders_rise (asked_to_send ticket x task (sending.Waits y)) a b r s = along _ _ _ _ s.3.1.0 s.3.1.2 r
+  senders_rise (asked_to_send ticket x task (sending.Waits y)) a b r s = renews_rises a.senders ticket task b.senders s.3.1 r
   senders_rise (asked_to_receive ticket task (receiving.Received x first)) a b r s = serves_rises _ _ _ _ first b.senders s.0.2 s.0.1 r
   senders_rise (asked_to_receive ticket task receiving.Closed) a b r s = along _ _ _ _ s.2.1.0 s.2.1.2 r
   senders_rise (asked_to_receive ticket task receiving.Memory) a b r s = kept_line _ _ s.5 r
@@ -71,7 +71,7 @@ module _ {T : Type 0} where
   receivers_rise (asked_to_receive ticket task receiving.Closed) a b is_open r s = along _ _ _ _ s.2.2.0 s.2.2.2 r
   receivers_rise (asked_to_receive ticket task receiving.Memory) a b is_open r s = along _ _ _ _ s.4.0 s.4.2 r
   receivers_rise (asked_to_receive ticket task (receiving.Joined t)) a b is_open r s = along _ _ _ _ s.4 s.6 (rises_end 0 _ _ (record { ticket = t; task = task }) s.3 r)
-  receivers_rise (asked_to_receive ticket task receiving.Waits) a b is_open r s = along _ _ _ _ s.2.2.0 s.2.2.2 r
+  receivers_rise (asked_to_receive ticket task receiving.Waits) a b is_open r s = renews_rises a.receivers ticket task b.receivers s.2.2 r
   receivers_rise (gave_up_send ticket first) a b is_open r s = kept_line _ _ s.3 r
   receivers_rise (gave_up_receive ticket first) a b is_open r s = serves_rises _ _ _ _ first b.receivers s.2 s.1 (rises_left _ _ ticket r)
   receivers_rise (closed senders receivers) a b is_open r s = subst (λ ws. Rises 0 ws b.receivers.next) (sym s.3) (omega arith)

@@ -1,6 +1,6 @@
 -- The tasks that wait in a line, and the effect of its calls.
 use Rattle.std.specs.Prelude.{Bool, true, false, not, ◌==◌, ◌≡◌, ◌<◌, ◌≤◌, ◌+◌, ◌-◌, ◌⊎◌, if◌then◌else◌, ℕ, List, [], ◌∷◌, ◌++◌, filter, Option, Some, None, Result, Ok, Err}
-use Rattle.std.specs.List.{list_any}
+use Rattle.std.specs.List.{list_any, position}
 use Rattle.std.specs.declared.alloc.AllocError.{AllocError}
 use Rattle.mono_sync.specs.declared.lines.Waiter.{Waiter}
 use Rattle.mono_sync.specs.declared.lines.Line.{Line}
@@ -27,6 +27,24 @@ grants_left a (Some t) = if stands a.waiters.items t then a.granted else a.grant
 abbrev pub left_by : List Waiter → Option ℕ → List Waiter
 left_by ws None = ws
 left_by ws (Some t) = without ws t
+
+-- Whether a future of this task waits in the line.
+abbrev pub has_task : Line → ℕ → Bool
+has_task a task = list_any (λ w. w.task == task) a.waiters.items
+
+-- The place of the future with this ticket.
+abbrev pub place_of : List Waiter → ℕ → Option ℕ
+place_of ws t = position (λ w. w.ticket == t) ws
+
+-- The waiting tasks, of which this one now waits in the place of the future with this ticket.
+abbrev pub renewed : List Waiter → ℕ → ℕ → List Waiter
+renewed [] t task = []
+renewed (w ∷ ws) t task = if w.ticket == t then record { ticket = t; task = task } ∷ ws else w ∷ renewed ws t task
+
+-- The future still waits, and this task waits in its place.
+abbrev pub Renews : Line → Option ℕ → ℕ → Line → Type 0
+Renews a None task b = ⊥
+Renews a (Some t) task b = (b.waiters.items ≡ renewed a.waiters.items t task) × (b.granted ≡ a.granted) × (b.next ≡ a.next)
 
 -- The line is the same.
 abbrev pub SameLine : Line → Line → Type 0

@@ -10,7 +10,7 @@ use Rattle.mono_sync.specs.declared.mpsc.Sending.{Sending}
 use Rattle.mono_sync.specs.declared.mpsc.Sending.TheVariants as sending
 use Rattle.mono_sync.specs.declared.mpsc.Receiving.{Receiving}
 use Rattle.mono_sync.specs.declared.mpsc.Receiving.TheVariants as receiving
-use Rattle.mono_sync.specs.Lines.{stands, still_waits, grants_left, left_by, SameLine, Joins, Serves, Comes}
+use Rattle.mono_sync.specs.Lines.{stands, still_waits, grants_left, left_by, Renews, SameLine, Joins, Serves, Comes}
 
 module _ {T : Type 0} where
   -- How many places are not taken by a message.
@@ -46,21 +46,21 @@ module _ {T : Type 0} where
   TriesToReceive a (Err unreceived.Empty) b = (a.is_closed ≡ false) × (length a.queue.items ≤ a.receivers.granted) × (b ≡ a)
   TriesToReceive a (Err unreceived.Disconnected) b = (a.is_closed ≡ true) × (a.queue.items ≡ []) × Rests a b
 
-  -- A future asks to send. It still waits, or collects its place, or takes a free one, or waits from now on.
+  -- A future asks to send. It still waits, for this task from now on, or collects its place, or takes a free one, or waits from now on.
   abbrev pub Sends : Channel T → Option ℕ → T → ℕ → Sending T → Channel T → Type 0
   Sends a ticket x task (sending.Sent first) b = (a.is_closed ≡ false) × (still_waits a.senders ticket ≡ false) × (grants_left a.senders ticket < places a) × Pushes a x first b × Comes a.senders ticket b.senders
   Sends a ticket x task (sending.Closed y) b = (y ≡ x) × (a.is_closed ≡ true) × (b ≡ a)
   Sends a ticket x task (sending.Memory y first) b = (y ≡ x) × (a.is_closed ≡ false) × (still_waits a.senders ticket ≡ false) × (b.queue.items ≡ a.queue.items) × Serves a.senders.waiters.items (grants_left a.senders ticket) (places a) first b.senders × (b.senders.next ≡ a.senders.next) × (b.receivers ≡ a.receivers) × Kept a b
-  Sends a ticket x task (sending.Waits y) b = (y ≡ x) × (a.is_closed ≡ false) × (still_waits a.senders ticket ≡ true) × Rests a b
+  Sends a ticket x task (sending.Waits y) b = (y ≡ x) × (a.is_closed ≡ false) × (still_waits a.senders ticket ≡ true) × ((b.queue.items ≡ a.queue.items) × Renews a.senders ticket task b.senders × SameLine a.receivers b.receivers × Kept a b)
   Sends a ticket x task (sending.Joined t y) b = (y ≡ x) × (a.is_closed ≡ false) × (still_waits a.senders ticket ≡ false) × (places a ≤ grants_left a.senders ticket) × (t ≡ a.senders.next) × (b.senders.waiters.items ≡ a.senders.waiters.items ++ record { ticket = t; task = task } ∷ []) × (b.senders.granted ≡ grants_left a.senders ticket) × (b.senders.next ≡ a.senders.next + 1) × (b.queue.items ≡ a.queue.items) × (b.receivers ≡ a.receivers) × Kept a b
 
-  -- A future asks to receive. It still waits, or collects its message, or takes one that is not promised, or waits from
-  -- now on. Once the channel was closed, each future that asks gets a message while there is one.
+  -- A future asks to receive. It still waits, for this task from now on, or collects its message, or takes one that is
+  -- not promised, or waits from now on. Once the channel was closed, each future that asks gets a message while there is one.
   abbrev pub Receives : Channel T → Option ℕ → ℕ → Receiving T → Channel T → Type 0
   Receives a ticket task (receiving.Received x first) b = Pops a x first b × (a.is_closed ≡ false → (still_waits a.receivers ticket ≡ false) × (grants_left a.receivers ticket < length a.queue.items) × Comes a.receivers ticket b.receivers)
   Receives a ticket task receiving.Closed b = (a.is_closed ≡ true) × (a.queue.items ≡ []) × Rests a b
   Receives a ticket task receiving.Memory b = (a.is_closed ≡ false) × (still_waits a.receivers ticket ≡ false) × (length a.queue.items ≤ grants_left a.receivers ticket) × (b.queue.items ≡ a.queue.items) × Comes a.receivers ticket b.receivers × (b.senders ≡ a.senders) × Kept a b
-  Receives a ticket task receiving.Waits b = (a.is_closed ≡ false) × (still_waits a.receivers ticket ≡ true) × Rests a b
+  Receives a ticket task receiving.Waits b = (a.is_closed ≡ false) × (still_waits a.receivers ticket ≡ true) × ((b.queue.items ≡ a.queue.items) × SameLine a.senders b.senders × Renews a.receivers ticket task b.receivers × Kept a b)
   Receives a ticket task (receiving.Joined t) b = (a.is_closed ≡ false) × (still_waits a.receivers ticket ≡ false) × (length a.queue.items ≤ grants_left a.receivers ticket) × (t ≡ a.receivers.next) × (b.receivers.waiters.items ≡ a.receivers.waiters.items ++ record { ticket = t; task = task } ∷ []) × (b.receivers.granted ≡ grants_left a.receivers ticket) × (b.receivers.next ≡ a.receivers.next + 1) × (b.queue.items ≡ a.queue.items) × (b.senders ≡ a.senders) × Kept a b
 
   -- A future leaves the line of senders. Its reserved place, if any, goes to the first of them.

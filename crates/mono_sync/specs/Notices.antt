@@ -4,7 +4,7 @@ use Rattle.mono_sync.specs.declared.lines.Waiter.{Waiter}
 use Rattle.mono_sync.specs.declared.notices.Notify.{Notify}
 use Rattle.mono_sync.specs.declared.notices.Notifying.{Notifying}
 use Rattle.mono_sync.specs.declared.notices.Notifying.TheVariants as notifying
-use Rattle.mono_sync.specs.Lines.{stands, without}
+use Rattle.mono_sync.specs.Lines.{stands, without, Renews}
 
 -- The first waiting task is served, or the notice is kept for the next future that asks.
 abbrev pub NotifiesOne : Notify → Option Waiter → Notify → Type 0
@@ -15,9 +15,9 @@ NotifiesOne a None b = (a.line.waiters.items ≡ []) × (b.line.waiters.items �
 abbrev pub NotifiesAll : Notify → List Waiter → Notify → Type 0
 NotifiesAll a woken b = (woken ≡ a.line.waiters.items) × (b.line.waiters.items ≡ []) × (b.is_notified ≡ a.is_notified) × (b.cleared ≡ a.line.next) × (b.line.next ≡ a.line.next)
 
--- A future asks. It waits, or was notified, or takes the kept notice, or waits from now on.
+-- A future asks. It waits, for this task from now on, or was notified, or takes the kept notice, or waits from now on.
 abbrev pub Awaits : Notify → Option ℕ → ℕ → Notifying → Notify → Type 0
-Awaits a (Some t) task notifying.Waits b = (stands a.line.waiters.items t ≡ true) × (b ≡ a)
+Awaits a (Some t) task notifying.Waits b = (stands a.line.waiters.items t ≡ true) × Renews a.line (Some t) task b.line × (b.is_notified ≡ a.is_notified) × (b.cleared ≡ a.cleared)
 Awaits a (Some t) task notifying.Notified b = (stands a.line.waiters.items t ≡ false) × (b ≡ a)
 Awaits a (Some t) task notifying.Memory b = ⊥
 Awaits a (Some t) task (notifying.Joined u) b = ⊥

@@ -1,10 +1,15 @@
 -- A channel for one message, and the effect of its calls.
-use Rattle.std.specs.Prelude.{⊤, true, false, ◌≡◌, ℕ, Option, Some, None, Result, Ok, Err}
+use Rattle.std.specs.Prelude.{⊤, Bool, true, false, ◌==◌, ◌≡◌, ℕ, Option, Some, None, Result, Ok, Err}
 use Rattle.mono_sync.specs.declared.oneshot.Oneshot.{Oneshot}
 use Rattle.mono_sync.specs.declared.oneshot.TryRecvError.{TryRecvError}
 use Rattle.mono_sync.specs.declared.oneshot.TryRecvError.TheVariants as unreceived
 use Rattle.mono_sync.specs.declared.oneshot.Receiving.{Receiving}
 use Rattle.mono_sync.specs.declared.oneshot.Receiving.TheVariants as receiving
+
+-- Whether this task waits for the message.
+abbrev pub is_receiver : Option ℕ → ℕ → Bool
+is_receiver None task = false
+is_receiver (Some t) task = t == task
 
 module _ {T : Type 0} where
   -- The message is in the channel, which takes no other.

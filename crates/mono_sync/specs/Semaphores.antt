@@ -9,7 +9,7 @@ use Rattle.mono_sync.specs.declared.semaphores.TooManyPermits.{TooManyPermits}
 use Rattle.mono_sync.specs.declared.semaphores.Acquiring.{Acquiring}
 use Rattle.mono_sync.specs.declared.semaphores.Acquiring.TheVariants as acquiring
 use Rattle.mono_sync.specs.declared.semaphores.TheConstants.{MAX_PERMITS}
-use Rattle.mono_sync.specs.Lines.{stands, still_waits, grants_left, left_by, SameLine, Joins, Serves, Comes}
+use Rattle.mono_sync.specs.Lines.{still_waits, grants_left, left_by, Renews, Serves, Comes}
 
 -- There is one permit fewer, if one is neither taken nor reserved.
 abbrev pub TriesToAcquire : Semaphore → Result ⊤ TryAcquireError → Semaphore → Type 0
@@ -17,9 +17,9 @@ TriesToAcquire a (Ok done) b = (a.is_closed ≡ false) × (a.line.granted < a.av
 TriesToAcquire a (Err Closed) b = (a.is_closed ≡ true) × (b ≡ a)
 TriesToAcquire a (Err NoPermits) b = (a.is_closed ≡ false) × (a.available ≤ a.line.granted) × (b ≡ a)
 
--- A future asks. It still waits, or collects its permit, or takes a free one, or waits from now on.
+-- A future asks. It still waits, for this task from now on, or collects its permit, or takes a free one, or waits from now on.
 abbrev pub Acquires : Semaphore → Option ℕ → ℕ → Acquiring → Semaphore → Type 0
-Acquires a ticket task acquiring.Waits b = (still_waits a.line ticket ≡ true) × (b.available ≡ a.available) × SameLine a.line b.line × (b.is_closed ≡ a.is_closed)
+Acquires a ticket task acquiring.Waits b = (still_waits a.line ticket ≡ true) × (b.available ≡ a.available) × Renews a.line ticket task b.line × (b.is_closed ≡ a.is_closed)
 Acquires a ticket task acquiring.Closed b = (still_waits a.line ticket ≡ false) × (a.is_closed ≡ true) × (b.available ≡ a.available) × Comes a.line ticket b.line × (b.is_closed ≡ true)
 Acquires a ticket task acquiring.Acquired b = (still_waits a.line ticket ≡ false) × (a.is_closed ≡ false) × (grants_left a.line ticket < a.available) × (b.available + 1 ≡ a.available) × Comes a.line ticket b.line × (b.is_closed ≡ false)
 Acquires a ticket task (acquiring.Joined t) b = (still_waits a.line ticket ≡ false) × (a.is_closed ≡ false) × (a.available ≤ grants_left a.line ticket) × (b.available ≡ a.available) × (t ≡ a.line.next) × (b.line.waiters.items ≡ a.line.waiters.items ++ record { ticket = t; task = task } ∷ []) × (b.line.granted ≡ grants_left a.line ticket) × (b.line.next ≡ a.line.next + 1) × (b.is_closed ≡ false)

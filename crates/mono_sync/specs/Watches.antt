@@ -5,7 +5,7 @@ use Rattle.mono_sync.specs.declared.watch.Watch.{Watch}
 use Rattle.mono_sync.specs.declared.watch.Replaced.{Replaced}
 use Rattle.mono_sync.specs.declared.watch.Changing.{Changing}
 use Rattle.mono_sync.specs.declared.watch.Changing.TheVariants as changing
-use Rattle.mono_sync.specs.Lines.{still_waits, left_by}
+use Rattle.mono_sync.specs.Lines.{still_waits, left_by, Renews}
 
 module _ {T : Type 0} where
   -- The value and its version stay, and a closed value stays closed, an open one open.
@@ -17,11 +17,11 @@ module _ {T : Type 0} where
   Sends a x (Ok r) b = (a.is_closed ≡ false) × (b.value ≡ x) × (r.old ≡ a.value) × (b.version ≡ a.version + 1) × (r.woken.items ≡ a.line.waiters.items) × (b.line.waiters.items ≡ []) × (b.line.next ≡ a.line.next) × (b.is_closed ≡ false)
   Sends a x (Err y) b = (y ≡ x) × ((a.is_closed ≡ true) ⊎ (2 ^ 64 ≤ a.version + 1)) × (b ≡ a)
 
-  -- A future that has seen a version asks for another.
+  -- A future that has seen a version asks for another. A future that still waits does so for this task from now on.
   abbrev pub Changes : Watch T → ℕ → Option ℕ → ℕ → Changing → Watch T → Type 0
   Changes a seen ticket task (changing.Changed v) b = (v ≡ a.version) × (a.version ≢ seen) × (b ≡ a)
   Changes a seen ticket task changing.Closed b = (a.version ≡ seen) × (a.is_closed ≡ true) × (b ≡ a)
-  Changes a seen ticket task changing.Waits b = (a.version ≡ seen) × (a.is_closed ≡ false) × (still_waits a.line ticket ≡ true) × (b ≡ a)
+  Changes a seen ticket task changing.Waits b = (a.version ≡ seen) × (a.is_closed ≡ false) × (still_waits a.line ticket ≡ true) × Renews a.line ticket task b.line × Kept a b
   Changes a seen ticket task (changing.Joined t) b = (a.version ≡ seen) × (a.is_closed ≡ false) × (still_waits a.line ticket ≡ false) × (t ≡ a.line.next) × (b.line.waiters.items ≡ a.line.waiters.items ++ record { ticket = t; task = task } ∷ []) × (b.line.next ≡ a.line.next + 1) × Kept a b
   Changes a seen ticket task changing.Memory b = (a.version ≡ seen) × (a.is_closed ≡ false) × (still_waits a.line ticket ≡ false) × (b.line.waiters.items ≡ a.line.waiters.items) × (b.line.next ≡ a.line.next) × Kept a b
 

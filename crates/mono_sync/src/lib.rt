@@ -19,6 +19,6 @@ pub mod watch;
 pub use lines::{Line, Waiter};
 pub use notices::{Notify, Notifying};
 pub use notifications::{Notified, notify_one, notify_waiters};
-pub use parts::{Holds, Only};
+pub use parts::{Holds, Lists, Only};
 pub use permits::{Acquire, AcquireError};
 pub use semaphores::{Acquiring, MAX_PERMITS, Semaphore, TooManyPermits, TryAcquireError};

@@ -1,6 +1,6 @@
 // The tasks that wait, in the order of their arrival.
-ghost use Rattle.std.specs.Prelude.{◌≡◌, []};
-ghost use Rattle.mono_sync.specs.Lines.{stands, still_waits, grants_left, left_by, Joins, Pops, Serves, Comes};
+ghost use Rattle.std.specs.Prelude.{◌≡◌, [], MatchBool};
+ghost use Rattle.mono_sync.specs.Lines.{stands, still_waits, grants_left, left_by, place_of, renewed, Renews, Joins, Pops, Serves, Comes};
 
 use std::alloc::{AllocError, Global};
 use std::collections::VecDeque;
@@ -56,13 +56,38 @@ impl Line {
         self.waiters.iter().any(|w| w.ticket == ticket)
     }
 
-    /// Returns whether the future that drew this ticket, if any, waits.
-    pub fn is_in(&self, ticket: Option<u64>) -> bool
-        ensures { result ≡ still_waits self.now ticket }
+    // Returns the place of the future with this ticket.
+    fn place_of(&self, ticket: u64) -> Option<usize>
+        ensures { result ≡ place_of self.now.waiters.items ticket }
+    {
+        self.waiters.iter().position(|w| w.ticket == ticket)
+    }
+
+    // Makes this task wait in the place of the future with this ticket, if there is one.
+    fn renew(&mut self, ticket: u64, task: u64)
+        ensures waiters { self.new.waiters.items ≡ renewed self.old.waiters.items ticket task }
+        ensures granted { self.new.granted ≡ self.old.granted }
+        ensures next { self.new.next ≡ self.old.next }
+    {
+        if let Some(place) = self.place_of(ticket) {
+            self.waiters[place] = Waiter { ticket, task };
+        }
+    }
+
+    /// Returns whether the future that drew this ticket, if any, waits. If it does, it waits for this task from now on.
+    pub fn still_in(&mut self, ticket: Option<u64>, task: u64) -> bool
+        ensures waits { result ≡ still_waits self.old ticket }
+        ensures renews { MatchBool result (Renews self.old ticket task self.new) (self.new ≡ self.old) }
     {
         match ticket {
             None => false,
-            Some(ticket) => self.has(ticket),
+            Some(ticket) => {
+                if !self.has(ticket) {
+                    return false;
+                }
+                self.renew(ticket, task);
+                true
+            }
         }
     }
 
@@ -108,8 +133,20 @@ impl Line {
         }
     }
 
-    /// Collects a future's grant, unless the future still waits. Returns whether it still waits.
-    pub fn redeem(&mut self, ticket: Option<u64>) -> bool
+    /// Collects a future's grant, unless the future still waits: then it waits for this task from now on. Returns whether
+    /// it still waits.
+    pub fn redeem_for(&mut self, ticket: Option<u64>, task: u64) -> bool
+        ensures waits { result ≡ still_waits self.old ticket }
+        ensures comes { MatchBool result (Renews self.old ticket task self.new) (Comes self.old ticket self.new) }
+    {
+        if self.still_in(ticket, task) {
+            return true;
+        }
+        self.redeem(ticket)
+    }
+
+    // Collects a future's grant, unless the future still waits. Returns whether it still waits.
+    fn redeem(&mut self, ticket: Option<u64>) -> bool
         ensures waits { result ≡ still_waits self.old ticket }
         ensures comes { Comes self.old ticket self.new }
     {

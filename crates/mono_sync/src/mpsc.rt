@@ -1,7 +1,8 @@
 // A bounded channel as a plain value.
-ghost use Rattle.std.specs.Prelude.{◌≡◌, ◌-◌, [], true, false, length, MatchResult, MatchOption};
+ghost use Rattle.std.specs.Prelude.{◌≡◌, ◌-◌, [], true, false, ◌||◌, length, MatchResult, MatchOption};
 ghost use Rattle.mono_sync.specs.MpscRuns.{Leads, leads_itself, leads_on};
 ghost use Rattle.mono_sync.specs.Mpsc.{Pushes, Pops, Rests, Kept, TriesToSend, TriesToReceive, Sends, Receives, GivesUpSend, GivesUpReceive, Closes, places};
+ghost use Rattle.mono_sync.specs.Lines.{has_task};
 
 use crate::lines::{Line, Waiter};
 pub use crate::messages::{Recv, Send, SendError, close, try_recv, try_send};
@@ -75,6 +76,8 @@ pub enum Receiving<T> {
 /// Calls alone lead one channel to another.
 impl<T> SharedState for Channel<T> {
     ghost leads = { Leads };
+
+    ghost lists = { λ a t. has_task a.senders t || has_task a.receivers t };
 
     ghost leads_itself = { leads_itself };
 
@@ -184,15 +187,15 @@ impl<T: Drop> Channel<T> {
         }
     }
 
-    /// Sends a message for a future of this task, or makes the future wait. The ticket is the one that the future drew
-    /// before.
+    /// Sends a message for a future of this task, or makes the future wait for the task. The ticket is the one that the
+    /// future drew before.
     pub fn send(&mut self, ticket: Option<u64>, message: T, task: u64) -> Sending<T>
         ensures { Sends self.old ticket message task result self.new }
     {
         if self.is_closed {
             return Sending::Closed(message);
         }
-        if self.senders.redeem(ticket) {
+        if self.senders.redeem_for(ticket, task) {
             return Sending::Waits(message);
         }
         if self.senders.granted < self.places() {
@@ -213,8 +216,8 @@ impl<T: Drop> Channel<T> {
         }
     }
 
-    /// Receives a message for a future of this task, or makes the future wait. The ticket is the one that the future
-    /// drew before.
+    /// Receives a message for a future of this task, or makes the future wait for the task. The ticket is the one that
+    /// the future drew before.
     pub fn recv(&mut self, ticket: Option<u64>, task: u64) -> Receiving<T>
         ensures { Receives self.old ticket task result self.new }
     {
@@ -224,7 +227,7 @@ impl<T: Drop> Channel<T> {
                 None => Receiving::Closed,
             };
         }
-        if self.receivers.redeem(ticket) {
+        if self.receivers.redeem_for(ticket, task) {
             return Receiving::Waits;
         }
         if self.receivers.granted < self.queue.len() {

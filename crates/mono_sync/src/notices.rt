@@ -3,6 +3,7 @@ ghost use Rattle.std.specs.Prelude.{◌≡◌, [], false};
 ghost use Rattle.mono_sync.specs.Runs.{Leads, leads_itself, leads_on};
 ghost use Rattle.mono_sync.specs.NoticeRuns.{Step};
 ghost use Rattle.mono_sync.specs.Notices.{NotifiesOne, NotifiesAll, Awaits, GivesUp};
+ghost use Rattle.mono_sync.specs.Lines.{has_task};
 
 use crate::lines::{Line, Waiter};
 use mono_shared::SharedState;
@@ -37,6 +38,8 @@ pub enum Notifying {
 /// Calls alone lead one notice to another.
 impl SharedState for Notify {
     ghost leads = { Leads Step };
+
+    ghost lists = { λ a. has_task a.line };
 
     ghost leads_itself = { leads_itself Step };
 
@@ -85,7 +88,7 @@ impl Notify {
     {
         match ticket {
             Some(ticket) => {
-                if self.line.has(ticket) {
+                if self.line.still_in(Some(ticket), task) {
                     return Notifying::Waits;
                 }
                 Notifying::Notified

@@ -3,7 +3,7 @@ ghost use Rattle.std.specs.Prelude.{◌≡◌, true, false};
 ghost use Rattle.std.specs.declared.option.Option.TheVariants.{None, Some};
 ghost use Rattle.mono_sync.specs.Runs.{Leads, leads_itself, leads_on};
 ghost use Rattle.mono_sync.specs.OneshotRuns.{Step};
-ghost use Rattle.mono_sync.specs.Oneshot.{Sends, TriesToReceive, Receives, Closes, GivesUp};
+ghost use Rattle.mono_sync.specs.Oneshot.{is_receiver, Sends, TriesToReceive, Receives, Closes, GivesUp};
 
 pub use crate::deliveries::{Recv, close, send};
 use mono_shared::SharedState;
@@ -41,6 +41,8 @@ pub enum Receiving<T> {
 /// Calls alone lead one channel to another.
 impl<T> SharedState for Oneshot<T> {
     ghost leads = { Leads Step };
+
+    ghost lists = { λ a. is_receiver a.receiver };
 
     ghost leads_itself = { leads_itself Step };
 

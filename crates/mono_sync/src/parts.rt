@@ -1,5 +1,5 @@
 // A shared value that has a channel, a semaphore or the like as a part.
-ghost use Rattle.std.specs.Prelude.{◌≡◌, refl};
+ghost use Rattle.std.specs.Prelude.{◌≡◌, ℕ, true, refl};
 ghost use Rattle.std.specs.Borrow.{sem, Lends};
 
 use mono_shared::SharedState;
@@ -24,6 +24,11 @@ pub trait Holds<X: SharedState>: SharedState {
     ghost leads_with: { (w : Self) (x : X) → X.leads (part w) x → Self.leads w (with_part w x) };
 }
 
+/// A shared value that lists each task that its part lists.
+pub trait Lists<X: SharedState>: Holds<X> {
+    ghost lists_part: { (w : Self) (t : ℕ) → X.lists (Self.part w) t ≡ true → Self.lists w t ≡ true };
+}
+
 /// A shared value with one part.
 #[derive(Drop)]
 pub struct Only<X> {
@@ -34,6 +39,8 @@ pub struct Only<X> {
 /// The value is led as its part is.
 impl<X: SharedState> SharedState for Only<X> {
     ghost leads = { λ a b. X.leads a.part b.part };
+
+    ghost lists = { λ a. X.lists a.part };
 
     ghost leads_itself = { λ a. X.leads_itself a.part };
 
@@ -52,4 +59,8 @@ impl<X: SharedState> Holds<X> for Only<X> {
     ghost part_with = { λ w x. refl };
 
     ghost leads_with = { λ w x led. led };
+}
+
+impl<X: SharedState> Lists<X> for Only<X> {
+    ghost lists_part = { λ w t is. is };
 }

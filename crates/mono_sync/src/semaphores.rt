@@ -2,6 +2,7 @@
 ghost use Rattle.std.specs.Prelude.{◌≡◌, ◌-◌, [], false};
 ghost use Rattle.mono_sync.specs.SemaphoreRuns.{Leads, leads_itself, leads_on};
 ghost use Rattle.mono_sync.specs.Semaphores.{TriesToAcquire, Acquires, Releases, GivesUp, Closes};
+ghost use Rattle.mono_sync.specs.Lines.{has_task};
 
 use crate::lines::{Line, Waiter};
 use mono_shared::SharedState;
@@ -54,6 +55,8 @@ pub enum Acquiring {
 /// Calls alone lead one semaphore to another.
 impl SharedState for Semaphore {
     ghost leads = { Leads };
+
+    ghost lists = { λ a. has_task a.line };
 
     ghost leads_itself = { leads_itself };
 
@@ -109,7 +112,7 @@ impl Semaphore {
     pub fn acquire(&mut self, ticket: Option<u64>, task: u64) -> Acquiring
         ensures { Acquires self.old ticket task result self.new }
     {
-        if self.line.redeem(ticket) {
+        if self.line.redeem_for(ticket, task) {
             return Acquiring::Waits;
         }
         if self.is_closed {

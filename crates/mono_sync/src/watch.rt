@@ -3,6 +3,7 @@ ghost use Rattle.std.specs.Prelude.{◌≡◌, [], false};
 ghost use Rattle.mono_sync.specs.Runs.{Leads, leads_itself, leads_on};
 ghost use Rattle.mono_sync.specs.WatchRuns.{Step};
 ghost use Rattle.mono_sync.specs.Watches.{Sends, Changes, GivesUp, Closes};
+ghost use Rattle.mono_sync.specs.Lines.{has_task};
 
 pub use crate::changes::{Changed, ChangedError, close, send};
 use crate::lines::{Line, Waiter};
@@ -47,6 +48,8 @@ pub struct Replaced<T> {
 /// Calls alone lead one watched value to another.
 impl<T> SharedState for Watch<T> {
     ghost leads = { Leads Step };
+
+    ghost lists = { λ a. has_task a.line };
 
     ghost leads_itself = { leads_itself Step };
 
@@ -113,7 +116,7 @@ impl<T: Drop> Watch<T> {
         if self.is_closed {
             return Changing::Closed;
         }
-        if self.line.is_in(ticket) {
+        if self.line.still_in(ticket, task) {
             return Changing::Waits;
         }
         match self.line.join(task) {

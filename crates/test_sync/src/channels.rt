@@ -245,3 +245,21 @@ fn no_place(rt: HostRuntime) {
         ],
     );
 }
+
+// A future waits for the task that polled it last, in the place that it had.
+#[test]
+fn latest_task(rt: HostRuntime) {
+    all_answer(
+        &rt,
+        rt.alloc(),
+        1,
+        &[
+            Call::JoinsReceivers(None, 1, 0),
+            Call::JoinsReceivers(None, 2, 1),
+            Call::Waits(Some(1), 3),
+            Call::Sends(10, Some(1)),
+            Call::Gets(Some(0), 10, 1, None),
+            Call::Sends(11, Some(3)),
+        ],
+    );
+}

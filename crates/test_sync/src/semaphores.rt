@@ -150,3 +150,20 @@ fn no_permit_too_many(rt: HostRuntime) {
     assert!(rt; semaphore.release().is_err());
     assert_eq!(rt; semaphore.available_permits(), MAX_PERMITS);
 }
+
+// A future waits for the task that polled it last, in the place that it had.
+#[test]
+fn latest_task(rt: HostRuntime) {
+    all_answer(
+        &rt,
+        rt.alloc(),
+        0,
+        &[
+            Call::Joins(None, 1, 0),
+            Call::Joins(None, 2, 1),
+            Call::Waits(Some(0), 3),
+            Call::Releases(Some(3)),
+            Call::Releases(Some(2)),
+        ],
+    );
+}
