@@ -1,5 +1,5 @@
 -- The calls of leases for whose keys tasks wait, and the effect of each.
-use Rattle.std.specs.Prelude.{⊤, ◌≡◌, ◌==◌, ◌⊎◌, ◌+◌, ◌&&◌, ℕ, Bool, true, false, not, List, [], ◌∷◌, ◌++◌, filter, Option, Some, None, Result, Ok, Err, slice_index_or, nat_lt}
+use Rattle.std.specs.Prelude.{⊤, ◌≡◌, ◌==◌, ◌⊎◌, ◌+◌, ◌&&◌, ◌||◌, ℕ, Bool, true, false, not, List, [], ◌∷◌, ◌++◌, filter, Option, Some, None, Result, Ok, Err, slice_index_or, nat_lt}
 use Rattle.std.specs.List.{list_any, position, remove}
 use Rattle.std.specs.declared.alloc.AllocError.{AllocError}
 use Rattle.mono_session.specs.Answers.{Answer}
@@ -23,6 +23,15 @@ use Rattle.mono_serve.specs.declared.leases.Looked.TheVariants as look
 -- Whether the future with this ticket waits.
 abbrev pub has_ticket : List LockWaiter → ℕ → Bool
 has_ticket ws ticket = list_any (λ w. w.ticket == ticket) ws
+
+-- Whether this task is the keeper.
+abbrev pub is_keeper : Option ℕ → ℕ → Bool
+is_keeper None task = false
+is_keeper (Some t) task = t == task
+
+-- Whether this task is the keeper, or waits for a key.
+abbrev pub lists_task : Leases → ℕ → Bool
+lists_task a task = is_keeper a.keeper task || list_any (λ w. w.task == task) a.waiters.items
 
 -- The waiting tasks without the one with this ticket.
 abbrev pub without : List LockWaiter → ℕ → List LockWaiter

@@ -7,7 +7,7 @@ ghost use Rattle.mono_session.specs.Calls as call;
 ghost use Rattle.mono_session.specs.Keeper.{Keeper, no_sessions, is_open, owner_answer};
 ghost use Rattle.mono_session.specs.Refinement.{StandsFor};
 ghost use Rattle.mono_sync.specs.Runs.{Leads, leads_itself, leads_on};
-ghost use Rattle.mono_serve.specs.LeaseCalls.{has_ticket, still_waits, without, MovesTo, ShownTo, ShownAt, Calls, Claims, Sees, Looks, GivesUp, first_served, Serves, IsNext, Rests, Rouses, is_late, Step};
+ghost use Rattle.mono_serve.specs.LeaseCalls.{has_ticket, lists_task, still_waits, without, MovesTo, ShownTo, ShownAt, Calls, Claims, Sees, Looks, GivesUp, first_served, Serves, IsNext, Rests, Rouses, is_late, Step};
 
 use mono_session::{SessionError, Sessions};
 use mono_shared::SharedState;
@@ -68,6 +68,8 @@ pub enum Looked {
 /// Calls alone lead from some leases to others.
 impl SharedState for Leases {
     ghost leads = { Leads Step };
+
+    ghost lists = { lists_task };
 
     ghost leads_itself = { leads_itself Step };
 
