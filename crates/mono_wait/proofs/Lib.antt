@@ -2,3 +2,4 @@ pub mod RegistrationLemmas
 pub mod TurnLemmas
 pub mod ParkLemmas
 mod CallLemmas
+pub mod WatcherLemmas

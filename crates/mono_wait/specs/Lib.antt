@@ -29,3 +29,6 @@ pub mod Streams
 pub mod ForEaches
 pub mod Needings
 pub mod Outsides
+pub mod Peers
+pub mod ListedTasks
+pub mod Keepers

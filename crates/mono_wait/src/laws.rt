@@ -1,8 +1,8 @@
 //! The effects of a pending poll and of a pending turn on their task in the machine, as functions that do nothing.
-ghost use Rattle.std.specs.Prelude.{◌≡◌, ℕ, Bool, false, List, ◌++◌, Option};
+ghost use Rattle.std.specs.Prelude.{◌≡◌, ℕ, Bool, true, false, List, ◌++◌, Option, Some};
 ghost use Rattle.mono_model.specs.declared.poll.Poll.{Poll};
 ghost use Rattle.mono_machine.specs.Machine.{Machine, IsValid};
-ghost use Rattle.mono_machine.specs.Watches.{Source};
+ghost use Rattle.mono_machine.specs.Watches.{Source, of_outside, of_peers};
 ghost use Rattle.mono_machine.specs.declared.events.TurnStep.{TurnStep};
 ghost use Rattle.mono_machine.specs.declared.events.End.TheVariants as end;
 ghost use Rattle.mono_machine.specs.declared.events.Report.{Report};
@@ -14,7 +14,7 @@ ghost use Rattle.mono_wait.specs.JournalWaits.{Waiting};
 ghost use Rattle.mono_wait.specs.CallWaits.{WaitsInCall};
 
 use crate::machines::MachineContext;
-use crate::waits::Waits;
+use crate::waits::{RemoteWaitContext, SharedWaitContext, Waits};
 use mono_blocking::ThreadPool;
 use mono_inbox::Unpark;
 use mono_joinword::Outcome;
@@ -81,3 +81,14 @@ where
 {
     what_a_turn_registers_stands();
 }
+
+/// Shows that a context names a task as one that waits for threads only if it is the running one, and a waker of it was
+/// handed out in this turn.
+pub fn threads_wake_who_handed_out<U: Unpark, C: RemoteWaitContext<U>>()
+    ensures { (c : C) (u t : ℕ) → C.watcher c (of_outside u) ≡ Some t → (C.has_handed_out c ≡ true) × (u ≡ C.number c) × (t ≡ u) }
+{}
+
+/// Shows that a context names a task as one that waits for other tasks only if the shared value lists it.
+pub fn peers_wake_who_is_listed<W: SharedState, C: SharedWaitContext<W>>()
+    ensures { (c : C) (u t : ℕ) → C.watcher c (of_peers u) ≡ Some t → (W.lists (C.shared c) u ≡ true) × (t ≡ u) }
+{}

@@ -1,6 +1,7 @@
 //! The sources for which a future waits after a pending poll, and that its task is registered there.
 #![tactic(auto)]
 
+mod by_task;
 mod channels;
 mod countdown;
 mod delays;
@@ -12,6 +13,7 @@ mod leaves;
 mod machines;
 mod needing;
 mod outsides;
+mod peers;
 mod races;
 mod runtime;
 mod select_lists;
@@ -21,6 +23,7 @@ mod streams;
 mod ticks;
 mod waits;
 
+pub use by_task::ByTask;
 pub use countdown::Countdown;
 pub use leaves::Reaching;
 pub use machines::MachineContext;

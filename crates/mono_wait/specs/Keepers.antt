@@ -1,0 +1,126 @@
+-- The sources of the task that closes sessions in time.
+use Rattle.std.specs.Prelude.{◌≡◌, ◌⊎◌, ◌||◌, ℕ, ⊤, Bool, true, Option, Some, None, Result, Ok, Err}
+use Rattle.std.specs.List.{list_any}
+use Rattle.std.proofs.Common.{◌==◌, inl, inr, sym, ap, ◌∙◌, subst, refl, eq-eqb}
+use Rattle.std.specs.declared.alloc.AllocError.{AllocError}
+use Rattle.mono_model.specs.Table.{value_at}
+use Rattle.mono_model.specs.Tasks.{woken}
+use Rattle.mono_model.specs.declared.poll.Poll.{Poll}
+use Rattle.mono_model.specs.declared.poll.Poll.TheVariants.{Ready, Pending}
+use Rattle.mono_model.specs.declared.error.Error.{Error}
+use Rattle.mono_model.specs.declared.error.SleepError.{SleepError}
+use Rattle.mono_time.specs.Sleeps.{SleepTable}
+use Rattle.mono_time.specs.Futures.{SleepPolls}
+use Rattle.mono_time.specs.declared.sleeps.Sleep.{Sleep}
+use Rattle.mono_serve.specs.LeaseCalls.{Rests, lists_task, is_keeper}
+use Rattle.mono_serve.specs.Takes.{deadline_of}
+use Rattle.mono_serve.specs.Keepers.{AfterNap, NapsNot, AfterMade, MakesNap, RestsUntil, AfterRest, RestsIn, AfterShown, Keeps, KeeperPolls}
+use Rattle.mono_serve.specs.declared.leases.Leases.{Leases}
+use Rattle.mono_serve.specs.declared.keepers.KeeperError.{KeeperError}
+use Rattle.mono_serve.specs.declared.keepers.Phase.{Phase}
+use Rattle.mono_serve.specs.declared.keepers.Phase.TheVariants.{Waits, Sleeps, Over}
+use Rattle.mono_machine.specs.Watches.{Source, of_sleep, of_peers, is_stirred_in}
+use Rattle.mono_wait.specs.Sources.{waker_in, peers_watcher}
+use Rattle.mono_wait.specs.WakeEffects.{stirs}
+use Rattle.mono_wait.specs.Leaves.{SleepNeeds, sleeps_cover}
+use Rattle.mono_wait.specs.Peers.{PeersNeeds, peers_heard}
+use Rattle.mono_wait.specs.Frames.{Frame, HeardIn, CoversIn, heard_before, heard_after}
+
+-- The tasks that open sessions, and its sleep if it has one.
+abbrev pub KeeperNeeds : ℕ → Phase → Source → Type 0
+KeeperNeeds t Waits x = PeersNeeds t x
+KeeperNeeds t (Sleeps sleep) x = PeersNeeds t x ⊎ SleepNeeds sleep x
+KeeperNeeds t Over x = ⊥
+
+no_answer : {Z : Type 0} (z : Z) → Pending ≡ Ready z → ⊥
+no_answer z e = cc
+
+keeper_listed : (a : Leases) (task : ℕ) → a.keeper ≡ Some task → lists_task a task ≡ true
+keeper_listed a task is = ap (λ k. is_keeper k task || others a task) is ∙ ap (λ b. b || others a task) (eq-eqb task task refl)
+  where
+    others : Leases → ℕ → Bool
+    others a task = list_any (λ w. w.task == task) a.waiters.items
+
+module _ {C : Type 0} (w : Frame C) (part : C → Leases) (sleeps : C → SleepTable) (nanos : C → ℕ) (lists : C → ℕ → Bool)
+    (same_number : (a b : C) → w.reaches a b → w.number b ≡ w.number a)
+    (watches : (c : C) (s : ℕ) → w.watcher c (of_sleep s) ≡ waker_in (value_at (sleeps c).table s))
+    (watches_peers : (c : C) (u : ℕ) → w.watcher c (of_peers u) ≡ peers_watcher (lists c u) (w.work c) u)
+    (lists_part : (c : C) (t : ℕ) → lists_task (part c) t ≡ true → lists c t ≡ true)
+    -- the context and the task at the beginning of the poll, and the context at its end
+    (c : C) (t : ℕ) (is : t ≡ w.number c) (d : C) (whole : w.reaches c d) where
+  -- the task was the keeper at some moment
+  kept_heard : (m : C) → w.reaches c m → w.reaches m d → (part m).keeper ≡ Some (w.number c) → HeardIn w c d (of_peers t)
+  kept_heard m before since kept =
+      heard_before w c m d (of_peers t) (peers_heard w.number w.work w.reaches w.watcher w.itself same_number lists watches_peers c m t before is (lists_part m (w.number c) (keeper_listed (part m) (w.number c) kept))) since
+
+  -- the task woke itself
+  stirred_heard : (m : C) → w.reaches c m → w.work d ≡ woken (w.work m) (w.number m) → (x : Source) → HeardIn w c d x
+  stirred_heard m before wakes x = record {
+    moment = d;
+    before = whole;
+    hears = inr (subst (λ n. is_stirred_in (value_at (w.work d).table n) ≡ true) (same_number c m before ∙ sym (same_number c d whole)) (subst (λ v. is_stirred_in (value_at v.table (w.number m)) ≡ true) (sym wakes) (stirs (w.work m) (w.number m))));
+    since = w.itself d;
+  }
+
+  after_nap : (answer : Poll (Result ⊤ Error)) (sleep : Sleep) (r m e : C) (g : Phase) → w.reaches c r → (part r).keeper ≡ Some (w.number c) → w.reaches r m → SleepPolls w.number sleeps w.work w.reaches sleep m answer sleep e
+      → AfterNap part w.number sleeps w.work w.reaches answer sleep e Pending g d → CoversIn w c d (KeeperNeeds t g)
+  after_nap (Ready (Ok done)) sleep r m e g before kept more polled rest = record {
+    some = of_peers t;
+    armed = stirred_heard rest.2.middle (w.on c e rest.2.middle (w.on c m e (w.on c r m before more) polled.reached) rest.2.removed.reached) rest.2.woken (of_peers t);
+    each = λ x needed. stirred_heard rest.2.middle (w.on c e rest.2.middle (w.on c m e (w.on c r m before more) polled.reached) rest.2.removed.reached) rest.2.woken x;
+  }
+  after_nap (Ready (Err error)) sleep r m e g before kept more polled rest = absurd (no_answer _ rest.0)
+  after_nap Pending sleep r m e g before kept more polled rest = record {
+    some = of_peers t;
+    armed = by_peers;
+    each = λ x needed. by_need x (subst (λ h. KeeperNeeds t h x) rest.1 needed);
+  }
+    where
+      to_end : w.reaches m d
+      to_end = subst (w.reaches m) (sym rest.2) polled.reached
+
+      by_peers : HeardIn w c d (of_peers t)
+      by_peers = kept_heard r before (w.on r m d more to_end) kept
+
+      by_sleep : (x : Source) → SleepNeeds sleep x → HeardIn w c d x
+      by_sleep x needed = heard_after w c m d x (w.on c r m before more)
+          (subst (λ y. HeardIn w m y x) (sym rest.2) ((sleeps_cover w.number sleeps w.work w.reaches w.watcher w.itself same_number watches sleep m sleep e polled).each x needed))
+
+      by_need : (x : Source) → KeeperNeeds t (Sleeps sleep) x → HeardIn w c d x
+      by_need x (inl peers) = subst (HeardIn w c d) (sym peers) by_peers
+      by_need x (inr nap) = by_sleep x nap
+
+  after_made : (made : Result Sleep SleepError) (r m : C) (g : Phase) → w.reaches c r → (part r).keeper ≡ Some (w.number c) → w.reaches r m → AfterMade part w.number sleeps w.work w.reaches made m Pending g d → CoversIn w c d (KeeperNeeds t g)
+  after_made (Ok sleep) r m g before kept more q = after_nap q.answer sleep r m q.middle g before kept more q.polled q.rest
+  after_made (Err error) r m g before kept more q = absurd (no_answer _ q.0)
+
+  rests_until : (deadline : Option ℕ) (r : C) (g : Phase) → w.reaches c r → (part r).keeper ≡ Some (w.number c) → RestsUntil part w.number sleeps w.work w.reaches deadline r Pending g d → CoversIn w c d (KeeperNeeds t g)
+  rests_until None r g before kept q = absurd (no_answer _ q.0)
+  rests_until (Some deadline) r g before kept q = after_made q.made r q.middle g before kept q.reached q.rest
+
+  after_rest : (tick : Option ℕ) (r : C) (g : Phase) → w.reaches c r → (part r).keeper ≡ Some (w.number c) → AfterRest part w.number sleeps w.work w.reaches tick r Pending g d → CoversIn w c d (KeeperNeeds t g)
+  after_rest None r g before kept q = record {
+    some = of_peers t;
+    armed = by_peers;
+    each = λ x needed. subst (HeardIn w c d) (sym (subst (λ h. KeeperNeeds t h x) q.1 needed)) by_peers;
+  }
+    where
+      by_peers : HeardIn w c d (of_peers t)
+      by_peers = kept_heard r before (subst (w.reaches r) (sym q.2) (w.itself r)) kept
+  after_rest (Some tick) r g before kept q = rests_until (deadline_of tick) r g before kept q
+
+  rests_in : (a : C) (g : Phase) → w.reaches c a → RestsIn part w.number sleeps w.work w.reaches a Pending g d → CoversIn w c d (KeeperNeeds t g)
+  rests_in a g before q = after_rest q.tick q.middle g (w.on c a q.middle before q.reached) (q.rests.1 ∙ ap Some (same_number c a before)) q.rest
+
+  after_shown : (answer : Result ⊤ AllocError) (a : C) (g : Phase) → w.reaches c a → AfterShown part w.number nanos sleeps w.work w.reaches answer a Pending g d → CoversIn w c d (KeeperNeeds t g)
+  after_shown (Err lack) a g before q = absurd (no_answer _ q.0)
+  after_shown (Ok done) a g before q = rests_in q.0 g (w.on c a q.0 before q.2) q.3
+
+  keeps : (a : C) (g : Phase) → w.reaches c a → Keeps part w.number nanos sleeps w.work w.reaches a Pending g d → CoversIn w c d (KeeperNeeds t g)
+  keeps a g before q = after_shown q.answer q.middle g (w.on c a q.middle before q.reached) q.rest
+
+  -- once pending, the task is the keeper, or was woken
+  pub keepers_cover : (f g : Phase) → KeeperPolls part w.number nanos sleeps w.work w.reaches f c Pending g d → CoversIn w c d (KeeperNeeds t g)
+  keepers_cover Waits g q = keeps c g (w.itself c) q
+  keepers_cover (Sleeps sleep) g q = keeps q.0 g q.1.reached q.2
+  keepers_cover Over g q = absurd q
