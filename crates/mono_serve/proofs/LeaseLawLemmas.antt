@@ -298,7 +298,7 @@ one_holder e es u m v k s key stands tells step off run =
 
 -- ---- no wake is lost
 -- No element passes if the first place that passes is past the end.
-none_passes : {X : Type 0} (p : X → Bool) (xs : List X) → length xs ≤ position_or_len p xs → (i : ℕ) (d : X) → i < length xs → p (get_or xs i d) ≡ false
+pub none_passes : {X : Type 0} (p : X → Bool) (xs : List X) → length xs ≤ position_or_len p xs → (i : ℕ) (d : X) → i < length xs → p (get_or xs i d) ≡ false
 none_passes p [] past i d inside = absurd (omega (arith, inside))
 none_passes {X} p (x ∷ xs) past i d inside = by (p x) refl (none_passes p xs) i inside
   where

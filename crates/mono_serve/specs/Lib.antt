@@ -5,3 +5,6 @@ pub mod LeaseCalls
 pub mod Locks
 pub mod Keepers
 pub mod LeaseLaws
+pub mod MailCalls
+pub mod Mail
+pub mod MailLaws

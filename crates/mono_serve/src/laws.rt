@@ -1,5 +1,6 @@
-//! Laws that hold over any calls of buckets and of leases.
+//! Laws that hold over any calls of buckets, of leases and of mailboxes.
 ghost use Rattle.mono_serve.specs.LeaseLaws.{ClosesOnTime, OneHolder, NoWakeIsLost, KeeperIsInTime};
+ghost use Rattle.mono_serve.specs.MailLaws.{ReceivedInOrder, WaitsInLine, NoMessageIsMissed};
 ghost use Rattle.mono_serve.specs.Laws.{RateIsKept, FirstComeFirstServed};
 
 /// Shows that over any calls of any tasks a bucket gives at most the tokens that it had before, and one for each period
@@ -32,4 +33,20 @@ pub fn no_wake_is_lost()
 /// Shows that a keeper that is not woken sleeps at most until the next session is to be closed.
 pub fn keeper_is_in_time()
     ensures { KeeperIsInTime }
+{}
+
+/// Shows that over any calls of any tasks each message to an actor is received at most once, in the order in which they
+/// were sent.
+pub fn received_in_order<M>()
+    ensures { ReceivedInOrder M }
+{}
+
+/// Shows that a future that waits for a message is in the line.
+pub fn waits_in_line<M>()
+    ensures { WaitsInLine M }
+{}
+
+/// Shows that after the wakes of a call no message waits for the actor of a task in the line.
+pub fn no_message_is_missed<M>()
+    ensures { NoMessageIsMissed M }
 {}

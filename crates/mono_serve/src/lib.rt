@@ -1,4 +1,5 @@
-//! Services that the tasks of one runtime await: tokens of buckets, and keys of sessions, that they share.
+//! Services that the tasks of one runtime await: tokens of buckets, keys of sessions, and messages to actors, that they
+//! share.
 #![tactic(auto)]
 
 mod buckets;
@@ -7,6 +8,9 @@ pub mod laws;
 mod lease_parts;
 mod leases;
 pub mod locks;
+pub mod mail;
+mod mailboxes;
+mod receives;
 mod served;
 mod takes;
 mod wakes;
@@ -15,4 +19,6 @@ pub use buckets::{Asked, Buckets, Waiter};
 pub use keepers::{Keeper, KeeperError};
 pub use leases::{Claimed, Leases, LockWaiter, Looked};
 pub use locks::{Acquire, AcquireError};
+pub use mailboxes::{Mailboxes, Received, Receiver};
+pub use receives::{Receive, receive_for};
 pub use takes::{Take, TakeError};

@@ -1,0 +1,8 @@
+use Rattle.std.proofs.Common.{sym, subst}
+use Rattle.mono_serve.specs.MailCalls.{Receives}
+use Rattle.mono_serve.proofs.receives.ask.Goals as goal
+
+pub returns-clause-answer : goal.returns-clause-answer
+returns-clause-answer g c =
+    subst (λ w. Receives (g.W.Holds.part (g.C.SharedContext.shared c.args.cx.now)) c.args.ticket c.args.actor (g.C.Context.number c.args.cx.now) c.receive_part.result (g.W.Holds.part w)) (sym (g.met.C.SharedContext.shared_with c.args.cx.now c.receive_part.new.whole))
+    (rw c.shared_mut.ensures.value at c.receive_part.ensures.answer)
