@@ -3,11 +3,16 @@ ghost use Rattle.std.specs.Prelude.{⊤, false};
 ghost use Rattle.mono_sync.specs.Runs.{Leads};
 ghost use Rattle.mono_serve.specs.BucketCalls as buckets;
 ghost use Rattle.mono_serve.specs.LeaseCalls as leases;
+ghost use Rattle.mono_serve.specs.MailCalls as mail;
 
 use crate::desks::{Answer, Desk, Note};
+use mono_actor::{ActorError, SendRefused, Sent};
 use mono_rt::{Host, Poll, SharedContext, SleepFor, TaskFuture, TimeContext, sleep_for};
-use mono_serve::{Acquire, AcquireError, Keeper, Take, TakeError, locks};
+use mono_serve::{
+    Acquire, AcquireError, Keeper, Receive, Take, TakeError, locks, mail, receive_for,
+};
 use mono_session::SessionError;
+use mono_time::{LateError, TimeoutFor};
 use std::alloc::Global;
 use std::mem;
 use std::time::Duration;
@@ -29,6 +34,12 @@ pub enum Deed {
     Take(u64, u64, u64),
     /// Sleeps for so many milliseconds.
     Nap(u64),
+    /// Sends a message, by its sender and its receiver.
+    Send(u64, u64, u64),
+    /// Sends a message, and removes its receiver in the same turn.
+    SendAndStop(u64, u64, u64),
+    /// Receives a message to an actor, and gives up after so many milliseconds.
+    Receive(u64, u64),
 }
 
 /// The future for which a task waits.
@@ -42,6 +53,8 @@ pub enum Doing {
     Acquires(Acquire<Desk>, SleepFor),
     /// Tokens, until the sleep ends.
     Takes(Take<Desk>, SleepFor),
+    /// A message.
+    Receives(TimeoutFor<Receive<Desk, u64>>),
     /// The keeper.
     Keeps(Keeper<Desk>),
 }
@@ -105,6 +118,19 @@ impl Party {
                 let patience = sleep_for(Duration::from_millis(patience_ms));
                 self.doing = Doing::Takes(Take::new(bucket, n), patience);
                 again(cx);
+            }
+            Deed::Receive(actor, patience_ms) => {
+                self.doing = Doing::Receives(receive_for(actor, patience_ms));
+                again(cx);
+            }
+            Deed::Send(from, to, message) => {
+                let answer = mail::send::<u64, Desk, C>(cx, from, to, message);
+                answered(cx, self.name, posted(answer));
+            }
+            Deed::SendAndStop(from, to, message) => {
+                let answer = mail::send::<u64, Desk, C>(cx, from, to, message);
+                let _ = mail::stop::<u64, Desk, C>(cx, to);
+                answered(cx, self.name, posted(answer));
             }
             Deed::Open(limit_ms) => {
                 let answer = locks::open::<Desk, C>(alloc, cx, limit_ms);
@@ -257,6 +283,32 @@ impl Party {
         }
     }
 
+    // Waits for the message.
+    fn hear<R: Host, C: TimeContext + SharedContext<Desk>>(
+        &mut self,
+        rt: &R,
+        alloc: Global,
+        cx: &mut C,
+        receive: TimeoutFor<Receive<Desk, u64>>,
+    ) -> Poll<u64>
+        ensures { C.reaches cx.old cx.new }
+    {
+        let mut receive = receive;
+        if TaskFuture::<C>::spent(&receive) {
+            return Poll::Ready(0);
+        }
+        match receive.poll(rt, alloc, cx) {
+            Poll::Pending => {
+                self.doing = Doing::Receives(receive);
+                Poll::Pending
+            }
+            Poll::Ready(answer) => {
+                answered(cx, self.name, heard(answer));
+                Poll::Pending
+            }
+        }
+    }
+
     // Keeps the leases.
     fn keep<R: Host, C: TimeContext + SharedContext<Desk>>(
         &mut self,
@@ -305,6 +357,23 @@ fn done(answer: Result<(), SessionError>) -> Answer {
     }
 }
 
+// Returns the answer of a sent message.
+fn posted(answer: Result<Sent, SendRefused<u64>>) -> Answer {
+    match answer {
+        Ok(_) => Answer::Sent,
+        Err(refused) => Answer::NotSent(refused.cause),
+    }
+}
+
+// Returns the answer of a wait for a message.
+fn heard(answer: Result<Result<(u64, u64), ActorError>, LateError>) -> Answer {
+    match answer {
+        Ok(Ok((from, message))) => Answer::Got(from, message),
+        Ok(Err(error)) => Answer::NotSent(error),
+        Err(_) => Answer::Silence,
+    }
+}
+
 // Returns the answer of a wait for a key.
 fn acquired(answer: Result<(), AcquireError>) -> Answer {
     match answer {
@@ -347,7 +416,7 @@ fn note<C: SharedContext<Desk>>(cx: &mut C, name: u64, answer: Answer)
 
 // Appends a note, if there is memory for it.
 fn push_note(desk: &mut Desk, note: Note)
-    ensures { Leads leases.Step desk.old.leases desk.new.leases × Leads buckets.Step desk.old.buckets desk.new.buckets }
+    ensures { Leads leases.Step desk.old.leases desk.new.leases × Leads buckets.Step desk.old.buckets desk.new.buckets × Leads mail.Step desk.old.mail desk.new.mail }
 {
     let _ = desk.notes.push(note);
 }
@@ -371,6 +440,7 @@ impl<C: TimeContext + SharedContext<Desk>> TaskFuture<C> for Party {
             Doing::Naps(nap) => self.nap(rt, alloc, cx, nap),
             Doing::Acquires(acquire, patience) => self.wait(rt, alloc, cx, acquire, patience),
             Doing::Takes(take, patience) => self.wait_for_tokens(rt, alloc, cx, take, patience),
+            Doing::Receives(receive) => self.hear(rt, alloc, cx, receive),
             Doing::Keeps(keeper) => self.keep(rt, alloc, cx, keeper),
         }
     }
@@ -387,6 +457,7 @@ impl<C: TimeContext + SharedContext<Desk>> TaskFuture<C> for Party {
                 take.cancel(cx);
                 patience.cancel(cx);
             }
+            Doing::Receives(receive) => receive.cancel(cx),
             Doing::Keeps(keeper) => keeper.cancel(cx),
         }
     }

@@ -1,12 +1,17 @@
 // Runs of several tasks, and the answers that each got.
 ghost use Rattle.std.specs.Prelude.{◌≡◌, None};
 
-use crate::desks::Answer::{Done, GaveUp, Held, Lost, Never, Opened, Refused, Took};
+use crate::desks::Answer::{
+    Done, GaveUp, Got, Held, Lost, Never, NotSent, Opened, Refused, Sent, Silence, Took,
+};
 use crate::desks::{Answer, Desk, Note};
-use crate::parties::Deed::{Acquire, Beat, Close, Nap, Open, Release, Take};
+use crate::parties::Deed::{
+    Acquire, Beat, Close, Nap, Open, Receive, Release, Send, SendAndStop, Take,
+};
 use crate::parties::{Deed, Party};
+use mono_actor::ActorError;
 use mono_rt::{Host, NoPool, Runtime, RuntimeBuilder, StepDriver, TimeDriver};
-use mono_serve::{Buckets, Leases};
+use mono_serve::{Buckets, Leases, Mailboxes, Received};
 use mono_session::SessionError;
 use std::alloc::Global;
 use std::process::Abort;
@@ -22,9 +27,14 @@ fn a_runtime<R: Abort>(rt: &R, alloc: Global) -> Running
     let mut buckets = Buckets::new(alloc, 2).expect(rt, "memory");
     buckets.add(alloc, 3, 100).expect(rt, "slow");
     buckets.add(alloc, 1, 10).expect(rt, "fast");
+    let mut mail: Mailboxes<u64> = Mailboxes::new(alloc, 3, 8).expect(rt, "memory");
+    for _ in 0..3u64 {
+        mail.spawn(alloc).expect(rt, "actor");
+    }
     let desk = Desk {
         leases: Leases::new(alloc, 8, 8).expect(rt, "memory"),
         buckets,
+        mail,
         notes: Vec::new(alloc),
     };
     let made: Running = builder.build_sharing(alloc, desk).expect(rt, "memory");
@@ -187,5 +197,140 @@ fn takes_wait_in_their_order_until_the_bucket_has_the_tokens(rt: HostRuntime) {
             (300, 4, Took),
             (300, 2, Never),
         ],
+    );
+}
+
+#[test]
+fn message_that_is_there_is_received_at_once(rt: HostRuntime) {
+    let first = &[
+        Send(0, 1, 5),
+        Send(2, 1, 6),
+        Receive(1, 9000),
+        Receive(1, 9000),
+        Receive(1, 30),
+    ];
+    assert_notes(
+        &rt,
+        rt.alloc(),
+        &[first],
+        &[
+            (0, 1, Sent),
+            (0, 1, Sent),
+            (0, 1, Got(0, 5)),
+            (0, 1, Got(2, 6)),
+            (30, 1, Silence),
+        ],
+    );
+}
+
+#[test]
+fn receivers_are_woken_by_messages_to_their_own_actors(rt: HostRuntime) {
+    let first = &[Receive(0, 9000), Receive(0, 15)];
+    let second = &[Receive(1, 9000)];
+    let third = &[Nap(10), Send(0, 1, 5), Nap(10), Send(1, 0, 6)];
+    assert_notes(
+        &rt,
+        rt.alloc(),
+        &[first, second, third],
+        &[
+            (10, 3, Sent),
+            (10, 2, Got(0, 5)),
+            (20, 3, Sent),
+            (20, 1, Got(1, 6)),
+            (35, 1, Silence),
+        ],
+    );
+}
+
+#[test]
+fn messages_go_one_to_each_receiver_in_the_order_sent(rt: HostRuntime) {
+    let first = &[Receive(1, 9000), Receive(1, 9000)];
+    let second = &[Receive(1, 9000)];
+    let third = &[Nap(10), Send(0, 1, 1), Send(0, 1, 2), Send(0, 1, 3)];
+    assert_notes(
+        &rt,
+        rt.alloc(),
+        &[first, second, third],
+        &[
+            (10, 3, Sent),
+            (10, 1, Got(0, 1)),
+            (10, 3, Sent),
+            (10, 2, Got(0, 2)),
+            (10, 3, Sent),
+            (10, 1, Got(0, 3)),
+        ],
+    );
+}
+
+#[test]
+fn receiver_that_gave_up_is_out_of_the_line(rt: HostRuntime) {
+    let first = &[Receive(1, 30)];
+    let second = &[Receive(1, 9000)];
+    let third = &[
+        Nap(60),
+        Send(0, 1, 3),
+        Nap(10),
+        Send(0, 2, 4),
+        Receive(2, 1),
+    ];
+    assert_notes(
+        &rt,
+        rt.alloc(),
+        &[first, second, third],
+        &[
+            (30, 1, Silence),
+            (60, 3, Sent),
+            (60, 2, Got(0, 3)),
+            (70, 3, Sent),
+            (70, 3, Got(0, 4)),
+        ],
+    );
+}
+
+#[test]
+fn receiver_learns_that_its_actor_was_removed(rt: HostRuntime) {
+    let first = &[Receive(1, 9000), Receive(1, 9000), Send(0, 1, 5)];
+    let second = &[Nap(10), SendAndStop(0, 1, 7)];
+    assert_notes(
+        &rt,
+        rt.alloc(),
+        &[first, second],
+        &[
+            (10, 2, Sent),
+            (10, 1, NotSent(ActorError::NoActor)),
+            (10, 1, NotSent(ActorError::NoActor)),
+            (10, 1, NotSent(ActorError::NoActor)),
+        ],
+    );
+}
+
+#[test]
+fn refused_receiver_waits_once_there_is_memory(rt: HostRuntime) {
+    let made: Result<Mailboxes<u64>, _> = Mailboxes::new(rt.alloc(), 1, 1);
+    let Ok(mut mail) = made else {
+        return;
+    };
+    if mail.spawn(rt.alloc()).is_err() {
+        assert_eq!(rt; mail.spawn(rt.alloc()), Ok(0));
+    }
+    if matches!(
+        mail.receive(None, 0, 1),
+        Received::Refused(ActorError::Memory)
+    ) {
+        assert!(rt; matches!(mail.receive(None, 0, 1), Received::Waits(0)));
+    }
+    assert!(rt; matches!(mail.receive(Some(0), 0, 1), Received::Waits(0)));
+    assert_eq!(rt; mail.serve(), None);
+    if mail.send(0, 0, 7).is_err() {
+        assert!(rt; mail.send(0, 0, 7).is_ok());
+    }
+    assert_eq!(rt; mail.serve(), Some(1));
+    assert_eq!(rt; mail.serve(), None);
+    assert!(rt; matches!(mail.receive(Some(0), 0, 1), Received::Got(0, 7)));
+    assert!(rt;
+        matches!(
+            mail.receive(None, 1, 1),
+            Received::Refused(ActorError::NoActor)
+        )
     );
 }
