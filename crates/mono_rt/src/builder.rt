@@ -243,28 +243,22 @@ impl<D: Driver, P: ThreadPool + Drop> RuntimeBuilder<D, P> {
             limits,
             keeps_journal,
         } = self;
-        match driver.unpark() {
-            Err(error) => Err(error),
-            Ok(unpark) => match Wakers::new(alloc, entries as usize, unpark) {
-                Err(error) => Err(error),
-                Ok(wakers) => match Parts::starting(alloc, limits, pool, has_timers, start) {
-                    Err(error) => Err(error),
-                    Ok(parts) => Ok(Runtime {
-                        cx: Cx {
-                            parts,
-                            futures: Slots::new(alloc),
-                            wakers,
-                            waker: None,
-                            has_handed_out: false,
-                            shared,
-                        },
-                        driver,
-                        journal: new_journal(alloc, !keeps_journal),
-                        due: Due::new(alloc),
-                    }),
-                },
+        let unpark = driver.unpark()?;
+        let wakers = Wakers::new(alloc, entries as usize, unpark)?;
+        let parts = Parts::starting(alloc, limits, pool, has_timers, start)?;
+        Ok(Runtime {
+            cx: Cx {
+                parts,
+                futures: Slots::new(alloc),
+                wakers,
+                waker: None,
+                has_handed_out: false,
+                shared,
             },
-        }
+            driver,
+            journal: new_journal(alloc, !keeps_journal),
+            due: Due::new(alloc),
+        })
     }
 }
 

@@ -1,19 +1,19 @@
 use Rattle.mono_rt.proofs.builder.RuntimeBuilder.make.Goals as goal
 
-pub returns-in-Ok-starting-clause-stands : goal.returns-in-Ok-starting-clause-stands
-returns-in-Ok-starting-clause-stands g c = c.in-Ok-starting.ensures.stands
+pub returns-clause-stands : goal.returns-clause-stands
+returns-clause-stands g c = c.in_ok-parts.ensures.stands
 
-pub returns-in-Ok-starting-clause-pool : goal.returns-in-Ok-starting-clause-pool
-returns-in-Ok-starting-clause-pool g c = c.in-Ok-starting.ensures.pool
+pub returns-clause-pool : goal.returns-clause-pool
+returns-clause-pool g c = c.in_ok-parts.ensures.pool
 
-pub returns-in-Ok-starting-clause-timers : goal.returns-in-Ok-starting-clause-timers
-returns-in-Ok-starting-clause-timers g c = c.in-Ok-starting.ensures.timers
+pub returns-clause-timers : goal.returns-clause-timers
+returns-clause-timers g c = c.in_ok-parts.ensures.timers
 
-pub returns-in-Ok-starting-clause-rests : goal.returns-in-Ok-starting-clause-rests
-returns-in-Ok-starting-clause-rests g c = c.in-Ok-starting.ensures.rests
+pub returns-clause-rests : goal.returns-clause-rests
+returns-clause-rests g c = c.in_ok-parts.ensures.rests
 
-pub returns-in-Ok-starting-clause-me : goal.returns-in-Ok-starting-clause-me
-returns-in-Ok-starting-clause-me g c = c.in-Ok-starting.ensures.me
+pub returns-clause-me : goal.returns-clause-me
+returns-clause-me g c = c.in_ok-parts.ensures.me
 
-pub returns-in-Ok-starting-clause-registered : goal.returns-in-Ok-starting-clause-registered
-returns-in-Ok-starting-clause-registered g c = c.in-Ok-starting.ensures.registered
+pub returns-clause-registered : goal.returns-clause-registered
+returns-clause-registered g c = c.in_ok-parts.ensures.registered
