@@ -1,5 +1,6 @@
 -- A number that was read is the text of its value, and the text of a number reads back.
-use Rattle.std.proofs.Common.{◌≡◌, ℕ, ◌+◌, ◌-◌, ◌*◌, ◌/◌, ◌%◌, ◌^◌, ◌<◌, ◌≤◌, ◌++◌, List, [], ◌∷◌, length, drop, slice_index, Some, None, Option, if◌then◌else◌, nat_lt, Bool, true, false, refl, sym, ◌∙◌, arith, inl, inr, append_assoc, length-append}
+use Rattle.std.proofs.Common.{◌≡◌, ℕ, ◌+◌, ◌-◌, ◌*◌, ◌/◌, ◌%◌, ◌^◌, ◌<◌, ◌≤◌, ◌++◌, List, [], ◌∷◌, length, drop, slice_index, Some, None, Option, if◌then◌else◌, nat_lt, Bool, true, false, refl, sym, ◌∙◌, arith, inl, inr, append_assoc, length-append, suc, min, subst, lit≤, lit<}
+use Rattle.std.proofs.Math.Nat.{pow-suc, pow-le-pow_right, min-le_left, min-le_right, min-eq_left}
 use Rattle.std.proofs.lemmas.Bool.{cases_Bool, cases_lt, le-ltb, lt-ltb}
 use Rattle.std.proofs.lemmas.List.{drop_more, drop_all}
 use Rattle.std.proofs.lemmas.Fmt.{decimal_by_steps_wide, decimal_digit, decimal_is_IsNumeral_wide, decimal_step_wide}
@@ -55,6 +56,29 @@ more_digit value xs i some first d = elim (cases_lt 0 i) [
       let other : slice_index xs i ≡ 48 → ⊥ = rw z first in
       omega arith
 ]
+
+-- fewer than 18 digits take one more, and stay below 2^64
+pub one_more : (value i b : ℕ) → value < 10 ^ i → i < 18 → 48 ≤ b → b ≤ 57 → (value * 10 + (b - 48) < 10 ^ (i + 1)) × (value * 10 + (b - 48) < 2 ^ 64)
+one_more value i b small short low high =
+    let few : i + 1 ≤ 18 = omega arith in
+    let e : suc i ≡ i + 1 = omega arith in
+    let next : 10 ^ (i + 1) ≡ 10 ^ i * 10 = subst (λ k. 10 ^ k ≡ 10 ^ i * 10) e (pow-suc 10 i) in
+    let most : 10 ^ (i + 1) ≤ 10 ^ 18 = pow-le-pow_right (lit≤ tt) few in
+    let sum : value * 10 + (b - 48) < 10 ^ (i + 1) = rw next (omega arith) in
+    let top : 10 ^ 18 < 2 ^ 64 = lit< tt in
+    (sum, omega arith)
+
+-- a place below the lesser of two numbers
+pub below_both : (i a b end : ℕ) → end ≡ min a b → i < end → (i < a) × (i < b)
+below_both i a b end e l =
+    let left = min-le_left a b in
+    let right = min-le_right a b in
+    let k : i < min a b = rw e at l in
+    (omega arith, omega arith)
+
+-- a place that reached the lesser of two numbers, of which the first is not the greater one
+pub at_first : (i a b end : ℕ) → end ≡ min a b → i ≡ end → a ≤ b → i ≡ a
+at_first i a b end e at le = at ∙ e ∙ min-eq_left le
 
 pub digits-all : (top value n : ℕ) (xs : List ℕ) (i : ℕ) → i ≡ length xs → digits_from top value n (drop i xs) ≡ digits_end value n []
 unfolding digits_from

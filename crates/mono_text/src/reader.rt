@@ -15,8 +15,8 @@ pub struct Reader<'a> {
     rest: &'a [u8],
 }
 
-// From this value on one more digit might be too many.
-const LONG: u64 = 1_000_000_000_000_000_000;
+// A number of this many digits is below 2^64.
+const SHORT: usize = 18;
 
 // A step or the end of a turn, as the reader finds it.
 #[derive(Clone, Copy)]
@@ -175,15 +175,15 @@ impl<'a> Reader<'a> {
             return self.long_number(text);
         }
         let mut value = 0u64;
-        'digits: for i in 0..text.len() {
+        'digits: for i in 0..text.len().min(SHORT) {
             let digit = text[i];
             if !digit.is_ascii_digit() {
                 return self.end(text, i, value);
             }
-            if value >= LONG {
-                return self.long_number(text);
-            }
             value = value * 10 + u64::from(digit - b'0');
+        }
+        if text.len() > SHORT {
+            return self.long_number(text);
         }
         self.end(text, text.len(), value)
     }
@@ -197,15 +197,15 @@ impl<'a> Reader<'a> {
             return self.long_nanos(text);
         }
         let mut value = 0u64;
-        'digits: for i in 0..text.len() {
+        'digits: for i in 0..text.len().min(SHORT) {
             let digit = text[i];
             if !digit.is_ascii_digit() {
                 return self.end(text, i, u128::from(value));
             }
-            if value >= LONG {
-                return self.long_nanos(text);
-            }
             value = value * 10 + u64::from(digit - b'0');
+        }
+        if text.len() > SHORT {
+            return self.long_nanos(text);
         }
         self.end(text, text.len(), u128::from(value))
     }

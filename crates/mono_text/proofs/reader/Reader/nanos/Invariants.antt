@@ -2,6 +2,6 @@ use Rattle.std.proofs.Common.{◌≡◌, ◌^◌, ◌<◌, drop}
 use Rattle.mono_text.specs.Parser.{digits_from}
 use Rattle.mono_text.proofs.reader.Reader.nanos.Given as goal
 
--- no digit is lost, and only the first of all could be a zero that leads
+-- no digit is lost, only the first of all could be a zero that leads, and the value has no more digits than were read
 abbrev pub invariant-digits : goal.invariant-digits
-invariant-digits l = (digits_from (2 ^ 128) 0 0 l.text ≡ digits_from (2 ^ 128) l.value l.i (drop l.i l.text)) × (0 < l.i → 0 < l.value)
+invariant-digits l = (digits_from (2 ^ 128) 0 0 l.text ≡ digits_from (2 ^ 128) l.value l.i (drop l.i l.text)) × (0 < l.i → 0 < l.value) × (l.value < 10 ^ l.i)
