@@ -1,6 +1,6 @@
 -- The task in the place of a future, by its place in the line.
-use Rattle.std.proofs.Common.{◌≡◌, ◌==◌, ◌+◌, ℕ, Bool, true, false, not, cond, List, [], ◌∷◌, length, Option, Some, None, refl, sym, ap, ◌∙◌, subst, suc, nat_lt, slice_set, arith}
-use Rattle.std.proofs.lemmas.Bool.{lt-ltb}
+use Rattle.std.proofs.Common.{◌≡◌, ◌==◌, ◌+◌, ℕ, Bool, true, false, not, cond, List, [], ◌∷◌, length, Option, Some, None, refl, sym, ap, ◌∙◌, suc, nat_lt, slice_set, inl, inr, arith}
+use Rattle.std.proofs.lemmas.Bool.{cases_lt, lt-ltb, le-ltb}
 use Rattle.std.specs.List.{position_or_len}
 use Rattle.mono_sync.specs.declared.lines.Waiter.{Waiter}
 use Rattle.mono_sync.specs.Lines.{place_of, renewed}
@@ -16,6 +16,12 @@ module _ (t task : ℕ) where
   set_past true w ws us = refl
   set_past false w ws us = refl
 
+  lt_later : (n m : ℕ) → nat_lt (suc n) (suc m) ≡ nat_lt n m
+  lt_later n m = elim (cases_lt n m) [
+    | inl less ↦ lt-ltb (suc n) (suc m) (omega (arith, less)) ∙ sym (lt-ltb n m less)
+    | inr past ↦ le-ltb (suc n) (suc m) (omega (arith, past)) ∙ sym (le-ltb n m past)
+  ]
+
   later : (n : ℕ) → suc n ≡ 1 + n
   later n = omega arith
 
@@ -23,8 +29,8 @@ module _ (t task : ℕ) where
       → cond b (x ∷ ws) (w ∷ rest) ≡ cond (nat_lt (cond (not b) (1 + n) 0) (length (w ∷ ws))) (slice_set (w ∷ ws) (cond (not b) (1 + n) 0) x) (w ∷ ws)
   step true n w ws rest is = ap (λ b. cond b (x ∷ ws) (w ∷ ws)) (sym (lt-ltb 0 (length (w ∷ ws)) (omega arith)))
   step false n w ws rest is =
-      ap (λ us. w ∷ us) is
-      ∙ subst (λ m. (w ∷ cond (nat_lt n (length ws)) (slice_set ws n x) ws) ≡ cond (nat_lt m (length (w ∷ ws))) (slice_set (w ∷ ws) m x) (w ∷ ws)) (later n) (set_past (nat_lt n (length ws)) w ws (slice_set ws n x))
+      ap (λ us. w ∷ us) is ∙ set_past (nat_lt n (length ws)) w ws (slice_set ws n x) ∙ ap (λ b. cond b (w ∷ slice_set ws n x) (w ∷ ws)) (sym (lt_later n (length ws)))
+      ∙ ap (λ m. cond (nat_lt m (length (w ∷ ws))) (slice_set (w ∷ ws) m x) (w ∷ ws)) (later n)
 
   by_place : (ws : List Waiter) → renewed ws t task ≡ cond (nat_lt (place ws) (length ws)) (slice_set ws (place ws) x) ws
   by_place [] = refl
