@@ -10,5 +10,6 @@ pub mod ValidityLemmas
 pub mod SameDueLemmas
 pub mod SameAnswerLemmas
 pub mod RetryStepLemmas
+pub mod RetryGivesLemmas
 pub mod SpentRetryLemmas
 pub mod ExampleLemmas

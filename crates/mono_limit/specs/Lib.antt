@@ -13,4 +13,5 @@ pub mod Laws
 pub mod Examples
 pub mod Stages
 pub mod RetryPolls
+pub mod RetryGives
 pub mod RetrySleeps

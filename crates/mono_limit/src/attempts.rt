@@ -3,6 +3,7 @@ ghost use Rattle.std.specs.Prelude.{◌≡◌, ◌<◌, ◌≤◌, ◌+◌, ◌^
 ghost use Rattle.mono_time.specs.Futures.{SleepMade};
 ghost use Rattle.mono_limit.specs.RetrySleeps.{sleep_in};
 ghost use Rattle.mono_limit.specs.Stages.{is_over};
+ghost use Rattle.mono_limit.specs.RetryGives.{RetryGives};
 ghost use Rattle.mono_limit.specs.RetryPolls.{MakesLive, MayGoOn, RetryPolls, RetryCancels, AttemptCancels, new_retry_of};
 ghost use Rattle.mono_model.specs.declared.error.SleepError.TheVariants.{Memory};
 
@@ -131,6 +132,8 @@ where
     ghost can_poll = { MayGoOn G.FnMut F.TaskFuture };
 
     ghost polls = { RetryPolls G.FnMut F.TaskFuture C.number C.nanos C.sleeps C.work C.reaches };
+
+    ghost gives = { RetryGives F.gives G.FnMut };
 
     ghost cancels = { RetryCancels F.TaskFuture C.sleeps C.work C.reaches };
 

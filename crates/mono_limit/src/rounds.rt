@@ -2,6 +2,9 @@
 ghost use Rattle.std.specs.Prelude.{◌≡◌, ◌<◌, ◌+◌, ◌^◌, false};
 ghost use Rattle.mono_limit.specs.Stages.{is_over};
 ghost use Rattle.mono_limit.specs.RetryPolls.{IsLive, IsLiveStage, MayGoOn, Makes, Tries, Rests, Ends, FailsWith, GoesToRest, StepOf, Leaves, due_after, IsDeadline};
+ghost use Rattle.mono_limit.specs.RetryPolls.{at_stage};
+ghost use Rattle.mono_limit.specs.RetryGives.{RetryGives, Narrows};
+ghost use Rattle.mono_limit.specs.declared.attempts.Stage.TheVariants as stage;
 ghost use Rattle.mono_time.specs.Instants.{nanos_of};
 
 use crate::RetryError;
@@ -89,11 +92,13 @@ impl<G, F: Drop> Retry<G, F> {
         X: Drop,
         E: Drop,
         F: TaskFuture<C, Output = Result<X, E>>,
+        G: FnMut(u64) -> F,
         requires live { IsLive F.TaskFuture attempt }
         requires has_base { 0 < self.old.base }
         requires in_range { self.old.tried < 2 ^ 32 }
         ensures tries { Tries F.TaskFuture C.nanos C.sleeps C.work C.reaches attempt self.old cx.old result self.new cx.new }
         ensures live { IsLiveStage F.TaskFuture self.new.stage }
+        ensures gives { Narrows result (RetryGives F.gives G.FnMut (at_stage self.old (stage.Trying attempt))) (RetryGives F.gives G.FnMut self.new) }
         ensures reached { C.reaches cx.old cx.new }
     {
         match attempt.poll(rt, alloc, cx) {
@@ -168,6 +173,7 @@ impl<G, F: Drop> Retry<G, F> {
         ensures step { StepOf G.FnMut F.TaskFuture C.number C.nanos C.sleeps C.work C.reaches self.old.stage self.old cx.old result self.new cx.new }
         ensures may { MayGoOn G.FnMut F.TaskFuture self.new }
         ensures leaves { Leaves result self.old self.new }
+        ensures gives { Narrows result (RetryGives F.gives G.FnMut self.old) (RetryGives F.gives G.FnMut self.new) }
         ensures reached { C.reaches cx.old cx.new }
     {
         match mem::replace(&mut self.stage, Stage::Over) {

@@ -1,7 +1,9 @@
 use Rattle.std.proofs.Common.{◌+◌, refl, sym, subst, ◌∙◌, arith}
-use Rattle.mono_limit.specs.RetryPolls.{Makes, Tries, at_stage}
+use Rattle.mono_limit.specs.RetryPolls.{Makes, Tries, Rests, at_stage}
 use Rattle.mono_limit.specs.declared.attempts.Stage.TheVariants as stage
+use Rattle.mono_limit.specs.RetryGives.{RetryGives}
 use Rattle.mono_limit.proofs.RetryStepLemmas.{stays, due_stays, some_left}
+use Rattle.mono_limit.proofs.RetryGivesLemmas.{narrows_own, due_narrows, rests_narrow}
 use Rattle.mono_limit.proofs.attempts.Retry.step.Goals as goal
 
 pub begin-requires-clause-callable : goal.begin-requires-clause-callable
@@ -47,3 +49,20 @@ returns-in-Trying-clause-leaves g c =
     let old = c.args.self.now in
     let tries = subst (λ st. Tries g.F.TaskFuture g.C.Context.nanos g.C.TimeContext.sleeps g.C.Context.work g.C.Context.reaches attempt (at_stage old st) c.args.cx.now c.go_on.result c.go_on.new.self c.go_on.new.cx) c.replace.ensures.after c.go_on.ensures.tries in
     (stays g.G.FnMut g.F.TaskFuture g.C.Context.number g.C.Context.nanos g.C.TimeContext.sleeps g.C.Context.work g.C.Context.reaches old (stage.Trying attempt) (sym c.replace.ensures.value ∙ c.in-Trying.is) c.requires.may c.args.cx.now c.go_on.new.cx c.go_on.result c.go_on.new.self tries c.go_on.ensures.live).1
+
+pub returns-in-Due-clause-gives : goal.returns-in-Due-clause-gives
+returns-in-Due-clause-gives g c =
+    let old = c.args.self.now in
+    let makes = subst (λ st. Makes g.G.FnMut (at_stage old st) c.begin.new.self) c.replace.ensures.after c.begin.ensures in
+    let some = some_left g.G.FnMut g.F.TaskFuture g.C.Context.number g.C.Context.nanos g.C.TimeContext.sleeps g.C.Context.work g.C.Context.reaches old old.stage (sym c.replace.ensures.value ∙ c.in-Due.is) c.requires.may.has_left in
+    due_narrows g.F.TaskFuture.gives g.G.FnMut old c.begin.new.self (sym c.replace.ensures.value ∙ c.in-Due.is) some makes
+
+pub returns-in-Trying-clause-gives : goal.returns-in-Trying-clause-gives
+returns-in-Trying-clause-gives g c =
+    narrows_own g.F.TaskFuture.gives g.G.FnMut c.args.self.now (stage.Trying c.in-Trying.attempt) (sym c.replace.ensures.value ∙ c.in-Trying.is) c.go_on.result (RetryGives g.F.TaskFuture.gives g.G.FnMut c.go_on.new.self) c.go_on.ensures.gives
+
+pub returns-in-Resting-clause-gives : goal.returns-in-Resting-clause-gives
+returns-in-Resting-clause-gives g c =
+    let old = c.args.self.now in
+    let rests = subst (λ st. Rests g.C.Context.number g.C.TimeContext.sleeps g.C.Context.work g.C.Context.reaches (at_stage old st) c.args.cx.now c.rest.result c.rest.new.self c.rest.new.cx) c.replace.ensures.after c.rest.ensures.rests in
+    rests_narrow g.F.TaskFuture.gives g.G.FnMut g.C.TimeContext.sleeps g.C.Context.work g.C.Context.reaches g.C.Context.number old (sym c.replace.ensures.value ∙ c.in-Resting.is) c.args.cx.now c.rest.new.cx c.rest.result c.rest.new.self rests
