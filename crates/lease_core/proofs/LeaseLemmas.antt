@@ -15,6 +15,7 @@ use Rattle.lease_core.specs.declared.ends.Waiter.{Waiter}
 use Rattle.lease_core.specs.declared.requests.Outcome.{Outcome}
 use Rattle.lease_core.specs.declared.requests.Outcome.TheVariants as outcome
 use Rattle.lease_core.specs.declared.requests.Reply.{Reply}
+use Rattle.lease_core.specs.Waiting.{waits_of}
 use Rattle.lease_core.specs.Cores.{CoreState, with_leases}
 use Rattle.lease_core.specs.Waits.{release_end, close_end, ended, still, FreesBy}
 use Rattle.lease_core.specs.Tells.{LeaseTells}
@@ -67,7 +68,7 @@ release_step k s key r After (told, left) = record { next = released k s key; st
 
 -- The core refines the state after a step of its leases.
 pub refines_after : (old new : Core) (s : CoreState) (next : Keeper) (waiting : List Waiter) → Refines old s → StandsFor new.sessions next → next.greatest ≡ s.keeper.greatest
-    → SameServices old new → new.waiting.items ≡ waiting → Refines new (with_leases s next waiting)
+    → SameServices old new → waits_of new.waiting ≡ waiting → Refines new (with_leases s next waiting)
 refines_after old new s next waiting r stands tick same is = record {
   leases = stands;
   limits = same.limits ∙ r.limits;
@@ -85,7 +86,7 @@ abbrev Steps : Core → Core → lease.Call → answer.Answer → Type 0
 Steps old new c a = (k : Keeper) → StandsFor old.sessions k → Stepped k c a (StandsFor new.sessions)
 
 pub leases_told : (old new : Core) (number : ℕ) (c : lease.Call) (a : answer.Answer) (told : Outcome) → LeaseTells a told → Steps old new c a → SameServices old new
-    → new.waiting.items ≡ old.waiting.items → new.replies.items ≡ reply_at old.tick number told ∷ []
+    → waits_of new.waiting ≡ waits_of old.waiting → new.replies.items ≡ reply_at old.tick number told ∷ []
     → (s : CoreState) → Refines old s → (t : CoreState) × Leases s number c new.replies.items t × Refines new t
 leases_told old new number c a told tells steps same waits replies s r =
     let n = steps s.keeper r.leases in (
@@ -95,7 +96,7 @@ leases_told old new number c a told tells steps same waits replies s r =
     )
 
 pub acquire_refused : (old new : Core) (number s key : ℕ) (e : SessionError) → Steps old new (lease.Acquire s key) (answer.Refused e) → SameServices old new
-    → new.waiting.items ≡ old.waiting.items → new.replies.items ≡ reply_at old.tick number (outcome.LeaseRefused e) ∷ []
+    → waits_of new.waiting ≡ waits_of old.waiting → new.replies.items ≡ reply_at old.tick number (outcome.LeaseRefused e) ∷ []
     → (m : CoreState) → Refines old m → (t : CoreState) × Acquires m number s key new.replies.items t × Refines new t
 acquire_refused old new number s key e steps same waits replies m r =
     let n = steps m.keeper r.leases in (
@@ -105,7 +106,7 @@ acquire_refused old new number s key e steps same waits replies m r =
     )
 
 pub acquire_held : (old new : Core) (number s key : ℕ) → Steps old new (lease.Acquire s key) answer.Held → SameServices old new
-    → new.waiting.items ≡ old.waiting.items → new.replies.items ≡ reply_at old.tick number outcome.Held ∷ []
+    → waits_of new.waiting ≡ waits_of old.waiting → new.replies.items ≡ reply_at old.tick number outcome.Held ∷ []
     → (m : CoreState) → Refines old m → (t : CoreState) × Acquires m number s key new.replies.items t × Refines new t
 acquire_held old new number s key steps same waits replies m r =
     let n = steps m.keeper r.leases in (
@@ -119,19 +120,19 @@ abbrev pub waiter_at : ℕ → ℕ → ℕ → ℕ → Waiter
 waiter_at tick number s key = record { number = number; session = s; key = key; arrived = tick }
 
 pub acquire_waits : (old new : Core) (number s key : ℕ) → Steps old new (lease.Acquire s key) answer.Waits → SameServices old new
-    → new.waiting.items ≡ old.waiting.items ++ waiter_at old.tick number s key ∷ [] → new.replies.items ≡ []
+    → waits_of new.waiting ≡ waits_of old.waiting ++ waiter_at old.tick number s key ∷ [] → new.replies.items ≡ []
     → (m : CoreState) → Refines old m → (t : CoreState) × Acquires m number s key new.replies.items t × Refines new t
 acquire_waits old new number s key steps same waits replies m r =
     let n = steps m.keeper r.leases in
     let all = m.waiting ++ waiter_at m.keeper.greatest number s key ∷ [] in
-    let is : new.waiting.items ≡ all = waits ∙ ap (λ ws. ws ++ waiter_at old.tick number s key ∷ []) r.waiting ∙ ap (λ tick. m.waiting ++ waiter_at tick number s key ∷ []) r.tick in (
+    let is : waits_of new.waiting ≡ all = waits ∙ ap (λ ws. ws ++ waiter_at old.tick number s key ∷ []) r.waiting ∙ ap (λ tick. m.waiting ++ waiter_at tick number s key ∷ []) r.tick in (
       with_leases m n.next all,
       record { answer = answer.Waits; keeper = n.next; step = n.step; rest = (replies, refl) },
       refines_after old new m n.next all r n.after n.tick same is,
     )
 
 pub release_refused : (old new : Core) (number s key : ℕ) (e : SessionError) → Steps old new (lease.Release s key) (answer.Refused e) → SameServices old new
-    → new.waiting.items ≡ old.waiting.items → new.replies.items ≡ reply_at old.tick number (outcome.LeaseRefused e) ∷ []
+    → waits_of new.waiting ≡ waits_of old.waiting → new.replies.items ≡ reply_at old.tick number (outcome.LeaseRefused e) ∷ []
     → (m : CoreState) → Refines old m → (t : CoreState) × Releases m number s key new.replies.items t × Refines new t
 release_refused old new number s key e steps same waits replies m r =
     let n = steps m.keeper r.leases in (
@@ -141,16 +142,16 @@ release_refused old new number s key e steps same waits replies m r =
     )
 
 pub release_done : (old new : Core) (number s key : ℕ) (holder : Option ℕ) → Steps old new (lease.Release s key) answer.Done → ((k : Keeper) → StandsFor new.sessions k → holder ≡ owner_answer k key)
-    → SameServices old new → new.waiting.items ≡ still (release_end s key holder) old.waiting.items
-    → new.replies.items ≡ reply_at old.tick number outcome.Done ∷ ended (release_end s key holder) old.tick old.waiting.items
+    → SameServices old new → waits_of new.waiting ≡ still (release_end s key holder) (waits_of old.waiting)
+    → new.replies.items ≡ reply_at old.tick number outcome.Done ∷ ended (release_end s key holder) old.tick (waits_of old.waiting)
     → (m : CoreState) → Refines old m → (t : CoreState) × Releases m number s key new.replies.items t × Refines new t
 release_done old new number s key holder steps holds same waits replies m r =
     let n = steps m.keeper r.leases in
     let is = holds n.next n.after in
     let left = still (release_end s key (owner_answer n.next key)) m.waiting in
-    let kept : new.waiting.items ≡ left = waits ∙ ap (λ ws. still (release_end s key holder) ws) r.waiting ∙ ap (λ h. still (release_end s key h) m.waiting) is in
+    let kept : waits_of new.waiting ≡ left = waits ∙ ap (λ ws. still (release_end s key holder) ws) r.waiting ∙ ap (λ h. still (release_end s key h) m.waiting) is in
     let told : new.replies.items ≡ reply_at m.keeper.greatest number outcome.Done ∷ ended (release_end s key (owner_answer n.next key)) n.next.greatest m.waiting =
-    replies ∙ ap (λ tick. reply_at tick number outcome.Done ∷ ended (release_end s key holder) tick old.waiting.items) r.tick
+    replies ∙ ap (λ tick. reply_at tick number outcome.Done ∷ ended (release_end s key holder) tick (waits_of old.waiting)) r.tick
     ∙ ap (λ ws. reply_at m.keeper.greatest number outcome.Done ∷ ended (release_end s key holder) m.keeper.greatest ws) r.waiting
     ∙ ap (λ h. reply_at m.keeper.greatest number outcome.Done ∷ ended (release_end s key h) m.keeper.greatest m.waiting) is
     ∙ ap (λ tick. reply_at m.keeper.greatest number outcome.Done ∷ ended (release_end s key (owner_answer n.next key)) tick m.waiting) (sym n.tick) in (
@@ -160,7 +161,7 @@ release_done old new number s key holder steps holds same waits replies m r =
     )
 
 pub close_refused : (old new : Core) (number s : ℕ) (e : SessionError) → Steps old new (lease.Close s) (answer.Refused e) → SameServices old new
-    → new.waiting.items ≡ old.waiting.items → new.replies.items ≡ reply_at old.tick number (outcome.LeaseRefused e) ∷ []
+    → waits_of new.waiting ≡ waits_of old.waiting → new.replies.items ≡ reply_at old.tick number (outcome.LeaseRefused e) ∷ []
     → (m : CoreState) → Refines old m → (t : CoreState) × Closes m number s new.replies.items t × Refines new t
 close_refused old new number s e steps same waits replies m r =
     let n = steps m.keeper r.leases in (
@@ -170,16 +171,16 @@ close_refused old new number s e steps same waits replies m r =
     )
 
 pub close_done : (old new : Core) (number s : ℕ) → Steps old new (lease.Close s) answer.Done
-    → ((k : Keeper) → StandsFor new.sessions k → FreesBy (s ∷ []) k old.tick old.waiting.items (reply_at old.tick number outcome.Done ∷ []) new.replies.items new.waiting.items)
+    → ((k : Keeper) → StandsFor new.sessions k → FreesBy (s ∷ []) k old.tick (waits_of old.waiting) (reply_at old.tick number outcome.Done ∷ []) new.replies.items (waits_of new.waiting))
     → SameServices old new
     → (m : CoreState) → Refines old m → (t : CoreState) × Closes m number s new.replies.items t × Refines new t
 close_done old new number s steps frees same m r =
     let n = steps m.keeper r.leases in
     let f = frees n.next n.after in
     let end_of = close_end (s ∷ []) n.next in
-    let kept : new.waiting.items ≡ still end_of m.waiting = f.1 ∙ ap (λ ws. still end_of ws) r.waiting in
+    let kept : waits_of new.waiting ≡ still end_of m.waiting = f.1 ∙ ap (λ ws. still end_of ws) r.waiting in
     let told : new.replies.items ≡ reply_at m.keeper.greatest number outcome.Done ∷ ended end_of n.next.greatest m.waiting =
-    f.0 ∙ ap (λ tick. reply_at tick number outcome.Done ∷ ended end_of tick old.waiting.items) r.tick
+    f.0 ∙ ap (λ tick. reply_at tick number outcome.Done ∷ ended end_of tick (waits_of old.waiting)) r.tick
     ∙ ap (λ ws. reply_at m.keeper.greatest number outcome.Done ∷ ended end_of m.keeper.greatest ws) r.waiting
     ∙ ap (λ tick. reply_at m.keeper.greatest number outcome.Done ∷ ended end_of tick m.waiting) (sym n.tick) in (
       with_leases m n.next (still end_of m.waiting),
@@ -199,7 +200,7 @@ then_replies before put after reply is e tick ws shown none same one show all =
 
 -- A core with the same services, tick and waits refines the same states.
 pub same_core : (old new : Core) (s : CoreState) → new.sessions ≡ old.sessions → limits_of new.limiter ≡ limits_of old.limiter → actors_of new.actors ≡ actors_of old.actors
-    → new.waiting.items ≡ old.waiting.items → new.tick ≡ old.tick → Refines old s → Refines new s
+    → waits_of new.waiting ≡ waits_of old.waiting → new.tick ≡ old.tick → Refines old s → Refines new s
 same_core old new s sessions limits actors waits tick r = record {
   leases = subst (λ x. StandsFor x s.keeper) (sym sessions) r.leases;
   limits = limits ∙ r.limits;

@@ -1,6 +1,9 @@
 pub mod TickLemmas
-pub mod EndLemmas
+pub mod PlaceLemmas
+pub mod CloseLemmas
+pub mod ReleaseLemmas
 pub mod LeaseLemmas
+pub mod UndoLemmas
 pub mod ServiceLemmas
 pub mod CountLemmas
 pub mod RouteLemmas

@@ -28,6 +28,7 @@ use Rattle.lease_core.specs.declared.cores.Core.{Core}
 use Rattle.lease_core.specs.declared.requests.Outcome.{Outcome}
 use Rattle.lease_core.specs.declared.requests.Outcome.TheVariants as outcome
 use Rattle.lease_core.specs.declared.requests.Reply.{Reply}
+use Rattle.lease_core.specs.Waiting.{waits_of}
 use Rattle.lease_core.specs.Cores.{CoreState, with_leases, with_limits, with_actors}
 use Rattle.lease_core.specs.Waits as waits
 use Rattle.lease_core.specs.Waits.{input_end}
@@ -44,7 +45,7 @@ at_tick number m n told replies is same = subst (λ k. replies ≡ reply_at k nu
 pub record SameLeases (old new : Core) : Type 0 where
   pub sessions : new.sessions ≡ old.sessions
   pub tick : new.tick ≡ old.tick
-  pub waiting : new.waiting.items ≡ old.waiting.items
+  pub waiting : waits_of new.waiting ≡ waits_of old.waiting
 
 -- ---- buckets
 
@@ -185,7 +186,7 @@ pub clocked : (old new : Core) (n tick : ℕ) (gone shown empty listed before : 
     → empty ≡ [] → out ≡ []
     → ((k : Keeper) → StandsFor old.sessions k → (due : List ℕ) × (gone ≡ empty ++ due) × ListsDue closing_value k.sessions (greatest_at k n) due × StandsFor new.sessions (without_all (with_greatest k (greatest_at k n)) due))
     → ListsInto (limits_of old.limiter) n before listed (limits_of new.limiter)
-    → shown ≡ gone → ((k : Keeper) → StandsFor new.sessions k → waits.FreesBy shown k new.tick old.waiting.items out new.replies.items new.waiting.items)
+    → shown ≡ gone → ((k : Keeper) → StandsFor new.sessions k → waits.FreesBy shown k new.tick (waits_of old.waiting) out new.replies.items (waits_of new.waiting))
     → new.tick ≡ max old.tick tick → actors_of new.actors ≡ actors_of old.actors
     → (s : CoreState) → Refines old s → (t : CoreState) × Advances s n new.replies.items t × Refines new t
 clocked old new n tick gone shown empty listed before out fits down_is none_yet no_out closes fills show frees tick_is mails s r =
@@ -196,25 +197,25 @@ clocked old new n tick gone shown empty listed before out fits down_is none_yet 
     let gone_is : shown ≡ due = show ∙ c.1 ∙ ap (λ xs. xs ++ due) none_yet in
     let greatest : keeper.greatest ≡ greatest_at s.keeper n = all_closed_tick (with_greatest s.keeper (greatest_at s.keeper n)) due in
     let ticks : new.tick ≡ keeper.greatest = tick_is ∙ ap (λ m. max m tick) r.tick ∙ ap (λ m. max s.keeper.greatest m) down_is ∙ sym greatest in
-    let by_gone : waits.FreesBy due keeper new.tick old.waiting.items out new.replies.items new.waiting.items = subst (λ xs. waits.FreesBy xs keeper new.tick old.waiting.items out new.replies.items new.waiting.items) gone_is f in
-    let by_tick : waits.FreesBy due keeper keeper.greatest old.waiting.items out new.replies.items new.waiting.items =
-    subst (λ m. waits.FreesBy due keeper m old.waiting.items out new.replies.items new.waiting.items) ticks by_gone in
-    let by_waits : waits.FreesBy due keeper keeper.greatest s.waiting out new.replies.items new.waiting.items =
-    subst (λ ws. waits.FreesBy due keeper keeper.greatest ws out new.replies.items new.waiting.items) r.waiting by_tick in
-    let by_out : waits.FreesBy due keeper keeper.greatest s.waiting [] new.replies.items new.waiting.items =
-    subst (λ xs. waits.FreesBy due keeper keeper.greatest s.waiting xs new.replies.items new.waiting.items) no_out by_waits in
+    let by_gone : waits.FreesBy due keeper new.tick (waits_of old.waiting) out new.replies.items (waits_of new.waiting) = subst (λ xs. waits.FreesBy xs keeper new.tick (waits_of old.waiting) out new.replies.items (waits_of new.waiting)) gone_is f in
+    let by_tick : waits.FreesBy due keeper keeper.greatest (waits_of old.waiting) out new.replies.items (waits_of new.waiting) =
+    subst (λ m. waits.FreesBy due keeper m (waits_of old.waiting) out new.replies.items (waits_of new.waiting)) ticks by_gone in
+    let by_waits : waits.FreesBy due keeper keeper.greatest s.waiting out new.replies.items (waits_of new.waiting) =
+    subst (λ ws. waits.FreesBy due keeper keeper.greatest ws out new.replies.items (waits_of new.waiting)) r.waiting by_tick in
+    let by_out : waits.FreesBy due keeper keeper.greatest s.waiting [] new.replies.items (waits_of new.waiting) =
+    subst (λ xs. waits.FreesBy due keeper keeper.greatest s.waiting xs new.replies.items (waits_of new.waiting)) no_out by_waits in
     let l : ListsInto s.limits n before listed (limits_of new.limiter) = subst (λ x. ListsInto x n before listed (limits_of new.limiter)) r.limits fills in (
-      record { keeper = keeper; limits = limits_of new.limiter; actors = s.actors; waiting = new.waiting.items },
+      record { keeper = keeper; limits = limits_of new.limiter; actors = s.actors; waiting = waits_of new.waiting },
       record { closed = due; due = l.0; leases = (fits, c.2, refl); buckets = l.2; frees = by_out; mails = refl },
       record { leases = c.3; limits = refl; actors = mails ∙ r.actors; waiting = refl; tick = ticks; rests = ap (λ (a : Actors ℕ). a.turn) mails ∙ r.rests },
     )
 
-pub finished : (old new : Core) (out : List Reply) → out ≡ [] → new.replies.items ≡ out ++ waits.ended input_end old.tick old.waiting.items → new.waiting.items ≡ []
+pub finished : (old new : Core) (out : List Reply) → out ≡ [] → new.replies.items ≡ out ++ waits.ended input_end old.tick (waits_of old.waiting) → waits_of new.waiting ≡ []
     → new.sessions ≡ old.sessions → new.tick ≡ old.tick → limits_of new.limiter ≡ limits_of old.limiter → actors_of new.actors ≡ actors_of old.actors
     → (s : CoreState) → Refines old s → (t : CoreState) × Finishes s new.replies.items t × Refines new t
 finished old new out none_yet replies none sessions tick limits mails s r =
     let told : new.replies.items ≡ waits.ended input_end s.keeper.greatest s.waiting =
-    replies ∙ ap (λ xs. xs ++ waits.ended input_end old.tick old.waiting.items) none_yet ∙ ap (λ m. waits.ended input_end m old.waiting.items) r.tick
+    replies ∙ ap (λ xs. xs ++ waits.ended input_end old.tick (waits_of old.waiting)) none_yet ∙ ap (λ m. waits.ended input_end m (waits_of old.waiting)) r.tick
     ∙ ap (λ ws. waits.ended input_end s.keeper.greatest ws) r.waiting in (
       with_leases s s.keeper [],
       record { replies_are = told; becomes = refl },

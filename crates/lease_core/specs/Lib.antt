@@ -1,5 +1,7 @@
 pub mod Routes
 pub mod Waits
+pub mod Places
+pub mod Waiting
 pub mod Cores
 pub mod Tells
 pub mod Steps

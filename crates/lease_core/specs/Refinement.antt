@@ -5,6 +5,7 @@ use Rattle.mono_limit.specs.Limits.{limits_of}
 use Rattle.mono_actor.specs.Callers.{actors_of}
 use Rattle.lease_core.specs.declared.cores.Core.{Core}
 use Rattle.lease_core.specs.declared.requests.Call.{Call}
+use Rattle.lease_core.specs.Waiting.{waits_of}
 use Rattle.lease_core.specs.Cores.{CoreState}
 use Rattle.lease_core.specs.Steps.{Handles, Advances, Finishes}
 
@@ -13,7 +14,7 @@ pub record Refines (core : Core) (state : CoreState) : Type 0 where
   pub leases : StandsFor core.sessions state.keeper
   pub limits : limits_of core.limiter ≡ state.limits
   pub actors : actors_of core.actors ≡ state.actors
-  pub waiting : core.waiting.items ≡ state.waiting
+  pub waiting : waits_of core.waiting ≡ state.waiting
   pub tick : core.tick ≡ state.keeper.greatest
   pub rests : (actors_of core.actors).turn ≡ None
 

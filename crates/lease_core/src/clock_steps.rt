@@ -11,7 +11,6 @@ ghost use Rattle.lease_core.specs.Refinement.{Refines, Clocks, Ends};
 ghost use Rattle.lease_core.specs.Cores.{CoreState};
 
 use crate::cores::Core;
-use crate::ends::{free_closed, put_ended};
 use mono_limit::Limiter;
 use mono_session::Sessions;
 use mono_time::Instant;
@@ -57,8 +56,7 @@ impl Core {
         close_due::<Brand>(&mut self.sessions, now, &mut self.closed, Blank::new(1));
         fill::<Brand>(&mut self.limiter, now, &mut self.due, Blank::new(1));
         self.tick = self.tick.max(now.clock_tick());
-        free_closed(
-            &mut self.waiting,
+        self.waiting.end_closed(
             self.closed.as_slice(),
             &self.sessions,
             self.tick,
@@ -72,7 +70,6 @@ impl Core {
         ensures { Ends self.old self.new }
     {
         self.replies.clear();
-        put_ended(self.waiting.as_slice(), self.tick, &mut self.replies);
-        self.waiting.clear();
+        self.waiting.end_all(self.tick, &mut self.replies);
     }
 }

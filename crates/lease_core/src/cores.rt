@@ -1,9 +1,10 @@
 // One core: its services, and the replies of its last step.
-ghost use Rattle.std.specs.Prelude.{◌≡◌, ◌<◌, None, vec_len, vec_capacity};
+ghost use Rattle.std.specs.Prelude.{◌≡◌, ◌<◌, None, length, vec_capacity};
 ghost use Rattle.mono_actor.specs.Callers.{actors_of};
+ghost use Rattle.lease_core.specs.Waiting.{waits_of};
 
-use crate::ends::Waiter;
 use crate::requests::{Outcome, Reply};
+use crate::waits::Waits;
 use mono_actor::Actors;
 use mono_limit::Limiter;
 use mono_session::Sessions;
@@ -19,7 +20,7 @@ pub struct Core {
     pub(crate) limiter: Limiter,
     pub(crate) actors: Actors<u64>,
     // The acquires that wait, in the order in which they came.
-    pub(crate) waiting: Vec<Waiter>,
+    pub(crate) waiting: Waits,
     // The replies of the last step.
     pub(crate) replies: Vec<Reply>,
     // The sessions that the last clock step closed.
@@ -28,7 +29,7 @@ pub struct Core {
     pub(crate) due: Vec<u64>,
     // The greatest tick of the clock so far.
     pub(crate) tick: u64,
-    pub ghost room: { vec_len waiting < vec_capacity replies },
+    pub ghost room: { length (waits_of waiting) < vec_capacity replies },
     // No turn runs between calls.
     pub ghost rests: { (actors_of actors).turn ≡ None },
 }
@@ -43,7 +44,7 @@ impl Core {
 
     /// Returns how many acquires wait for their locks.
     pub fn waiting(&self) -> usize
-        ensures { result ≡ vec_len self.now.waiting }
+        ensures { result ≡ length (waits_of self.now.waiting) }
     {
         self.waiting.len()
     }

@@ -1,10 +1,11 @@
 // The requests on the leases.
-ghost use Rattle.std.specs.Prelude.{◌≡◌, ◌<◌, ◌+◌, ℕ, [], OnOk, vec_len, vec_capacity};
+ghost use Rattle.std.specs.Prelude.{◌≡◌, ◌<◌, ◌+◌, ℕ, [], OnOk, length, vec_capacity};
+ghost use Rattle.lease_core.specs.Waiting.{waits_of};
 ghost use Rattle.lease_core.specs.Refinement.{Performs};
 ghost use Rattle.lease_core.specs.declared.requests.Call.TheVariants as call;
 
 use crate::cores::Core;
-use crate::ends::{Waiter, free_closed, keep_unreleased, put_released};
+use crate::ends::Waiter;
 use crate::requests::Outcome;
 use crate::tells::{of_beat, of_open};
 use mono_session::SessionError;
@@ -45,30 +46,20 @@ impl Core {
                 let reply = self.at_once(number, Outcome::Done);
                 self.replies.push_reserved(reply);
                 let gone = [session];
-                free_closed(
-                    &mut self.waiting,
-                    &gone,
-                    &self.sessions,
-                    self.tick,
-                    &mut self.replies,
-                );
+                self.waiting
+                    .end_closed(&gone, &self.sessions, self.tick, &mut self.replies);
             }
         }
     }
 
-    // Reserves a place for one more waiter, and for its reply.
-    fn make_place(&mut self) -> Result<(), AllocError>
+    // Reserves room for the reply of one more waiter.
+    fn make_room(&mut self) -> Result<(), AllocError>
         requires { self.old.replies.items ≡ [] }
-        ensures place { OnOk result (vec_len self.new.waiting < vec_capacity self.new.waiting) }
-        ensures room { OnOk result (vec_len self.new.waiting + 1 < vec_capacity self.new.replies) }
+        ensures room { OnOk result (length (waits_of self.new.waiting) + 1 < vec_capacity self.new.replies) }
         ensures same { (self.new.sessions ≡ self.old.sessions) × (self.new.limiter ≡ self.old.limiter) × (self.new.actors ≡ self.old.actors) × (self.new.tick ≡ self.old.tick) }
-        ensures items { (self.new.waiting.items ≡ self.old.waiting.items) × (self.new.replies.items ≡ []) }
+        ensures items { (waits_of self.new.waiting ≡ waits_of self.old.waiting) × (self.new.replies.items ≡ []) }
     {
-        let Some(most) = self.waiting.len().checked_add(2) else {
-            return Err(AllocError);
-        };
-        self.waiting.reserve(1)?;
-        self.replies.reserve(most)
+        self.replies.reserve(self.waiting.len() + 2)
     }
 
     // Appends a session to the queue of a key. If it does not hold the lock at once, the request waits.
@@ -76,7 +67,7 @@ impl Core {
         requires { self.old.replies.items ≡ [] }
         ensures { Performs self.old number key (call.Acquire session) self.new }
     {
-        match self.make_place() {
+        match self.make_room() {
             Ok(()) => self.enter(alloc, number, key, session),
             Err(_) => {
                 let reply = self.at_once(number, Outcome::LeaseRefused(SessionError::Memory));
@@ -85,11 +76,10 @@ impl Core {
         }
     }
 
-    // Appends a session to the queue of a key. There is a place for one more waiter, and for its reply.
+    // Appends a session to the queue of a key. There is room for the reply of one more waiter.
     fn enter(&mut self, alloc: Global, number: u64, key: u64, session: u64)
         requires none { self.old.replies.items ≡ [] }
-        requires place { vec_len self.old.waiting < vec_capacity self.old.waiting }
-        requires room { vec_len self.old.waiting + 1 < vec_capacity self.old.replies }
+        requires room { length (waits_of self.old.waiting) + 1 < vec_capacity self.old.replies }
         ensures { Performs self.old number key (call.Acquire session) self.new }
     {
         match self.sessions.acquire(alloc, session, key) {
@@ -108,7 +98,11 @@ impl Core {
                     key,
                     arrived: self.tick,
                 };
-                self.waiting.push_reserved(waiter);
+                if self.waiting.push(waiter).is_err() {
+                    let _ = self.sessions.release(session, key);
+                    let reply = self.at_once(number, Outcome::LeaseRefused(SessionError::Memory));
+                    self.replies.push_reserved(reply);
+                }
             }
         }
     }
@@ -127,9 +121,8 @@ impl Core {
                 let reply = self.at_once(number, Outcome::Done);
                 self.replies.push_reserved(reply);
                 let holder = self.sessions.owner(key);
-                let waiting = self.waiting.as_slice();
-                put_released(waiting, session, key, holder, self.tick, &mut self.replies);
-                keep_unreleased(&mut self.waiting, session, key, holder);
+                self.waiting
+                    .end_released(session, key, holder, self.tick, &mut self.replies);
             }
         }
     }

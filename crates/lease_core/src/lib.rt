@@ -8,10 +8,12 @@ pub mod laws;
 mod leases;
 mod mails;
 mod performs;
+mod places;
 mod requests;
 mod routes;
 mod sizes;
 mod tells;
+mod waits;
 
 pub use cores::Core;
 pub use ends::Waiter;

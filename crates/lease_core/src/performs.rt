@@ -6,6 +6,7 @@ ghost use Rattle.lease_core.specs.Refinement.{Refines, Performs};
 use crate::cores::Core;
 use crate::requests::{Call, Request};
 use crate::sizes::Sizes;
+use crate::waits::Waits;
 use mono_actor::Actors;
 use mono_limit::Limiter;
 use mono_session::Sessions;
@@ -19,12 +20,13 @@ impl Core {
         let sessions = Sessions::new(alloc, sizes.sessions, sizes.entries)?;
         let limiter = Limiter::new(alloc, sizes.buckets, 0)?;
         let actors = Actors::new(alloc, sizes.actors, sizes.messages)?;
+        let waiting = Waits::new(alloc)?;
         let replies = Vec::with_capacity(alloc, 16)?;
         Ok(Core {
             sessions,
             limiter,
             actors,
-            waiting: Vec::new(alloc),
+            waiting,
             replies,
             closed: Vec::new(alloc),
             due: Vec::new(alloc),

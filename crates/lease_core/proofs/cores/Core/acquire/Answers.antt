@@ -6,12 +6,12 @@ use Rattle.lease_core.proofs.cores.Core.acquire.Goals as goal
 
 pub returns-in-Ok : goal.returns-in-Ok
 returns-in-Ok c =
-    let same = c.make_place.ensures.same in
-    λ s r. c.enter.ensures s (same_core c.args.self.now c.make_place.new.self s same.0 (ap limits_of same.1) (ap actors_of same.2) c.make_place.ensures.items.0 same.3 r)
+    let same = c.make_room.ensures.same in
+    λ s r. c.enter.ensures s (same_core c.args.self.now c.make_room.new.self s same.0 (ap limits_of same.1) (ap actors_of same.2) c.make_room.ensures.items.0 same.3 r)
 
 pub returns-in-Err : goal.returns-in-Err
 returns-in-Err c =
-    let same = c.make_place.ensures.same in
-    λ s r. acquire_refused c.make_place.new.self _ _ _ _ _ (λ k stands. acquire_lacks k _ _ _ stands) (record { limits = refl; actors = refl; tick = refl }) refl
-    (one_reply _ _ _ _ c.make_place.ensures.items.1 c.at_once-reply.ensures c.push_reserved.ensures.items) s
-    (same_core c.args.self.now c.make_place.new.self s same.0 (ap limits_of same.1) (ap actors_of same.2) c.make_place.ensures.items.0 same.3 r)
+    let same = c.make_room.ensures.same in
+    λ s r. acquire_refused c.make_room.new.self _ _ _ _ _ (λ k stands. acquire_lacks k _ _ _ stands) (record { limits = refl; actors = refl; tick = refl }) refl
+    (one_reply _ _ _ _ c.make_room.ensures.items.1 c.at_once-reply.ensures c.push_reserved.ensures.items) s
+    (same_core c.args.self.now c.make_room.new.self s same.0 (ap limits_of same.1) (ap actors_of same.2) c.make_room.ensures.items.0 same.3 r)

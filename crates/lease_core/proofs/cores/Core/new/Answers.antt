@@ -1,4 +1,4 @@
-use Rattle.std.proofs.Common.{refl, ap, ℕ, rules}
+use Rattle.std.proofs.Common.{refl, ap, ℕ}
 use Rattle.mono_actor.specs.Actors.{Actors}
 use Rattle.lease_core.proofs.cores.Core.new.Goals as goal
 
@@ -7,7 +7,7 @@ returns c = record {
   leases = c.in_ok-sessions.ensures.stands;
   limits = c.in_ok-limiter.ensures;
   actors = c.in_ok-actors.ensures;
-  waiting = search rules;
+  waiting = c.in_ok-waiting.ensures;
   tick = refl;
   rests = ap (λ (a : Actors ℕ). a.turn) c.in_ok-actors.ensures;
 }

@@ -1,0 +1,68 @@
+-- The table of the acquires that wait: by key and session, the last that came first.
+use Rattle.std.specs.Prelude.{◌≡◌, ℕ, Bool, true, false, not, nat_eq, nat_lt, ◌&&◌, if◌then◌else◌, List, [], ◌∷◌, ◌++◌, Option, Some, None, is_some}
+use Rattle.mono_session.specs.Keeper.{Keeper}
+use Rattle.mono_session.specs.Refinement.{StandsFor}
+use Rattle.mono_session.specs.declared.keeper.Sessions.{Sessions}
+use Rattle.lease_core.specs.declared.ends.Waiter.{Waiter}
+use Rattle.lease_core.specs.declared.places.Place.{Place}
+use Rattle.lease_core.specs.declared.requests.Outcome.{Outcome}
+use Rattle.lease_core.specs.declared.requests.Outcome.TheVariants as outcome
+use Rattle.lease_core.specs.declared.requests.Reply.{Reply}
+use Rattle.lease_core.specs.Waits.{close_end, end_reply}
+
+abbrev pub Entry : Type 0
+Entry = (ℕ × ℕ) × Place
+
+abbrev pub waiter_of : Entry → Waiter
+waiter_of e = record { number = e.1.number; session = e.0.1; key = e.0.0; arrived = e.1.arrived }
+
+-- The waits in the order in which they came.
+abbrev pub waiters : List Entry → List Waiter
+waiters [] = []
+waiters (e ∷ es) = waiters es ++ waiter_of e ∷ []
+
+-- Each ticket is less than n and than those of the waits that came later.
+abbrev pub descends : ℕ → List Entry → Bool
+descends n [] = true
+descends n (e ∷ es) = nat_lt e.1.ticket n && descends e.1.ticket es
+
+-- Whether the wait is that of the session for the key.
+abbrev pub is_of : ℕ → ℕ → ℕ × ℕ → Bool
+is_of key s k = nat_eq key k.0 && nat_eq s k.1
+
+-- Whether it is that of the holder of the key.
+abbrev pub is_held : ℕ → Option ℕ → ℕ × ℕ → Bool
+is_held key None k = false
+is_held key (Some s) k = is_of key s k
+
+abbrev pub place_reply : ℕ → Outcome → Option Place → List Reply
+place_reply tick told None = []
+place_reply tick told (Some place) = record { number = place.number; arrived = place.arrived; tick = tick; outcome = told } ∷ []
+
+-- Whether both waits are there, and the first came later.
+abbrev pub came_later : Option Place → Option Place → Bool
+came_later None other = false
+came_later (Some place) None = false
+came_later (Some place) (Some other) = nat_lt other.ticket place.ticket
+
+-- The replies of a wait that was left and of one whose session is the holder now, in the order in which they came.
+abbrev pub in_order : ℕ → Option Place → Option Place → List Reply
+in_order tick left held =
+    if came_later left held then place_reply tick outcome.Held held ++ place_reply tick outcome.Left left
+    else place_reply tick outcome.Left left ++ place_reply tick outcome.Held held
+
+-- Whether a wait goes on.
+abbrev pub goes_on : (Waiter → Option Outcome) → Entry → Bool
+goes_on end_of e = not (is_some (end_of (waiter_of e)))
+
+-- A wait that goes on comes last.
+abbrev pub again : Option Outcome → Entry → List Entry
+again None e = e ∷ []
+again (Some told) e = []
+
+-- The wait that came first ends, or comes last.
+abbrev pub OldestEnds : List ℕ → Sessions → ℕ → List Entry → List Entry → List Reply → List Reply → Type 0
+OldestEnds gone sessions tick old new out replies =
+    (es : List Entry) (e : Entry) → old ≡ es ++ e ∷ [] → (end : Option Outcome)
+    × ((k : Keeper) → StandsFor sessions k → end ≡ close_end gone k (waiter_of e))
+    × (replies ≡ out ++ end_reply tick (waiter_of e) end) × (new ≡ again end e ++ es)
