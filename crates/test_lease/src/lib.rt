@@ -4,4 +4,6 @@
 #[cfg(test)]
 mod cores;
 #[cfg(test)]
+mod crowds;
+#[cfg(test)]
 mod lines;

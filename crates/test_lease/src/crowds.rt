@@ -1,0 +1,128 @@
+// One core: hundreds of waits.
+use lease_core::{Call, Core, Outcome, Reply, Request, Sizes};
+use mono_time::Instant;
+use std::alloc::Global;
+
+const SIZES: Sizes = Sizes {
+    sessions: 301,
+    entries: 600,
+    buckets: 1,
+    actors: 1,
+    messages: 1,
+};
+
+// The session that holds each key before the others, or after them.
+const LAST: u64 = 300;
+
+// The number of the request of a session that waits for a key.
+fn waits_as(session: u64) -> u64 {
+    session.saturating_add(1000)
+}
+
+// Performs a call on a key, and returns how many replies there are.
+fn ask(alloc: Global, core: &mut Core, number: u64, key: u64, call: Call) -> usize {
+    core.handle(alloc, &Request { number, key, call });
+    core.replies().len()
+}
+
+// Opens sessions 0 to 300. The last stays open for longer.
+fn open_all(alloc: Global, core: &mut Core) {
+    for _ in 0..LAST {
+        let _ = ask(alloc, core, 1, 0, Call::Open(10));
+    }
+    let _ = ask(alloc, core, 1, 0, Call::Open(1000));
+}
+
+// Lets each session but the last enter the queue of the key of its number.
+fn acquire_own(alloc: Global, core: &mut Core) {
+    for session in 0..LAST {
+        let _ = ask(
+            alloc,
+            core,
+            waits_as(session),
+            session,
+            Call::Acquire(session),
+        );
+    }
+}
+
+// Lets the last session enter the queue of each key, the greatest key first.
+fn acquire_all(alloc: Global, core: &mut Core) {
+    for turn in 0..LAST {
+        let key = LAST - 1 - turn;
+        let _ = ask(alloc, core, waits_as(key), key, Call::Acquire(LAST));
+    }
+}
+
+// Whether the reply at this place answers the request of this number.
+fn answers(core: &Core, at: usize, number: u64, tick: u64, outcome: Outcome) -> bool {
+    core.replies().get(at).copied()
+        == Some(Reply {
+            number,
+            arrived: 0,
+            tick,
+            outcome,
+        })
+}
+
+// Lets the last session leave the queues, and returns how many releases answered exactly the waiter of their key.
+fn release_all(alloc: Global, core: &mut Core) -> u64 {
+    let mut right = 0u64;
+    for turn in 0..LAST {
+        let key = turn * 7 % LAST;
+        let count = ask(alloc, core, 3, key, Call::Release(LAST));
+        if count == 2 && answers(core, 1, waits_as(key), 0, Outcome::Held) {
+            right = right.saturating_add(1);
+        }
+    }
+    right
+}
+
+#[test]
+fn each_release_answers_its_own_waiter(rt: HostRuntime) {
+    let alloc = rt.alloc();
+    let mut core = Core::new(alloc, &SIZES).expect(&rt, "memory");
+    open_all(alloc, &mut core);
+    acquire_all(alloc, &mut core);
+    assert_eq!(rt; core.waiting(), 0);
+    acquire_own(alloc, &mut core);
+    assert_eq!(rt; core.waiting(), 300);
+    assert_eq!(rt; release_all(alloc, &mut core), 300);
+    assert_eq!(rt; core.waiting(), 0);
+}
+
+#[test]
+fn a_clock_step_answers_in_the_order_of_the_waits(rt: HostRuntime) {
+    let alloc = rt.alloc();
+    let mut core = Core::new(alloc, &SIZES).expect(&rt, "memory");
+    open_all(alloc, &mut core);
+    acquire_own(alloc, &mut core);
+    acquire_all(alloc, &mut core);
+    assert_eq!(rt; ask(alloc, &mut core, 4, 150, Call::Release(LAST)), 2);
+    assert!(rt; answers(&core, 1, 1150, 0, Outcome::Left));
+    assert_eq!(rt; core.waiting(), 299);
+    let now = Instant::from_nanos(10000000).expect(&rt, "in range");
+    core.advance(now).expect(&rt, "memory");
+    assert_eq!(rt; core.replies().len(), 299);
+    for at in 0..149u64 {
+        assert!(rt; answers(&core, at as usize, 1299 - at, 10, Outcome::Held));
+    }
+    assert!(rt; answers(&core, 149, 1149, 10, Outcome::Held));
+    assert!(rt; answers(&core, 298, 1000, 10, Outcome::Held));
+    assert_eq!(rt; core.waiting(), 0);
+}
+
+#[test]
+fn the_end_answers_in_the_order_of_the_waits(rt: HostRuntime) {
+    let alloc = rt.alloc();
+    let mut core = Core::new(alloc, &SIZES).expect(&rt, "memory");
+    open_all(alloc, &mut core);
+    acquire_own(alloc, &mut core);
+    acquire_all(alloc, &mut core);
+    core.finish();
+    assert_eq!(rt; core.replies().len(), 300);
+    for at in 0..300u64 {
+        assert!(rt; answers(&core, at as usize, 1299 - at, 0, Outcome::Ended));
+    }
+    assert_eq!(rt; core.waiting(), 0);
+}
