@@ -2,6 +2,7 @@
 use crate::status;
 use lease_core::{Request, core_of};
 use lease_lines::{put_bad, request_of};
+use memchr::memchr;
 use mono_channel::Sender;
 use mono_rt::{Host, Poll, RemoteContext, RemoteWaker, TaskFuture, UnparkHandle};
 use mono_text::Source;
@@ -132,14 +133,24 @@ impl<'a, S: Source + Drop> Router<'a, S> {
         }
     }
 
+    // Returns how many bytes of a line stand from here to its line feed.
+    fn line_length(&self, from: usize) -> Option<usize> {
+        match self.block.get(from..self.filled) {
+            None => None,
+            Some(rest) => memchr(b'\n', rest),
+        }
+    }
+
     // Takes all whole lines of the block, and moves the rest to its front.
     fn take_lines(&mut self) -> Result<(), AllocError> {
         let mut from = 0usize;
-        for at in 0..self.filled {
-            if self.block.get(at).copied() == Some(b'\n') {
-                self.take_line(from, at)?;
-                from = at.saturating_add(1);
-            }
+        for _ in 0..self.filled {
+            let Some(length) = self.line_length(from) else {
+                break;
+            };
+            let to = from.saturating_add(length);
+            self.take_line(from, to)?;
+            from = to.saturating_add(1);
         }
         self.keep_rest(from);
         Ok(())
@@ -147,20 +158,16 @@ impl<'a, S: Source + Drop> Router<'a, S> {
 
     // Moves the bytes from here on to the front. A block that is full and has no whole line is dropped.
     fn keep_rest(&mut self, from: usize) {
-        let mut kept = 0usize;
-        for at in from..self.filled {
-            if let Some(byte) = self.block.get(at).copied() {
-                if let Some(place) = self.block.get_mut(kept) {
-                    *place = byte;
-                    kept = kept.saturating_add(1);
-                }
-            }
+        let filled = self.filled.min(self.block.len());
+        let from = from.min(filled);
+        if from > 0 {
+            self.block.copy_within(from..filled, 0);
         }
-        if kept >= self.block.len() {
+        self.filled = filled - from;
+        if self.filled >= self.block.len() {
             self.is_long = true;
-            kept = 0;
+            self.filled = 0;
         }
-        self.filled = kept;
     }
 
     // Reads once, and takes the whole lines. A last line without a line feed is no request.
