@@ -139,13 +139,9 @@ impl Buckets {
             bucket,
             task,
         };
-        match self.waiters.push_back(waiter) {
-            Ok(()) => {
-                self.next = next;
-                Ok(ticket)
-            }
-            Err(_) => Err(AllocError),
-        }
+        self.waiters.push_back(waiter)?;
+        self.next = next;
+        Ok(ticket)
     }
 
     // Takes the future with this ticket out of the line.
