@@ -4,6 +4,8 @@
 #[cfg(test)]
 mod chains;
 #[cfg(test)]
+mod counts;
+#[cfg(test)]
 mod logs;
 #[cfg(test)]
 mod nests;

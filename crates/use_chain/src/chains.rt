@@ -64,8 +64,7 @@ pub fn counts_once<C: TimeContext, R: Host>(
     poll_up_to(rt, alloc, cx, task, polls)
 }
 
-/// Polls as [`poll_up_to`] does, for a future whose type may be polled in any state, as a runtime asks it of its
-/// futures.
+/// Polls as [`poll_up_to`] does, for a future whose type may be polled in any state.
 pub fn poll_any<C: Context, A: TaskFuture<C>, R: Host>(
     rt: &R,
     alloc: Global,
@@ -81,7 +80,7 @@ pub fn poll_any<C: Context, A: TaskFuture<C>, R: Host>(
     poll_up_to(rt, alloc, cx, future, polls)
 }
 
-/// Polls a task that sleeps, counts and sleeps again, as a runtime's tasks are: its closures require nothing.
+/// Polls a task that sleeps, counts and sleeps again, and whose closures require nothing.
 pub fn counts_twice<C: TimeContext, R: Host>(
     rt: &R,
     alloc: Global,

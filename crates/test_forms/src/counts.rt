@@ -1,0 +1,48 @@
+// A future whose closure rests on what it captured, on a runtime of its own.
+ghost use Rattle.std.specs.Prelude.{◌≡◌, ◌+◌, ◌<◌, ◌⊎◌, IfOk};
+
+use mono_forms::FutureExt;
+use mono_quiet::laws::quiet_futures_spawn_none;
+use mono_rt::{
+    BlockingHandle, BlockingStrategy, Host, Instant, Limits, NoPool, NoUnpark, RunError,
+    SleepError, StepDriver, run_alone, sleep_for,
+};
+use std::alloc::{AllocError, Global};
+use std::time::Duration;
+
+/// Sleeps, counts one up from a count below 1,000, and sleeps again. The closure that counts has captured the count, so
+/// not every future of its type can be polled; this one can.
+fn count_up<R: Host>(rt: &R, alloc: Global, count: u64) -> Result<Result<u64, RunError>, AllocError>
+    requires { count < 1000 }
+    ensures { IfOk result (λ answer. IfOk answer (λ n. (n ≡ count + 1) ⊎ (n ≡ 0))) }
+{
+    let milli = Duration::from_millis(1);
+    let task = sleep_for(milli)
+        .and_then(move |_: ()| {
+            let counted = count + 1;
+            sleep_for(milli).map_ok(move |_: ()| counted)
+        })
+        .map(|answer: Result<u64, SleepError>| match answer {
+            Ok(counted) => counted,
+            Err(_) => 0,
+        });
+    quiet_futures_spawn_none::<_, u64, NoPool, NoUnpark, ()>(&task);
+    let limits = Limits {
+        tasks: 1,
+        jobs: 0,
+        sleeps: 2,
+    };
+    let driver = StepDriver::new(Vec::new(alloc));
+    let pool: BlockingHandle<NoPool> = BlockingHandle::Empty(BlockingStrategy::Panic);
+    let start = Instant::ZERO;
+    let (answer, _journal) = run_alone(rt, alloc, driver, pool, limits, start, task, 100)?;
+    Ok(answer)
+}
+
+#[test]
+fn a_closure_rests_on_a_captured_count(rt: HostRuntime) {
+    for count in [0, 1, 999] {
+        let answer = count_up(&rt, rt.alloc(), count).expect(&rt, "memory");
+        assert_eq!(rt; answer, Ok(count + 1));
+    }
+}
