@@ -1,9 +1,9 @@
 -- The calls of mailboxes, and the messages that were sent and received over them.
-use Rattle.std.proofs.Common.{◌≡◌, ◌≢◌, ◌<◌, ◌≤◌, ◌⊎◌, inl, inr, ℕ, zero, suc, Bool, true, false, not, cond, List, [], ◌∷◌, ◌++◌, length, get_or, set, Option, Some, None, Result, Ok, Err, refl, ap, sym, subst, ◌∙◌, arith}
-use Rattle.std.specs.Prelude.{⊤, ◌+◌, ◌==◌, ◌||◌, nat_lt, nat_le, filter}
-use Rattle.std.specs.List.{list_any, position, position_or_len}
+use Rattle.std.proofs.Common.{◌≡◌, ◌≢◌, ◌<◌, ◌≤◌, inl, inr, ℕ, zero, suc, Bool, true, false, not, cond, List, [], ◌∷◌, ◌++◌, length, get_or, set, Option, Some, None, Result, Ok, Err, refl, ap, sym, subst, ◌∙◌, arith}
+use Rattle.std.specs.Prelude.{◌==◌, Contains, nat_lt, nat_le}
+use Rattle.std.specs.List.{position_or_len}
 use Rattle.std.proofs.lemmas.Bool.{cases_eq}
-use Rattle.std.proofs.lemmas.Bool.Decides.{eqb_tells, nat_tests}
+use Rattle.std.proofs.lemmas.Bool.Decides.{nat_tests}
 use Rattle.std.proofs.lemmas.List.{get_or-set_same, get_or-set_other, get_or_past, length-set}
 use Rattle.std.proofs.lemmas.List.Quantifiers.{position-Some}
 use Rattle.mono_model.specs.Table.{Table, value_at, without}
@@ -17,7 +17,7 @@ use Rattle.mono_actor.specs.QueueInvariants.{is_queued, of_actor}
 use Rattle.mono_actor.specs.Receives.{begin_of_value, begin_of_answer, begun_one, begun_of, waits_at}
 use Rattle.mono_actor.specs.declared.mailboxes.Letter.{Letter}
 use Rattle.mono_actor.specs.declared.answers.ActorError.{ActorError}
-use Rattle.mono_actor.specs.declared.answers.ActorError.TheVariants.{Memory, AtCapacity, Idle, NoActor}
+use Rattle.mono_actor.specs.declared.answers.ActorError.TheVariants.{Memory, AtCapacity}
 use Rattle.mono_actor.specs.declared.answers.Got.{Got}
 use Rattle.mono_actor.specs.declared.answers.Got.TheVariants as got
 use Rattle.mono_actor.specs.declared.answers.Sent.{Sent}
@@ -28,7 +28,7 @@ use Rattle.mono_serve.specs.declared.mailboxes.Receiver.{Receiver}
 use Rattle.mono_serve.specs.declared.mailboxes.Received.{Received}
 use Rattle.mono_serve.specs.declared.mailboxes.Received.TheVariants as receive
 use Rattle.mono_serve.specs.declared.mailboxes.Mailboxes.{Mailboxes}
-use Rattle.mono_serve.specs.MailCalls.{has_ticket, message_of, take_answer, taken, stop_of, stopped, SameLine, Joins, Stays, Lingers, AfterTake, Receives, first_served, ServesAt, Serves, Event, spawned_one, sent_one, stopped_one, received, gave_up, served, Step}
+use Rattle.mono_serve.specs.MailCalls.{place_of, message_of, take_answer, taken, stopped, AfterTake, first_served, ServesAt, Event, spawned_one, sent_one, stopped_one, received, gave_up, served, Step}
 use Rattle.mono_serve.specs.MailLaws.{sent_by, sent_to, letter_of, received_by, received_from, ReceivedInOrder, WaitsInLine, NoMessageIsMissed}
 use Rattle.mono_serve.proofs.LeaseLawLemmas.{none_passes}
 
@@ -82,28 +82,34 @@ module _ {M : Type 0} (u : model.Actors M) (a : ℕ) where
     turn-stopped v is = is ∙ ap (λ m. ended true m a) is_one ∙ sym (ap (λ b. cond b (ended true (begun_one u a) a) u) queued)
 
 -- ---- the line
-or_true : (b c : Bool) → c ≡ true → (b || c) ≡ true
-or_true true c is = refl
-or_true false c is = is
+last_there : (ws : List Receiver) (w : Receiver) → Contains (ws ++ w ∷ []) w
+last_there [] w = (0, omega arith, refl)
+last_there (v ∷ ws) w = let found = last_there ws w in (suc found.0, omega (arith, found.1), found.2)
 
-any_last : (ws : List Receiver) (w : Receiver) (t : ℕ) → (w.ticket == t) ≡ true → has_ticket (ws ++ w ∷ []) t ≡ true
-any_last [] w t is = ap (λ b. b || false) is
-any_last (v ∷ ws) w t is = or_true (v.ticket == t) (has_ticket (ws ++ w ∷ []) t) (any_last ws w t is)
+set_there : (ws : List Receiver) (i : ℕ) (w : Receiver) → i < length ws → Contains (set ws i w) w
+set_there [] i w inside = absurd (omega (arith, inside))
+set_there (v ∷ ws) zero w inside = (0, omega arith, refl)
+set_there (v ∷ ws) (suc i) w inside = let found = set_there ws i w (omega (arith, inside)) in (suc found.0, omega (arith, found.1), found.2)
 
-same_self : (t : ℕ) → (t == t) ≡ true
-same_self t = elim (eqb_tells t t) [ inl e ↦ e.0 | inr e ↦ absurd (e.1 refl) ]
+position_within : (t : ℕ) (ws : List Receiver) (i : ℕ) → place_of ws t ≡ Some i → i < length ws
+position_within t [] i is = cc
+position_within t (w ∷ ws) i is = (position-Some (λ v. v.ticket == t) (w ∷ ws) i w is).0
 
-waits-equal : (M : Type 0) (s t : ℕ) → receive.Waits {M = M} s ≡ receive.Waits t → s ≡ t
-waits-equal M s t e = cc
+waits-equal : {M : Type 0} (r : Received M) (s t : ℕ) → r ≡ receive.Waits s → r ≡ receive.Waits t → s ≡ t
+waits-equal r s t first second = cc
 
 pub waits_in_line : (M : Type 0) → WaitsInLine M
 waits_in_line M a b ticket actor task t all = by (take_answer (actors_of a.actors) actor) all.0
   where
-    by : (r : Result (Option (ℕ × M)) ActorError) → AfterTake r a ticket actor task (receive.Waits t) b → has_ticket b.waiters.items t ≡ true
+    by : (r : Result (Option (ℕ × M)) ActorError) → AfterTake r a ticket actor task (receive.Waits t) b → Contains b.waiters.items (record { ticket = t; actor = actor; task = task })
     by (Ok (Some (from, message))) after = absurd (cc)
-    by (Ok None) (inl (s, held, here, same, line)) = subst (λ ws. has_ticket ws t ≡ true) (sym line.0) (subst (λ x. has_ticket a.waiters.items x ≡ true) (sym (waits-equal M t s same)) here)
-    by (Ok None) (inr (out, drawn, line, next)) =
-        subst (λ ws. has_ticket ws t ≡ true) (sym line) (any_last a.waiters.items (record { ticket = a.next; actor = actor; task = task }) t (subst (λ x. (a.next == x) ≡ true) (sym drawn) (same_self a.next)))
+    by (Ok None) (inl (s, place, held, at, same, line, next)) =
+        subst (λ x. Contains b.waiters.items (record { ticket = x; actor = actor; task = task })) (sym (waits-equal {M = M} (receive.Waits t) t s refl same))
+        (subst (λ ws. Contains ws (record { ticket = s; actor = actor; task = task })) (sym line)
+        (set_there a.waiters.items place (record { ticket = s; actor = actor; task = task }) (position_within s a.waiters.items place at)))
+    by (Ok None) (inr (out, (drawn, line, next))) =
+        subst (λ x. Contains b.waiters.items (record { ticket = x; actor = actor; task = task })) (sym drawn)
+        (subst (λ ws. Contains ws (record { ticket = a.next; actor = actor; task = task })) (sym line) (last_there a.waiters.items (record { ticket = a.next; actor = actor; task = task })))
     by (Err e) after = absurd (cc)
 
 -- ---- the tasks that are served
@@ -230,7 +236,7 @@ module _ {M : Type 0} (a : ℕ) (S G : List (Letter M)) where
 
   after_letters : (t : Result (Option (ℕ × M)) ActorError) (m b : Mailboxes M) (ticket : Option ℕ) (x task : ℕ) (r : Received M) → AfterTake t m ticket x task r b → letter_of r ≡ letters_got t
   after_letters (Ok (Some (from, message))) m b ticket x task r after = ap letter_of after.0
-  after_letters (Ok None) m b ticket x task r (inl (t, held, here, same, line)) = ap letter_of same
+  after_letters (Ok None) m b ticket x task r (inl (t, place, held, at, same, line, next)) = ap letter_of same
   after_letters (Ok None) m b ticket x task (receive.Got from message) (inr (out, joins)) = absurd joins
   after_letters (Ok None) m b ticket x task (receive.Waits t) (inr (out, joins)) = refl
   after_letters (Ok None) m b ticket x task (receive.Refused e) (inr (out, joins)) = refl

@@ -1,5 +1,5 @@
 -- The calls of mailboxes for whose messages tasks wait, and the effect of each.
-use Rattle.std.specs.Prelude.{⊤, ◌≡◌, ◌==◌, ◌⊎◌, ◌+◌, ℕ, Bool, true, false, not, if◌then◌else◌, List, [], ◌∷◌, ◌++◌, filter, Option, Some, None, Result, Ok, Err, IfErr, slice_index_or}
+use Rattle.std.specs.Prelude.{⊤, ◌≡◌, ◌==◌, ◌⊎◌, ◌+◌, ℕ, Bool, true, false, not, if◌then◌else◌, List, [], ◌∷◌, ◌++◌, filter, Option, Some, None, Result, Ok, Err, IfErr, slice_index_or, slice_set}
 use Rattle.std.specs.List.{list_any, position, remove}
 use Rattle.mono_model.specs.Table.{value_at}
 use Rattle.mono_actor.specs.Actors.{if_granted, spawn_answer, spawned, send_answer, sent, ended}
@@ -18,13 +18,17 @@ use Rattle.mono_serve.specs.declared.mailboxes.Received.{Received}
 use Rattle.mono_serve.specs.declared.mailboxes.Received.TheVariants as receive
 use Rattle.mono_serve.specs.declared.mailboxes.Mailboxes.{Mailboxes}
 
--- Whether the future with this ticket waits. One that has no ticket does not.
-abbrev pub has_ticket : List Receiver → ℕ → Bool
-has_ticket ws ticket = list_any (λ w. w.ticket == ticket) ws
+-- The place of the future with this ticket. One that has no ticket has no place.
+abbrev pub place_of : List Receiver → ℕ → Option ℕ
+place_of ws ticket = position (λ w. w.ticket == ticket) ws
 
-abbrev pub has : List Receiver → Option ℕ → Bool
-has ws None = false
-has ws (Some ticket) = has_ticket ws ticket
+abbrev pub place_in : List Receiver → Option ℕ → Option ℕ
+place_in ws None = None
+place_in ws (Some ticket) = place_of ws ticket
+
+-- Whether a task waits for a message.
+abbrev pub has_task : List Receiver → ℕ → Bool
+has_task ws task = list_any (λ w. w.task == task) ws
 
 -- The waiting tasks without the one with this ticket.
 abbrev pub without : List Receiver → ℕ → List Receiver
@@ -87,12 +91,13 @@ module _ {M : Type 0} where
   Joins a actor task (receive.Waits ticket) b = (ticket ≡ a.next) × (b.waiters.items ≡ a.waiters.items ++ record { ticket = a.next; actor = actor; task = task } ∷ []) × (b.next ≡ a.next + 1)
   Joins a actor task (receive.Refused error) b = (error ≡ Memory) × SameLine a b
 
-  -- A task whose future is in the line stays there. Another one joins the line.
-  abbrev pub Stays : Mailboxes M → Option ℕ → Received M → Mailboxes M → Type 0
-  Stays a ticket r b = (t : ℕ) × (ticket ≡ Some t) × (has_ticket a.waiters.items t ≡ true) × (r ≡ receive.Waits t) × SameLine a b
+  -- A future that is in the line stays there, and this task waits in its place. Another one joins the line.
+  abbrev pub Stays : Mailboxes M → Option ℕ → ℕ → ℕ → Received M → Mailboxes M → Type 0
+  Stays a ticket actor task r b =
+      (t : ℕ) × (place : ℕ) × (ticket ≡ Some t) × (place_of a.waiters.items t ≡ Some place) × (r ≡ receive.Waits t) × (b.waiters.items ≡ slice_set a.waiters.items place (record { ticket = t; actor = actor; task = task })) × (b.next ≡ a.next)
 
   abbrev pub Lingers : Mailboxes M → Option ℕ → ℕ → ℕ → Received M → Mailboxes M → Type 0
-  Lingers a ticket actor task r b = Stays a ticket r b ⊎ ((has a.waiters.items ticket ≡ false) × Joins a actor task r b)
+  Lingers a ticket actor task r b = Stays a ticket actor task r b ⊎ ((place_in a.waiters.items ticket ≡ None) × Joins a actor task r b)
 
   -- The line after the first message of the actor was taken, or none was there.
   abbrev pub AfterTake : Result (Option (ℕ × M)) ActorError → Mailboxes M → Option ℕ → ℕ → ℕ → Received M → Mailboxes M → Type 0
@@ -115,6 +120,10 @@ module _ {M : Type 0} where
   -- That task leaves the line.
   abbrev pub Serves : Mailboxes M → Option ℕ → Mailboxes M → Type 0
   Serves a task b = ServesAt (first_served (actors_of a.actors) a.waiters.items) a.waiters.items task b.waiters.items × (b.actors ≡ a.actors) × (b.next ≡ a.next)
+
+-- Whether this task waits for a message.
+abbrev pub lists_task : {M : Type 0} → Mailboxes M → ℕ → Bool
+lists_task a task = has_task a.waiters.items task
 
 -- A call with its answer.
 pub data Event (M : Type 0) : Type 0 where

@@ -1,5 +1,5 @@
 -- Laws that hold over any calls of mailboxes by any tasks.
-use Rattle.std.specs.Prelude.{◌≡◌, ◌<◌, ◌==◌, ℕ, true, if◌then◌else◌, List, [], ◌∷◌, ◌++◌, length, get_or, Option, Some, None, Result, Ok, Err}
+use Rattle.std.specs.Prelude.{Contains, ◌≡◌, ◌<◌, ◌==◌, ℕ, true, if◌then◌else◌, List, [], ◌∷◌, ◌++◌, length, get_or, Option, None, Result, Ok, Err}
 use Rattle.mono_actor.specs.Actors.{no_actors}
 use Rattle.mono_actor.specs.Callers.{actors_of}
 use Rattle.mono_actor.specs.Laws.{IsPrefix}
@@ -12,7 +12,7 @@ use Rattle.mono_serve.specs.declared.mailboxes.Receiver.{Receiver}
 use Rattle.mono_serve.specs.declared.mailboxes.Received.{Received}
 use Rattle.mono_serve.specs.declared.mailboxes.Received.TheVariants as receive
 use Rattle.mono_serve.specs.declared.mailboxes.Mailboxes.{Mailboxes}
-use Rattle.mono_serve.specs.MailCalls.{has_ticket, Receives, Serves, Event, spawned_one, sent_one, stopped_one, received, gave_up, served, Step}
+use Rattle.mono_serve.specs.MailCalls.{Receives, Serves, Event, spawned_one, sent_one, stopped_one, received, gave_up, served, Step}
 
 module _ {M : Type 0} where
   -- The messages that one call sent to an actor, and those that several calls sent.
@@ -56,9 +56,9 @@ abbrev pub ReceivedInOrder : Type 0 → Type 0
 ReceivedInOrder M = (es : List (Event M)) (u v : Mailboxes M) (most_actors most_messages a : ℕ) → actors_of u.actors ≡ no_actors most_actors most_messages → Run Step u es v
     → IsPrefix (received_from a es) (sent_to a es)
 
--- A future that waits is in the line with its ticket.
+-- A task whose future waits is in the line, for its actor.
 abbrev pub WaitsInLine : Type 0 → Type 0
-WaitsInLine M = (a b : Mailboxes M) (ticket : Option ℕ) (actor task t : ℕ) → Receives a ticket actor task (receive.Waits t) b → has_ticket b.waiters.items t ≡ true
+WaitsInLine M = (a b : Mailboxes M) (ticket : Option ℕ) (actor task t : ℕ) → Receives a ticket actor task (receive.Waits t) b → Contains b.waiters.items (record { ticket = t; actor = actor; task = task })
 
 -- Once no task is served, the actor of each task in the line is live, and no message waits for it.
 abbrev pub NoMessageIsMissed : Type 0 → Type 0

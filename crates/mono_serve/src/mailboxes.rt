@@ -43,9 +43,11 @@ pub enum Received<M> {
 /// Calls alone lead from some mailboxes to others.
 impl<M> SharedState for Mailboxes<M> {
     ghost use Rattle.mono_sync.specs.Runs.{Leads, leads_itself, leads_on};
-    ghost use Rattle.mono_serve.specs.MailCalls.{Step};
+    ghost use Rattle.mono_serve.specs.MailCalls.{lists_task, Step};
 
     ghost leads = { Leads Step };
+
+    ghost lists = { lists_task };
 
     ghost leads_itself = { leads_itself Step };
 
@@ -56,7 +58,7 @@ impl<M> Mailboxes<M> {
     ghost use Rattle.std.specs.Prelude.{◌<◌, [], OnSome, IfOk};
     ghost use Rattle.std.specs.VecDeque.{deque_len};
     ghost use Rattle.mono_actor.specs.Actors.{no_actors};
-    ghost use Rattle.mono_serve.specs.MailCalls.{has_ticket, LeavesLine, Spawns, Sends, Joins, Lingers, GivesUp, first_served, Serves};
+    ghost use Rattle.mono_serve.specs.MailCalls.{place_of, LeavesLine, Spawns, Sends, Joins, Lingers, GivesUp, first_served, Serves};
 
     /// Returns mailboxes without actors. At most `actors` may be live, with at most `messages` messages in all.
     pub fn new(alloc: Global, actors: u64, messages: u64) -> Result<Mailboxes<M>, AllocError>
@@ -86,11 +88,11 @@ impl<M> Mailboxes<M> {
         self.actors.send(from, to, message)
     }
 
-    // Returns whether the future with this ticket waits.
-    fn has(&self, ticket: u64) -> bool
-        ensures { result ≡ has_ticket self.now.waiters.items ticket }
+    // Returns the place of the future with this ticket.
+    fn place_of(&self, ticket: u64) -> Option<usize>
+        ensures { result ≡ place_of self.now.waiters.items ticket }
     {
-        self.waiters.iter().any(|w| w.ticket == ticket)
+        self.waiters.iter().position(|w| w.ticket == ticket)
     }
 
     // Takes a future out of the line, if it has a ticket.
@@ -133,13 +135,18 @@ impl<M> Mailboxes<M> {
         }
     }
 
-    // Leaves a task in the line, or appends it if its future is not there.
+    // Makes a task wait in the place of its future, or appends it if its future is not in the line.
     fn linger(&mut self, ticket: Option<u64>, actor: u64, task: u64) -> Received<M>
         ensures line { Lingers self.old ticket actor task result self.new }
         ensures actors { self.new.actors ≡ self.old.actors }
     {
         if let Some(ticket) = ticket {
-            if self.has(ticket) {
+            if let Some(place) = self.place_of(ticket) {
+                self.waiters[place] = Receiver {
+                    ticket,
+                    actor,
+                    task,
+                };
                 return Received::Waits(ticket);
             }
         }
@@ -210,8 +217,8 @@ impl<M: Drop> Mailboxes<M> {
         }
     }
 
-    /// Answers a future that asks for the first message of an actor. If there is none, the task waits from now on, or
-    /// keeps its place if the future with this ticket waits.
+    /// Answers a future that asks for the first message of an actor. If there is none, the task waits from now on, in the
+    /// place of the future with this ticket if that waits.
     pub fn receive(&mut self, ticket: Option<u64>, actor: u64, task: u64) -> Received<M>
         ensures { Receives self.old ticket actor task result self.new }
     {

@@ -5,4 +5,5 @@ use Rattle.mono_serve.proofs.receives.ask.Goals as goal
 pub returns-clause-answer : goal.returns-clause-answer
 returns-clause-answer g c =
     subst (λ w. Receives (g.W.Holds.part (g.C.SharedContext.shared c.args.cx.now)) c.args.ticket c.args.actor (g.C.Context.number c.args.cx.now) c.receive_part.result (g.W.Holds.part w)) (sym (g.met.C.SharedContext.shared_with c.args.cx.now c.receive_part.new.whole))
-    (rw c.shared_mut.ensures.value at c.receive_part.ensures.answer)
+    (subst (λ n. Receives (g.W.Holds.part (g.C.SharedContext.shared c.args.cx.now)) c.args.ticket c.args.actor n c.receive_part.result (g.W.Holds.part c.receive_part.new.whole)) c.me-me.ensures
+    (rw c.shared_mut.ensures.value at c.receive_part.ensures.answer))
