@@ -21,6 +21,7 @@ import tempfile
 
 sys.dont_write_bytecode = True
 import inputs
+import tokio
 
 HERE = os.path.dirname(os.path.abspath(__file__))
 CAP = 16 * 1024 * 1024
@@ -74,15 +75,15 @@ class Bench:
                     side.append(self.once(words, source))
         return [(min(t for t, _ in side), max(m for _, m in side)) if side else None for side in sides]
 
-    def table(self, title, command, rows):
-        """Prints a table; a row is a label, our words, the plain program's words or None, and an input or None."""
+    def table(self, title, command, rows, other="Plain"):
+        """Prints a table; a row is a label, our words, the other program's words or None, and an input or None."""
         print(f"\n## {title}\n\nCommand: `{command}`.\n")
-        print("| Workload | Ratio | Time, ms | Plain, ms | Peak memory, MB | Plain, MB |\n|---|---|---|---|---|---|", flush=True)
+        print(f"| Workload | Ratio | Time, ms | {other}, ms | Peak memory, MB | {other}, MB |\n|---|---|---|---|---|---|", flush=True)
         for label, ours, plain, source in rows:
             here, there = self.pair(ours, plain, source)
             ratio = f"{here[0] / max(there[0], 1e-6):.2f}" if there else ""
-            other = (f"{1000 * there[0]:.0f}", f"{there[1] / 1024:.1f}") if there else ("", "")
-            print(f"| {label} | {ratio} | {1000 * here[0]:.0f} | {other[0]} | {here[1] / 1024:.1f} | {other[1]} |", flush=True)
+            cells = (f"{1000 * there[0]:.0f}", f"{there[1] / 1024:.1f}") if there else ("", "")
+            print(f"| {label} | {ratio} | {1000 * here[0]:.0f} | {cells[0]} | {here[1] / 1024:.1f} | {cells[1]} |", flush=True)
 
 
 def replays(b):
@@ -217,6 +218,7 @@ def main():
         replays(b)
         services(b)
         workloads(b)
+        tokio.channels(b)
         memory(b)
         counted(b)
         wheel(b)

@@ -1,0 +1,129 @@
+//! The loads of `mono_bench channels` on tokio's current-thread runtime:
+//!   tokio mpsc|permits|oneshot|threads N
+//!
+//! `mpsc` sends over tokio's channel of one place, `permits` takes turns at tokio's semaphore, `oneshot` answers each of N
+//! spawned tasks, and `threads` sends from a runtime of one thread to a runtime of another, over 64 places.
+//! `tools/bench/run.py` builds it with cargo over Debian's package `librust-tokio-dev`.
+use std::rc::Rc;
+use tokio::runtime::{Builder, Runtime};
+use tokio::sync::mpsc::{channel, Receiver, Sender};
+use tokio::sync::{oneshot, Semaphore};
+use tokio::task::{spawn_local, yield_now, LocalSet};
+
+fn runtime() -> Runtime {
+    Builder::new_current_thread().build().expect("a runtime")
+}
+
+/// Runs a future and the tasks that it spawns on a runtime of this thread.
+fn run<T>(future: impl std::future::Future<Output = T>) -> T {
+    LocalSet::new().block_on(&runtime(), future)
+}
+
+async fn send(sender: Sender<u64>, count: u64) -> u64 {
+    for number in 0..count {
+        if sender.send(number).await.is_err() {
+            return number;
+        }
+    }
+    count
+}
+
+/// Receives all numbers; returns their sum, each times its place.
+async fn receive(mut receiver: Receiver<u64>) -> u64 {
+    let (mut place, mut sum) = (0u64, 0u64);
+    while let Some(number) = receiver.recv().await {
+        place = place.wrapping_add(1);
+        sum = sum.wrapping_add(number.wrapping_mul(place));
+    }
+    sum
+}
+
+fn mpsc(count: u64) -> u64 {
+    run(async move {
+        let (sender, mut receiver) = channel(1);
+        spawn_local(send(sender, count));
+        let taker = spawn_local(async move {
+            let mut came = 0;
+            while receiver.recv().await.is_some() {
+                came += 1;
+            }
+            came
+        });
+        taker.await.expect("an answer")
+    })
+}
+
+/// Holds a permit over one turn, again and again.
+async fn take(permits: Rc<Semaphore>, count: u64) -> u64 {
+    for _ in 0..count {
+        let permit = permits.acquire().await.expect("a permit");
+        yield_now().await;
+        drop(permit);
+    }
+    count
+}
+
+fn permits(count: u64) -> u64 {
+    run(async move {
+        let permits = Rc::new(Semaphore::new(1));
+        spawn_local(take(permits.clone(), count));
+        spawn_local(take(permits, count)).await.expect("an answer")
+    })
+}
+
+fn once(count: u64) -> u64 {
+    run(async move {
+        let asker = spawn_local(async move {
+            let mut sum = 0;
+            for number in 0..count {
+                let (sender, receiver) = oneshot::channel();
+                spawn_local(async move { sender.send(number) });
+                sum += receiver.await.expect("a number");
+            }
+            sum
+        });
+        asker.await.expect("an answer")
+    })
+}
+
+fn threads(count: u64) -> u64 {
+    let (sender, receiver) = channel(64);
+    let other = std::thread::spawn(move || run(async move { spawn_local(send(sender, count)).await.expect("an answer") }));
+    let sum = run(async move { spawn_local(receive(receiver)).await.expect("an answer") });
+    other.join().expect("a thread");
+    sum
+}
+
+/// Makes tasks that each wait for the one message of a channel of its own, and then sends the first its message.
+fn waits(count: u64) -> u64 {
+    run(async move {
+        let semaphore = Rc::new(Semaphore::new(0));
+        let mut tasks = Vec::new();
+        for _ in 0..count {
+            let semaphore = semaphore.clone();
+            tasks.push(spawn_local(async move { semaphore.acquire().await.expect("a permit").forget() }));
+        }
+        yield_now().await;
+        semaphore.add_permits(count as usize);
+        for task in tasks {
+            task.await.expect("an answer");
+        }
+        count
+    })
+}
+
+fn main() {
+    let words: Vec<String> = std::env::args().collect();
+    let [_, name, count] = words.as_slice() else {
+        return eprintln!("usage: tokio mpsc|permits|oneshot|threads|waits N");
+    };
+    let count = count.parse().expect("a number");
+    let answer = match name.as_str() {
+        "mpsc" => mpsc(count),
+        "permits" => permits(count),
+        "oneshot" => once(count),
+        "waits" => waits(count),
+        _ => threads(count),
+    };
+    println!("channels {name} {count}: {answer}");
+}
