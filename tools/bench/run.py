@@ -9,8 +9,9 @@ set. `quick` takes inputs of a sixteenth and two runs.
 
 Instructions are valgrind's; without valgrind their tables are left out. They do not depend on what else runs.
 
-The environment's ANCHORS names the program of the original's wheel, if there is one. It is not in the repository: put the
-crate's own wheel and slab behind `fn register, remove, reset, poll`, with the words `bench WORKLOAD orig-packed N`.
+The environment's ANCHORS names a program of the original's wheel and tasks, if there is one. It is not in the repository:
+put the crate's own wheel and slab behind `fn register, remove, reset, poll`, and its tasks over a stepped driver. With the
+words `one WORKLOAD orig-packed|orig-task N RUNS` it prints a line with `ns_op=X`, nanoseconds an operation of the best run.
 """
 import os
 import re
@@ -190,8 +191,33 @@ def counted(b):
 WHEEL = ("insert_fire", "insert_cancel", "reset_later", "short_ticks", "far_jump", "next_expiration", "far_many")
 
 
+def anchor(work, peer, count, runs):
+    """Returns the nanoseconds an operation takes by the original, or None without a program of it."""
+    program = os.environ.get("ANCHORS")
+    if not program:
+        return None
+    done = subprocess.run([program, "one", work, peer, str(count), str(runs)], capture_output=True, text=True, check=True)
+    return float(re.search(r"ns_op=([\d.]+)", done.stdout)[1])
+
+
+def originals(b):
+    """Prints what a task costs beside the original's, if its program is there."""
+    if not os.environ.get("ANCHORS"):
+        return
+    count = 1000000 // b.by
+    print("\n## Tasks beside the original's\n\nCommand: `mono_bench turns WORD N`, nanoseconds of processor time each.\n")
+    print("| Each | Ratio | Time, ns | Original, ns |\n|---|---|---|---|")
+    for each, word, n, work in (
+        ("a spawn with its turn, `spawn`", "spawn", count, "spawn_turn"),
+        ("a wake with its turn, `pair`", "pair", 10 * count, "yield_turn"),
+        ("a task that sleeps once, `sleeps`", "sleeps", count, "load_tasks"),
+    ):
+        ours = 1e9 * min(b.once([b.bench, "turns", word, str(n)], None)[0] for _ in range(b.runs)) / n
+        theirs = anchor(work, "orig-task", count, 3)
+        print(f"| {each} | {ours / theirs:.2f} | {ours:.0f} | {theirs:.0f} |", flush=True)
+
+
 def wheel(b):
-    anchors = os.environ.get("ANCHORS")
     print("\n## Wheel\n\nCommand: `mono_bench wheel WORKLOAD N timed RUNS`, nanoseconds a key of the best run.\n")
     counts = [(1000, 101), (100000 // b.by, 9), (1000000 // b.by, 3)]
     print("| Workload | " + " | ".join(f"{count:,}" for count, _ in counts) + " |\n|---|---|---|---|")
@@ -203,9 +229,9 @@ def wheel(b):
                 continue
             done = subprocess.run([b.bench, "wheel", work, str(count), "timed", str(runs)], capture_output=True, text=True, check=True)
             cells.append(done.stdout.split()[-1])
-            if anchors:
-                other = subprocess.run([anchors, "bench", work, "orig-packed", str(count)], capture_output=True, text=True)
-                cells[-1] += f" (original {other.stdout.split()[-1]})" if other.stdout else ""
+            other = None if work == "far_many" else anchor(work, "orig-packed", count, runs)
+            if other:
+                cells[-1] += f" ({float(cells[-1]) / other:.2f} of the original)"
         print(f"| `{work}` | " + " | ".join(cells) + " |", flush=True)
 
 
@@ -221,6 +247,7 @@ def main():
         tokio.channels(b)
         memory(b)
         counted(b)
+        originals(b)
         wheel(b)
 
 
