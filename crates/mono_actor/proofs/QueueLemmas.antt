@@ -247,38 +247,6 @@ module _ (seats : List (Option Seat)) (ends : Seat) (items : List ℕ) (ring : R
     pub not-end : end_number ≢ number
     not-end e = end-none seats ring.few (subst (λ k. is_some (value_at seats k) ≡ true) (sym e) seat)
 
-    module _ (s2 s3 : List (Option Seat)) (e2 e3 : Seat) (f : Joined seats s2 ends e2 (before_in seats ends end_number) number) (g : Joined s2 s3 e2 e3 number end_number) where
-      last-apart : before_in seats ends end_number ≢ number
-      last-apart e = elim (chain-last_in (after_in seats ends) (before_in seats ends) end_number items end_number ring.chain) [
-        | inl h ↦ not-end (sym h ∙ e)
-        | inr h ↦ out (is_in_equal _ number items e h)
-      ]
-
-      pushed : Ring s3 e3 (items ++ number ∷ [])
-      pushed = record {
-        chain = chain-pushed_back (after_in seats ends) (before_in seats ends) (after_in s3 e3) (before_in s3 e3) end_number number items end_number
-            (g.after_others _ last-apart ∙ f.after_here)
-            (g.before_others number (λ e. not-end (sym e)) ∙ f.before_here)
-            g.after_here
-            g.before_here
-            (λ k kb kn. g.after_others k kn ∙ f.after_others k kb)
-            (λ k ka kn. g.before_others k ka ∙ f.before_others k kn)
-            end-out out end-out not-end ring.distinct ring.chain;
-        distinct = distinct-pushed items number out ring.distinct;
-        seated = λ k h. seat-known s2 s3 k g.seats ∙ seat-known seats s2 k f.seats ∙ elim (is_in-pushed k items number h) [
-          | inl e ↦ subst (λ z. is_some (value_at seats z) ≡ true) (sym e) seat
-          | inr i ↦ ring.seated k i
-        ];
-        few = omega (arith, ring.few, same-length s2 s3 g.seats, same-length seats s2 f.seats);
-      }
-
-      pub pushed-items : items_in s3 e3 ≡ items ++ number ∷ []
-      pushed-items = walk-chain (after_in s3 e3) (before_in s3 e3) end_number (items ++ number ∷ []) end_number (length s3) (λ h. end-none s3 pushed.few (pushed.seated end_number h))
-          (length-distinct (items ++ number ∷ []) (length s3) pushed.distinct (λ k h. seat-below s3 k (pushed.seated k h))) pushed.chain
-
-      pub pushed-ring : Ring s3 e3 (items_in s3 e3)
-      pushed-ring = subst (λ zs. Ring s3 e3 zs) (sym pushed-items) pushed
-
   -- seats that are not in the queue come and go
   module _ (s2 : List (Option Seat)) (same : (k : ℕ) → IsIn k items → value_at s2 k ≡ value_at seats k) (few : length s2 < 2 ^ 64) where
     stayed : Ring s2 ends items
@@ -344,3 +312,108 @@ module _ (seats : List (Option Seat)) (ends : Seat) (items : List ℕ) (ring : R
 
     pub added-ring : Ring (seats ++ Some s ∷ []) ends (items_in (seats ++ Some s ∷ []) ends)
     added-ring = stayed-ring seats ends items ring (seats ++ Some s ∷ []) added-same added-few
+
+-- At each number but the end, the ends do not matter.
+before-apart : (seats : List (Option Seat)) (e f : Seat) (k : ℕ) → k ≢ end_number → before_in seats e k ≡ before_in seats f k
+before-apart seats e f k apart = elim (eqb_tells k end_number) [
+  | inl t ↦ absurd (apart t.1)
+  | inr t ↦ ap (λ b. cond b e.before (before_of (value_at seats k))) t.0 ∙ sym (ap (λ b. cond b f.before (before_of (value_at seats k))) t.0)
+]
+
+module _ (seats : List (Option Seat)) (ends : Seat) (items : List ℕ) (ring : Ring seats ends items) (number : ℕ) (out : IsIn number items → ⊥) (seat : is_some (value_at seats number) ≡ true) where
+  abbrev newest : Seat
+  newest = record { before = before_in seats ends end_number; after = end_number }
+
+  abbrev placed : List (Option Seat)
+  placed = set seats number (Some newest)
+
+  no-end : number ≢ end_number
+  no-end e = not-end seats ends items ring number out seat (sym e)
+
+  its-newest : value_at placed number ≡ Some newest
+  its-newest = get_or-set_same seats number (Some newest) None (seat-below seats number seat)
+
+  others-stay : (k : ℕ) → k ≢ number → value_at placed k ≡ value_at seats k
+  others-stay k apart = get_or-set_other seats number k (Some newest) None apart
+
+  pub placed-place : HasPlace (set seats number (Some (record { before = before_in seats ends end_number; after = end_number }))) (before_in seats ends end_number)
+  placed-place = elim (last-place seats ends items ring) [
+    | inl e ↦ inl e
+    | inr h ↦ inr (elim (eqb_tells (before_in seats ends end_number) number) [
+      | inl e ↦ ap is_some (ap (value_at placed) e.1 ∙ its-newest)
+      | inr e ↦ ap is_some (others-stay _ e.1) ∙ h
+    ])
+  ]
+
+  module _ (s2 : List (Option Seat)) (e2 : Seat) (f : SetsAfter (set seats number (Some (record { before = before_in seats ends end_number; after = end_number }))) s2 ends e2 (before_in seats ends end_number) number) where
+    abbrev e3 : Seat
+    e3 = record { before = number; after = e2.after }
+
+    last-apart-2 : number ≢ before_in seats ends end_number
+    last-apart-2 e = elim (chain-last_in (after_in seats ends) (before_in seats ends) end_number items end_number ring.chain) [
+      | inl h ↦ no-end (e ∙ h)
+      | inr h ↦ out (is_in_equal _ number items (sym e) h)
+    ]
+
+    its-after : after_in placed ends number ≡ end_number
+    its-after = elim (eqb_tells number end_number) [
+      | inl t ↦ absurd (no-end t.1)
+      | inr t ↦ ap (λ b. cond b ends.after (after_of (value_at placed number))) t.0 ∙ ap after_of its-newest
+    ]
+
+    its-before : before_in placed ends number ≡ before_in seats ends end_number
+    its-before = elim (eqb_tells number end_number) [
+      | inl t ↦ absurd (no-end t.1)
+      | inr t ↦ ap (λ b. cond b ends.before (before_of (value_at placed number))) t.0 ∙ ap before_of its-newest
+    ]
+
+    known-2 : (k : ℕ) → is_some (value_at s2 k) ≡ is_some (value_at seats k)
+    known-2 k = seat-known placed s2 k f.seats ∙ elim (eqb_tells k number) [
+      | inl e ↦ ap is_some (ap (value_at placed) e.1 ∙ its-newest) ∙ sym (ap (λ z. is_some (value_at seats z)) e.1 ∙ seat)
+      | inr e ↦ ap is_some (others-stay k e.1)
+    ]
+
+    put-last : Ring s2 (record { before = number; after = e2.after }) (items ++ number ∷ [])
+    put-last = record {
+      chain = chain-pushed_back (after_in seats ends) (before_in seats ends) (after_in s2 e3) (before_in s2 e3) end_number number items end_number
+          f.here
+          (before-apart s2 e3 e2 number no-end ∙ f.befores number ∙ its-before)
+          (f.others number last-apart-2 ∙ its-after)
+          refl
+          (λ k kl kn. f.others k kl ∙ ap (λ v. cond (k == end_number) ends.after (after_of v)) (others-stay k kn))
+          (λ k ke kn. before-apart s2 e3 e2 k ke ∙ f.befores k ∙ ap (λ v. cond (k == end_number) ends.before (before_of v)) (others-stay k kn))
+          (end-out seats ends items ring) out (end-out seats ends items ring) (λ e. no-end (sym e)) ring.distinct ring.chain;
+      distinct = distinct-pushed items number out ring.distinct;
+      seated = λ k h. known-2 k ∙ elim (is_in-pushed k items number h) [
+        | inl e ↦ subst (λ z. is_some (value_at seats z) ≡ true) (sym e) seat
+        | inr i ↦ ring.seated k i
+      ];
+      few = omega (arith, ring.few, same-length placed s2 f.seats, length-set seats number (Some newest));
+    }
+
+    pub put-last-items : items_in s2 (record { before = number; after = e2.after }) ≡ items ++ number ∷ []
+    put-last-items = ring-items s2 (record { before = number; after = e2.after }) (items ++ number ∷ []) put-last
+
+    pub put-last-ring : Ring s2 (record { before = number; after = e2.after }) (items_in s2 (record { before = number; after = e2.after }))
+    put-last-ring = subst (λ zs. Ring s2 (record { before = number; after = e2.after }) zs) (sym put-last-items) put-last
+
+    pub put-last-seats : map is_some s2 ≡ map is_some seats
+    put-last-seats = f.seats ∙ map-set is_some seats number (Some newest) ∙ same-true (map is_some seats) number (seats-there seats number ∙ seat)
+      where
+        same-true : (xs : List Bool) (i : ℕ) → get_or xs i false ≡ true → set xs i true ≡ xs
+        same-true [] i h = refl
+        same-true (x ∷ xs) zero h = ap (λ y. y ∷ xs) (sym h)
+        same-true (x ∷ xs) (suc i) h = ap (λ ys. x ∷ ys) (same-true xs i h)
+
+-- the front is taken out
+pub front-before : (seats : List (Option Seat)) (ends : Seat) (front : ℕ) (rest : List ℕ) → Ring seats ends (front ∷ rest) → before_in seats ends front ≡ end_number
+front-before seats ends front rest ring = ring.chain.0.back
+
+pub front-joined : (seats s2 : List (Option Seat)) (ends e2 : Seat) (items : List ℕ) (ring : Ring seats ends items) (front next : ℕ) (rest : List ℕ) → items ≡ front ∷ rest → next ≡ after_in seats ends front
+    → Joined seats s2 ends e2 end_number next → Joined seats s2 ends e2 (before_in seats ends front) (after_in seats ends front)
+front-joined seats s2 ends e2 items ring front next rest is at joined =
+    subst (λ z. Joined seats s2 ends e2 z (after_in seats ends front)) (sym (front-before seats ends front rest (subst (λ zs. Ring seats ends zs) is ring)))
+    (subst (λ z. Joined seats s2 ends e2 end_number z) at joined)
+
+pub front-in : (items : List ℕ) (front : ℕ) (rest : List ℕ) → items ≡ front ∷ rest → IsIn front items
+front-in items front rest is = subst (λ zs. IsIn front zs) (sym is) (inl refl)

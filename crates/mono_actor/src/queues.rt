@@ -162,9 +162,10 @@ impl Queue {
         ensures items { self.new.items ≡ self.old.items ++ number ∷ [] }
         ensures seats { self.new.seats ≡ self.old.seats }
     {
-        let last = self.ends.before;
-        join(&mut self.seats, &mut self.ends, last, number);
-        join(&mut self.seats, &mut self.ends, number, END);
+        let before = self.ends.before;
+        self.seats.replace(number, Seat { before, after: END });
+        set_after(&mut self.seats, &mut self.ends, before, number);
+        self.ends.before = number;
     }
 
     /// Removes a number that is in the queue, from wherever it is.
@@ -188,7 +189,8 @@ impl Queue {
         if front == END {
             return None;
         }
-        self.remove(front);
+        let next = after(&self.seats, self.ends, front);
+        join(&mut self.seats, &mut self.ends, END, next);
         Some(front)
     }
 }

@@ -1,25 +1,37 @@
-use Rattle.std.proofs.Common.{inr, ◌∙◌, ◌++◌, ◌∷◌, [], ap}
-use Rattle.mono_actor.specs.Queues.{Queue, items_in}
-use Rattle.mono_actor.proofs.QueueLemmas.{last-place, known-seat, out-of, pushed-items, pushed-ring}
+use Rattle.std.proofs.Common.{◌≡◌, ◌++◌, ◌∷◌, [], Some, set, ap, sym, subst, ◌∙◌}
+use Rattle.mono_actor.specs.Queues.{Queue, HasPlace, SetsAfter, items_in}
+use Rattle.mono_actor.proofs.QueueLemmas.{known-seat, out-of, placed-place, put-last-items, put-last-ring, put-last-seats}
 use Rattle.mono_actor.proofs.queues.Queue.push_back.Goals as goal
 
-pub join-requires-clause-before : goal.join-requires-clause-before
-join-requires-clause-before c = last-place c.self.inside.seats.table c.self.inside.ends (items_in c.self.inside.seats.table c.self.inside.ends) c.self.invariant
-
-pub join-requires-clause-after : goal.join-requires-clause-after
-join-requires-clause-after c = inr (known-seat c.self.inside.seats.table c.self.inside.ends c.self.inside.seats.room c.args.self.now c.args.number c.self.view_is c.requires.seat)
+pub set_after-requires : goal.set_after-requires
+set_after-requires c =
+    let i = c.self.inside in
+    let known = known-seat i.seats.table i.ends i.seats.room c.args.self.now c.args.number c.self.view_is c.requires.seat in
+    let out = out-of i.seats.table i.ends i.seats.room c.args.self.now c.args.number c.self.view_is c.requires.out in
+    subst (λ t. HasPlace t i.ends.before) (sym c.replace.ensures.table) (placed-place i.seats.table i.ends (items_in i.seats.table i.ends) c.self.invariant c.args.number out known)
 
 pub invariant_of-self : goal.invariant_of-self
 invariant_of-self c =
-    pushed-ring c.self.inside.seats.table c.self.inside.ends (items_in c.self.inside.seats.table c.self.inside.ends) c.self.invariant c.args.number
-    (out-of c.self.inside.seats.table c.self.inside.ends c.self.inside.seats.room c.args.self.now c.args.number c.self.view_is c.requires.out)
-    (known-seat c.self.inside.seats.table c.self.inside.ends c.self.inside.seats.room c.args.self.now c.args.number c.self.view_is c.requires.seat)
-    c.join.new.seats.table c.join-2.new.seats.table c.join.new.ends c.join-2.new.ends c.join.ensures c.join-2.ensures
+    let i = c.self.inside in
+    let known = known-seat i.seats.table i.ends i.seats.room c.args.self.now c.args.number c.self.view_is c.requires.seat in
+    let out = out-of i.seats.table i.ends i.seats.room c.args.self.now c.args.number c.self.view_is c.requires.out in
+    put-last-ring i.seats.table i.ends (items_in i.seats.table i.ends) c.self.invariant c.args.number out known c.set_after.new.seats.table c.set_after.new.ends
+    (subst (λ t. SetsAfter t c.set_after.new.seats.table i.ends c.set_after.new.ends i.ends.before c.args.number) c.replace.ensures.table c.set_after.ensures)
 
 pub returns-clause-items : goal.returns-clause-items
 returns-clause-items c =
-    pushed-items c.self.inside.seats.table c.self.inside.ends (items_in c.self.inside.seats.table c.self.inside.ends) c.self.invariant c.args.number
-    (out-of c.self.inside.seats.table c.self.inside.ends c.self.inside.seats.room c.args.self.now c.args.number c.self.view_is c.requires.out)
-    (known-seat c.self.inside.seats.table c.self.inside.ends c.self.inside.seats.room c.args.self.now c.args.number c.self.view_is c.requires.seat)
-    c.join.new.seats.table c.join-2.new.seats.table c.join.new.ends c.join-2.new.ends c.join.ensures c.join-2.ensures
+    let i = c.self.inside in
+    let known = known-seat i.seats.table i.ends i.seats.room c.args.self.now c.args.number c.self.view_is c.requires.seat in
+    let out = out-of i.seats.table i.ends i.seats.room c.args.self.now c.args.number c.self.view_is c.requires.out in
+    put-last-items i.seats.table i.ends (items_in i.seats.table i.ends) c.self.invariant c.args.number out known c.set_after.new.seats.table c.set_after.new.ends
+    (subst (λ t. SetsAfter t c.set_after.new.seats.table i.ends c.set_after.new.ends i.ends.before c.args.number) c.replace.ensures.table c.set_after.ensures)
     ∙ ap (λ (q : Queue). q.items ++ c.args.number ∷ []) c.self.view_is
+
+pub returns-clause-seats : goal.returns-clause-seats
+returns-clause-seats c =
+    let i = c.self.inside in
+    let known = known-seat i.seats.table i.ends i.seats.room c.args.self.now c.args.number c.self.view_is c.requires.seat in
+    let out = out-of i.seats.table i.ends i.seats.room c.args.self.now c.args.number c.self.view_is c.requires.out in
+    put-last-seats i.seats.table i.ends (items_in i.seats.table i.ends) c.self.invariant c.args.number out known c.set_after.new.seats.table c.set_after.new.ends
+    (subst (λ t. SetsAfter t c.set_after.new.seats.table i.ends c.set_after.new.ends i.ends.before c.args.number) c.replace.ensures.table c.set_after.ensures)
+    ∙ ap (λ (q : Queue). q.seats) c.self.view_is
