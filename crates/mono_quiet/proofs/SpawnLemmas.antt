@@ -1,7 +1,7 @@
 -- Turns of futures that make no task spawn none.
-use Rattle.std.specs.Prelude.{⊤, ◌≤◌, Option, Some, None, map}
+use Rattle.std.specs.Prelude.{⊤, Option, Some, None}
 use Rattle.std.specs.Option.{option_map}
-use Rattle.std.proofs.Common.{◌≡◌, ℕ, List, length, sym, ◌∙◌, arith}
+use Rattle.std.proofs.Common.{◌≡◌, length, sym, ◌∙◌, arith}
 use Rattle.std.proofs.lemmas.List.{get_or_past, length-map}
 use Rattle.mono_model.specs.Table.{value_at, next_number}
 use Rattle.mono_model.specs.Tasks.{Tasks}
