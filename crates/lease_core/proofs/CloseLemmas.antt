@@ -1,155 +1,118 @@
--- One wait after another, the first that came first: it ends, or comes last.
-use Rattle.std.proofs.Common.{◌≡◌, ◌<◌, ◌≤◌, ◌+◌, ◌-◌, ℕ, true, false, nat_eq, nat_lt, ◌==◌, List, [], ◌∷◌, ◌++◌, take, drop, filter, length, get_or, Option, Some, None, refl, sym, ap, subst, ◌∙◌, arith, append_assoc, append-nil}
+-- The waits that end since sessions were closed, and at the end of the input.
+use Rattle.std.proofs.Common.{◌≡◌, ◌<◌, ◌≤◌, ◌+◌, ◌-◌, ℕ, true, false, ◌==◌, List, [], ◌∷◌, ◌++◌, take, drop, get_or, filter, length, Option, Some, None, refl, sym, ap, ◌∙◌, arith, append_assoc, append-nil}
 use Rattle.std.specs.List.{AllByRecursion, IsDistinct}
-use Rattle.std.specs.Map.{keys_of, lookup_entry, remove_entry}
-use Rattle.std.proofs.lemmas.List.{drop_more, take_more}
-use Rattle.lru.specs.LruCache.{last_entry, promoted}
+use Rattle.std.specs.Map.{keys_of, remove_entry}
+use Rattle.std.proofs.lemmas.List.{drop_more, drop_all}
+use Rattle.lru.specs.LruCache.{last_entry}
 use Rattle.mono_session.specs.Keeper.{Keeper}
-use Rattle.mono_session.specs.Refinement.{StandsFor}
 use Rattle.mono_session.specs.Links.{pair_eq}
-use Rattle.mono_session.specs.declared.keeper.Sessions.{Sessions}
 use Rattle.lease_core.specs.declared.ends.Waiter.{Waiter}
 use Rattle.lease_core.specs.declared.requests.Outcome.{Outcome}
 use Rattle.lease_core.specs.declared.requests.Reply.{Reply}
 use Rattle.lease_core.specs.Waits.{close_end, input_end, end_reply, ended, FreesBy}
-use Rattle.lease_core.specs.Places.{Entry, waiter_of, waiters, descends, goes_on, again, OldestEnds}
-use Rattle.lease_core.proofs.PlaceLemmas.{length_more, last_pushed, without_pushed, cut_last, both, ended_more, oldest_first, kept_waiters, descends_more}
+use Rattle.lease_core.specs.Places.{Entry, waiter_of, waiters, descends, goes_on, end_key, ended_keys, without}
+use Rattle.lease_core.proofs.PlaceLemmas.{length_more, cut_last, oldest_first, kept_waiters}
+use Rattle.lease_core.proofs.ReleaseLemmas.{order_removed, length_removed_le}
 
--- ---- the last of the table goes to its front
+-- ---- a look at all waits, the first that came first
 
-same_pair : (a b : ℕ × ℕ) → pair_eq a b ≡ true → a ≡ b
-same_pair a b is =
-    let parts = both (nat_eq a.0 b.0) (nat_eq a.1 b.1) is in
-    let first : a.0 ≡ b.0 = grind (arith, parts.0) in
-    let second : a.1 ≡ b.1 = grind (arith, parts.1) in
-    λ i. (first i, second i)
+oldest_key : (f : Waiter → Option Outcome) (es : List Entry) (e : Entry) → ended_keys f (es ++ e ∷ []) ≡ end_key e.0 (f (waiter_of e)) ++ ended_keys f es
+oldest_key f [] e = sym (append-nil (end_key e.0 (f (waiter_of e))))
+oldest_key f (x ∷ es) e =
+    ap (λ ks. ks ++ end_key x.0 (f (waiter_of x))) (oldest_key f es e) ∙ append_assoc (end_key e.0 (f (waiter_of e))) (ended_keys f es) (end_key x.0 (f (waiter_of x)))
+
+pub look_on : (f : Waiter → Option Outcome) (tick : ℕ) (now next : List Entry) (x : Entry) (w : Waiter) (end : Option Outcome) (between replies all : List Reply) → now ≡ next ++ x ∷ [] → w ≡ waiter_of x → end ≡ f w
+    → replies ≡ between ++ end_reply tick w end → between ++ ended f tick (waiters now) ≡ all → replies ++ ended f tick (waiters next) ≡ all
+look_on f tick now next x w end between replies all cut shows ends told before =
+    let first : waiters now ≡ w ∷ waiters next = ap waiters cut ∙ oldest_first next x ∙ ap (λ v. v ∷ waiters next) (sym shows) in
+    ap (λ rs. rs ++ ended f tick (waiters next)) (told ∙ ap (λ o. between ++ end_reply tick w o) ends)
+    ∙ append_assoc between (end_reply tick w (f w)) (ended f tick (waiters next))
+    ∙ ap (λ ws. between ++ ended f tick ws) (sym first) ∙ before
+
+pub note_on : (f : Waiter → Option Outcome) (now next : List Entry) (x : Entry) (w : Waiter) (end : Option Outcome) (between keys all : List (ℕ × ℕ)) → now ≡ next ++ x ∷ [] → w ≡ waiter_of x → end ≡ f w
+    → keys ≡ between ++ end_key x.0 end → between ++ ended_keys f now ≡ all → keys ++ ended_keys f next ≡ all
+note_on f now next x w end between keys all cut shows ends told before =
+    let own : end ≡ f (waiter_of x) = ends ∙ ap f shows in
+    ap (λ ks. ks ++ ended_keys f next) (told ∙ ap (λ o. between ++ end_key x.0 o) own)
+    ∙ append_assoc between (end_key x.0 (f (waiter_of x))) (ended_keys f next)
+    ∙ ap (λ ks. between ++ ks) (sym (ap (ended_keys f) cut ∙ oldest_key f next x)) ∙ before
+
+pub one_fewer : (now next : List Entry) (x : Entry) → now ≡ next ++ x ∷ [] → length next + 1 ≡ length now
+one_fewer now next x cut = sym (ap length cut ∙ length_more next x)
+
+-- ---- the removal of the waits that ended
+
+pub remove_on : (i : ℕ) (keys : List (ℕ × ℕ)) (d : ℕ × ℕ) (es now next : List Entry) → i < length keys → next ≡ remove_entry (pair_eq (get_or keys i d)) now → without (drop i keys) now ≡ without keys es
+    → without (drop (i + 1) keys) next ≡ without keys es
+remove_on i keys d es now next lt left before =
+    ap (without (drop (i + 1) keys)) left ∙ ap (λ l. without l now) (sym (drop_more keys i d lt)) ∙ before
+
+pub remove_none : (i : ℕ) (keys : List (ℕ × ℕ)) (es now : List Entry) → length keys ≤ i → without (drop i keys) now ≡ without keys es → now ≡ without keys es
+remove_none i keys es now le before = ap (λ l. without l now) (sym (drop_all i keys le)) ∙ before
+
+order_without : (keys : List (ℕ × ℕ)) (n : ℕ) (es : List Entry) → descends n es ≡ true → descends n (without keys es) ≡ true
+order_without [] n es order = order
+order_without (k ∷ keys) n es order = order_without keys n (remove_entry (pair_eq k) es) (order_removed (pair_eq k) n es order)
+
+length_without : (keys : List (ℕ × ℕ)) (es : List Entry) → length (without keys es) ≤ length es
+length_without [] es = omega arith
+length_without (k ∷ keys) es = omega (arith, length_without keys (remove_entry (pair_eq k) es), length_removed_le (pair_eq k) es)
+
+pub order_left : (keys : List (ℕ × ℕ)) (n : ℕ) (es new : List Entry) → new ≡ without keys es → descends n es ≡ true → descends n new ≡ true
+order_left keys n es new left order = ap (descends n) left ∙ order_without keys n es order
+
+pub length_left : (keys : List (ℕ × ℕ)) (es new : List Entry) → new ≡ without keys es → length new ≤ length es
+length_left keys es new left = rw left (length_without keys es)
+
+without_append : (xs ys : List (ℕ × ℕ)) (es : List Entry) → without (xs ++ ys) es ≡ without ys (without xs es)
+without_append [] ys es = refl
+without_append (x ∷ xs) ys es = without_append xs ys (remove_entry (pair_eq x) es)
+
+without_other : (keys : List (ℕ × ℕ)) (e : Entry) (es : List Entry) → AllByRecursion (λ k. pair_eq k e.0 ≡ false) keys → without keys (e ∷ es) ≡ e ∷ without keys es
+without_other [] e es apart = refl
+without_other (k ∷ keys) e es apart = rw apart.0 (without_other keys e (remove_entry (pair_eq k) es) apart.1)
+
+turned : (k x : ℕ × ℕ) → pair_eq x k ≡ false → pair_eq k x ≡ false
+turned k x other = grind (arith, other)
 
 eq_self : (a : ℕ × ℕ) → pair_eq a a ≡ true
 eq_self a = grind arith
 
-not_found : (k x : ℕ × ℕ) → pair_eq x k ≡ false → pair_eq k x ≡ false
-not_found k x other = grind (arith, other)
+both_all : (P : ℕ × ℕ → Type 0) (xs ys : List (ℕ × ℕ)) → AllByRecursion P xs → AllByRecursion P ys → AllByRecursion P (xs ++ ys)
+both_all P [] ys a b = b
+both_all P (x ∷ xs) ys a b = (a.0, both_all P xs ys a.1 b)
 
-apart : (x : ℕ × ℕ) (es : List Entry) (e : Entry) → AllByRecursion (λ k. pair_eq x k ≡ false) (keys_of (es ++ e ∷ [])) → pair_eq x e.0 ≡ false
-apart x [] e none = none.0
-apart x (y ∷ es) e none = apart x es e none.1
+one_key : (P : ℕ × ℕ → Type 0) (k : ℕ × ℕ) (end : Option Outcome) → P k → AllByRecursion P (end_key k end)
+one_key P k None is = tt
+one_key P k (Some told) is = (is, tt)
 
-last_is_found : (es : List Entry) (e : Entry) → IsDistinct pair_eq (keys_of (es ++ e ∷ [])) → (lookup_entry (pair_eq e.0) (es ++ e ∷ []) ≡ Some e) × (remove_entry (pair_eq e.0) (es ++ e ∷ []) ≡ es)
+all_apart : (f : Waiter → Option Outcome) (a : ℕ × ℕ) (es : List Entry) → AllByRecursion (λ k. pair_eq a k ≡ false) (keys_of es) → AllByRecursion (λ k. pair_eq k a ≡ false) (ended_keys f es)
+all_apart f a [] apart = tt
+all_apart f a (e ∷ es) apart =
+    both_all (λ k. pair_eq k a ≡ false) (ended_keys f es) (end_key e.0 (f (waiter_of e))) (all_apart f a es apart.1) (one_key (λ k. pair_eq k a ≡ false) e.0 (f (waiter_of e)) (turned e.0 a apart.0))
+
+-- What is left if those that ended are removed.
+pub ended_removed : (f : Waiter → Option Outcome) (es : List Entry) → IsDistinct pair_eq (keys_of es) → without (ended_keys f es) es ≡ filter (goes_on f) es
 unfolding IsDistinct
-last_is_found [] e distinct = let is = eq_self e.0 in (rw is refl, rw is refl)
-last_is_found (x ∷ es) e distinct =
-    let other = not_found e.0 x.0 (apart x.0 es e distinct.0) in
-    let on = last_is_found es e distinct.1 in
-    (rw other on.0, rw other (ap (λ l. x ∷ l) on.1))
-
-pub last_promoted : (es : List Entry) (e : Entry) → IsDistinct pair_eq (keys_of (es ++ e ∷ [])) → promoted (pair_eq e.0) (es ++ e ∷ []) ≡ e ∷ es
-last_promoted es e distinct =
-    let is = last_is_found es e distinct in
-    rw (is.0, is.1) refl
-
-same_some : {X : Type 0} (x y : X) → Some x ≡ Some y → x ≡ y
-same_some x y is = cc is
-
--- The wait that came first, if it goes on, and if it ends.
-pub oldest_goes_on : (gone : List ℕ) (sessions : Sessions) (tick : ℕ) (old new : List Entry) (out replies : List Reply) (x : Entry) (w : Waiter) (end : Option Outcome)
-    → IsDistinct pair_eq (keys_of old) → Some x ≡ last_entry old → w ≡ waiter_of x → ((k : Keeper) → StandsFor sessions k → end ≡ close_end gone k w) → replies ≡ out ++ end_reply tick w end
-    → end ≡ None → new ≡ promoted (pair_eq x.0) old → OldestEnds gone sessions tick old new out replies
-oldest_goes_on gone sessions tick old new out replies x w end distinct last shows ends told none goes es e is =
-    let found : x ≡ e = same_some x e (last ∙ ap last_entry is ∙ last_pushed es e) in
-    let front : new ≡ e ∷ es = goes ∙ ap (λ (y : Entry). promoted (pair_eq y.0) old) found ∙ ap (promoted (pair_eq e.0)) is ∙ last_promoted es e (subst (λ l. IsDistinct pair_eq (keys_of l)) is distinct) in
-    let waits : w ≡ waiter_of e = shows ∙ ap waiter_of found in (
-      end,
-      subst (λ v. (k : Keeper) → StandsFor sessions k → end ≡ close_end gone k v) waits ends,
-      subst (λ v. replies ≡ out ++ end_reply tick v end) waits told,
-      subst (λ o. new ≡ again o e ++ es) (sym none) front,
-    )
-
-pub oldest_ends : (gone : List ℕ) (sessions : Sessions) (tick : ℕ) (old new : List Entry) (out replies : List Reply) (x : Entry) (w : Waiter) (end : Option Outcome) (told_is : Outcome)
-    → Some x ≡ last_entry old → w ≡ waiter_of x → ((k : Keeper) → StandsFor sessions k → end ≡ close_end gone k w) → replies ≡ out ++ end_reply tick w end
-    → end ≡ Some told_is → new ≡ take (length old - 1) old → OldestEnds gone sessions tick old new out replies
-oldest_ends gone sessions tick old new out replies x w end told_is last shows ends told some goes es e is =
-    let found : x ≡ e = same_some x e (last ∙ ap last_entry is ∙ last_pushed es e) in
-    let left : new ≡ es = goes ∙ ap (λ l. take (length l - 1) l) is ∙ without_pushed es e in
-    let waits : w ≡ waiter_of e = shows ∙ ap waiter_of found in (
-      end,
-      subst (λ v. (k : Keeper) → StandsFor sessions k → end ≡ close_end gone k v) waits ends,
-      subst (λ v. replies ≡ out ++ end_reply tick v end) waits told,
-      subst (λ o. new ≡ again o e ++ es) (sym some) left,
-    )
-
--- ---- the walk
-
--- All but the first `left` entries had their turn.
-pub record Walked (gone : List ℕ) (sessions : Sessions) (tick : ℕ) (old now : List Entry) (left : ℕ) (out replies : List Reply) : Type 0 where
-  pub kept : List Entry
-  pub is : now ≡ kept ++ take left old
-  pub order : (n : ℕ) → descends n (drop left old) ≡ true → descends n kept ≡ true
-  pub len : length kept + left ≤ length old
-  pub lives : (k : Keeper) → StandsFor sessions k → kept ≡ filter (goes_on (close_end gone k)) (drop left old)
-  pub told : (k : Keeper) → StandsFor sessions k → replies ≡ out ++ ended (close_end gone k) tick (waiters (drop left old))
-
-take_whole : (es : List Entry) → take (length es) es ≡ es
-take_whole [] = refl
-take_whole (e ∷ es) = ap (λ l. e ∷ l) (take_whole es)
-
-drop_whole : (es : List Entry) → drop (length es) es ≡ []
-drop_whole [] = refl
-drop_whole (e ∷ es) = drop_whole es
-
-pub walk_begins : (gone : List ℕ) (sessions : Sessions) (tick : ℕ) (old : List Entry) (left : ℕ) (out : List Reply) → left ≡ length old → Walked gone sessions tick old old left out out
-walk_begins gone sessions tick old left out is = rw is (record {
-  kept = [];
-  is = sym (take_whole old);
-  order = λ n h. refl;
-  len = omega arith;
-  lives = λ k stands. ap (filter (goes_on (close_end gone k))) (sym (drop_whole old));
-  told = λ k stands. sym (ap (λ es. out ++ ended (close_end gone k) tick (waiters es)) (drop_whole old) ∙ append-nil out);
-})
-
-order_again : (n : ℕ) (end : Option Outcome) (e : Entry) (kept : List Entry) → nat_lt e.1.ticket n ≡ true → descends e.1.ticket kept ≡ true → descends n (again end e ++ kept) ≡ true
-order_again n None e kept lt is = rw (lt, is) refl
-order_again n (Some told) e kept lt is = descends_more e.1.ticket n kept (grind (arith, lt)) is
-
-len_again : (end : Option Outcome) (e : Entry) (kept : List Entry) → length (again end e ++ kept) ≤ length kept + 1
-len_again None e kept = omega arith
-len_again (Some told) e kept = omega arith
-
-lives_again : (f : Waiter → Option Outcome) (end : Option Outcome) (e : Entry) (kept rest : List Entry) → end ≡ f (waiter_of e) → kept ≡ filter (goes_on f) rest → again end e ++ kept ≡ filter (goes_on f) (e ∷ rest)
-lives_again f None e kept rest is on = rw (sym is) (ap (λ l. e ∷ l) on)
-lives_again f (Some told) e kept rest is on = rw (sym is) on
-
-pub walk_on : (gone : List ℕ) (sessions : Sessions) (tick : ℕ) (old now new : List Entry) (m left : ℕ) (out between replies : List Reply) → left ≡ m + 1 → left ≤ length old
-    → Walked gone sessions tick old now left out between → OldestEnds gone sessions tick now new between replies → Walked gone sessions tick old new m out replies
-walk_on gone sessions tick old now new m left out between replies one within w turn =
-    let d : Entry = ((0, 0), record { number = 0; arrived = 0; ticket = 0 }) in
-    let lt : m < length old = omega (arith, one, within) in
-    let e = get_or old m d in
-    let after : drop left old ≡ drop (m + 1) old = ap (λ n. drop n old) one in
-    let rest : drop m old ≡ e ∷ drop left old = drop_more old m d lt ∙ ap (λ l. e ∷ l) (sym after) in
-    let front : take left old ≡ take m old ++ e ∷ [] = ap (λ n. take n old) one ∙ take_more old m d lt in
-    let t = turn (w.kept ++ take m old) e (w.is ∙ ap (λ l. w.kept ++ l) front ∙ sym (append_assoc w.kept (take m old) (e ∷ []))) in
-    let end = t.0 in
-    record {
-      kept = again end e ++ w.kept;
-      is = t.3 ∙ sym (append_assoc (again end e) w.kept (take m old));
-      order = λ n h.
-          let parts = both (nat_lt e.1.ticket n) (descends e.1.ticket (drop left old)) (subst (λ l. descends n l ≡ true) rest h) in
-          order_again n end e w.kept parts.0 (w.order e.1.ticket parts.1);
-      len = omega (arith, len_again end e w.kept, w.len, one);
-      lives = λ k stands. lives_again (close_end gone k) end e w.kept (drop left old) (t.1 k stands) (w.lives k stands) ∙ ap (filter (goes_on (close_end gone k))) (sym rest);
-      told = λ k stands.
-          let f = close_end gone k in
-          t.2 ∙ ap (λ rs. rs ++ end_reply tick (waiter_of e) end) (w.told k stands) ∙ append_assoc out (ended f tick (waiters (drop left old))) (end_reply tick (waiter_of e) end)
-          ∙ ap (λ o. out ++ (ended f tick (waiters (drop left old)) ++ end_reply tick (waiter_of e) o)) (t.1 k stands)
-          ∙ ap (λ rs. out ++ rs) (sym (ended_more f tick (waiters (drop left old)) (waiter_of e)))
-          ∙ ap (λ es. out ++ ended f tick (waiters es)) (sym rest);
-    }
+ended_removed f [] distinct = refl
+ended_removed f (e ∷ es) distinct =
+    let keys = ended_keys f es in
+    let before : without keys (e ∷ es) ≡ e ∷ filter (goes_on f) es = without_other keys e es (all_apart f e.0 es distinct.0) ∙ ap (λ l. e ∷ l) (ended_removed f es distinct.1) in
+    (elim (f (waiter_of e)) as (λ o. f (waiter_of e) ≡ o → without (keys ++ end_key e.0 (f (waiter_of e))) (e ∷ es) ≡ filter (goes_on f) (e ∷ es)) [
+      | None ↦ λ is. rw is (ap (λ ks. without ks (e ∷ es)) (append-nil keys) ∙ before)
+      | Some told ↦ λ is.
+          let self = eq_self e.0 in
+          let left : remove_entry (pair_eq e.0) (e ∷ filter (goes_on f) es) ≡ filter (goes_on f) es = rw self refl in
+          rw is (without_append keys (e.0 ∷ []) (e ∷ es) ∙ ap (remove_entry (pair_eq e.0)) before ∙ left)
+    ]) refl
 
 -- The waits that end, and those that go on, if a session was closed.
-pub closed_frees : (gone : List ℕ) (k : Keeper) (tick : ℕ) (es new : List Entry) (out replies : List Reply) → (length gone == 0) ≡ false
-    → replies ≡ out ++ ended (close_end gone k) tick (waiters es) → new ≡ filter (goes_on (close_end gone k)) es → FreesBy gone k tick (waiters es) out replies (waiters new)
-closed_frees [] k tick es new out replies some told kept = cc some
-closed_frees (s ∷ gone) k tick es new out replies some told kept = (told, ap waiters kept ∙ kept_waiters (close_end (s ∷ gone) k) es)
+pub closed_frees : (gone : List ℕ) (k : Keeper) (tick : ℕ) (es new : List Entry) (keys : List (ℕ × ℕ)) (out replies : List Reply) → (length gone == 0) ≡ false → IsDistinct pair_eq (keys_of es)
+    → replies ≡ out ++ ended (close_end gone k) tick (waiters es) → keys ≡ ended_keys (close_end gone k) es → new ≡ without keys es → FreesBy gone k tick (waiters es) out replies (waiters new)
+closed_frees [] k tick es new keys out replies some distinct told keys_are left = cc some
+closed_frees (s ∷ gone) k tick es new keys out replies some distinct told keys_are left =
+    let f = close_end (s ∷ gone) k in
+    (told, ap waiters (left ∙ ap (λ l. without l es) keys_are ∙ ended_removed f es distinct) ∙ kept_waiters f es)
 
 -- ---- the end of the input
 

@@ -1,7 +1,7 @@
 pub mod TickLemmas
 pub mod PlaceLemmas
-pub mod CloseLemmas
 pub mod ReleaseLemmas
+pub mod CloseLemmas
 pub mod LeaseLemmas
 pub mod UndoLemmas
 pub mod ServiceLemmas

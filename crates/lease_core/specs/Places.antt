@@ -1,14 +1,12 @@
 -- The table of the acquires that wait: by key and session, the last that came first.
-use Rattle.std.specs.Prelude.{◌≡◌, ℕ, Bool, true, false, not, nat_eq, nat_lt, ◌&&◌, if◌then◌else◌, List, [], ◌∷◌, ◌++◌, Option, Some, None, is_some}
-use Rattle.mono_session.specs.Keeper.{Keeper}
-use Rattle.mono_session.specs.Refinement.{StandsFor}
-use Rattle.mono_session.specs.declared.keeper.Sessions.{Sessions}
+use Rattle.std.specs.Prelude.{ℕ, Bool, true, false, not, nat_eq, nat_lt, ◌&&◌, if◌then◌else◌, List, [], ◌∷◌, ◌++◌, Option, Some, None, is_some}
+use Rattle.std.specs.Map.{remove_entry}
+use Rattle.mono_session.specs.Links.{pair_eq}
 use Rattle.lease_core.specs.declared.ends.Waiter.{Waiter}
 use Rattle.lease_core.specs.declared.places.Place.{Place}
 use Rattle.lease_core.specs.declared.requests.Outcome.{Outcome}
 use Rattle.lease_core.specs.declared.requests.Outcome.TheVariants as outcome
 use Rattle.lease_core.specs.declared.requests.Reply.{Reply}
-use Rattle.lease_core.specs.Waits.{close_end, end_reply}
 
 abbrev pub Entry : Type 0
 Entry = (ℕ × ℕ) × Place
@@ -55,14 +53,16 @@ in_order tick left held =
 abbrev pub goes_on : (Waiter → Option Outcome) → Entry → Bool
 goes_on end_of e = not (is_some (end_of (waiter_of e)))
 
--- A wait that goes on comes last.
-abbrev pub again : Option Outcome → Entry → List Entry
-again None e = e ∷ []
-again (Some told) e = []
+-- The key of a wait, if it has ended, and the keys of all that have, in the order in which they came.
+abbrev pub end_key : ℕ × ℕ → Option Outcome → List (ℕ × ℕ)
+end_key k None = []
+end_key k (Some told) = k ∷ []
 
--- The wait that came first ends, or comes last.
-abbrev pub OldestEnds : List ℕ → Sessions → ℕ → List Entry → List Entry → List Reply → List Reply → Type 0
-OldestEnds gone sessions tick old new out replies =
-    (es : List Entry) (e : Entry) → old ≡ es ++ e ∷ [] → (end : Option Outcome)
-    × ((k : Keeper) → StandsFor sessions k → end ≡ close_end gone k (waiter_of e))
-    × (replies ≡ out ++ end_reply tick (waiter_of e) end) × (new ≡ again end e ++ es)
+abbrev pub ended_keys : (Waiter → Option Outcome) → List Entry → List (ℕ × ℕ)
+ended_keys end_of [] = []
+ended_keys end_of (e ∷ es) = ended_keys end_of es ++ end_key e.0 (end_of (waiter_of e))
+
+-- The table without the waits with these keys.
+abbrev pub without : List (ℕ × ℕ) → List Entry → List Entry
+without [] es = es
+without (k ∷ keys) es = without keys (remove_entry (pair_eq k) es)

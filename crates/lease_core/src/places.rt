@@ -1,11 +1,10 @@
 // The table of the acquires that wait: by key and session, the last that came first.
-ghost use Rattle.std.specs.Prelude.{◌≡◌, ◌≤◌, ◌<◌, ◌+◌, ◌++◌, ℕ, List, true, filter, vec_len, vec_capacity, length, []};
+ghost use Rattle.std.specs.Prelude.{◌≡◌, ◌≤◌, ◌<◌, ◌+◌, ◌++◌, vec_len, vec_capacity, length, []};
 ghost use Rattle.mono_session.specs.Keeper.{Keeper};
 ghost use Rattle.mono_session.specs.Refinement.{StandsFor};
-ghost use Rattle.lru.specs.LruCache.{last_entry};
 ghost use Rattle.lease_core.specs.declared.requests.Outcome.TheVariants as end;
 ghost use Rattle.lease_core.specs.Waits.{ended, close_end, input_end};
-ghost use Rattle.lease_core.specs.Places.{waiter_of, waiters, place_reply, came_later, in_order, goes_on, descends, OldestEnds};
+ghost use Rattle.lease_core.specs.Places.{waiter_of, waiters, place_reply, came_later, in_order, end_key, ended_keys, without};
 
 use crate::ends::{Waiter, close_end, input_end, put_end};
 use crate::requests::{Outcome, Reply};
@@ -84,71 +83,51 @@ pub fn put_both(left: Option<Place>, held: Option<Place>, tick: u64, replies: &m
     }
 }
 
-// Returns the wait that came first.
-fn oldest(places: &Places) -> Option<((u64, u64), Place)>
-    ensures { result ≡ last_entry places.now.entries }
+// Appends the key of a wait, if it has ended. There is room for it.
+fn put_key(key: (u64, u64), end: Option<Outcome>, keys: &mut Vec<(u64, u64)>)
+    requires { vec_len keys.old + 1 ≤ vec_capacity keys.old }
+    ensures items { keys.new.items ≡ keys.old.items ++ end_key key end }
+    ensures len { vec_len keys.new ≤ vec_len keys.old + 1 }
+    ensures capacity { vec_capacity keys.new ≡ vec_capacity keys.old }
 {
-    match places.peek_lru() {
-        None => None,
-        Some((key, place)) => Some((*key, *place)),
+    if end.is_some() {
+        keys.push_reserved(key);
     }
 }
 
-// Ends the wait that came first, if it ends since these sessions were closed. Else moves it behind all others. There is
-// room for its reply.
-fn close_oldest(
-    places: &mut Places,
+/// Appends the replies of the waits that end since these sessions were closed, and their keys, in the order in which
+/// they came. There is room for a reply and a key of each.
+pub fn put_closed(
+    places: &Places,
     gone: &[u64],
     sessions: &Sessions,
     tick: u64,
     replies: &mut Vec<Reply>,
+    keys: &mut Vec<(u64, u64)>,
 )
-    requires { vec_len replies.old + 1 ≤ vec_capacity replies.old }
-    ensures ends { OldestEnds gone.now sessions.now tick places.old.entries places.new.entries replies.old.items replies.new.items }
-    ensures cap { places.new.cap ≡ places.old.cap }
-    ensures len { vec_len replies.new ≤ vec_len replies.old + 1 }
+    requires replies { vec_len replies.old + length places.now.entries ≤ vec_capacity replies.old }
+    requires keys { vec_len keys.old + length places.now.entries ≤ vec_capacity keys.old }
+    ensures items { (k : Keeper) → StandsFor sessions.now k → replies.new.items ≡ replies.old.items ++ ended (close_end gone.now k) tick (waiters places.now.entries) }
+    ensures ended { (k : Keeper) → StandsFor sessions.now k → keys.new.items ≡ keys.old.items ++ ended_keys (close_end gone.now k) places.now.entries }
     ensures capacity { vec_capacity replies.new ≡ vec_capacity replies.old }
+    ensures key_capacity { vec_capacity keys.new ≡ vec_capacity keys.old }
 {
-    if places.len() == 0 {
-        return;
-    }
-    let Some((key, place)) = oldest(places) else {
-        return;
-    };
-    let waiter = waiter_of(key, place);
-    let end = close_end(gone, sessions, &waiter);
-    put_end(&waiter, end, tick, replies);
-    match end {
-        None => {
-            let _ = places.promote(&key);
-        }
-        Some(_) => {
-            let _ = places.pop_lru();
-        }
+    let mut rest = places.iter();
+    while let Some((key, place)) = rest.next_back() {
+        let waiter = waiter_of(*key, *place);
+        let end = close_end(gone, sessions, &waiter);
+        put_end(&waiter, end, tick, replies);
+        put_key(*key, end, keys);
     }
 }
 
-/// Ends the waits that end since these sessions were closed, and appends their replies in the order in which they came.
-/// The others keep their order. There is room for a reply to each.
-pub fn close_each(
-    places: &mut Places,
-    gone: &[u64],
-    sessions: &Sessions,
-    tick: u64,
-    replies: &mut Vec<Reply>,
-)
-    requires { vec_len replies.old + length places.old.entries ≤ vec_capacity replies.old }
-    ensures items { (k : Keeper) → StandsFor sessions.now k → replies.new.items ≡ replies.old.items ++ ended (close_end gone.now k) tick (waiters places.old.entries) }
-    ensures kept { (k : Keeper) → StandsFor sessions.now k → places.new.entries ≡ filter (goes_on (close_end gone.now k)) places.old.entries }
-    ensures order { (n : ℕ) → descends n places.old.entries ≡ true → descends n places.new.entries ≡ true }
-    ensures len { length places.new.entries ≤ length places.old.entries }
+/// Removes the waits with these keys.
+pub fn remove_each(places: &mut Places, keys: &[(u64, u64)])
+    ensures entries { places.new.entries ≡ without keys.now places.old.entries }
     ensures cap { places.new.cap ≡ places.old.cap }
-    ensures capacity { vec_capacity replies.new ≡ vec_capacity replies.old }
 {
-    let mut left = places.len();
-    while left > 0 {
-        left -= 1;
-        close_oldest(places, gone, sessions, tick, replies);
+    for key in keys {
+        let _ = places.pop(key);
     }
 }
 

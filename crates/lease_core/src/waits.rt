@@ -1,9 +1,9 @@
 // The acquires that wait, in the order in which they came.
-ghost use Rattle.std.specs.Prelude.{◌≡◌, ◌^◌, ◌-◌, true};
+ghost use Rattle.std.specs.Prelude.{◌≡◌, ◌≤◌, ◌^◌, ◌-◌, true, length, vec_capacity};
 ghost use Rattle.lease_core.specs.Places.{descends};
 
 use crate::ends::Waiter;
-use crate::places::{Place, Places, close_each, end_each, put_both};
+use crate::places::{Place, Places, end_each, put_both, put_closed, remove_each};
 use crate::requests::Reply;
 use lru::LruCache;
 use mono_session::Sessions;
@@ -17,12 +17,15 @@ pub struct Waits {
     places: Places,
     // The ticket of the next wait.
     next: u64,
+    // The keys of the waits that the last close ended.
+    ended: Vec<(u64, u64)>,
     ghost order: { descends next places.entries ≡ true },
     ghost unbounded: { places.cap ≡ 2 ^ 64 - 1 },
+    ghost room: { length places.entries ≤ vec_capacity ended },
 }
 
 impl Waits {
-    ghost use Rattle.std.specs.Prelude.{◌≤◌, ◌<◌, ◌+◌, ◌++◌, ◌∷◌, [], ℕ, IfOk, OnOk, OnErr, length, vec_len, vec_capacity, is_some, if◌then◌else◌};
+    ghost use Rattle.std.specs.Prelude.{◌<◌, ◌+◌, ◌++◌, ◌∷◌, [], IfOk, OnOk, OnErr, vec_len};
     ghost use Rattle.std.specs.Map.{lookup, remove_entry};
     ghost use Rattle.mono_session.specs.Keeper.{Keeper};
     ghost use Rattle.mono_session.specs.Refinement.{StandsFor};
@@ -35,7 +38,11 @@ impl Waits {
         ensures { IfOk result (λ waits. waits_of waits ≡ []) }
     {
         let places = LruCache::unbounded(alloc)?;
-        Ok(Waits { places, next: 0 })
+        Ok(Waits {
+            places,
+            next: 0,
+            ended: Vec::new(alloc),
+        })
     }
 
     /// Returns how many waits there are.
@@ -56,9 +63,11 @@ impl Waits {
         let Some(next) = self.next.checked_add(1) else {
             return Err(AllocError);
         };
-        if self.places.len() == usize::MAX || self.places.contains(&key) {
+        if self.places.contains(&key) {
             return Err(AllocError);
         }
+        self.ended.clear();
+        self.ended.reserve(self.places.len() + 1)?;
         let place = Place {
             number: waiter.number,
             arrived: waiter.arrived,
@@ -131,7 +140,10 @@ impl Waits {
         if gone.is_empty() {
             return;
         }
-        close_each(&mut self.places, gone, sessions, tick, replies);
+        let _ = self.places.len();
+        self.ended.clear();
+        put_closed(&self.places, gone, sessions, tick, replies, &mut self.ended);
+        remove_each(&mut self.places, self.ended.as_slice());
     }
 
     /// Ends all waits, and appends their replies. There is room for them.
