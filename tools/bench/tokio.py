@@ -67,3 +67,16 @@ def channels(b):
     words = ("mpsc", "permits", "threads")
     rows = [(f"`{word} {count}`", [b.bench, "channels", word, count], [program, word, count], None) for word in words]
     b.table("Channels", "mono_bench channels WORKLOAD N", rows, "tokio")
+    jobs(b, program)
+
+
+def jobs(b, program):
+    """Prints what a blocking job's round trip on one worker costs, in a script of 60 tasks with 60 jobs each."""
+    lines = ["limits 100 100 100", "task", *["spawn 1"] * 60, *(f"join {at}" for at in range(60)), "done 0"]
+    lines += ["task", *(word for at in range(60) for word in ("block 1", f"await-job {at}")), "done 0", ""]
+    with open(b.path("jobs"), "w", encoding="ascii") as out:
+        out.write("\n".join(lines))
+    ours = min(b.once([b.program, "run", "1", "65536"], b.path("jobs"))[0] for _ in range(b.runs)) / 3600
+    theirs = min(b.once([program, "jobs", "3600"], None)[0] for _ in range(b.runs)) / 3600
+    print("\nA job's round trip on one worker, by `monoio run 1 65536` with its journal:", end=" ")
+    print(f"{1e6 * ours:.1f} microseconds of processor time, tokio's {1e6 * theirs:.1f}: {ours / theirs:.2f}.", flush=True)

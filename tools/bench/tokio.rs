@@ -1,8 +1,9 @@
 //! The loads of `mono_bench channels` on tokio's current-thread runtime:
-//!   tokio mpsc|permits|oneshot|threads N
+//!   tokio mpsc|permits|oneshot|threads|waits|jobs N
 //!
 //! `mpsc` sends over tokio's channel of one place, `permits` takes turns at tokio's semaphore, `oneshot` answers each of N
-//! spawned tasks, and `threads` sends from a runtime of one thread to a runtime of another, over 64 places.
+//! spawned tasks, and `threads` sends from a runtime of one thread to a runtime of another, over 64 places. `waits` has N
+//! tasks wait for a permit each, and `jobs` awaits N blocking jobs, one after another, on one worker.
 //! `tools/bench/run.py` builds it with cargo over Debian's package `librust-tokio-dev`.
 use std::rc::Rc;
 use tokio::runtime::{Builder, Runtime};
@@ -94,7 +95,7 @@ fn threads(count: u64) -> u64 {
     sum
 }
 
-/// Makes tasks that each wait for the one message of a channel of its own, and then sends the first its message.
+/// Makes tasks that each wait for a permit, and then adds a permit for each.
 fn waits(count: u64) -> u64 {
     run(async move {
         let semaphore = Rc::new(Semaphore::new(0));
@@ -112,10 +113,22 @@ fn waits(count: u64) -> u64 {
     })
 }
 
+/// Awaits blocking jobs one after another, on one worker.
+fn jobs(count: u64) -> u64 {
+    let runtime = Builder::new_current_thread().max_blocking_threads(1).build().expect("a runtime");
+    runtime.block_on(async move {
+        let mut sum = 0;
+        for number in 0..count {
+            sum += tokio::task::spawn_blocking(move || number).await.expect("an output");
+        }
+        sum
+    })
+}
+
 fn main() {
     let words: Vec<String> = std::env::args().collect();
     let [_, name, count] = words.as_slice() else {
-        return eprintln!("usage: tokio mpsc|permits|oneshot|threads|waits N");
+        return eprintln!("usage: tokio mpsc|permits|oneshot|threads|waits|jobs N");
     };
     let count = count.parse().expect("a number");
     let answer = match name.as_str() {
@@ -123,6 +136,7 @@ fn main() {
         "permits" => permits(count),
         "oneshot" => once(count),
         "waits" => waits(count),
+        "jobs" => jobs(count),
         _ => threads(count),
     };
     println!("channels {name} {count}: {answer}");
