@@ -228,7 +228,7 @@ def wheel(b):
                 cells.append("")
                 continue
             done = subprocess.run([b.bench, "wheel", work, str(count), "timed", str(runs)], capture_output=True, text=True, check=True)
-            cells.append(done.stdout.split()[-1])
+            cells.append(re.search(r" ns ([\d.]+)", done.stdout)[1])
             other = None if work == "far_many" else anchor(work, "orig-packed", count, runs)
             if other:
                 cells[-1] += f" ({float(cells[-1]) / other:.2f} of the original)"
