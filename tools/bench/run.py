@@ -41,7 +41,7 @@ class Bench:
         return os.path.join(self.folder, name)
 
     def build(self):
-        for name in ("replay", "services", "beats", "limiter", "ring", "turns", "channels", "measure"):
+        for name in ("replay", "services", "beats", "limiter", "ring", "turns", "measure"):
             source = os.path.join(HERE, f"{name}.rs")
             command = ["rustc", "--edition", "2021", "-C", "opt-level=3", "-A", "warnings", source, "-o", self.path(name)]
             subprocess.run(command, check=True)
@@ -129,9 +129,6 @@ def workloads(b):
         (["ring", million, "0", "16"], "ring"),
         (["turns", "pair", ten], "turns"),
         (["turns", "sleeps", million], "turns"),
-        (["channels", "mpsc", million], "channels"),
-        (["channels", "permits", million], "channels"),
-        (["channels", "threads", million], "channels"),
         (["turns", "spawn", million], None),
         (["turns", "come", ten], None),
         (["churn", ten, "1000"], None),
@@ -218,7 +215,8 @@ def originals(b):
 
 
 def wheel(b):
-    print("\n## Wheel\n\nCommand: `mono_bench wheel WORKLOAD N timed RUNS`, nanoseconds a key of the best run.\n")
+    ratio = ", by those of the original, and as they are" if os.environ.get("ANCHORS") else ""
+    print(f"\n## Wheel\n\nCommand: `mono_bench wheel WORKLOAD N timed RUNS`, nanoseconds a key of the best run{ratio}.\n")
     counts = [(1000, 101), (100000 // b.by, 9), (1000000 // b.by, 3)]
     print("| Workload | " + " | ".join(f"{count:,}" for count, _ in counts) + " |\n|---|---|---|---|")
     for work in WHEEL:
@@ -231,7 +229,7 @@ def wheel(b):
             cells.append(re.search(r" ns ([\d.]+)", done.stdout)[1])
             other = None if work == "far_many" else anchor(work, "orig-packed", count, runs)
             if other:
-                cells[-1] += f" ({float(cells[-1]) / other:.2f} of the original)"
+                cells[-1] = f"{float(cells[-1]) / other:.2f} ({cells[-1]})"
         print(f"| `{work}` | " + " | ".join(cells) + " |", flush=True)
 
 
