@@ -280,7 +280,7 @@ fn a_fused_future_waits_after_its_answer(rt: HostRuntime) {
 #[test]
 fn a_boxed_future_polls_and_cancels_as_without_its_box(rt: HostRuntime) {
     let alloc = rt.alloc();
-    for (polls, answer, lines) in [(0, None, "A"), (1, None, "a.A"), (2, Some(7u64), "a.aA.")] {
+    for (polls, answer, lines) in [(0, None, "A"), (1, None, "a.A"), (2, Some(7u64), "a.a.A")] {
         match make_part('a', 1, 7u64).boxed(alloc) {
             Ok(task) => {
                 let (got, log) = drive(&rt, alloc, task, polls);
