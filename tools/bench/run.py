@@ -151,6 +151,7 @@ def memory(b):
         ("a task with a sleep", ["turns", "sleeps", "{}"], count, 1),
         ("a session in a queue of two", ["beats", "{}", "0"], count, 1),
         ("an actor without messages", ["ring", "{}", "0", "0"], count, 1),
+        ("a task that waits for a permit", ["channels", "waits", "{}"], count, 1),
         ("the only live task of 64", ["sparse", "tasks", "{}", "64"], 16 * count, 64),
         ("the only live task of 256", ["sparse", "tasks", "{}", "256"], 16 * count, 256),
     ):

@@ -64,7 +64,7 @@ def channels(b):
         print("\n## Channels\n\nLeft out: tokio's program needs cargo and Debian's package librust-tokio-dev.", flush=True)
         return
     count = str(1000000 // b.by)
-    words = ("mpsc", "permits", "threads")
+    words = ("mpsc", "permits", "oneshot", "waits", "threads")
     rows = [(f"`{word} {count}`", [b.bench, "channels", word, count], [program, word, count], None) for word in words]
     b.table("Channels", "mono_bench channels WORKLOAD N", rows, "tokio")
     jobs(b, program)

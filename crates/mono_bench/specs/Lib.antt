@@ -1,2 +1,4 @@
+pub mod Askers
 pub mod Bounds
+pub mod Crowds
 pub mod Parties

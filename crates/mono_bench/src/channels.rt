@@ -1,9 +1,13 @@
-// Messages and permits between two tasks of one runtime, and messages between two threads.
+// Messages and permits between the tasks of one runtime, and messages between two threads.
+mod asks;
 mod boards;
+mod crowds;
 mod lanes;
 mod parties;
 
+use asks::ask_all;
 use boards::Board;
+use crowds::gather;
 use lanes::cross;
 use mono_blocking::NoPool;
 use mono_driver::{StepDriver, TimeDriver};
@@ -16,9 +20,11 @@ use std::alloc::Global;
 use std::io;
 
 /// The words of this workload, and its description.
-pub const HELP: &str = "  channels mpsc|permits|threads N
+pub const HELP: &str = "  channels mpsc|permits|oneshot|waits|threads N
     mpsc: a task sends N numbers to another over a channel of one place
     permits: two tasks take a permit in turn, N times each
+    oneshot: a task makes N tasks, one after another, each of which sends it a number over a channel for one message
+    waits: N tasks wait for a permit each, and then a task releases N permits
     threads: a task of one thread sends N numbers to a task of another over a channel of 64 places";
 
 type Running = Runtime<Party, u64, TimeDriver<StepDriver>, NoPool, Board>;
@@ -58,6 +64,8 @@ fn work<R: Host + Sync>(rt: &R, alloc: Global, name: &str, count: u64) -> Option
     match name {
         "mpsc" => Some(answer(rt, alloc, Party::Sends(0, count), Party::Takes(0, count))),
         "permits" => Some(answer(rt, alloc, Party::Wants(0, count), Party::Wants(0, count))),
+        "oneshot" => Some(ask_all(rt, alloc, count)),
+        "waits" => Some(gather(rt, alloc, count)),
         "threads" => cross(rt, alloc, count),
         _ => None,
     }
@@ -77,9 +85,11 @@ pub fn run_words<R: Host + Sync>(rt: &HostRuntime, host: &R, words: &[String]) -
     }
 }
 
-/// Sends 300 numbers, and prints how many came.
+/// Does the work of three names 300 times, and prints the answers.
 pub fn run_small<R: Host + Sync>(rt: &HostRuntime, host: &R) -> io::Result<()> {
-    let answer = work(host, rt.alloc(), "mpsc", 300).unwrap_or(0);
-    println!(rt; "channels mpsc 300: {answer}")?;
+    for name in ["mpsc", "oneshot", "waits"] {
+        let answer = work(host, rt.alloc(), name, 300).unwrap_or(0);
+        println!(rt; "channels {name} 300: {answer}")?;
+    }
     Ok(())
 }
