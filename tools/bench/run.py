@@ -5,7 +5,7 @@ usage: tools/bench/run.py PROGRAM BENCH [quick]
 
 PROGRAM is `monoio`, BENCH is `mono_bench`. rustc builds the plain programs of tools/bench. Runs of both sides alternate.
 A time is processor time (user and system) of the best run at the allocator's defaults; peak memory is the largest resident
-set. `quick` takes inputs of a sixteenth and two runs.
+set. `quick` takes inputs of a sixteenth and two runs, but for the tables beside tokio and the original.
 
 Instructions are valgrind's; without valgrind their tables are left out. They do not depend on what else runs.
 
@@ -202,7 +202,7 @@ def originals(b):
     """Prints what a task costs beside the original's, if its program is there."""
     if not os.environ.get("ANCHORS"):
         return
-    count = 1000000 // b.by
+    count = 1000000
     print("\n## Tasks beside the original's\n\nCommand: `mono_bench turns WORD N`, nanoseconds of processor time each.\n")
     print("| Each | Ratio | Time, ns | Original, ns |\n|---|---|---|---|")
     for each, word, n, work in (
@@ -228,7 +228,7 @@ def wheel(b):
                 continue
             done = subprocess.run([b.bench, "wheel", work, str(count), "timed", str(runs)], capture_output=True, text=True, check=True)
             cells.append(re.search(r" ns ([\d.]+)", done.stdout)[1])
-            other = None if work == "far_many" else anchor(work, "orig-packed", count, runs)
+            other = None if work in ("reset_later", "far_many") else anchor(work, "orig-packed", count, runs)
             if other:
                 cells[-1] = f"{float(cells[-1]) / other:.2f} ({cells[-1]})"
         print(f"| `{work}` | " + " | ".join(cells) + " |", flush=True)

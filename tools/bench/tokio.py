@@ -63,10 +63,12 @@ def channels(b):
     if not program:
         print("\n## Channels\n\nLeft out: tokio's program needs cargo and Debian's package librust-tokio-dev.", flush=True)
         return
-    count = str(1000000 // b.by)
+    count, runs = "1000000", b.runs
+    b.runs = 7
     words = ("mpsc", "permits", "oneshot", "waits", "threads")
     rows = [(f"`{word} {count}`", [b.bench, "channels", word, count], [program, word, count], None) for word in words]
     b.table("Channels", "mono_bench channels WORKLOAD N", rows, "tokio")
+    b.runs = runs
     jobs(b, program)
 
 
