@@ -37,6 +37,8 @@ from edits import Edit, module_of
 TOP = below.TOP
 # How long the tests of one crate may take, in seconds.
 LIMIT = 600
+# How long a stored run may take, in seconds.
+RUN_LIMIT = 300
 # How many edits one check takes at most.
 MOST = 8
 KINDS = ("clause", "proof's text", "limit", "test", "let through", "GOT THROUGH", "no verdict", "bad edit")
@@ -229,9 +231,9 @@ def has_tests(copy, crate):
     return False
 
 
-def has_input(copy, crate):
-    """Whether the crate is a program whose stored run reads an input."""
-    return os.path.exists(os.path.join(copy, "crates", crate, "stdin"))
+def has_stored_run(copy, crate):
+    """Whether the crate is a program with a stored run."""
+    return os.path.exists(os.path.join(copy, "crates", crate, "stdout"))
 
 
 def above(crate):
@@ -264,19 +266,23 @@ def stored(folder, name):
 
 
 def run_program(copy, crate):
-    """How the crate's stored run ends: 0 where it prints what is stored, 1 where it prints something else, else 2."""
+    """How the crate's stored run ends: 0 where it prints what is stored, 1 where it prints something else or does not
+    end, else 2.
+    """
     folder = os.path.join(copy, "crates", crate)
     words = stored(folder, "args").decode().splitlines()
     run = subprocess.run(
-        ["rt", "try", "--steps", "1", "--seconds", str(LIMIT), "--", *words],
+        ["rt", "try", "--steps", "1", "--seconds", str(RUN_LIMIT), "--", *words],
         cwd=folder,
         input=stored(folder, "stdin"),
         stdout=subprocess.PIPE,
-        stderr=subprocess.DEVNULL,
-        timeout=2 * LIMIT,
+        stderr=subprocess.PIPE,
+        timeout=LIMIT,
     )
     if run.stdout == stored(folder, "stdout"):
         return 0
+    if b"did not end within the time limit" in run.stderr:
+        return 1
     return 2 if run.returncode == 2 else 1
 
 
@@ -303,7 +309,7 @@ def failure_of(copy, name):
         status = 0
         if has_tests(copy, name):
             status = run_tests(copy, name)
-        elif has_input(copy, name):
+        elif has_stored_run(copy, name):
             status = run_program(copy, name)
     except subprocess.TimeoutExpired:
         return [("no verdict", f"the tests of {name} had not ended after {LIMIT} seconds")]
