@@ -84,13 +84,21 @@ impl ActorService {
 impl Service for ActorService {
     type Call = ActorLine;
 
+    type Spare = ();
+
     ghost text = { line_text };
 
     ghost fits = { FitsLine };
 
     ghost answers = { Answers };
 
-    fn read(alloc: Global, reader: &mut Reader) -> Result<Option<ActorLine>, AllocError>
+    fn spare(_alloc: Global) {}
+
+    fn read(
+        alloc: Global,
+        _spare: &mut (),
+        reader: &mut Reader,
+    ) -> Result<Option<ActorLine>, AllocError>
         ensures found { IfOk result (λ found. IfSome found (λ call. StartsWith line_text FitsLine reader.old.rest.now call reader.new.rest.now)) }
         ensures none { IfOk result (λ found. IfNone found (StartsWithNone line_text FitsLine reader.old.rest.now)) }
     {
@@ -101,6 +109,7 @@ impl Service for ActorService {
         &mut self,
         alloc: Global,
         call: ActorLine,
+        _spare: &mut (),
         out: &mut Vec<u8>,
     ) -> Result<(), AllocError>
         ensures { OnOk result ((answer : List ℕ) × Answers self.old call answer self.new × (out.new.items ≡ out.old.items ++ answer_line answer)) }

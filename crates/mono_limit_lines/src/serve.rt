@@ -97,13 +97,21 @@ impl LimiterLines {
 impl Service for LimiterLines {
     type Call = LimiterCall;
 
+    type Spare = ();
+
     ghost text = { λ call. call_text (call_of call) };
 
     ghost fits = { λ call. FitsCall (call_of call) };
 
     ghost answers = { λ old call text new. StepByLine (limits_of old.limiter) (call_of call) text (limits_of new.limiter) };
 
-    fn read(_alloc: Global, reader: &mut Reader) -> Result<Option<LimiterCall>, AllocError> {
+    fn spare(_alloc: Global) {}
+
+    fn read(
+        _alloc: Global,
+        _spare: &mut (),
+        reader: &mut Reader,
+    ) -> Result<Option<LimiterCall>, AllocError> {
         Ok(read::line(reader))
     }
 
@@ -111,6 +119,7 @@ impl Service for LimiterLines {
         &mut self,
         alloc: Global,
         call: LimiterCall,
+        _spare: &mut (),
         out: &mut Vec<u8>,
     ) -> Result<(), AllocError> {
         match call {

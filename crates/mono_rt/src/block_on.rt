@@ -60,25 +60,22 @@ impl<F: Drop, O: Outcome + Drop, D: Driver, P: ThreadPool + Drop, W: SharedState
         ensures full { self.new.journal.is_full ≡ self.old.journal.is_full }
         ensures held { self.new.journal.entries.held ≡ self.old.journal.entries.held }
     {
-        match self.cx.parts.park(rt, &mut self.driver, &mut self.journal) {
-            Err(_) => Err(RunError::Memory),
-            Ok(failed) => match self.drain(rt, alloc) {
-                Err(_) => out_of_memory_after(failed),
-                Ok(()) => {
-                    if self.cx.parts.has_timers {
-                        match self
-                            .cx
-                            .parts
-                            .clock_step(alloc, &mut self.driver, &mut self.journal, &mut self.due)
-                        {
-                            Err(_) => out_of_memory_after(failed),
-                            Ok(()) => Ok(failed),
-                        }
-                    } else {
-                        Ok(failed)
-                    }
-                }
-            },
+        let Ok(failed) = self.cx.parts.park(rt, &mut self.driver, &mut self.journal) else {
+            return Err(RunError::Memory);
+        };
+        let Ok(()) = self.drain(rt, alloc) else {
+            return out_of_memory_after(failed);
+        };
+        if !self.cx.parts.has_timers {
+            return Ok(failed);
+        }
+        match self
+            .cx
+            .parts
+            .clock_step(alloc, &mut self.driver, &mut self.journal, &mut self.due)
+        {
+            Err(_) => out_of_memory_after(failed),
+            Ok(()) => Ok(failed),
         }
     }
 

@@ -1,81 +1,83 @@
--- The answer so far, and the rest.
-use Rattle.std.proofs.Common.{◌≡◌, ℕ, ◌+◌, ◌<◌, ◌≤◌, List, [], ◌∷◌, ◌++◌, length, flat_map, refl, sym, ap, subst, ◌∙◌, arith, append_assoc, length-append}
-use Rattle.std.proofs.lemmas.List.{append-nil}
+-- The answers of a service of events are the reports of a run.
+use Rattle.std.proofs.Common.{◌≡◌, ℕ, List, [], ◌∷◌, ◌++◌, Option, Result, Ok, Err, IfOk, flat_map, refl, sym, ap, subst, ◌∙◌}
 use Rattle.mono_machine.specs.declared.events.Event.{Event}
 use Rattle.mono_machine.specs.declared.events.Report.{Report}
 use Rattle.mono_machine.specs.declared.events.Limits.{Limits}
 use Rattle.mono_machine.specs.declared.events.Blocking.{Blocking}
-use Rattle.mono_replay.specs.declared.executor.Exec.{Exec}
 use Rattle.mono_machine.specs.Machine.{Machine, start_machine}
-use Rattle.mono_machine.specs.Steps.{Step, Run}
+use Rattle.mono_machine.specs.Steps.{Run}
 use Rattle.mono_replay.specs.Refinement.{Stands}
-use Rattle.mono_text.specs.LineText.{event_text, report_line}
-use Rattle.mono_text.specs.Lines.{Line, lines, IsEventLine, AreEventLines, IsFirstBad, BeginsWith, BeginsWithNone}
-use Rattle.mono_script.specs.Answers.{IsReplayed, Answers}
-use Rattle.mono_text.proofs.InputLineLemmas.{ended, no_event, each_more, lines_front, no_feed_event, first_line}
+use Rattle.mono_text.specs.LineText.{event_text, FitsEvent, report_line}
+use Rattle.mono_text.specs.Lines.{Line, lines, IsEventLine, AreLines, AreEventLines}
+use Rattle.mono_text.specs.Services.{Says, AnswersAll, AnswersAs, Serves, answer_line}
+use Rattle.mono_text.specs.declared.services.Served.{Served}
+use Rattle.mono_text.specs.declared.services.Served.TheVariants as served
+use Rattle.mono_text.proofs.ServiceLemmas.{serves_through}
+use Rattle.mono_script.specs.declared.replay.ReplayLines.{ReplayLines}
+use Rattle.mono_script.specs.declared.ends.Output.{Output}
+use Rattle.mono_script.specs.declared.ends.Status.{Status}
+use Rattle.mono_script.specs.declared.ends.Status.TheVariants as status
+use Rattle.mono_script.specs.Answers.{IsAnswer}
+use Rattle.mono_script.specs.Endings.{IsOutput, IsLine}
+use Rattle.mono_script.specs.Follows.{ReportsAs}
+use Rattle.mono_script.specs.Meanings.{replaying}
+use Rattle.mono_script.specs.Services.{IsToldAs, IsLineOf}
 
-run_more : (start : Machine) (events : List Event) (reports : List Report) (mid : Machine) (e : Event) (r : Report) (new : Machine)
-    → Run start events reports mid → Step mid e r new → Run start (events ++ e ∷ []) (reports ++ r ∷ []) new
-run_more start [] [] mid e r new run step = (new, subst (λ m. Step m e r new) run step, refl)
-run_more start [] (a ∷ reports) mid e r new run step = absurd run
-run_more start (a ∷ events) [] mid e r new run step = absurd run
-run_more start (a ∷ events) (b ∷ reports) mid e r new run step = (run.0, run.1, run_more run.0 events reports mid e r new run.2 step)
+abbrev LinesStand : ReplayLines → Machine → Type 0
+LinesStand service m = Stands service.exec m
 
-text_more : (reports : List Report) (r : Report) → flat_map report_line (reports ++ r ∷ []) ≡ flat_map report_line reports ++ report_line r
-text_more [] r = append-nil (report_line r)
-text_more (a ∷ reports) r = ap (λ x. report_line a ++ x) (text_more reports r) ∙ sym (append_assoc (report_line a) (flat_map report_line reports) (report_line r))
+spells_event : (e : Event) (l : Line) → Says event_text FitsEvent e l → IsEventLine e l
+spells_event e l says = record { fits = says.fits; text = says.text_is; is_ended = says.is_ended }
 
--- this number of lines was read, and rest is left
-pub record Progress (limits : Limits) (strategy : Blocking) (input : List ℕ) (count : ℕ) (exec : Exec) (out rest : List ℕ) : Type 0 where
-  pub events : List Event
-  pub good : List Line
-  pub reports : List Report
-  pub mid : Machine
-  pub split : lines input ≡ good ++ lines rest
-  pub each : AreEventLines events good
-  pub run : Run (start_machine limits strategy) events reports mid
-  pub stands : Stands exec mid
-  pub text : out ≡ flat_map report_line reports
-  pub counted : count ≡ length good
-  pub shorter : count + length rest ≤ length input
+says_event : (e : Event) (l : Line) → IsEventLine e l → Says event_text FitsEvent e l
+says_event e l is = record { fits = is.fits; text_is = is.text; is_ended = is.is_ended }
 
-pub started : (limits : Limits) (strategy : Blocking) (input : List ℕ) (exec : Exec) (out : List ℕ) → Stands exec (start_machine limits strategy) → out ≡ []
-    → Progress limits strategy input 0 exec out input
-started limits strategy input exec out stands e =
-    record { events = []; good = []; reports = []; mid = start_machine limits strategy; split = refl; each = tt; run = refl; stands = stands; text = e; counted = refl; shorter = omega arith }
+spell_events : (events : List Event) (ls : List Line) → AreLines (Says event_text FitsEvent) events ls → AreEventLines events ls
+spell_events [] [] p = tt
+spell_events (e ∷ events) (l ∷ ls) p = (spells_event e l p.0, spell_events events ls p.1)
+spell_events [] (l ∷ ls) p = absurd p
+spell_events (e ∷ events) [] p = absurd p
 
-pub one_more : (limits : Limits) (strategy : Blocking) (input : List ℕ) (count : ℕ) (exec after : Exec) (out new rest behind : List ℕ) (e : Event)
-    → Progress limits strategy input count exec out rest → BeginsWith rest e behind
-    → ((m : Machine) → Stands exec m → Answers m e after out new)
-    → Progress limits strategy input (count + 1) after new behind
-one_more limits strategy input count exec after out new rest behind e p b steps =
-    let k = steps p.mid p.stands in
-    let r = k.0 in
-    let l : lines rest ≡ ended (event_text e) ∷ lines behind = ap lines b.0 ∙ lines_front (event_text e) behind (no_feed_event e b.1) in
-    let says : IsEventLine e (ended (event_text e)) = unfold ended in record { fits = b.1; text = refl; is_ended = refl } in
-    record {
-      events = p.events ++ e ∷ [];
-      good = p.good ++ ended (event_text e) ∷ [];
-      reports = p.reports ++ r ∷ [];
-      mid = k.1;
-      split = p.split ∙ ap (λ x. p.good ++ x) l ∙ sym (append_assoc p.good (ended (event_text e) ∷ []) (lines behind));
-      each = each_more p.events p.good e (ended (event_text e)) p.each says;
-      run = run_more (start_machine limits strategy) p.events p.reports p.mid e r k.1 p.run k.2;
-      stands = k.3;
-      text = k.4 ∙ ap (λ x. x ++ report_line r) p.text ∙ sym (text_more p.reports r);
-      counted = omega (arith, p.counted, length-append p.good (ended (event_text e) ∷ []));
-      shorter = omega (arith, p.shorter, ap length b.0, length-append (event_text e) (10 ∷ behind));
-    }
+-- the reports of a run, and that their lines are these
+run_of : (m : Machine) (events : List Event) (answers : List (List ℕ)) (last : Machine) → AnswersAll ReportsAs m events answers last
+    → (reports : List Report) × Run m events reports last × (flat_map answer_line answers ≡ flat_map report_line reports)
+run_of m [] [] last run = ([], run, refl)
+run_of m [] (a ∷ answers) last run = absurd run
+run_of m (e ∷ events) [] last run = absurd run
+run_of m (e ∷ events) (a ∷ answers) last run =
+    let rest = run_of run.0 events answers last run.2 in
+    let r = run.1.0 in
+    (r ∷ rest.0, (run.0, run.1.1, rest.1), ap (λ x. answer_line x ++ flat_map answer_line answers) run.1.2 ∙ ap (λ x. report_line r ++ x) rest.2)
 
-pub all_replayed : (limits : Limits) (strategy : Blocking) (input : List ℕ) (count : ℕ) (exec : Exec) (out rest : List ℕ)
-    → Progress limits strategy input count exec out rest → length rest ≡ 0 → IsReplayed limits strategy input out
-all_replayed limits strategy input count exec out [] p e =
-    record { events = p.events; reports = p.reports; last = p.mid; are_lines = subst (AreEventLines p.events) (sym (p.split ∙ append-nil p.good)) p.each; run = p.run; text = p.text }
-all_replayed limits strategy input count exec out (b ∷ rest) p e = absurd (omega arith)
+is_answer : (limits : Limits) (strategy : Blocking) (input : List ℕ) (r : Served) → Serves event_text FitsEvent ReportsAs (start_machine limits strategy) input r → IsAnswer limits strategy input r
+is_answer limits strategy input (served.BadLine n) (events, good, bad, rest, split, each, counted, none) =
+    (events, good, bad, rest, split, spell_events events good each, counted, λ e is. none e (says_event e bad is))
+is_answer limits strategy input (served.Output bytes) s =
+    let run = run_of (start_machine limits strategy) s.calls s.answers s.last s.run in
+    record { events = s.calls; reports = run.0; last = s.last; are_lines = spell_events s.calls (lines input) s.are_lines; run = run.1; text = s.output_is ∙ run.2 }
 
-pub first_bad : (limits : Limits) (strategy : Blocking) (input : List ℕ) (count : ℕ) (exec : Exec) (out rest : List ℕ)
-    → Progress limits strategy input count exec out rest → 0 < length rest → BeginsWithNone rest → IsFirstBad (lines input) (count + 1)
-first_bad limits strategy input count exec out [] p some none = absurd (omega arith)
-first_bad limits strategy input count exec out (b ∷ rest) p some none =
-    let f = first_line b rest in
-    (p.events, p.good, f.0, f.1, p.split ∙ ap (λ x. p.good ++ x) f.2, p.each, omega (arith, p.counted), no_event (b ∷ rest) f.0 f.1 f.2 none)
+pub replay_served : {E : Type 0} (start : ReplayLines) (limits : Limits) (strategy : Blocking) (input : List ℕ) (r : Result Served E) → Stands start.exec (start_machine limits strategy)
+    → IfOk r (λ r. Serves event_text FitsEvent (λ old c text new. AnswersAs Stands ReportsAs old.exec c text new.exec) start input r) → IfOk r (IsAnswer limits strategy input)
+replay_served start limits strategy input (Ok r) stands s = is_answer limits strategy input r (serves_through LinesStand ReportsAs event_text FitsEvent start (start_machine limits strategy) input r stands s)
+replay_served start limits strategy input (Err e) stands s = tt
+
+-- an answer as a status and its bytes
+as_output : (limits : Limits) (strategy : Blocking) (input : List ℕ) (r : Served) (s : Status) (output : List ℕ) → IsAnswer limits strategy input r → IsToldAs r s output → IsOutput (replaying limits strategy) input s output
+as_output limits strategy input (served.BadLine n) s output is told = subst (λ x. IsOutput (replaying limits strategy) input x output) (sym told.0) (n, is, told.1)
+as_output limits strategy input (served.Output bytes) s output is told = subst (λ x. IsOutput (replaying limits strategy) input x output) (sym told.0) (refl, rw told.1 is)
+
+pub replay_output : {E : Type 0} (limits : Limits) (strategy : Blocking) (input : List ℕ) (r : Served) (made : Result Output E) → IsAnswer limits strategy input r
+    → IfOk made (λ o. IsToldAs r o.status o.text.items) → IfOk made (λ o. IsOutput (replaying limits strategy) input o.status o.text.items)
+replay_output limits strategy input r (Ok o) is told = as_output limits strategy input r o.status o.text.items is told
+replay_output limits strategy input r (Err e) is told = tt
+
+as_line : (limits : Limits) (strategy : Blocking) (input : List ℕ) (r : Served) (s : Status) (output : List ℕ) (line : Option ℕ) → IsAnswer limits strategy input r → IsToldAs r s output → IsLineOf r line
+    → IsLine (replaying limits strategy) input s line
+as_line limits strategy input (served.BadLine n) s output line answer told is =
+    subst (λ x. IsLine (replaying limits strategy) input x line) (sym told.0) (subst (λ l. IsLine (replaying limits strategy) input status.BadLine l) (sym is) answer)
+as_line limits strategy input (served.Output bytes) s output line answer told is = subst (λ x. IsLine (replaying limits strategy) input x line) (sym told.0) is
+
+pub replay_line : {E : Type 0} (limits : Limits) (strategy : Blocking) (input : List ℕ) (r : Served) (made : Result Output E) → IsAnswer limits strategy input r
+    → IfOk made (λ o. IsToldAs r o.status o.text.items) → IfOk made (λ o. IsLineOf r o.bad_line) → IfOk made (λ o. IsLine (replaying limits strategy) input o.status o.bad_line)
+replay_line limits strategy input r (Ok o) answer told is = as_line limits strategy input r o.status o.text.items o.bad_line answer told is
+replay_line limits strategy input r (Err e) answer told is = tt

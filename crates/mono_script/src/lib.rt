@@ -41,6 +41,6 @@ pub use mono_text::{
     SinkFault, Source, SourceFault, StdinSource, StdoutSink, read_all, report_line, write_all,
 };
 pub use mono_trace_lines::{Cause, Failure, Stage};
-pub use replay::{Replayed, answer};
+pub use replay::answer;
 pub use top::{explained, program};
 pub use word_texts::shown;

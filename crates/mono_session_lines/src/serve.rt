@@ -104,6 +104,8 @@ impl SessionLines {
 impl Service for SessionLines {
     type Call = SessionCall;
 
+    type Spare = ();
+
     ghost use Rattle.mono_text.specs.Services.{AnswersAs};
     ghost use Rattle.mono_session.specs.Refinement.{StandsFor};
     ghost use Rattle.mono_session_lines.specs.Lines.{call_text, FitsCall, StepsAs};
@@ -114,7 +116,13 @@ impl Service for SessionLines {
 
     ghost answers = { λ old call text new. AnswersAs StandsFor StepsAs old.sessions call text new.sessions };
 
-    fn read(_alloc: Global, reader: &mut Reader) -> Result<Option<SessionCall>, AllocError> {
+    fn spare(_alloc: Global) {}
+
+    fn read(
+        _alloc: Global,
+        _spare: &mut (),
+        reader: &mut Reader,
+    ) -> Result<Option<SessionCall>, AllocError> {
         call_line(reader)
     }
 
@@ -122,6 +130,7 @@ impl Service for SessionLines {
         &mut self,
         alloc: Global,
         call: SessionCall,
+        _spare: &mut (),
         out: &mut Vec<u8>,
     ) -> Result<(), AllocError> {
         match call {

@@ -57,17 +57,18 @@ fn answer_ready<'a, S: Service>(
     ensures whole { IfOk result (λ ready. ready.is_bad ≡ false → HasNoFeed ready.rest.now) }
 {
     let mut reader = Reader::new(bytes);
+    let mut spare = S::spare(alloc);
     let mut rest = bytes;
     let mut lines = 0u64;
     'lines: while reader.has_line() {
-        let Some(call) = S::read(alloc, &mut reader)? else {
+        let Some(call) = S::read(alloc, &mut spare, &mut reader)? else {
             return Ok(Ready {
                 rest,
                 lines,
                 is_bad: true,
             });
         };
-        service.answer(alloc, call, out)?;
+        service.answer(alloc, call, &mut spare, out)?;
         rest = reader.rest();
         lines = lines.saturating_add(1);
     }

@@ -14,6 +14,9 @@ pub trait Service: Drop {
     /// A call.
     type Call: Drop;
 
+    /// The lists that one call leaves for the next, so that they are allocated once.
+    type Spare: Drop;
+
     // the call's line, without its line feed
     ghost text: { Self.Call → List ℕ };
 
@@ -23,9 +26,16 @@ pub trait Service: Drop {
     // the answers and the new values that a call may have
     ghost answers: { Self → Self.Call → List ℕ → Self → Type 0 };
 
+    /// Returns empty lists.
+    fn spare(alloc: Global) -> Self::Spare;
+
     /// Returns the call that the next line spells, and moves past the line. Returns None if it spells none; the rest is
     /// then not specified.
-    fn read(alloc: Global, reader: &mut Reader) -> Result<Option<Self::Call>, AllocError>
+    fn read(
+        alloc: Global,
+        spare: &mut Self::Spare,
+        reader: &mut Reader,
+    ) -> Result<Option<Self::Call>, AllocError>
         ensures found { IfOk result (λ found. IfSome found (λ call. StartsWith text fits reader.old.rest.now call reader.new.rest.now)) }
         ensures none { IfOk result (λ found. IfNone found (StartsWithNone text fits reader.old.rest.now)) };
 
@@ -34,6 +44,7 @@ pub trait Service: Drop {
         &mut self,
         alloc: Global,
         call: Self::Call,
+        spare: &mut Self::Spare,
         out: &mut Vec<u8>,
     ) -> Result<(), AllocError>
         ensures { OnOk result ((answer : List ℕ) × answers self.old call answer self.new × (out.new.items ≡ out.old.items ++ answer_line answer)) };
@@ -56,12 +67,13 @@ pub fn serve<S: Service>(alloc: Global, start: S, input: &[u8]) -> Result<Served
     let mut service = start;
     let mut out = Vec::new(alloc);
     let mut reader = Reader::new(input);
+    let mut spare = S::spare(alloc);
     let mut count = 0usize;
     'lines: while !reader.is_empty() {
-        let Some(call) = S::read(alloc, &mut reader)? else {
+        let Some(call) = S::read(alloc, &mut spare, &mut reader)? else {
             return Ok(Served::BadLine(count + 1));
         };
-        service.answer(alloc, call, &mut out)?;
+        service.answer(alloc, call, &mut spare, &mut out)?;
         count += 1;
     }
     Ok(Served::Output(out))

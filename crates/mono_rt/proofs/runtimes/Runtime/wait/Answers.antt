@@ -10,13 +10,13 @@ use Rattle.mono_rt.proofs.FaultLemmas.{rises_before, broken_faults}
 use Rattle.mono_rt.proofs.OutputLemmas.{adds_itself, adds_on}
 use Rattle.mono_rt.proofs.runtimes.Runtime.wait.Goals as goal
 
-pub returns-else-self-clause-parks : goal.returns-else-self-clause-parks
-returns-else-self-clause-parks g c =
+pub returns-then-not-self-clause-parks : goal.returns-then-not-self-clause-parks
+returns-then-not-self-clause-parks g c =
     let number = g.O.Outcome.output_number in
     let old = c.args.self.now in
     let parked = c.park.new.journal in
     let drained = c.drain.new.self in
-    let none : old.cx.parts.has_timers ≡ false = sym c.drain.ensures.has_timers ∙ c.if-self.false in
+    let none : old.cx.parts.has_timers ≡ false = sym c.drain.ensures.has_timers ∙ c.if-not-self.true in
     wait_whole number c.in-Ok.failed old.cx.parts.has_timers old.cx.parts drained.cx.parts old.journal drained.journal
     (subst (λ h. Does number (Parks h) old.cx.parts drained.cx.parts old.journal drained.journal) (sym none)
     (does_parks number old.cx.parts old.cx.parts drained.cx.parts old.journal parked drained.journal (subst (λ h. Does number (IsPark h) old.cx.parts old.cx.parts old.journal parked) none c.in-Ok.ensures.parked) c.in-Ok-drain.ensures.drained))
@@ -29,34 +29,34 @@ returns-in-Ok-clock_step-clause-parks g c =
     let drained = c.drain.new.self in
     let left = c.clock_step.new.self in
     let last = c.clock_step.new.journal in
-    let timers : old.cx.parts.has_timers ≡ true = sym c.drain.ensures.has_timers ∙ c.if-self.true in
+    let timers : old.cx.parts.has_timers ≡ true = sym c.drain.ensures.has_timers ∙ c.if-not-self.false in
     wait_whole number c.in-Ok.failed old.cx.parts.has_timers old.cx.parts left old.journal last
     (subst (λ h. Does number (Parks h) old.cx.parts left old.journal last) (sym timers)
     (does_clocked number old.cx.parts old.cx.parts drained.cx.parts left old.journal parked drained.journal last
     (subst (λ h. Does number (IsPark h) old.cx.parts old.cx.parts old.journal parked) timers c.in-Ok.ensures.parked) c.in-Ok-drain.ensures.drained c.in-Ok-clock_step.ensures.clocked))
 
-pub returns-in-Err-clause-parks : goal.returns-in-Err-clause-parks
-returns-in-Err-clause-parks g c =
+pub returns-in_default-clause-parks : goal.returns-in_default-clause-parks
+returns-in_default-clause-parks g c =
     let old = c.args.self.now in
-    park_refused g.O.Outcome.output_number old.cx.parts.has_timers old.cx.parts old.cx.parts old.journal c.park.new.journal c.in-Err.ensures.refused
+    park_refused g.O.Outcome.output_number old.cx.parts.has_timers old.cx.parts old.cx.parts old.journal c.park.new.journal c.in_default.ensures.refused
 
-pub returns-in-Err-drain-clause-parks : goal.returns-in-Err-drain-clause-parks
-returns-in-Err-drain-clause-parks g c =
+pub returns-in_default-drain-clause-parks : goal.returns-in_default-drain-clause-parks
+returns-in_default-drain-clause-parks g c =
     let old = c.args.self.now in
     let drained = c.drain.new.self in
     subst (λ r. Does g.O.Outcome.output_number (WaitEnds old.cx.parts.has_timers r) old.cx.parts drained.cx.parts old.journal drained.journal) (sym c.out_of_memory_after.ensures)
-    (drain_refused g.O.Outcome.output_number c.in-Ok.failed old.cx.parts.has_timers old.cx.parts old.cx.parts drained.cx.parts old.journal c.park.new.journal drained.journal c.in-Ok.ensures.parked c.in-Err-drain.ensures.refused)
+    (drain_refused g.O.Outcome.output_number c.in-Ok.failed old.cx.parts.has_timers old.cx.parts old.cx.parts drained.cx.parts old.journal c.park.new.journal drained.journal c.in-Ok.ensures.parked c.in_default-drain.ensures.refused)
 
-pub returns-in-Err-clock_step-clause-parks : goal.returns-in-Err-clock_step-clause-parks
-returns-in-Err-clock_step-clause-parks g c =
+pub returns-in-Err-clause-parks : goal.returns-in-Err-clause-parks
+returns-in-Err-clause-parks g c =
     let old = c.args.self.now in
     let drained = c.drain.new.self in
-    subst (λ r. Does g.O.Outcome.output_number (WaitEnds old.cx.parts.has_timers r) old.cx.parts c.clock_step.new.self old.journal c.clock_step.new.journal) (sym c.out_of_memory_after-in-Err-clock_step.ensures)
+    subst (λ r. Does g.O.Outcome.output_number (WaitEnds old.cx.parts.has_timers r) old.cx.parts c.clock_step.new.self old.journal c.clock_step.new.journal) (sym c.out_of_memory_after-in-Err.ensures)
     (clock_refused g.O.Outcome.output_number c.in-Ok.failed old.cx.parts.has_timers old.cx.parts old.cx.parts drained.cx.parts c.clock_step.new.self old.journal c.park.new.journal drained.journal c.clock_step.new.journal
-    (sym c.drain.ensures.has_timers ∙ c.if-self.true) c.in-Ok.ensures.parked c.in-Ok-drain.ensures.drained c.in-Err-clock_step.ensures.undone)
+    (sym c.drain.ensures.has_timers ∙ c.if-not-self.false) c.in-Ok.ensures.parked c.in-Ok-drain.ensures.drained c.in-Err.ensures.undone)
 
-pub returns-else-self-clause-told : goal.returns-else-self-clause-told
-returns-else-self-clause-told g c =
+pub returns-then-not-self-clause-told : goal.returns-then-not-self-clause-told
+returns-then-not-self-clause-told g c =
     let failed = c.in-Ok.failed in
     telling_on {q = after_park failed} c.in-Ok.ensures.told (c.in-Ok-drain.ensures.told _ _ (after_park failed) (after_call failed) (drained_wait failed _ _ (same_told g.D.Clock.readings g.D.Clock.time g.D.Clock.parks g.D.Clock.submits g.D.Clock.faults g.D.Clock.can_fail c.drain.ensures.driver)))
 
@@ -65,43 +65,43 @@ returns-in-Ok-clock_step-clause-told g c =
     let failed = c.in-Ok.failed in
     telling_on {q = after_call failed} (telling_on {q = after_park failed} c.in-Ok.ensures.told (c.in-Ok-drain.ensures.told _ _ (after_park failed) (after_call failed) (drained_wait failed _ _ (same_told g.D.Clock.readings g.D.Clock.time g.D.Clock.parks g.D.Clock.submits g.D.Clock.faults g.D.Clock.can_fail c.drain.ensures.driver)))) (c.clock_step.ensures.told (after_call failed))
 
+pub returns-in_default-clause-told : goal.returns-in_default-clause-told
+returns-in_default-clause-told g c = telling_more unfailed c.in_default.ensures.told
+
+pub returns-in_default-drain-clause-told : goal.returns-in_default-drain-clause-told
+returns-in_default-drain-clause-told g c =
+    let failed = c.in-Ok.failed in
+    telling_more (λ x e. subst (λ r. EndsWaited r x) (sym c.out_of_memory_after.ensures) (broken_parked failed x e)) (telling_on {q = after_park failed} c.in-Ok.ensures.told (c.in_default-drain.ensures.told _ _ (after_park failed) (after_park failed) (same_told g.D.Clock.readings g.D.Clock.time g.D.Clock.parks g.D.Clock.submits g.D.Clock.faults g.D.Clock.can_fail c.drain.ensures.driver, refl)))
+
 pub returns-in-Err-clause-told : goal.returns-in-Err-clause-told
-returns-in-Err-clause-told g c = telling_more unfailed c.in-Err.ensures.told
-
-pub returns-in-Err-drain-clause-told : goal.returns-in-Err-drain-clause-told
-returns-in-Err-drain-clause-told g c =
+returns-in-Err-clause-told g c =
     let failed = c.in-Ok.failed in
-    telling_more (λ x e. subst (λ r. EndsWaited r x) (sym c.out_of_memory_after.ensures) (broken_parked failed x e)) (telling_on {q = after_park failed} c.in-Ok.ensures.told (c.in-Err-drain.ensures.told _ _ (after_park failed) (after_park failed) (same_told g.D.Clock.readings g.D.Clock.time g.D.Clock.parks g.D.Clock.submits g.D.Clock.faults g.D.Clock.can_fail c.drain.ensures.driver, refl)))
+    telling_more (λ x e. subst (λ r. EndsWaited r x) (sym c.out_of_memory_after-in-Err.ensures) (broken_waited failed x e)) (telling_on {q = after_call failed} (telling_on {q = after_park failed} c.in-Ok.ensures.told (c.in-Ok-drain.ensures.told _ _ (after_park failed) (after_call failed) (drained_wait failed _ _ (same_told g.D.Clock.readings g.D.Clock.time g.D.Clock.parks g.D.Clock.submits g.D.Clock.faults g.D.Clock.can_fail c.drain.ensures.driver)))) (c.clock_step.ensures.told (after_call failed)))
 
-pub returns-in-Err-clock_step-clause-told : goal.returns-in-Err-clock_step-clause-told
-returns-in-Err-clock_step-clause-told g c =
-    let failed = c.in-Ok.failed in
-    telling_more (λ x e. subst (λ r. EndsWaited r x) (sym c.out_of_memory_after-in-Err-clock_step.ensures) (broken_waited failed x e)) (telling_on {q = after_call failed} (telling_on {q = after_park failed} c.in-Ok.ensures.told (c.in-Ok-drain.ensures.told _ _ (after_park failed) (after_call failed) (drained_wait failed _ _ (same_told g.D.Clock.readings g.D.Clock.time g.D.Clock.parks g.D.Clock.submits g.D.Clock.faults g.D.Clock.can_fail c.drain.ensures.driver)))) (c.clock_step.ensures.told (after_call failed)))
+pub returns-in_default-clause-faults : goal.returns-in_default-clause-faults
+returns-in_default-clause-faults g c = c.in_default.ensures.faults
 
-pub returns-in-Err-clause-faults : goal.returns-in-Err-clause-faults
-returns-in-Err-clause-faults g c = c.in-Err.ensures.faults
-
-pub returns-in-Err-drain-clause-faults : goal.returns-in-Err-drain-clause-faults
-returns-in-Err-drain-clause-faults g c =
+pub returns-in_default-drain-clause-faults : goal.returns-in_default-drain-clause-faults
+returns-in_default-drain-clause-faults g c =
     subst (λ r. FaultsParked r (g.D.Clock.faults c.args.self.now.driver) (g.D.Clock.faults c.drain.new.self.driver)) (sym c.out_of_memory_after.ensures)
     (broken_faults c.in-Ok.failed _ _ (rises_before c.in-Ok.failed _ _ _ c.in-Ok.ensures.faults c.drain.ensures.faults))
 
-pub returns-in-Err-clock_step-clause-faults : goal.returns-in-Err-clock_step-clause-faults
-returns-in-Err-clock_step-clause-faults g c =
-    subst (λ r. FaultsParked r (g.D.Clock.faults c.args.self.now.driver) (g.D.Clock.faults c.clock_step.new.driver)) (sym c.out_of_memory_after-in-Err-clock_step.ensures)
+pub returns-in-Err-clause-faults : goal.returns-in-Err-clause-faults
+returns-in-Err-clause-faults g c =
+    subst (λ r. FaultsParked r (g.D.Clock.faults c.args.self.now.driver) (g.D.Clock.faults c.clock_step.new.driver)) (sym c.out_of_memory_after-in-Err.ensures)
     (broken_faults c.in-Ok.failed _ _ (rises_before c.in-Ok.failed _ _ _ c.in-Ok.ensures.faults (c.clock_step.ensures.faults ∙ c.drain.ensures.faults)))
 
-pub returns-else-self-clause-faults : goal.returns-else-self-clause-faults
-returns-else-self-clause-faults g c = rises_before c.in-Ok.failed _ _ _ c.in-Ok.ensures.faults c.drain.ensures.faults
+pub returns-then-not-self-clause-faults : goal.returns-then-not-self-clause-faults
+returns-then-not-self-clause-faults g c = rises_before c.in-Ok.failed _ _ _ c.in-Ok.ensures.faults c.drain.ensures.faults
 
 pub returns-in-Ok-clock_step-clause-faults : goal.returns-in-Ok-clock_step-clause-faults
 returns-in-Ok-clock_step-clause-faults g c = rises_before c.in-Ok.failed _ _ _ c.in-Ok.ensures.faults (c.clock_step.ensures.faults ∙ c.drain.ensures.faults)
 
-pub returns-in-Err-clause-adds : goal.returns-in-Err-clause-adds
-returns-in-Err-clause-adds g c = adds_itself c.args.self.now.cx.parts.tasks.tasks
+pub returns-in_default-clause-adds : goal.returns-in_default-clause-adds
+returns-in_default-clause-adds g c = adds_itself c.args.self.now.cx.parts.tasks.tasks
 
 pub returns-in-Ok-clock_step-clause-adds : goal.returns-in-Ok-clock_step-clause-adds
 returns-in-Ok-clock_step-clause-adds g c = adds_on c.args.self.now.cx.parts.tasks.tasks c.drain.new.self.cx.parts.tasks.tasks c.clock_step.new.self.tasks.tasks c.drain.ensures.adds c.clock_step.ensures.adds
 
-pub returns-in-Err-clock_step-clause-adds : goal.returns-in-Err-clock_step-clause-adds
-returns-in-Err-clock_step-clause-adds g c = adds_on c.args.self.now.cx.parts.tasks.tasks c.drain.new.self.cx.parts.tasks.tasks c.clock_step.new.self.tasks.tasks c.drain.ensures.adds c.clock_step.ensures.adds
+pub returns-in-Err-clause-adds : goal.returns-in-Err-clause-adds
+returns-in-Err-clause-adds g c = adds_on c.args.self.now.cx.parts.tasks.tasks c.drain.new.self.cx.parts.tasks.tasks c.clock_step.new.self.tasks.tasks c.drain.ensures.adds c.clock_step.ensures.adds
