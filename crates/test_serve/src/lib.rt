@@ -1,7 +1,11 @@
-//! Tests of the services that tasks await, on a runtime whose clock steps.
+//! Tests of what tasks await: services, other tasks and threads.
 #![tactic(auto)]
 
 mod desks;
+#[cfg(test)]
+mod outsides;
 mod parties;
+#[cfg(test)]
+mod peers;
 #[cfg(test)]
 mod runs;
