@@ -1,6 +1,7 @@
 //! The sources for which a future waits after a pending poll, and that its task is registered there.
 #![tactic(auto)]
 
+mod boxes;
 mod by_task;
 mod channels;
 mod countdown;
