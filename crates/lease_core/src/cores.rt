@@ -42,6 +42,13 @@ impl Core {
         self.replies.as_slice()
     }
 
+    /// Returns the greatest tick of the clock so far, in milliseconds.
+    pub fn tick(&self) -> u64
+        ensures { result ≡ self.now.tick }
+    {
+        self.tick
+    }
+
     /// Returns how many acquires wait for their locks.
     pub fn waiting(&self) -> usize
         ensures { result ≡ length (waits_of self.now.waiting) }

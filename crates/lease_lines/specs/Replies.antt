@@ -75,6 +75,10 @@ abbrev pub reply_text : ℕ → Reply → List ℕ
 reply_text core reply =
     decimal reply.number ++ codes " " ++ decimal core ++ codes " " ++ decimal reply.arrived ++ codes " " ++ decimal reply.tick ++ codes " " ++ outcome_text reply.outcome
 
+-- The words between a request's number and its answer, if it is answered at the tick at which it came.
+abbrev pub stamp_text : ℕ → ℕ → List ℕ
+stamp_text core tick = codes " " ++ decimal core ++ codes " " ++ decimal tick ++ codes " " ++ decimal tick ++ codes " "
+
 -- The lines of replies by a core, in order.
 abbrev pub reply_lines : ℕ → List Reply → List ℕ
 reply_lines core [] = []

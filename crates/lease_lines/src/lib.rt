@@ -6,5 +6,5 @@ mod causes;
 mod replies;
 mod requests;
 
-pub use replies::{put_bad, put_replies, put_reply};
+pub use replies::{Stamp, put_bad, put_replies, put_reply};
 pub use requests::request_of;

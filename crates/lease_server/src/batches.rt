@@ -5,7 +5,7 @@ ghost use Rattle.lease_core.specs.Steps.{Advance, Finish};
 ghost use Rattle.lease_server.specs.Served.{Serves, ServesNext, ServesAt, handled};
 
 use lease_core::{Core, Request};
-use lease_lines::put_replies;
+use lease_lines::{Stamp, put_replies};
 use mono_channel::Receiver;
 use mono_rt::{Host, Instant, Poll, RemoteWaker, UnparkHandle};
 use std::alloc::{AllocError, Global};
@@ -21,60 +21,69 @@ pub enum Came {
     End,
 }
 
-// Shows the core's clock an instant, and appends the lines of the replies.
-fn pass(core: &mut Core, number: u64, now: Instant, out: &mut Vec<u8>) -> Result<(), AllocError>
-    ensures { OnOk result (Serves core.old number (Advance (nanos_of now) ∷ []) out.old.items core.new out.new.items) }
+// Shows the core's clock an instant, and appends the lines of the replies. Returns the stamp of the replies that follow.
+fn pass(
+    core: &mut Core,
+    number: u64,
+    alloc: Global,
+    now: Instant,
+    out: &mut Vec<u8>,
+) -> Result<Stamp, AllocError>
+    ensures stamp { IfOk result (λ stamp. stamp.core ≡ number) }
+    ensures serves { OnOk result (Serves core.old number (Advance (nanos_of now) ∷ []) out.old.items core.new out.new.items) }
 {
     core.advance(now)?;
-    put_replies(out, number, core.replies())
+    let stamp = Stamp::new(alloc, number, core.tick())?;
+    put_replies(out, &stamp, core.replies())?;
+    Ok(stamp)
 }
 
 // Performs requests in order, and appends the lines of the replies.
 fn perform(
     core: &mut Core,
-    number: u64,
+    stamp: &Stamp,
     alloc: Global,
     requests: &[Request],
     out: &mut Vec<u8>,
 ) -> Result<(), AllocError>
-    ensures { OnOk result (Serves core.old number (handled requests.now) out.old.items core.new out.new.items) }
+    ensures { OnOk result (Serves core.old stamp.now.core (handled requests.now) out.old.items core.new out.new.items) }
 {
     for request in requests {
         core.handle(alloc, request);
-        put_replies(out, number, core.replies())?;
+        put_replies(out, stamp, core.replies())?;
     }
     Ok(())
 }
 
 // Ends the input of the core, and appends the lines of the replies.
-fn end(core: &mut Core, number: u64, out: &mut Vec<u8>) -> Result<(), AllocError>
-    ensures { OnOk result (Serves core.old number (Finish ∷ []) out.old.items core.new out.new.items) }
+fn end(core: &mut Core, stamp: &Stamp, out: &mut Vec<u8>) -> Result<(), AllocError>
+    ensures { OnOk result (Serves core.old stamp.now.core (Finish ∷ []) out.old.items core.new out.new.items) }
 {
     core.finish();
-    put_replies(out, number, core.replies())
+    put_replies(out, stamp, core.replies())
 }
 
 // Takes the next requests of the channel and performs them, or ends the input if the channel was closed.
 fn serve_next<R: Host>(
     core: &mut Core,
-    number: u64,
+    stamp: &Stamp,
     requests: &mut Receiver<Vec<Request>, UnparkHandle>,
     rt: &R,
     alloc: Global,
     waker: &RemoteWaker<UnparkHandle>,
     out: &mut Vec<u8>,
 ) -> Result<Came, AllocError>
-    ensures { IfOk result (λ came. ServesNext came core.old number requests.old out.old.items core.new requests.new out.new.items) }
+    ensures { IfOk result (λ came. ServesNext came core.old stamp.now.core requests.old out.old.items core.new requests.new out.new.items) }
 {
     match requests.poll_recv(rt, waker) {
         Poll::Pending => Ok(Came::Nothing),
         Poll::Ready(Err(error)) => Err(error),
         Poll::Ready(Ok(Some(batch))) => {
-            perform(core, number, alloc, batch.as_slice(), out)?;
+            perform(core, stamp, alloc, batch.as_slice(), out)?;
             Ok(Came::Requests)
         }
         Poll::Ready(Ok(None)) => {
-            end(core, number, out)?;
+            end(core, stamp, out)?;
             Ok(Came::End)
         }
     }
@@ -97,7 +106,7 @@ pub fn serve_at<R: Host>(
     ensures { IfOk result (λ r. ServesAt r.0 core.old number (nanos_of now) requests.old core.new requests.new r.1.items) }
 {
     let mut out = Vec::new(alloc);
-    pass(core, number, now, &mut out)?;
-    let came = serve_next(core, number, requests, rt, alloc, waker, &mut out)?;
+    let stamp = pass(core, number, alloc, now, &mut out)?;
+    let came = serve_next(core, &stamp, requests, rt, alloc, waker, &mut out)?;
     Ok((came, out))
 }

@@ -1,6 +1,6 @@
 // The lines of requests and replies.
 use lease_core::{Call, Outcome, Reply, Request};
-use lease_lines::{put_bad, put_reply, request_of};
+use lease_lines::{Stamp, put_bad, put_replies, put_reply, request_of};
 use mono_actor::{ActorError, Got, Sent};
 use mono_limit::{LimitError, Take};
 use mono_session::SessionError;
@@ -73,6 +73,40 @@ fn ends_with(alloc: Global, outcome: Outcome, text: &[u8]) -> bool {
         Err(_) => true,
         Ok(line) => line.as_slice().starts_with(b"12 1 3 4 ".as_slice())
             && line.as_slice().ends_with(text),
+    }
+}
+
+// A reply that is done, to a request that came at one tick and was answered at another.
+fn done(number: u64, arrived: u64, tick: u64) -> Reply {
+    Reply {
+        number,
+        arrived,
+        tick,
+        outcome: Outcome::Done,
+    }
+}
+
+// The lines of four replies with the stamp of tick 4: the first has its ticks, and the others have not.
+fn stamped_lines(alloc: Global) -> Result<Vec<u8>, AllocError> {
+    let mut out = Vec::new(alloc);
+    let stamp = Stamp::new(alloc, 1, 4)?;
+    let replies = [
+        done(12, 4, 4),
+        done(13, 3, 4),
+        done(14, 4, 5),
+        done(15, 3, 3),
+    ];
+    put_replies(&mut out, &stamp, replies.as_slice())?;
+    Ok(out)
+}
+
+#[test]
+fn a_stamp_is_for_its_own_tick(rt: HostRuntime) {
+    if let Ok(lines) = stamped_lines(rt.alloc()) {
+        assert_eq!(rt;
+            lines.as_slice(),
+            b"12 1 4 4 ok\n13 1 3 4 ok\n14 1 4 5 ok\n15 1 3 3 ok\n".as_slice()
+        );
     }
 }
 

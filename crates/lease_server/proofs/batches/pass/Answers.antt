@@ -1,5 +1,5 @@
-use Rattle.lease_server.proofs.ServedLemmas.{ok_so, passed_shown}
+use Rattle.lease_server.proofs.ServedLemmas.{passed_shown}
 use Rattle.lease_server.proofs.batches.pass.Goals as goal
 
-pub returns : goal.returns
-returns c = ok_so c.put_replies.result (λ put. passed_shown _ _ c.args.number _ _ _ _ c.in_ok-advance.ensures.clocks c.replies.ensures put) c.put_replies.ensures
+pub returns-clause-serves : goal.returns-clause-serves
+returns-clause-serves c = passed_shown _ _ c.args.number _ _ _ _ c.in_ok-advance.ensures.clocks c.replies.ensures (rw c.in_ok-stamp.ensures at c.in_ok-put_replies.ensures)
