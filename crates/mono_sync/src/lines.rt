@@ -135,14 +135,22 @@ impl Line {
 
     /// Collects a future's grant, unless the future still waits: then it waits for this task from now on. Returns whether
     /// it still waits.
+    #[inline(always)]
     pub fn redeem_for(&mut self, ticket: Option<u64>, task: u64) -> bool
         ensures waits { result ≡ still_waits self.old ticket }
         ensures comes { MatchBool result (Renews self.old ticket task self.new) (Comes self.old ticket self.new) }
     {
-        if self.still_in(ticket, task) {
-            return true;
+        match ticket {
+            None => false,
+            Some(ticket) => {
+                if self.has(ticket) {
+                    self.renew(ticket, task);
+                    return true;
+                }
+                self.granted = self.granted.saturating_sub(1);
+                false
+            }
         }
-        self.redeem(ticket)
     }
 
     // Collects a future's grant, unless the future still waits. Returns whether it still waits.
