@@ -1,5 +1,5 @@
 -- The handle of a task makes no task, and neither does that of a job; a job that is made at the first poll is no task.
-use Rattle.std.specs.Prelude.{⊤, ◌≡◌, ℕ, Bool, Option, Result, Ok, Err}
+use Rattle.std.specs.Prelude.{⊤, ◌≡◌, ℕ, Bool, Result, Ok, Err}
 use Rattle.std.specs.Option.{option_map}
 use Rattle.std.proofs.Common.{refl, ap, sym, ◌∙◌}
 use Rattle.std.proofs.lemmas.List.{length-map, length-set}
@@ -20,7 +20,7 @@ use Rattle.mono_blocking.specs.declared.jobs.refusals.PollJob.{PollJob}
 use Rattle.mono_blocking.specs.declared.runs.JobError.{JobError}
 use Rattle.mono_blocking.specs.declared.runs.RunJob.{RunJob}
 use Rattle.mono_blocking.specs.declared.runs.RunJob.TheVariants.{Fresh, Waits, Over}
-use Rattle.mono_quiet.specs.Numbers.{MakesNone, none_at_all, same_tasks, none_on}
+use Rattle.mono_quiet.specs.Numbers.{MakesNone, same_number, none_at_all, same_tasks, none_on}
 
 pub next_without_outputs : {O : Type 0} (tasks : Tasks O) → next_number (without_outputs tasks).table ≡ next_number tasks.table
 next_without_outputs tasks = length-map tasks.table (option_map task_without)
@@ -53,7 +53,7 @@ module _ {C O : Type 0} (work : C → Tasks ⊤) (tasks : C → Tasks O) (same_w
   next_of c = ap (λ w. next_number w.table) (same_work c) ∙ next_without_outputs (tasks c)
 
   as_before : (c d : C) (after : Tasks O) → tasks d ≡ after → next_number after.table ≡ next_number (tasks c).table → MakesNone work c d
-  as_before c d after is same = next_of d ∙ ap (λ w. next_number w.table) is ∙ same ∙ sym (next_of c)
+  as_before c d after is same = same_number work c d (next_of d ∙ ap (λ w. next_number w.table) is ∙ same ∙ sym (next_of c))
 
   pub join_handle_makes_none : (h by : ℕ) (c d : C) → tasks d ≡ joined (tasks c) h by → MakesNone work c d
   join_handle_makes_none h by c d is = as_before c d (joined (tasks c) h by) is (joined_by (tasks c) h (kept_task (tasks c) h) by)

@@ -1,8 +1,6 @@
 -- A loop makes no task, if none of its futures does.
 use Rattle.std.specs.Prelude.{⊤, ℕ, zero, suc, Option, Some, None, Result}
 use Rattle.std.specs.Fn.{Mut}
-use Rattle.std.proofs.Common.{ap, ◌∙◌}
-use Rattle.mono_model.specs.Table.{next_number}
 use Rattle.mono_model.specs.Tasks.{Tasks}
 use Rattle.mono_model.specs.declared.Woke.{Woke}
 use Rattle.mono_model.specs.declared.task_error.TaskError.{TaskError}
@@ -14,7 +12,7 @@ use Rattle.mono_forms.specs.declared.repeats.Loop.{Loop}
 use Rattle.mono_forms.specs.declared.repeats.Loop.TheVariants.{Break, Continue}
 use Rattle.mono_forms.specs.declared.repeats.Repeat.{Repeat}
 use Rattle.mono_quiet.specs.Numbers.{MakesNone, none_at_all, none_on, PollsMakeNone, CancelsMakeNone}
-use Rattle.mono_quiet.specs.Wakes.{wakes_make_none}
+use Rattle.mono_quiet.specs.Wakes.{wake_makes_none}
 
 module _ {A C X : Type 0} (work : C → Tasks ⊤) (future : FutureOf A C X) where
   pub repeat_left : CancelsMakeNone work future → (m : Option A) (c d : C) → RepeatCancels future.cancels m c d → MakesNone work c d
@@ -38,7 +36,7 @@ module _ {A C F S T : Type 0} (work : C → Tasks ⊤) (future : FutureOf A C (L
     onward (Some answer) More t m p n d more q = none_at_all work m d q.2
 
     takes_none : (k : ℕ) (s : Repeat A F) (c : C) (p : Poll T) (n : Repeat A F) (d : C) → Takes future call number work wakes reaches k s c p n d → MakesNone work c d
-    takes_none zero s c p n d q = ap (λ w. next_number w.table) q.2.work_after ∙ wakes_make_none (work c) (number c)
+    takes_none zero s c p n d q = wake_makes_none work (number c) c d q.2.work_after
     takes_none (suc k) s c p n d q = none_on work c q.2 d (turn_none s.future s.func c q.0 q.1 q.2 q.3) (onward q.0 (Takes future call number work wakes reaches k q.1 q.2 p n d) q.1 q.2 p n d (takes_none k q.1 q.2 p n d) q.4)
 
     pub repeat_makes_none : (s : Repeat A F) (c : C) (p : Poll T) (n : Repeat A F) (d : C) → RepeatPolls future call number work wakes reaches s c p n d → MakesNone work c d
