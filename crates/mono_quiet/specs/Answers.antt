@@ -1,10 +1,8 @@
 -- Futures that answer at once, and yields, make no task.
 use Rattle.std.specs.Prelude.{⊤, ℕ, Option, Some, None, Result}
 use Rattle.std.specs.Fn.{Once}
-use Rattle.std.proofs.Common.{ap, ◌∙◌}
-use Rattle.mono_model.specs.Table.{next_number}
 use Rattle.mono_model.specs.Tasks.{Tasks}
-use Rattle.mono_quiet.specs.Wakes.{wakes_make_none}
+use Rattle.mono_quiet.specs.Wakes.{wake_makes_none}
 use Rattle.mono_model.specs.declared.Woke.{Woke}
 use Rattle.mono_model.specs.declared.task_error.TaskError.{TaskError}
 use Rattle.mono_model.specs.declared.poll.Poll.{Poll}
@@ -26,6 +24,6 @@ module _ {C : Type 0} (work : C → Tasks ⊤) where
 
   module _ (number : C → ℕ) (wakes : C → ℕ → Result Woke TaskError → C → Type 0) (reaches : C → C → Type 0) where
     pub yield_makes_none : (f : YieldNow) (c : C) (r : Poll ⊤) (g : YieldNow) (d : C) → YieldPolls number work wakes reaches f c r g d → MakesNone work c d
-    yield_makes_none Fresh c r g d q = ap (λ w. next_number w.table) q.2.work_after ∙ wakes_make_none (work c) (number c)
+    yield_makes_none Fresh c r g d q = wake_makes_none work (number c) c d q.2.work_after
     yield_makes_none Woken c r g d q = none_at_all work c d q.2
     yield_makes_none Over c r g d q = absurd q

@@ -1,6 +1,16 @@
 pub mod Numbers
 pub mod Wakes
 pub mod Answers
+pub mod Turns
 pub mod Leads
 pub mod Sequences
 pub mod Naps
+pub mod Timeouts
+pub mod Choices
+pub mod Races
+pub mod Repeats
+pub mod Joins
+pub mod JoinLists
+pub mod Selects
+pub mod ListSelects
+pub mod Handles

@@ -10,13 +10,16 @@ module _ {C : Type 0} (work : C → Tasks ⊤) where
   abbrev pub MakesNone : C → C → Type 0
   MakesNone c d = next_number (work d).table ≡ next_number (work c).table
 
+  pub same_number : (c d : C) → next_number (work d).table ≡ next_number (work c).table → MakesNone c d
+  same_number c d is = is
+
   -- no call was made
   pub none_at_all : (c d : C) → d ≡ c → MakesNone c d
-  none_at_all c d is = ap (λ x. next_number (work x).table) is
+  none_at_all c d is = same_number c d (ap (λ x. next_number (work x).table) is)
 
   -- the calls left the tasks as they were
   pub same_tasks : (c d : C) → work d ≡ work c → MakesNone c d
-  same_tasks c d is = ap (λ w. next_number w.table) is
+  same_tasks c d is = same_number c d (ap (λ w. next_number w.table) is)
 
   pub none_on : (a b c : C) → MakesNone a b → MakesNone b c → MakesNone a c
   none_on a b c p q = q ∙ p

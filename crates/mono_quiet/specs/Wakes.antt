@@ -1,8 +1,10 @@
 -- A wake makes no task.
-use Rattle.std.proofs.Common.{◌≡◌, ℕ, Some, None, Option, refl}
+use Rattle.std.specs.Prelude.{⊤}
+use Rattle.std.proofs.Common.{◌≡◌, ℕ, Some, None, Option, refl, ap, ◌∙◌}
 use Rattle.std.proofs.lemmas.List.{length-set}
 use Rattle.mono_model.specs.Table.{value_at, next_number}
 use Rattle.mono_model.specs.Tasks.{Tasks, Task, Phase, idle, queued, running, done, taken, woken, woken_in, woken_value}
+use Rattle.mono_quiet.specs.Numbers.{MakesNone, same_number}
 
 next_of_woken : {O : Type 0} (v : Option (Task O)) (tasks : Tasks O) (t : ℕ) → next_number (woken_value v tasks t).table ≡ next_number tasks.table
 next_of_woken {O} None tasks t = refl
@@ -15,5 +17,5 @@ next_of_woken {O} (Some task) tasks t = by_phase task.phase
     by_phase (done output) = refl
     by_phase taken = refl
 
-pub wakes_make_none : {O : Type 0} (tasks : Tasks O) (t : ℕ) → next_number (woken tasks t).table ≡ next_number tasks.table
-wakes_make_none tasks t = next_of_woken (value_at tasks.table t) tasks t
+pub wake_makes_none : {C : Type 0} (work : C → Tasks ⊤) (t : ℕ) (c d : C) → work d ≡ woken (work c) t → MakesNone work c d
+wake_makes_none work t c d is = same_number work c d (ap (λ w. next_number w.table) is ∙ next_of_woken (value_at (work c).table t) (work c) t)

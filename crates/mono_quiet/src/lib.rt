@@ -2,9 +2,15 @@
 #![tactic(auto)]
 
 mod answers;
+mod choices;
 mod delays;
 mod futures;
+mod handles;
+mod joins;
 pub mod laws;
+mod races;
+mod repeats;
+mod selects;
 mod sequences;
 
 pub use futures::Quiet;

@@ -1,7 +1,7 @@
-// A future whose closure rests on what it captured, on a runtime of its own.
+// Futures whose closures rest on what they captured, each on a runtime of its own.
 ghost use Rattle.std.specs.Prelude.{◌≡◌, ◌+◌, ◌<◌, ◌⊎◌, IfOk};
 
-use mono_forms::FutureExt;
+use mono_forms::{FutureExt, race};
 use mono_quiet::laws::quiet_futures_spawn_none;
 use mono_rt::{
     BlockingHandle, BlockingStrategy, Host, Instant, Limits, NoPool, NoUnpark, RunError,
@@ -39,10 +39,47 @@ fn count_up<R: Host>(rt: &R, alloc: Global, count: u64) -> Result<Result<u64, Ru
     Ok(answer)
 }
 
+/// Races the count one up from a count below 1,000 against a longer sleep. Its closure has captured the count.
+fn count_in_a_race<R: Host>(
+    rt: &R,
+    alloc: Global,
+    count: u64,
+) -> Result<Result<u64, RunError>, AllocError>
+    requires { count < 1000 }
+    ensures { IfOk result (λ answer. IfOk answer (λ n. (n ≡ count + 1) ⊎ (n ≡ 0))) }
+{
+    let counted = sleep_for(Duration::from_millis(1)).map(move |slept: Result<(), SleepError>| {
+        match slept {
+            Ok(()) => count + 1,
+            Err(_) => 0,
+        }
+    });
+    let late = sleep_for(Duration::from_millis(5)).map(|_: Result<(), SleepError>| 0u64);
+    let task = race(counted, late);
+    quiet_futures_spawn_none::<_, u64, NoPool, NoUnpark, ()>(&task);
+    let limits = Limits {
+        tasks: 1,
+        jobs: 0,
+        sleeps: 2,
+    };
+    let driver = StepDriver::new(Vec::new(alloc));
+    let pool: BlockingHandle<NoPool> = BlockingHandle::Empty(BlockingStrategy::Panic);
+    let (answer, _journal) = run_alone(rt, alloc, driver, pool, limits, Instant::ZERO, task, 100)?;
+    Ok(answer)
+}
+
 #[test]
 fn a_closure_rests_on_a_captured_count(rt: HostRuntime) {
     for count in [0, 1, 999] {
         let answer = count_up(&rt, rt.alloc(), count).expect(&rt, "memory");
+        assert_eq!(rt; answer, Ok(count + 1));
+    }
+}
+
+#[test]
+fn a_closure_in_a_race_rests_on_a_captured_count(rt: HostRuntime) {
+    for count in [0, 1, 999] {
+        let answer = count_in_a_race(&rt, rt.alloc(), count).expect(&rt, "memory");
         assert_eq!(rt; answer, Ok(count + 1));
     }
 }
