@@ -1,9 +1,10 @@
 //! The loads of `mono_bench channels` on tokio's current-thread runtime:
 //!   tokio mpsc|permits|oneshot|threads|waits|jobs N
 //!
-//! `mpsc` sends over tokio's channel of one place, `permits` takes turns at tokio's semaphore, `oneshot` answers each of N
-//! spawned tasks, and `threads` sends from a runtime of one thread to a runtime of another, over 64 places. `waits` has N
-//! tasks wait for a permit each, and `jobs` awaits N blocking jobs, one after another, on one worker.
+//! `mpsc` sends over tokio's channel of one place, and `permits` takes turns at tokio's semaphore. In `oneshot`, a task sends
+//! N requests to another over a channel of one place, each with the sender of a new oneshot channel for the reply. `threads`
+//! sends from a runtime of one thread to a runtime of another, over 64 places. `waits` has N tasks wait for a permit each, and
+//! `jobs` awaits N blocking jobs, one after another, on one worker.
 //! `tools/bench/run.py` builds it with cargo over Debian's package `librust-tokio-dev`.
 use std::rc::Rc;
 use tokio::runtime::{Builder, Runtime};
@@ -72,18 +73,34 @@ fn permits(count: u64) -> u64 {
     })
 }
 
+/// A number, and the sender of the channel for the reply to it.
+type Request = (u64, oneshot::Sender<u64>);
+
+/// Replies to each request with its number.
+async fn reply(mut requests: Receiver<Request>) {
+    while let Some((number, sender)) = requests.recv().await {
+        if sender.send(number).is_err() {
+            return;
+        }
+    }
+}
+
+/// Sends requests one after another. Returns how many had the right reply.
+async fn ask(requests: Sender<Request>, count: u64) -> u64 {
+    for number in 0..count {
+        let (sender, receiver) = oneshot::channel();
+        if requests.send((number, sender)).await.is_err() || receiver.await != Ok(number) {
+            return number;
+        }
+    }
+    count
+}
+
 fn once(count: u64) -> u64 {
     run(async move {
-        let asker = spawn_local(async move {
-            let mut sum = 0;
-            for number in 0..count {
-                let (sender, receiver) = oneshot::channel();
-                spawn_local(async move { sender.send(number) });
-                sum += receiver.await.expect("a number");
-            }
-            sum
-        });
-        asker.await.expect("an answer")
+        let (sender, receiver) = channel(1);
+        spawn_local(reply(receiver));
+        spawn_local(ask(sender, count)).await.expect("an answer")
     })
 }
 

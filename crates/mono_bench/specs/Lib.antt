@@ -1,4 +1,2 @@
-pub mod Askers
 pub mod Bounds
 pub mod Crowds
-pub mod Parties

@@ -1,11 +1,9 @@
 // Messages and permits between the tasks of one runtime, and messages between two threads.
-mod asks;
 mod boards;
 mod crowds;
 mod lanes;
 mod parties;
 
-use asks::ask_all;
 use boards::Board;
 use crowds::gather;
 use lanes::cross;
@@ -13,9 +11,9 @@ use mono_blocking::NoPool;
 use mono_driver::{StepDriver, TimeDriver};
 use mono_model::Host;
 use mono_rt::{Runtime, RuntimeBuilder};
-use mono_sync::Semaphore;
-use mono_sync::mpsc::Channel;
-use parties::Party;
+use mono_sync::Acquire;
+use mono_sync::mpsc::{Recv, Send};
+use parties::{Act, Party};
 use std::alloc::Global;
 use std::io;
 
@@ -23,31 +21,38 @@ use std::io;
 pub const HELP: &str = "  channels mpsc|permits|oneshot|waits|threads N
     mpsc: a task sends N numbers to another over a channel of one place
     permits: two tasks take a permit in turn, N times each
-    oneshot: a task makes N tasks, one after another, each of which sends it a number over a channel for one message
+    oneshot: a task sends N numbers to another, one after another, which replies to each over a new channel for one message
     waits: N tasks wait for a permit each, and then a task releases N permits
     threads: a task of one thread sends N numbers to a task of another over a channel of 64 places";
 
 type Running = Runtime<Party, u64, TimeDriver<StepDriver>, NoPool, Board>;
 
-// Runs two tasks on one runtime. Returns the answer of the second, or 0 if the runtime gave up.
-fn answer<R: Host>(rt: &R, alloc: Global, first: Party, second: Party) -> u64 {
+// Runs two tasks on one runtime, each of which does its work so many times. Returns the answer of the second, or 0 if the
+// runtime gave up.
+fn answer<R: Host>(rt: &R, alloc: Global, count: u64, first: Act, second: Act) -> u64 {
     let driver = TimeDriver::new(StepDriver::new(Vec::new(alloc)));
     let builder: RuntimeBuilder<TimeDriver<StepDriver>, NoPool> = RuntimeBuilder::new(driver);
-    let board = Board {
-        numbers: Channel::new(alloc, 1),
-        permits: Semaphore::new(alloc, 1),
-    };
-    let made: Running = match builder.build_sharing(alloc, board) {
+    let made: Running = match builder.build_sharing(alloc, Board::new(alloc)) {
         Ok(made) => made,
         Err(_) => return 0,
     };
     let mut runtime = made;
-    if runtime.spawn(alloc, first).is_err() {
+    if runtime.spawn(alloc, Party::new(first, count)).is_err() {
         return 0;
     }
-    match runtime.block_on(rt, alloc, second, u64::MAX) {
+    match runtime.block_on(rt, alloc, Party::new(second, count), u64::MAX) {
         Ok(answer) => answer,
         Err(_) => 0,
+    }
+}
+
+// Returns what the two tasks of the work of this name do, if it is a work of two tasks of one runtime.
+fn pair_of(name: &str) -> Option<(Act, Act)> {
+    match name {
+        "mpsc" => Some((Act::Sends(Send::new(0)), Act::Takes(Recv::new()))),
+        "permits" => Some((Act::Wants(Acquire::new()), Act::Wants(Acquire::new()))),
+        "oneshot" => Some((Act::Replies(Recv::new()), Act::Asks(Send::new(0)))),
+        _ => None,
     }
 }
 
@@ -61,10 +66,10 @@ fn asked(words: &[String]) -> Option<(&str, u64)> {
 
 // Does the work of this name, if there is one, and returns its answer.
 fn work<R: Host + Sync>(rt: &R, alloc: Global, name: &str, count: u64) -> Option<u64> {
+    if let Some((first, second)) = pair_of(name) {
+        return Some(answer(rt, alloc, count, first, second));
+    }
     match name {
-        "mpsc" => Some(answer(rt, alloc, Party::Sends(0, count), Party::Takes(0, count))),
-        "permits" => Some(answer(rt, alloc, Party::Wants(0, count), Party::Wants(0, count))),
-        "oneshot" => Some(ask_all(rt, alloc, count)),
         "waits" => Some(gather(rt, alloc, count)),
         "threads" => cross(rt, alloc, count),
         _ => None,

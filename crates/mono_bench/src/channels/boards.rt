@@ -5,14 +5,30 @@ use mono_shared::SharedState;
 use mono_sync::mpsc::Channel;
 use mono_sync::oneshot::Oneshot;
 use mono_sync::{Holds, Semaphore};
+use std::alloc::Global;
 
-/// A channel of numbers, and permits.
+/// A channel of numbers, permits, and a channel for the reply to the last number.
 #[derive(Drop)]
 pub struct Board {
-    /// The numbers.
-    pub numbers: Channel<u64>,
-    /// The permits.
-    pub permits: Semaphore,
+    numbers: Channel<u64>,
+    permits: Semaphore,
+    reply: Oneshot<u64>,
+}
+
+impl Board {
+    /// Returns a board with a channel of one place and one permit.
+    pub fn new(alloc: Global) -> Board {
+        Board {
+            numbers: Channel::new(alloc, 1),
+            permits: Semaphore::new(alloc, 1),
+            reply: Oneshot::new(),
+        }
+    }
+
+    /// Puts a new channel into the place of the last reply's.
+    pub fn renew(&mut self) {
+        self.reply = Oneshot::new();
+    }
 }
 
 /// It promises nothing.
@@ -52,36 +68,13 @@ impl Holds<Semaphore> for Board {
     ghost leads_with = { λ w x led. tt };
 }
 
-/// The channel of the task that was asked last.
-#[derive(Drop)]
-pub struct Post {
-    /// The channel for its number.
-    pub answer: Oneshot<u64>,
-}
+impl Holds<Oneshot<u64>> for Board {
+    ghost part = { λ w. w.reply };
 
-impl Post {
-    /// Puts a new channel into the place of the last one.
-    pub fn renew(&mut self) {
-        self.answer = Oneshot::new();
-    }
-}
-
-/// It promises nothing.
-impl SharedState for Post {
-    ghost leads = { λ a b. ⊤ };
-
-    ghost leads_itself = { λ a. tt };
-
-    ghost leads_on = { λ a b c p q. tt };
-}
-
-impl Holds<Oneshot<u64>> for Post {
-    ghost part = { λ w. w.answer };
-
-    ghost with_part = { λ w x. record w { answer = x } };
+    ghost with_part = { λ w x. record w { reply = x } };
 
     fn part_mut(&mut self) -> &mut Oneshot<u64> {
-        &mut self.answer
+        &mut self.reply
     }
 
     ghost part_with = { λ w x. refl };

@@ -1,249 +1,300 @@
-// The tasks that send, receive and take permits.
-ghost use Rattle.std.specs.Prelude.{◌≡◌, false};
-ghost use Rattle.mono_bench.specs.Parties.{is_over};
-
+// The tasks that send, receive, take permits, ask and reply.
 use crate::channels::boards::Board;
 use mono_model::{Host, Poll};
 use mono_shared::SharedContext;
 use mono_sync::mpsc::{Recv, Send};
-use mono_sync::{Acquire, permits};
+use mono_sync::{Acquire, oneshot, permits};
 use mono_task::TaskFuture;
 use std::alloc::Global;
-use std::mem;
+
+/// What a task does next.
+#[derive(Drop)]
+pub enum Act {
+    /// It sends a number.
+    Sends(Send<Board, u64>),
+    /// It receives a number.
+    Takes(Recv<Board, u64>),
+    /// It takes a permit.
+    Wants(Acquire<Board>),
+    /// It has a permit, which it releases at its next turn.
+    Has,
+    /// It sends a number to the task that replies.
+    Asks(Send<Board, u64>),
+    /// It waits for the reply.
+    Hears(oneshot::Recv<Board, u64>),
+    /// It receives a number, and replies with it.
+    Replies(Recv<Board, u64>),
+}
 
 /// A task, with how often it has done its work and how often it is to be done.
 #[derive(Drop)]
-pub enum Party {
-    /// It sends next.
-    Sends(u64, u64),
-    /// It waits to send.
-    Sending(Send<Board, u64>, u64, u64),
-    /// It receives next.
-    Takes(u64, u64),
-    /// It waits to receive.
-    Taking(Recv<Board, u64>, u64, u64),
-    /// It takes a permit next.
-    Wants(u64, u64),
-    /// It waits for a permit.
-    Asks(Acquire<Board>, u64, u64),
-    /// It has a permit, which it releases at its next turn.
-    Has(u64, u64),
-    /// It answers this.
-    Ends(u64),
+pub struct Party {
+    act: Act,
+    done: u64,
+    count: u64,
 }
 
-// Polls a send.
+// Polls a send, and makes that of the next number once the number is sent. Returns false if it failed.
 fn sends<R: Host, C: SharedContext<Board>>(
     rt: &R,
     alloc: Global,
     cx: &mut C,
-    send: Send<Board, u64>,
-    done: u64,
-    count: u64,
-) -> Party
-    requires { is_over (Party.Sending send done count) ≡ false }
-    ensures unspent { is_over result ≡ false }
-    ensures reached { C.reaches cx.old cx.new }
+    send: &mut Send<Board, u64>,
+    next: u64,
+) -> Poll<bool>
+    ensures { C.reaches cx.old cx.new }
 {
-    let mut send = send;
+    if TaskFuture::<C>::spent(send) {
+        return Poll::Ready(false);
+    }
     match send.poll(rt, alloc, cx) {
-        Poll::Pending => Party::Sending(send, done, count),
-        Poll::Ready(Err(_)) => Party::Ends(done),
-        Poll::Ready(Ok(())) => Party::Sends(done.saturating_add(1), count),
+        Poll::Pending => Poll::Pending,
+        Poll::Ready(Err(_)) => Poll::Ready(false),
+        Poll::Ready(Ok(())) => {
+            *send = Send::new(next);
+            Poll::Ready(true)
+        }
     }
 }
 
-// Sends the next number, unless all were sent.
-fn send_next<R: Host, C: SharedContext<Board>>(
-    rt: &R,
-    alloc: Global,
-    cx: &mut C,
-    done: u64,
-    count: u64,
-) -> Party
-    ensures unspent { is_over result ≡ false }
-    ensures reached { C.reaches cx.old cx.new }
-{
-    if done < count {
-        sends(rt, alloc, cx, Send::new(done), done, count)
-    } else {
-        Party::Ends(done)
-    }
-}
-
-// Polls a receive.
+// Polls a receive, and makes the next one once a number was received. Returns none if it failed.
 fn takes<R: Host, C: SharedContext<Board>>(
     rt: &R,
     alloc: Global,
     cx: &mut C,
-    recv: Recv<Board, u64>,
-    done: u64,
-    count: u64,
-) -> Party
-    requires { is_over (Party.Taking recv done count) ≡ false }
-    ensures unspent { is_over result ≡ false }
-    ensures reached { C.reaches cx.old cx.new }
-{
-    let mut recv = recv;
-    match recv.poll(rt, alloc, cx) {
-        Poll::Pending => Party::Taking(recv, done, count),
-        Poll::Ready(Err(_)) => Party::Ends(done),
-        Poll::Ready(Ok(None)) => Party::Ends(done),
-        Poll::Ready(Ok(Some(_))) => Party::Takes(done.saturating_add(1), count),
-    }
-}
-
-// Receives the next number, unless all were received.
-fn take_next<R: Host, C: SharedContext<Board>>(
-    rt: &R,
-    alloc: Global,
-    cx: &mut C,
-    done: u64,
-    count: u64,
-) -> Party
-    ensures unspent { is_over result ≡ false }
-    ensures reached { C.reaches cx.old cx.new }
-{
-    if done < count {
-        takes(rt, alloc, cx, Recv::new(), done, count)
-    } else {
-        Party::Ends(done)
-    }
-}
-
-// Polls for a permit.
-fn asks<R: Host, C: SharedContext<Board>>(
-    rt: &R,
-    alloc: Global,
-    cx: &mut C,
-    acquire: Acquire<Board>,
-    done: u64,
-    count: u64,
-) -> Party
-    requires { is_over (Party.Asks acquire done count) ≡ false }
-    ensures unspent { is_over result ≡ false }
-    ensures reached { C.reaches cx.old cx.new }
-{
-    let mut acquire = acquire;
-    match acquire.poll(rt, alloc, cx) {
-        Poll::Pending => Party::Asks(acquire, done, count),
-        Poll::Ready(Err(_)) => Party::Ends(done),
-        Poll::Ready(Ok(())) => Party::Has(done.saturating_add(1), count),
-    }
-}
-
-// Takes the next permit, unless all were taken.
-fn ask_next<R: Host, C: SharedContext<Board>>(
-    rt: &R,
-    alloc: Global,
-    cx: &mut C,
-    done: u64,
-    count: u64,
-) -> Party
-    ensures unspent { is_over result ≡ false }
-    ensures reached { C.reaches cx.old cx.new }
-{
-    if done < count {
-        asks(rt, alloc, cx, Acquire::new(), done, count)
-    } else {
-        Party::Ends(done)
-    }
-}
-
-// Releases the permit.
-fn releases<C: SharedContext<Board>>(cx: &mut C, done: u64, count: u64) -> Party
-    ensures unspent { is_over result ≡ false }
-    ensures reached { C.reaches cx.old cx.new }
-{
-    let _ = permits::release::<Board, C>(cx);
-    Party::Wants(done, count)
-}
-
-// Makes one step.
-fn step<R: Host, C: SharedContext<Board>>(rt: &R, alloc: Global, cx: &mut C, party: Party) -> Party
-    requires { is_over party ≡ false }
-    ensures unspent { is_over result ≡ false }
-    ensures reached { C.reaches cx.old cx.new }
-{
-    match party {
-        Party::Sends(done, count) => send_next(rt, alloc, cx, done, count),
-        Party::Sending(send, done, count) => sends(rt, alloc, cx, send, done, count),
-        Party::Takes(done, count) => take_next(rt, alloc, cx, done, count),
-        Party::Taking(recv, done, count) => takes(rt, alloc, cx, recv, done, count),
-        Party::Wants(done, count) => ask_next(rt, alloc, cx, done, count),
-        Party::Asks(acquire, done, count) => asks(rt, alloc, cx, acquire, done, count),
-        Party::Has(done, count) => releases(cx, done, count),
-        Party::Ends(done) => Party::Ends(done),
-    }
-}
-
-// Returns whether the party makes a further step in the same turn.
-fn goes_on(party: &Party) -> bool {
-    matches!(
-        party,
-        Party::Sends(_, _) | Party::Takes(_, _) | Party::Wants(_, _)
-    )
-}
-
-// Makes a step, and a second one if the party goes on.
-fn steps<R: Host, C: SharedContext<Board>>(rt: &R, alloc: Global, cx: &mut C, party: Party) -> Party
-    requires { is_over party ≡ false }
-    ensures unspent { is_over result ≡ false }
-    ensures reached { C.reaches cx.old cx.new }
-{
-    let after = step(rt, alloc, cx, party);
-    if goes_on(&after) {
-        return step(rt, alloc, cx, after);
-    }
-    after
-}
-
-// Queues the running task again after its turn, unless the party waits for another task.
-fn queue_again<C: SharedContext<Board>>(cx: &mut C, party: &Party)
+    recv: &mut Recv<Board, u64>,
+) -> Poll<Option<u64>>
     ensures { C.reaches cx.old cx.new }
 {
-    if goes_on(party) || matches!(party, Party::Has(_, _)) {
-        let me = cx.me();
-        let _ = cx.wake(me);
+    if TaskFuture::<C>::spent(recv) {
+        return Poll::Ready(None);
+    }
+    match recv.poll(rt, alloc, cx) {
+        Poll::Pending => Poll::Pending,
+        Poll::Ready(Err(_)) => Poll::Ready(None),
+        Poll::Ready(Ok(number)) => {
+            *recv = Recv::new();
+            Poll::Ready(number)
+        }
+    }
+}
+
+// Polls a receive, and replies with the number. Returns false if it failed.
+fn replies<R: Host, C: SharedContext<Board>>(
+    rt: &R,
+    alloc: Global,
+    cx: &mut C,
+    recv: &mut Recv<Board, u64>,
+) -> Poll<bool>
+    ensures { C.reaches cx.old cx.new }
+{
+    match takes(rt, alloc, cx, recv) {
+        Poll::Pending => Poll::Pending,
+        Poll::Ready(None) => Poll::Ready(false),
+        Poll::Ready(Some(number)) => {
+            Poll::Ready(oneshot::send::<u64, Board, C>(cx, number).is_ok())
+        }
+    }
+}
+
+// Polls for a permit. Returns false if there will be none.
+fn wants<R: Host, C: SharedContext<Board>>(
+    rt: &R,
+    alloc: Global,
+    cx: &mut C,
+    acquire: &mut Acquire<Board>,
+) -> Poll<bool>
+    ensures { C.reaches cx.old cx.new }
+{
+    if TaskFuture::<C>::spent(acquire) {
+        return Poll::Ready(false);
+    }
+    match acquire.poll(rt, alloc, cx) {
+        Poll::Pending => Poll::Pending,
+        Poll::Ready(acquired) => Poll::Ready(acquired.is_ok()),
+    }
+}
+
+// Polls for the reply to this number. Returns false if it is another, or if none will come.
+fn hears<R: Host, C: SharedContext<Board>>(
+    rt: &R,
+    alloc: Global,
+    cx: &mut C,
+    recv: &mut oneshot::Recv<Board, u64>,
+    number: u64,
+) -> Poll<bool>
+    ensures { C.reaches cx.old cx.new }
+{
+    if TaskFuture::<C>::spent(recv) {
+        return Poll::Ready(false);
+    }
+    match recv.poll(rt, alloc, cx) {
+        Poll::Pending => Poll::Pending,
+        Poll::Ready(reply) => Poll::Ready(reply == Some(number)),
+    }
+}
+
+// Queues the running task again after its turn.
+fn queue_again<C: SharedContext<Board>>(cx: &mut C)
+    ensures { C.reaches cx.old cx.new }
+{
+    let me = cx.me();
+    let _ = cx.wake(me);
+}
+
+// Puts a new channel for one message into the place of the last one.
+fn renew<C: SharedContext<Board>>(cx: &mut C)
+    ensures { C.reaches cx.old cx.new }
+{
+    cx.shared_mut().renew();
+}
+
+impl Party {
+    /// Returns a task that does this work so many times.
+    pub fn new(act: Act, count: u64) -> Party {
+        Party {
+            act,
+            done: 0,
+            count,
+        }
+    }
+
+    // Takes a permit, and holds it over one turn.
+    fn hold<R: Host, C: SharedContext<Board>>(
+        &mut self,
+        rt: &R,
+        alloc: Global,
+        cx: &mut C,
+    ) -> Poll<bool>
+        ensures { C.reaches cx.old cx.new }
+    {
+        let Act::Wants(acquire) = &mut self.act else {
+            return Poll::Ready(false);
+        };
+        match wants(rt, alloc, cx, acquire) {
+            Poll::Ready(true) => {
+                self.act = Act::Has;
+                queue_again(cx);
+                Poll::Pending
+            }
+            other => other,
+        }
+    }
+
+    // Waits for the reply to this number, and asks the next one at the next step.
+    fn hear<R: Host, C: SharedContext<Board>>(
+        &mut self,
+        rt: &R,
+        alloc: Global,
+        cx: &mut C,
+        number: u64,
+    ) -> Poll<bool>
+        ensures { C.reaches cx.old cx.new }
+    {
+        let Act::Hears(recv) = &mut self.act else {
+            return Poll::Ready(false);
+        };
+        let heard = hears(rt, alloc, cx, recv, number);
+        if matches!(heard, Poll::Ready(true)) {
+            self.act = Act::Asks(Send::new(number.saturating_add(1)));
+        }
+        heard
+    }
+
+    // Makes a channel for the reply, sends this number, and waits for the reply.
+    fn ask<R: Host, C: SharedContext<Board>>(
+        &mut self,
+        rt: &R,
+        alloc: Global,
+        cx: &mut C,
+        number: u64,
+    ) -> Poll<bool>
+        ensures { C.reaches cx.old cx.new }
+    {
+        let Act::Asks(send) = &mut self.act else {
+            return Poll::Ready(false);
+        };
+        renew(cx);
+        match sends(rt, alloc, cx, send, number) {
+            Poll::Ready(true) => {
+                self.act = Act::Hears(oneshot::Recv::new());
+                self.hear(rt, alloc, cx, number)
+            }
+            other => other,
+        }
+    }
+
+    // Releases the permit.
+    fn release<C: SharedContext<Board>>(&mut self, cx: &mut C) -> Poll<bool>
+        ensures { C.reaches cx.old cx.new }
+    {
+        let _ = permits::release::<Board, C>(cx);
+        self.act = Act::Wants(Acquire::new());
+        Poll::Ready(true)
+    }
+
+    // Does the work with this number, or waits. Returns false if it failed.
+    fn step<R: Host, C: SharedContext<Board>>(
+        &mut self,
+        rt: &R,
+        alloc: Global,
+        cx: &mut C,
+        number: u64,
+    ) -> Poll<bool>
+        ensures { C.reaches cx.old cx.new }
+    {
+        match &mut self.act {
+            Act::Sends(send) => sends(rt, alloc, cx, send, number.saturating_add(1)),
+            Act::Takes(recv) => match takes(rt, alloc, cx, recv) {
+                Poll::Pending => Poll::Pending,
+                Poll::Ready(taken) => Poll::Ready(taken.is_some()),
+            },
+            Act::Replies(recv) => replies(rt, alloc, cx, recv),
+            Act::Wants(_) => self.hold(rt, alloc, cx),
+            Act::Has => self.release(cx),
+            Act::Asks(_) => self.ask(rt, alloc, cx, number),
+            Act::Hears(_) => self.hear(rt, alloc, cx, number),
+        }
+    }
+
+    // Does the work until the task waits. Returns how often it was done, if it was done as often as asked or failed.
+    fn go_on<R: Host, C: SharedContext<Board>>(
+        &mut self,
+        rt: &R,
+        alloc: Global,
+        cx: &mut C,
+    ) -> Poll<u64>
+        ensures { C.reaches cx.old cx.new }
+    {
+        for number in self.done..self.count {
+            match self.step(rt, alloc, cx, number) {
+                Poll::Ready(true) => self.done = number.saturating_add(1),
+                Poll::Ready(false) => return Poll::Ready(number),
+                Poll::Pending => return Poll::Pending,
+            }
+        }
+        Poll::Ready(self.count)
     }
 }
 
 impl<C: SharedContext<Board>> TaskFuture<C> for Party {
     type Output = u64;
 
-    ghost is_spent = { is_over };
-
     fn spent(&self) -> bool {
-        match self {
-            Party::Sends(_, _) => false,
-            Party::Sending(send, _, _) => TaskFuture::<C>::spent(send),
-            Party::Takes(_, _) => false,
-            Party::Taking(recv, _, _) => TaskFuture::<C>::spent(recv),
-            Party::Wants(_, _) => false,
-            Party::Asks(acquire, _, _) => TaskFuture::<C>::spent(acquire),
-            Party::Has(_, _) => false,
-            Party::Ends(_) => false,
-        }
+        false
     }
 
     fn poll<R: Host>(&mut self, rt: &R, alloc: Global, cx: &mut C) -> Poll<u64> {
-        let party = mem::replace(self, Party::Ends(0));
-        match steps(rt, alloc, cx, party) {
-            Party::Ends(done) => Poll::Ready(done),
-            after => {
-                queue_again(cx, &after);
-                *self = after;
-                Poll::Pending
-            }
-        }
+        self.go_on(rt, alloc, cx)
     }
 
     fn cancel(self, cx: &mut C) {
-        match self {
-            Party::Sending(send, _, _) => send.cancel(cx),
-            Party::Taking(recv, _, _) => recv.cancel(cx),
-            Party::Asks(acquire, _, _) => acquire.cancel(cx),
-            _ => {}
+        match self.act {
+            Act::Sends(send) | Act::Asks(send) => send.cancel(cx),
+            Act::Takes(recv) | Act::Replies(recv) => recv.cancel(cx),
+            Act::Wants(acquire) => acquire.cancel(cx),
+            Act::Hears(recv) => recv.cancel(cx),
+            Act::Has => {}
         }
     }
 }
