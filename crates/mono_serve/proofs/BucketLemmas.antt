@@ -17,7 +17,7 @@ use Rattle.mono_limit.proofs.RateLemmas as limit_rate
 use Rattle.mono_sync.specs.Runs.{Run}
 use Rattle.mono_serve.specs.declared.buckets.Buckets.{Buckets}
 use Rattle.mono_serve.specs.declared.buckets.Asked.TheVariants.{Granted, Waits, Short, Refused}
-use Rattle.mono_serve.specs.BucketCalls.{TriesAt, Event, added, joined, asked, gave_up, Step}
+use Rattle.mono_serve.specs.BucketCalls.{TriesAt, Event, added, entered, asked, gave_up, Step}
 use Rattle.mono_serve.specs.Laws.{given_by, given, RateIsKept}
 
 -- The calls of the limiter that lead from u to v, by which a bucket b gives so many tokens.
@@ -52,8 +52,9 @@ tried b nanos bucket n u v r (inr (refused, same)) = subst (λ x. Calls b u v (t
 
 by_step : (b : ℕ) (e : Event) (x y : Buckets) → Step x e y → Calls b (limits_of x.limiter) (limits_of y.limiter) (given_by b e)
 by_step b (added burst period r) x y s = by_bucket b burst period (limits_of x.limiter) (limits_of y.limiter) r s.0
-by_step b (joined bucket task (Ok t)) x y s = none b (limits_of x.limiter) (limits_of y.limiter) (ap limits_of s.3)
-by_step b (joined bucket task (Err e)) x y s = none b (limits_of x.limiter) (limits_of y.limiter) (ap limits_of s.1)
+by_step b (entered ticket bucket task r) x y (inl s) = none b (limits_of x.limiter) (limits_of y.limiter) (ap limits_of s.7)
+by_step b (entered ticket bucket task (Ok t)) x y (inr (out, joins)) = none b (limits_of x.limiter) (limits_of y.limiter) (ap limits_of joins.3)
+by_step b (entered ticket bucket task (Err e)) x y (inr (out, joins)) = none b (limits_of x.limiter) (limits_of y.limiter) (ap limits_of joins.1)
 by_step b (asked nanos ticket bucket n Waits) x y s = none b (limits_of x.limiter) (limits_of y.limiter) (ap (λ (z : Buckets). limits_of z.limiter) s.1)
 by_step b (asked nanos ticket bucket n (Granted next)) x y s = tried b nanos bucket n (limits_of x.limiter) (limits_of y.limiter) (Ok take.Granted) s.1
 by_step b (asked nanos ticket bucket n (Short tick)) x y s = tried b nanos bucket n (limits_of x.limiter) (limits_of y.limiter) (Ok (take.Short tick)) s.1

@@ -1,6 +1,6 @@
 -- The calls of buckets for which tasks wait, and the effect of each.
-use Rattle.std.specs.Prelude.{◌≡◌, ◌==◌, ◌⊎◌, ◌+◌, ℕ, Bool, true, false, not, if◌then◌else◌, List, [], ◌∷◌, ◌++◌, filter, Option, Some, None, Result, Ok, Err}
-use Rattle.std.specs.List.{find}
+use Rattle.std.specs.Prelude.{◌≡◌, ◌==◌, ◌⊎◌, ◌+◌, ℕ, Bool, true, false, not, if◌then◌else◌, List, [], ◌∷◌, ◌++◌, filter, Option, Some, None, Result, Ok, Err, slice_set}
+use Rattle.std.specs.List.{find, list_any, position}
 use Rattle.std.specs.declared.alloc.AllocError.{AllocError}
 use Rattle.mono_model.specs.Memory.{OrLacksMemory}
 use Rattle.mono_limit.specs.Limiter.{Limits, TakeAnswers, bucket_answer, with_bucket}
@@ -32,6 +32,18 @@ first_of ws bucket = task_of (find (λ w. w.bucket == bucket) ws)
 abbrev pub is_first : List Waiter → ℕ → ℕ → Bool
 is_first ws bucket ticket = has_ticket (find (λ w. w.bucket == bucket) ws) ticket
 
+-- The place of the future with this ticket. One that has no ticket has no place.
+abbrev pub place_of : List Waiter → ℕ → Option ℕ
+place_of ws ticket = position (λ w. w.ticket == ticket) ws
+
+abbrev pub place_in : List Waiter → Option ℕ → Option ℕ
+place_in ws None = None
+place_in ws (Some ticket) = place_of ws ticket
+
+-- Whether this task waits for tokens.
+abbrev pub lists_task : Buckets → ℕ → Bool
+lists_task a task = list_any (λ w. w.task == task) a.waiters.items
+
 -- The waiting tasks without the one with this ticket.
 abbrev pub without : List Waiter → ℕ → List Waiter
 without ws ticket = filter (λ w. not (w.ticket == ticket)) ws
@@ -55,6 +67,14 @@ Joins a bucket task (Ok ticket) b =
     (ticket ≡ a.next) × (b.waiters.items ≡ a.waiters.items ++ record { ticket = a.next; bucket = bucket; task = task } ∷ []) × (b.next ≡ a.next + 1) × (b.limiter ≡ a.limiter)
 Joins a bucket task (Err error) b = SameLine a b × (b.limiter ≡ a.limiter)
 
+-- A future that is in the line stays there, and this task waits in its place. Another one joins the line.
+abbrev pub Stays : Buckets → Option ℕ → ℕ → ℕ → Result ℕ AllocError → Buckets → Type 0
+Stays a ticket bucket task r b =
+    (t : ℕ) × (place : ℕ) × (ticket ≡ Some t) × (place_of a.waiters.items t ≡ Some place) × (r ≡ Ok t) × (b.waiters.items ≡ slice_set a.waiters.items place (record { ticket = t; bucket = bucket; task = task })) × (b.next ≡ a.next) × (b.limiter ≡ a.limiter)
+
+abbrev pub Enters : Buckets → Option ℕ → ℕ → ℕ → Result ℕ AllocError → Buckets → Type 0
+Enters a ticket bucket task r b = Stays a ticket bucket task r b ⊎ ((place_in a.waiters.items ticket ≡ None) × Joins a bucket task r b)
+
 -- The future with this ticket leaves the line, and the first in the bucket's line from then on is to be woken.
 abbrev pub Leaves : Buckets → ℕ → ℕ → Option ℕ → Buckets → Type 0
 Leaves a ticket bucket next b = (b.waiters.items ≡ without a.waiters.items ticket) × (next ≡ first_of b.waiters.items bucket) × (b.next ≡ a.next)
@@ -77,12 +97,12 @@ GivesUp a ticket bucket next b =
 -- A call with its answer.
 pub data Event : Type 0 where
   added : (burst : ℕ) → (period : ℕ) → (answer : Result ℕ LimitError) → Event
-  joined : (bucket : ℕ) → (task : ℕ) → (answer : Result ℕ AllocError) → Event
+  entered : (ticket : Option ℕ) → (bucket : ℕ) → (task : ℕ) → (answer : Result ℕ AllocError) → Event
   asked : (nanos : ℕ) → (ticket : ℕ) → (bucket : ℕ) → (n : ℕ) → (answer : Asked) → Event
   gave_up : (ticket : ℕ) → (bucket : ℕ) → (next : Option ℕ) → Event
 
 abbrev pub Step : Buckets → Event → Buckets → Type 0
 Step a (added burst period r) b = Adds a burst period r b
-Step a (joined bucket task r) b = Joins a bucket task r b
+Step a (entered ticket bucket task r) b = Enters a ticket bucket task r b
 Step a (asked nanos ticket bucket n r) b = Asks a nanos ticket bucket n r b
 Step a (gave_up ticket bucket next) b = GivesUp a ticket bucket next b

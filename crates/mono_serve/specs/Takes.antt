@@ -19,7 +19,7 @@ use Rattle.mono_serve.specs.declared.takes.Stage.{Stage}
 use Rattle.mono_serve.specs.declared.takes.Stage.TheVariants.{Fresh, Waits, Sleeps, Over}
 use Rattle.mono_serve.specs.declared.takes.TakeError.{TakeError}
 use Rattle.mono_serve.specs.declared.takes.TakeError.TheVariants.{Refused, Memory, Far, Timer}
-use Rattle.mono_serve.specs.BucketCalls.{Joins, Asks, GivesUp}
+use Rattle.mono_serve.specs.BucketCalls.{Enters, Asks, GivesUp}
 
 abbrev pub is_over : Stage → Bool
 is_over Fresh = false
@@ -125,23 +125,23 @@ module _ {C : Type 0} (part : C → Buckets) (number nanos : C → ℕ) (sleeps 
     pub reached : reaches c middle
     pub rest : AfterAsk part number sleeps work reaches answer ticket bucket middle r s d
 
-  abbrev pub AfterJoin : Result ℕ AllocError → ℕ → ℕ → C → Poll (Result ⊤ TakeError) → Stage → C → Type 0
-  AfterJoin (Ok ticket) bucket n c r s d = AsksFor ticket bucket n c r s d
-  AfterJoin (Err error) bucket n c r s d = (r ≡ Ready (Err Memory)) × (s ≡ Over) × (d ≡ c)
+  abbrev pub AfterEntry : Result ℕ AllocError → ℕ → ℕ → C → Poll (Result ⊤ TakeError) → Stage → C → Type 0
+  AfterEntry (Ok ticket) bucket n c r s d = AsksFor ticket bucket n c r s d
+  AfterEntry (Err error) bucket n c r s d = (r ≡ Ready (Err Memory)) × (s ≡ Over) × (d ≡ c)
 
-  -- The running task joins the line, and asks at once.
-  pub record Begins (bucket n : ℕ) (c : C) (r : Poll (Result ⊤ TakeError)) (s : Stage) (d : C) : Type 0 where
-    pub ticket : Result ℕ AllocError
+  -- The running task waits in the future's place in the line, and asks at once.
+  pub record GoesOn (ticket : Option ℕ) (bucket n : ℕ) (c : C) (r : Poll (Result ⊤ TakeError)) (s : Stage) (d : C) : Type 0 where
+    pub kept : Result ℕ AllocError
     pub middle : C
-    pub joins : Joins (part c) bucket (number c) ticket (part middle)
+    pub enters : Enters (part c) ticket bucket (number c) kept (part middle)
     pub work_after : work middle ≡ work c
     pub reached : reaches c middle
-    pub rest : AfterJoin ticket bucket n middle r s d
+    pub rest : AfterEntry kept bucket n middle r s d
 
-  -- The sleep gave an answer, or is over, and the future asks again.
+  -- The sleep gave an answer, or is over, and the future goes on.
   abbrev pub AfterSleep : Option (Poll (Result ⊤ TakeError)) → Stage → ℕ → ℕ → ℕ → C → Poll (Result ⊤ TakeError) → Stage → C → Type 0
   AfterSleep (Some answer) t ticket bucket n c r s d = (r ≡ answer) × (s ≡ t) × (d ≡ c)
-  AfterSleep None t ticket bucket n c r s d = AsksFor ticket bucket n c r s d
+  AfterSleep None t ticket bucket n c r s d = GoesOn (Some ticket) bucket n c r s d
 
   pub record Wakes (ticket bucket n : ℕ) (sleep : Sleep) (c : C) (r : Poll (Result ⊤ TakeError)) (s : Stage) (d : C) : Type 0 where
     pub answer : Option (Poll (Result ⊤ TakeError))
@@ -151,7 +151,7 @@ module _ {C : Type 0} (part : C → Buckets) (number nanos : C → ℕ) (sleeps 
     pub rest : AfterSleep answer stage ticket bucket n middle r s d
 
   abbrev pub TakePolls : Stage → ℕ → ℕ → C → Poll (Result ⊤ TakeError) → Stage → C → Type 0
-  TakePolls Fresh bucket n c r s d = Begins bucket n c r s d
-  TakePolls (Waits ticket) bucket n c r s d = AsksFor ticket bucket n c r s d
+  TakePolls Fresh bucket n c r s d = GoesOn None bucket n c r s d
+  TakePolls (Waits ticket) bucket n c r s d = GoesOn (Some ticket) bucket n c r s d
   TakePolls (Sleeps ticket sleep) bucket n c r s d = Wakes ticket bucket n sleep c r s d
   TakePolls Over bucket n c r s d = ⊥

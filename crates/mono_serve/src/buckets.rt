@@ -7,7 +7,7 @@ ghost use Rattle.mono_limit.specs.Limits.{limits_of};
 ghost use Rattle.mono_limit.specs.declared.LimitError.TheVariants as error;
 ghost use Rattle.mono_model.specs.Memory.{OrLacksMemory};
 ghost use Rattle.mono_sync.specs.Runs.{Leads, leads_itself, leads_on};
-ghost use Rattle.mono_serve.specs.BucketCalls.{first_of, is_first, without, TriesAt, Adds, Joins, Asks, GivesUp, Step};
+ghost use Rattle.mono_serve.specs.BucketCalls.{first_of, is_first, place_of, without, lists_task, TriesAt, Adds, Joins, Enters, Asks, GivesUp, Step};
 
 use mono_limit::{LimitError, Limiter};
 use mono_shared::SharedState;
@@ -52,6 +52,8 @@ pub enum Asked {
 /// Calls alone lead from some buckets to others.
 impl SharedState for Buckets {
     ghost leads = { Leads Step };
+
+    ghost lists = { lists_task };
 
     ghost leads_itself = { leads_itself Step };
 
@@ -125,9 +127,9 @@ impl Buckets {
         }
     }
 
-    /// Appends a task to those that wait for tokens of the bucket, and returns its ticket. Refused if out of memory, or
-    /// if no ticket is left.
-    pub fn join(&mut self, bucket: u64, task: u64) -> Result<u64, AllocError>
+    // Appends a task to those that wait for tokens of the bucket, and returns its ticket. Refused if out of memory, or if
+    // no ticket is left.
+    fn join(&mut self, bucket: u64, task: u64) -> Result<u64, AllocError>
         ensures { Joins self.old bucket task result self.new }
     {
         let ticket = self.next;
@@ -142,6 +144,33 @@ impl Buckets {
         self.waiters.push_back(waiter)?;
         self.next = next;
         Ok(ticket)
+    }
+
+    // Returns the place of the future with this ticket.
+    fn place_of(&self, ticket: u64) -> Option<usize>
+        ensures { result ≡ place_of self.now.waiters.items ticket }
+    {
+        self.waiters.iter().position(|w| w.ticket == ticket)
+    }
+
+    /// Makes a task wait for tokens of the bucket, in the place of the future with this ticket. A future that is not in
+    /// the line joins it at its end. Returns the future's ticket. Refused only if the future is not in the line, and out
+    /// of memory or no ticket is left.
+    pub fn enter(&mut self, ticket: Option<u64>, bucket: u64, task: u64) -> Result<u64, AllocError>
+        ensures { Enters self.old ticket bucket task result self.new }
+    {
+        if let Some(ticket) = ticket {
+            if let Some(place) = self.place_of(ticket) {
+                let waiter = Waiter {
+                    ticket,
+                    bucket,
+                    task,
+                };
+                self.waiters[place] = waiter;
+                return Ok(ticket);
+            }
+        }
+        self.join(bucket, task)
     }
 
     // Takes the future with this ticket out of the line.

@@ -5,8 +5,8 @@ ghost use Rattle.std.specs.declared.option.Option.TheVariants.{None};
 ghost use Rattle.mono_model.specs.Poll.{OnPending};
 ghost use Rattle.mono_model.specs.Tasks.{woken, woken_if_any};
 ghost use Rattle.mono_time.specs.Instants.{nanos_of};
-ghost use Rattle.mono_serve.specs.BucketCalls.{Joins, Asks, GivesUp};
-ghost use Rattle.mono_serve.specs.Takes.{deadline_of, is_over, MayGoOn, LeavesLine, FailsAwake, Naps, FirstNap, MakesSleep, Rests, AsksFor, TakePolls, TakeCancels};
+ghost use Rattle.mono_serve.specs.BucketCalls.{Enters, Asks, GivesUp};
+ghost use Rattle.mono_serve.specs.Takes.{deadline_of, is_over, MayGoOn, LeavesLine, FailsAwake, Naps, FirstNap, MakesSleep, Rests, AsksFor, GoesOn, TakePolls, TakeCancels};
 ghost use Rattle.mono_serve.specs.declared.takes.Stage.TheVariants.{Fresh};
 
 use crate::buckets::{Asked, Buckets};
@@ -23,7 +23,7 @@ use std::mem;
 /// A future that takes tokens of a bucket, and waits until the bucket has them.
 ///
 /// It waits until no earlier future waits for the bucket. Then it sleeps exactly until the tick at which the bucket has
-/// the tokens.
+/// the tokens. Each poll makes the running task wait in the future's place in the line.
 #[derive(Drop)]
 pub struct Take<W> {
     pub(crate) bucket: u64,
@@ -81,12 +81,17 @@ pub(crate) fn deadline_of(tick: u128) -> Option<Instant>
     Instant::from_nanos(tick.saturating_mul(1000000))
 }
 
-// Appends a task to the bucket's line.
-fn join_part<W: Holds<Buckets>>(whole: &mut W, bucket: u64, task: u64) -> Result<u64, AllocError>
-    ensures answer { Joins (W.part whole.old) bucket task result (W.part whole.new) }
+// Makes a task wait in a future's place in the line.
+fn enter_part<W: Holds<Buckets>>(
+    whole: &mut W,
+    ticket: Option<u64>,
+    bucket: u64,
+    task: u64,
+) -> Result<u64, AllocError>
+    ensures answer { Enters (W.part whole.old) ticket bucket task result (W.part whole.new) }
     ensures leads { W.leads whole.old whole.new }
 {
-    whole.part_mut().join(bucket, task)
+    whole.part_mut().enter(ticket, bucket, task)
 }
 
 // Asks the buckets for a future.
@@ -112,14 +117,18 @@ fn leave_part<W: Holds<Buckets>>(whole: &mut W, ticket: u64, bucket: u64) -> Opt
     whole.part_mut().give_up(ticket, bucket)
 }
 
-// Appends the running task to the bucket's line.
-fn join<W: Holds<Buckets>, C: SharedContext<W>>(cx: &mut C, bucket: u64) -> Result<u64, AllocError>
-    ensures answer { Joins (W.part (C.shared cx.old)) bucket (C.number cx.old) result (W.part (C.shared cx.new)) }
+// Makes the running task wait in a future's place in the line.
+fn enter<W: Holds<Buckets>, C: SharedContext<W>>(
+    cx: &mut C,
+    ticket: Option<u64>,
+    bucket: u64,
+) -> Result<u64, AllocError>
+    ensures answer { Enters (W.part (C.shared cx.old)) ticket bucket (C.number cx.old) result (W.part (C.shared cx.new)) }
     ensures work { C.work cx.new ≡ C.work cx.old }
     ensures reached { C.reaches cx.old cx.new }
 {
     let me = cx.me();
-    join_part(cx.shared_mut(), bucket, me)
+    enter_part(cx.shared_mut(), ticket, bucket, me)
 }
 
 // Asks the buckets for the running task's future.
@@ -311,7 +320,7 @@ impl<W> Take<W> {
     }
 
     // Asks for the tokens, and sleeps if the bucket has too few.
-    fn go_on<C: TimeContext + SharedContext<W>, R: Host>(
+    fn ask_for<C: TimeContext + SharedContext<W>, R: Host>(
         &mut self,
         rt: &R,
         alloc: Global,
@@ -342,6 +351,29 @@ impl<W> Take<W> {
             Asked::Short(tick) => self.rest(rt, alloc, cx, ticket, tick),
         }
     }
+
+    // Makes the running task wait in the line, and asks for the tokens.
+    fn go_on<C: TimeContext + SharedContext<W>, R: Host>(
+        &mut self,
+        rt: &R,
+        alloc: Global,
+        cx: &mut C,
+        ticket: Option<u64>,
+    ) -> Poll<Result<(), TakeError>>
+    where
+        W: Holds<Buckets>,
+        ensures goes_on { GoesOn (λ x. W.part (C.shared x)) C.number C.nanos C.sleeps C.work C.reaches ticket self.old.bucket self.old.n cx.old result self.new.stage cx.new }
+        ensures again { OnPending result (is_over self.new.stage ≡ false) }
+        ensures reached { C.reaches cx.old cx.new }
+    {
+        match enter::<W, C>(cx, ticket, self.bucket) {
+            Ok(ticket) => self.ask_for(rt, alloc, cx, ticket),
+            Err(_) => {
+                self.stage = Stage::Over;
+                Poll::Ready(Err(TakeError::Memory))
+            }
+        }
+    }
 }
 
 /// The future answers once it has the tokens. It fails if the limiter refuses them, if the bucket has them past the last
@@ -366,14 +398,11 @@ impl<W: Holds<Buckets>, C: TimeContext + SharedContext<W>> TaskFuture<C> for Tak
 
     fn poll<R: Host>(&mut self, rt: &R, alloc: Global, cx: &mut C) -> Poll<Result<(), TakeError>> {
         match mem::replace(&mut self.stage, Stage::Over) {
-            Stage::Fresh => match join::<W, C>(cx, self.bucket) {
-                Ok(ticket) => self.go_on(rt, alloc, cx, ticket),
-                Err(_) => Poll::Ready(Err(TakeError::Memory)),
-            },
-            Stage::Waits(ticket) => self.go_on(rt, alloc, cx, ticket),
+            Stage::Fresh => self.go_on(rt, alloc, cx, None),
+            Stage::Waits(ticket) => self.go_on(rt, alloc, cx, Some(ticket)),
             Stage::Sleeps(ticket, sleep) => match self.nap(rt, alloc, cx, ticket, sleep) {
                 Some(answer) => answer,
-                None => self.go_on(rt, alloc, cx, ticket),
+                None => self.go_on(rt, alloc, cx, Some(ticket)),
             },
             Stage::Over => unreachable!(),
         }

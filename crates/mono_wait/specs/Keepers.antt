@@ -4,7 +4,6 @@ use Rattle.std.specs.List.{list_any}
 use Rattle.std.proofs.Common.{◌==◌, inl, inr, sym, ap, ◌∙◌, subst, refl, eq-eqb}
 use Rattle.std.specs.declared.alloc.AllocError.{AllocError}
 use Rattle.mono_model.specs.Table.{value_at}
-use Rattle.mono_model.specs.Tasks.{woken}
 use Rattle.mono_model.specs.declared.poll.Poll.{Poll}
 use Rattle.mono_model.specs.declared.poll.Poll.TheVariants.{Ready, Pending}
 use Rattle.mono_model.specs.declared.error.Error.{Error}
@@ -12,19 +11,18 @@ use Rattle.mono_model.specs.declared.error.SleepError.{SleepError}
 use Rattle.mono_time.specs.Sleeps.{SleepTable}
 use Rattle.mono_time.specs.Futures.{SleepPolls}
 use Rattle.mono_time.specs.declared.sleeps.Sleep.{Sleep}
-use Rattle.mono_serve.specs.LeaseCalls.{Rests, lists_task, is_keeper}
+use Rattle.mono_serve.specs.LeaseCalls.{lists_task, is_keeper}
 use Rattle.mono_serve.specs.Takes.{deadline_of}
-use Rattle.mono_serve.specs.Keepers.{AfterNap, NapsNot, AfterMade, MakesNap, RestsUntil, AfterRest, RestsIn, AfterShown, Keeps, KeeperPolls}
+use Rattle.mono_serve.specs.Keepers.{AfterNap, AfterMade, RestsUntil, AfterRest, RestsIn, AfterShown, Keeps, KeeperPolls}
 use Rattle.mono_serve.specs.declared.leases.Leases.{Leases}
-use Rattle.mono_serve.specs.declared.keepers.KeeperError.{KeeperError}
 use Rattle.mono_serve.specs.declared.keepers.Phase.{Phase}
 use Rattle.mono_serve.specs.declared.keepers.Phase.TheVariants.{Waits, Sleeps, Over}
-use Rattle.mono_machine.specs.Watches.{Source, of_sleep, of_peers, is_stirred_in}
+use Rattle.mono_machine.specs.Watches.{Source, of_sleep, of_peers}
 use Rattle.mono_wait.specs.Sources.{waker_in, peers_watcher}
-use Rattle.mono_wait.specs.WakeEffects.{stirs}
 use Rattle.mono_wait.specs.Leaves.{SleepNeeds, sleeps_cover}
-use Rattle.mono_wait.specs.Peers.{PeersNeeds, peers_heard}
-use Rattle.mono_wait.specs.Frames.{Frame, HeardIn, CoversIn, heard_before, heard_after}
+use Rattle.mono_wait.specs.Peers.{PeersNeeds}
+use Rattle.mono_wait.specs.Moments.{stirred_heard, listed_heard}
+use Rattle.mono_wait.specs.Frames.{Frame, HeardIn, CoversIn, heard_after}
 
 -- The tasks that open sessions, and its sleep if it has one.
 abbrev pub KeeperNeeds : ℕ → Phase → Source → Type 0
@@ -50,25 +48,18 @@ module _ {C : Type 0} (w : Frame C) (part : C → Leases) (sleeps : C → SleepT
     (c : C) (t : ℕ) (is : t ≡ w.number c) (d : C) (whole : w.reaches c d) where
   -- the task was the keeper at some moment
   kept_heard : (m : C) → w.reaches c m → w.reaches m d → (part m).keeper ≡ Some (w.number c) → HeardIn w c d (of_peers t)
-  kept_heard m before since kept =
-      heard_before w c m d (of_peers t) (peers_heard w.number w.work w.reaches w.watcher w.itself same_number lists watches_peers c m t before is (lists_part m (w.number c) (keeper_listed (part m) (w.number c) kept))) since
-
-  -- the task woke itself
-  stirred_heard : (m : C) → w.reaches c m → w.work d ≡ woken (w.work m) (w.number m) → (x : Source) → HeardIn w c d x
-  stirred_heard m before wakes x = record {
-    moment = d;
-    before = whole;
-    hears = inr (subst (λ n. is_stirred_in (value_at (w.work d).table n) ≡ true) (same_number c m before ∙ sym (same_number c d whole)) (subst (λ v. is_stirred_in (value_at v.table (w.number m)) ≡ true) (sym wakes) (stirs (w.work m) (w.number m))));
-    since = w.itself d;
-  }
+  kept_heard m before since kept = listed_heard w same_number lists watches_peers c m d t before since is (lists_part m (w.number c) (keeper_listed (part m) (w.number c) kept))
 
   after_nap : (answer : Poll (Result ⊤ Error)) (sleep : Sleep) (r m e : C) (g : Phase) → w.reaches c r → (part r).keeper ≡ Some (w.number c) → w.reaches r m → SleepPolls w.number sleeps w.work w.reaches sleep m answer sleep e
       → AfterNap part w.number sleeps w.work w.reaches answer sleep e Pending g d → CoversIn w c d (KeeperNeeds t g)
   after_nap (Ready (Ok done)) sleep r m e g before kept more polled rest = record {
     some = of_peers t;
-    armed = stirred_heard rest.2.middle (w.on c e rest.2.middle (w.on c m e (w.on c r m before more) polled.reached) rest.2.removed.reached) rest.2.woken (of_peers t);
-    each = λ x needed. stirred_heard rest.2.middle (w.on c e rest.2.middle (w.on c m e (w.on c r m before more) polled.reached) rest.2.removed.reached) rest.2.woken x;
+    armed = woke (of_peers t);
+    each = λ x needed. woke x;
   }
+    where
+      woke : (x : Source) → HeardIn w c d x
+      woke x = stirred_heard w same_number c rest.2.middle d (w.on c e rest.2.middle (w.on c m e (w.on c r m before more) polled.reached) rest.2.removed.reached) whole rest.2.woken x
   after_nap (Ready (Err error)) sleep r m e g before kept more polled rest = absurd (no_answer _ rest.0)
   after_nap Pending sleep r m e g before kept more polled rest = record {
     some = of_peers t;

@@ -31,4 +31,6 @@ pub mod Needings
 pub mod Outsides
 pub mod Peers
 pub mod ListedTasks
+pub mod Moments
 pub mod Keepers
+pub mod Takes

@@ -21,6 +21,7 @@ mod select_lists;
 mod selects;
 mod sequences;
 mod streams;
+mod takes;
 mod ticks;
 mod waits;
 

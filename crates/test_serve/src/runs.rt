@@ -11,8 +11,9 @@ use crate::parties::Deed::{
 use crate::parties::{Deed, Party};
 use mono_actor::ActorError;
 use mono_rt::{Host, NoPool, Runtime, RuntimeBuilder, StepDriver, TimeDriver};
-use mono_serve::{Buckets, Leases, Mailboxes, Received};
+use mono_serve::{Asked, Buckets, Leases, Mailboxes, Received};
 use mono_session::SessionError;
+use mono_time::Instant;
 use std::alloc::Global;
 use std::process::Abort;
 
@@ -198,6 +199,38 @@ fn takes_wait_in_their_order_until_the_bucket_has_the_tokens(rt: HostRuntime) {
             (300, 2, Never),
         ],
     );
+}
+
+// A future waits for the task that polled it last, in the place that it had.
+#[test]
+fn tokens_wake_the_task_that_polled_last(rt: HostRuntime) {
+    let now = Instant::ZERO;
+    let mut buckets = Buckets::new(rt.alloc(), 1).expect(&rt, "memory");
+    buckets.add(rt.alloc(), 3, 10).expect(&rt, "bucket");
+    assert!(rt; matches!(buckets.enter(None, 0, 1), Ok(0)));
+    assert!(rt; matches!(buckets.enter(None, 0, 2), Ok(1)));
+    assert!(rt; matches!(buckets.enter(None, 0, 3), Ok(2)));
+    assert!(rt; matches!(buckets.enter(Some(1), 0, 4), Ok(1)));
+    assert_eq!(rt; buckets.ask(rt.alloc(), now, 1, 0, 1), Asked::Waits);
+    assert_eq!(rt;
+        buckets.ask(rt.alloc(), now, 0, 0, 1),
+        Asked::Granted(Some(4))
+    );
+    assert_eq!(rt;
+        buckets.ask(rt.alloc(), now, 1, 0, 1),
+        Asked::Granted(Some(3))
+    );
+}
+
+// A future that is not in the line joins it at its end.
+#[test]
+fn future_out_of_the_line_joins_it_again(rt: HostRuntime) {
+    let mut buckets = Buckets::new(rt.alloc(), 1).expect(&rt, "memory");
+    assert!(rt; matches!(buckets.enter(None, 0, 1), Ok(0)));
+    assert!(rt; matches!(buckets.enter(None, 0, 2), Ok(1)));
+    assert_eq!(rt; buckets.give_up(0, 0), Some(2));
+    assert!(rt; matches!(buckets.enter(Some(0), 0, 3), Ok(2)));
+    assert_eq!(rt; buckets.give_up(1, 0), Some(3));
 }
 
 #[test]

@@ -8,7 +8,7 @@ returns-in-None-clause-polled g c =
       stage = c.nap.new.self.stage;
       middle = c.nap.new.cx;
       naps = c.in-None.ensures.naps;
-      rest = rw (c.nap.ensures.bucket, c.nap.ensures.n) at c.go_on-in-None.ensures.asks;
+      rest = rw (c.nap.ensures.bucket, c.nap.ensures.n) at c.go_on-in-None.ensures.goes_on;
     })
 
 pub returns-in-None-clause-reached : goal.returns-in-None-clause-reached
