@@ -66,10 +66,10 @@ event_goes (shown nanos (Ok done)) a b k stands s = let x = s.0 k stands in (x.0
 event_goes (shown nanos (Err lack)) a b k stands s = let x = s.0 k stands in (x.0, x.1, subst (λ l. Goes None k l) (sym x.2) (goes_nowhere k))
 event_goes (called nanos c r) a b k stands s = let x = s.0 k stands in (x.0, x.1, goes_by_calls nanos c r k x.0 x.2)
 event_goes (claimed nanos t key task r) a b k stands s = let x = s.0 k stands in (x.0, x.1, goes_by_calls nanos (call.Acquire t key) (told_of r) k x.0 x.2)
-event_goes (looked nanos ticket t key look.Waits) a b k stands s = let x = s.0 k stands in (x.0, x.1, goes_by_clock nanos x.2.0.0 k x.0 x.2.0.1)
-event_goes (looked nanos ticket t key look.Held) a b k stands s = let x = s.0 k stands in (x.0, x.1, goes_by_clock nanos x.2.0.0 k x.0 x.2.0.1)
-event_goes (looked nanos ticket t key look.Lost) a b k stands s = let x = s.0 k stands in (x.0, x.1, goes_by_clock nanos x.2.0.0 k x.0 x.2.0.1)
-event_goes (looked nanos ticket t key look.Memory) a b k stands s = let x = s.0 k stands in (x.0, x.1, goes_by_release k x.0 t key x.2)
+event_goes (looked nanos ticket t key task look.Waits) a b k stands s = let x = s.0 k stands in (x.0, x.1, goes_by_clock nanos x.2.0.0 k x.0 x.2.0.1)
+event_goes (looked nanos ticket t key task look.Held) a b k stands s = let x = s.0 k stands in (x.0, x.1, goes_by_clock nanos x.2.0.0 k x.0 x.2.0.1)
+event_goes (looked nanos ticket t key task look.Lost) a b k stands s = let x = s.0 k stands in (x.0, x.1, goes_by_clock nanos x.2.0.0 k x.0 x.2.0.1)
+event_goes (looked nanos ticket t key task look.Memory) a b k stands s = let x = s.0 k stands in (x.0, x.1, goes_by_release k x.0 t key x.2)
 event_goes (gave_up ticket t key) a b k stands s = let x = s.0 k stands in (x.0, x.1, goes_by_release k x.0 t key x.2)
 event_goes (served task) a b k stands s = after_same (served task) k a b s.1 stands (goes_nowhere k)
 event_goes (rested task tick) a b k stands s = after_same (rested task tick) k a b s.3 stands (goes_nowhere k)
@@ -275,14 +275,14 @@ told_first : (s key : ℕ) (e : Event) (a b : Leases) (k : Keeper) → StandsFor
 told_first s key (claimed nanos t at task claim.Held) a b k stands tells step =
     let x = step.0 k stands in
     (x.0, x.1, subst (λ z. IsFirst z key x.0) tells.0 (subst (λ z. IsFirst t z x.0) tells.1 (claim_first nanos t at k x.0 x.2)))
-told_first s key (looked nanos ticket t at look.Held) a b k stands tells step =
+told_first s key (looked nanos ticket t at task look.Held) a b k stands tells step =
     let x = step.0 k stands in
     (x.0, x.1, subst (λ z. IsFirst z key x.0) tells.0 (subst (λ z. IsFirst t z x.0) tells.1 (holds_first x.0 t at x.2.1.1)))
 told_first s key (claimed nanos t at task (claim.Waits ticket)) a b k stands tells step = absurd tells
 told_first s key (claimed nanos t at task (claim.Refused refusal)) a b k stands tells step = absurd tells
-told_first s key (looked nanos ticket t at look.Waits) a b k stands tells step = absurd tells
-told_first s key (looked nanos ticket t at look.Lost) a b k stands tells step = absurd tells
-told_first s key (looked nanos ticket t at look.Memory) a b k stands tells step = absurd tells
+told_first s key (looked nanos ticket t at task look.Waits) a b k stands tells step = absurd tells
+told_first s key (looked nanos ticket t at task look.Lost) a b k stands tells step = absurd tells
+told_first s key (looked nanos ticket t at task look.Memory) a b k stands tells step = absurd tells
 told_first s key (shown nanos r) a b k stands tells step = absurd tells
 told_first s key (called nanos c r) a b k stands tells step = absurd tells
 told_first s key (gave_up ticket t at) a b k stands tells step = absurd tells

@@ -1,5 +1,5 @@
 -- The calls of leases for whose keys tasks wait, and the effect of each.
-use Rattle.std.specs.Prelude.{⊤, ◌≡◌, ◌==◌, ◌⊎◌, ◌+◌, ◌&&◌, ◌||◌, ℕ, Bool, true, false, not, List, [], ◌∷◌, ◌++◌, filter, Option, Some, None, Result, Ok, Err, slice_index_or, nat_lt}
+use Rattle.std.specs.Prelude.{⊤, ◌≡◌, ◌==◌, ◌⊎◌, ◌+◌, ◌&&◌, ◌||◌, ℕ, Bool, true, false, not, List, [], ◌∷◌, ◌++◌, filter, Option, Some, None, Result, Ok, Err, is_some, slice_index_or, slice_set, nat_lt}
 use Rattle.std.specs.List.{list_any, position, remove}
 use Rattle.std.specs.declared.alloc.AllocError.{AllocError}
 use Rattle.mono_session.specs.Answers.{Answer}
@@ -20,9 +20,13 @@ use Rattle.mono_serve.specs.declared.leases.Claimed.TheVariants as claim
 use Rattle.mono_serve.specs.declared.leases.Looked.{Looked}
 use Rattle.mono_serve.specs.declared.leases.Looked.TheVariants as look
 
+-- The place of the future with this ticket.
+abbrev pub place_of : List LockWaiter → ℕ → Option ℕ
+place_of ws ticket = position (λ w. w.ticket == ticket) ws
+
 -- Whether the future with this ticket waits.
 abbrev pub has_ticket : List LockWaiter → ℕ → Bool
-has_ticket ws ticket = list_any (λ w. w.ticket == ticket) ws
+has_ticket ws ticket = is_some (place_of ws ticket)
 
 -- Whether this task is the keeper.
 abbrev pub is_keeper : Option ℕ → ℕ → Bool
@@ -109,15 +113,20 @@ SeesIn ws ticket s key look.Held k = (still_waits ws ticket s key k ≡ false) �
 SeesIn ws ticket s key look.Lost k = (still_waits ws ticket s key k ≡ false) × (holds k s key ≡ false)
 SeesIn ws ticket s key look.Memory k = ⊥
 
--- A future that has its answer leaves the line.
-abbrev pub StaysOrLeaves : Leases → ℕ → Looked → Leases → Type 0
-StaysOrLeaves a ticket look.Waits b = SameLine a b
-StaysOrLeaves a ticket look.Held b = LeavesLine a ticket b
-StaysOrLeaves a ticket look.Lost b = LeavesLine a ticket b
-StaysOrLeaves a ticket look.Memory b = LeavesLine a ticket b
+-- This task waits in the place of the future with this ticket.
+abbrev pub Lingers : Leases → ℕ → ℕ → ℕ → ℕ → Leases → Type 0
+Lingers a ticket s key task b =
+    (place : ℕ) × (place_of a.waiters.items ticket ≡ Some place) × (b.waiters.items ≡ slice_set a.waiters.items place (record { ticket = ticket; session = s; key = key; task = task })) × (b.next ≡ a.next)
 
-abbrev pub Sees : Leases → ℕ → ℕ → ℕ → Looked → Leases → Type 0
-Sees a ticket s key result b = ((k : Keeper) → StandsFor a.sessions k → SeesIn a.waiters.items ticket s key result k) × (b.sessions ≡ a.sessions) × StaysOrLeaves a ticket result b × SameRest a b
+-- A future that has its answer leaves the line. Another waits for this task from now on.
+abbrev pub StaysOrLeaves : Leases → ℕ → ℕ → ℕ → ℕ → Looked → Leases → Type 0
+StaysOrLeaves a ticket s key task look.Waits b = Lingers a ticket s key task b
+StaysOrLeaves a ticket s key task look.Held b = LeavesLine a ticket b
+StaysOrLeaves a ticket s key task look.Lost b = LeavesLine a ticket b
+StaysOrLeaves a ticket s key task look.Memory b = LeavesLine a ticket b
+
+abbrev pub Sees : Leases → ℕ → ℕ → ℕ → ℕ → Looked → Leases → Type 0
+Sees a ticket s key task result b = ((k : Keeper) → StandsFor a.sessions k → SeesIn a.waiters.items ticket s key result k) × (b.sessions ≡ a.sessions) × StaysOrLeaves a ticket s key task result b × SameRest a b
 
 -- The sessions as a future that waits finds them at a moment. If out of memory, its session leaves the key's queue.
 abbrev pub LooksIn : List LockWaiter → ℕ → ℕ → ℕ → ℕ → Looked → Keeper → Keeper → Type 0
@@ -127,8 +136,8 @@ LooksIn ws nanos ticket s key look.Lost k l = Shows nanos k l × SeesIn ws ticke
 LooksIn ws nanos ticket s key look.Memory k l = l ≡ released k s key
 
 -- A future that waits asks again at a moment.
-abbrev pub Looks : Leases → ℕ → ℕ → ℕ → ℕ → Looked → Leases → Type 0
-Looks a nanos ticket s key result b = Moves a (LooksIn a.waiters.items nanos ticket s key result) b × StaysOrLeaves a ticket result b × SameRest a b
+abbrev pub Looks : Leases → ℕ → ℕ → ℕ → ℕ → ℕ → Looked → Leases → Type 0
+Looks a nanos ticket s key task result b = Moves a (LooksIn a.waiters.items nanos ticket s key result) b × StaysOrLeaves a ticket s key task result b × SameRest a b
 
 -- The place of the first task whose session no longer waits.
 abbrev pub first_served : Keeper → List LockWaiter → Option ℕ
@@ -167,7 +176,7 @@ pub data Event : Type 0 where
   shown : (nanos : ℕ) → (answer : Result ⊤ AllocError) → Event
   called : (nanos : ℕ) → (call : Call) → (answer : Answer) → Event
   claimed : (nanos : ℕ) → (session : ℕ) → (key : ℕ) → (task : ℕ) → (answer : Claimed) → Event
-  looked : (nanos : ℕ) → (ticket : ℕ) → (session : ℕ) → (key : ℕ) → (answer : Looked) → Event
+  looked : (nanos : ℕ) → (ticket : ℕ) → (session : ℕ) → (key : ℕ) → (task : ℕ) → (answer : Looked) → Event
   gave_up : (ticket : ℕ) → (session : ℕ) → (key : ℕ) → Event
   served : (task : Option ℕ) → Event
   rested : (task : ℕ) → (tick : Option ℕ) → Event
@@ -177,7 +186,7 @@ abbrev pub Step : Leases → Event → Leases → Type 0
 Step a (shown nanos r) b = ShownAt a nanos r b
 Step a (called nanos c r) b = Calls a nanos c r b
 Step a (claimed nanos s key task r) b = Claims a nanos s key task r b
-Step a (looked nanos ticket s key r) b = Looks a nanos ticket s key r b
+Step a (looked nanos ticket s key task r) b = Looks a nanos ticket s key task r b
 Step a (gave_up ticket s key) b = GivesUp a ticket s key b
 Step a (served task) b = Serves a task b
 Step a (rested task tick) b = Rests a task tick b

@@ -28,7 +28,7 @@ abbrev pub call_of : Event → Option Call
 call_of (shown nanos r) = None
 call_of (called nanos c r) = Some c
 call_of (claimed nanos s key task r) = Some (call.Acquire s key)
-call_of (looked nanos ticket s key r) = looked_call s key r
+call_of (looked nanos ticket s key task r) = looked_call s key r
 call_of (gave_up ticket s key) = Some (call.Release s key)
 call_of (served task) = None
 call_of (rested task tick) = None
@@ -61,7 +61,7 @@ ends_hold s key (call.Clock n) = false
 -- The event tells a future that the session holds the key.
 abbrev pub TellsHeld : ℕ → ℕ → Event → Type 0
 TellsHeld s key (claimed nanos t at task claim.Held) = (t ≡ s) × (at ≡ key)
-TellsHeld s key (looked nanos ticket t at look.Held) = (t ≡ s) × (at ≡ key)
+TellsHeld s key (looked nanos ticket t at task look.Held) = (t ≡ s) × (at ≡ key)
 TellsHeld s key e = ⊥
 
 -- Once a future was told that its session holds a key, no other session holds the key until the session releases it or

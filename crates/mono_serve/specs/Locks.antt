@@ -42,22 +42,6 @@ module _ {C : Type 0} (part : C → Leases) (nanos : C → ℕ) (work : C → Ta
     pub reached : reaches c middle
     pub served : WakesServed part work middle d
 
-  abbrev pub AfterLook : Looked → ℕ → Poll (Result ⊤ AcquireError) → Option ℕ → Type 0
-  AfterLook look.Waits ticket r left = (r ≡ Pending) × (left ≡ Some ticket)
-  AfterLook look.Held ticket r left = (r ≡ Ready (Ok tt)) × (left ≡ None)
-  AfterLook look.Lost ticket r left = (r ≡ Ready (Err Lost)) × (left ≡ None)
-  AfterLook look.Memory ticket r left = (r ≡ Ready (Err (Refused error.Memory))) × (left ≡ None)
-
-  -- A future that waits asks again at the turn's moment, and the tasks that are served are woken.
-  pub record LooksAgain (ticket s key : ℕ) (c : C) (r : Poll (Result ⊤ AcquireError)) (left : Option ℕ) (d : C) : Type 0 where
-    pub answer : Looked
-    pub middle : C
-    pub looks : Looks (part c) (nanos c) ticket s key answer (part middle)
-    pub work_after : work middle ≡ work c
-    pub reached : reaches c middle
-    pub served : WakesServed part work middle d
-    pub rest : AfterLook answer ticket r left
-
 module _ {C : Type 0} (part : C → Leases) (work : C → Tasks ⊤) (reaches : C → C → Type 0) where
   -- The future leaves the line, its session the key's queue, and the tasks that are served are woken.
   pub record LeavesLock (ticket s key : ℕ) (c d : C) : Type 0 where
@@ -85,8 +69,26 @@ module _ {C : Type 0} (part : C → Leases) (number nanos : C → ℕ) (work : C
     pub work_after : work middle ≡ work c
     pub reached : reaches c middle
     pub served : WakesServed part work middle d
+    pub since : reaches middle d
     pub rest : AfterClaim answer r left
+
+  abbrev pub AfterLook : Looked → ℕ → Poll (Result ⊤ AcquireError) → Option ℕ → Type 0
+  AfterLook look.Waits ticket r left = (r ≡ Pending) × (left ≡ Some ticket)
+  AfterLook look.Held ticket r left = (r ≡ Ready (Ok tt)) × (left ≡ None)
+  AfterLook look.Lost ticket r left = (r ≡ Ready (Err Lost)) × (left ≡ None)
+  AfterLook look.Memory ticket r left = (r ≡ Ready (Err (Refused error.Memory))) × (left ≡ None)
+
+  -- A future that waits asks again at the turn's moment, and the tasks that are served are woken.
+  pub record LooksAgain (ticket s key : ℕ) (c : C) (r : Poll (Result ⊤ AcquireError)) (left : Option ℕ) (d : C) : Type 0 where
+    pub answer : Looked
+    pub middle : C
+    pub looks : Looks (part c) (nanos c) ticket s key (number c) answer (part middle)
+    pub work_after : work middle ≡ work c
+    pub reached : reaches c middle
+    pub served : WakesServed part work middle d
+    pub since : reaches middle d
+    pub rest : AfterLook answer ticket r left
 
   abbrev pub AcquirePolls : Option ℕ → ℕ → ℕ → C → Poll (Result ⊤ AcquireError) → Option ℕ → C → Type 0
   AcquirePolls None s key c r left d = AsksFor s key c r left d
-  AcquirePolls (Some ticket) s key c r left d = LooksAgain part nanos work reaches ticket s key c r left d
+  AcquirePolls (Some ticket) s key c r left d = LooksAgain ticket s key c r left d

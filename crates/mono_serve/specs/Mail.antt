@@ -70,6 +70,7 @@ module _ {M C : Type 0} (part : C → Mailboxes M) (number : C → ℕ) (work : 
     pub work_after : work middle ≡ work c
     pub reached : reaches c middle
     pub served : WakesServed part work middle d
+    pub since : reaches middle d
     pub rest : AfterReceive answer r left
 
 -- A future that receives a message to the actor, and its delay of so many milliseconds. Neither was polled.

@@ -100,11 +100,14 @@ pub(crate) fn look_part<W: Holds<Leases>>(
     ticket: u64,
     session: u64,
     key: u64,
+    task: u64,
 ) -> Looked
-    ensures answer { Looks (W.part whole.old) (nanos_of now) ticket session key result (W.part whole.new) }
+    ensures answer { Looks (W.part whole.old) (nanos_of now) ticket session key task result (W.part whole.new) }
     ensures leads { W.leads whole.old whole.new }
 {
-    whole.part_mut().look(alloc, now, ticket, session, key)
+    whole
+        .part_mut()
+        .look(alloc, now, ticket, session, key, task)
 }
 
 // Takes a future out of the line, and its session out of the queue.

@@ -1,5 +1,5 @@
 // Leases as a plain value, with the tasks that wait for keys.
-ghost use Rattle.std.specs.Prelude.{◌≡◌, ◌<◌, ◌+◌, [], ℕ, Option, OnSome, IfOk};
+ghost use Rattle.std.specs.Prelude.{◌≡◌, ◌<◌, ◌+◌, [], ℕ, Option, OnSome, IfOk, MatchBool};
 ghost use Rattle.std.specs.VecDeque.{deque_len, deque_capacity};
 ghost use Rattle.mono_time.specs.Instants.{nanos_of};
 ghost use Rattle.mono_session.specs.Answers.{of_number, of_done};
@@ -7,7 +7,7 @@ ghost use Rattle.mono_session.specs.Calls as call;
 ghost use Rattle.mono_session.specs.Keeper.{Keeper, no_sessions, is_open, owner_answer};
 ghost use Rattle.mono_session.specs.Refinement.{StandsFor};
 ghost use Rattle.mono_sync.specs.Runs.{Leads, leads_itself, leads_on};
-ghost use Rattle.mono_serve.specs.LeaseCalls.{has_ticket, lists_task, still_waits, without, MovesTo, ShownTo, ShownAt, Calls, Claims, Sees, Looks, GivesUp, first_served, Serves, IsNext, Rests, Rouses, is_late, Step};
+ghost use Rattle.mono_serve.specs.LeaseCalls.{place_of, lists_task, still_waits, without, MovesTo, ShownTo, ShownAt, Calls, Claims, Sees, Looks, GivesUp, Lingers, first_served, Serves, IsNext, Rests, Rouses, is_late, Step};
 
 use mono_session::{SessionError, Sessions};
 use mono_shared::SharedState;
@@ -57,7 +57,7 @@ pub enum Claimed {
 pub enum Looked {
     /// The session holds the key, and its task waits no longer.
     Held,
-    /// The session is still behind another.
+    /// The session is still behind another. The task that asks waits from now on, in the place of its future.
     Waits,
     /// The session was closed, or left the queue by another call. Its task waits no longer.
     Lost,
@@ -223,18 +223,37 @@ impl Leases {
         }
     }
 
-    // Returns whether the future with this ticket waits.
-    fn has(&self, ticket: u64) -> bool
-        ensures { result ≡ has_ticket self.now.waiters.items ticket }
+    // Returns the place of the future with this ticket.
+    fn place_of(&self, ticket: u64) -> Option<usize>
+        ensures { result ≡ place_of self.now.waiters.items ticket }
     {
-        self.waiters.iter().any(|w| w.ticket == ticket)
+        self.waiters.iter().position(|w| w.ticket == ticket)
     }
 
-    // Returns whether the future with this ticket waits, and its session is in the key's queue behind another.
-    fn still_waits(&self, ticket: u64, session: u64, key: u64) -> bool
-        ensures { (k : Keeper) → StandsFor self.now.sessions k → result ≡ still_waits self.now.waiters.items ticket session key k }
+    // Returns whether the future with this ticket waits, and its session is in the key's queue behind another. If so, it
+    // waits for this task from now on.
+    fn still_waits(&mut self, ticket: u64, session: u64, key: u64, task: u64) -> bool
+        ensures waits { (k : Keeper) → StandsFor self.old.sessions k → result ≡ still_waits self.old.waiters.items ticket session key k }
+        ensures line { MatchBool result (Lingers self.old ticket session key task self.new) (self.new ≡ self.old) }
+        ensures sessions { self.new.sessions ≡ self.old.sessions }
+        ensures keeper { self.new.keeper ≡ self.old.keeper }
+        ensures alarm { self.new.alarm ≡ self.old.alarm }
     {
-        self.has(ticket) && self.sessions.is_waiting(session, key)
+        match self.place_of(ticket) {
+            None => false,
+            Some(place) => {
+                if !self.sessions.is_waiting(session, key) {
+                    return false;
+                }
+                self.waiters[place] = LockWaiter {
+                    ticket,
+                    session,
+                    key,
+                    task,
+                };
+                true
+            }
+        }
     }
 
     // Takes the future with this ticket out of the line.
@@ -248,8 +267,8 @@ impl Leases {
         self.waiters.retain(|w| w.ticket != ticket);
     }
 
-    /// Answers the future with this ticket at an instant. It waits while its session is in the key's queue behind
-    /// another. Otherwise it leaves the line, and it holds the key if its session does.
+    /// Answers the future with this ticket at an instant. It waits for this task while its session is in the key's queue
+    /// behind another. Otherwise it leaves the line, and it holds the key if its session does.
     pub fn look(
         &mut self,
         alloc: Global,
@@ -257,11 +276,12 @@ impl Leases {
         ticket: u64,
         session: u64,
         key: u64,
+        task: u64,
     ) -> Looked
-        ensures { Looks self.old (nanos_of now) ticket session key result self.new }
+        ensures { Looks self.old (nanos_of now) ticket session key task result self.new }
     {
         match show(&mut self.sessions, alloc, now) {
-            Ok(()) => self.see(ticket, session, key),
+            Ok(()) => self.see(ticket, session, key, task),
             Err(_) => {
                 self.give_up(ticket, session, key);
                 Looked::Memory
@@ -270,10 +290,10 @@ impl Leases {
     }
 
     // Answers the future with this ticket.
-    fn see(&mut self, ticket: u64, session: u64, key: u64) -> Looked
-        ensures { Sees self.old ticket session key result self.new }
+    fn see(&mut self, ticket: u64, session: u64, key: u64, task: u64) -> Looked
+        ensures { Sees self.old ticket session key task result self.new }
     {
-        if self.still_waits(ticket, session, key) {
+        if self.still_waits(ticket, session, key, task) {
             return Looked::Waits;
         }
         self.leave(ticket);

@@ -199,12 +199,13 @@ fn look<W: Holds<Leases>, C: SharedContext<W>>(
     session: u64,
     key: u64,
 ) -> Looked
-    ensures answer { Looks (W.part (C.shared cx.old)) (C.nanos cx.old) ticket session key result (W.part (C.shared cx.new)) }
+    ensures answer { Looks (W.part (C.shared cx.old)) (C.nanos cx.old) ticket session key (C.number cx.old) result (W.part (C.shared cx.new)) }
     ensures work { C.work cx.new ≡ C.work cx.old }
     ensures reached { C.reaches cx.old cx.new }
 {
     let now = Instant::now(cx);
-    look_part(cx.shared_mut(), alloc, now, ticket, session, key)
+    let me = cx.me();
+    look_part(cx.shared_mut(), alloc, now, ticket, session, key, me)
 }
 
 // Takes the running task's future out of the line, and its session out of the queue.
@@ -259,7 +260,7 @@ impl<W> Acquire<W> {
     ) -> Poll<Result<(), AcquireError>>
     where
         W: Holds<Leases>,
-        ensures looks { LooksAgain (λ x. W.part (C.shared x)) C.nanos C.work C.reaches ticket self.old.session self.old.key cx.old result self.new.ticket cx.new }
+        ensures looks { LooksAgain (λ x. W.part (C.shared x)) C.number C.nanos C.work C.reaches ticket self.old.session self.old.key cx.old result self.new.ticket cx.new }
         ensures again { OnPending result (self.new.has_answered ≡ false) }
         ensures reached { C.reaches cx.old cx.new }
     {

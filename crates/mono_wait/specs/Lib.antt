@@ -32,5 +32,8 @@ pub mod Outsides
 pub mod Peers
 pub mod ListedTasks
 pub mod Moments
+pub mod Places
+pub mod Locks
+pub mod Receives
 pub mod Keepers
 pub mod Takes

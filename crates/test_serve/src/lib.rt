@@ -3,6 +3,8 @@
 
 mod desks;
 #[cfg(test)]
+mod handovers;
+#[cfg(test)]
 mod outsides;
 mod parties;
 #[cfg(test)]

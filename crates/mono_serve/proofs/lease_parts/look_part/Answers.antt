@@ -6,9 +6,9 @@ use Rattle.mono_serve.proofs.lease_parts.look_part.Goals as goal
 
 pub returns-clause-leads : goal.returns-clause-leads
 returns-clause-leads g c =
-    g.met.W.Holds.leads_with _ _ (leads_by Step (looked (nanos_of c.args.now) c.args.ticket c.args.session c.args.key c.look.result) _ _ (rw c.part_mut.ensures.value at c.look.ensures))
+    g.met.W.Holds.leads_with _ _ (leads_by Step (looked (nanos_of c.args.now) c.args.ticket c.args.session c.args.key c.args.task c.look.result) _ _ (rw c.part_mut.ensures.value at c.look.ensures))
 
 pub returns-clause-answer : goal.returns-clause-answer
 returns-clause-answer g c =
-    subst (λ x. Looks (g.W.Holds.part c.args.whole.now) (nanos_of c.args.now) c.args.ticket c.args.session c.args.key c.look.result x) (sym (g.met.W.Holds.part_with c.args.whole.now c.look.new.self))
+    subst (λ x. Looks (g.W.Holds.part c.args.whole.now) (nanos_of c.args.now) c.args.ticket c.args.session c.args.key c.args.task c.look.result x) (sym (g.met.W.Holds.part_with c.args.whole.now c.look.new.self))
     (rw c.part_mut.ensures.value at c.look.ensures)
