@@ -1,4 +1,4 @@
-use Rattle.std.proofs.Common.{◌≡◌, refl, ap, sym, subst, ◌∙◌}
+use Rattle.std.proofs.Common.{◌≡◌, ap, sym, subst, ◌∙◌}
 use Rattle.mono_session.specs.Refinement.{StandsFor}
 use Rattle.mono_serve.specs.LeaseCalls.{without}
 use Rattle.mono_serve.specs.declared.leases.Leases.{Leases}
