@@ -36,6 +36,7 @@ use Rattle.mono_rt.specs.CallActs.{noted_wake, noted_join, noted_drop, noted_sle
 use Rattle.mono_rt.specs.Spawns.{noted_spawn, lacks_spawn}
 use Rattle.mono_rt.specs.JobActs.{SpawnsJob, PollsJob, DropsJob}
 use Rattle.mono_rt.specs.Numbering.{join_numbered, drop_numbered}
+use Rattle.mono_rt.specs.Remains.{NotesMemory}
 use Rattle.mono_rt.specs.declared.contexts.Cx.{Cx}
 use Rattle.mono_task.specs.declared.error.SpawnRefused.{SpawnRefused}
 use Rattle.mono_task.specs.declared.error.SpawnRefused.TheVariants as back
@@ -120,6 +121,10 @@ module _ {P U J A V : Type 0} (task : ScriptTask) (c d : Cx ScriptTask ℕ P U �
       → Goes task (asked (step.Act act.Spawn) task_in (λ h. if_made h kind) k) (k None) c d
   task_refused k kind (back.Memory f) is lacks same = absurd (not_both d.parts.is_out_of_memory lacks had.memory)
   task_refused k kind (back.AtCapacity f) is lacks same = goes_by_one task _ (k None) c d (step.Act act.Spawn) (reply.Refused refusal.AtCapacity) (grew_one c.parts.acts d.parts.acts _ _ refl is) same (λ rest. refl)
+
+  -- there was no memory for the task's handles
+  pub task_unmade : (k : Option ℕ → Rest) (kind : ℕ) → NotesMemory c d → Goes task (asked (step.Act act.Spawn) task_in (λ h. if_made h kind) k) (k None) c d
+  task_unmade k kind lacks = absurd (not_both d.parts.is_out_of_memory (ap (λ x. x.parts.is_out_of_memory) lacks) had.memory)
 
   -- ---- jobs
 

@@ -173,6 +173,7 @@ pub fn run_script<R: Host + Send + 'static, C: Clock + Drop, P: Spawner>(
     ensures reads { IfOk result (λ run. RanBy workers (C.readings clock) script.now.limits turns run.end run.text.items) }
     ensures starts { OnOk result (P.starts spawner.new ≡ counted_by workers (P.starts spawner.old)) }
 {
+    let main = ScriptTask::new(alloc, &script.kinds, 0)?;
     let driver = driver_for(alloc, workers, clock)?;
     let pool = DefaultThreadPool::new(rt, alloc, workers, spawner)?;
     let handle = BlockingHandle::Attached(pool);
@@ -186,7 +187,6 @@ pub fn run_script<R: Host + Send + 'static, C: Clock + Drop, P: Spawner>(
         (),
     );
     let mut runtime = made?;
-    let main = ScriptTask::new(&script.kinds, 0);
     let answer = runtime.block_on(rt, alloc, main, turns);
     let waits = waits_of(alloc, &runtime, &answer, script.limits.tasks);
     let told = told_of(alloc, runtime.journal(), &answer, waits);

@@ -1,5 +1,5 @@
 // A script's task: one poll runs its lines from where the poll before stopped.
-ghost use Rattle.std.specs.Prelude.{◌≡◌, ◌<◌, ◌≤◌, ◌-◌, ◌+◌, ◌^◌, ◌∷◌, [], ℕ, List, Option, true, false, IfSome, IfNone, Some, None, length, slice_index_or};
+ghost use Rattle.std.specs.Prelude.{◌≡◌, ◌<◌, ◌≤◌, ◌-◌, ◌+◌, ◌^◌, ◌∷◌, [], ℕ, List, Option, true, false, IfSome, IfNone, IfOk, Some, None, length, slice_index_or};
 ghost use Rattle.mono_machine.specs.declared.events.Act.TheVariants as act;
 ghost use Rattle.mono_machine.specs.declared.events.TurnStep.TheVariants as step;
 ghost use Rattle.mono_time.specs.Instants.{nanos_of};
@@ -22,7 +22,7 @@ use mono_model::Host;
 use mono_rt::Cx;
 use mono_task::{Context, JoinContext, Poll, TaskFuture};
 use mono_time::{Instant, TimeContext};
-use std::alloc::Global;
+use std::alloc::{AllocError, Global};
 use std::time::Duration;
 
 /// The context of a script's task.
@@ -31,8 +31,8 @@ pub type ScriptContext<'a> = Cx<ScriptTask<'a>, u64, DefaultThreadPool<ScriptJob
 /// A task of a kind of a script.
 ///
 /// Each poll runs lines of the kind's body from where the poll before stopped. It ends when a line has to wait, or
-/// yields, or the body is done. A refused call leaves no handle, and the task continues. A task takes no memory of its
-/// own. One poll makes at most 510 acts (`few` of `PollsTask`), so that a journal never becomes full.
+/// yields, or the body is done. A refused call leaves no handle, and the task continues. A task takes the memory for its
+/// handles when it is made. One poll makes at most 510 acts (`few` of `PollsTask`), so that a journal never becomes full.
 #[derive(Drop)]
 pub struct ScriptTask<'a> {
     kinds: &'a [TaskKind],
@@ -172,9 +172,13 @@ fn spawn_kind<'a>(
     ensures few { GrewAtMost 1 cx.old.parts.acts cx.new.parts.acts }
     ensures goes { (task : ScriptTask) (k : Option ℕ → Rest) → task.kinds ≡ kinds.entry → HasKept cx.new.parts → Goes task (asked (step.Act act.Spawn) task_in (λ h. if_made h kind) k) (k result) cx.old cx.new }
 {
-    match cx.spawn(alloc, ScriptTask::new(kinds, kind as usize)) {
+    let Ok(task) = ScriptTask::new(alloc, kinds, kind as usize) else {
+        cx.note_out_of_memory();
+        return None;
+    };
+    match cx.spawn(alloc, task) {
         Ok(handle) => Some(handle.task()),
-        Err(_) => None,
+        Err(_refused) => None,
     }
 }
 
@@ -205,15 +209,17 @@ fn next_behind(is_over: bool) -> Next
 }
 
 impl Own {
-    // Returns the state before the first line: no handle and no sleep.
-    fn new() -> Own
-        ensures { result ≡ no_own }
+    // Returns the state before the first line: no handle and no sleep. It fails only if out of memory.
+    fn new(alloc: Global) -> Result<Own, AllocError>
+        ensures { IfOk result (λ own. own ≡ no_own) }
     {
-        Own {
-            tasks: Handles::new(),
-            jobs: Handles::new(),
+        let tasks = Handles::new(alloc)?;
+        let jobs = Handles::new(alloc)?;
+        Ok(Own {
+            tasks,
+            jobs,
             sleeping: None,
-        }
+        })
     }
 
     // Waits for the sleep that the task made, if there is one. Returns false if the task has to wait.
@@ -348,16 +354,21 @@ impl Own {
 }
 
 impl<'a> ScriptTask<'a> {
-    /// Returns a task of this kind, at its first line.
-    pub fn new(kinds: &'a [TaskKind], kind: usize) -> ScriptTask<'a>
-        ensures { result ≡ record { kinds = kinds.entry; kind = kind; at = 0; own = no_own } }
+    /// Returns a task of this kind, at its first line. It fails only if out of memory.
+    pub fn new(
+        alloc: Global,
+        kinds: &'a [TaskKind],
+        kind: usize,
+    ) -> Result<ScriptTask<'a>, AllocError>
+        ensures { IfOk result (λ task. task ≡ record { kinds = kinds.entry; kind = kind; at = 0; own = no_own }) }
     {
-        ScriptTask {
+        let own = Own::new(alloc)?;
+        Ok(ScriptTask {
             kinds,
             kind,
             at: 0,
-            own: Own::new(),
-        }
+            own,
+        })
     }
 
     // Returns the kind of the task, if there is one of this number.

@@ -68,9 +68,9 @@ returns-clause-driven g c =
     (parked_of (λ n. n) (Blocked made.cx.parts.has_timers c.args.turns answer) made.cx.parts left.cx.parts made.journal left.journal j m c.in_ok-runtime.ensures.stands c.in_ok-runtime.ensures.history c.journal.ensures c.in_ok-runtime.ensures.registered c.block_on-answer.ensures.blocked) in
     subst (λ x. IfOk c.told_of-told.result (λ run. IsSound (length x.kinds) x → RunsScript c.args.workers readings x c.args.turns run.end run.text.items)) c.script.view_is
     (told_driven c.args.workers readings c.told_of-told.result s c.args.turns j c.block_on-answer.result blocked tells
-    (λ e is sound. driven_does _ made.cx.parts.has_timers c.new-main.result made.cx.futures.items left.cx.futures.items made.cx.parts left.cx.parts made.journal left.journal (λ f. refl) (λ f x a l d p. p) (λ f x d p. p) e s c.args.turns c.block_on-answer.result j c.block_on-answer.ensures.polled
+    (λ e is sound. driven_does _ made.cx.parts.has_timers c.in_ok-main.main made.cx.futures.items left.cx.futures.items made.cx.parts left.cx.parts made.journal left.journal (λ f. refl) (λ f x a l d p. p) (λ f x d p. p) e s c.args.turns c.block_on-answer.result j c.block_on-answer.ensures.polled
     c.in_ok-runtime.ensures.timers c.in_ok-runtime.ensures.futures (c.in_ok-runtime.ensures.stands) c.in_ok-runtime.ensures.history c.journal.ensures is
-    (c.new-main.ensures ∙ ap (λ k. record { kinds = k; kind = 0; at = 0; own = no_own }) (sym (ap (λ f. f.kinds) c.new-main.ensures))) (ap (λ f. f.kinds.now) c.new-main.ensures ∙ c.deref.ensures.value) sound (blocked.0, blocked.1.0))
+    (c.in_ok-main.ensures ∙ ap (λ k. record { kinds = k; kind = 0; at = 0; own = no_own }) (sym (ap (λ f. f.kinds) c.in_ok-main.ensures))) (ap (λ f. f.kinds.now) c.in_ok-main.ensures ∙ c.deref.ensures.value) sound (blocked.0, blocked.1.0))
     c.told_of-told.ensures.answer c.told_of-told.ensures.kept c.told_of-told.ensures.text)
 
 pub told_of-told-requires-clause-end : goal.told_of-told-requires-clause-end
