@@ -117,7 +117,9 @@ impl Waits {
         ensures len { length (waits_of self.new) ≤ length (waits_of self.old) }
         ensures capacity { vec_capacity replies.new ≡ vec_capacity replies.old }
     {
-        let _ = self.places.len();
+        if self.places.len() == 0 {
+            return;
+        }
         let left = self.take(key, session);
         let held = self.take_held(key, holder);
         put_both(left, held, tick, replies);
@@ -137,10 +139,9 @@ impl Waits {
         ensures len { length (waits_of self.new) ≤ length (waits_of self.old) }
         ensures capacity { vec_capacity replies.new ≡ vec_capacity replies.old }
     {
-        if gone.is_empty() {
+        if gone.is_empty() || self.places.len() == 0 {
             return;
         }
-        let _ = self.places.len();
         self.ended.clear();
         put_closed(&self.places, gone, sessions, tick, replies, &mut self.ended);
         remove_each(&mut self.places, self.ended.as_slice());

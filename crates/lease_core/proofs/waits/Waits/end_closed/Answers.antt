@@ -8,8 +8,8 @@ use Rattle.lease_core.proofs.waits.Waits.end_closed.Goals as goal
 pub put_closed-requires-clause-replies : goal.put_closed-requires-clause-replies
 put_closed-requires-clause-replies c = omega (arith, c.requires, length_waiters c.args.self.now.places.entries)
 
-pub invariant_of-self : goal.invariant_of-self
-invariant_of-self c =
+pub invariant_of-self-2 : goal.invariant_of-self-2
+invariant_of-self-2 c =
     let es = c.args.self.now.places.entries in
     let left = c.remove_each.ensures.entries in
     record {
