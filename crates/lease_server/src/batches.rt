@@ -1,5 +1,5 @@
 // The steps of a core, and the lines of their replies.
-ghost use Rattle.std.specs.Prelude.{[], ◌∷◌, OnOk, IfOk};
+ghost use Rattle.std.specs.Prelude.{◌≡◌, [], ◌∷◌, OnOk, IfOk};
 ghost use Rattle.mono_time.specs.Instants.{nanos_of};
 ghost use Rattle.lease_core.specs.Steps.{Advance, Finish};
 ghost use Rattle.lease_server.specs.Served.{Serves, ServesNext, ServesAt, handled};
