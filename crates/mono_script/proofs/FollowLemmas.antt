@@ -1,5 +1,5 @@
 -- The answers of a command that answers line by line.
-use Rattle.std.proofs.Common.{◌≡◌, ℕ, List, [], ◌∷◌, ◌++◌, Option, Some, None, Result, Ok, Err, IfOk, IfSome, IfNone, OnOk, refl}
+use Rattle.std.proofs.Common.{◌≡◌, ℕ, List, [], ◌∷◌, ◌++◌, Option, Some, None, Result, Ok, Err, IfOk, IfSome, IfNone, refl}
 use Rattle.mono_machine.specs.Machine.{Machine, start_machine}
 use Rattle.mono_machine.specs.declared.events.Event.{Event}
 use Rattle.mono_machine.specs.declared.events.Limits.{Limits}
@@ -46,11 +46,10 @@ no_event (Ok (Some e)) bytes p = tt
 no_event (Ok None) bytes p = λ e rest is fits. p e rest (is, fits)
 no_event (Err e) bytes p = tt
 
-pub report_told : {T E : Type 0} (r : Result T E) (old new : Exec) (e : Event) (report : Report) (out written : List ℕ) → ((m : Machine) → Stands old m → (next : Machine) × Step m e report next × Stands new next)
-    → OnOk r (written ≡ out ++ report_line report) → OnOk r ((x : List ℕ) × AnswersAs Stands ReportsAs old e x new × (written ≡ out ++ answer_line x))
-report_told (Ok x) old new e report out written step w =
+pub report_told : (old new : Exec) (e : Event) (report : Report) (out written : List ℕ) → ((m : Machine) → Stands old m → (next : Machine) × Step m e report next × Stands new next)
+    → written ≡ out ++ report_line report → (x : List ℕ) × AnswersAs Stands ReportsAs old e x new × (written ≡ out ++ answer_line x)
+report_told old new e report out written step w =
     let is : AnswersAs Stands ReportsAs old e (report_text report) new = λ m s.
     let k = step m s in
     (k.0, (report, k.1, refl), k.2) in
     (report_text report, is, w)
-report_told (Err x) old new e report out written step w = tt

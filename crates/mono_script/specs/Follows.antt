@@ -1,5 +1,5 @@
 -- The bytes written by a command that answers each line as soon as it was read.
-use Rattle.std.specs.Prelude.{◌≡◌, ◌⊎◌, ℕ, List, ◌++◌, Option}
+use Rattle.std.specs.Prelude.{◌≡◌, ◌⊎◌, ℕ, List, Option}
 use Rattle.mono_machine.specs.Machine.{Machine, start_machine}
 use Rattle.mono_machine.specs.Steps.{Step}
 use Rattle.mono_machine.specs.declared.events.Event.{Event}
