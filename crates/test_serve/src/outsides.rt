@@ -108,7 +108,12 @@ impl<C: RemoteContext<UnparkHandle>> TaskFuture<C> for Echo {
     }
 
     fn cancel(self, cx: &mut C) {
-        if let Some(next) = self.next {
+        let Echo {
+            sender: _,
+            next,
+            last: _,
+        } = self;
+        if let Some(next) = next {
             next.cancel(cx);
         }
     }
