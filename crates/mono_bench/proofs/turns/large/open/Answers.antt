@@ -1,5 +1,0 @@
-use Rattle.mono_rt.specs.Reaches.{reaches_on}
-use Rattle.mono_bench.proofs.turns.large.open.Goals as goal
-
-pub returns-in-Ok : goal.returns-in-Ok
-returns-in-Ok c = reaches_on (λ n. n) c.args.cx.now c.spawn.new.self c.cancel_join.new.cx c.spawn.ensures.reached c.cancel_join.ensures.reached
