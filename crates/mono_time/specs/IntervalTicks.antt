@@ -21,6 +21,11 @@ IntervalMade old start period (Ok interval) new =
     (nanos_of interval.delay.deadline ≡ start) × (as_nanos interval.period ≡ period) × (interval.behavior ≡ Burst) × Added old start (Ok interval.delay.number) new
 IntervalMade old start period (Err error) new = Added old start (Err error) new
 
+-- What the future of the next tick may answer: the interval's deadline, or a refusal.
+abbrev pub TickGives : Interval → Result Instant Error → Type 0
+TickGives i (Ok tick) = tick ≡ i.delay.deadline
+TickGives i (Err error) = ⊤
+
 module _ {C : Type 0} (number nanos : C → ℕ) (sleeps : C → SleepTable) (work : C → Tasks ⊤) where
   abbrev pub next_of : Interval → C → ℕ
   next_of i c = next_deadline i.behavior (nanos_of i.delay.deadline) (as_nanos i.period) (nanos c)

@@ -1,7 +1,7 @@
 // The next tick of an interval as a future.
 ghost use Rattle.std.specs.Prelude.{◌≡◌, false};
 ghost use Rattle.mono_model.specs.Poll.{call_of};
-ghost use Rattle.mono_time.specs.IntervalTicks.{TickPolls};
+ghost use Rattle.mono_time.specs.IntervalTicks.{TickGives, TickPolls};
 
 use crate::Error;
 use crate::context::TimeContext;
@@ -13,7 +13,8 @@ use std::alloc::Global;
 
 /// The next tick of an interval, as a future: each poll is a [`Interval::poll_tick`] of the interval.
 ///
-/// It is never spent: a poll after a tick waits for the tick after it. Giving it up leaves the interval as it is.
+/// It is never spent: a poll after a tick waits for the tick after it. A tick is the interval's deadline (`gives`).
+/// Giving it up leaves the interval as it is.
 #[derive(Drop)]
 pub struct Tick<'a> {
     pub(crate) interval: &'a mut Interval,
@@ -41,6 +42,8 @@ impl<C: TimeContext> TaskFuture<C> for Tick<'_> {
 
     // The poll is the interval's.
     ghost polls = { λ f c r g d. TickPolls C.number C.nanos C.sleeps C.work f.interval.now c (call_of r) g.interval.now d };
+
+    ghost gives = { λ f. TickGives f.interval.now };
 
     ghost cancels = { λ f c d. d ≡ c };
 
