@@ -7,7 +7,7 @@ use Rattle.mono_session.specs.Nodes.{queue_place, key_place, place_by}
 use Rattle.mono_session.specs.Queues.{Chains, Keeps}
 use Rattle.mono_session.specs.declared.entries.Entries.{Entries}
 
--- The keys in whose queues a session is.
+-- The keys in whose queues a session is, in the order in which it entered them.
 abbrev pub keys_in : List Entry → ℕ → List ℕ
 keys_in [] s = []
 keys_in (entry ∷ entries) s = if entry.session == s then entry.key ∷ keys_in entries s else keys_in entries s

@@ -1,6 +1,7 @@
--- The sessions that hold a key, and those that wait for it.
-use Rattle.std.specs.Prelude.{ℕ, Bool, false, not, ◌==◌, ◌&&◌, Option, Some, None}
-use Rattle.mono_session.specs.Keeper.{Keeper, stands_in, owner_answer}
+-- The sessions that hold a key, those that wait for it, and the first key of a session.
+use Rattle.std.specs.Prelude.{ℕ, Bool, false, not, ◌==◌, ◌&&◌, filter, Option, Some, None}
+use Rattle.mono_session.specs.Keeper.{Keeper, with_entries, is_entry, stands_in, first_of, owner_answer}
+use Rattle.mono_session.specs.Entries.{keys_in}
 
 -- Whether the number is this one.
 abbrev pub is_number : Option ℕ → ℕ → Bool
@@ -14,3 +15,12 @@ holds keeper s key = is_number (owner_answer keeper key) s
 -- Whether the session is in the queue of the key behind another session.
 abbrev pub waits : Keeper → ℕ → ℕ → Bool
 waits keeper s key = stands_in keeper.entries s key && not (holds keeper s key)
+
+-- The key in whose queue the session has been for the longest time.
+abbrev pub first_key : Keeper → ℕ → Option ℕ
+first_key keeper s = first_of (keys_in keeper.entries s)
+
+-- The session has left the queue of this key, if any.
+abbrev pub without_key : Keeper → ℕ → Option ℕ → Keeper
+without_key keeper s None = keeper
+without_key keeper s (Some key) = with_entries keeper (filter (λ entry. not (is_entry s key entry)) keeper.entries)

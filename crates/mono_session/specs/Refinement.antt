@@ -4,7 +4,7 @@ use Rattle.mono_model.specs.Table.{value_at, next_number, count_of}
 use Rattle.mono_time.specs.Sleeps.{Kept, armed, SleepTable}
 use Rattle.mono_time.specs.Timers.{sleeps_of, elapsed_tick, credit_left}
 use Rattle.mono_session.specs.Keeper.{Session, Keeper, closing_tick}
-use Rattle.mono_session.specs.Entries.{Entered}
+use Rattle.mono_session.specs.Entries.{Entered, entry_count}
 use Rattle.mono_session.specs.declared.keeper.Sessions.{Sessions}
 
 -- An open session has a sleep that is armed at its closing tick, and that wakes no task.
@@ -22,6 +22,10 @@ limit_in (Some session) = Some session.limit
 -- The number of open sessions.
 abbrev pub open_count : Sessions → ℕ
 open_count sessions = count_of sessions.limits.table
+
+-- The number of entries in all queues.
+abbrev pub entries_len : Sessions → ℕ
+entries_len sessions = entry_count sessions.entries
 
 -- The greatest number of steps that the wheel has still to take for the open sessions.
 abbrev pub steps_left : Sessions → ℕ

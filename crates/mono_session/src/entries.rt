@@ -68,8 +68,8 @@ impl Entries {
         }
     }
 
-    // Returns the key in whose queue the session has been for the longest time.
-    fn first_key(&self, session: u64) -> Option<u64>
+    /// Returns the key in whose queue the session has been for the longest time.
+    pub fn first_key(&self, session: u64) -> Option<u64>
         ensures { (entries : List Entry) → Entered self.now entries → result ≡ first_of (keys_in entries session) }
     {
         match self.key_ends.get(&session) {

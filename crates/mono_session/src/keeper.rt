@@ -1,5 +1,5 @@
 // The sessions, over timers and queues.
-ghost use Rattle.std.specs.Prelude.{◌≡◌, ◌≤◌, ◌+◌, ◌++◌, ◌∷◌, [], ℕ, List, true, Some, if◌then◌else◌, IfOk, IfSome, OnErr, vec_len, vec_capacity};
+ghost use Rattle.std.specs.Prelude.{◌≡◌, ◌≤◌, ◌+◌, ◌++◌, ◌∷◌, [], ℕ, List, true, Some, if◌then◌else◌, IfOk, IfSome, OnErr, is_some, vec_len, vec_capacity};
 ghost use Rattle.mono_model.specs.Due.{ListsDue};
 ghost use Rattle.mono_model.specs.Table.{value_at, count_of};
 ghost use Rattle.mono_time.specs.Instants.{nanos_of};
@@ -7,11 +7,11 @@ ghost use Rattle.mono_time.specs.Sleeps.{with_removed_sleep};
 ghost use Rattle.mono_time.specs.Timers.{sleeps_of, elapsed_tick};
 ghost use Rattle.mono_wheel.specs.Credit.{most_takes};
 ghost use Rattle.mono_session.specs.Expirations.{NextClose, IsInTime, IsAhead};
-ghost use Rattle.mono_session.specs.Holders.{holds, waits};
+ghost use Rattle.mono_session.specs.Holders.{holds, waits, first_key, without_key};
 ghost use Rattle.mono_session.specs.Keeper.{Keeper, Session, no_sessions, is_open, open_answer, opened, beat_answer, beaten, close_answer, closed, acquire_answer, acquired, release_answer, released, owner_answer, with_greatest, without_session};
 ghost use Rattle.mono_model.specs.Memory.{OrLacksMemory};
 ghost use Rattle.mono_session.specs.Steps.{closing_value, greatest_at, without_all};
-ghost use Rattle.mono_session.specs.Refinement.{StandsFor, Beside, open_count, steps_left};
+ghost use Rattle.mono_session.specs.Refinement.{StandsFor, Beside, open_count, entries_len, steps_left};
 ghost use Rattle.mono_session.specs.declared.error.SessionError.TheVariants as error;
 
 use crate::SessionError;
@@ -184,6 +184,22 @@ impl Sessions {
         }
         self.entries.leave(session, key);
         Ok(())
+    }
+
+    /// Removes a session from the queue in which it has been for the longest time, and returns the key of that queue.
+    /// Returns `None` if and only if the session is in no queue.
+    ///
+    /// Each key leaves one entry fewer, so a loop over the keys of a session ends (`len`).
+    pub fn release_first(&mut self, session: u64) -> Option<u64>
+        ensures step { (k : Keeper) → StandsFor self.old k → (result ≡ first_key k session) × StandsFor self.new (without_key k session result) }
+        ensures len { entries_len self.new + (if is_some result then 1 else 0) ≡ entries_len self.old }
+        ensures raise { steps_left self.new ≡ steps_left self.old }
+    {
+        let key = self.entries.first_key(session)?;
+        if !self.entries.leave(session, key) {
+            return None;
+        }
+        Some(key)
     }
 
     /// Returns the holder of a key: the session that has been in its queue for the longest time. Returns `None` if and
