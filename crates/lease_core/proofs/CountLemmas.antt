@@ -3,6 +3,7 @@ use Rattle.std.proofs.Common.{◌≡◌, ◌==◌, ◌+◌, ℕ, not, cond, List
 use Rattle.std.specs.Prelude.{is_some}
 use Rattle.mono_model.specs.Valid.{times, once_if}
 use Rattle.mono_session.specs.Keeper.{Keeper}
+use Rattle.mono_session.specs.Entries.{keys_in}
 use Rattle.mono_session.specs.Answers as lease_answer
 use Rattle.mono_actor.specs.Answers as mail_answer
 use Rattle.mono_actor.specs.Actors.{Actors}
@@ -10,8 +11,9 @@ use Rattle.lease_core.specs.declared.ends.Waiter.{Waiter}
 use Rattle.lease_core.specs.declared.requests.Call.{Call}
 use Rattle.lease_core.specs.declared.requests.Call.TheVariants as call
 use Rattle.lease_core.specs.declared.requests.Outcome.{Outcome}
+use Rattle.lease_core.specs.declared.requests.Outcome.TheVariants as outcome
 use Rattle.lease_core.specs.declared.requests.Reply.{Reply}
-use Rattle.lease_core.specs.Waits.{end_reply, ended, still, input_end, close_end, FreesBy}
+use Rattle.lease_core.specs.Waits.{left_in, end_reply, ended, still, ended_by, still_by, input_end, close_end, FreesBy}
 use Rattle.lease_core.specs.Cores.{CoreState, at_once}
 use Rattle.lease_core.specs.Steps.{Handles, HeldOrWaits, Frees, TurnEnds, Event, Advance, Handle, Finish, Step}
 use Rattle.lease_core.specs.Laws.{asked, answered, waited, AnsweredOnce, NoneWaitAtTheEnd}
@@ -39,6 +41,11 @@ ends_count : (e : Waiter → Option Outcome) (tick : ℕ) (ws : List Waiter) (n 
 ends_count e tick [] n = refl
 ends_count e tick (w ∷ ws) n = omega (arith, one_ends (e w) tick w (ended e tick ws) (still e ws) n, ends_count e tick ws n)
 
+key_ends_count : (e : ℕ → Waiter → Option Outcome) (tick : ℕ) (keys : List ℕ) (ws : List Waiter) (n : ℕ) → answers (ended_by e tick keys ws) n + waits (still_by e keys ws) n ≡ waits ws n
+key_ends_count e tick [] ws n = omega arith
+key_ends_count e tick (key ∷ keys) ws n =
+    omega (arith, answers_on (ended (e key) tick ws) (ended_by e tick keys (still (e key) ws)) n, ends_count (e key) tick ws n, key_ends_count e tick keys (still (e key) ws) n)
+
 -- What a step answers and what waits after it, with the number that it asked, if any.
 abbrev Counts : ℕ → CoreState → ℕ → List Reply → CoreState → Type 0
 Counts n old count replies new = answers replies n + waits new.waiting n ≡ waits old.waiting n + count
@@ -60,16 +67,16 @@ held_counts n number s key old new lease_answer.Free k replies h = at_once_count
 held_counts n number s key old new (lease_answer.Closed x) k replies h = at_once_counts n number h.0 old new replies h.2 (ap (λ (c : CoreState). c.waiting) h.3)
 held_counts n number s key old new (lease_answer.Refused x) k replies h = at_once_counts n number h.0 old new replies h.2 (ap (λ (c : CoreState). c.waiting) h.3)
 
-frees_count : (n number : ℕ) (e : Waiter → Option Outcome) (old new : CoreState) (a : lease_answer.Answer) (k : Keeper) (replies : List Reply) → Frees old number e a k replies new
+frees_count : (n number : ℕ) (e : ℕ → Waiter → Option Outcome) (keys : List ℕ) (old new : CoreState) (a : lease_answer.Answer) (k : Keeper) (replies : List Reply) → Frees old number e keys a k replies new
     → Counts n old (once_if (number == n)) replies new
-frees_count n number e old new lease_answer.Done k replies h = rw (h.0, ap (λ (c : CoreState). c.waiting) h.1) (omega (arith, ends_count e k.greatest old.waiting n))
-frees_count n number e old new lease_answer.Waits k replies h = at_once_counts n number h.0 old new replies h.2 (ap (λ (c : CoreState). c.waiting) h.3)
-frees_count n number e old new (lease_answer.Session x) k replies h = at_once_counts n number h.0 old new replies h.2 (ap (λ (c : CoreState). c.waiting) h.3)
-frees_count n number e old new lease_answer.Held k replies h = at_once_counts n number h.0 old new replies h.2 (ap (λ (c : CoreState). c.waiting) h.3)
-frees_count n number e old new (lease_answer.Owner x) k replies h = at_once_counts n number h.0 old new replies h.2 (ap (λ (c : CoreState). c.waiting) h.3)
-frees_count n number e old new lease_answer.Free k replies h = at_once_counts n number h.0 old new replies h.2 (ap (λ (c : CoreState). c.waiting) h.3)
-frees_count n number e old new (lease_answer.Closed x) k replies h = at_once_counts n number h.0 old new replies h.2 (ap (λ (c : CoreState). c.waiting) h.3)
-frees_count n number e old new (lease_answer.Refused x) k replies h = at_once_counts n number h.0 old new replies h.2 (ap (λ (c : CoreState). c.waiting) h.3)
+frees_count n number e keys old new lease_answer.Done k replies h = rw (h.0, ap (λ (c : CoreState). c.waiting) h.1) (omega (arith, key_ends_count e k.greatest keys old.waiting n))
+frees_count n number e keys old new lease_answer.Waits k replies h = at_once_counts n number h.0 old new replies h.2 (ap (λ (c : CoreState). c.waiting) h.3)
+frees_count n number e keys old new (lease_answer.Session x) k replies h = at_once_counts n number h.0 old new replies h.2 (ap (λ (c : CoreState). c.waiting) h.3)
+frees_count n number e keys old new lease_answer.Held k replies h = at_once_counts n number h.0 old new replies h.2 (ap (λ (c : CoreState). c.waiting) h.3)
+frees_count n number e keys old new (lease_answer.Owner x) k replies h = at_once_counts n number h.0 old new replies h.2 (ap (λ (c : CoreState). c.waiting) h.3)
+frees_count n number e keys old new lease_answer.Free k replies h = at_once_counts n number h.0 old new replies h.2 (ap (λ (c : CoreState). c.waiting) h.3)
+frees_count n number e keys old new (lease_answer.Closed x) k replies h = at_once_counts n number h.0 old new replies h.2 (ap (λ (c : CoreState). c.waiting) h.3)
+frees_count n number e keys old new (lease_answer.Refused x) k replies h = at_once_counts n number h.0 old new replies h.2 (ap (λ (c : CoreState). c.waiting) h.3)
 
 turn_counts : (n number : ℕ) (old new : CoreState) (a : mail_answer.Answer ℕ) (mid : Actors ℕ) (replies : List Reply) → TurnEnds old number a mid replies new
     → Counts n old (once_if (number == n)) replies new
@@ -85,9 +92,9 @@ turn_counts n number old new mail_answer.Invalid mid replies h = at_once_counts 
 handles_count : (n number key : ℕ) (c : Call) (old new : CoreState) (replies : List Reply) → Handles old number key c replies new → Counts n old (once_if (number == n)) replies new
 handles_count n number key (call.Open limit) old new replies h = at_once_counts n number h.told old new replies h.replies_are (ap (λ (c : CoreState). c.waiting) h.becomes)
 handles_count n number key (call.Beat s) old new replies h = at_once_counts n number h.told old new replies h.replies_are (ap (λ (c : CoreState). c.waiting) h.becomes)
-handles_count n number key (call.Close s) old new replies h = frees_count n number _ old new h.answer h.keeper replies h.rest
+handles_count n number key (call.Close s) old new replies h = frees_count n number (left_in s outcome.Closed h.keeper) (keys_in old.keeper.entries s) old new h.answer h.keeper replies h.rest
 handles_count n number key (call.Acquire s) old new replies h = held_counts n number s key old new h.answer h.keeper replies h.rest
-handles_count n number key (call.Release s) old new replies h = frees_count n number _ old new h.answer h.keeper replies h.rest
+handles_count n number key (call.Release s) old new replies h = frees_count n number (left_in s outcome.Left h.keeper) (key ∷ []) old new h.answer h.keeper replies h.rest
 handles_count n number key (call.Bucket burst period) old new replies h = at_once_counts n number h.told old new replies h.replies_are (ap (λ (c : CoreState). c.waiting) h.becomes)
 handles_count n number key (call.Take b m) old new replies h = at_once_counts n number h.told old new replies h.replies_are (ap (λ (c : CoreState). c.waiting) h.becomes)
 handles_count n number key call.Spawn old new replies h = at_once_counts n number h.told old new replies h.replies_are (ap (λ (c : CoreState). c.waiting) h.becomes)

@@ -1,7 +1,10 @@
 -- A core after a call on its leases.
-use Rattle.std.proofs.Common.{◌≡◌, ℕ, Bool, List, [], ◌∷◌, ◌++◌, Option, Result, Ok, refl, sym, ap, subst, ◌∙◌, inl, inr}
+use Rattle.std.proofs.Common.{◌≡◌, ℕ, Bool, List, [], ◌∷◌, ◌++◌, Option, Some, None, Result, Ok, Err, false, true, refl, sym, ap, subst, ◌∙◌, inl, inr, append-nil}
+use Rattle.std.specs.Prelude.{is_some}
 use Rattle.mono_model.specs.Memory.{OrLacksMemory}
-use Rattle.mono_session.specs.Keeper.{Keeper, open_answer, opened, beat_answer, beaten, close_answer, closed, acquire_answer, acquired, release_answer, released, owner_answer}
+use Rattle.mono_model.specs.Table.{value_at}
+use Rattle.mono_session.specs.Keeper.{Keeper, Session, is_open, if_granted, without_session, open_answer, opened, beat_answer, beaten, close_answer, closed, acquire_answer, acquired, release_answer, released, owner_answer}
+use Rattle.mono_session.specs.Entries.{keys_in}
 use Rattle.mono_session.specs.Calls as lease
 use Rattle.mono_session.specs.Answers as answer
 use Rattle.mono_session.specs.Refinement.{StandsFor}
@@ -17,10 +20,11 @@ use Rattle.lease_core.specs.declared.requests.Outcome.TheVariants as outcome
 use Rattle.lease_core.specs.declared.requests.Reply.{Reply}
 use Rattle.lease_core.specs.Waiting.{waits_of}
 use Rattle.lease_core.specs.Cores.{CoreState, with_leases}
-use Rattle.lease_core.specs.Waits.{release_end, close_end, ended, still, FreesBy}
+use Rattle.lease_core.specs.Waits.{left_end, left_in, ended, still, ended_by, still_by}
 use Rattle.lease_core.specs.Tells.{LeaseTells}
 use Rattle.lease_core.specs.Steps.{LeaseStep, Leases, Acquires, Releases, Closes}
-use Rattle.lease_core.specs.Refinement.{Refines}
+use Rattle.lease_core.specs.Refinement.{Refines, without_keys, LeavesQueues}
+use Rattle.lease_core.proofs.LeaveLemmas.{answer_for, closes_open, closed_open, closed_last}
 use Rattle.lease_core.proofs.TickLemmas.{opened_tick, beaten_tick, closed_tick, acquired_tick, released_tick}
 
 -- The reply to a request that is answered as it comes, at a tick.
@@ -142,50 +146,72 @@ release_refused old new number s key e steps same waits replies m r =
     )
 
 pub release_done : (old new : Core) (number s key : ℕ) (holder : Option ℕ) → Steps old new (lease.Release s key) answer.Done → ((k : Keeper) → StandsFor new.sessions k → holder ≡ owner_answer k key)
-    → SameServices old new → waits_of new.waiting ≡ still (release_end s key holder) (waits_of old.waiting)
-    → new.replies.items ≡ reply_at old.tick number outcome.Done ∷ ended (release_end s key holder) old.tick (waits_of old.waiting)
+    → SameServices old new → waits_of new.waiting ≡ still (left_end s outcome.Left key holder) (waits_of old.waiting)
+    → new.replies.items ≡ reply_at old.tick number outcome.Done ∷ ended (left_end s outcome.Left key holder) old.tick (waits_of old.waiting)
     → (m : CoreState) → Refines old m → (t : CoreState) × Releases m number s key new.replies.items t × Refines new t
 release_done old new number s key holder steps holds same waits replies m r =
     let n = steps m.keeper r.leases in
-    let is = holds n.next n.after in
-    let left = still (release_end s key (owner_answer n.next key)) m.waiting in
-    let kept : waits_of new.waiting ≡ left = waits ∙ ap (λ ws. still (release_end s key holder) ws) r.waiting ∙ ap (λ h. still (release_end s key h) m.waiting) is in
-    let told : new.replies.items ≡ reply_at m.keeper.greatest number outcome.Done ∷ ended (release_end s key (owner_answer n.next key)) n.next.greatest m.waiting =
-    replies ∙ ap (λ tick. reply_at tick number outcome.Done ∷ ended (release_end s key holder) tick (waits_of old.waiting)) r.tick
-    ∙ ap (λ ws. reply_at m.keeper.greatest number outcome.Done ∷ ended (release_end s key holder) m.keeper.greatest ws) r.waiting
-    ∙ ap (λ h. reply_at m.keeper.greatest number outcome.Done ∷ ended (release_end s key h) m.keeper.greatest m.waiting) is
-    ∙ ap (λ tick. reply_at m.keeper.greatest number outcome.Done ∷ ended (release_end s key (owner_answer n.next key)) tick m.waiting) (sym n.tick) in (
+    let is : left_end s outcome.Left key holder ≡ left_in s outcome.Left n.next key = ap (left_end s outcome.Left key) (holds n.next n.after) in
+    let left = still (left_in s outcome.Left n.next key) m.waiting in
+    let kept : waits_of new.waiting ≡ left = waits ∙ ap (still (left_end s outcome.Left key holder)) r.waiting ∙ ap (λ f. still f m.waiting) is in
+    let told : new.replies.items ≡ reply_at m.keeper.greatest number outcome.Done ∷ ended_by (left_in s outcome.Left n.next) n.next.greatest (key ∷ []) m.waiting =
+    replies ∙ ap (λ tick. reply_at tick number outcome.Done ∷ ended (left_end s outcome.Left key holder) tick (waits_of old.waiting)) r.tick
+    ∙ ap (λ ws. reply_at m.keeper.greatest number outcome.Done ∷ ended (left_end s outcome.Left key holder) m.keeper.greatest ws) r.waiting
+    ∙ ap (λ f. reply_at m.keeper.greatest number outcome.Done ∷ ended f m.keeper.greatest m.waiting) is
+    ∙ ap (λ tick. reply_at m.keeper.greatest number outcome.Done ∷ ended (left_in s outcome.Left n.next key) tick m.waiting) (sym n.tick)
+    ∙ ap (λ rs. reply_at m.keeper.greatest number outcome.Done ∷ rs) (sym (append-nil (ended (left_in s outcome.Left n.next key) n.next.greatest m.waiting))) in (
       with_leases m n.next left,
       record { answer = answer.Done; keeper = n.next; step = n.step; rest = (told, refl) },
       refines_after old new m n.next left r n.after n.tick same kept,
     )
 
-pub close_refused : (old new : Core) (number s : ℕ) (e : SessionError) → Steps old new (lease.Close s) (answer.Refused e) → SameServices old new
-    → waits_of new.waiting ≡ waits_of old.waiting → new.replies.items ≡ reply_at old.tick number (outcome.LeaseRefused e) ∷ []
+shut_answer : (v : Option Session) → false ≡ is_some v → answer_for v ≡ Err error.NoSession
+shut_answer None shut = refl
+shut_answer (Some session) shut = cc shut
+
+shut_step : (k : Keeper) (s : ℕ) (After : Keeper → Type 0) → false ≡ is_open k s → After k → Stepped k (lease.Close s) (answer.Refused error.NoSession) After
+shut_step k s After shut after =
+    let told : close_answer k s ≡ Err error.NoSession = shut_answer (value_at k.sessions s) shut in
+    let same : closed k s ≡ k = ap (λ r. if_granted r k (without_session k s)) told in
+    record { next = closed k s; step = inl (sym (ap answer.of_done told), refl); after = subst After (sym same) after; tick = closed_tick k s }
+
+-- A close of a session that is not open.
+pub close_refused : (old new : Core) (number s : ℕ) → ((k : Keeper) → StandsFor old.sessions k → false ≡ is_open k s) → new.sessions ≡ old.sessions → SameServices old new
+    → waits_of new.waiting ≡ waits_of old.waiting → new.replies.items ≡ reply_at old.tick number (outcome.LeaseRefused error.NoSession) ∷ []
     → (m : CoreState) → Refines old m → (t : CoreState) × Closes m number s new.replies.items t × Refines new t
-close_refused old new number s e steps same waits replies m r =
-    let n = steps m.keeper r.leases in (
+close_refused old new number s shut sessions same waits replies m r =
+    let n = shut_step m.keeper s (StandsFor new.sessions) (shut m.keeper r.leases) (subst (λ x. StandsFor x m.keeper) (sym sessions) r.leases) in (
       with_leases m n.next m.waiting,
-      record { answer = answer.Refused e; keeper = n.next; step = n.step; rest = (outcome.LeaseRefused e, refl, at_tick number _ _ _ _ replies r.tick, refl) },
+      record { answer = answer.Refused error.NoSession; keeper = n.next; step = n.step; rest = (outcome.LeaseRefused error.NoSession, refl, at_tick number _ _ _ _ replies r.tick, refl) },
       refines_after old new m n.next m.waiting r n.after n.tick same (waits ∙ r.waiting),
     )
 
-pub close_done : (old new : Core) (number s : ℕ) → Steps old new (lease.Close s) answer.Done
-    → ((k : Keeper) → StandsFor new.sessions k → FreesBy (s ∷ []) k old.tick (waits_of old.waiting) (reply_at old.tick number outcome.Done ∷ []) new.replies.items (waits_of new.waiting))
-    → SameServices old new
+-- A close of an open session: after the reply it leaves its queues, and then it is closed.
+pub close_done : (old told mid new : Core) (number s : ℕ) → ((k : Keeper) → StandsFor told.sessions k → LeavesQueues told k s mid) → ((k : Keeper) → StandsFor mid.sessions k → StandsFor new.sessions (closed k s))
+    → ((k : Keeper) → StandsFor old.sessions k → true ≡ is_open k s) → told.sessions ≡ old.sessions → told.tick ≡ old.tick → waits_of told.waiting ≡ waits_of old.waiting
+    → told.replies.items ≡ reply_at old.tick number outcome.Done ∷ []
+    → SameServices old new → waits_of new.waiting ≡ waits_of mid.waiting → new.replies.items ≡ mid.replies.items
     → (m : CoreState) → Refines old m → (t : CoreState) × Closes m number s new.replies.items t × Refines new t
-close_done old new number s steps frees same m r =
-    let n = steps m.keeper r.leases in
-    let f = frees n.next n.after in
-    let end_of = close_end (s ∷ []) n.next in
-    let kept : waits_of new.waiting ≡ still end_of m.waiting = f.1 ∙ ap (λ ws. still end_of ws) r.waiting in
-    let told : new.replies.items ≡ reply_at m.keeper.greatest number outcome.Done ∷ ended end_of n.next.greatest m.waiting =
-    f.0 ∙ ap (λ tick. reply_at tick number outcome.Done ∷ ended end_of tick (waits_of old.waiting)) r.tick
-    ∙ ap (λ ws. reply_at m.keeper.greatest number outcome.Done ∷ ended end_of m.keeper.greatest ws) r.waiting
-    ∙ ap (λ tick. reply_at m.keeper.greatest number outcome.Done ∷ ended end_of tick m.waiting) (sym n.tick) in (
-      with_leases m n.next (still end_of m.waiting),
-      record { answer = answer.Done; keeper = n.next; step = n.step; rest = (told, refl) },
-      refines_after old new m n.next (still end_of m.waiting) r n.after n.tick same kept,
+close_done old told mid new number s leaves closes opens sessions tick before first same waits replies m r =
+    let k = m.keeper in
+    let was : is_open k s ≡ true = sym (opens k r.leases) in
+    let l = leaves k (subst (λ x. StandsFor x k) (sym sessions) r.leases) in
+    let next = closed k s in
+    let stands : StandsFor new.sessions next = subst (StandsFor new.sessions) (closed_last k s was) (closes (without_keys k s) l.leases) in
+    let end_of = left_in s outcome.Closed in
+    let keys = keys_in k.entries s in
+    let ends_same : end_of (without_keys k s) ≡ end_of next = sym (ap end_of (closed_open k s was)) in
+    let left = still_by (end_of next) keys m.waiting in
+    let kept : waits_of new.waiting ≡ left = waits ∙ l.waiting ∙ ap (λ e. still_by e keys (waits_of told.waiting)) ends_same ∙ ap (still_by (end_of next) keys) (before ∙ r.waiting) in
+    let shown : new.replies.items ≡ reply_at k.greatest number outcome.Done ∷ ended_by (end_of next) next.greatest keys m.waiting =
+    replies ∙ l.replies_are ∙ ap (λ rs. rs ++ ended_by (end_of (without_keys k s)) told.tick keys (waits_of told.waiting)) first
+    ∙ ap (λ n. reply_at n number outcome.Done ∷ ended_by (end_of (without_keys k s)) told.tick keys (waits_of told.waiting)) r.tick
+    ∙ ap (λ n. reply_at k.greatest number outcome.Done ∷ ended_by (end_of (without_keys k s)) n keys (waits_of told.waiting)) (tick ∙ r.tick ∙ sym (closed_tick k s))
+    ∙ ap (λ e. reply_at k.greatest number outcome.Done ∷ ended_by e next.greatest keys (waits_of told.waiting)) ends_same
+    ∙ ap (λ ws. reply_at k.greatest number outcome.Done ∷ ended_by (end_of next) next.greatest keys ws) (before ∙ r.waiting) in (
+      with_leases m next left,
+      record { answer = answer.Done; keeper = next; step = inl (sym (ap answer.of_done (closes_open k s was)), refl); rest = (shown, refl) },
+      refines_after old new m next left r stands (closed_tick k s) same kept,
     )
 
 -- One reply in an empty list.

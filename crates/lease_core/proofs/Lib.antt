@@ -2,6 +2,7 @@ pub mod TickLemmas
 pub mod PlaceLemmas
 pub mod ReleaseLemmas
 pub mod CloseLemmas
+pub mod LeaveLemmas
 pub mod LeaseLemmas
 pub mod UndoLemmas
 pub mod ServiceLemmas

@@ -10,7 +10,7 @@ use Rattle.lease_core.specs.declared.places.Place.{Place}
 use Rattle.lease_core.specs.declared.requests.Outcome.{Outcome}
 use Rattle.lease_core.specs.declared.requests.Outcome.TheVariants as outcome
 use Rattle.lease_core.specs.declared.requests.Reply.{Reply}
-use Rattle.lease_core.specs.Waits.{release_end, end_reply, ended, still}
+use Rattle.lease_core.specs.Waits.{left_end, end_reply, ended, still}
 use Rattle.lease_core.specs.Places.{Entry, waiter_of, waiters, descends, is_of, is_held, place_reply, in_order}
 use Rattle.lease_core.proofs.PlaceLemmas.{both, ended_more, descends_more, length_waiters}
 
@@ -79,53 +79,53 @@ below p n (e ∷ es) place order found =
 
 -- ---- the replies in the order in which the waits came
 
-abbrev pub pick : Bool → Bool → Option Outcome
-pick true q = Some outcome.Left
-pick false true = Some outcome.Held
-pick false false = None
+abbrev pub pick : Outcome → Bool → Bool → Option Outcome
+pick own true q = Some own
+pick own false true = Some outcome.Held
+pick own false false = None
 
-left_last : (tick : ℕ) (e : Entry) (held : Option Place) → ((h : Place) → held ≡ Some h → nat_lt h.ticket e.1.ticket ≡ true)
-    → in_order tick None held ++ end_reply tick (waiter_of e) (Some outcome.Left) ≡ in_order tick (Some e.1) held
-left_last tick e None lt = refl
-left_last tick e (Some h) lt = let less = lt h refl in rw less refl
+left_last : (tick : ℕ) (own : Outcome) (e : Entry) (held : Option Place) → ((h : Place) → held ≡ Some h → nat_lt h.ticket e.1.ticket ≡ true)
+    → in_order tick own None held ++ end_reply tick (waiter_of e) (Some own) ≡ in_order tick own (Some e.1) held
+left_last tick own e None lt = refl
+left_last tick own e (Some h) lt = let less = lt h refl in rw less refl
 
-held_last : (tick : ℕ) (e : Entry) (left : Option Place) → ((l : Place) → left ≡ Some l → nat_lt l.ticket e.1.ticket ≡ true)
-    → in_order tick left None ++ end_reply tick (waiter_of e) (Some outcome.Held) ≡ in_order tick left (Some e.1)
-held_last tick e None lt = refl
-held_last tick e (Some l) lt =
+held_last : (tick : ℕ) (own : Outcome) (e : Entry) (left : Option Place) → ((l : Place) → left ≡ Some l → nat_lt l.ticket e.1.ticket ≡ true)
+    → in_order tick own left None ++ end_reply tick (waiter_of e) (Some outcome.Held) ≡ in_order tick own left (Some e.1)
+held_last tick own e None lt = refl
+held_last tick own e (Some l) lt =
     let less = lt l refl in
     let not_less : nat_lt e.1.ticket l.ticket ≡ false = grind (arith, less) in
     rw not_less refl
 
-module _ (p q : ℕ × ℕ → Bool) (f : Waiter → Option Outcome) (picks : (e : Entry) → f (waiter_of e) ≡ pick (p e.0) (q e.0)) (tick : ℕ) where
+module _ (p q : ℕ × ℕ → Bool) (f : Waiter → Option Outcome) (own : Outcome) (picks : (e : Entry) → f (waiter_of e) ≡ pick own (p e.0) (q e.0)) (tick : ℕ) where
   told_more : (e : Entry) (es : List Entry) (told : List Reply) (end : Option Outcome) → ended f tick (waiters es) ≡ told → f (waiter_of e) ≡ end → ended f tick (waiters (e ∷ es)) ≡ told ++ end_reply tick (waiter_of e) end
   told_more e es told end on is =
       ended_more f tick (waiters es) (waiter_of e) ∙ ap (λ rs. rs ++ end_reply tick (waiter_of e) (f (waiter_of e))) on ∙ ap (λ o. told ++ end_reply tick (waiter_of e) o) is
 
   -- The replies of the waits that end.
-  pub released_told : (n : ℕ) (es : List Entry) → Single p es → Single q es → descends n es ≡ true → ended f tick (waiters es) ≡ in_order tick (lookup p es) (lookup q (remove_entry p es))
-  released_told n [] one_p one_q order = refl
-  released_told n (e ∷ es) one_p one_q order =
+  pub left_told : (n : ℕ) (es : List Entry) → Single p es → Single q es → descends n es ≡ true → ended f tick (waiters es) ≡ in_order tick own (lookup p es) (lookup q (remove_entry p es))
+  left_told n [] one_p one_q order = refl
+  left_told n (e ∷ es) one_p one_q order =
       let parts = both (nat_lt e.1.ticket n) (descends e.1.ticket es) order in
-      let on = released_told e.1.ticket es one_p.1 one_q.1 parts.1 in
-      (elim (p e.0) as (λ b. p e.0 ≡ b → ended f tick (waiters (e ∷ es)) ≡ in_order tick (lookup p (e ∷ es)) (lookup q (remove_entry p (e ∷ es)))) [
+      let on = left_told e.1.ticket es one_p.1 one_q.1 parts.1 in
+      (elim (p e.0) as (λ b. p e.0 ≡ b → ended f tick (waiters (e ∷ es)) ≡ in_order tick own (lookup p (e ∷ es)) (lookup q (remove_entry p (e ∷ es)))) [
         | true ↦ λ t.
             let none = one_p.0 t in
-            let end : f (waiter_of e) ≡ Some outcome.Left = picks e ∙ ap (λ b. pick b (q e.0)) t in
-            let only : ended f tick (waiters es) ≡ in_order tick None (lookup q es) = on ∙ ap (λ o. in_order tick o (lookup q (remove_entry p es))) none ∙ ap (λ l. in_order tick None (lookup q l)) (absent p es none) in
-            let all = told_more e es _ _ only end ∙ left_last tick e (lookup q es) (λ h found. below q e.1.ticket es h parts.1 found) in
-            all ∙ sym (ap (λ b. in_order tick (cond b (Some e.1) (lookup p es)) (lookup q (cond b es (e ∷ remove_entry p es)))) t)
-        | false ↦ λ t. (elim (q e.0) as (λ b. q e.0 ≡ b → ended f tick (waiters (e ∷ es)) ≡ in_order tick (lookup p (e ∷ es)) (lookup q (remove_entry p (e ∷ es)))) [
+            let end : f (waiter_of e) ≡ Some own = picks e ∙ ap (λ b. pick own b (q e.0)) t in
+            let only : ended f tick (waiters es) ≡ in_order tick own None (lookup q es) = on ∙ ap (λ o. in_order tick own o (lookup q (remove_entry p es))) none ∙ ap (λ l. in_order tick own None (lookup q l)) (absent p es none) in
+            let all = told_more e es _ _ only end ∙ left_last tick own e (lookup q es) (λ h found. below q e.1.ticket es h parts.1 found) in
+            all ∙ sym (ap (λ b. in_order tick own (cond b (Some e.1) (lookup p es)) (lookup q (cond b es (e ∷ remove_entry p es)))) t)
+        | false ↦ λ t. (elim (q e.0) as (λ b. q e.0 ≡ b → ended f tick (waiters (e ∷ es)) ≡ in_order tick own (lookup p (e ∷ es)) (lookup q (remove_entry p (e ∷ es)))) [
           | true ↦ λ u.
               let none = still_absent p q es (one_q.0 u) in
-              let end : f (waiter_of e) ≡ Some outcome.Held = picks e ∙ ap (λ b. pick b (q e.0)) t ∙ ap (pick false) u in
-              let only : ended f tick (waiters es) ≡ in_order tick (lookup p es) None = on ∙ ap (λ o. in_order tick (lookup p es) o) none in
-              let all = told_more e es _ _ only end ∙ held_last tick e (lookup p es) (λ l found. below p e.1.ticket es l parts.1 found) in
-              all ∙ sym (ap (λ b. in_order tick (cond b (Some e.1) (lookup p es)) (lookup q (cond b es (e ∷ remove_entry p es)))) t ∙ ap (λ b. in_order tick (lookup p es) (cond b (Some e.1) (lookup q (remove_entry p es)))) u)
+              let end : f (waiter_of e) ≡ Some outcome.Held = picks e ∙ ap (λ b. pick own b (q e.0)) t ∙ ap (pick own false) u in
+              let only : ended f tick (waiters es) ≡ in_order tick own (lookup p es) None = on ∙ ap (λ o. in_order tick own (lookup p es) o) none in
+              let all = told_more e es _ _ only end ∙ held_last tick own e (lookup p es) (λ l found. below p e.1.ticket es l parts.1 found) in
+              all ∙ sym (ap (λ b. in_order tick own (cond b (Some e.1) (lookup p es)) (lookup q (cond b es (e ∷ remove_entry p es)))) t ∙ ap (λ b. in_order tick own (lookup p es) (cond b (Some e.1) (lookup q (remove_entry p es)))) u)
           | false ↦ λ u.
-              let end : f (waiter_of e) ≡ None = picks e ∙ ap (λ b. pick b (q e.0)) t ∙ ap (pick false) u in
+              let end : f (waiter_of e) ≡ None = picks e ∙ ap (λ b. pick own b (q e.0)) t ∙ ap (pick own false) u in
               let all = told_more e es _ _ on end ∙ append-nil _ in
-              all ∙ sym (ap (λ b. in_order tick (cond b (Some e.1) (lookup p es)) (lookup q (cond b es (e ∷ remove_entry p es)))) t ∙ ap (λ b. in_order tick (lookup p es) (cond b (Some e.1) (lookup q (remove_entry p es)))) u)
+              all ∙ sym (ap (λ b. in_order tick own (cond b (Some e.1) (lookup p es)) (lookup q (cond b es (e ∷ remove_entry p es)))) t ∙ ap (λ b. in_order tick own (lookup p es) (cond b (Some e.1) (lookup q (remove_entry p es)))) u)
         ]) refl
       ]) refl
 
@@ -137,48 +137,48 @@ module _ (p q : ℕ × ℕ → Bool) (f : Waiter → Option Outcome) (picks : (e
   kept_more e es left b on is = ap (λ ws. ws ++ cond b (waiter_of e ∷ []) []) on ∙ sym (filter-append (λ w. not (is_some (f w))) (waiters es) (waiter_of e ∷ []) ∙ ap (λ x. still f (waiters es) ++ cond x (waiter_of e ∷ []) []) is)
 
   -- The waits that go on.
-  pub released_kept : (es : List Entry) → Single p es → Single q es → waiters (remove_entry q (remove_entry p es)) ≡ still f (waiters es)
+  pub left_kept : (es : List Entry) → Single p es → Single q es → waiters (remove_entry q (remove_entry p es)) ≡ still f (waiters es)
   unfolding goes
-  released_kept [] one_p one_q = refl
-  released_kept (e ∷ es) one_p one_q =
-      let on = released_kept es one_p.1 one_q.1 in
+  left_kept [] one_p one_q = refl
+  left_kept (e ∷ es) one_p one_q =
+      let on = left_kept es one_p.1 one_q.1 in
       (elim (p e.0) as (λ b. p e.0 ≡ b → waiters (remove_entry q (remove_entry p (e ∷ es))) ≡ still f (waiters (e ∷ es))) [
         | true ↦ λ t.
             let none = one_p.0 t in
-            let ends : goes (waiter_of e) ≡ false = ap (λ o. not (is_some o)) (picks e ∙ ap (λ b. pick b (q e.0)) t) in
+            let ends : goes (waiter_of e) ≡ false = ap (λ o. not (is_some o)) (picks e ∙ ap (λ b. pick own b (q e.0)) t) in
             let only : waiters (remove_entry q es) ≡ still f (waiters es) = ap (λ l. waiters (remove_entry q l)) (sym (absent p es none)) ∙ on in
             rw t (sym (append-nil (waiters (remove_entry q es))) ∙ kept_more e es (remove_entry q es) false only ends)
         | false ↦ λ t. (elim (q e.0) as (λ b. q e.0 ≡ b → waiters (remove_entry q (remove_entry p (e ∷ es))) ≡ still f (waiters (e ∷ es))) [
           | true ↦ λ u.
               let none = still_absent p q es (one_q.0 u) in
-              let ends : goes (waiter_of e) ≡ false = ap (λ o. not (is_some o)) (picks e ∙ ap (λ b. pick b (q e.0)) t ∙ ap (pick false) u) in
+              let ends : goes (waiter_of e) ≡ false = ap (λ o. not (is_some o)) (picks e ∙ ap (λ b. pick own b (q e.0)) t ∙ ap (pick own false) u) in
               let only : waiters (remove_entry p es) ≡ still f (waiters es) = ap waiters (sym (absent q (remove_entry p es) none)) ∙ on in
               rw (t, u) (sym (append-nil (waiters (remove_entry p es))) ∙ kept_more e es (remove_entry p es) false only ends)
           | false ↦ λ u.
-              let stays : goes (waiter_of e) ≡ true = ap (λ o. not (is_some o)) (picks e ∙ ap (λ b. pick b (q e.0)) t ∙ ap (pick false) u) in
+              let stays : goes (waiter_of e) ≡ true = ap (λ o. not (is_some o)) (picks e ∙ ap (λ b. pick own b (q e.0)) t ∙ ap (pick own false) u) in
               rw (t, u) (kept_more e es (remove_entry q (remove_entry p es)) true on stays)
         ]) refl
       ]) refl
 
--- ---- the tests of a release
+-- ---- the tests of a key that was left
 
 swapped : (a b : ℕ) → (a == b) ≡ nat_eq b a
 swapped a b = grind arith
 
-picked : (a b h : Bool) → (if not a then None else if b then Some outcome.Left else if h then Some outcome.Held else None) ≡ pick (a && b) (a && h)
-picked true true h = refl
-picked true false true = refl
-picked true false false = refl
-picked false b h = refl
+picked : (own : Outcome) (a b h : Bool) → (if not a then None else if b then Some own else if h then Some outcome.Held else None) ≡ pick own (a && b) (a && h)
+picked own true true h = refl
+picked own true false true = refl
+picked own true false false = refl
+picked own false b h = refl
 
-picked_none : (a b : Bool) → (if not a then None else if b then Some outcome.Left else None) ≡ pick (a && b) false
-picked_none true true = refl
-picked_none true false = refl
-picked_none false b = refl
+picked_none : (own : Outcome) (a b : Bool) → (if not a then None else if b then Some own else None) ≡ pick own (a && b) false
+picked_none own true true = refl
+picked_none own true false = refl
+picked_none own false b = refl
 
-pub release_picks : (s key : ℕ) (holder : Option ℕ) (e : Entry) → release_end s key holder (waiter_of e) ≡ pick (is_of key s e.0) (is_held key holder e.0)
-release_picks s key None e = rw (swapped e.0.0 key, swapped e.0.1 s) (picked_none (nat_eq key e.0.0) (nat_eq s e.0.1))
-release_picks s key (Some h) e = rw (swapped e.0.0 key, swapped e.0.1 s) (picked (nat_eq key e.0.0) (nat_eq s e.0.1) (nat_eq h e.0.1))
+left_picks : (s : ℕ) (own : Outcome) (key : ℕ) (holder : Option ℕ) (e : Entry) → left_end s own key holder (waiter_of e) ≡ pick own (is_of key s e.0) (is_held key holder e.0)
+left_picks s own key None e = rw (swapped e.0.0 key, swapped e.0.1 s) (picked_none own (nat_eq key e.0.0) (nat_eq s e.0.1))
+left_picks s own key (Some h) e = rw (swapped e.0.0 key, swapped e.0.1 s) (picked own (nat_eq key e.0.0) (nat_eq s e.0.1) (nat_eq h e.0.1))
 
 -- ---- lengths
 
@@ -208,35 +208,43 @@ never key (e ∷ es) = let on = never key es in (on.0, ap (λ l. e ∷ l) on.1)
 pub none_held : (key : ℕ) (holder : Option ℕ) (es : List Entry) → holder ≡ None → (None ≡ lookup (is_held key holder) es) × (es ≡ remove_entry (is_held key holder) es)
 none_held key holder es none = rw none (never key es)
 
--- ---- a release
+-- ---- a session left the queue of a key
 
-pub release_answers : (s key : ℕ) (holder : Option ℕ) (tick n : ℕ) (es mid : List Entry) (left held : Option Place) (out replies : List Reply) → IsDistinct pair_eq (keys_of es) → descends n es ≡ true
-    → left ≡ lookup (is_of key s) es → mid ≡ remove_entry (is_of key s) es → held ≡ lookup (is_held key holder) mid → replies ≡ out ++ in_order tick left held
-    → replies ≡ out ++ ended (release_end s key holder) tick (waiters es)
-release_answers s key holder tick n es mid left held out replies distinct order left_is mid_is held_is told =
+pub left_answers : (s : ℕ) (own : Outcome) (key : ℕ) (holder : Option ℕ) (tick n : ℕ) (es mid : List Entry) (left held : Option Place) (out replies : List Reply) → IsDistinct pair_eq (keys_of es) → descends n es ≡ true
+    → left ≡ lookup (is_of key s) es → mid ≡ remove_entry (is_of key s) es → held ≡ lookup (is_held key holder) mid → replies ≡ out ++ in_order tick own left held
+    → replies ≡ out ++ ended (left_end s own key holder) tick (waiters es)
+left_answers s own key holder tick n es mid left held out replies distinct order left_is mid_is held_is told =
     let p = is_of key s in
     let q = is_held key holder in
-    told ∙ ap (λ o. out ++ in_order tick o held) left_is ∙ ap (λ o. out ++ in_order tick (lookup p es) o) (held_is ∙ ap (lookup q) mid_is)
-    ∙ ap (λ rs. out ++ rs) (sym (released_told p q (release_end s key holder) (release_picks s key holder) tick n es (one_of key s es distinct) (one_held key holder es distinct) order))
+    told ∙ ap (λ o. out ++ in_order tick own o held) left_is ∙ ap (λ o. out ++ in_order tick own (lookup p es) o) (held_is ∙ ap (lookup q) mid_is)
+    ∙ ap (λ rs. out ++ rs) (sym (left_told p q (left_end s own key holder) own (left_picks s own key holder) tick n es (one_of key s es distinct) (one_held key holder es distinct) order))
 
-pub release_keeps : (s key : ℕ) (holder : Option ℕ) (es mid new : List Entry) → IsDistinct pair_eq (keys_of es) → mid ≡ remove_entry (is_of key s) es → new ≡ remove_entry (is_held key holder) mid
-    → waiters new ≡ still (release_end s key holder) (waiters es)
-release_keeps s key holder es mid new distinct mid_is new_is =
+pub left_keeps : (s : ℕ) (own : Outcome) (key : ℕ) (holder : Option ℕ) (es mid new : List Entry) → IsDistinct pair_eq (keys_of es) → mid ≡ remove_entry (is_of key s) es → new ≡ remove_entry (is_held key holder) mid
+    → waiters new ≡ still (left_end s own key holder) (waiters es)
+left_keeps s own key holder es mid new distinct mid_is new_is =
     let p = is_of key s in
     let q = is_held key holder in
     ap waiters (new_is ∙ ap (remove_entry q) mid_is)
-    ∙ released_kept p q (release_end s key holder) (release_picks s key holder) 0 es (one_of key s es distinct) (one_held key holder es distinct)
+    ∙ left_kept p q (left_end s own key holder) own (left_picks s own key holder) 0 es (one_of key s es distinct) (one_held key holder es distinct)
 
 -- There is room for the replies.
-pub release_fits : (p q : ℕ × ℕ → Bool) (tick n cap : ℕ) (es mid : List Entry) (left held : Option Place) → left ≡ lookup p es → mid ≡ remove_entry p es → held ≡ lookup q mid → n + length (waiters es) ≤ cap
-    → n + length (place_reply tick outcome.Left left) + length (place_reply tick outcome.Held held) ≤ cap
-release_fits p q tick n cap es mid left held left_is mid_is held_is fits =
-    let first : length mid + length (place_reply tick outcome.Left left) ≡ length es = rw (mid_is, left_is) (length_removed p tick outcome.Left es) in
+pub left_fits : (p q : ℕ × ℕ → Bool) (tick : ℕ) (own : Outcome) (n cap : ℕ) (es mid : List Entry) (left held : Option Place) → left ≡ lookup p es → mid ≡ remove_entry p es → held ≡ lookup q mid → n + length (waiters es) ≤ cap
+    → n + length (place_reply tick own left) + length (place_reply tick outcome.Held held) ≤ cap
+left_fits p q tick own n cap es mid left held left_is mid_is held_is fits =
+    let first : length mid + length (place_reply tick own left) ≡ length es = rw (mid_is, left_is) (length_removed p tick own es) in
     let second : length (remove_entry q mid) + length (place_reply tick outcome.Held held) ≡ length mid = rw held_is (length_removed q tick outcome.Held mid) in
     omega (arith, first, second, length_waiters es, fits)
 
-pub release_shrinks : (p q : ℕ × ℕ → Bool) (es mid new : List Entry) → mid ≡ remove_entry p es → new ≡ remove_entry q mid → length (waiters new) ≤ length (waiters es)
-release_shrinks p q es mid new mid_is new_is =
+-- Each wait that ended has one reply.
+pub left_counts : (p q : ℕ × ℕ → Bool) (tick : ℕ) (own : Outcome) (n m : ℕ) (es mid new : List Entry) (left held : Option Place) → left ≡ lookup p es → mid ≡ remove_entry p es → held ≡ lookup q mid → new ≡ remove_entry q mid
+    → m ≡ n + length (place_reply tick own left) + length (place_reply tick outcome.Held held) → m + length (waiters new) ≡ n + length (waiters es)
+left_counts p q tick own n m es mid new left held left_is mid_is held_is new_is told =
+    let first : length mid + length (place_reply tick own left) ≡ length es = rw (mid_is, left_is) (length_removed p tick own es) in
+    let second : length new + length (place_reply tick outcome.Held held) ≡ length mid = rw (new_is, held_is) (length_removed q tick outcome.Held mid) in
+    omega (arith, first, second, length_waiters es, length_waiters new, told)
+
+pub left_shrinks : (p q : ℕ × ℕ → Bool) (es mid new : List Entry) → mid ≡ remove_entry p es → new ≡ remove_entry q mid → length (waiters new) ≤ length (waiters es)
+left_shrinks p q es mid new mid_is new_is =
     let first : length mid ≤ length es = rw mid_is (omega (arith, length_removed p 0 outcome.Left es)) in
     let second : length new ≤ length mid = rw new_is (omega (arith, length_removed q 0 outcome.Left mid)) in
     omega (arith, first, second, length_waiters es, length_waiters new)

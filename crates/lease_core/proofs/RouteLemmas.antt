@@ -4,6 +4,7 @@ use Rattle.std.proofs.lemmas.Bool.Decides.{eqb_tells}
 use Rattle.mono_model.specs.Table.{value_at}
 use Rattle.mono_session.specs.Keeper.{Entry, Keeper, Session, if_granted, open_answer, opened, beat_answer, beaten, beaten_value, close_answer, closed, acquire_answer, acquired, release_answer, released, without_session, with_greatest, queue_in, first_of}
 use Rattle.mono_session.specs.Steps.{greatest_at, without_all}
+use Rattle.mono_session.specs.Entries.{keys_in}
 use Rattle.mono_session.specs.Answers as lease_answer
 use Rattle.mono_session.specs.Calls as lease
 use Rattle.mono_session.specs.declared.error.SessionError.{SessionError}
@@ -13,8 +14,10 @@ use Rattle.lease_core.specs.declared.ends.Waiter.{Waiter}
 use Rattle.lease_core.specs.declared.requests.Call.{Call}
 use Rattle.lease_core.specs.declared.requests.Call.TheVariants as call
 use Rattle.lease_core.specs.declared.requests.Outcome.{Outcome}
+use Rattle.lease_core.specs.declared.requests.Outcome.TheVariants as outcome
 use Rattle.lease_core.specs.declared.requests.Reply.{Reply}
 use Rattle.lease_core.specs.Routes.{core_of}
+use Rattle.lease_core.specs.Waits.{left_in}
 use Rattle.lease_core.specs.Cores.{CoreState, new_core}
 use Rattle.lease_core.specs.Steps.{LeaseStep, Handles, HeldOrWaits, Frees, TurnEnds, Event, Advance, Handle, Finish, Run}
 use Rattle.lease_core.specs.Laws.{AreRouted, OneCoreHolds}
@@ -36,15 +39,15 @@ held_keeper number s key old new lease_answer.Free k replies h = ap (λ (c : Cor
 held_keeper number s key old new (lease_answer.Closed x) k replies h = ap (λ (c : CoreState). c.keeper) h.3
 held_keeper number s key old new (lease_answer.Refused x) k replies h = ap (λ (c : CoreState). c.keeper) h.3
 
-frees_keeper : (number : ℕ) (e : Waiter → Option Outcome) (old new : CoreState) (a : lease_answer.Answer) (k : Keeper) (replies : List Reply) → Frees old number e a k replies new → new.keeper ≡ k
-frees_keeper number e old new lease_answer.Done k replies h = ap (λ (c : CoreState). c.keeper) h.1
-frees_keeper number e old new lease_answer.Waits k replies h = ap (λ (c : CoreState). c.keeper) h.3
-frees_keeper number e old new (lease_answer.Session x) k replies h = ap (λ (c : CoreState). c.keeper) h.3
-frees_keeper number e old new lease_answer.Held k replies h = ap (λ (c : CoreState). c.keeper) h.3
-frees_keeper number e old new (lease_answer.Owner x) k replies h = ap (λ (c : CoreState). c.keeper) h.3
-frees_keeper number e old new lease_answer.Free k replies h = ap (λ (c : CoreState). c.keeper) h.3
-frees_keeper number e old new (lease_answer.Closed x) k replies h = ap (λ (c : CoreState). c.keeper) h.3
-frees_keeper number e old new (lease_answer.Refused x) k replies h = ap (λ (c : CoreState). c.keeper) h.3
+frees_keeper : (number : ℕ) (e : ℕ → Waiter → Option Outcome) (keys : List ℕ) (old new : CoreState) (a : lease_answer.Answer) (k : Keeper) (replies : List Reply) → Frees old number e keys a k replies new → new.keeper ≡ k
+frees_keeper number e keys old new lease_answer.Done k replies h = ap (λ (c : CoreState). c.keeper) h.1
+frees_keeper number e keys old new lease_answer.Waits k replies h = ap (λ (c : CoreState). c.keeper) h.3
+frees_keeper number e keys old new (lease_answer.Session x) k replies h = ap (λ (c : CoreState). c.keeper) h.3
+frees_keeper number e keys old new lease_answer.Held k replies h = ap (λ (c : CoreState). c.keeper) h.3
+frees_keeper number e keys old new (lease_answer.Owner x) k replies h = ap (λ (c : CoreState). c.keeper) h.3
+frees_keeper number e keys old new lease_answer.Free k replies h = ap (λ (c : CoreState). c.keeper) h.3
+frees_keeper number e keys old new (lease_answer.Closed x) k replies h = ap (λ (c : CoreState). c.keeper) h.3
+frees_keeper number e keys old new (lease_answer.Refused x) k replies h = ap (λ (c : CoreState). c.keeper) h.3
 
 turn_keeper : (number : ℕ) (old new : CoreState) (a : mail_answer.Answer ℕ) (mid : Actors ℕ) (replies : List Reply) → TurnEnds old number a mid replies new → new.keeper ≡ old.keeper
 turn_keeper number old new (mail_answer.Turn x got) mid replies h = ap (λ (c : CoreState). c.keeper) h.4
@@ -115,11 +118,11 @@ module _ (core cores : ℕ) where
   own_handled number key (call.Open limit) old new replies is own h = own_same h.keeper new.keeper (ap (λ (c : CoreState). c.keeper) h.becomes) (own_open old.keeper h.keeper limit h.answer own h.step)
   own_handled number key (call.Beat s) old new replies is own h = own_same h.keeper new.keeper (ap (λ (c : CoreState). c.keeper) h.becomes) (own_beat old.keeper h.keeper s h.answer own h.step)
   own_handled number key (call.Close s) old new replies is own h =
-      own_same h.keeper new.keeper (frees_keeper number _ old new h.answer h.keeper replies h.rest) (own_close old.keeper h.keeper s h.answer own h.step)
+      own_same h.keeper new.keeper (frees_keeper number (left_in s outcome.Closed h.keeper) (keys_in old.keeper.entries s) old new h.answer h.keeper replies h.rest) (own_close old.keeper h.keeper s h.answer own h.step)
   own_handled number key (call.Acquire s) old new replies is own h =
       own_same h.keeper new.keeper (held_keeper number s key old new h.answer h.keeper replies h.rest) (own_acquire old.keeper h.keeper s key h.answer is own h.step)
   own_handled number key (call.Release s) old new replies is own h =
-      own_same h.keeper new.keeper (frees_keeper number _ old new h.answer h.keeper replies h.rest) (own_release old.keeper h.keeper s key h.answer own h.step)
+      own_same h.keeper new.keeper (frees_keeper number (left_in s outcome.Left h.keeper) (key ∷ []) old new h.answer h.keeper replies h.rest) (own_release old.keeper h.keeper s key h.answer own h.step)
   own_handled number key (call.Bucket burst period) old new replies is own h = own_same old.keeper new.keeper (ap (λ (c : CoreState). c.keeper) h.becomes) own
   own_handled number key (call.Take b m) old new replies is own h = own_same old.keeper new.keeper (ap (λ (c : CoreState). c.keeper) h.becomes) own
   own_handled number key call.Spawn old new replies is own h = own_same old.keeper new.keeper (ap (λ (c : CoreState). c.keeper) h.becomes) own

@@ -43,11 +43,12 @@ came_later None other = false
 came_later (Some place) None = false
 came_later (Some place) (Some other) = nat_lt other.ticket place.ticket
 
--- The replies of a wait that was left and of one whose session is the holder now, in the order in which they came.
-abbrev pub in_order : ℕ → Option Place → Option Place → List Reply
-in_order tick left held =
-    if came_later left held then place_reply tick outcome.Held held ++ place_reply tick outcome.Left left
-    else place_reply tick outcome.Left left ++ place_reply tick outcome.Held held
+-- The replies of the wait of a session that left, with its outcome, and of the wait of the holder now, in the order in
+-- which they came.
+abbrev pub in_order : ℕ → Outcome → Option Place → Option Place → List Reply
+in_order tick own left held =
+    if came_later left held then place_reply tick outcome.Held held ++ place_reply tick own left
+    else place_reply tick own left ++ place_reply tick outcome.Held held
 
 -- Whether a wait goes on.
 abbrev pub goes_on : (Waiter → Option Outcome) → Entry → Bool

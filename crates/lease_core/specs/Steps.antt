@@ -1,7 +1,8 @@
 -- The steps of a core: from old it may perform the event with these replies and become new. Each step is a step of the
 -- services' models, or an allocation failed and nothing has changed.
 use Rattle.std.specs.Prelude.{◌≡◌, ◌⊎◌, ⊤, ℕ, false, List, [], ◌∷◌, ◌++◌, Option, IsOk}
-use Rattle.mono_session.specs.Keeper.{Keeper, open_answer, owner_answer}
+use Rattle.mono_session.specs.Keeper.{Keeper, open_answer}
+use Rattle.mono_session.specs.Entries.{keys_in}
 use Rattle.mono_session.specs.Calls as lease
 use Rattle.mono_session.specs.Answers as lease_answer
 use Rattle.mono_session.specs.Steps as lease_step
@@ -23,7 +24,7 @@ use Rattle.lease_core.specs.declared.requests.Request.{Request}
 use Rattle.lease_core.specs.declared.requests.Outcome.{Outcome}
 use Rattle.lease_core.specs.declared.requests.Outcome.TheVariants as outcome
 use Rattle.lease_core.specs.declared.requests.Reply.{Reply}
-use Rattle.lease_core.specs.Waits.{release_end, close_end, input_end, ended, still, FreesBy}
+use Rattle.lease_core.specs.Waits.{left_in, input_end, ended, ended_by, still_by, FreesBy}
 use Rattle.lease_core.specs.Cores.{CoreState, with_leases, with_limits, with_actors, at_once}
 use Rattle.lease_core.specs.Tells.{LeaseTells, LimitTells, MailTells}
 
@@ -103,11 +104,11 @@ pub record Acquires (old : CoreState) (number s key : ℕ) (replies : List Reply
   pub step : LeaseStep old.keeper (lease.Acquire s key) answer keeper
   pub rest : HeldOrWaits old number s key answer keeper replies new
 
--- After a call that was performed, the waits end that `end_of` names.
-abbrev pub Frees : CoreState → ℕ → (Waiter → Option Outcome) → lease_answer.Answer → Keeper → List Reply → CoreState → Type 0
-Frees old number end_of lease_answer.Done keeper replies new =
-    (replies ≡ at_once old number outcome.Done ∷ ended end_of keeper.greatest old.waiting) × (new ≡ with_leases old keeper (still end_of old.waiting))
-Frees old number end_of answer keeper replies new =
+-- After a call that was performed, the waits end that `end_at` names, key by key.
+abbrev pub Frees : CoreState → ℕ → (ℕ → Waiter → Option Outcome) → List ℕ → lease_answer.Answer → Keeper → List Reply → CoreState → Type 0
+Frees old number end_at keys lease_answer.Done keeper replies new =
+    (replies ≡ at_once old number outcome.Done ∷ ended_by end_at keeper.greatest keys old.waiting) × (new ≡ with_leases old keeper (still_by end_at keys old.waiting))
+Frees old number end_at keys answer keeper replies new =
     (told : Outcome) × LeaseTells answer told × (replies ≡ at_once old number told ∷ []) × (new ≡ with_leases old keeper old.waiting)
 
 -- A session leaves the queue of a key.
@@ -115,14 +116,14 @@ pub record Releases (old : CoreState) (number s key : ℕ) (replies : List Reply
   pub answer : lease_answer.Answer
   pub keeper : Keeper
   pub step : LeaseStep old.keeper (lease.Release s key) answer keeper
-  pub rest : Frees old number (release_end s key (owner_answer keeper key)) answer keeper replies new
+  pub rest : Frees old number (left_in s outcome.Left keeper) (key ∷ []) answer keeper replies new
 
--- A session is closed.
+-- A session is closed: it leaves the queues of its keys, in the order in which it entered them.
 pub record Closes (old : CoreState) (number s : ℕ) (replies : List Reply) (new : CoreState) : Type 0 where
   pub answer : lease_answer.Answer
   pub keeper : Keeper
   pub step : LeaseStep old.keeper (lease.Close s) answer keeper
-  pub rest : Frees old number (close_end (s ∷ []) keeper) answer keeper replies new
+  pub rest : Frees old number (left_in s outcome.Closed keeper) (keys_in old.keeper.entries s) answer keeper replies new
 
 -- A turn that began ends at once.
 abbrev pub TurnEnds : CoreState → ℕ → mail_answer.Answer ℕ → Actors ℕ → List Reply → CoreState → Type 0

@@ -11,13 +11,18 @@ abbrev pub is_first : ℕ → Option ℕ → Bool
 is_first s None = false
 is_first s (Some first) = first == s
 
--- The end of a wait, if any, after the session s left the queue of a key, which has this holder now.
-abbrev pub release_end : ℕ → ℕ → Option ℕ → Waiter → Option Outcome
-release_end s key holder w =
+-- The end of a wait, if any, after the session s left the queue of a key, which has this holder now. `own` is the outcome
+-- of its own wait.
+abbrev pub left_end : ℕ → Outcome → ℕ → Option ℕ → Waiter → Option Outcome
+left_end s own key holder w =
     if not (w.key == key) then None
-    else if w.session == s then Some outcome.Left
+    else if w.session == s then Some own
     else if is_first w.session holder then Some outcome.Held
     else None
+
+-- The same, with the key's holder in the leases.
+abbrev pub left_in : ℕ → Outcome → Keeper → ℕ → Waiter → Option Outcome
+left_in s own keeper key = left_end s own key (owner_answer keeper key)
 
 -- The end of a wait, if any, after these sessions were closed.
 abbrev pub close_end : List ℕ → Keeper → Waiter → Option Outcome
@@ -42,6 +47,15 @@ ended end_of tick (w ∷ waiting) = end_reply tick w (end_of w) ++ ended end_of 
 
 abbrev pub still : (Waiter → Option Outcome) → List Waiter → List Waiter
 still end_of waiting = filter (λ w. not (is_some (end_of w))) waiting
+
+-- The same for one key after another. A wait that ended for a key has ended for the keys that follow.
+abbrev pub ended_by : (ℕ → Waiter → Option Outcome) → ℕ → List ℕ → List Waiter → List Reply
+ended_by end_at tick [] waiting = []
+ended_by end_at tick (key ∷ keys) waiting = ended (end_at key) tick waiting ++ ended_by end_at tick keys (still (end_at key) waiting)
+
+abbrev pub still_by : (ℕ → Waiter → Option Outcome) → List ℕ → List Waiter → List Waiter
+still_by end_at [] waiting = waiting
+still_by end_at (key ∷ keys) waiting = still_by end_at keys (still (end_at key) waiting)
 
 -- The waits that end after these sessions were closed are answered. Nothing ends if none was closed.
 abbrev pub FreesBy : List ℕ → Keeper → ℕ → List Waiter → List Reply → List Reply → List Waiter → Type 0

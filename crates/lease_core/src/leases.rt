@@ -1,7 +1,9 @@
 // The requests on the leases.
-ghost use Rattle.std.specs.Prelude.{◌≡◌, ◌<◌, ◌+◌, ℕ, [], OnOk, length, vec_capacity};
+ghost use Rattle.std.specs.Prelude.{◌≡◌, ◌≤◌, ◌<◌, ◌+◌, ℕ, [], OnOk, length, vec_len, vec_capacity};
+ghost use Rattle.mono_session.specs.Keeper.{Keeper};
+ghost use Rattle.mono_session.specs.Refinement.{StandsFor};
 ghost use Rattle.lease_core.specs.Waiting.{waits_of};
-ghost use Rattle.lease_core.specs.Refinement.{Performs};
+ghost use Rattle.lease_core.specs.Refinement.{LeavesQueues, Performs};
 ghost use Rattle.lease_core.specs.declared.requests.Call.TheVariants as call;
 
 use crate::cores::Core;
@@ -32,23 +34,39 @@ impl Core {
         self.replies.push_reserved(reply);
     }
 
-    // Closes a session, and replies to those whose waits end.
+    // Closes a session, and replies to those whose waits end. It looks at the session's own keys alone.
     pub(crate) fn close(&mut self, number: u64, session: u64)
         requires { self.old.replies.items ≡ [] }
         ensures { (key : ℕ) → Performs self.old number key (call.Close session) self.new }
     {
-        match self.sessions.close(session) {
-            Err(error) => {
-                let reply = self.at_once(number, Outcome::LeaseRefused(error));
-                self.replies.push_reserved(reply);
-            }
-            Ok(()) => {
-                let reply = self.at_once(number, Outcome::Done);
-                self.replies.push_reserved(reply);
-                let gone = [session];
-                self.waiting
-                    .end_closed(&gone, &self.sessions, self.tick, &mut self.replies);
-            }
+        if !self.sessions.is_open(session) {
+            let reply = self.at_once(number, Outcome::LeaseRefused(SessionError::NoSession));
+            self.replies.push_reserved(reply);
+            return;
+        }
+        let reply = self.at_once(number, Outcome::Done);
+        self.replies.push_reserved(reply);
+        self.leave_queues(session);
+        let _ = self.sessions.close(session);
+    }
+
+    // Removes a session from all queues, the one that it entered first before the others, and replies to those whose
+    // waits end. There is room for a reply to each wait.
+    fn leave_queues(&mut self, session: u64)
+        requires { vec_len self.old.replies + length (waits_of self.old.waiting) ≤ vec_capacity self.old.replies }
+        ensures frees { (k : Keeper) → StandsFor self.old.sessions k → LeavesQueues self.old k session self.new }
+        ensures same { (self.new.limiter ≡ self.old.limiter) × (self.new.actors ≡ self.old.actors) × (self.new.tick ≡ self.old.tick) }
+    {
+        while let Some(key) = self.sessions.release_first(session) {
+            let holder = self.sessions.owner(key);
+            self.waiting.end_left(
+                session,
+                key,
+                holder,
+                Outcome::Closed,
+                self.tick,
+                &mut self.replies,
+            );
         }
     }
 
@@ -121,8 +139,14 @@ impl Core {
                 let reply = self.at_once(number, Outcome::Done);
                 self.replies.push_reserved(reply);
                 let holder = self.sessions.owner(key);
-                self.waiting
-                    .end_released(session, key, holder, self.tick, &mut self.replies);
+                self.waiting.end_left(
+                    session,
+                    key,
+                    holder,
+                    Outcome::Left,
+                    self.tick,
+                    &mut self.replies,
+                );
             }
         }
     }

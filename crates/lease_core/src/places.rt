@@ -67,18 +67,25 @@ fn came_later(place: Option<Place>, other: Option<Place>) -> bool
     }
 }
 
-/// Appends the replies of the wait of a session that left a queue, and of the wait of the next holder, in the order in
-/// which they came. There is room for them.
-pub fn put_both(left: Option<Place>, held: Option<Place>, tick: u64, replies: &mut Vec<Reply>)
-    requires { vec_len replies.old + length (place_reply tick end.Left left) + length (place_reply tick end.Held held) ≤ vec_capacity replies.old }
-    ensures items { replies.new.items ≡ replies.old.items ++ in_order tick left held }
+/// Appends the replies of the wait of a session that left a queue, with its outcome, and of the wait of the next holder,
+/// in the order in which they came. There is room for them.
+pub fn put_both(
+    left: Option<Place>,
+    own: Outcome,
+    held: Option<Place>,
+    tick: u64,
+    replies: &mut Vec<Reply>,
+)
+    requires { vec_len replies.old + length (place_reply tick own left) + length (place_reply tick end.Held held) ≤ vec_capacity replies.old }
+    ensures items { replies.new.items ≡ replies.old.items ++ in_order tick own left held }
+    ensures len { vec_len replies.new ≡ vec_len replies.old + length (place_reply tick own left) + length (place_reply tick end.Held held) }
     ensures capacity { vec_capacity replies.new ≡ vec_capacity replies.old }
 {
     if came_later(left, held) {
         put_place(held, Outcome::Held, tick, replies);
-        put_place(left, Outcome::Left, tick, replies);
+        put_place(left, own, tick, replies);
     } else {
-        put_place(left, Outcome::Left, tick, replies);
+        put_place(left, own, tick, replies);
         put_place(held, Outcome::Held, tick, replies);
     }
 }

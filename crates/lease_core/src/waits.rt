@@ -4,20 +4,21 @@ ghost use Rattle.lease_core.specs.Places.{descends};
 
 use crate::ends::Waiter;
 use crate::places::{Place, Places, end_each, put_both, put_closed, remove_each};
-use crate::requests::Reply;
+use crate::requests::{Outcome, Reply};
 use lru::LruCache;
 use mono_session::Sessions;
 use std::alloc::{AllocError, Global};
 
 /// The acquires that wait, in the order in which they came. No session waits twice for a key.
 ///
-/// A call takes a few look-ups for any number of waits. Only a close and the end of the input look at all of them.
+/// A call takes a few look-ups for any number of waits. Only a clock step that closes sessions and the end of the input
+/// look at all of them.
 #[derive(Drop)]
 pub struct Waits {
     places: Places,
     // The ticket of the next wait.
     next: u64,
-    // The keys of the waits that the last close ended.
+    // The keys of the waits that the last clock step ended.
     ended: Vec<(u64, u64)>,
     ghost order: { descends next places.entries ≡ true },
     ghost unbounded: { places.cap ≡ 2 ^ 64 - 1 },
@@ -29,7 +30,7 @@ impl Waits {
     ghost use Rattle.std.specs.Map.{lookup, remove_entry};
     ghost use Rattle.mono_session.specs.Keeper.{Keeper};
     ghost use Rattle.mono_session.specs.Refinement.{StandsFor};
-    ghost use Rattle.lease_core.specs.Waits.{release_end, input_end, ended, still, FreesBy};
+    ghost use Rattle.lease_core.specs.Waits.{left_end, input_end, ended, still, FreesBy};
     ghost use Rattle.lease_core.specs.Places.{is_of, is_held};
     ghost use Rattle.lease_core.specs.Waiting.{waits_of};
 
@@ -101,20 +102,23 @@ impl Waits {
         }
     }
 
-    /// Ends the waits that end after a session left the queue of a key, which has this holder now. Appends their replies
-    /// in the order in which they came. There is room for a reply to each wait.
-    pub fn end_released(
+    /// Ends the waits that end after a session left the queue of a key, which has this holder now. The session's own wait
+    /// has the outcome `own`. Appends the replies in the order in which the waits came. There is room for a reply to each
+    /// wait.
+    pub fn end_left(
         &mut self,
         session: u64,
         key: u64,
         holder: Option<u64>,
+        own: Outcome,
         tick: u64,
         replies: &mut Vec<Reply>,
     )
         requires { vec_len replies.old + length (waits_of self.old) ≤ vec_capacity replies.old }
-        ensures items { replies.new.items ≡ replies.old.items ++ ended (release_end session key holder) tick (waits_of self.old) }
-        ensures kept { waits_of self.new ≡ still (release_end session key holder) (waits_of self.old) }
+        ensures items { replies.new.items ≡ replies.old.items ++ ended (left_end session own key holder) tick (waits_of self.old) }
+        ensures kept { waits_of self.new ≡ still (left_end session own key holder) (waits_of self.old) }
         ensures len { length (waits_of self.new) ≤ length (waits_of self.old) }
+        ensures room { vec_len replies.new + length (waits_of self.new) ≡ vec_len replies.old + length (waits_of self.old) }
         ensures capacity { vec_capacity replies.new ≡ vec_capacity replies.old }
     {
         if self.places.len() == 0 {
@@ -122,7 +126,7 @@ impl Waits {
         }
         let left = self.take(key, session);
         let held = self.take_held(key, holder);
-        put_both(left, held, tick, replies);
+        put_both(left, own, held, tick, replies);
     }
 
     /// Ends the waits that end since these sessions were closed, and appends their replies. Nothing changes if none was

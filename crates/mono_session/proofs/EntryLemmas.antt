@@ -98,7 +98,7 @@ keys_released (e ∷ es) s key p = by (e.session == s) (e.key == key) (e.session
         ap (λ t. cond t (e.key ∷ keys_in (filter (λ x. not (is_entry s key x)) es) p) (keys_in (filter (λ x. not (is_entry s key x)) es) p)) fc ∙ rest
 
 -- ---- how many there are
-none_released : (es : List Entry) (s key : ℕ) → stands_in es s key ≡ false → filter (λ e. not (is_entry s key e)) es ≡ es
+pub none_released : (es : List Entry) (s key : ℕ) → stands_in es s key ≡ false → filter (λ e. not (is_entry s key e)) es ≡ es
 none_released [] s key out = refl
 none_released (e ∷ es) s key out = by (is_entry s key e) out (none_released es s key)
   where
