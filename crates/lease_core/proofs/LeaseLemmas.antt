@@ -52,9 +52,6 @@ open_step k limit r After (inr (ok, told, left)) = record { next = k; step = inr
 pub beat_step : (k : Keeper) (s : ℕ) (r : Result _ SessionError) (After : Keeper → Type 0) → (r ≡ beat_answer k s) × After (beaten k s) → Stepped k (lease.Beat s) (answer.of_done r) After
 beat_step k s r After (told, left) = record { next = beaten k s; step = inl (ap answer.of_done told, refl); after = left; tick = beaten_tick k s }
 
-pub close_step : (k : Keeper) (s : ℕ) (r : Result _ SessionError) (After : Keeper → Type 0) → (r ≡ close_answer k s) × After (closed k s) → Stepped k (lease.Close s) (answer.of_done r) After
-close_step k s r After (told, left) = record { next = closed k s; step = inl (ap answer.of_done told, refl); after = left; tick = closed_tick k s }
-
 pub acquire_step : (k : Keeper) (s key : ℕ) (r : Result Bool SessionError) (After : Keeper → Type 0)
     → OrLacksMemory error.Memory (acquire_answer k s key) k (acquired k s key) After r → Stepped k (lease.Acquire s key) (answer.of_first r) After
 acquire_step k s key r After (inl (told, left)) = record { next = acquired k s key; step = inl (ap answer.of_first told, refl); after = left; tick = acquired_tick k s key }

@@ -69,9 +69,6 @@ pub record Leaving (old : Core) (k : Keeper) (s : ℕ) (left : List Entry) (now 
   pub replies_are : now.replies.items ++ ended_by (end_at k s) old.tick (keys_in left s) (waits_of now.waiting) ≡ old.replies.items ++ ended_by (end_at k s) old.tick (keys_in k.entries s) (waits_of old.waiting)
   pub waiting : still_by (end_at k s) (keys_in left s) (waits_of now.waiting) ≡ still_by (end_at k s) (keys_in k.entries s) (waits_of old.waiting)
 
-pub leaving_begins : (old : Core) (k : Keeper) (s : ℕ) → StandsFor old.sessions k → Leaving old k s k.entries old
-leaving_begins old k s stands = record { leases = stands; others_are = refl; replies_are = refl; waiting = refl }
-
 end_now : (k : Keeper) (s key : ℕ) (left : List Entry) (holder : Option ℕ) → others s left ≡ others s k.entries → holder ≡ first_of (queue_in (without_one s key left) key) → left_end s outcome.Closed key holder ≡ end_at k s key
 end_now k s key left holder same is = ap (left_end s outcome.Closed key) (is ∙ ap first_of (queue_after left s key ∙ ap (λ es. queue_in es key) same))
 

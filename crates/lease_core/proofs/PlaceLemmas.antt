@@ -16,23 +16,6 @@ pub length_more : {X : Type 0} (xs : List X) (x : X) → length (xs ++ x ∷ [])
 length_more [] x = refl
 length_more (y ∷ xs) x = omega (arith, length_more xs x)
 
-at_end : {X : Type 0} (xs : List X) (x : X) → slice_get (xs ++ x ∷ []) (length xs) ≡ Some x
-at_end [] x = refl
-at_end (y ∷ xs) x = at_end xs x
-
-before_end : {X : Type 0} (xs : List X) (x : X) → take (length xs) (xs ++ x ∷ []) ≡ xs
-before_end [] x = refl
-before_end (y ∷ xs) x = ap (λ l. y ∷ l) (before_end xs x)
-
-last_place : {X : Type 0} (xs : List X) (x : X) → length (xs ++ x ∷ []) - 1 ≡ length xs
-last_place xs x = omega (arith, length_more xs x)
-
-pub last_pushed : {X : Type 0} (xs : List X) (x : X) → slice_get (xs ++ x ∷ []) (length (xs ++ x ∷ []) - 1) ≡ Some x
-last_pushed xs x = ap (λ n. slice_get (xs ++ x ∷ []) n) (last_place xs x) ∙ at_end xs x
-
-pub without_pushed : {X : Type 0} (xs : List X) (x : X) → take (length (xs ++ x ∷ []) - 1) (xs ++ x ∷ []) ≡ xs
-without_pushed xs x = ap (λ n. take n (xs ++ x ∷ [])) (last_place xs x) ∙ before_end xs x
-
 cut_at : {X : Type 0} (xs : List X) (n : ℕ) (x : X) → n + 1 ≡ length xs → slice_get xs n ≡ Some x → xs ≡ take n xs ++ x ∷ []
 cut_at [] n x one is = absurd (omega (arith, one))
 cut_at (y ∷ []) zero x one is =

@@ -34,7 +34,7 @@ Clocks old n new = (s : CoreState) → Refines old s → (t : CoreState) × Adva
 abbrev pub Ends : Core → Core → Type 0
 Ends old new = (s : CoreState) → Refines old s → (t : CoreState) × Finishes s new.replies.items t × Refines new t
 
--- The session is open, and has left all queues.
+-- The session has left all queues, and is still open.
 abbrev pub without_keys : Keeper → ℕ → Keeper
 without_keys keeper s = with_entries keeper (filter (λ entry. not (entry.session == s)) keeper.entries)
 

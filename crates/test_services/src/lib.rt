@@ -11,3 +11,5 @@ mod checkers;
 mod limiters;
 #[cfg(test)]
 mod retries;
+#[cfg(test)]
+mod sessions;

@@ -14,7 +14,7 @@ loop-key-preserved c =
           let step = c.in-Some.ensures.step (with_entries k now.0) now.1.leases in (
             without_one s key now.0,
             leaving_goes_on c.args.self.now c.loop-key.self _ k s key now.0 c.owner-holder.result now.1 step.0 step.1 (c.owner-holder.ensures (with_entries k (without_one s key now.0)) step.1)
-            before.tick c.end_left.ensures.items c.end_left.ensures.kept,
+                before.tick c.end_left.ensures.items c.end_left.ensures.kept,
           );
       room = omega (arith, before.room, c.end_left.ensures.room, c.end_left.ensures.capacity);
       limiter = before.limiter;
