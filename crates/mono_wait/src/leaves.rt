@@ -48,6 +48,8 @@ impl<C: Context, T: TaskFuture<C>> TaskFuture<C> for Reaching<T> {
 
     ghost polls = { λ f c r g d. T.polls f.future c r g.future d × C.reaches c d };
 
+    ghost gives = { λ f. T.gives f.future };
+
     ghost cancels = { λ f c d. T.cancels f.future c d × C.reaches c d };
 
     fn spent(&self) -> bool {

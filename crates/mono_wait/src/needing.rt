@@ -50,6 +50,8 @@ impl<C: WaitContext, N: Names, A: TaskFuture<C>> TaskFuture<C> for Needing<N, A>
 
     ghost polls = { λ f c r g d. A.polls f.future c r g.future d × (g.needs ≡ f.needs) × C.reaches c d × OnPending r (Covers C.number C.work C.reaches C.watcher c d (N.names g.needs)) };
 
+    ghost gives = { λ f. A.gives f.future };
+
     ghost cancels = { λ f c d. A.cancels f.future c d × C.reaches c d };
 
     fn spent(&self) -> bool {
