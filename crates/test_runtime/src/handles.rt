@@ -76,3 +76,17 @@ fn a_dropped_handle_returns_an_output_that_was_not_taken(rt: HostRuntime) {
     assert!(rt; runtime.drop_join(handle) == Ok(Some(2)));
     assert!(rt; runtime.into_pool().is_none());
 }
+
+// A handle is a task's number, and so it has no `gives` of its own: the runtime that polls it answers for its own task.
+#[test]
+fn a_handle_answers_for_the_task_of_the_runtime_that_polls_it(rt: HostRuntime) {
+    let two = ready(&rt, rt.alloc(), 2);
+    let three = ready(&rt, rt.alloc(), 3);
+    let (first, of_first) = with_task(&rt, rt.alloc(), two);
+    let (mut second, of_second) = with_task(&rt, rt.alloc(), three);
+    assert!(rt; wait_for(&rt, rt.alloc(), &mut second, &of_second) == Ok(()));
+    assert!(rt; second.poll_join(&of_first) == Ok(Poll::Ready(3)));
+    assert!(rt; second.poll_join(&of_second) == Err(TaskError::Taken));
+    assert!(rt; first.into_pool().is_none());
+    assert!(rt; second.into_pool().is_none());
+}
