@@ -170,7 +170,7 @@ def counted(b):
     if not shutil.which("valgrind"):
         return
     print("\n## Instructions\n\nCommand: `valgrind --tool=callgrind PROGRAM ..`.\n\n| What | Instructions |\n|---|---|")
-    for words in ("spawn", "pair", "sleeps"):
+    for words in ("spawn", "pair", "large", "sleeps"):
         few, many = (b.instructions([b.bench, "turns", words, str(n)]) for n in (1000, 11000))
         print(f"| one of `turns {words} N` | {(many - few) / 10000:.0f} |", flush=True)
     for words in ("chain", "hand"):

@@ -1,6 +1,8 @@
 // Tasks of a runtime that are made, woken and put to sleep: the cost of a turn.
+mod large;
 mod work;
 
+use large::large_pair;
 use mono_blocking::{Job, NoPool};
 use mono_driver::{StepDriver, TimeDriver};
 use mono_inbox::NoUnpark;
@@ -12,9 +14,10 @@ use std::io;
 use work::Work;
 
 /// The words of this workload, and its description.
-pub const HELP: &str = "  turns spawn|pair|sleeps|come N [RUNS]
+pub const HELP: &str = "  turns spawn|pair|large|sleeps|come N [RUNS]
     spawn: a task makes N tasks, each ready at its first turn, and ends after them
     pair: two tasks wake each other, N turns in all
+    large: the same with futures of 4 KB, each in a box
     sleeps: N tasks sleep once, in random order, below 2^32 milliseconds
     come: N tasks come and go, each with a turn, a thousand at a time, while one lives from the start to the end
     N: below 2^20 where N tasks live at once; RUNS: how often it is done, once where it is not said";
@@ -61,11 +64,19 @@ fn answer<R: Host>(rt: &R, alloc: Global, work: Work) -> u64 {
     }
 }
 
+// Runs the work once on a new runtime. Returns its answer, or None if there is no such work.
+fn answer_of<R: Host>(rt: &R, alloc: Global, name: &str, count: u64) -> Option<u64> {
+    if name == "large" {
+        return Some(large_pair(rt, alloc, count));
+    }
+    Some(answer(rt, alloc, chosen(name, count)?))
+}
+
 // Runs the work `runs` times, each on a new runtime. Returns the last answer, or None if there is no such work.
 fn answers<R: Host>(rt: &R, alloc: Global, name: &str, count: u64, runs: u64) -> Option<u64> {
     let mut last = None;
     for _ in 0..runs {
-        last = Some(answer(rt, alloc, chosen(name, count)?));
+        last = Some(answer_of(rt, alloc, name, count)?);
     }
     last
 }
@@ -102,8 +113,9 @@ pub fn run_words<R: Host>(rt: &HostRuntime, host: &R, words: &[String]) -> io::R
     }
 }
 
-/// Runs the work of 300 tasks that sleep.
+/// Runs the work of 300 tasks that sleep, and 300 turns of a pair.
 pub fn run_small<R: Host>(rt: &HostRuntime, host: &R) -> io::Result<()> {
     run(rt, host, "sleeps", 300, 1)?;
+    run(rt, host, "large", 300, 1)?;
     Ok(())
 }
