@@ -1,11 +1,16 @@
 // The task of one core.
+ghost use Rattle.std.specs.Prelude.{IfOk};
+ghost use Rattle.mono_time.specs.Instants.{nanos_of};
+ghost use Rattle.lease_server.specs.Served.{ServesAt};
+
 use crate::batches::{Came, serve_at};
+use crate::desks::Desk;
 use crate::status;
-use lease_core::{Core, Request};
+use lease_core::Request;
 use mono_channel::{Receiver, Sender};
 use mono_rt::{
-    Context, Host, Instant, Poll, RemoteContext, RemoteWaker, Sleep, TaskFuture, TimeContext,
-    UnparkHandle, sleep,
+    Context, Host, Instant, Poll, RemoteContext, RemoteWaker, SharedContext, Sleep, TaskFuture,
+    TimeContext, UnparkHandle, sleep,
 };
 use std::alloc::{AllocError, Global};
 use std::mem;
@@ -29,12 +34,11 @@ impl CoreEnds {
     }
 }
 
-/// A task that performs the requests that it receives, and sends the text of its replies. It answers a status once the
-/// requests have ended, each was answered and all text was sent. Its ends stay with the caller, who closes them.
+/// A task that performs the requests that it receives at the shared desk, and sends the text of the replies. It answers a
+/// status once the requests have ended, each was answered and all text was sent. Its ends stay with the caller, who closes
+/// them.
 #[derive(Drop)]
 pub struct CoreTask<'a> {
-    core: Core,
-    number: u64,
     ends: &'a mut CoreEnds,
     // The text that was not sent yet, if any.
     text: Option<Vec<u8>>,
@@ -43,11 +47,9 @@ pub struct CoreTask<'a> {
 }
 
 impl<'a> CoreTask<'a> {
-    /// Returns the task of this core, with its number.
-    pub fn new(core: Core, number: u64, ends: &'a mut CoreEnds) -> CoreTask<'a> {
+    /// Returns the task of a core.
+    pub fn new(ends: &'a mut CoreEnds) -> CoreTask<'a> {
         CoreTask {
-            core,
-            number,
             ends,
             text: None,
             nap: None,
@@ -56,22 +58,16 @@ impl<'a> CoreTask<'a> {
     }
 
     // Shows the clock, and then performs the next requests. Returns whether there were any.
-    fn step<R: Host>(
+    fn step<C: SharedContext<Desk>, R: Host>(
         &mut self,
         rt: &R,
         alloc: Global,
+        cx: &mut C,
         waker: &RemoteWaker<UnparkHandle>,
-        now: Instant,
-    ) -> Result<bool, AllocError> {
-        let (came, text) = serve_at(
-            &mut self.core,
-            self.number,
-            &mut self.ends.requests,
-            rt,
-            alloc,
-            waker,
-            now,
-        )?;
+    ) -> Result<bool, AllocError>
+        ensures { C.reaches cx.old cx.new }
+    {
+        let (came, text) = serve_shared(cx, &mut self.ends.requests, rt, alloc, waker)?;
         self.has_ended = came == Came::End;
         if text.len() > 0 {
             self.text = Some(text);
@@ -94,26 +90,33 @@ impl<'a> CoreTask<'a> {
 
     // Sends what is left, then performs the next requests and sends their replies. Returns whether the task is to be
     // polled again at once.
-    fn turn<R: Host>(
+    fn turn<C: SharedContext<Desk>, R: Host>(
         &mut self,
         rt: &R,
         alloc: Global,
+        cx: &mut C,
         waker: &RemoteWaker<UnparkHandle>,
-        now: Instant,
-    ) -> Result<bool, AllocError> {
+    ) -> Result<bool, AllocError>
+        ensures { C.reaches cx.old cx.new }
+    {
         if !self.flush(rt, waker)? || self.has_ended {
             return Ok(false);
         }
-        let came = self.step(rt, alloc, waker, now)?;
+        let came = self.step(rt, alloc, cx, waker)?;
         Ok(self.flush(rt, waker)? && came)
     }
 
     // Sleeps for a while if an acquire waits, so that it is answered soon after a session closes. A sleep that cannot be
     // made is made in a later turn.
-    fn rest<C: TimeContext, R: Host>(&mut self, rt: &R, alloc: Global, cx: &mut C)
+    fn rest<C: TimeContext + SharedContext<Desk>, R: Host>(
+        &mut self,
+        rt: &R,
+        alloc: Global,
+        cx: &mut C,
+    )
         ensures { C.reaches cx.old cx.new }
     {
-        if self.core.waiting() == 0 {
+        if cx.shared().waiting() == 0 {
             return;
         }
         match mem::replace(&mut self.nap, None) {
@@ -145,7 +148,7 @@ impl<'a> CoreTask<'a> {
     }
 
     // Ends if all was done, and otherwise rests.
-    fn end_or_rest<C: TimeContext, R: Host>(
+    fn end_or_rest<C: TimeContext + SharedContext<Desk>, R: Host>(
         &mut self,
         rt: &R,
         alloc: Global,
@@ -161,6 +164,22 @@ impl<'a> CoreTask<'a> {
     }
 }
 
+// Shows the shared core's clock the turn's instant, and then performs the next requests of the channel, as `serve_at`
+// does.
+fn serve_shared<C: SharedContext<Desk>, R: Host>(
+    cx: &mut C,
+    requests: &mut Receiver<Vec<Request>, UnparkHandle>,
+    rt: &R,
+    alloc: Global,
+    waker: &RemoteWaker<UnparkHandle>,
+) -> Result<(Came, Vec<u8>), AllocError>
+    ensures reached { C.reaches cx.old cx.new }
+    ensures served { IfOk result (λ r. ServesAt r.0 (C.shared cx.old) (C.nanos cx.old) requests.old (C.shared cx.new) requests.new r.1.items) }
+{
+    let now = Instant::now(cx);
+    serve_at(cx.shared_mut(), requests, rt, alloc, waker, now)
+}
+
 // Queues the running task again after its turn.
 fn again<C: Context>(cx: &mut C)
     ensures { C.reaches cx.old cx.new }
@@ -169,7 +188,8 @@ fn again<C: Context>(cx: &mut C)
     let _ = cx.wake(me);
 }
 
-impl<'a, C: RemoteContext<UnparkHandle> + TimeContext> TaskFuture<C> for CoreTask<'a> {
+impl<'a, C: RemoteContext<UnparkHandle> + TimeContext + SharedContext<Desk>> TaskFuture<C>
+    for CoreTask<'a> {
     type Output = u64;
 
     fn spent(&self) -> bool {
@@ -180,8 +200,7 @@ impl<'a, C: RemoteContext<UnparkHandle> + TimeContext> TaskFuture<C> for CoreTas
         let Ok(waker) = cx.remote_waker() else {
             return Poll::Ready(status::MEMORY);
         };
-        let now = Instant::now(cx);
-        match self.turn(rt, alloc, &waker, now) {
+        match self.turn(rt, alloc, cx, &waker) {
             Err(_) => Poll::Ready(status::MEMORY),
             Ok(true) => {
                 again(cx);

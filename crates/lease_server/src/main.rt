@@ -4,6 +4,8 @@
 mod batches;
 mod clocks;
 mod cores;
+mod desks;
+mod pasts;
 mod router;
 mod servers;
 mod status;

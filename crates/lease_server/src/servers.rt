@@ -1,15 +1,22 @@
 // The threads of the server: a router, a writer, and a runtime for each core.
 ghost use Rattle.std.specs.Prelude.{◌≡◌, IfOk, length};
+ghost use Rattle.lease_core.specs.Cores.{new_core};
+ghost use Rattle.mono_rt.specs.Views.{shared_of};
+ghost use Rattle.lease_server.specs.Desks.{HasRun};
 
 use crate::clocks::CoreClock;
 use crate::cores::{CoreEnds, CoreTask};
+use crate::desks::Desk;
 use crate::router::{Lane, Router, RouterEnds};
 use crate::status::{self, code, worse};
 use crate::words::Settings;
 use crate::writer::Writer;
 use lease_core::Core;
 use mono_channel::{Receiver, Sender, channel};
-use mono_rt::{Host, NoPool, SystemClock, ThreadDriver, TimeDriver, UnparkHandle, start};
+use mono_rt::{
+    Host, NoPool, Runtime, RuntimeBuilder, SystemClock, ThreadDriver, TimeDriver, UnparkHandle,
+    start,
+};
 use mono_text::{Sink, Source};
 use std::alloc::{AllocError, Global};
 use std::thread::{self, JoinHandle};
@@ -20,28 +27,48 @@ const PLACES: usize = 16;
 // The bytes that are read at a time.
 const BLOCK: usize = 65536;
 
-// Runs the task of a core on a runtime of this thread.
-fn run_core<R: Host + Copy>(
+// The runtime of a core. Its tasks share the desk.
+type CoreRuntime<'a, R> = Runtime<
+    CoreTask<'a>,
+    u64,
+    TimeDriver<ThreadDriver<CoreClock<R>>>,
+    NoPool,
+    Desk,
+>;
+
+// Runs the task of a core on a new runtime of this thread. Returns a status, and the runtime: all that its core did is
+// one run of the model from a new core.
+fn run_core<'a, R: Host + Copy>(
     rt: R,
     alloc: Global,
     number: u64,
     settings: &Settings,
-    ends: &mut CoreEnds,
-) -> u64 {
-    let driver = ThreadDriver::new(alloc, CoreClock::new(rt, settings.is_still));
-    match (Core::new(alloc, &settings.sizes), driver) {
-        (Ok(core), Ok(driver)) => {
-            let task = CoreTask::new(core, number, ends);
-            let driver = TimeDriver::new(driver);
-            start::<_, _, _, NoPool, R>(&rt, alloc, driver, task, u64::MAX).unwrap_or(
-                status::MEMORY,
-            )
-        }
-        _ => status::MEMORY,
+    ends: &'a mut CoreEnds,
+) -> Result<(u64, CoreRuntime<'a, R>), AllocError>
+    ensures { IfOk result (λ done. HasRun number (new_core settings.now.sizes) (shared_of done.1)) }
+{
+    let core = Core::new(alloc, &settings.sizes)?;
+    let driver = ThreadDriver::new(alloc, CoreClock::new(rt, settings.is_still))?;
+    let builder: RuntimeBuilder<_, NoPool> = RuntimeBuilder::new(TimeDriver::new(driver));
+    let desk = Desk::new(core, number);
+    let mut runtime: CoreRuntime<'a, R> = builder.build_sharing(alloc, desk)?;
+    let status = runtime
+        .block_on(&rt, alloc, CoreTask::new(ends), u64::MAX)
+        .unwrap_or(status::MEMORY);
+    Ok((status, runtime))
+}
+
+// Returns the status of a run, or that it was out of memory, and drops what it left.
+fn status_of<T: Drop>(run: Result<(u64, T), AllocError>) -> u64
+    ensures { IfOk run (λ left. result ≡ left.0) }
+{
+    match run {
+        Ok((status, _)) => status,
+        Err(_) => status::MEMORY,
     }
 }
 
-// Runs a core and closes its ends, also if its runtime is out of memory.
+// Runs a core and closes its ends, also if it is out of memory.
 fn core_thread<R: Host + Copy>(
     rt: R,
     alloc: Global,
@@ -50,7 +77,7 @@ fn core_thread<R: Host + Copy>(
     ends: CoreEnds,
 ) -> u64 {
     let mut ends = ends;
-    let status = run_core(rt, alloc, number, &settings, &mut ends);
+    let status = status_of(run_core(rt, alloc, number, &settings, &mut ends));
     ends.close(&rt);
     status
 }
