@@ -1,6 +1,5 @@
 // The task of one core.
 ghost use Rattle.std.specs.Prelude.{IfOk};
-ghost use Rattle.mono_time.specs.Instants.{nanos_of};
 ghost use Rattle.lease_server.specs.Served.{ServesAt};
 
 use crate::batches::{Came, serve_at};

@@ -9,7 +9,7 @@ use mono_rt::{Instant, List};
 /// An event of a core.
 #[derive(Clone, Copy, Drop)]
 pub enum Asked {
-    /// The clock showed so many nanoseconds.
+    /// The clock showed this many nanoseconds.
     Time(u128),
     /// A request came.
     Call(Request),
