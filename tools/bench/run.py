@@ -95,7 +95,7 @@ def replays(b):
         ours = [b.program, "replay", "attached", *LIMITS]
         rows.append((kind, ours, [b.path("replay"), "replay", "attached", *LIMITS], events))
         small = b.path(f"{kind}.small")
-        b.once([b.path("replay"), "generate", kind, str(CAP // b.by // 3), "3"], None, small)
+        b.once([b.path("replay"), "generate", kind, str(CAP // b.by // 5), "3"], None, small)
         b.once(ours, small, reports)
         inputs.join(small, reports, journal)
         checks.append((kind, [b.program, "check", "attached", *LIMITS], journal, ours, small))
