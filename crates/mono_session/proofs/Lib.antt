@@ -6,6 +6,7 @@ pub mod ChainLemmas
 pub mod NodeLemmas
 pub mod QueueLemmas
 pub mod EntryLemmas
+pub mod LeaveLemmas
 pub mod SessionSleepLemmas
 pub mod CloseListLemmas
 pub mod NextCloseLemmas

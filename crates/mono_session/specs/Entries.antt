@@ -1,7 +1,7 @@
 -- The entries of all queues, by key and by session.
-use Rattle.std.specs.Prelude.{◌≡◌, ◌<◌, ℕ, ◌==◌, if◌then◌else◌, List, [], ◌∷◌, length, nat_eq}
+use Rattle.std.specs.Prelude.{◌≡◌, ◌<◌, ℕ, not, ◌==◌, if◌then◌else◌, List, [], ◌∷◌, length, filter, Option, Some, None, nat_eq}
 use Rattle.std.specs.HashMap.{get, spare, hash_map_len}
-use Rattle.mono_session.specs.Keeper.{Entry, queue_in}
+use Rattle.mono_session.specs.Keeper.{Entry, queue_in, is_entry}
 use Rattle.mono_session.specs.Links.{pair_eq}
 use Rattle.mono_session.specs.Nodes.{queue_place, key_place, place_by}
 use Rattle.mono_session.specs.Queues.{Chains, Keeps}
@@ -11,6 +11,11 @@ use Rattle.mono_session.specs.declared.entries.Entries.{Entries}
 abbrev pub keys_in : List Entry → ℕ → List ℕ
 keys_in [] s = []
 keys_in (entry ∷ entries) s = if entry.session == s then entry.key ∷ keys_in entries s else keys_in entries s
+
+-- The session has left the queue of this key, if any.
+abbrev pub without_first : ℕ → Option ℕ → List Entry → List Entry
+without_first s None entries = entries
+without_first s (Some key) entries = filter (λ entry. not (is_entry s key entry)) entries
 
 -- The queue of each key, and the keys of each session.
 abbrev pub queue_chains : Entries → Chains

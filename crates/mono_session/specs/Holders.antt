@@ -1,6 +1,6 @@
--- The sessions that hold a key, those that wait for it, and the first key of a session.
-use Rattle.std.specs.Prelude.{ℕ, Bool, false, not, ◌==◌, ◌&&◌, filter, Option, Some, None}
-use Rattle.mono_session.specs.Keeper.{Keeper, with_entries, is_entry, stands_in, first_of, owner_answer}
+-- The sessions that hold a key, those that wait for it, and the keys that sessions leave.
+use Rattle.std.specs.Prelude.{ℕ, Bool, false, not, ◌==◌, ◌&&◌, List, [], ◌∷◌, ◌++◌, filter, map, Option, Some, None}
+use Rattle.mono_session.specs.Keeper.{Keeper, with_entries, without_session, is_entry, stands_in, first_of, owner_answer}
 use Rattle.mono_session.specs.Entries.{keys_in}
 
 -- Whether the number is this one.
@@ -24,3 +24,9 @@ first_key keeper s = first_of (keys_in keeper.entries s)
 abbrev pub without_key : Keeper → ℕ → Option ℕ → Keeper
 without_key keeper s None = keeper
 without_key keeper s (Some key) = with_entries keeper (filter (λ entry. not (is_entry s key entry)) keeper.entries)
+
+-- Each session with each key whose queue it leaves, in the order in which it entered them, if the sessions are closed one
+-- after the other.
+abbrev pub leaves : Keeper → List ℕ → List (ℕ × ℕ)
+leaves keeper [] = []
+leaves keeper (s ∷ sessions) = map (λ key. (s, key)) (keys_in keeper.entries s) ++ leaves (without_session keeper s) sessions

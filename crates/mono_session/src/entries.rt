@@ -1,8 +1,8 @@
 // The entries of sessions in the queues of keys.
-ghost use Rattle.std.specs.Prelude.{◌≡◌, ◌+◌, ◌++◌, ◌∷◌, [], List, true, false, not, ◌==◌, filter, length, OnOk, if◌then◌else◌};
+ghost use Rattle.std.specs.Prelude.{◌≡◌, ◌≤◌, ◌+◌, ◌++◌, ◌∷◌, [], List, true, false, not, ◌==◌, filter, map, length, OnOk, if◌then◌else◌, is_some, vec_len, vec_capacity};
 ghost use Rattle.mono_session.specs.Keeper.{Entry, queue_in, first_of, stands_in, is_entry};
 ghost use Rattle.mono_session.specs.Queues.{Closed, Alike};
-ghost use Rattle.mono_session.specs.Entries.{Entered, HasPlace, keys_in, queue_chains, key_chains, entry_count};
+ghost use Rattle.mono_session.specs.Entries.{Entered, HasPlace, keys_in, without_first, queue_chains, key_chains, entry_count};
 
 use crate::nodes::{Node, Nodes, link_after, link_after_key, link_before, link_before_key};
 use crate::places::{Ends, Place, close_ends, put_last};
@@ -46,7 +46,8 @@ impl Entries {
 
     /// Returns how many entries there are.
     pub fn len(&self) -> usize
-        ensures { (entries : List Entry) → Entered self.now entries → result ≡ length entries }
+        ensures len { (entries : List Entry) → Entered self.now entries → result ≡ length entries }
+        ensures count { result ≡ entry_count self.now }
     {
         self.nodes.len()
     }
@@ -129,14 +130,38 @@ impl Entries {
         true
     }
 
+    /// Removes a session from the queue in which it has been for the longest time, and returns the key of that queue.
+    pub fn leave_first(&mut self, session: u64) -> Option<u64>
+        ensures key { (entries : List Entry) → Entered self.old entries → result ≡ first_of (keys_in entries session) }
+        ensures kept { (entries : List Entry) → Entered self.old entries → Entered self.new (without_first session result entries) }
+        ensures count { entry_count self.new + (if is_some result then 1 else 0) ≡ entry_count self.old }
+    {
+        let key = self.first_key(session)?;
+        if !self.leave(session, key) {
+            return None;
+        }
+        Some(key)
+    }
+
     /// Removes a session from all queues in which it is.
     pub fn leave_all(&mut self, session: u64)
-        ensures { (entries : List Entry) → Entered self.old entries → Entered self.new (filter (λ entry. not (entry.session == session)) entries) }
+        ensures kept { (entries : List Entry) → Entered self.old entries → Entered self.new (filter (λ entry. not (entry.session == session)) entries) }
+        ensures fewer { entry_count self.new ≤ entry_count self.old }
     {
-        while let Some(key) = self.first_key(session) {
-            if !self.leave(session, key) {
-                return;
-            }
+        while self.leave_first(session).is_some() {}
+    }
+
+    /// Removes a session from all queues in which it is. Appends it to `left` with the key of each, in the order in which
+    /// it entered them. There is room for all entries.
+    pub fn leave_each(&mut self, session: u64, left: &mut Vec<(u64, u64)>)
+        requires { vec_len left.old + entry_count self.old ≤ vec_capacity left.old }
+        ensures kept { (entries : List Entry) → Entered self.old entries → Entered self.new (filter (λ entry. not (entry.session == session)) entries) }
+        ensures listed { (entries : List Entry) → Entered self.old entries → left.new.items ≡ left.old.items ++ map (λ key. (session, key)) (keys_in entries session) }
+        ensures room { vec_len left.new + entry_count self.new ≤ vec_capacity left.new }
+        ensures capacity { vec_capacity left.new ≡ vec_capacity left.old }
+    {
+        while let Some(key) = self.leave_first(session) {
+            left.push_reserved((session, key));
         }
     }
 }

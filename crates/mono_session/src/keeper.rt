@@ -7,7 +7,7 @@ ghost use Rattle.mono_time.specs.Sleeps.{with_removed_sleep};
 ghost use Rattle.mono_time.specs.Timers.{sleeps_of, elapsed_tick};
 ghost use Rattle.mono_wheel.specs.Credit.{most_takes};
 ghost use Rattle.mono_session.specs.Expirations.{NextClose, IsInTime, IsAhead};
-ghost use Rattle.mono_session.specs.Holders.{holds, waits, first_key, without_key};
+ghost use Rattle.mono_session.specs.Holders.{holds, waits, first_key, without_key, leaves};
 ghost use Rattle.mono_session.specs.Keeper.{Keeper, Session, no_sessions, is_open, open_answer, opened, beat_answer, beaten, close_answer, closed, acquire_answer, acquired, release_answer, released, owner_answer, with_greatest, without_session};
 ghost use Rattle.mono_model.specs.Memory.{OrLacksMemory};
 ghost use Rattle.mono_session.specs.Steps.{closing_value, greatest_at, without_all};
@@ -134,6 +134,7 @@ impl Sessions {
         ensures sleeps { sleeps_of self.new.timers ≡ with_removed_sleep (sleeps_of self.old.timers) session }
         ensures beside { (k : Keeper) → Beside self.old k → Beside self.new (without_session k session) }
         ensures count { open_count self.new + (if result then 1 else 0) ≡ open_count self.old }
+        ensures fewer { entries_len self.new ≤ entries_len self.old }
         ensures elapsed { elapsed_tick self.new.timers ≡ elapsed_tick self.old.timers }
         ensures raise { steps_left self.new ≤ steps_left self.old }
     {
@@ -195,11 +196,7 @@ impl Sessions {
         ensures len { entries_len self.new + (if is_some result then 1 else 0) ≡ entries_len self.old }
         ensures raise { steps_left self.new ≡ steps_left self.old }
     {
-        let key = self.entries.first_key(session)?;
-        if !self.entries.leave(session, key) {
-            return None;
-        }
-        Some(key)
+        self.entries.leave_first(session)
     }
 
     /// Returns the holder of a key: the session that has been in its queue for the longest time. Returns `None` if and
@@ -273,6 +270,35 @@ impl Sessions {
         }
     }
 
+    /// Returns how many entries there are in all queues.
+    pub fn entries_len(&self) -> usize
+        ensures { result ≡ entries_len self.now }
+    {
+        self.entries.len()
+    }
+
+    /// Shows the clock an instant, as [`Sessions::clock`] does. Appends to `left` each closed session with each key whose
+    /// queue it left: the sessions in the order of `closed`, and the keys in the order in which the session entered
+    /// their queues. There is room for all entries (`step`).
+    pub fn clock_leaving<L: Ledger>(
+        &mut self,
+        now: Instant,
+        closed: &mut Vec<u64>,
+        left: &mut Vec<(u64, u64)>,
+        steps: &mut Steps<L>,
+    )
+        requires closed { vec_len closed.old + open_count self.old ≤ vec_capacity closed.old }
+        requires left { vec_len left.old + entries_len self.old ≤ vec_capacity left.old }
+        ensures step { (k : Keeper) → StandsFor self.old k → (due : List ℕ) × (closed.new.items ≡ closed.old.items ++ due) × (left.new.items ≡ left.old.items ++ leaves k due) × ListsDue closing_value k.sessions (greatest_at k (nanos_of now)) due × StandsFor self.new (without_all (with_greatest k (greatest_at k (nanos_of now))) due) }
+        ensures steps { steps.new + steps_left self.new ≤ steps.old + steps_left self.old }
+        ensures capacity { vec_capacity left.new ≡ vec_capacity left.old }
+    {
+        while let Some((session, _)) = self.timers.clock(now, steps) {
+            self.entries.leave_each(session, left);
+            self.close_due(session, closed);
+        }
+    }
+
     // Closes and lists a session whose time has come, if it was open.
     fn close_due(&mut self, session: u64, closed: &mut Vec<u64>)
         requires { vec_len closed.old + open_count self.old ≤ vec_capacity closed.old }
@@ -280,6 +306,7 @@ impl Sessions {
         ensures listed { (k : Keeper) → Beside self.old k → is_open k session ≡ true → closed.new.items ≡ closed.old.items ++ session ∷ [] }
         ensures sleeps { sleeps_of self.new.timers ≡ with_removed_sleep (sleeps_of self.old.timers) session }
         ensures beside { (k : Keeper) → Beside self.old k → Beside self.new (without_session k session) }
+        ensures fewer { entries_len self.new ≤ entries_len self.old }
         ensures raise { steps_left self.new ≤ steps_left self.old }
     {
         if self.forget(session) {
