@@ -4,6 +4,7 @@ use Rattle.std.specs.Prelude.{is_some}
 use Rattle.mono_model.specs.Valid.{times, once_if}
 use Rattle.mono_session.specs.Keeper.{Keeper}
 use Rattle.mono_session.specs.Entries.{keys_in}
+use Rattle.mono_session.specs.Holders.{leaves}
 use Rattle.mono_session.specs.Answers as lease_answer
 use Rattle.mono_actor.specs.Answers as mail_answer
 use Rattle.mono_actor.specs.Actors.{Actors}
@@ -13,7 +14,7 @@ use Rattle.lease_core.specs.declared.requests.Call.TheVariants as call
 use Rattle.lease_core.specs.declared.requests.Outcome.{Outcome}
 use Rattle.lease_core.specs.declared.requests.Outcome.TheVariants as outcome
 use Rattle.lease_core.specs.declared.requests.Reply.{Reply}
-use Rattle.lease_core.specs.Waits.{left_in, end_reply, ended, still, ended_by, still_by, input_end, close_end, FreesBy}
+use Rattle.lease_core.specs.Waits.{left_in, closed_end, end_reply, ended, still, ended_by, still_by, input_end}
 use Rattle.lease_core.specs.Cores.{CoreState, at_once}
 use Rattle.lease_core.specs.Steps.{Handles, HeldOrWaits, Frees, TurnEnds, Event, Advance, Handle, Finish, Step}
 use Rattle.lease_core.specs.Laws.{asked, answered, waited, AnsweredOnce, NoneWaitAtTheEnd}
@@ -41,7 +42,7 @@ ends_count : (e : Waiter → Option Outcome) (tick : ℕ) (ws : List Waiter) (n 
 ends_count e tick [] n = refl
 ends_count e tick (w ∷ ws) n = omega (arith, one_ends (e w) tick w (ended e tick ws) (still e ws) n, ends_count e tick ws n)
 
-key_ends_count : (e : ℕ → Waiter → Option Outcome) (tick : ℕ) (keys : List ℕ) (ws : List Waiter) (n : ℕ) → answers (ended_by e tick keys ws) n + waits (still_by e keys ws) n ≡ waits ws n
+key_ends_count : {A : Type 0} (e : A → Waiter → Option Outcome) (tick : ℕ) (keys : List A) (ws : List Waiter) (n : ℕ) → answers (ended_by e tick keys ws) n + waits (still_by e keys ws) n ≡ waits ws n
 key_ends_count e tick [] ws n = omega arith
 key_ends_count e tick (key ∷ keys) ws n =
     omega (arith, answers_on (ended (e key) tick ws) (ended_by e tick keys (still (e key) ws)) n, ends_count (e key) tick ws n, key_ends_count e tick keys (still (e key) ws) n)
@@ -101,17 +102,13 @@ handles_count n number key call.Spawn old new replies h = at_once_counts n numbe
 handles_count n number key (call.Send from to message) old new replies h = at_once_counts n number h.told old new replies h.replies_are (ap (λ (c : CoreState). c.waiting) h.becomes)
 handles_count n number key call.Receive old new replies h = turn_counts n number old new h.answer h.mid replies h.rest
 
-freed_counts : (n : ℕ) (gone : List ℕ) (k : Keeper) (tick : ℕ) (ws left : List Waiter) (replies : List Reply) → FreesBy gone k tick ws [] replies left
-    → answers replies n + waits left n ≡ waits ws n
-freed_counts n [] k tick ws left replies f = rw (f.0, f.1) (omega arith)
-freed_counts n (s ∷ gone) k tick ws left replies f = rw (f.0, f.1) (ends_count (close_end (s ∷ gone) k) tick ws n)
-
 all_end : (tick : ℕ) (ws : List Waiter) (n : ℕ) → answers (ended input_end tick ws) n ≡ waits ws n
 all_end tick [] n = refl
 all_end tick (w ∷ ws) n = omega (arith, all_end tick ws n)
 
 step_counts : (n : ℕ) (e : Event) (old new : CoreState) (replies : List Reply) → Step old e replies new → Counts n old (times (asked (e ∷ [])) n) replies new
-step_counts n (Advance m) old new replies h = omega (arith, freed_counts n h.closed new.keeper new.keeper.greatest old.waiting new.waiting replies h.frees)
+step_counts n (Advance m) old new replies h =
+    rw (h.replies_are, h.waiting) (omega (arith, key_ends_count (closed_end new.keeper) new.keeper.greatest (leaves old.keeper h.closed) old.waiting n))
 step_counts n (Handle r) old new replies h = omega (arith, handles_count n r.number r.key r.call old new replies h)
 step_counts n Finish old new replies h = rw (h.replies_are, ap (λ (c : CoreState). c.waiting) h.becomes) (omega (arith, all_end old.keeper.greatest old.waiting n))
 

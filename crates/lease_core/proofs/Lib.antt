@@ -1,7 +1,7 @@
 pub mod TickLemmas
 pub mod PlaceLemmas
 pub mod ReleaseLemmas
-pub mod CloseLemmas
+pub mod EndLemmas
 pub mod LeaveLemmas
 pub mod LeaseLemmas
 pub mod UndoLemmas

@@ -1,14 +1,13 @@
 -- The table of the waits, one wait after another.
-use Rattle.std.proofs.Common.{◌≡◌, ◌<◌, ◌≤◌, ◌+◌, ◌-◌, ◌^◌, ℕ, zero, suc, Bool, true, false, not, nat_lt, ◌&&◌, List, [], ◌∷◌, ◌++◌, take, take_all, filter, length, slice_get, Option, Some, None, is_some, refl, sym, ap, ◌∙◌, arith, append_assoc, append-nil}
+use Rattle.std.proofs.Common.{◌≡◌, ◌<◌, ◌≤◌, ◌+◌, ◌-◌, ◌^◌, ℕ, zero, suc, Bool, true, false, nat_lt, ◌&&◌, List, [], ◌∷◌, ◌++◌, take, take_all, length, slice_get, Option, Some, None, is_some, refl, sym, ap, ◌∙◌, arith, append_assoc, append-nil}
 use Rattle.std.specs.Map.{lookup, lookup_entry}
-use Rattle.std.proofs.lemmas.List.Elements.{filter-append}
 use Rattle.lru.specs.LruCache.{LruCache, lru_cache, put_entries}
 use Rattle.mono_session.specs.Links.{pair_eq}
 use Rattle.lease_core.specs.declared.ends.Waiter.{Waiter}
 use Rattle.lease_core.specs.declared.places.Place.{Place}
 use Rattle.lease_core.specs.declared.requests.Outcome.{Outcome}
-use Rattle.lease_core.specs.Waits.{end_reply, ended, still}
-use Rattle.lease_core.specs.Places.{Entry, waiter_of, waiters, descends, goes_on}
+use Rattle.lease_core.specs.Waits.{end_reply, ended}
+use Rattle.lease_core.specs.Places.{Entry, waiter_of, waiters, descends}
 
 -- ---- lists
 
@@ -48,14 +47,6 @@ pub oldest_first : (es : List Entry) (e : Entry) → waiters (es ++ e ∷ []) �
 oldest_first [] e = refl
 oldest_first (x ∷ es) e = ap (λ ws. ws ++ waiter_of x ∷ []) (oldest_first es e)
 
--- The waits that go on.
-pub kept_waiters : (f : Waiter → Option Outcome) (es : List Entry) → waiters (filter (goes_on f) es) ≡ still f (waiters es)
-kept_waiters f [] = refl
-kept_waiters f (e ∷ es) = (elim (goes_on f e) as (λ b. goes_on f e ≡ b → waiters (filter (goes_on f) (e ∷ es)) ≡ still f (waiters es ++ waiter_of e ∷ [])) [
-  | true ↦ λ t. rw t (ap (λ ws. ws ++ waiter_of e ∷ []) (kept_waiters f es) ∙ sym (filter-append (λ w. not (is_some (f w))) (waiters es) (waiter_of e ∷ []) ∙ rw t refl))
-  | false ↦ λ t. rw t (kept_waiters f es ∙ sym (append-nil (still f (waiters es))) ∙ sym (filter-append (λ w. not (is_some (f w))) (waiters es) (waiter_of e ∷ []) ∙ rw t refl))
-]) refl
-
 -- ---- tickets
 
 pub descends_more : (m n : ℕ) (es : List Entry) → m < n → descends m es ≡ true → descends n es ≡ true
@@ -64,6 +55,14 @@ descends_more m n (e ∷ es) lt is =
     let parts = both (nat_lt e.1.ticket m) (descends e.1.ticket es) is in
     let less : nat_lt e.1.ticket n ≡ true = grind (arith, parts.0, lt) in
     rw (less, parts.1)
+
+-- There are at most as many waits as tickets were given.
+descends_length : (n : ℕ) (es : List Entry) → descends n es ≡ true → length es ≤ n
+descends_length n [] is = omega arith
+descends_length n (e ∷ es) is =
+    let parts = both (nat_lt e.1.ticket n) (descends e.1.ticket es) is in
+    let less : e.1.ticket < n = grind (arith, parts.0) in
+    omega (arith, less, descends_length e.1.ticket es parts.1)
 
 -- The entries of a table that a call left like this.
 pub entries_are : (places : LruCache (ℕ × ℕ) Place) (es : List Entry) (cap : ℕ) → places ≡ lru_cache es cap → places.entries ≡ es
@@ -93,10 +92,10 @@ put_first : (places : LruCache (ℕ × ℕ) Place) (k : ℕ × ℕ) (place : Pla
 put_first places k place none fits = rw (none_entry (pair_eq k) places.entries none) (ap (λ es. (k, place) ∷ es) (take_all (places.cap - 1) places.entries fits))
 
 -- The entries after a put of a key that was not there.
-pub put_new : (old new : LruCache (ℕ × ℕ) Place) (k : ℕ × ℕ) (place : Place) (found : Bool) → found ≡ is_some (lookup (pair_eq k) old.entries) → found ≡ false → length old.entries < 2 ^ 63 → old.cap ≡ 2 ^ 64 - 1
+pub put_new : (old new : LruCache (ℕ × ℕ) Place) (n : ℕ) (k : ℕ × ℕ) (place : Place) (found : Bool) → found ≡ is_some (lookup (pair_eq k) old.entries) → found ≡ false → descends n old.entries ≡ true → n + 1 < 2 ^ 64 → old.cap ≡ 2 ^ 64 - 1
     → new ≡ lru_cache (put_entries pair_eq old k place) old.cap → new.entries ≡ (k, place) ∷ old.entries
-put_new old new k place found shows none few cap is =
-    entries_are new _ _ is ∙ put_first old k place (sym shows ∙ none) (omega (arith, few, cap))
+put_new old new n k place found shows none order few cap is =
+    entries_are new _ _ is ∙ put_first old k place (sym shows ∙ none) (omega (arith, descends_length n old.entries order, few, cap))
 
 pub order_put : (n next : ℕ) (e : Entry) (es : List Entry) → e.1.ticket ≡ n → next ≡ n + 1 → descends n es ≡ true → descends next (e ∷ es) ≡ true
 order_put n next e es ticket more order =

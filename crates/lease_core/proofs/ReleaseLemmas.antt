@@ -189,9 +189,6 @@ length_removed p tick told (e ∷ es) = (elim (p e.0) as (λ b. p e.0 ≡ b → 
   | false ↦ λ t. rw t (omega (arith, length_removed p tick told es))
 ]) refl
 
-pub length_removed_le : (p : ℕ × ℕ → Bool) (es : List Entry) → length (remove_entry p es) ≤ length es
-length_removed_le p es = omega (arith, length_removed p 0 outcome.Left es)
-
 pub order_removed : (p : ℕ × ℕ → Bool) (n : ℕ) (es : List Entry) → descends n es ≡ true → descends n (remove_entry p es) ≡ true
 order_removed p n [] order = refl
 order_removed p n (e ∷ es) order =

@@ -6,6 +6,7 @@ use Rattle.mono_model.specs.Ticks.{max_nanos, down}
 use Rattle.mono_model.specs.Due.{ListsDue}
 use Rattle.mono_session.specs.Keeper.{Keeper, with_greatest}
 use Rattle.mono_session.specs.Steps.{closing_value, greatest_at, without_all}
+use Rattle.mono_session.specs.Holders.{leaves}
 use Rattle.mono_session.specs.Refinement.{StandsFor}
 use Rattle.mono_limit.specs.Limiter.{Limits, bucket_answer, with_bucket, TakeAnswers}
 use Rattle.mono_limit.specs.Limits.{limits_of, ListsInto}
@@ -31,7 +32,7 @@ use Rattle.lease_core.specs.declared.requests.Reply.{Reply}
 use Rattle.lease_core.specs.Waiting.{waits_of}
 use Rattle.lease_core.specs.Cores.{CoreState, with_leases, with_limits, with_actors}
 use Rattle.lease_core.specs.Waits as waits
-use Rattle.lease_core.specs.Waits.{input_end}
+use Rattle.lease_core.specs.Waits.{input_end, closed_end}
 use Rattle.lease_core.specs.Tells.{LimitTells, MailTells}
 use Rattle.lease_core.specs.Steps.{LimitStep, MailStep, Takes, Mails, Receives, Advances, Finishes}
 use Rattle.lease_core.specs.Refinement.{Refines}
@@ -182,32 +183,32 @@ receive_ran old new mid number me got how begins is answers ends same limits rep
 
 -- ---- the clock, and the end of the input
 
-pub clocked : (old new : Core) (n tick : ℕ) (gone shown empty listed before : List ℕ) (out : List Reply) → n ≤ max_nanos → tick ≡ down n
-    → empty ≡ [] → out ≡ []
-    → ((k : Keeper) → StandsFor old.sessions k → (due : List ℕ) × (gone ≡ empty ++ due) × ListsDue closing_value k.sessions (greatest_at k n) due × StandsFor new.sessions (without_all (with_greatest k (greatest_at k n)) due))
+pub clocked : (old new : Core) (n tick : ℕ) (gone empty listed before : List ℕ) (left shown no_pairs : List (ℕ × ℕ)) (out : List Reply) → n ≤ max_nanos → tick ≡ down n
+    → empty ≡ [] → no_pairs ≡ [] → out ≡ []
+    → ((k : Keeper) → StandsFor old.sessions k → (due : List ℕ) × (gone ≡ empty ++ due) × (left ≡ no_pairs ++ leaves k due) × ListsDue closing_value k.sessions (greatest_at k n) due × StandsFor new.sessions (without_all (with_greatest k (greatest_at k n)) due))
     → ListsInto (limits_of old.limiter) n before listed (limits_of new.limiter)
-    → shown ≡ gone → ((k : Keeper) → StandsFor new.sessions k → waits.FreesBy shown k new.tick (waits_of old.waiting) out new.replies.items (waits_of new.waiting))
+    → shown ≡ left → ((k : Keeper) → StandsFor new.sessions k → new.replies.items ≡ out ++ waits.ended_by (closed_end k) new.tick shown (waits_of old.waiting))
+    → ((k : Keeper) → StandsFor new.sessions k → waits_of new.waiting ≡ waits.still_by (closed_end k) shown (waits_of old.waiting))
     → new.tick ≡ max old.tick tick → actors_of new.actors ≡ actors_of old.actors
     → (s : CoreState) → Refines old s → (t : CoreState) × Advances s n new.replies.items t × Refines new t
-clocked old new n tick gone shown empty listed before out fits down_is none_yet no_out closes fills show frees tick_is mails s r =
+clocked old new n tick gone empty listed before left shown no_pairs out fits down_is none_yet no_pairs_yet no_out closes fills show replies kept tick_is mails s r =
     let c = closes s.keeper r.leases in
     let due = c.0 in
     let keeper = without_all (with_greatest s.keeper (greatest_at s.keeper n)) due in
-    let f = frees keeper c.3 in
-    let gone_is : shown ≡ due = show ∙ c.1 ∙ ap (λ xs. xs ++ due) none_yet in
+    let pairs = leaves s.keeper due in
+    let pairs_are : shown ≡ pairs = show ∙ c.2 ∙ ap (λ ps. ps ++ pairs) no_pairs_yet in
     let greatest : keeper.greatest ≡ greatest_at s.keeper n = all_closed_tick (with_greatest s.keeper (greatest_at s.keeper n)) due in
     let ticks : new.tick ≡ keeper.greatest = tick_is ∙ ap (λ m. max m tick) r.tick ∙ ap (λ m. max s.keeper.greatest m) down_is ∙ sym greatest in
-    let by_gone : waits.FreesBy due keeper new.tick (waits_of old.waiting) out new.replies.items (waits_of new.waiting) = subst (λ xs. waits.FreesBy xs keeper new.tick (waits_of old.waiting) out new.replies.items (waits_of new.waiting)) gone_is f in
-    let by_tick : waits.FreesBy due keeper keeper.greatest (waits_of old.waiting) out new.replies.items (waits_of new.waiting) =
-    subst (λ m. waits.FreesBy due keeper m (waits_of old.waiting) out new.replies.items (waits_of new.waiting)) ticks by_gone in
-    let by_waits : waits.FreesBy due keeper keeper.greatest s.waiting out new.replies.items (waits_of new.waiting) =
-    subst (λ ws. waits.FreesBy due keeper keeper.greatest ws out new.replies.items (waits_of new.waiting)) r.waiting by_tick in
-    let by_out : waits.FreesBy due keeper keeper.greatest s.waiting [] new.replies.items (waits_of new.waiting) =
-    subst (λ xs. waits.FreesBy due keeper keeper.greatest s.waiting xs new.replies.items (waits_of new.waiting)) no_out by_waits in
+    let told : new.replies.items ≡ waits.ended_by (closed_end keeper) keeper.greatest pairs s.waiting =
+    replies keeper c.4 ∙ ap (λ rs. rs ++ waits.ended_by (closed_end keeper) new.tick shown (waits_of old.waiting)) no_out
+    ∙ ap (λ m. waits.ended_by (closed_end keeper) m shown (waits_of old.waiting)) ticks ∙ ap (λ ps. waits.ended_by (closed_end keeper) keeper.greatest ps (waits_of old.waiting)) pairs_are
+    ∙ ap (waits.ended_by (closed_end keeper) keeper.greatest pairs) r.waiting in
+    let stay : waits_of new.waiting ≡ waits.still_by (closed_end keeper) pairs s.waiting =
+    kept keeper c.4 ∙ ap (λ ps. waits.still_by (closed_end keeper) ps (waits_of old.waiting)) pairs_are ∙ ap (waits.still_by (closed_end keeper) pairs) r.waiting in
     let l : ListsInto s.limits n before listed (limits_of new.limiter) = subst (λ x. ListsInto x n before listed (limits_of new.limiter)) r.limits fills in (
       record { keeper = keeper; limits = limits_of new.limiter; actors = s.actors; waiting = waits_of new.waiting },
-      record { closed = due; due = l.0; leases = (fits, c.2, refl); buckets = l.2; frees = by_out; mails = refl },
-      record { leases = c.3; limits = refl; actors = mails ∙ r.actors; waiting = refl; tick = ticks; rests = ap (λ (a : Actors ℕ). a.turn) mails ∙ r.rests },
+      record { closed = due; due = l.0; leases = (fits, c.3, refl); buckets = l.2; replies_are = told; waiting = stay; mails = refl },
+      record { leases = c.4; limits = refl; actors = mails ∙ r.actors; waiting = refl; tick = ticks; rests = ap (λ (a : Actors ℕ). a.turn) mails ∙ r.rests },
     )
 
 pub finished : (old new : Core) (out : List Reply) → out ≡ [] → new.replies.items ≡ out ++ waits.ended input_end old.tick (waits_of old.waiting) → waits_of new.waiting ≡ []

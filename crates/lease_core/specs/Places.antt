@@ -1,7 +1,5 @@
 -- The table of the acquires that wait: by key and session, the last that came first.
-use Rattle.std.specs.Prelude.{ℕ, Bool, true, false, not, nat_eq, nat_lt, ◌&&◌, if◌then◌else◌, List, [], ◌∷◌, ◌++◌, Option, Some, None, is_some}
-use Rattle.std.specs.Map.{remove_entry}
-use Rattle.mono_session.specs.Links.{pair_eq}
+use Rattle.std.specs.Prelude.{ℕ, Bool, true, false, nat_eq, nat_lt, ◌&&◌, if◌then◌else◌, List, [], ◌∷◌, ◌++◌, Option, Some, None}
 use Rattle.lease_core.specs.declared.ends.Waiter.{Waiter}
 use Rattle.lease_core.specs.declared.places.Place.{Place}
 use Rattle.lease_core.specs.declared.requests.Outcome.{Outcome}
@@ -49,21 +47,3 @@ abbrev pub in_order : ℕ → Outcome → Option Place → Option Place → List
 in_order tick own left held =
     if came_later left held then place_reply tick outcome.Held held ++ place_reply tick own left
     else place_reply tick own left ++ place_reply tick outcome.Held held
-
--- Whether a wait goes on.
-abbrev pub goes_on : (Waiter → Option Outcome) → Entry → Bool
-goes_on end_of e = not (is_some (end_of (waiter_of e)))
-
--- The key of a wait, if it has ended, and the keys of all that have, in the order in which they came.
-abbrev pub end_key : ℕ × ℕ → Option Outcome → List (ℕ × ℕ)
-end_key k None = []
-end_key k (Some told) = k ∷ []
-
-abbrev pub ended_keys : (Waiter → Option Outcome) → List Entry → List (ℕ × ℕ)
-ended_keys end_of [] = []
-ended_keys end_of (e ∷ es) = ended_keys end_of es ++ end_key e.0 (end_of (waiter_of e))
-
--- The table without the waits with these keys.
-abbrev pub without : List (ℕ × ℕ) → List Entry → List Entry
-without [] es = es
-without (k ∷ keys) es = without keys (remove_entry (pair_eq k) es)

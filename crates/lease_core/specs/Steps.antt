@@ -3,6 +3,7 @@
 use Rattle.std.specs.Prelude.{◌≡◌, ◌⊎◌, ⊤, ℕ, false, List, [], ◌∷◌, ◌++◌, Option, IsOk}
 use Rattle.mono_session.specs.Keeper.{Keeper, open_answer}
 use Rattle.mono_session.specs.Entries.{keys_in}
+use Rattle.mono_session.specs.Holders.{leaves}
 use Rattle.mono_session.specs.Calls as lease
 use Rattle.mono_session.specs.Answers as lease_answer
 use Rattle.mono_session.specs.Steps as lease_step
@@ -24,7 +25,7 @@ use Rattle.lease_core.specs.declared.requests.Request.{Request}
 use Rattle.lease_core.specs.declared.requests.Outcome.{Outcome}
 use Rattle.lease_core.specs.declared.requests.Outcome.TheVariants as outcome
 use Rattle.lease_core.specs.declared.requests.Reply.{Reply}
-use Rattle.lease_core.specs.Waits.{left_in, input_end, ended, ended_by, still_by, FreesBy}
+use Rattle.lease_core.specs.Waits.{left_in, closed_end, input_end, ended, ended_by, still_by}
 use Rattle.lease_core.specs.Cores.{CoreState, with_leases, with_limits, with_actors, at_once}
 use Rattle.lease_core.specs.Tells.{LeaseTells, LimitTells, MailTells}
 
@@ -152,13 +153,15 @@ Handles old number key call.Spawn replies new = Mails old number mail.Spawn repl
 Handles old number key (call.Send from to message) replies new = Mails old number (mail.Send from to message) replies new
 Handles old number key call.Receive replies new = Receives old number replies new
 
--- The clocks of the leases and of the buckets show n nanoseconds.
+-- The clocks of the leases and of the buckets show n nanoseconds. The closed sessions leave the queues of their keys, one
+-- session after another, each in the order in which it entered them. The waits end key by key.
 pub record Advances (old : CoreState) (n : ℕ) (replies : List Reply) (new : CoreState) : Type 0 where
   pub closed : List ℕ
   pub due : List ℕ
   pub leases : lease_step.ClockStep old.keeper n (lease_answer.Closed closed) new.keeper
   pub buckets : limit_step.ClockStep old.limits n (limit_answer.Due due) new.limits
-  pub frees : FreesBy closed new.keeper new.keeper.greatest old.waiting [] replies new.waiting
+  pub replies_are : replies ≡ ended_by (closed_end new.keeper) new.keeper.greatest (leaves old.keeper closed) old.waiting
+  pub waiting : new.waiting ≡ still_by (closed_end new.keeper) (leaves old.keeper closed) old.waiting
   pub mails : new.actors ≡ old.actors
 
 -- The input ends: each wait ends.

@@ -1,6 +1,5 @@
 -- The acquires that wait for their locks, and the ends of their waits.
-use Rattle.std.specs.Prelude.{◌≡◌, ℕ, Bool, false, ◌==◌, not, if◌then◌else◌, List, [], ◌∷◌, ◌++◌, filter, Option, Some, None, is_some}
-use Rattle.std.specs.List.{list_any}
+use Rattle.std.specs.Prelude.{ℕ, Bool, false, ◌==◌, not, if◌then◌else◌, List, [], ◌∷◌, ◌++◌, filter, Option, Some, None, is_some}
 use Rattle.mono_session.specs.Keeper.{Keeper, owner_answer}
 use Rattle.lease_core.specs.declared.ends.Waiter.{Waiter}
 use Rattle.lease_core.specs.declared.requests.Outcome.{Outcome}
@@ -24,12 +23,9 @@ left_end s own key holder w =
 abbrev pub left_in : ℕ → Outcome → Keeper → ℕ → Waiter → Option Outcome
 left_in s own keeper key = left_end s own key (owner_answer keeper key)
 
--- The end of a wait, if any, after these sessions were closed.
-abbrev pub close_end : List ℕ → Keeper → Waiter → Option Outcome
-close_end gone keeper w =
-    if list_any (λ s. s == w.session) gone then Some outcome.Closed
-    else if is_first w.session (owner_answer keeper w.key) then Some outcome.Held
-    else None
+-- The end of a wait, if any, after a session was closed and left the queue of a key.
+abbrev pub closed_end : Keeper → ℕ × ℕ → Waiter → Option Outcome
+closed_end keeper p = left_in p.0 outcome.Closed keeper p.1
 
 -- The end of each wait when the input ends.
 abbrev pub input_end : Waiter → Option Outcome
@@ -48,17 +44,12 @@ ended end_of tick (w ∷ waiting) = end_reply tick w (end_of w) ++ ended end_of 
 abbrev pub still : (Waiter → Option Outcome) → List Waiter → List Waiter
 still end_of waiting = filter (λ w. not (is_some (end_of w))) waiting
 
--- The same for one key after another. A wait that ended for a key has ended for the keys that follow.
-abbrev pub ended_by : (ℕ → Waiter → Option Outcome) → ℕ → List ℕ → List Waiter → List Reply
+-- The same for one key after another, or one session with a key after another. A wait that ended for one has ended for
+-- those that follow.
+abbrev pub ended_by : {A : Type 0} → (A → Waiter → Option Outcome) → ℕ → List A → List Waiter → List Reply
 ended_by end_at tick [] waiting = []
-ended_by end_at tick (key ∷ keys) waiting = ended (end_at key) tick waiting ++ ended_by end_at tick keys (still (end_at key) waiting)
+ended_by end_at tick (x ∷ xs) waiting = ended (end_at x) tick waiting ++ ended_by end_at tick xs (still (end_at x) waiting)
 
-abbrev pub still_by : (ℕ → Waiter → Option Outcome) → List ℕ → List Waiter → List Waiter
+abbrev pub still_by : {A : Type 0} → (A → Waiter → Option Outcome) → List A → List Waiter → List Waiter
 still_by end_at [] waiting = waiting
-still_by end_at (key ∷ keys) waiting = still_by end_at keys (still (end_at key) waiting)
-
--- The waits that end after these sessions were closed are answered. Nothing ends if none was closed.
-abbrev pub FreesBy : List ℕ → Keeper → ℕ → List Waiter → List Reply → List Reply → List Waiter → Type 0
-FreesBy [] keeper tick waiting out replies left = (replies ≡ out) × (left ≡ waiting)
-FreesBy (s ∷ gone) keeper tick waiting out replies left =
-    (replies ≡ out ++ ended (close_end (s ∷ gone) keeper) tick waiting) × (left ≡ still (close_end (s ∷ gone) keeper) waiting)
+still_by end_at (x ∷ xs) waiting = still_by end_at xs (still (end_at x) waiting)

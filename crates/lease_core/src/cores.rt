@@ -25,6 +25,8 @@ pub struct Core {
     pub(crate) replies: Vec<Reply>,
     // The sessions that the last clock step closed.
     pub(crate) closed: Vec<u64>,
+    // Each of them with each key whose queue it left.
+    pub(crate) left: Vec<(u64, u64)>,
     // The retries that are due in a clock step: none, since a core makes none.
     pub(crate) due: Vec<u64>,
     // The greatest tick of the clock so far.

@@ -1,11 +1,8 @@
 // The acquires that wait for their locks, and the ends of their waits.
 ghost use Rattle.std.specs.Prelude.{◌≡◌, ◌≤◌, ◌+◌, ◌++◌, vec_len, vec_capacity};
-ghost use Rattle.mono_session.specs.Keeper.{Keeper};
-ghost use Rattle.mono_session.specs.Refinement.{StandsFor};
-ghost use Rattle.lease_core.specs.Waits.{is_first, close_end, input_end, end_reply};
+ghost use Rattle.lease_core.specs.Waits.{input_end, end_reply};
 
 use crate::requests::{Outcome, Reply};
-use mono_session::Sessions;
 
 /// An acquire that waits until its session holds the lock of its key.
 #[derive(Clone, Copy, Debug, PartialEq, Eq, Drop)]
@@ -18,29 +15,6 @@ pub struct Waiter {
     pub key: u64,
     /// The core's tick when the request came.
     pub arrived: u64,
-}
-
-// Returns whether the session is the first.
-fn is_first(session: u64, first: Option<u64>) -> bool
-    ensures { result ≡ is_first session first }
-{
-    match first {
-        None => false,
-        Some(first) => first == session,
-    }
-}
-
-/// Returns the end of a wait, if any, after these sessions were closed.
-pub fn close_end(gone: &[u64], sessions: &Sessions, waiter: &Waiter) -> Option<Outcome>
-    ensures { (k : Keeper) → StandsFor sessions.now k → result ≡ close_end gone.now k waiter.now }
-{
-    if gone.contains(&waiter.session) {
-        return Some(Outcome::Closed);
-    }
-    if is_first(waiter.session, sessions.owner(waiter.key)) {
-        return Some(Outcome::Held);
-    }
-    None
 }
 
 /// Returns the end of a wait when the input ends.

@@ -29,6 +29,7 @@ impl Core {
             waiting,
             replies,
             closed: Vec::new(alloc),
+            left: Vec::new(alloc),
             due: Vec::new(alloc),
             tick: 0,
         })

@@ -1,15 +1,12 @@
 // The table of the acquires that wait: by key and session, the last that came first.
 ghost use Rattle.std.specs.Prelude.{◌≡◌, ◌≤◌, ◌<◌, ◌+◌, ◌++◌, vec_len, vec_capacity, length, []};
-ghost use Rattle.mono_session.specs.Keeper.{Keeper};
-ghost use Rattle.mono_session.specs.Refinement.{StandsFor};
 ghost use Rattle.lease_core.specs.declared.requests.Outcome.TheVariants as end;
-ghost use Rattle.lease_core.specs.Waits.{ended, close_end, input_end};
-ghost use Rattle.lease_core.specs.Places.{waiter_of, waiters, place_reply, came_later, in_order, end_key, ended_keys, without};
+ghost use Rattle.lease_core.specs.Waits.{ended, input_end};
+ghost use Rattle.lease_core.specs.Places.{waiter_of, waiters, place_reply, came_later, in_order};
 
-use crate::ends::{Waiter, close_end, input_end, put_end};
+use crate::ends::{Waiter, input_end, put_end};
 use crate::requests::{Outcome, Reply};
 use lru::LruCache;
-use mono_session::Sessions;
 
 /// What the table has of a wait, beside its key and its session.
 #[derive(Clone, Copy, Debug, PartialEq, Eq, Drop)]
@@ -87,54 +84,6 @@ pub fn put_both(
     } else {
         put_place(left, own, tick, replies);
         put_place(held, Outcome::Held, tick, replies);
-    }
-}
-
-// Appends the key of a wait, if it has ended. There is room for it.
-fn put_key(key: (u64, u64), end: Option<Outcome>, keys: &mut Vec<(u64, u64)>)
-    requires { vec_len keys.old + 1 ≤ vec_capacity keys.old }
-    ensures items { keys.new.items ≡ keys.old.items ++ end_key key end }
-    ensures len { vec_len keys.new ≤ vec_len keys.old + 1 }
-    ensures capacity { vec_capacity keys.new ≡ vec_capacity keys.old }
-{
-    if end.is_some() {
-        keys.push_reserved(key);
-    }
-}
-
-/// Appends the replies of the waits that end since these sessions were closed, and their keys, in the order in which
-/// they came. There is room for a reply and a key of each.
-pub fn put_closed(
-    places: &Places,
-    gone: &[u64],
-    sessions: &Sessions,
-    tick: u64,
-    replies: &mut Vec<Reply>,
-    keys: &mut Vec<(u64, u64)>,
-)
-    requires replies { vec_len replies.old + length places.now.entries ≤ vec_capacity replies.old }
-    requires keys { vec_len keys.old + length places.now.entries ≤ vec_capacity keys.old }
-    ensures items { (k : Keeper) → StandsFor sessions.now k → replies.new.items ≡ replies.old.items ++ ended (close_end gone.now k) tick (waiters places.now.entries) }
-    ensures ended { (k : Keeper) → StandsFor sessions.now k → keys.new.items ≡ keys.old.items ++ ended_keys (close_end gone.now k) places.now.entries }
-    ensures capacity { vec_capacity replies.new ≡ vec_capacity replies.old }
-    ensures key_capacity { vec_capacity keys.new ≡ vec_capacity keys.old }
-{
-    let mut rest = places.iter();
-    while let Some((key, place)) = rest.next_back() {
-        let waiter = waiter_of(*key, *place);
-        let end = close_end(gone, sessions, &waiter);
-        put_end(&waiter, end, tick, replies);
-        put_key(*key, end, keys);
-    }
-}
-
-/// Removes the waits with these keys.
-pub fn remove_each(places: &mut Places, keys: &[(u64, u64)])
-    ensures entries { places.new.entries ≡ without keys.now places.old.entries }
-    ensures cap { places.new.cap ≡ places.old.cap }
-{
-    for key in keys {
-        let _ = places.pop(key);
     }
 }
 

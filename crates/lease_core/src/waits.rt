@@ -1,36 +1,29 @@
 // The acquires that wait, in the order in which they came.
-ghost use Rattle.std.specs.Prelude.{◌≡◌, ◌≤◌, ◌^◌, ◌-◌, true, length, vec_capacity};
+ghost use Rattle.std.specs.Prelude.{◌≡◌, ◌^◌, ◌-◌, true};
 ghost use Rattle.lease_core.specs.Places.{descends};
 
 use crate::ends::Waiter;
-use crate::places::{Place, Places, end_each, put_both, put_closed, remove_each};
+use crate::places::{Place, Places, end_each, put_both};
 use crate::requests::{Outcome, Reply};
 use lru::LruCache;
-use mono_session::Sessions;
 use std::alloc::{AllocError, Global};
 
 /// The acquires that wait, in the order in which they came. No session waits twice for a key.
 ///
-/// A call takes a few look-ups for any number of waits. Only a clock step that closes sessions and the end of the input
-/// look at all of them.
+/// A call takes a few look-ups for any number of waits. Only the end of the input looks at all of them.
 #[derive(Drop)]
 pub struct Waits {
     places: Places,
     // The ticket of the next wait.
     next: u64,
-    // The keys of the waits that the last clock step ended.
-    ended: Vec<(u64, u64)>,
     ghost order: { descends next places.entries ≡ true },
     ghost unbounded: { places.cap ≡ 2 ^ 64 - 1 },
-    ghost room: { length places.entries ≤ vec_capacity ended },
 }
 
 impl Waits {
-    ghost use Rattle.std.specs.Prelude.{◌<◌, ◌+◌, ◌++◌, ◌∷◌, [], IfOk, OnOk, OnErr, vec_len};
+    ghost use Rattle.std.specs.Prelude.{◌≤◌, ◌<◌, ◌+◌, ◌++◌, ◌∷◌, [], IfOk, OnOk, OnErr, length, vec_len, vec_capacity};
     ghost use Rattle.std.specs.Map.{lookup, remove_entry};
-    ghost use Rattle.mono_session.specs.Keeper.{Keeper};
-    ghost use Rattle.mono_session.specs.Refinement.{StandsFor};
-    ghost use Rattle.lease_core.specs.Waits.{left_end, input_end, ended, still, FreesBy};
+    ghost use Rattle.lease_core.specs.Waits.{left_end, input_end, ended, still};
     ghost use Rattle.lease_core.specs.Places.{is_of, is_held};
     ghost use Rattle.lease_core.specs.Waiting.{waits_of};
 
@@ -39,11 +32,7 @@ impl Waits {
         ensures { IfOk result (λ waits. waits_of waits ≡ []) }
     {
         let places = LruCache::unbounded(alloc)?;
-        Ok(Waits {
-            places,
-            next: 0,
-            ended: Vec::new(alloc),
-        })
+        Ok(Waits { places, next: 0 })
     }
 
     /// Returns how many waits there are.
@@ -67,8 +56,6 @@ impl Waits {
         if self.places.contains(&key) {
             return Err(AllocError);
         }
-        self.ended.clear();
-        self.ended.reserve(self.places.len() + 1)?;
         let place = Place {
             number: waiter.number,
             arrived: waiter.arrived,
@@ -127,28 +114,6 @@ impl Waits {
         let left = self.take(key, session);
         let held = self.take_held(key, holder);
         put_both(left, own, held, tick, replies);
-    }
-
-    /// Ends the waits that end since these sessions were closed, and appends their replies. Nothing changes if none was
-    /// closed. There is room for a reply to each wait.
-    pub fn end_closed(
-        &mut self,
-        gone: &[u64],
-        sessions: &Sessions,
-        tick: u64,
-        replies: &mut Vec<Reply>,
-    )
-        requires { vec_len replies.old + length (waits_of self.old) ≤ vec_capacity replies.old }
-        ensures frees { (k : Keeper) → StandsFor sessions.now k → FreesBy gone.now k tick (waits_of self.old) replies.old.items replies.new.items (waits_of self.new) }
-        ensures len { length (waits_of self.new) ≤ length (waits_of self.old) }
-        ensures capacity { vec_capacity replies.new ≡ vec_capacity replies.old }
-    {
-        if gone.is_empty() || self.places.len() == 0 {
-            return;
-        }
-        self.ended.clear();
-        put_closed(&self.places, gone, sessions, tick, replies, &mut self.ended);
-        remove_each(&mut self.places, self.ended.as_slice());
     }
 
     /// Ends all waits, and appends their replies. There is room for them.

@@ -1,5 +1,6 @@
-// One core: a close of a session that is in several queues.
+// One core: a close of a session that is in several queues, and a clock step that closes several sessions.
 use lease_core::{Call, Core, Outcome, Reply, Request, Sizes};
+use mono_time::Instant;
 use std::alloc::Global;
 
 const SIZES: Sizes = Sizes {
@@ -16,15 +17,20 @@ fn ask(alloc: Global, core: &mut Core, number: u64, key: u64, call: Call) -> usi
     core.replies().len()
 }
 
-// Whether the reply at this place is this answer to the request of this number.
-fn answers(core: &Core, at: usize, number: u64, outcome: Outcome) -> bool {
+// Whether the reply at this place is this answer to the request of this number, given at this tick.
+fn answers_at(core: &Core, at: usize, number: u64, tick: u64, outcome: Outcome) -> bool {
     core.replies().get(at).copied()
         == Some(Reply {
             number,
             arrived: 0,
-            tick: 0,
+            tick,
             outcome,
         })
+}
+
+// The same at tick 0.
+fn answers(core: &Core, at: usize, number: u64, outcome: Outcome) -> bool {
+    answers_at(core, at, number, 0, outcome)
 }
 
 // Opens three sessions. Session 0 holds keys 10 and 20. Session 1 holds key 30, and then waits for 10 and 20. Session 2
@@ -62,5 +68,49 @@ fn a_close_answers_key_by_key(rt: HostRuntime) {
     assert_eq!(rt; ask(alloc, &mut core, 13, 30, Call::Close(2)), 3);
     assert!(rt; answers(&core, 1, 7, Outcome::Closed));
     assert!(rt; answers(&core, 2, 12, Outcome::Held));
+    assert_eq!(rt; core.waiting(), 0);
+}
+
+// Opens sessions 0, 1 and 2, of which the first two close after these milliseconds. Session 0 holds key 10, session 1
+// waits for it, and session 2 waits behind it, before that also behind session 1 for key 20.
+fn fill_timed(alloc: Global, core: &mut Core, holder: u64, waiter: u64) {
+    let _ = ask(alloc, core, 1, 10, Call::Open(holder));
+    let _ = ask(alloc, core, 1, 10, Call::Open(waiter));
+    let _ = ask(alloc, core, 1, 10, Call::Open(1000));
+    let _ = ask(alloc, core, 2, 10, Call::Acquire(0));
+    let _ = ask(alloc, core, 3, 10, Call::Acquire(1));
+    let _ = ask(alloc, core, 4, 20, Call::Acquire(1));
+    let _ = ask(alloc, core, 5, 20, Call::Acquire(2));
+    let _ = ask(alloc, core, 6, 10, Call::Acquire(2));
+}
+
+// Session 1 closes first: its wait ends, then that behind it, and then the one for its next key.
+#[test]
+fn a_clock_step_answers_a_closed_waiter_before_the_next(rt: HostRuntime) {
+    let alloc = rt.alloc();
+    let mut core = Core::new(alloc, &SIZES).expect(&rt, "memory");
+    fill_timed(alloc, &mut core, 20, 10);
+    assert_eq!(rt; core.waiting(), 3);
+    let now = Instant::from_nanos(30000000).expect(&rt, "in range");
+    core.advance(now).expect(&rt, "memory");
+    assert_eq!(rt; core.replies().len(), 3);
+    assert!(rt; answers_at(&core, 0, 3, 30, Outcome::Closed));
+    assert!(rt; answers_at(&core, 1, 6, 30, Outcome::Held));
+    assert!(rt; answers_at(&core, 2, 5, 30, Outcome::Held));
+    assert_eq!(rt; core.waiting(), 0);
+}
+
+// Session 0 closes first: the one that holds its key at the end is answered before session 1.
+#[test]
+fn a_clock_step_answers_in_the_order_of_the_closes(rt: HostRuntime) {
+    let alloc = rt.alloc();
+    let mut core = Core::new(alloc, &SIZES).expect(&rt, "memory");
+    fill_timed(alloc, &mut core, 10, 20);
+    let now = Instant::from_nanos(30000000).expect(&rt, "in range");
+    core.advance(now).expect(&rt, "memory");
+    assert_eq!(rt; core.replies().len(), 3);
+    assert!(rt; answers_at(&core, 0, 6, 30, Outcome::Held));
+    assert!(rt; answers_at(&core, 1, 3, 30, Outcome::Closed));
+    assert!(rt; answers_at(&core, 2, 5, 30, Outcome::Held));
     assert_eq!(rt; core.waiting(), 0);
 }

@@ -95,12 +95,12 @@ fn a_lease_that_ends_frees_the_next(rt: HostRuntime) {
     let mut core = a_core(alloc).expect(&rt, "memory");
     let _ = ask(alloc, &mut core, 1, 7, Call::Open(10));
     let _ = ask(alloc, &mut core, 2, 7, Call::Open(20));
-    let _ = ask(alloc, &mut core, 3, 7, Call::Open(10));
+    let _ = ask(alloc, &mut core, 3, 7, Call::Open(9));
     let _ = ask(alloc, &mut core, 4, 7, Call::Acquire(0));
     let _ = ask(alloc, &mut core, 5, 7, Call::Acquire(2));
     let _ = ask(alloc, &mut core, 6, 7, Call::Acquire(1));
     assert_eq!(rt; core.waiting(), 2);
-    pass(&mut core, 9);
+    pass(&mut core, 8);
     assert_eq!(rt; core.replies().len(), 0);
     pass(&mut core, 10);
     assert_eq!(rt; core.replies().len(), 2);

@@ -25,10 +25,10 @@ fn ask(alloc: Global, core: &mut Core, number: u64, key: u64, call: Call) -> usi
     core.replies().len()
 }
 
-// Opens sessions 0 to 300. The last stays open for longer.
+// Opens sessions 0 to 300, each for longer than the one before.
 fn open_all(alloc: Global, core: &mut Core) {
-    for _ in 0..LAST {
-        let _ = ask(alloc, core, 1, 0, Call::Open(10));
+    for session in 0..LAST {
+        let _ = ask(alloc, core, 1, 0, Call::Open(session.saturating_add(10)));
     }
     let _ = ask(alloc, core, 1, 0, Call::Open(1000));
 }
@@ -92,7 +92,7 @@ fn each_release_answers_its_own_waiter(rt: HostRuntime) {
 }
 
 #[test]
-fn a_clock_step_answers_in_the_order_of_the_waits(rt: HostRuntime) {
+fn a_clock_step_answers_in_the_order_of_the_sessions(rt: HostRuntime) {
     let alloc = rt.alloc();
     let mut core = Core::new(alloc, &SIZES).expect(&rt, "memory");
     open_all(alloc, &mut core);
@@ -101,14 +101,14 @@ fn a_clock_step_answers_in_the_order_of_the_waits(rt: HostRuntime) {
     assert_eq!(rt; ask(alloc, &mut core, 4, 150, Call::Release(LAST)), 2);
     assert!(rt; answers(&core, 1, 1150, 0, Outcome::Left));
     assert_eq!(rt; core.waiting(), 299);
-    let now = Instant::from_nanos(10000000).expect(&rt, "in range");
+    let now = Instant::from_nanos(400000000).expect(&rt, "in range");
     core.advance(now).expect(&rt, "memory");
     assert_eq!(rt; core.replies().len(), 299);
-    for at in 0..149u64 {
-        assert!(rt; answers(&core, at as usize, 1299 - at, 10, Outcome::Held));
+    for at in 0..150u64 {
+        assert!(rt; answers(&core, at as usize, at + 1000, 400, Outcome::Held));
     }
-    assert!(rt; answers(&core, 149, 1149, 10, Outcome::Held));
-    assert!(rt; answers(&core, 298, 1000, 10, Outcome::Held));
+    assert!(rt; answers(&core, 150, 1151, 400, Outcome::Held));
+    assert!(rt; answers(&core, 298, 1299, 400, Outcome::Held));
     assert_eq!(rt; core.waiting(), 0);
 }
 

@@ -1,7 +1,7 @@
 use Rattle.std.proofs.Common.{ap, sym, ◌-◌, ◌∙◌, length, take, ◌++◌, append-nil, arith}
 use Rattle.lease_core.specs.Waits.{input_end, ended}
 use Rattle.lease_core.specs.Places.{waiters}
-use Rattle.lease_core.proofs.CloseLemmas.{end_on, fewer}
+use Rattle.lease_core.proofs.EndLemmas.{end_on, fewer}
 use Rattle.lease_core.proofs.PlaceLemmas.{entries_are, cap_is, nothing_left}
 use Rattle.lease_core.proofs.places.end_each.Goals as goal
 
