@@ -1,15 +1,15 @@
 -- A session leaves all queues, one key after another.
-use Rattle.std.proofs.Common.{◌≡◌, ℕ, Bool, true, false, cond, not, ◌==◌, ◌&&◌, List, [], ◌∷◌, ◌++◌, filter, Option, Some, None, Result, Ok, refl, sym, ap, subst, ◌∙◌, append_assoc, append-nil}
+use Rattle.std.proofs.Common.{◌≡◌, ℕ, true, cond, List, ◌∷◌, ◌++◌, Option, Some, None, Result, Ok, refl, sym, ap, subst, ◌∙◌, append_assoc, append-nil}
 use Rattle.std.specs.Prelude.{⊤, is_some}
 use Rattle.mono_model.specs.Table.{value_at, without}
-use Rattle.mono_session.specs.Keeper.{Entry, Keeper, Session, with_entries, with_sessions, is_entry, is_open, queue_in, first_of, of_open, if_granted, close_answer, closed, without_session}
+use Rattle.mono_session.specs.Keeper.{Entry, Keeper, Session, with_entries, with_sessions, is_open, queue_in, first_of, of_open, if_granted, close_answer, closed, without_session}
 use Rattle.mono_session.specs.Entries.{keys_in}
-use Rattle.mono_session.specs.Links.{is_in, IsOnce}
 use Rattle.mono_session.specs.Laws.{leave}
 use Rattle.mono_session.specs.Refinement.{StandsFor}
 use Rattle.mono_session.specs.declared.error.SessionError.{SessionError}
 use Rattle.mono_session.proofs.CallHistoryLemmas.{queue_released, queue_closed, eq-tells}
-use Rattle.mono_session.proofs.EntryLemmas.{stands-keys, none_released, others_stay, all_stay}
+use Rattle.mono_session.proofs.EntryLemmas.{others_stay, all_stay}
+use Rattle.mono_session.proofs.LeaveLemmas.{others, without_one, keys_after, no_keys, others_twice}
 use Rattle.lease_core.specs.declared.cores.Core.{Core}
 use Rattle.lease_core.specs.declared.ends.Waiter.{Waiter}
 use Rattle.lease_core.specs.declared.requests.Outcome.{Outcome}
@@ -21,40 +21,10 @@ use Rattle.lease_core.specs.Refinement.{without_keys, LeavesQueues}
 
 -- ---- the entries that stay
 
--- Those of other sessions, and those without one entry.
-abbrev pub others : ℕ → List Entry → List Entry
-others s es = filter (λ entry. not (entry.session == s)) es
-
-abbrev pub without_one : ℕ → ℕ → List Entry → List Entry
-without_one s key es = filter (λ entry. not (is_entry s key entry)) es
-
-none_leaves : (es : List Entry) (s key : ℕ) → is_in (keys_in es s) key ≡ false → without_one s key es ≡ es
-none_leaves es s key out = none_released es s key (stands-keys es s key ∙ out)
-
--- The keys of a session that left the queue of the first of them.
-keys_after : (es : List Entry) (s key : ℕ) → IsOnce (keys_in es s) → Some key ≡ first_of (keys_in es s) → keys_in es s ≡ key ∷ keys_in (without_one s key es) s
-keys_after [] s key once first = cc first
-keys_after (e ∷ es) s key once first = by (e.session == s) refl once first (keys_after es s key)
-  where
-    by : (b : Bool) → (e.session == s) ≡ b → IsOnce (cond b (e.key ∷ keys_in es s) (keys_in es s)) → Some key ≡ first_of (cond b (e.key ∷ keys_in es s) (keys_in es s))
-        → (IsOnce (keys_in es s) → Some key ≡ first_of (keys_in es s) → keys_in es s ≡ key ∷ keys_in (without_one s key es) s)
-        → cond b (e.key ∷ keys_in es s) (keys_in es s) ≡ key ∷ keys_in (cond (not (b && (e.key == key))) (e ∷ without_one s key es) (without_one s key es)) s
-    by true own once first rest =
-        let same : key ≡ e.key = cc first in
-        let stay : without_one s key es ≡ es = none_leaves es s key (ap (is_in (keys_in es s)) same ∙ once.0) in
-        ap (λ x. x ∷ keys_in es s) (sym same) ∙ ap (λ l. key ∷ keys_in l s) (sym stay)
-        ∙ sym (ap (λ t. key ∷ keys_in (cond (not t) (e ∷ without_one s key es) (without_one s key es)) s) (eq-tells e.key key (sym same)))
-    by false other once first rest =
-        rest once first ∙ sym (ap (λ t. key ∷ cond t (e.key ∷ keys_in (without_one s key es) s) (keys_in (without_one s key es) s)) other)
-
 -- A queue that the session left is the same as if it had left all queues.
 queue_after : (es : List Entry) (s key : ℕ) → queue_in (without_one s key es) key ≡ queue_in (others s es) key
 queue_after es s key =
     queue_released es s key key ∙ ap (λ b. cond b (leave s (queue_in es key)) (queue_in es key)) (eq-tells key key refl) ∙ sym (queue_closed es s key)
-
-no_keys : (keys : List ℕ) → None ≡ first_of keys → keys ≡ []
-no_keys [] none = refl
-no_keys (key ∷ keys) none = cc none
 
 -- ---- the waits that have ended so far, and those that are left to end
 
@@ -114,14 +84,6 @@ leaving_ends old now new k s left before none stands replies waits =
     }
 
 -- ---- a close after that
-
-others_twice : (s : ℕ) (es : List Entry) → others s (others s es) ≡ others s es
-others_twice s [] = refl
-others_twice s (e ∷ es) = by (e.session == s) refl (others_twice s es)
-  where
-    by : (b : Bool) → (e.session == s) ≡ b → others s (others s es) ≡ others s es → others s (cond (not b) (e ∷ others s es) (others s es)) ≡ cond (not b) (e ∷ others s es) (others s es)
-    by true own rest = rest
-    by false other rest = ap (λ t. cond (not t) (e ∷ others s (others s es)) (others s (others s es))) other ∙ ap (λ l. e ∷ l) rest
 
 -- The answer to a close.
 abbrev pub answer_for : Option Session → Result ⊤ SessionError

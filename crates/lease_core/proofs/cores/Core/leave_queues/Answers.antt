@@ -1,6 +1,7 @@
 use Rattle.std.proofs.Common.{refl, arith}
 use Rattle.mono_session.specs.Keeper.{with_entries}
-use Rattle.lease_core.proofs.LeaveLemmas.{without_one, leaving_goes_on, leaving_ends}
+use Rattle.mono_session.proofs.LeaveLemmas.{without_one}
+use Rattle.lease_core.proofs.LeaveLemmas.{leaving_goes_on, leaving_ends}
 use Rattle.lease_core.proofs.cores.Core.leave_queues.Goals as goal
 
 pub loop-key-preserved : goal.loop-key-preserved
