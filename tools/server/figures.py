@@ -4,15 +4,14 @@
 usage: tools/server/figures.py SERVER PEER [LINES]
 
 SERVER is bin/lease_server, PEER what build_peer.sh built. It prints requests a second with 1, 2 and 4 cores (the best of
-three runs, from a file to a file), latencies at half of that load with 2 cores, and the memory of 1,000,000 leases.
+eight runs, from a file to a file), latencies at half of that load with 2 cores (latency.rs), and the memory of 1,000,000
+leases.
 """
-import bisect
 import os
 import pathlib
 import subprocess
 import sys
 import tempfile
-import threading
 import time
 
 from load import Load
@@ -32,38 +31,10 @@ def run(program, cores, lines, folder):
     return seconds, usage.ru_maxrss
 
 
-def latencies(program, cores, text, rate):
-    """The delays in milliseconds from the write of a line to the read of its reply, at a rate of lines a second."""
-    child = subprocess.Popen([program, str(cores), *SIZES], stdin=subprocess.PIPE, stdout=subprocess.PIPE)
-    lines = text.split(b"\n")[:-1]
-    starts, times, delays = [], [], []
-
-    def read():
-        tail = b""
-        while block := os.read(child.stdout.fileno(), 1 << 20):
-            now = time.monotonic()
-            *whole, tail = (tail + block).split(b"\n")
-            for line in whole[::7]:
-                number = int(line[:line.index(b" ")])
-                delays.append((now - times[bisect.bisect_right(starts, number) - 1]) * 1000)
-
-    reader = threading.Thread(target=read)
-    reader.start()
-    begin, done = time.monotonic(), 0
-    while done < len(lines):
-        due = min(len(lines), int((time.monotonic() - begin) * rate))
-        if due > done:
-            starts.append(done + 1)
-            times.append(time.monotonic())
-            os.write(child.stdin.fileno(), b"\n".join(lines[done:due]) + b"\n")
-            done = due
-        else:
-            time.sleep(0.0005)
-    child.stdin.close()
-    reader.join()
-    child.wait()
-    delays.sort()
-    return [delays[int(len(delays) * part)] for part in (0.5, 0.99, 0.999)]
+def latencies(driver, program, cores, lines, rate):
+    """What the driver prints of the delays at a rate of lines a second."""
+    words = [driver, program, str(rate), str(lines), str(cores), *SIZES]
+    return subprocess.run(words, stdout=subprocess.PIPE, text=True, check=True).stdout.strip()
 
 
 def memory(program, folder):
@@ -81,7 +52,7 @@ def memory(program, folder):
 
 def main():
     programs = sys.argv[1:3]
-    count = int(sys.argv[3]) if len(sys.argv) > 3 else 1000000
+    count = int(sys.argv[3]) if len(sys.argv) > 3 else 3000000
     with tempfile.TemporaryDirectory() as name:
         folder = pathlib.Path(name)
         held = {program: memory(program, folder) for program in programs}
@@ -90,16 +61,20 @@ def main():
             load = Load(1, cores, 2000)
             text = "".join(load.line() + "\n" for _ in range(count)).encode()
             (folder / "lines").write_bytes(text)
-            for program in programs * 3:
+            for program in programs * 8:
                 seconds, _ = run(program, cores, folder / "lines", folder)
                 best[program, cores] = max(best.get((program, cores), 0), count / seconds)
             for program in programs:
                 print(f"{pathlib.Path(program).name}, {cores} cores: {best[program, cores]:,.0f} requests a second", flush=True)
             if cores == 2:
-                half = text[:text.index(b"\n", len(text) // 2) + 1]
+                (folder / "lines").rename(folder / "two")
+        driver = folder / "latency"
+        source = pathlib.Path(__file__).with_name("latency.rs")
+        subprocess.run(["rustc", "--edition", "2021", "-C", "opt-level=3", source, "-o", driver], check=True)
         for program in programs:
-            median, most, rare = latencies(program, 2, half, min(best[program, 2] / 2, 200000))
-            print(f"{pathlib.Path(program).name}: latency {median:.2f} ms median, {most:.2f} ms 99th, {rare:.2f} ms 99.9th", flush=True)
+            rate = best[program, 2] / 2
+            told = latencies(driver, program, 2, folder / "two", rate)
+            print(f"{pathlib.Path(program).name}: latency at {rate:,.0f} a second: {told}", flush=True)
         for program in programs:
             print(f"{pathlib.Path(program).name}: {held[program]:,.0f} MiB for 1,000,000 leases", flush=True)
 
