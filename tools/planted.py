@@ -22,6 +22,7 @@ not tested.
 import argparse
 import collections
 import os
+import re
 import shutil
 import subprocess
 import sys
@@ -41,6 +42,8 @@ LIMIT = 600
 RUN_LIMIT = 300
 # How many edits one check takes at most.
 MOST = 8
+# A statement of specs/ that is proved there, and that the prover rejects, with those that rest on it.
+REJECTED = re.compile(r"depend on `([^`]+)`, which was (?:rejected|not admitted)")
 KINDS = ("clause", "proof's text", "limit", "test", "let through", "GOT THROUGH", "no verdict", "bad edit")
 
 
@@ -215,6 +218,9 @@ def is_open(said):
 def unended(told, edit):
     """The verdict on an edit whose check says nothing of functions."""
     line = told.unread(edit.texts) or next((line for line in told.text.split("\n") if "error" in line), "")
+    rejected = REJECTED.search(line)
+    if rejected and not any(rejected[1] in text for pair in edit.pairs for text in pair):
+        return "clause", line
     if told.status in (1, 2) and line:
         return "bad edit", line
     return "no verdict", f"its check ended with status {told.status}: {told.text.strip().rpartition(chr(10))[2]}"
