@@ -5,4 +5,5 @@ pub mod JobAnswers
 pub mod JobTable
 pub mod JobSpawns
 pub mod Calls
+pub mod Handles
 pub mod Runs

@@ -2,6 +2,7 @@
 ghost use Rattle.std.specs.Prelude.{◌≡◌, false};
 ghost use Rattle.mono_model.specs.Poll.{call_of};
 ghost use Rattle.mono_blocking.specs.Calls.{PollsOutput, DropsHandle, Finds};
+ghost use Rattle.mono_blocking.specs.Handles.{JobGives};
 
 use crate::contexts::JobContext;
 use crate::jobs::{JobHandle, PollJob};
@@ -45,6 +46,9 @@ impl<C: JobContext> TaskFuture<C> for JobHandle {
 
     // the answer and the jobs are those of a poll by the running task, and the handle stays
     ghost polls = { λ h c r g d. (g ≡ h) × PollsOutput C.JobOutput.output_number (C.number c) h.job (call_of r) (C.jobs c) (C.jobs d) (C.is_out_of_memory d) × (C.work d ≡ C.work c) × C.reaches c d };
+
+    // what a poll of the job may answer among some jobs
+    ghost gives = { λ h. JobGives C.JobOutput.output_number h.job };
 
     // the handle is dropped
     ghost cancels = { λ h c d. (r : _) × DropsHandle C.JobOutput.output_number h.job r (C.jobs c) (C.jobs d) × (C.work d ≡ C.work c) × C.reaches c d };

@@ -1,6 +1,7 @@
 // A job that is made at the first poll.
 ghost use Rattle.std.specs.Prelude.{◌≡◌, false};
-ghost use Rattle.mono_model.specs.Poll.{OnPending};
+ghost use Rattle.mono_model.specs.Poll.{OnPending, IfReady};
+ghost use Rattle.mono_blocking.specs.Handles.{RunGives, Tells};
 ghost use Rattle.mono_blocking.specs.Runs.{run_spent, told, Awaits, RunPolls, RunCancels};
 
 use crate::contexts::JobContext;
@@ -62,6 +63,8 @@ impl<J: Drop> RunJob<J> {
     ) -> Poll<Result<C::JobOutput, JobError<J>>>
         ensures awaits { Awaits C.JobOutput.output_number C.number C.jobs C.is_out_of_memory C.work C.reaches handle cx.old result self.new cx.new }
         ensures again { OnPending result (run_spent self.new ≡ false) }
+        ensures given { IfReady result (Tells C.JobOutput.output_number handle.job) }
+        ensures stays { OnPending result (self.new ≡ RunJob.Waits handle) }
         ensures reached { C.reaches cx.old cx.new }
     {
         let mut handle = handle;
@@ -85,6 +88,9 @@ impl<J: Outcome + Drop, C: JobContext<Job = J>> TaskFuture<C> for RunJob<J> {
     ghost is_spent = { run_spent };
 
     ghost polls = { RunPolls J.output_number C.JobOutput.output_number C.number C.jobs C.strategy C.refusals C.is_out_of_memory C.work C.reaches };
+
+    // why the job was not made, or what its handle answers
+    ghost gives = { RunGives J.output_number C.JobOutput.output_number };
 
     ghost cancels = { RunCancels C.JobOutput.output_number C.jobs C.work C.reaches };
 

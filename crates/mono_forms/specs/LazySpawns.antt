@@ -20,3 +20,16 @@ module _ {C G F O : Type 0} (gives : G → F → Type 0) (tasks : C → Tasks O)
   abbrev pub SpawnPolls : Option G → C → Poll (Result ℕ (SpawnRefused F)) → Option G → C → Type 0
   SpawnPolls (Some g) c r left d = SpawnsFrom g c r left d
   SpawnPolls None c r left d = ⊥
+
+module _ {G F : Type 0} (O : Type 0) (gives : G → F → Type 0) where
+  -- The answer is that of a spawn of a future that is made of this one, among some tasks.
+  pub record AnswersSpawn (g : G) (answer : Result ℕ (SpawnRefused F)) : Type 0 where
+    pub future : F
+    pub made : gives g future
+    pub before : Tasks O
+    pub after : Tasks O
+    pub spawned : Spawns before future answer after
+
+  abbrev pub SpawnGives : Option G → Result ℕ (SpawnRefused F) → Type 0
+  SpawnGives (Some g) answer = AnswersSpawn g answer
+  SpawnGives None answer = ⊥

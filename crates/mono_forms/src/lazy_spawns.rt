@@ -1,6 +1,6 @@
 // A task that is spawned at the first poll.
 ghost use Rattle.std.specs.Prelude.{◌≡◌, is_none};
-ghost use Rattle.mono_forms.specs.LazySpawns.{SpawnPolls};
+ghost use Rattle.mono_forms.specs.LazySpawns.{SpawnGives, SpawnPolls};
 
 use mono_model::{Host, Poll};
 use mono_task::{JoinHandle, SpawnContext, SpawnRefused, TaskFuture};
@@ -29,6 +29,9 @@ where
     ghost is_spent = { λ m. is_none m.future };
 
     ghost polls = { λ m c r n d. SpawnPolls F.from_gives C.tasks C.reaches m.future c r n.future d };
+
+    // the handle, or why the spawn was refused
+    ghost gives = { λ m. SpawnGives O F.from_gives m.future };
 
     ghost cancels = { λ m c d. d ≡ c };
 

@@ -7,3 +7,4 @@ pub mod Invariants
 pub mod TaskEnds
 pub mod Spawns
 pub mod TaskPhases
+pub mod Joins

@@ -6,6 +6,7 @@ ghost use Rattle.mono_model.specs.Poll.{call_of};
 ghost use Rattle.mono_model.specs.declared.Woke.{Woke};
 ghost use Rattle.mono_model.specs.declared.poll.Poll.{Poll};
 ghost use Rattle.mono_model.specs.declared.task_error.TaskError.{TaskError};
+ghost use Rattle.mono_task.specs.Joins.{JoinGives};
 ghost use Rattle.mono_task.specs.Work.{without_outputs};
 
 use crate::context::Context;
@@ -124,6 +125,9 @@ impl<O: Drop, C: JoinContext<O>> TaskFuture<C> for JoinHandle<O> {
 
     // The running task polls the handle, and the handle stays.
     ghost polls = { λ h c r g d. (g ≡ h) × (call_of r ≡ join_answer (C.tasks c) h) × (C.tasks d ≡ joined (C.tasks c) h (C.number c)) × C.reaches c d };
+
+    // What a poll of the handle may answer in some context of this type.
+    ghost gives = { JoinGives C.tasks };
 
     // The call drops the handle.
     ghost cancels = { λ h c d. (C.tasks d ≡ join_dropped (C.tasks c) h) × C.reaches c d };

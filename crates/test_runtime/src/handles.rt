@@ -77,7 +77,7 @@ fn a_dropped_handle_returns_an_output_that_was_not_taken(rt: HostRuntime) {
     assert!(rt; runtime.into_pool().is_none());
 }
 
-// A handle is a task's number, and so it has no `gives` of its own: the runtime that polls it answers for its own task.
+// A handle is a task's number, so its `gives` names no future: the runtime that polls it answers for its own task.
 #[test]
 fn a_handle_answers_for_the_task_of_the_runtime_that_polls_it(rt: HostRuntime) {
     let two = ready(&rt, rt.alloc(), 2);
