@@ -7,7 +7,7 @@ ghost use Rattle.mono_rt.specs.Handles.{TakesOutput};
 ghost use Rattle.mono_rt.specs.Rounds.{Ends};
 ghost use Rattle.mono_rt.specs.Faults.{FaultsBy};
 ghost use Rattle.mono_rt.specs.FuturePolls.{OnMain};
-ghost use Rattle.mono_rt.specs.Views.{PollsHandleOf, DropsHandleOf, tasks_of, is_timed, Rests, Grows, ChangesTasks, HoldsSamePlaces, LeadsShared, TellsDriver, PollsItsFutures, FillsJournal, CanRun};
+ghost use Rattle.mono_rt.specs.Views.{PollsHandleOf, DropsHandleOf, tasks_of, is_timed, Rests, Grows, ChangesTasks, HoldsSamePlaces, LeadsShared, TellsDriver, PollsItsFutures, FillsJournal, CanRun, GivesNoMore};
 
 use crate::contexts::Cx;
 use crate::parts::RunError;
@@ -78,7 +78,8 @@ where
     ///
     /// All else is as in [`Runtime::block_on`], but that no task is made and no handle dropped: the history grows by
     /// the entries that `Ends` specifies (`ends`). The answer is Turns if the budget is spent, also for a task that
-    /// never has an output.
+    /// never has an output. No task may answer more afterwards than before (`answers`), so the output is one that the
+    /// spawned future gives (`mono_answers`).
     ///
     /// ```rust
     /// // test_runtime/src/handles.rt
@@ -94,6 +95,7 @@ where
         requires callable { CanRun F.TaskFuture self.old }
         requires rests { Rests self.old }
         ensures given { OnOk result (GivesOutput (tasks_of self.new) handle.now) }
+        ensures answers { GivesNoMore F.gives self.old self.new }
         ensures callable { CanRun F.TaskFuture self.new }
         ensures ends { Grows O.output_number (Ends (is_timed self.old) handle.now turns result) self.old self.new }
         ensures shared { LeadsShared W.leads self.old self.new }

@@ -160,7 +160,7 @@ fn a_task_spawns_others_one_after_the_other(rt: HostRuntime) {
 
 /// Starts a job at its first poll, and answers its handle; 9000 if the job was refused.
 #[derive(Drop)]
-struct Begins<J> {
+pub(crate) struct Begins<J> {
     job: Option<J>,
 }
 
@@ -189,7 +189,7 @@ impl<J: Outcome + Drop, C: JobContext<Job = J>> TaskFuture<C> for Begins<J> {
 }
 
 /// Returns a future that starts the job which gives this number.
-fn begin(number: u64) -> Begins<Gives> {
+pub(crate) fn begin(number: u64) -> Begins<Gives> {
     Begins {
         job: Some(Gives(number)),
     }
@@ -228,7 +228,7 @@ fn first_code(answer: First) -> Result<u64, u64> {
 }
 
 /// Returns the output or the code.
-fn either(answer: Result<u64, u64>) -> u64 {
+pub(crate) fn either(answer: Result<u64, u64>) -> u64 {
     match answer {
         Ok(output) => output,
         Err(code) => code,

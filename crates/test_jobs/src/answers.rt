@@ -1,0 +1,103 @@
+// Closures that rest on what the handles of tasks and jobs may answer.
+ghost use Rattle.mono_blocking.specs.Handles.{OfHandle};
+ghost use Rattle.mono_task.specs.Joins.{IsOfHandle};
+
+use crate::contexts::{begin, either};
+use crate::jobs::{Gives, keeping, on_caller, run};
+use mono_forms::FutureExt;
+use mono_rt::{
+    BlockingHandle, Host, JobHandle, JoinContext, JoinError, JoinHandle, Poll, PollJob, Refusal,
+    RunError, TaskError, TaskFuture, ThreadPool,
+};
+use std::alloc::Global;
+use std::process::Abort;
+
+// Returns the output, or a code for each refusal that a handle has.
+fn task_code(answer: Result<u64, TaskError>) -> u64
+    requires { IsOfHandle answer }
+{
+    match answer {
+        Ok(output) => output,
+        Err(TaskError::NoTask) => 1001,
+        Err(TaskError::NoHandle) => 1002,
+        Err(TaskError::Taken) => 1003,
+        Err(TaskError::Idle) => unreachable!(),
+    }
+}
+
+// Returns the output, or a code for each refusal that a handle has.
+fn job_code(answer: Result<Result<u64, JoinError>, PollJob>) -> u64
+    requires { OfHandle answer }
+{
+    match answer {
+        Ok(Ok(output)) => output,
+        Ok(Err(_)) => 2001,
+        Err(PollJob::Memory) => 2002,
+        Err(PollJob::Refused(Refusal::NoTask)) => 2003,
+        Err(PollJob::Refused(Refusal::NoHandle)) => 2004,
+        Err(PollJob::Refused(Refusal::Taken)) => 2005,
+        Err(PollJob::Refused(_)) => unreachable!(),
+    }
+}
+
+/// Polls the handle of the task of this number once, and answers its code; 9000 if it is pending.
+#[derive(Drop)]
+struct Asks(u64);
+
+impl<C: JoinContext<u64>> TaskFuture<C> for Asks {
+    type Output = u64;
+
+    fn spent(&self) -> bool {
+        false
+    }
+
+    fn poll<R: Host>(&mut self, rt: &R, alloc: Global, cx: &mut C) -> Poll<u64> {
+        let handle: JoinHandle<u64> = JoinHandle::of_task(self.0);
+        let mut task = handle.map(
+            |answer: Result<u64, TaskError>| -> u64
+                requires { IsOfHandle answer }
+            { task_code(answer) },
+        );
+        match task.poll(rt, alloc, cx) {
+            Poll::Ready(code) => Poll::Ready(code),
+            Poll::Pending => {
+                task.cancel(cx);
+                Poll::Ready(9000)
+            }
+        }
+    }
+
+    fn cancel(self, _cx: &mut C) {}
+}
+
+#[test]
+fn a_handle_of_no_task_is_refused(rt: HostRuntime) {
+    assert_eq!(rt; run(&rt, rt.alloc(), on_caller(), 0, Asks(7)), Ok(1001));
+}
+
+#[test]
+fn a_handle_of_the_main_task_is_pending(rt: HostRuntime) {
+    assert_eq!(rt; run(&rt, rt.alloc(), on_caller(), 0, Asks(0)), Ok(9000));
+}
+
+/// Runs a job by its handle on this pool, and returns its output or a code.
+fn run_by_handle<P: ThreadPool<Job = Gives> + Drop, R: Host + Abort>(
+    rt: &R,
+    alloc: Global,
+    pool: BlockingHandle<P>,
+) -> Result<u64, RunError> {
+    let task = begin(9)
+        .and_then(|handle: JobHandle| handle.map(
+            |answer: Result<Result<u64, JoinError>, PollJob>| -> Result<u64, u64>
+                requires { OfHandle answer }
+            { Ok(job_code(answer)) },
+        ))
+        .map(either);
+    run(rt, alloc, pool, 1, task)
+}
+
+#[test]
+fn a_closure_gets_what_the_handle_of_a_job_answers(rt: HostRuntime) {
+    assert_eq!(rt; run_by_handle(&rt, rt.alloc(), on_caller()), Ok(9));
+    assert_eq!(rt; run_by_handle(&rt, rt.alloc(), keeping(true)), Ok(2001));
+}
