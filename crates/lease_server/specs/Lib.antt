@@ -1,3 +1,4 @@
 pub mod Desks
+pub mod CoreRuns
 pub mod Pasts
 pub mod Served

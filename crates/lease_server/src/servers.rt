@@ -2,6 +2,7 @@
 ghost use Rattle.std.specs.Prelude.{◌≡◌, IfOk, length};
 ghost use Rattle.lease_core.specs.Cores.{new_core};
 ghost use Rattle.mono_rt.specs.Views.{shared_of};
+ghost use Rattle.lease_server.specs.CoreRuns.{CalledOnce};
 ghost use Rattle.lease_server.specs.Desks.{HasRun};
 
 use crate::clocks::CoreClock;
@@ -36,8 +37,8 @@ type CoreRuntime<'a, R> = Runtime<
     Desk,
 >;
 
-// Runs the task of a core on a new runtime of this thread. Returns a status, and the runtime: all that its core did is
-// one run of the model from a new core.
+// Runs the task of a core on a new runtime of this thread, by one call of `block_on`. Returns its status, and the runtime
+// (`called`): all that its core did is one run of the model from a new core (`ran`).
 fn run_core<'a, R: Host + Copy>(
     rt: R,
     alloc: Global,
@@ -45,7 +46,8 @@ fn run_core<'a, R: Host + Copy>(
     settings: &Settings,
     ends: &'a mut CoreEnds,
 ) -> Result<(u64, CoreRuntime<'a, R>), AllocError>
-    ensures { IfOk result (λ done. HasRun number (new_core settings.now.sizes) (shared_of done.1)) }
+    ensures called { IfOk result (λ done. CalledOnce done.0 done.1) }
+    ensures ran { IfOk result (λ done. HasRun number (new_core settings.now.sizes) (shared_of done.1)) }
 {
     let core = Core::new(alloc, &settings.sizes)?;
     let driver = ThreadDriver::new(alloc, CoreClock::new(rt, settings.is_still))?;

@@ -11,7 +11,7 @@ use std::alloc::{AllocError, Global};
 use std::process::Abort;
 
 /// Returns a builder on a driver that never waits.
-fn builder(alloc: Global) -> RuntimeBuilder<StepDriver, NoPool<Gives>> {
+pub(crate) fn builder(alloc: Global) -> RuntimeBuilder<StepDriver, NoPool<Gives>> {
     RuntimeBuilder::new(StepDriver::new(Vec::new(alloc)))
 }
 

@@ -1,6 +1,6 @@
 // Runtimes of the tests, and the answer of a main task on one.
 
-ghost use Rattle.mono_rt.specs.Views.{HasOwnFutures, Rests};
+ghost use Rattle.mono_rt.specs.Views.{Rests};
 
 use crate::turns::{Gives, Shared, Task, Turns};
 use mono_blocking::{BlockingHandle, ThreadPool};
@@ -24,8 +24,7 @@ pub(crate) fn a_runtime<F: Drop, D: Driver, P: ThreadPool + Drop, R: Abort>(
     limits: Limits,
     has_timers: bool,
 ) -> Runtime<F, u64, D, P>
-    ensures rests { Rests result }
-    ensures own { HasOwnFutures result }
+    ensures { Rests result }
 {
     let start = Instant::from_nanos(0).expect(rt, "an instant");
     Runtime::new(alloc, driver, pool, limits, has_timers, start, ()).expect(rt, "memory")

@@ -1,6 +1,6 @@
 // Small futures on a driver that never waits.
 ghost use Rattle.std.specs.Prelude.{⊤, false};
-ghost use Rattle.mono_rt.specs.Views.{HasOwnFutures, Rests};
+ghost use Rattle.mono_rt.specs.Views.{Rests};
 
 use crate::runs::a_runtime;
 use crate::turns::Gives;
@@ -128,8 +128,7 @@ fn stepping<R: Abort>(rt: &R, alloc: Global, fails: Option<u64>) -> StepDriver {
 
 /// Returns a runtime on such a driver.
 pub(crate) fn quiet<R: Abort>(rt: &R, alloc: Global, fails: Option<u64>) -> Quiet
-    ensures rests { Rests result }
-    ensures own { HasOwnFutures result }
+    ensures { Rests result }
 {
     let pool = BlockingHandle::Empty(BlockingStrategy::Panic);
     a_runtime(rt, alloc, stepping(rt, alloc, fails), pool, LIMITS, true)
