@@ -10,4 +10,6 @@ mod crossings;
 #[cfg(test)]
 mod lanes;
 #[cfg(test)]
+mod receives;
+#[cfg(test)]
 mod wakes;

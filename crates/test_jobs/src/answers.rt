@@ -40,7 +40,8 @@ fn job_code(answer: Result<Result<u64, JoinError>, PollJob>) -> u64
     }
 }
 
-/// Polls the handle of the task of this number once, and answers its code; 9000 if it is pending.
+/// Polls the handle of the task of this number once, and answers its code; 9000 if it is pending. It does not give the
+/// handle up: the task may be the main one, whose handle `block_on` reads.
 #[derive(Drop)]
 struct Asks(u64);
 
@@ -60,10 +61,7 @@ impl<C: JoinContext<u64>> TaskFuture<C> for Asks {
         );
         match task.poll(rt, alloc, cx) {
             Poll::Ready(code) => Poll::Ready(code),
-            Poll::Pending => {
-                task.cancel(cx);
-                Poll::Ready(9000)
-            }
+            Poll::Pending => Poll::Ready(9000),
         }
     }
 
