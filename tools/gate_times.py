@@ -28,8 +28,8 @@ KINDS = ("proof", "tests", "edits")
 # machine with its executor and their lines, and the tests of these. The upper half is every other crate.
 LOWER = (
     "mono_model mono_table mono_wheel mono_task mono_time mono_combine mono_stream mono_nest "
-    "mono_joinword mono_inbox mono_blocking mono_machine mono_replay mono_load "
-    "mono_text mono_forms mono_sync mono_shared test_futures test_threads use_deadlines use_pulse use_pair"
+    "mono_joinword mono_inbox mono_blocking mono_machine mono_replay "
+    "mono_text mono_forms mono_sync test_futures test_threads use_deadlines use_pulse use_pair"
 ).split()
 
 

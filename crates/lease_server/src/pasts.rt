@@ -3,7 +3,7 @@ ghost use Rattle.std.specs.Prelude.{◌≡◌, ◌++◌, ◌∷◌, []};
 ghost use Rattle.lease_server.specs.Pasts.{event_of, events_of, replies_of};
 
 use lease_core::{Core, Reply, Request};
-use mono_history::{History, Tells};
+use mono_model::{History, Tells};
 use mono_rt::{Instant, List};
 
 /// An event of a core.

@@ -5,7 +5,7 @@ use mono_blocking::ThreadPool;
 use mono_inbox::Unpark;
 use mono_joinword::Outcome;
 use mono_rt::{Cx, TaskFuture};
-use mono_shared::SharedState;
+use mono_task::SharedState;
 
 /// Shows that a handle answers what the spawned future gives, in any later context and to any task (`polled`). The
 /// first two contexts are those of the clauses of `Cx::spawn`: `number`, `tasks` and `futures`. The last is one to which

@@ -1,4 +1,3 @@
-pub mod Random
 pub mod PollFns
 pub mod Rules
 pub mod Starts

@@ -2,7 +2,7 @@
 use Rattle.std.specs.Prelude.{ℕ}
 use Rattle.mono_combine.specs.declared.start.Start.{Start}
 use Rattle.mono_combine.specs.declared.start.Start.TheVariants.{Biased, Random}
-use Rattle.mono_combine.specs.Random.{drawn_below, after_draw}
+use Rattle.mono_model.specs.Random.{drawn_below, after_draw}
 
 -- The first branch to poll, among the given number of branches.
 abbrev pub start_of : Start → ℕ → ℕ

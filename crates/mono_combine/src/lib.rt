@@ -1,4 +1,4 @@
-//! Futures made of futures: closures as futures, futures that keep their output, joins, selects, and random numbers.
+//! Futures made of futures: closures as futures, futures that keep their output, joins, and selects.
 //!
 //! A rule defines each form's answer from the answers of its branches in this poll: `join_rule`, `try_join_rule` and
 //! `select_rule` of specs/Rules. The branches' own relations define how the branches are polled and given up.
@@ -12,7 +12,6 @@ mod maybe;
 mod nests;
 mod pick;
 mod poll_fns;
-mod random;
 mod row;
 mod select;
 mod select_list;
@@ -25,10 +24,10 @@ pub use branch::Look;
 pub use join_list::JoinList;
 pub use joins::Join2;
 pub use maybe::{MaybeDone, maybe_done};
+pub use mono_model::FastRand;
 pub use nests::{join3, join4, join5};
 pub use pick::Out;
 pub use poll_fns::{PollFn, poll_fn};
-pub use random::FastRand;
 pub use select::{Out2, Select2};
 pub use select_list::SelectList;
 pub use start::Start;

@@ -2,7 +2,7 @@
 ghost use Rattle.std.specs.Prelude.{◌≡◌, ◌<◌};
 ghost use Rattle.mono_combine.specs.Starts.{start_of, next_start};
 
-use crate::random::FastRand;
+use mono_model::FastRand;
 
 /// The branch that a select polls first, anew in each poll.
 #[derive(Clone, Copy, Debug, PartialEq, Eq)]

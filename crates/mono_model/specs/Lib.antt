@@ -13,3 +13,4 @@ pub mod SleepAnswers
 pub mod SleepActs
 pub mod Texts
 pub mod Memory
+pub mod Random

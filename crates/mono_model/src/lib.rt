@@ -2,14 +2,18 @@
 #![tactic(auto)]
 
 mod error;
+mod histories;
 mod host;
 pub mod laws;
 mod poll;
+mod random;
 mod task_error;
 
 pub use error::{Error, SleepError};
+pub use histories::{History, Tells};
 pub use host::Host;
 pub use poll::Poll;
+pub use random::FastRand;
 pub use task_error::TaskError;
 
 /// The effect of a wake.

@@ -7,7 +7,7 @@ use mono_blocking::ThreadPool;
 use mono_inbox::Unpark;
 use mono_joinword::Outcome;
 use mono_rt::Cx;
-use mono_shared::SharedState;
+use mono_task::SharedState;
 
 /// Shows that each future that a turn of quiet futures spawns can be polled: it spawns none. So `run_alone` and `start`
 /// may run one whose closures rest on what they captured.

@@ -2,3 +2,4 @@ pub mod JobTable
 pub mod PartRefinement
 pub mod Refinement
 pub mod Examples
+pub mod Load

@@ -24,8 +24,7 @@ use mono_blocking::ThreadPool;
 use mono_driver::Driver;
 use mono_joinword::Outcome;
 use mono_model::Host;
-use mono_shared::SharedState;
-use mono_task::TaskFuture;
+use mono_task::{SharedState, TaskFuture};
 use std::alloc::Global;
 
 // Returns the answer of a wait that ran out of memory after its park. A failed park is reported first.

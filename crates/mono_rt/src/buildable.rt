@@ -10,7 +10,7 @@ use mono_blocking::{BlockingHandle, ThreadPool};
 use mono_driver::Driver;
 use mono_joinword::Outcome;
 use mono_machine::Limits;
-use mono_shared::SharedState;
+use mono_task::SharedState;
 use mono_time::Instant;
 use std::alloc::{AllocError, Global};
 

@@ -21,9 +21,8 @@ use mono_driver::{Clock, Driver, StepDriver, ThreadDriver, TimeDriver};
 use mono_joinword::Outcome;
 use mono_machine::Limits;
 use mono_model::Host;
-use mono_shared::SharedState;
 use mono_table::Slots;
-use mono_task::TaskFuture;
+use mono_task::{SharedState, TaskFuture};
 use mono_time::{Due, Instant};
 use std::alloc::{AllocError, Global};
 

@@ -21,9 +21,11 @@ use crate::wakers::Wakers;
 use mono_blocking::{Blockings, ThreadPool};
 use mono_inbox::{RemoteWaker, Unpark};
 use mono_joinword::Outcome;
-use mono_shared::{SharedContext, SharedState};
 use mono_table::Slots;
-use mono_task::{Context, JoinContext, JoinHandle, Poll, SpawnRefused, SpawnTask, TaskError, Woke};
+use mono_task::{
+    Context, JoinContext, JoinHandle, Poll, SharedContext, SharedState, SpawnRefused, SpawnTask,
+    TaskError, Woke,
+};
 use mono_time::{Error, Instant, SleepError, TimeContext};
 use std::alloc::{AllocError, Global};
 

@@ -12,7 +12,7 @@ use mono_blocking::ThreadPool;
 use mono_driver::Driver;
 use mono_joinword::Outcome;
 use mono_model::Host;
-use mono_shared::SharedState;
+use mono_task::SharedState;
 use std::alloc::Global;
 
 impl<F: Drop, O: Outcome + Drop, D: Driver, P: ThreadPool + Drop, W: SharedState + Drop> Runtime<

@@ -10,7 +10,7 @@ use crate::runtimes::Runtime;
 use mono_blocking::ThreadPool;
 use mono_driver::Driver;
 use mono_joinword::Outcome;
-use mono_shared::SharedState;
+use mono_task::SharedState;
 
 impl<F: Drop, O: Outcome + Drop, D: Driver, P: ThreadPool + Drop, W: SharedState + Drop> Runtime<
     F,

@@ -16,8 +16,7 @@ use mono_blocking::ThreadPool;
 use mono_driver::Driver;
 use mono_joinword::Outcome;
 use mono_model::{Host, Poll};
-use mono_shared::SharedState;
-use mono_task::{JoinHandle, TaskError, TaskFuture};
+use mono_task::{JoinHandle, SharedState, TaskError, TaskFuture};
 use std::alloc::Global;
 
 impl<F: Drop, O: Outcome + Drop, D: Driver, P: ThreadPool + Drop, W: SharedState + Drop> Runtime<

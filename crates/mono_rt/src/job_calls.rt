@@ -13,7 +13,7 @@ use mono_inbox::{RemoteWaker, Unpark};
 use mono_joinword::{JoinError, Outcome};
 use mono_machine::Refusal;
 use mono_model::{Host, Poll};
-use mono_shared::SharedState;
+use mono_task::SharedState;
 use std::alloc::{AllocError, Global};
 
 impl<F: Drop, O: Outcome + Drop, P: ThreadPool + Drop, U: Unpark, W: SharedState + Drop> Cx<

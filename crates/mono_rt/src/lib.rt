@@ -37,9 +37,9 @@ pub use mono_machine::{
     TurnStep, Woke,
 };
 pub use mono_model::{Host, Poll};
-pub use mono_shared::{SharedContext, SharedState};
 pub use mono_task::{
-    Context, JoinContext, JoinHandle, SpawnContext, SpawnRefused, TaskError, TaskFuture, TaskPhase,
+    Context, JoinContext, JoinHandle, SharedContext, SharedState, SpawnContext, SpawnRefused,
+    TaskError, TaskFuture, TaskPhase,
 };
 pub use mono_time::{
     Elapsed, Error, Interval, LateError, MissedTickBehavior, Sleep, SleepError, SleepFor, Tick,

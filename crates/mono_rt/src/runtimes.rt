@@ -14,8 +14,7 @@ use mono_blocking::ThreadPool;
 use mono_driver::Driver;
 use mono_joinword::Outcome;
 use mono_model::Host;
-use mono_shared::SharedState;
-use mono_task::TaskFuture;
+use mono_task::{SharedState, TaskFuture};
 use mono_time::Due;
 use std::alloc::Global;
 

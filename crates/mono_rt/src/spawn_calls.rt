@@ -4,8 +4,7 @@ use crate::contexts::Cx;
 use mono_blocking::ThreadPool;
 use mono_inbox::Unpark;
 use mono_joinword::Outcome;
-use mono_shared::SharedState;
-use mono_task::{JoinHandle, SpawnContext, SpawnRefused};
+use mono_task::{JoinHandle, SharedState, SpawnContext, SpawnRefused};
 use std::alloc::Global;
 
 impl<

@@ -11,8 +11,7 @@ use crate::runtimes::Runtime;
 use mono_blocking::ThreadPool;
 use mono_driver::Driver;
 use mono_joinword::Outcome;
-use mono_shared::SharedState;
-use mono_task::{JoinHandle, SpawnRefused, SpawnTask};
+use mono_task::{JoinHandle, SharedState, SpawnRefused, SpawnTask};
 use std::alloc::Global;
 
 impl<F: Drop, O: Outcome + Drop, D: Driver, P: ThreadPool + Drop, W: SharedState + Drop> Runtime<

@@ -4,10 +4,9 @@ ghost use Rattle.mono_rt.specs.Drains.{IsReady};
 ghost use Rattle.mono_rt.specs.EndedTasks.{all_in, closed_in};
 
 use crate::parts::{Journal, Taken, TakenTasks, take_waiting};
-use mono_history::{History, Tells};
 use mono_inbox::{Inbox, RemoteWaker, Unpark};
 use mono_machine::List;
-use mono_model::Host;
+use mono_model::{History, Host, Tells};
 use std::alloc::{AllocError, Global};
 use std::mem;
 

@@ -6,8 +6,8 @@ use Rattle.mono_machine.specs.declared.events.Event.{Event}
 use Rattle.mono_script.specs.declared.command.Command.{Command}
 use Rattle.mono_script.specs.declared.command.Command.TheVariants as command
 use Rattle.mono_script.specs.declared.ends.Status.TheVariants as status
-use Rattle.mono_load.specs.Load.{IsSummary}
-use Rattle.mono_load.specs.declared.loads.Summary.{Summary}
+use Rattle.mono_replay.specs.Load.{IsSummary}
+use Rattle.mono_replay.specs.declared.loads.Summary.{Summary}
 use Rattle.mono_script.specs.declared.ends.Status.{Status}
 use Rattle.mono_run.specs.Script.{Script}
 use Rattle.mono_run.specs.ScriptText.{Spells}

@@ -4,7 +4,7 @@ ghost use Rattle.mono_script.specs.Endings.{IsOutput, IsLine};
 ghost use Rattle.mono_script.specs.Meanings.{loading, summary_line};
 
 use crate::ends::{Output, Status};
-use mono_load::{Summary, load};
+use mono_replay::{Summary, load};
 use std::alloc::{AllocError, Global};
 
 fn put(text: &mut Vec<u8>, word: &[u8], value: u64) -> Result<(), AllocError>

@@ -10,7 +10,7 @@ ghost use Rattle.mono_sync.specs.Runs.{Leads, leads_itself, leads_on};
 ghost use Rattle.mono_serve.specs.BucketCalls.{first_of, is_first, place_of, without, lists_task, TriesAt, Adds, Joins, Enters, Asks, GivesUp, Step};
 
 use mono_limit::{LimitError, Limiter};
-use mono_shared::SharedState;
+use mono_task::SharedState;
 use mono_time::Instant;
 use std::alloc::{AllocError, Global};
 use std::collections::VecDeque;

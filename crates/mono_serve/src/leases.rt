@@ -10,7 +10,7 @@ ghost use Rattle.mono_sync.specs.Runs.{Leads, leads_itself, leads_on};
 ghost use Rattle.mono_serve.specs.LeaseCalls.{place_of, lists_task, still_waits, without, MovesTo, ShownTo, ShownAt, Calls, Claims, Sees, Looks, GivesUp, Lingers, first_served, Serves, IsNext, Rests, Rouses, is_late, Step};
 
 use mono_session::{SessionError, Sessions};
-use mono_shared::SharedState;
+use mono_task::SharedState;
 use mono_time::Instant;
 use std::alloc::{AllocError, Global};
 use std::collections::VecDeque;

@@ -7,8 +7,8 @@ ghost use Rattle.mono_serve.specs.MailCalls.{Sends, Stops, Serves};
 use crate::mailboxes::Mailboxes;
 use crate::wakes::wake_task;
 use mono_actor::{ActorError, SendRefused, Sent};
-use mono_shared::SharedContext;
 use mono_sync::Holds;
+use mono_task::SharedContext;
 
 // Takes the first task out of the line whose actor has a message or was removed.
 fn serve_part<M, W: Holds<Mailboxes<M>>>(whole: &mut W) -> Option<u64>

@@ -3,7 +3,7 @@ ghost use Rattle.std.specs.Prelude.{◌≡◌, None};
 ghost use Rattle.mono_actor.specs.Callers.{actors_of};
 
 use mono_actor::{ActorError, Actors, Got, SendRefused, Sent};
-use mono_shared::SharedState;
+use mono_task::SharedState;
 use std::alloc::{AllocError, Global};
 use std::collections::VecDeque;
 

@@ -7,8 +7,8 @@ ghost use Rattle.mono_serve.specs.Locks.{ServesIn, WakesServed};
 use crate::lease_parts::{rouse_part, serve_part};
 use crate::leases::Leases;
 use crate::wakes::wake_task;
-use mono_shared::SharedContext;
 use mono_sync::Holds;
+use mono_task::SharedContext;
 
 // Takes the first task out of the line whose session no longer waits.
 fn serve<W: Holds<Leases>, C: SharedContext<W>>(cx: &mut C) -> Option<u64>

@@ -2,7 +2,7 @@
 ghost use Rattle.std.specs.Prelude.{◌≡◌};
 ghost use Rattle.mono_model.specs.Tasks.{woken_if_any};
 
-use mono_shared::{SharedContext, SharedState};
+use mono_task::{SharedContext, SharedState};
 
 // Wakes the task, if any.
 pub(crate) fn wake_task<W: SharedState, C: SharedContext<W>>(cx: &mut C, task: Option<u64>)

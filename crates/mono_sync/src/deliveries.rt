@@ -8,8 +8,7 @@ use crate::oneshot::{Oneshot, Receiving};
 use crate::parts::Holds;
 use crate::wakes::wake_task;
 use mono_model::{Host, Poll};
-use mono_shared::SharedContext;
-use mono_task::TaskFuture;
+use mono_task::{SharedContext, TaskFuture};
 use std::alloc::Global;
 use std::marker::PhantomData;
 

@@ -6,7 +6,7 @@ ghost use Rattle.mono_sync.specs.Lines.{has_task};
 
 use crate::lines::{Line, Waiter};
 pub use crate::messages::{Recv, Send, SendError, close, try_recv, try_send};
-use mono_shared::SharedState;
+use mono_task::SharedState;
 use std::alloc::Global;
 use std::collections::VecDeque;
 

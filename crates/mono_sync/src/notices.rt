@@ -6,7 +6,7 @@ ghost use Rattle.mono_sync.specs.Notices.{NotifiesOne, NotifiesAll, Awaits, Give
 ghost use Rattle.mono_sync.specs.Lines.{has_task};
 
 use crate::lines::{Line, Waiter};
-use mono_shared::SharedState;
+use mono_task::SharedState;
 use std::alloc::Global;
 use std::collections::VecDeque;
 

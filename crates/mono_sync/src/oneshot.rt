@@ -6,7 +6,7 @@ ghost use Rattle.mono_sync.specs.OneshotRuns.{Step};
 ghost use Rattle.mono_sync.specs.Oneshot.{is_receiver, Sends, TriesToReceive, Receives, Closes, GivesUp};
 
 pub use crate::deliveries::{Recv, close, send};
-use mono_shared::SharedState;
+use mono_task::SharedState;
 use std::mem;
 
 /// A place for one message, and the task that waits for it.

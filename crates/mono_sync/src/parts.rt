@@ -2,7 +2,7 @@
 ghost use Rattle.std.specs.Prelude.{◌≡◌, ℕ, true, refl};
 ghost use Rattle.std.specs.Borrow.{sem, Lends};
 
-use mono_shared::SharedState;
+use mono_task::SharedState;
 
 /// A shared value that has an `X` as a part: the value itself, or a field of it.
 pub trait Holds<X: SharedState>: SharedState {

@@ -5,7 +5,7 @@ ghost use Rattle.mono_sync.specs.Semaphores.{TriesToAcquire, Acquires, Releases,
 ghost use Rattle.mono_sync.specs.Lines.{has_task};
 
 use crate::lines::{Line, Waiter};
-use mono_shared::SharedState;
+use mono_task::SharedState;
 use std::alloc::Global;
 use std::collections::VecDeque;
 

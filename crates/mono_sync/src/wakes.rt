@@ -4,7 +4,7 @@ ghost use Rattle.mono_model.specs.Tasks.{woken_if_any, all_woken};
 ghost use Rattle.mono_sync.specs.Wakes.{task_of, tasks_of};
 
 use crate::lines::Waiter;
-use mono_shared::{SharedContext, SharedState};
+use mono_task::{SharedContext, SharedState};
 use std::collections::VecDeque;
 
 // Wakes the task that is served, if any.

@@ -7,7 +7,7 @@ ghost use Rattle.mono_sync.specs.Lines.{has_task};
 
 pub use crate::changes::{Changed, ChangedError, close, send};
 use crate::lines::{Line, Waiter};
-use mono_shared::SharedState;
+use mono_task::SharedState;
 use std::alloc::Global;
 use std::collections::VecDeque;
 use std::mem;

@@ -17,7 +17,7 @@ use Rattle.mono_combine.specs.declared.select.Out2.{Out2}
 use Rattle.mono_combine.specs.declared.select.Select2.{Select2}
 use Rattle.mono_combine.specs.declared.start.Start.{Start}
 use Rattle.mono_combine.specs.declared.start.Start.TheVariants.{Biased, Random}
-use Rattle.mono_combine.specs.Random.{drawn}
+use Rattle.mono_model.specs.Random.{drawn}
 use Rattle.mono_combine.specs.Starts.{start_of}
 use Rattle.mono_combine.specs.Looks.{is_out, BranchCancels, passes_if, AfterPoll, TurnBy}
 use Rattle.mono_combine.specs.Rules.{passes, waits, unless_masked, order_from, picked_of, up_to_pass, select_rule, select_turns}

@@ -20,7 +20,7 @@ use mono_inbox::Unpark;
 use mono_joinword::Outcome;
 use mono_machine::laws::what_a_turn_registers_stands;
 use mono_rt::Cx;
-use mono_shared::SharedState;
+use mono_task::SharedState;
 
 /// Shows that a pending poll registers its task at each source that the future needs. Once the turn has ended pending,
 /// the task waits for that source or is awaiting, unless a later step of the turn drops the source.

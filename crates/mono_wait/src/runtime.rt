@@ -9,7 +9,7 @@ use mono_blocking::{Job, ThreadPool};
 use mono_inbox::Unpark;
 use mono_joinword::Outcome;
 use mono_rt::Cx;
-use mono_shared::SharedState;
+use mono_task::SharedState;
 
 impl<F: Drop, O: Outcome + Drop, P: ThreadPool + Drop, U: Unpark, W: SharedState + Drop> WaitContext
     for Cx<F, O, P, U, W> {

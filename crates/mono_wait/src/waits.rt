@@ -9,8 +9,7 @@ ghost use Rattle.mono_wait.specs.Sources.{Covers, waiter_in, waker_in, outside_w
 
 use mono_blocking::{JobContext, RemoteContext};
 use mono_inbox::Unpark;
-use mono_shared::{SharedContext, SharedState};
-use mono_task::TaskFuture;
+use mono_task::{SharedContext, SharedState, TaskFuture};
 use mono_time::TimeContext;
 
 /// A context that exposes which task waits for a source: for a sleep its waker, for a task its waiter.

@@ -1,10 +1,8 @@
 // The forms of two futures, and the small ones, over a context that notes each poll and each cancel.
 use crate::boards::{Board, Step, Trial, empty_board, told};
 use crate::examples::join_waits;
-use mono_combine::{
-    FastRand, Join2, MaybeDone, Out2, Select2, Start, TryJoin2, maybe_done, poll_fn,
-};
-use mono_model::{Host, Poll};
+use mono_combine::{Join2, MaybeDone, Out2, Select2, Start, TryJoin2, maybe_done, poll_fn};
+use mono_model::{FastRand, Host, Poll};
 use mono_task::TaskFuture;
 use std::alloc::Global;
 

@@ -6,7 +6,7 @@ use Rattle.mono_machine.specs.Steps.{Run, after_fires, at_clock, greatest_at}
 use Rattle.mono_machine.specs.declared.events.Blocking.TheVariants as blocking
 use Rattle.mono_machine.specs.declared.events.Report.{Report}
 use Rattle.mono_machine.specs.declared.events.Report.TheVariants as report
-use Rattle.mono_load.specs.Load.{load_limits, clocks, fired_in, total_of, refusals_in, order_from}
+use Rattle.mono_replay.specs.Load.{load_limits, clocks, fired_in, total_of, refusals_in, order_from}
 use Rattle.mono_script.specs.declared.command.Command.TheVariants as command
 use Rattle.mono_script.specs.declared.ends.Status.TheVariants as status
 use Rattle.mono_script.specs.Command.{IsCommand}

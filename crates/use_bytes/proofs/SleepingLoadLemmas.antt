@@ -2,7 +2,7 @@
 use Rattle.std.proofs.Common.{◌≡◌, ℕ, zero, suc, ◌+◌, ◌*◌, ◌^◌, ◌-◌, ◌<◌, ◌≤◌, List, [], ◌∷◌, ◌++◌, length, flat_map, Option, Some, false, codes, lit≤, lit<, refl, sym, ap, subst, ◌∙◌, arith}
 use Rattle.mono_model.specs.Table.{value_at}
 use Rattle.mono_model.specs.Sleeps.{Arming, armed, elapsed, MayFire, IsDueSleep}
-use Rattle.mono_combine.specs.Random.{seeded, drawn}
+use Rattle.mono_model.specs.Random.{seeded, drawn}
 use Rattle.mono_machine.specs.Machine.{Machine, start_machine}
 use Rattle.mono_machine.specs.Acts.{act_outcome}
 use Rattle.mono_machine.specs.Turns.{turn_report_for, turn_report, after_turn}
@@ -17,7 +17,7 @@ use Rattle.mono_machine.specs.declared.events.Event.TheVariants as event
 use Rattle.mono_machine.specs.declared.events.Blocking.TheVariants as blocking
 use Rattle.mono_machine.specs.declared.events.Report.{Report}
 use Rattle.mono_machine.specs.declared.events.Report.TheVariants as report
-use Rattle.mono_load.specs.Load.{load_limits, sleep_turn, clocks, endings, fired_in, total_of, refusals_in, order_from}
+use Rattle.mono_replay.specs.Load.{load_limits, sleep_turn, clocks, endings, fired_in, total_of, refusals_in, order_from}
 use Rattle.mono_script.specs.declared.command.Command.TheVariants as command
 use Rattle.mono_script.specs.declared.ends.Status.TheVariants as status
 use Rattle.mono_script.specs.Command.{IsCommand}

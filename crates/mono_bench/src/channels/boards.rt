@@ -1,10 +1,10 @@
 // What the tasks of a runtime share.
 ghost use Rattle.std.specs.Prelude.{refl, ⊤};
 
-use mono_shared::SharedState;
 use mono_sync::mpsc::Channel;
 use mono_sync::oneshot::Oneshot;
 use mono_sync::{Holds, Semaphore};
+use mono_task::SharedState;
 use std::alloc::Global;
 
 /// A channel of numbers, permits, and a channel for the reply to the last number.

@@ -6,9 +6,8 @@ use mono_blocking::NoPool;
 use mono_driver::{StepDriver, TimeDriver};
 use mono_model::{Host, Poll};
 use mono_rt::{Runtime, RuntimeBuilder};
-use mono_shared::SharedContext;
 use mono_sync::{Acquire, Only, Semaphore, permits};
-use mono_task::{Context, SpawnContext, TaskFuture};
+use mono_task::{Context, SharedContext, SpawnContext, TaskFuture};
 use std::alloc::Global;
 use std::mem;
 

@@ -1,10 +1,9 @@
 // The tasks that send, receive, take permits, ask and reply.
 use crate::channels::boards::Board;
 use mono_model::{Host, Poll};
-use mono_shared::SharedContext;
 use mono_sync::mpsc::{Recv, Send};
 use mono_sync::{Acquire, oneshot, permits};
-use mono_task::TaskFuture;
+use mono_task::{SharedContext, TaskFuture};
 use std::alloc::Global;
 
 /// What a task does next.

@@ -4,9 +4,8 @@ ghost use Rattle.mono_rt.specs.Reaches.{Reaches};
 
 use crate::turns::Idle;
 use mono_blocking::NoPool;
-use mono_combine::FastRand;
 use mono_inbox::NoUnpark;
-use mono_model::Host;
+use mono_model::{FastRand, Host};
 use mono_rt::{Cx, Instant};
 use mono_task::{Context, Poll, TaskFuture};
 use mono_time::TimeContext;

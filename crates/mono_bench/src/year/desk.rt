@@ -4,10 +4,10 @@ ghost use Rattle.std.specs.Prelude.{⊤};
 use crate::year::codes::{fail_code, given, join, limit_code, session_code, take_code};
 use crate::year::rows::Row;
 use mono_actor::Actors;
-use mono_combine::FastRand;
 use mono_limit::{LimitError, Limiter};
+use mono_model::FastRand;
 use mono_session::{SessionError, Sessions};
-use mono_shared::SharedState;
+use mono_task::SharedState;
 use std::alloc::Global;
 
 /// How many sessions, retries, actors and messages there are at most.

@@ -3,8 +3,7 @@ use crate::year::desk::Desk;
 use crate::year::draws::{JobCall, TaskCall};
 use crate::year::floor::{Floor, await_task, end_task, has_task_finished, wake_task};
 use mono_model::Host;
-use mono_shared::SharedContext;
-use mono_task::{Context, JoinContext, Poll, TaskFuture};
+use mono_task::{Context, JoinContext, Poll, SharedContext, TaskFuture};
 use mono_time::{Instant, TimeContext};
 use std::alloc::Global;
 

@@ -2,8 +2,8 @@
 ghost use Rattle.std.specs.Prelude.{◌≡◌, true, false, IfOk, OnOk, IfSome, IfNone, vec_capacity};
 ghost use Rattle.mono_rt.specs.Record.{no_acts, noted};
 
-use mono_history::History;
 use mono_machine::{List, Reply, TurnStep};
+use mono_model::History;
 use std::alloc::{AllocError, Global};
 use std::marker::Model;
 

@@ -3,8 +3,8 @@ ghost use Rattle.std.specs.Prelude.{◌≡◌, [], false};
 ghost use mathlib.Core.List.{IsPrefix};
 
 use crate::parts::held_room::RoomList;
-use mono_history::History;
 use mono_machine::{Event, Report};
+use mono_model::History;
 use std::alloc::Global;
 
 /// An entry: one step of a runtime.

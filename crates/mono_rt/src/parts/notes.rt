@@ -9,8 +9,8 @@ ghost use Rattle.mono_rt.specs.HeldRoom.{HasRoomFor};
 use crate::parts::acts::Acts;
 use crate::parts::held_room::RoomList;
 use crate::parts::journals::{Entry, Journal};
-use mono_history::Tells;
 use mono_machine::{End, Ended, Event, Report};
+use mono_model::Tells;
 use mono_time::Due;
 use std::alloc::{AllocError, Global};
 

@@ -5,9 +5,9 @@ ghost use Rattle.mono_rt.specs.Drains.{IsReady};
 ghost use Rattle.mono_rt.specs.Journals.{HasPlaces};
 
 use crate::parts::journals::Journal;
-use mono_history::Tells;
 use mono_inbox::InboxState;
 use mono_machine::List;
+use mono_model::Tells;
 use std::alloc::Global;
 
 /// The tasks that a drain took from the inbox, and the list for those of them that it wakes.

@@ -1,5 +1,0 @@
-use Rattle.mono_load.proofs.OneSummaryLemmas as law
-use Rattle.mono_load.proofs.laws.one_summary.Goals as goal
-
-pub returns : goal.returns
-returns c = law.one_summary
