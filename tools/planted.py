@@ -1,7 +1,7 @@
 #!/usr/bin/env python3
 """Tries the mutants of crates/*/planted on a copy of the repository, outside CI.
 
-usage: tools/planted.py [--jobs N] [--built FOLDER] [--no-tests] [CRATE ..]
+usage: tools/planted.py [--jobs N] [--built FOLDER] [--no-tests] [--list] [CRATE ..]
 
 Each planted/*.edit has the form of a must-fail edit. For each a row is printed: the crate, the mutant, and what
 refuses it. That is "clause" with the prover's words, or "proof's text" if a proof only misses a name that the edit
@@ -18,6 +18,9 @@ functions are checked as they are.
 The libraries below a crate are taken from FOLDER/NAME.rlib, or as `rt` built them in this repository, or are proved
 in the copy. N checks run at a time (2), each when memory is free. With --no-tests, what the prover lets through is
 not tested.
+
+The verdicts are kept in crates/NAME/planted/verdicts.txt, a line for each mutant: its name, the kind of verdict, and
+what fails. With --list the kept verdicts are counted, and a mutant without one, or one that got through, is named.
 """
 import argparse
 import collections
@@ -351,7 +354,55 @@ def try_crate(rtlib, copy, crate, options):
                 trial.verdicts[edit.name] = failing_tests(copy, crate, edit, options.jobs)
             print_row(crate, edit.name, *trial.verdicts[edit.name])
     shutil.rmtree(trial.of.kept, ignore_errors=True)
+    keep_verdicts(crate, trial.verdicts)
     return collections.Counter(kind for kind, _ in trial.verdicts.values())
+
+
+def record_of(crate):
+    return os.path.join(TOP, "crates", crate, "planted", "verdicts.txt")
+
+
+def kept_verdicts(crate):
+    """The verdicts that were kept, by the mutant's name."""
+    if not os.path.exists(record_of(crate)):
+        return {}
+    with open(record_of(crate), encoding="utf-8") as file:
+        rows = (line.rstrip("\n").split(": ", 1) for line in file)
+        return {name: said for name, said in rows}
+
+
+def what_fails(kind, text):
+    """The goal that is not proved, if the prover names one, or the crate of the test that fails."""
+    goal = re.search(r"`((?:returns|loop|invariant|[a-z_0-9]+-requires)[^`]*)`", text)
+    return goal[1] if goal and kind != "test" else text.removeprefix("of ") if kind == "test" else ""
+
+
+def keep_verdicts(crate, verdicts):
+    """Writes the verdicts of a crate down, with those kept of mutants that were not tried."""
+    folder = os.path.dirname(record_of(crate))
+    there = {name[: -len(".edit")] for name in os.listdir(folder) if name.endswith(".edit")}
+    rows = {name: said for name, said in kept_verdicts(crate).items() if name in there}
+    for name, (kind, text) in verdicts.items():
+        rows[name.removesuffix(".edit")] = f"{kind} {what_fails(kind, text)}".strip()
+    with open(record_of(crate), "w", encoding="utf-8") as file:
+        file.writelines(f"{name}: {said}\n" for name, said in sorted(rows.items()))
+
+
+def list_verdicts(names):
+    """Counts the kept verdicts, and names each mutant that has none or got through."""
+    found = collections.Counter()
+    missing = 0
+    for crate in names:
+        rows = kept_verdicts(crate)
+        folder = os.path.dirname(record_of(crate))
+        for edit in sorted(name[: -len(".edit")] for name in os.listdir(folder) if name.endswith(".edit")):
+            kind = next((it for it in KINDS if rows.get(edit, "").startswith(it)), None)
+            found[kind] += 1
+            if kind in (None, "GOT THROUGH", "let through", "no verdict", "bad edit"):
+                print(f"{crate:14} {edit:45} {kind or 'not tried'}")
+                missing += 1
+    print(f"all: {counts(found)}, {found[None]} not tried")
+    return 1 if missing else 0
 
 
 def counts(found):
@@ -363,12 +414,15 @@ def options_of(words):
     parser.add_argument("--jobs", type=int, default=2)
     parser.add_argument("--built")
     parser.add_argument("--no-tests", action="store_true")
+    parser.add_argument("--list", action="store_true")
     parser.add_argument("crates", nargs="*")
     return parser.parse_args(words)
 
 
 def main():
     options = options_of(sys.argv[1:])
+    if options.list:
+        return list_verdicts(crates(options.crates))
     below.need_rt()
     all_found = collections.Counter()
     with tempfile.TemporaryDirectory(prefix="planted-") as folder:
