@@ -139,9 +139,7 @@ impl<U: Unpark, L: Ledger> RecordedWaker<U, L> {
     /// Wakes the task as `RemoteWaker::wake` does. No share counts the put.
     pub fn wake<R: Host>(&self, rt: &R) -> bool {
         let listed = self.shared.recorded.lock(rt).put(self.task);
-        if listed {
-            self.shared.unpark.unpark(rt);
-        }
+        self.shared.unpark.unpark(rt);
         listed
     }
 
@@ -151,9 +149,7 @@ impl<U: Unpark, L: Ledger> RecordedWaker<U, L> {
         ensures calls { CountsKept result share.old share.new }
     {
         let reply = self.shared.recorded.lock(rt).put_with(self.task, share);
-        if reply.is_listed() {
-            self.shared.unpark.unpark(rt);
-        }
+        self.shared.unpark.unpark(rt);
         reply
     }
 

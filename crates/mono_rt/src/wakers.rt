@@ -16,8 +16,8 @@ const LOT: usize = 64;
 /// The inbox, and the calls on it that are put off so that a task takes its lock less than once. Tasks are made known
 /// in rows, before their first turns, and made unknown together, after their ends.
 ///
-/// No thread has a waker of a task that had no turn yet. A wake of a task that ended is not listed and ends no park, once
-/// a drain has made the task unknown. One that came before is listed, ends one park, and the drain finds the task finished.
+/// No thread has a waker of a task that had no turn yet. A wake of a task that ended is not listed, once a drain has made
+/// the task unknown. One that came before is listed, and the drain finds the task finished. Each wake ends a park.
 #[derive(Drop)]
 pub struct Wakers<U: Unpark> {
     inbox: Inbox<U>,

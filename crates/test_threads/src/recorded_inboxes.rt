@@ -191,8 +191,10 @@ fn wakes_end_parks<L: Ledger, R: Host + Abort>(rt: &R, alloc: Global, blank: Bla
     let (inbox, mut shares) = made.expect(rt, "memory");
     let waker = inbox.waker(rt, alloc, 3).expect(rt, "memory");
     let mut share = shares.pop().expect(rt, "a share");
-    waker.wake(rt);
-    parker.park(rt);
+    for is_listed in [true, false] {
+        assert!(rt; waker.wake(rt) == is_listed);
+        parker.park(rt);
+    }
     let mut tasks = Vec::new(alloc);
     inbox.drain(rt, alloc, &mut tasks).expect(rt, "memory");
     if share.calls() == 0 {

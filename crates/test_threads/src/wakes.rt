@@ -236,22 +236,41 @@ impl Unpark for CountsUnparks {
     }
 }
 
+/// Returns a handle that counts its unparks, and the count.
+fn counts_unparks<R: Abort>(rt: &R, alloc: Global) -> (CountsUnparks, Arc<AtomicU64, Global>) {
+    let count = Arc::new(alloc, AtomicU64::new(0)).expect(rt, "memory");
+    let ours = Arc::try_clone(&count).expect(rt, "memory");
+    (CountsUnparks(ours), count)
+}
+
 #[test]
-fn only_a_wake_that_is_listed_unparks(rt: HostRuntime) {
+fn each_wake_unparks_once_and_no_other_call_does(rt: HostRuntime) {
     let alloc = rt.alloc();
-    let count = Arc::new(alloc, AtomicU64::new(0)).expect(&rt, "memory");
-    let ours = CountsUnparks(Arc::try_clone(&count).expect(&rt, "memory"));
-    let inbox = Inbox::new(alloc, 0, ours).expect(&rt, "memory");
+    let (handle, count) = counts_unparks(&rt, alloc);
+    let inbox = Inbox::new(alloc, 0, handle).expect(&rt, "memory");
     let waker = inbox.waker(&rt, alloc, 3).expect(&rt, "memory");
+    assert_eq!(rt; count.load(Ordering::SeqCst), 0);
     assert!(rt; waker.wake(&rt));
-    assert!(rt; !waker.wake(&rt));
     assert_eq!(rt; count.load(Ordering::SeqCst), 1);
+    assert!(rt; !waker.wake(&rt));
+    assert_eq!(rt; count.load(Ordering::SeqCst), 2);
     let mut tasks = Vec::new(alloc);
     inbox.drain(&rt, alloc, &mut tasks).expect(&rt, "memory");
-    assert!(rt; waker.wake(&rt));
-    assert_eq!(rt; count.load(Ordering::SeqCst), 2);
-    inbox.drain(&rt, alloc, &mut tasks).expect(&rt, "memory");
     inbox.retire(&rt, 3);
+    assert_eq!(rt; count.load(Ordering::SeqCst), 2);
     assert!(rt; !waker.wake(&rt));
+    assert_eq!(rt; count.load(Ordering::SeqCst), 3);
+    assert!(rt; tasks.as_slice() == [3].as_slice());
+}
+
+// A caller that could not drain relies on it: the task waits already, and perhaps nobody wakes it again.
+#[test]
+fn an_inbox_unparks_without_a_wake(rt: HostRuntime) {
+    let alloc = rt.alloc();
+    let (handle, count) = counts_unparks(&rt, alloc);
+    let inbox = Inbox::new(alloc, 0, handle).expect(&rt, "memory");
+    inbox.unpark(&rt);
+    assert_eq!(rt; count.load(Ordering::SeqCst), 1);
+    inbox.unpark(&rt);
     assert_eq!(rt; count.load(Ordering::SeqCst), 2);
 }
