@@ -8,8 +8,12 @@ mod closes;
 #[cfg(test)]
 mod crossings;
 #[cfg(test)]
+mod gaps;
+#[cfg(test)]
 mod lanes;
 #[cfg(test)]
 mod receives;
+#[cfg(test)]
+mod seats;
 #[cfg(test)]
 mod wakes;
