@@ -31,5 +31,5 @@ pub use scripts::fault_of_script;
 pub use services::{Served, Service, serve};
 pub use sink::{Sink, SinkFault, write_all};
 pub use source::{InputError, MAX_INPUT, Source, SourceFault, read_all};
-pub use standard::{StdinSource, StdoutSink};
+pub use standard::{ReadSource, StdinSource, StdoutSink, WriteSink};
 pub use tries::{has_taken, is_tried_again, read_again, write_again};

@@ -1,5 +1,5 @@
 // Calls of the system that are repeated while a signal interrupts them.
-ghost use Rattle.std.specs.Prelude.{◌≡◌, ◌<◌, ◌≤◌, ◌↔◌, ◌⊎◌, IfOk, OnErr, IsTrue, take, length};
+ghost use Rattle.std.specs.Prelude.{◌≡◌, ◌<◌, ◌≤◌, ◌↔◌, ◌⊎◌, IfOk, OnErr, IsSome, IsTrue, take, length};
 ghost use Rattle.std.specs.Io.KnownBytes.{Keeps, Appends, Consumes, IsAtEnd};
 ghost use Rattle.mono_text.specs.Environment.{HasCause, HasRisen};
 
@@ -84,15 +84,16 @@ impl Failures {
 
     // Counts one more failure, with this error.
     fn add(&mut self, error: Option<io::Error>)
-        ensures { (self.old.count ≤ self.new.count) × HasRisen self.old.count self.new.count }
+        ensures count { (self.old.count ≤ self.new.count) × HasRisen self.old.count self.new.count }
+        ensures error { self.new.error ≡ error }
     {
         self.count = self.count.saturating_add(1);
         self.error = error;
     }
 }
 
-/// Reads as [`read_again`] does, and counts a read that failed (`cause`). It returns 0 for a buffer that is not empty
-/// only at the end of the input (`end`).
+/// Reads as [`read_again`] does, and counts a read that failed (`cause`), with its error (`error`). It returns 0 for a
+/// buffer that is not empty only at the end of the input (`end`).
 pub(crate) fn read_counted<R: Read>(
     reader: &mut R,
     failures: &mut Failures,
@@ -103,6 +104,7 @@ pub(crate) fn read_counted<R: Read>(
     ensures end { IfOk result (λ n. n ≡ 0 → 0 < length buffer.old → IsAtEnd (R.remaining reader.new)) }
     ensures failed { OnErr result (Keeps (R.remaining reader.old) (R.remaining reader.new)) }
     ensures cause { HasCause failures.old.count failures.new.count result }
+    ensures error { OnErr result (IsSome failures.new.error) }
 {
     match read_again(reader, buffer) {
         Ok(n) => Ok(n),
@@ -113,7 +115,8 @@ pub(crate) fn read_counted<R: Read>(
     }
 }
 
-/// Writes as [`write_again`] does, and counts a write that failed (`cause`), or that took no byte of some (`some`).
+/// Writes as [`write_again`] does, and counts a write that failed (`cause`), or that took no byte of some (`some`). Such a
+/// write has taken nothing (`failed`).
 pub(crate) fn write_counted<W: Write>(
     writer: &mut W,
     failures: &mut Failures,
@@ -122,6 +125,7 @@ pub(crate) fn write_counted<W: Write>(
     ensures within { IfOk result (λ n. n ≤ length piece.now) }
     ensures some { IfOk result (λ n. 0 < length piece.now → 0 < n) }
     ensures bytes { IfOk result (λ n. Appends (W.contents writer.old) (W.contents writer.new) (take n piece.now)) }
+    ensures failed { OnErr result (Keeps (W.contents writer.old) (W.contents writer.new)) }
     ensures cause { HasCause failures.old.count failures.new.count result }
 {
     match write_again(writer, piece) {

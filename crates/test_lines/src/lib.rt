@@ -5,6 +5,8 @@
 #[cfg(test)]
 mod complaints;
 #[cfg(test)]
+mod edges;
+#[cfg(test)]
 mod event_texts;
 #[cfg(test)]
 mod executors;

@@ -1,0 +1,90 @@
+// Sources over readers and sinks over writers whose calls fail in turn.
+use mono_text::{ReadSource, Sink, SinkFault, Source, SourceFault, WriteSink};
+use std::io::{self, ErrorKind, Read, Write};
+
+/// What a call of the system answers: a number of bytes at most, or an error of this kind.
+#[derive(Clone, Copy)]
+enum Answer {
+    Moves(usize),
+    Fails(ErrorKind),
+}
+
+/// A reader or writer with these answers, one for each call; after them each call moves nothing.
+#[derive(Drop)]
+struct Scripted {
+    answers: [Answer; 3],
+    calls: usize,
+}
+
+impl Scripted {
+    /// Returns a reader or writer that was never called.
+    fn new(answers: [Answer; 3]) -> Scripted {
+        Scripted { answers, calls: 0 }
+    }
+
+    // Returns the answer to this call, which has room for `room` bytes.
+    fn answer(&mut self, room: usize) -> io::Result<usize> {
+        let answer = self.answers.get(self.calls);
+        self.calls = self.calls.saturating_add(1);
+        match answer {
+            Some(Answer::Moves(n)) => Ok(room.min(*n)),
+            Some(Answer::Fails(kind)) => Err(io::Error::from(*kind)),
+            None => Ok(0),
+        }
+    }
+}
+
+impl Read for Scripted {
+    fn read(&mut self, buffer: &mut [u8]) -> io::Result<usize> {
+        self.answer(buffer.len())
+    }
+}
+
+impl Write for Scripted {
+    fn write(&mut self, piece: &[u8]) -> io::Result<usize> {
+        self.answer(piece.len())
+    }
+
+    fn flush(&mut self) -> io::Result<()> {
+        Ok(())
+    }
+}
+
+const IN_ORDER: [Answer; 3] = [
+    Answer::Moves(2),
+    Answer::Fails(ErrorKind::BrokenPipe),
+    Answer::Moves(9),
+];
+
+// Returns the kind of an error, if there is one.
+fn kind_of(error: Option<&io::Error>) -> Option<ErrorKind> {
+    match error {
+        Some(error) => Some(error.kind()),
+        None => None,
+    }
+}
+
+#[test]
+fn a_failed_read_is_a_fault_and_no_end(rt: HostRuntime) {
+    let mut source = ReadSource::new(Scripted::new(IN_ORDER));
+    let mut buffer = [0u8; 4];
+    assert!(&rt; source.read(&mut buffer) == Ok(2));
+    assert!(&rt; kind_of(source.error()) == None);
+    assert!(&rt; source.read(&mut buffer) == Err(SourceFault));
+    assert!(&rt; kind_of(source.error()) == Some(ErrorKind::BrokenPipe));
+    assert!(&rt; source.read(&mut buffer) == Ok(4));
+    assert!(&rt; source.read(&mut buffer) == Ok(0));
+}
+
+#[test]
+fn a_failed_write_is_a_fault_and_no_success(rt: HostRuntime) {
+    let mut sink = WriteSink::new(Scripted::new(IN_ORDER));
+    assert!(&rt; sink.write(b"abcd") == Ok(2));
+    assert!(&rt; kind_of(sink.error()) == None);
+    assert!(&rt; sink.write(b"cd") == Err(SinkFault));
+    assert!(&rt; kind_of(sink.error()) == Some(ErrorKind::BrokenPipe));
+    assert!(&rt; sink.write(b"cd") == Ok(2));
+    assert!(&rt; sink.write(b"ef") == Err(SinkFault));
+    assert!(&rt; kind_of(sink.error()) == None);
+    assert!(&rt; sink.write(b"") == Ok(0));
+}
