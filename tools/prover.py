@@ -79,13 +79,14 @@ class Prover:
             sys.exit(f"{library.name} is not proved, and {self.crate.name} stands on it")
 
     def check(self, worker, texts, only, holes=True):
-        """Checks the crate with these texts in place of its own: all of it, or the named functions alone.
+        """Checks the crate, with its tests, with these texts in place of its own: all of it, or the named functions alone.
 
         Returns the status and what the prover printed.
         """
         kept = os.path.join(self.kept, str(worker))
         os.makedirs(kept, exist_ok=True)
         flags = ["--jobs", "1", "--incremental", kept, *(["--allow-holes"] if holes else [])]
+        flags += ["--test"] * self.crate.has_tests()
         for path in only or ():
             flags += ["--only", f"{self.crate.name}::{path}"]
         self.wait_for_memory()

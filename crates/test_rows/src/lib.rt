@@ -3,6 +3,7 @@
 //! that begins late, and the live tasks of a run that spent its budget.
 #![tactic(auto)]
 
+#[cfg(test)]
 mod caller;
 #[cfg(test)]
 mod cases;
@@ -15,4 +16,5 @@ mod many;
 #[cfg(test)]
 mod runs;
 
+#[cfg(test)]
 pub use caller::status_of;

@@ -1,11 +1,13 @@
 //! Tests of what tasks await: services, other tasks and threads.
 #![tactic(auto)]
 
+#[cfg(test)]
 mod desks;
 #[cfg(test)]
 mod handovers;
 #[cfg(test)]
 mod outsides;
+#[cfg(test)]
 mod parties;
 #[cfg(test)]
 mod peers;
