@@ -29,6 +29,19 @@ impl Model for RecordedState {
     ghost invariant = { λ a. IsFaithful a.state a.log };
 }
 
+impl InboxState {
+    /// Returns a state that also keeps its first `calls` calls, as `RecordedState::new` does.
+    pub fn recorded(
+        alloc: Global,
+        capacity: usize,
+        calls: usize,
+    ) -> Result<RecordedState, AllocError>
+        ensures { IfOk result (λ state. state ≡ new_recording calls) }
+    {
+        RecordedState::new(alloc, capacity, calls)
+    }
+}
+
 impl RecordedState {
     /// Returns the state of a new inbox, with room for `capacity` tasks. It keeps `calls` calls.
     pub fn new(alloc: Global, capacity: usize, calls: usize) -> Result<RecordedState, AllocError>
