@@ -6,10 +6,11 @@ ghost use Rattle.mono_replay.specs.Refinement.{Stands};
 ghost use Rattle.mono_replay.specs.Load.{Goes, GoesOn, IsSummary, load_limits, sleep_turn, sleepers, clocks, endings};
 
 use crate::tallies::{Tally, added};
-use crate::{Act, Blocking, End, Event, Exec, List, Query, TurnStep};
+use crate::{Act, Blocking, End, Event, Exec, List, Query, Reply, Report, TurnStep};
 use mono_machine::Limits;
 use mono_model::FastRand;
 use std::alloc::{AllocError, Global};
+use std::mem;
 
 /// The summary of a load's reports.
 #[derive(Clone, Copy, Drop)]
@@ -32,13 +33,70 @@ fn one(alloc: Global, exec: &mut Exec, sum: &mut Tally, event: &Event) -> Result
     Ok(())
 }
 
-fn turn_of_sleep(alloc: Global, k: u64, millis: u32) -> Result<Event, AllocError>
+// The lists of a turn, which the next turn uses again.
+#[derive(Drop)]
+struct Spare {
+    steps: List<TurnStep>,
+    replies: List<Reply>,
+}
+
+// Keeps the list of a turn's replies.
+fn keep_replies(report: Report, spare: &mut List<Reply>) {
+    if let Report::Turn(_, replies, _) = report {
+        *spare = replies;
+    }
+}
+
+// Keeps the list of a turn's steps.
+fn keep_steps(event: Event, spare: &mut List<TurnStep>) {
+    if let Event::Turn(steps, _) = event {
+        *spare = steps;
+    }
+}
+
+// Applies an event, adds its report to the sum, and keeps the list of a turn's replies.
+fn one_turn(
+    alloc: Global,
+    exec: &mut Exec,
+    sum: &mut Tally,
+    event: &Event,
+    spare: &mut List<Reply>,
+) -> Result<(), AllocError>
+    ensures { OnOk result (GoesOn exec.old sum.old event.now exec.new sum.new) }
+{
+    let report = exec.apply_reusing(alloc, event, spare)?;
+    *sum = added(*sum, &report)?;
+    keep_replies(report, spare);
+    Ok(())
+}
+
+// Returns the turn that makes and polls sleep k, in the memory of a list.
+fn turn_of_sleep(steps: List<TurnStep>, k: u64, millis: u32) -> Result<Event, AllocError>
     ensures { IfOk result (λ e. e ≡ sleep_turn k millis) }
 {
-    let mut steps = List::new(alloc);
+    let mut steps = steps;
+    steps.clear();
     steps.push(TurnStep::Act(Act::NewSleep(u128::from(millis) * 1000000)))?;
     steps.push(TurnStep::Query(Query::Sleep(k)))?;
     Ok(Event::Turn(steps, End::Pending))
+}
+
+// Applies the turn of sleep k, in the memory of an earlier turn.
+fn one_sleep(
+    alloc: Global,
+    exec: &mut Exec,
+    sum: &mut Tally,
+    k: u64,
+    millis: u32,
+    spare: &mut Spare,
+) -> Result<(), AllocError>
+    ensures { OnOk result (GoesOn exec.old sum.old (sleep_turn k millis) exec.new sum.new) }
+{
+    let steps = mem::replace(&mut spare.steps, List::new(alloc));
+    let turn = turn_of_sleep(steps, k, millis)?;
+    one_turn(alloc, exec, sum, &turn, &mut spare.replies)?;
+    keep_steps(turn, &mut spare.steps);
+    Ok(())
 }
 
 fn all_sleepers(
@@ -50,13 +108,16 @@ fn all_sleepers(
 ) -> Result<(), AllocError>
     ensures { OnOk result (Goes exec.old sum.old (sleepers 0 count random) exec.new sum.new) }
 {
+    let mut spare = Spare {
+        steps: List::new(alloc),
+        replies: List::new(alloc),
+    };
     let mut draws = random;
     let mut k = 0u64;
     'sleepers: while k < count {
         one(alloc, exec, sum, &Event::Act(Act::Spawn))?;
         let millis = draws.fastrand();
-        let turn = turn_of_sleep(alloc, k, millis)?;
-        one(alloc, exec, sum, &turn)?;
+        one_sleep(alloc, exec, sum, k, millis, &mut spare)?;
         k += 1;
     }
     Ok(())

@@ -1,5 +1,5 @@
 // A moment of the clock, in nanoseconds.
-ghost use Rattle.std.specs.Prelude.{◌≡◌, ◌≤◌, ◌<◌, ◌+◌, ◌-◌, ◌^◌, ◌↔◌, min, IsSome, IfSome};
+ghost use Rattle.std.specs.Prelude.{◌≡◌, ◌≤◌, ◌<◌, ◌+◌, ◌-◌, ◌/◌, ◌^◌, ◌↔◌, min, IsSome, IfSome};
 ghost use Rattle.std.specs.Duration.{as_nanos};
 ghost use Rattle.mono_model.specs.Ticks.{max_nanos, up, down};
 
@@ -47,7 +47,7 @@ impl Instant {
         ensures tick { result ≡ up (nanos_of self.now) }
         ensures range { result < 2 ^ 63 }
     {
-        ((self.nanos + 999999) / 1000000) as u64
+        millis_of(self.nanos + 999999)
     }
 
     /// Returns the tick of a clock's reading: milliseconds, rounded down.
@@ -55,7 +55,7 @@ impl Instant {
         ensures tick { result ≡ down (nanos_of self.now) }
         ensures range { result < 2 ^ 63 }
     {
-        (self.nanos / 1000000) as u64
+        millis_of(self.nanos)
     }
 
     /// Returns the clock's reading at the start of the running turn.
@@ -219,4 +219,16 @@ impl Sub<Instant> for Instant {
     fn sub(self, earlier: Instant) -> Duration {
         self.duration_since(earlier)
     }
+}
+
+// Returns the whole milliseconds of a number of nanoseconds, by a division of 64 bits if the number fits.
+#[inline(always)]
+fn millis_of(nanos: u128) -> u64
+    requires { nanos ≤ max_nanos + 999999 }
+    ensures { result ≡ nanos / 1000000 }
+{
+    if nanos <= u64::MAX as u128 {
+        return nanos as u64 / 1000000;
+    }
+    (nanos / 1000000) as u64
 }
