@@ -3,7 +3,8 @@
 #   make try         the example by the program as it stands, unproved, in about two processor minutes; the program is
 #                    kept as bin/monoio-unproved
 #   make run         proves and builds the program where that is not done, and replays the example
-#   make build       proves and builds the program, and leaves it as bin/monoio
+#   make build       proves and builds the program, and leaves it as bin/monoio; what it proves, the gate does not prove
+#                    again on this machine
 #   make test        the gate: every proof, mutant, test and program; it ends in `rt ci`
 #   make examples    builds the program, and compares each example's reports with those stored beside it, and the
 #                    manual page with --help; it fails if a crate use_* never gives up something that it holds
@@ -30,7 +31,7 @@ SECONDS = 60
 SIZE =
 EVENTS = 100000000
 
-.PHONY: help run build has-rt has-rustc test examples pages soak soak-threads year try bench planted gate-times server server-bench
+.PHONY: help run build has-rt has-rustc test examples pages soak soak-threads year try bench planted gate-times build-server server server-bench
 
 help:
 	@sed -n 's/^#   //p' Makefile
@@ -39,10 +40,7 @@ run: build
 	bin/monoio $(WORDS) < $(EXAMPLE)
 
 build: has-rt
-	@mkdir -p bin
-	@echo 'proving the program and what stands below it: some 100 processor minutes from nothing; log: bin/build.log'
-	@python3 tools/progress.py monoio bin/build.log rt run -- --version
-	@cp crates/monoio/out/monoio bin/monoio
+	@python3 tools/build.py monoio
 
 # A sentence if a tool is missing.
 has-rt:
@@ -70,26 +68,24 @@ soak: build
 	python3 tools/soak/soak.py bin/monoio $(SECONDS)
 	python3 tools/soak/faults.py bin/monoio
 	python3 tools/soak/scripts.py bin/monoio
-	@python3 tools/progress.py test_out_of_memory bin/refused.log rt run -- send 300
-	cp crates/test_out_of_memory/out/test_out_of_memory bin/refused
+	@python3 tools/build.py test_out_of_memory bin/refused
 	python3 tools/soak/refused.py bin/refused
 
 soak-threads: has-rt
 	python3 tools/soak/threads.py $(SECONDS)
 
 year: has-rustc has-rt
-	@mkdir -p bin
-	@python3 tools/progress.py mono_bench bin/bench.log rt run -- all
+	@python3 tools/build.py mono_bench
 	@rustc --edition 2021 -C opt-level=3 tools/bench/year.rs -o bin/year
-	@python3 tools/soak/year.py crates/mono_bench/out/mono_bench bin/year $(EVENTS)
+	@python3 tools/soak/year.py bin/mono_bench bin/year $(EVENTS)
 
 try: has-rt
 	@echo 'unproved: this runs the program before any proof'
 	@python3 tools/unproved.py bin/monoio-unproved $(WORDS) < $(EXAMPLE)
 
 bench: has-rustc build
-	@python3 tools/progress.py mono_bench bin/bench.log rt run -- all
-	@python3 tools/bench/run.py bin/monoio crates/mono_bench/out/mono_bench $(SIZE)
+	@python3 tools/build.py mono_bench
+	@python3 tools/bench/run.py bin/monoio bin/mono_bench $(SIZE)
 
 planted: has-rt
 	python3 tools/planted.py $(CRATE)
@@ -98,15 +94,13 @@ gate-times: has-rt
 	python3 tools/gate_times.py
 
 # The program of the server, kept as bin/lease_server.
-bin/lease_server: has-rt
-	@mkdir -p bin
-	cd crates/lease_server && rt run -- 1 10 10 10 10 10 still < stdin > /dev/null
-	@cp crates/lease_server/out/lease_server bin/lease_server
+build-server: has-rt
+	@python3 tools/build.py lease_server
 
-server: bin/lease_server
+server: build-server
 	python3 tools/server/run.py bin/lease_server 10
 	python3 tools/server/faults.py bin/lease_server
 
-server-bench: bin/lease_server
+server-bench: build-server
 	tools/server/build_peer.sh bin
 	python3 tools/server/figures.py bin/lease_server bin/lease_peer

@@ -10,10 +10,16 @@ import sys
 TOP = os.path.dirname(os.path.dirname(os.path.abspath(__file__)))
 
 
-def libraries():
+def lines():
+    """The line of each crate by its name, lowest first, without comments."""
     with open(os.path.join(TOP, "crates.txt"), encoding="utf-8") as file:
-        lines = [line.split("#")[0].strip() for line in file]
-    return {line.split(":")[0].split()[0]: line.split(":")[1].split() for line in lines if line}
+        found = [line.split("#")[0].strip() for line in file]
+    return {line.split(":")[0].split()[0]: line for line in found if line}
+
+
+def libraries():
+    """The libraries that each crate names."""
+    return {name: line.split(":")[1].split() for name, line in lines().items()}
 
 
 def closure(crate):

@@ -1,12 +1,7 @@
-#!/usr/bin/env python3
-"""Runs rt on a crate and shows how far it has come: a line when a crate is begun, and one when it is proved.
+"""Follows a run of `rt ci` and shows how far it has come, for tools/build.py.
 
-usage: tools/progress.py CRATE LOG COMMAND [WORD ..]
-
-The command runs in crates/CRATE, and LOG keeps all that it prints. A line has the seconds since the start, and the number
-of crates that are done or under way; the last line has the number of all. Each minute without another line has one that
-says what runs. Errors stand once, at the end. The status is the command's. A signal ends the command, and with it all that
-rt started; the status is then 128 and the signal's number.
+A line comes when a crate is proved, with the seconds since the start and the number of crates that are done. After a
+minute without a line, one names the crates that are under way or next. Errors stand once, at the end.
 """
 import os
 import re
@@ -16,14 +11,11 @@ import subprocess
 import sys
 import time
 
-sys.dont_write_bytecode = True
 import below
 
-BEGINS = re.compile(r"^rt: chose --jobs .* for (\w+)$|^crate (\w+): modules loaded=")
-GOES_ON = re.compile(r"^so far: (.* functions checked)")
-PROVED = re.compile(r"^logic=proved \w+=(\d+)")
-FAILED = re.compile(r": error(\[|:)|^error(\[|:)|: no proof: |: not proved$| NOT PROVED")
-WAITS = re.compile(r"^rt: (.*waiting.*)")
+DONE = re.compile(r"^rt: (\w+) (proved$|is kept: )")
+WAITS = re.compile(r"^rt: (.*waiting .*)")
+FAILED = re.compile(r": error(\[|:)|^error(\[|:)|: no proof: |: not proved$| NOT PROVED|^rt: FAILED|: the program |: what the program ")
 # How much of the log stands at the end of a command that failed without a line of the kinds above.
 TAIL = 30
 # After how many seconds without a line there is one that says what runs.
@@ -31,21 +23,17 @@ QUIET = 60
 
 
 class Progress:
-    """What is shown of the lines of one run."""
+    """What is shown of the lines of one run over these crates."""
 
-    def __init__(self, crate):
-        self.all = set(below.closure(crate))
-        self.done = set()
+    def __init__(self, crates):
+        self.all, self.done = crates, set()
         self.failures, self.tail = [], []
-        self.name, self.doing = "", "rt reads all sources before the first proof"
         self.start = self.shown = time.monotonic()
-        self.show()
 
-    def show(self):
-        """Prints a line: the time, the count, the crate and what is done with it."""
+    def show(self, text):
+        """Prints a line: the time, the count, and a text."""
         self.shown = time.monotonic()
-        count = f"{len(self.done):2} of {len(self.all)}"
-        print(f"{self.shown - self.start:6.0f} s  {count}  {self.name:18}  {self.doing}".rstrip(), flush=True)
+        print(f"{self.shown - self.start:6.0f} s  {len(self.done):2} of {len(self.all)}  {text}", flush=True)
 
     def take(self, line):
         """Shows what a line of the command says, or what runs if nothing was shown for long; without a line it is None."""
@@ -53,41 +41,27 @@ class Progress:
             self.tail = (self.tail + [line])[-TAIL:]
             self.read(line)
         if time.monotonic() - self.shown >= QUIET:
-            self.show()
+            self.show("under way or next: " + " ".join(self.ready()))
+
+    def ready(self):
+        """The crates that are not done and whose libraries are."""
+        libraries = below.libraries()
+        return [name for name in self.all if name not in self.done and not (set(libraries[name]) & set(self.all)) - self.done]
 
     def read(self, line):
-        begins, goes_on, proved, waits = (it.match(line) for it in (BEGINS, GOES_ON, PROVED, WAITS))
-        if begins:
-            self.begins(begins[1] or begins[2])
-        elif goes_on:
-            self.doing = goes_on[1]
-        elif proved:
-            self.doing = f"functions proved: {proved[1]}"
-            self.show()
-            self.doing = "rt compiles"
+        done, waits = DONE.match(line), WAITS.match(line)
+        if done:
+            self.done.add(done[1])
+            self.show(f"{done[1]:18}  {'proved' if done[2] == 'proved' else 'kept from an earlier proof'}")
         elif waits:
-            self.doing = waits[1]
-            self.show()
-        elif FAILED.search(line):
-            self.fails(line.removeprefix("so far: "))
-
-    def begins(self, name):
-        """Shows that a crate is begun, once; the crates below it are done."""
-        if name != self.name:
-            self.name, self.doing = name, "begun"
-            self.done |= set(below.closure(name)) & self.all
-            self.show()
-
-    def fails(self, line):
-        """Keeps a failure once, and none that only follows from another."""
-        if line not in self.failures and "no proof: it calls " not in line:
+            self.show(waits[1])
+        elif FAILED.search(line) and line not in self.failures and "no proof: it calls " not in line:
             self.failures.append(line)
 
     def end(self, status, log):
         """Shows how the command ended."""
         if status == 0:
-            self.done, self.name, self.doing = self.all, "", "all proved"
-            self.show()
+            self.show("all proved")
         else:
             print(*(self.failures or self.tail), f"status {status}; the whole text: {log}", sep="\n", flush=True)
 
@@ -118,18 +92,17 @@ def follow(run, progress, log):
     return run.wait()
 
 
-def main():
-    if len(sys.argv) < 4:
-        sys.exit(__doc__)
-    crate, log, command = sys.argv[1], sys.argv[2], sys.argv[3:]
-    below.need_rt()
+def run_ci(folder, crates, log):
+    """Runs `rt ci` in a folder and shows its progress; returns its status.
+
+    A signal ends the command, and with it all that rt started; the status is then 128 and the signal's number.
+    """
     for it in (signal.SIGINT, signal.SIGTERM, signal.SIGHUP):
         # A signal that the caller ignores, as nohup does, stays so.
         if signal.getsignal(it) is not signal.SIG_IGN:
             signal.signal(it, lambda number, _: sys.exit(128 + number))
-    progress = Progress(crate)
-    folder = os.path.join(below.TOP, "crates", crate)
-    run = subprocess.Popen(command, cwd=folder, stdin=subprocess.DEVNULL, stdout=subprocess.PIPE, stderr=subprocess.STDOUT)
+    progress = Progress(crates)
+    run = subprocess.Popen(["rt", "ci"], cwd=folder, stdin=subprocess.DEVNULL, stdout=subprocess.PIPE, stderr=subprocess.STDOUT)
     try:
         status = follow(run, progress, log)
         progress.end(status, log)
@@ -142,7 +115,3 @@ def main():
         run.terminate()
         run.wait()
     return status if status >= 0 else 128 - status
-
-
-if __name__ == "__main__":
-    sys.exit(main())
