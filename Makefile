@@ -22,6 +22,8 @@
 #   make server      proves and builds the lease server, runs it on two cores with a generated load for ten seconds, checks
 #                    each reply, and then does so under faults
 #   make server-bench measures the lease server beside the same server on tokio; needs cargo and librust-tokio-dev
+#   make view-test   opens journals in headless Chromium by tools/view.py, as a user does: the stuck task of a lost wake is
+#                    found, and 100,000 lines open and move as they should; needs chromium
 #   make gate-times  the gate from nothing, with the processor seconds of each crate
 
 WORDS = replay attached 16 16 16
@@ -31,7 +33,7 @@ SECONDS = 60
 SIZE =
 EVENTS = 100000000
 
-.PHONY: help run build has-rt has-rustc test examples pages soak soak-threads year try bench planted gate-times build-server server server-bench
+.PHONY: help run build has-rt has-rustc test examples pages soak soak-threads year try bench planted gate-times build-server server server-bench view-test
 
 help:
 	@sed -n 's/^#   //p' Makefile
@@ -89,6 +91,9 @@ bench: has-rustc build
 
 planted: has-rt
 	python3 tools/planted.py $(CRATE)
+
+view-test:
+	@python3 tools/view_test.py
 
 gate-times: has-rt
 	python3 tools/gate_times.py
