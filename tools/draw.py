@@ -5,8 +5,10 @@ usage: tools/draw.py < JOURNAL > PICTURE.svg
 
 Each task has a lane with its turns and, between them, what it waits for. The clock is the last lane, with parks and clock
 steps. An arrow is a wake: from the task that woke, or from the clock. A turn names the jobs that it made or saw end. The
-places from left to right are those of the journal, so that what happens at one instant stands apart.
+places from left to right are those of the journal, so that what happens at one instant stands apart. In a wide picture the
+names come again. For more than some 40 events, see tools/view.py.
 """
+import collections
 import signal
 import sys
 from xml.sax.saxutils import escape
@@ -14,7 +16,9 @@ from xml.sax.saxutils import escape
 sys.dont_write_bytecode = True
 import journal
 
-COLUMN, LANE, LEFT, TOP = 74, 62, 70, 34
+COLUMN, LANE, NOTE, LEFT, TOP = 74, 62, 11, 70, 34
+# So many columns lie between two names of a lane.
+NAMES_APART = 12
 COLOURS = {"sleep": "#2b7bba", "task": "#8a4fb3", "job": "#c46a1b"}
 
 
@@ -40,8 +44,14 @@ def box(x, y, width, height, colour, title):
 class Picture:
     def __init__(self, of):
         self.of = of
-        self.lanes = {task: TOP + LANE * row for row, task in enumerate(of.tasks())}
-        self.clock = TOP + LANE * len(self.lanes)
+        # How many notes each task's places have: they stand below each other.
+        self.notes = collections.Counter((note.task, note.place) for note in of.notes)
+        self.lanes, self.clock = {}, TOP
+        for task in of.tasks():
+            self.lanes[task] = self.clock
+            most = max((count for (of_task, _), count in self.notes.items() if of_task == task), default=1)
+            self.clock += LANE + NOTE * (most - 1)
+        self.drawn_notes = collections.Counter()
         self.parts = []
 
     def width(self):
@@ -52,9 +62,14 @@ class Picture:
 
     def draw_lanes(self):
         for task, y in self.lanes.items():
-            self.parts.append(text(LEFT - 12, y + 4, f"task {task}", 12, "end"))
-        self.parts.append(text(LEFT - 12, self.clock + 4, "clock", 12, "end"))
+            self.draw_name(f"task {task}", y)
+        self.draw_name("clock", self.clock)
         self.parts.append(line(LEFT, self.clock, self.width() - 20, self.clock, "#666666"))
+
+    def draw_name(self, name, y):
+        self.parts.append(text(LEFT - 12, y + 4, name, 12, "end"))
+        for place in range(NAMES_APART, self.of.place - 2, NAMES_APART):
+            self.parts.append(text(x_of(place), y - 20, name, 9, colour="#777777"))
 
     def draw_span(self, span):
         y = self.lanes[span.task]
@@ -79,7 +94,9 @@ class Picture:
             self.parts.append(text(x, self.clock + 20, mark.text, 10))
 
     def draw_note(self, note):
-        self.parts.append(text(x_of(note.place), self.lane(note.task) + 24, note.text, 9, colour=COLOURS["job"]))
+        y = self.lane(note.task) + 24 + NOTE * self.drawn_notes[note.task, note.place]
+        self.drawn_notes[note.task, note.place] += 1
+        self.parts.append(text(x_of(note.place) + 4, y, note.text, 9, "start", COLOURS["job"]))
 
     def draw_wake(self, wake):
         x, begin, end = x_of(wake.place), self.lane(wake.source), self.lane(wake.task)

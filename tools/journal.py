@@ -23,6 +23,7 @@ Reply = collections.namedtuple("Reply", "number core arrived tick text place")
 POLLS = {"poll": "sleep", "join": "task", "job": "job"}
 DROPS = {"drop-sleep": "sleep", "drop-join": "task", "drop-job": "job"}
 ROW = re.compile(r"(?:monoio: )?(task (\d+) (?:waits for|is queued|runs|has finished).*)")
+SOURCE = re.compile(r"waits for (sleep|task|job) (\d+)(?: until (\d+) ms)?")
 REPLY = re.compile(r"(\d+) (?:bad|(\d+) (\d+) (\d+) (.+))")
 
 
@@ -196,8 +197,24 @@ class Journal:
     def tell(self, source, what, task, value=None):
         self.tells[source].append(Tell(self.place, what, task, value))
 
+    def take_list(self):
+        """Makes waits of a list of tasks that stands alone, at one place."""
+        self.step_on()
+        for task, row in self.rows.items():
+            found = SOURCE.search(row)
+            source = (found[1], int(found[2])) if found else None
+            if source:
+                self.tell(source, "made", None, int(found[3]) * 1000000 if found[3] else None)
+                self.poll(task, source, "pending")
+            if not row.endswith("has finished"):
+                name = row.split(" waits for ")[-1] if source else "a wake" if "waits for" in row else "queued"
+                self.since[task] = (self.place, self.nanos, name, (source,) if source else ())
+
     def end(self):
         self.close_park()
+        self.is_list = bool(self.rows) and self.place == 0
+        if self.is_list:
+            self.take_list()
         for task in list(self.since):
             self.end_wait(task, self.place + 1)
 

@@ -39,7 +39,7 @@ class Page:
 
     def __init__(self, of, title):
         self.of, self.title = of, title
-        names = of.tasks() or []
+        names = of.tasks()
         cores = sorted({reply.core for reply in of.replies})
         self.lane_of = {task: lane for lane, task in enumerate(names)}
         self.core_of = {core: len(names) + lane for lane, core in enumerate(cores)}
@@ -115,11 +115,12 @@ class Page:
         self.put_replies()
         self.put_jobs()
         of = self.of
-        nanos = [nanos for nanos in of.nanos_of]
+        nanos = list(of.nanos_of)
         for reply in of.replies:
             nanos[reply.place - 1] = reply.tick * 1000000
         return {
             "title": self.title,
+            "isList": of.is_list,
             "lines": of.lines,
             "lineOf": [0, *of.line_of],
             "nanos": [0, *nanos],

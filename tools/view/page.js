@@ -250,7 +250,7 @@ function drawRuler() {
     const x = NAMES + (mark - view.left) * view.scale;
     box(x, RULER - 5, 1, 5, view.palette.dim);
     if (view.byClock) words(`${+(mark / 1000).toPrecision(9)} ms`, x + 3, 13, view.palette.dim);
-    else if (step >= 1 && mark < PLACES) words(`line ${lineOf(Math.max(1, Math.round(mark)))}`, x + 3, 13, view.palette.dim);
+    else if (step >= 1 && mark >= 1 && mark < PLACES) words(`line ${lineOf(Math.max(1, Math.round(mark)))}`, x + 3, 13, view.palette.dim);
   }
 }
 
@@ -327,15 +327,14 @@ const topOf = (lane) => {
 // Arrows appear once they are some pixels apart; those of the chosen lane always do.
 function drawWakes() {
   const low = lower(data.wakes, placeAt(NAMES), first), high = lower(data.wakes, placeAt(view.width) + 1, first);
-  const isDense = (high - low) * 5 > chartWidth();
-  if (isDense && view.lane < 0) return;
-  const chosen = isDense ? [...wakesTo[view.lane], ...wakesOf[view.lane]].sort((a, b) => a[0] - b[0]) : data.wakes;
-  let last = -10;
-  eachInView(chosen, first, first, (wake) => {
-    const x = middleOf(wake[0]);
-    if ((wake[3] === SPAWN ? view.spawns : view.wakes) && (!isDense || x - last > 2)) drawArrow(wake, x);
-    last = x;
-  });
+  const isSeen = (wake) => (wake[3] === SPAWN ? view.spawns : view.wakes);
+  if ((high - low) * 5 <= chartWidth()) {
+    data.wakes.slice(low, high).filter(isSeen).forEach((wake) => drawArrow(wake, middleOf(wake[0])));
+  } else if (view.lane >= 0) {
+    const draws = (wake) => isSeen(wake) && drawArrow(wake, middleOf(wake[0]));
+    eachInView(wakesTo[view.lane], first, first, draws);
+    eachInView(wakesOf[view.lane], first, first, draws);
+  }
 }
 
 const isInView = (y) => y !== null && y > TOP && y < view.height - STRIP;
@@ -485,6 +484,7 @@ function why(lane, place) {
   const { turns, ends, waits, name, row } = data.lanes[lane];
   const i = lower(turns, place + 1) - 1, turn = turns[i], wait = waitAt(lane, place);
   const parts = [];
+  if (data.isList) return [escaped(row)];
   if (turn === place) parts.push(`${name} has its turn here; the turn ends <b>${escaped(ends[i])}</b>.`);
   if (!wait) {
     if (turn === undefined) return [`${name} is not made yet.`];
@@ -543,11 +543,10 @@ function showPanel() {
   let text = `<h2>Line ${line}, at ${nanos} ns</h2>${stepsTable(data.lines[line - 1] || "")}${aboutReply(line)}`;
   if (lane >= 0 && data.lanes[lane].task >= 0) {
     text += `<h2>Why does ${escaped(data.lanes[lane].name)} wait?</h2><div class="why">${why(lane, PLACES > 1 ? view.place : 1).map((part) => `<p>${part}</p>`).join("")}</div>`;
-    if (PLACES === 1 && data.lanes[lane].row) text += `<p>${escaped(data.lanes[lane].row)}</p>`;
     const waits = chain(lane, view.place);
     if (waits.length > 1) {
       const root = waits[waits.length - 1];
-      text += `<h2>Who waits for whom</h2><div class="why">${waits.map((other) => `<p>${laneLink(other, view.place)}</p>`).join("")}${why(root, view.place).map((part) => `<p>${part}</p>`).join("")}</div>`;
+      text += `<h2>Who waits for whom</h2><div class="why"><p>${waits.map((other) => laneLink(other, view.place)).join(" waits for ")}</p>${why(root, view.place).map((part) => `<p>${part}</p>`).join("")}</div>`;
     }
   }
   if (stuckLanes.length) {
@@ -766,10 +765,12 @@ function fillLegend() {
   element("keys").innerHTML = KEYS.map(([key, text]) => `<dt>${key}</dt><dd>${text}</dd>`).join("");
 }
 
+const counted = (count, name) => `${count} ${name}${count === 1 ? "" : "s"}`;
+
 function fillHead() {
   element("title").textContent = document.title = data.title;
   const nanos = data.nanos[PLACES - 1] || 0, cores = data.lanes.filter((lane) => lane.task < 0).length;
-  element("facts").textContent = `${data.lines.length} lines, ${cores ? `${cores} cores` : `${data.lanes.length} tasks`}, ${nanos / 1e6} ms`
+  element("facts").textContent = `${counted(data.lines.length, "line")}, ${counted(cores || data.lanes.length, cores ? "core" : "task")}, ${nanos / 1e6} ms`
     + (stuckLanes.length ? `, ${stuckLanes.length} stuck` : "");
 }
 
