@@ -96,6 +96,14 @@ class Load:
             return f"send {client.key} {client.actor} {self.draw.choice(actors)} {self.draw.randrange(1000)}"
         return f"receive {client.key}"
 
+    def waits(self):
+        """Lines that leave a wait on each core."""
+        for keys in self.locks:
+            for _ in range(2):
+                client = Client(keys[0], core_of(keys[0], self.cores))
+                yield self.open(client, 3600000)
+                yield f"acquire {client.key} {client.session}"
+
     def line(self):
         """The next line."""
         if self.starts:
