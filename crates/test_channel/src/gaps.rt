@@ -113,7 +113,7 @@ impl<R: Host + Drop> RemoteContext<NoUnpark> for Gap<R> {
 }
 
 // The context of the task 7 of this inbox.
-fn gap<R: Host + Abort + Copy + Drop>(
+fn with_gap<R: Host + Abort + Copy + Drop>(
     rt: R,
     alloc: Global,
     inbox: &Inbox<NoUnpark>,
@@ -136,7 +136,7 @@ fn received<R: Host + Abort + Copy + Drop>(
     act: Act,
 ) -> Option<Option<u64>> {
     let inbox = Inbox::new(alloc, 8, NoUnpark).expect(&rt, "memory");
-    let mut cx = gap(rt, alloc, &inbox, act);
+    let mut cx = with_gap(rt, alloc, &inbox, act);
     let mut recv = receiver.recv();
     match polled(&rt, alloc, &mut cx, &mut recv) {
         Poll::Pending => None,
@@ -152,7 +152,7 @@ fn sent<R: Host + Abort + Copy + Drop>(
     act: Act,
 ) -> Option<bool> {
     let inbox = Inbox::new(alloc, 8, NoUnpark).expect(&rt, "memory");
-    let mut cx = gap(rt, alloc, &inbox, act);
+    let mut cx = with_gap(rt, alloc, &inbox, act);
     let mut send = sender.send(12);
     match polled(&rt, alloc, &mut cx, &mut send) {
         Poll::Pending => None,
