@@ -6,6 +6,8 @@ mod channels;
 #[cfg(test)]
 mod futures;
 #[cfg(test)]
+mod many;
+#[cfg(test)]
 mod memory;
 #[cfg(test)]
 mod notices;

@@ -1,0 +1,84 @@
+// Far more waits and messages than a list has room for at first: a value that gives up at some length answers Memory here.
+use mono_sync::mpsc::{Channel, Receiving, Sending};
+use mono_sync::watch::{Changing, Watch};
+use mono_sync::{Acquiring, Notify, Notifying, Semaphore};
+
+/// How many tasks wait, or how many messages are queued, at one value.
+const MANY: u64 = 200_000;
+
+#[test]
+fn many_tasks_wait_for_a_permit(rt: HostRuntime) {
+    let mut semaphore = Semaphore::new(rt.alloc(), 0);
+    let mut waits = true;
+    for task in 0..MANY {
+        waits = waits
+            & matches!(semaphore.acquire(None, task), Acquiring::Joined(had) if had == task);
+    }
+    assert!(rt; waits);
+    assert_eq!(rt; semaphore.close(rt.alloc()).len() as u64, MANY);
+}
+
+#[test]
+fn many_tasks_wait_for_a_notice(rt: HostRuntime) {
+    let mut notify = Notify::new(rt.alloc());
+    let mut waits = true;
+    for task in 0..MANY {
+        waits = waits
+            & matches!(notify.notified(None, task), Notifying::Joined(had) if had == task);
+    }
+    assert!(rt; waits);
+    assert_eq!(rt; notify.notify_waiters(rt.alloc()).len() as u64, MANY);
+}
+
+#[test]
+fn many_tasks_wait_for_a_value(rt: HostRuntime) {
+    let mut watch = Watch::new(rt.alloc(), 10u64);
+    let mut waits = true;
+    for task in 0..MANY {
+        waits = waits
+            & matches!(watch.changed(0, None, task), Changing::Joined(had) if had == task);
+    }
+    assert!(rt; waits);
+    assert_eq!(rt; watch.close(rt.alloc()).len() as u64, MANY);
+}
+
+#[test]
+fn many_tasks_wait_for_a_message(rt: HostRuntime) {
+    let mut channel: Channel<u64> = Channel::new(rt.alloc(), 4);
+    let mut waits = true;
+    for task in 0..MANY {
+        waits = waits & matches!(channel.recv(None, task), Receiving::Joined(had) if had == task);
+    }
+    assert!(rt; waits);
+    let (receivers, senders) = channel.close(rt.alloc());
+    let count = receivers.len().saturating_add(senders.len());
+    assert_eq!(rt; count as u64, MANY);
+}
+
+#[test]
+fn many_tasks_wait_to_send(rt: HostRuntime) {
+    let mut channel: Channel<u64> = Channel::new(rt.alloc(), 0);
+    let mut waits = true;
+    for task in 0..MANY {
+        let answer = channel.send(None, 10, task);
+        waits = waits & matches!(answer, Sending::Joined(had, 10) if had == task);
+    }
+    assert!(rt; waits);
+    let (receivers, senders) = channel.close(rt.alloc());
+    let count = receivers.len().saturating_add(senders.len());
+    assert_eq!(rt; count as u64, MANY);
+}
+
+#[test]
+fn many_messages_are_queued(rt: HostRuntime) {
+    let mut channel: Channel<u64> = Channel::new(rt.alloc(), MANY as usize);
+    let mut come = true;
+    for number in 0..MANY {
+        come = come & channel.try_send(number).is_ok();
+    }
+    assert!(rt; come && channel.try_send(0).is_err());
+    for number in 0..MANY {
+        come = come & matches!(channel.try_recv(), Ok((message, _)) if message == number);
+    }
+    assert!(rt; come);
+}
