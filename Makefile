@@ -8,7 +8,8 @@
 #   make test        the gate: every proof, mutant, test and program; it ends in `rt ci`
 #   make examples    builds the program, and compares each example's reports with those stored beside it, and the
 #                    manual page with --help; it fails if a crate use_* never gives up something that it holds
-#   make pages       compiles the first Rust example of each page as it stands, unproved
+#   make pages       compiles the first Rust example of each page, and the programs that are kept as text in tools/, unproved;
+#                    the programs have to print the stored lines
 #   make soak        random inputs for a minute (SECONDS=n), each report checked by an independent machine; their journals
 #                    too; then each allocation, read and write fails in turn, scripts run with workers, and each library
 #                    call that leaves its object as it was is refused memory
@@ -18,7 +19,7 @@
 #                    have to be those of a plain program, which rustc builds
 #   make bench       measures the programs next to plain Rust programs, which rustc builds, and prints the tables of
 #                    docs/PERFORMANCE.md
-#   make planted     tries the mutants of crates/*/planted on a copy (CRATE=name: of one crate)
+#   make planted     tries the mutants of each folder planted/ on a copy (CRATE=name: of one crate)
 #   make server      proves and builds the lease server, runs it on two cores with a generated load for ten seconds, checks
 #                    each reply, and then does so under faults
 #   make server-bench measures the lease server beside the same server on tokio; needs cargo and librust-tokio-dev
@@ -65,6 +66,8 @@ examples: build
 
 pages: has-rt
 	@python3 tools/pages.py
+	@python3 tools/build.py --try mono_bench
+	@python3 tools/build.py --try test_out_of_memory
 
 soak: build
 	python3 tools/soak/soak.py bin/monoio $(SECONDS)

@@ -1,12 +1,17 @@
 #!/usr/bin/env python3
-"""Proves a program and all that it stands on, and keeps the program.
+"""Proves a program and the crates below it, and keeps the program.
 
 usage: tools/build.py CRATE [PROGRAM]
+       tools/build.py --try CRATE
+       tools/build.py --lay FOLDER CRATE
 
 The crate and those below it are copied to a folder of their own. There `rt ci` proves them side by side, each once its
 libraries are proved, and compares the program's stored run. It keeps what it proves on this machine: neither CI nor the
 next build proves a crate again whose files are the same. No mutant is tried. The program is kept as PROGRAM, or else as
 bin/CRATE, and what rt prints as bin/CRATE.log. A program that was built from the same files by the same kit stays.
+
+With --try nothing is proved or kept, but the stored run is compared. With --lay the copy is made in the new FOLDER, and
+stays: there rt works on a crate that is kept as text as on any other.
 """
 import hashlib
 import os
@@ -17,24 +22,8 @@ import tempfile
 
 sys.dont_write_bytecode = True
 import below
+import layout
 import progress
-
-# What no proof and no stored run of a crate reads.
-LEFT_OUT = shutil.ignore_patterns("out", "planted", "must-fail")
-
-
-def copy_of_the_closure(crate, folder):
-    """Lays the crate and those below it out as a repository, and returns their names, lowest first."""
-    needed = set(below.closure(crate))
-    lines = {name: line for name, line in below.lines().items() if name in needed}
-    for name in lines:
-        shutil.copytree(os.path.join(below.TOP, "crates", name), os.path.join(folder, "crates", name), ignore=LEFT_OUT)
-    with open(os.path.join(folder, "crates.txt"), "w", encoding="utf-8") as out:
-        out.write("\n".join(lines.values()) + "\n")
-    shutil.copy(os.path.join(below.TOP, "HANDLES"), folder)
-    # rt ci asks for the top of a repository.
-    os.mkdir(os.path.join(folder, ".git"))
-    return list(lines)
 
 
 def sum_of(folder):
@@ -69,27 +58,49 @@ def keep(made, program, made_from):
 def build(crate, program, log):
     """Proves and keeps the program, unless it is built; returns the status of rt."""
     with tempfile.TemporaryDirectory(prefix="build-") as folder:
-        crates = copy_of_the_closure(crate, folder)
+        crates = layout.lay_closure(crate, folder)
         made_from = sum_of(folder)
         if is_built(program, made_from):
             return 0
-        print(f"proving {crate} and what stands below it; log: {log}", flush=True)
+        print(f"proving {crate} and the crates below it; log: {log}", flush=True)
         status = progress.run_ci(folder, crates, log)
         if status == 0:
             keep(os.path.join(folder, "crates", crate, "out", crate), program, made_from)
     return status
 
 
+def try_stored_run(crate):
+    """Compares the stored run of the program, unproved; returns 0 if it is the same."""
+    with tempfile.TemporaryDirectory(prefix="build-") as folder:
+        layout.lay_closure(crate, folder)
+        try:
+            status = layout.run_unproved(os.path.join(folder, "crates", crate))
+        except subprocess.TimeoutExpired:
+            sys.exit(f"{crate} had not ended after {layout.LIMIT} seconds")
+    print(crate, ("prints the stored lines, unproved", "prints other lines than the stored ones", "does not compile")[status])
+    return status
+
+
 def main():
-    if len(sys.argv) not in (2, 3):
+    words = sys.argv[1:]
+    flag = words.pop(0) if words[:1] in (["--try"], ["--lay"]) else ""
+    if len(words) not in {"": (1, 2), "--try": (1,), "--lay": (2,)}[flag]:
         sys.exit(__doc__)
-    crate = sys.argv[1]
+    crate = words[-1] if flag else words[0]
     if crate not in below.libraries():
-        sys.exit(f"crates.txt has no crate {crate}")
+        sys.exit(f"there is no crate {crate}")
     below.need_rt()
+    if flag == "--try":
+        return try_stored_run(crate)
+    if flag == "--lay":
+        if os.path.lexists(words[0]):
+            sys.exit(f"{words[0]} is there already")
+        os.makedirs(words[0])
+        layout.lay_closure(crate, words[0])
+        return 0
     home = os.path.join(below.TOP, "bin")
     os.makedirs(home, exist_ok=True)
-    program = sys.argv[2] if len(sys.argv) == 3 else os.path.join(home, crate)
+    program = words[1] if len(words) == 2 else os.path.join(home, crate)
     return build(crate, program, os.path.relpath(os.path.join(home, f"{crate}.log")))
 
 

@@ -1,14 +1,14 @@
 #!/usr/bin/env python3
-"""Tries the mutants of crates/*/planted on a copy of the repository, outside CI.
+"""Tries the mutants of each folder planted/ on a copy of the repository, outside CI.
 
 usage: tools/planted.py [--jobs N] [--built FOLDER] [--no-tests] [--list] [CRATE ..]
 
-Each planted/*.edit has the form of a must-fail edit. For each a row is printed: the crate, the mutant, and what
-refuses it. That is "clause" with the prover's words, or "proof's text" if a proof only misses a name that the edit
-took away. It is "limit" if the prover gave up at a limit of its own. It is "test" if the prover lets the edit through
-and a test of the crate or of one above it fails, or the stored run of a program above it, with that crate. It is "no
-verdict" if a check or the tests of a crate do not end well, "bad edit" if it does not apply or compile, or "GOT
-THROUGH". Then the kinds are counted for each crate.
+Each planted/*.edit has the form of a must-fail edit. The mutants of crates that are kept as text are tried, too. For
+each a row is printed: the crate, the mutant, and what refuses it. That is "clause" with the prover's words, or
+"proof's text" if a proof only misses a name that the edit took away. It is "limit" if the prover gave up at a limit of
+its own. It is "test" if the prover lets the edit through and a test of the crate or of one above it fails, or the
+stored run of a program above it, with that crate. It is "no verdict" if a check or the tests of a crate do not end
+well, "bad edit" if it does not apply or compile, or "GOT THROUGH". Then the kinds are counted for each crate.
 
 A proof rests on the contracts of the functions that it calls, and never on their bodies. So an edit of bodies alone
 is tried by a check of these functions. One check takes several edits of different functions; an edit whose function
@@ -35,14 +35,13 @@ from queue import Queue
 
 sys.dont_write_bytecode = True
 import below
+import layout
 import prover
 from edits import Edit, module_of
 
 TOP = below.TOP
 # How long the tests of one crate may take, in seconds.
 LIMIT = 600
-# How long a stored run may take, in seconds.
-RUN_LIMIT = 300
 # How many edits one check takes at most.
 MOST = 8
 # A statement of specs/ that is proved there, and that the prover rejects, with those that rest on it.
@@ -51,8 +50,7 @@ KINDS = ("clause", "proof's text", "limit", "test", "let through", "GOT THROUGH"
 
 
 def crates(names):
-    folder = os.path.join(TOP, "crates")
-    have = [name for name in below.libraries() if os.path.isdir(os.path.join(folder, name, "planted"))]
+    have = [name for name in below.libraries() if os.path.isdir(os.path.join(layout.folder_of(name), "planted"))]
     unknown = [name for name in names if name not in have]
     if unknown:
         sys.exit("no mutants in: " + " ".join(unknown))
@@ -63,6 +61,10 @@ def copy_of_the_repository(folder):
     copy = os.path.join(folder, "copy")
     leave = shutil.ignore_patterns("out", ".git", "bin")
     shutil.copytree(TOP, copy, ignore=leave)
+    for name in below.texts():
+        layout.lay_crate(name, copy)
+    with open(os.path.join(copy, "crates.txt"), "w", encoding="utf-8") as out:
+        out.write("\n".join(below.lines().values()) + "\n")
     subprocess.run(["git", "init", "-q", copy], check=True)
     return copy
 
@@ -266,39 +268,10 @@ def run_tests(copy, crate):
     ).returncode
 
 
-def stored(folder, name):
-    path = os.path.join(folder, name)
-    if not os.path.exists(path):
-        return b""
-    with open(path, "rb") as file:
-        return file.read()
-
-
-def run_program(copy, crate):
-    """How the crate's stored run ends: 0 where it prints what is stored, 1 where it prints something else or does not
-    end, else 2.
-    """
-    folder = os.path.join(copy, "crates", crate)
-    words = stored(folder, "args").decode().splitlines()
-    run = subprocess.run(
-        ["rt", "try", "--steps", "1", "--seconds", str(RUN_LIMIT), "--", *words],
-        cwd=folder,
-        input=stored(folder, "stdin"),
-        stdout=subprocess.PIPE,
-        stderr=subprocess.PIPE,
-        timeout=LIMIT,
-    )
-    if run.stdout == stored(folder, "stdout"):
-        return 0
-    if b"did not end within the time limit" in run.stderr:
-        return 1
-    return 2 if run.returncode == 2 else 1
-
-
 def failing_tests(copy, crate, edit, jobs):
     """The kind of verdict, and the nearest crate of which a test fails with the edit, or does not end."""
     folder = os.path.join(copy, "crates", crate)
-    before = {path: stored(folder, path) for path in edit.texts}
+    before = {path: layout.stored(folder, path) for path in edit.texts}
     write(folder, {path: text.encode() for path, text in edit.texts.items()})
     found = []
 
@@ -319,7 +292,7 @@ def failure_of(copy, name):
         if has_tests(copy, name):
             status = run_tests(copy, name)
         elif has_stored_run(copy, name):
-            status = run_program(copy, name)
+            status = layout.run_unproved(os.path.join(copy, "crates", name))
     except subprocess.TimeoutExpired:
         return [("no verdict", f"the tests of {name} had not ended after {LIMIT} seconds")]
     return [("test", f"of {name}")] if status not in (0, 2) else []

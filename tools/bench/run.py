@@ -3,9 +3,10 @@
 
 usage: tools/bench/run.py PROGRAM BENCH [quick]
 
-PROGRAM is `monoio`, BENCH is `mono_bench`. rustc builds the plain programs of tools/bench. Runs of both sides alternate.
-A time is processor time (user and system) of the best run at the allocator's defaults; peak memory is the largest resident
-set. `quick` takes inputs of a sixteenth and two runs, but for the tables beside tokio and the original.
+PROGRAM is `monoio`, BENCH is `mono_bench`, which is kept here as text. rustc builds the plain programs of tools/bench.
+Runs of both sides alternate. A time is processor time (user and system) of the best run at the allocator's defaults; peak
+memory is the largest resident set. `quick` takes inputs of a sixteenth and two runs, but for the tables beside tokio and
+the original.
 
 Instructions are valgrind's; without valgrind their tables are left out. They do not depend on what else runs.
 

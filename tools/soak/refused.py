@@ -3,9 +3,10 @@
 
 usage: tools/soak/refused.py PROGRAM
 
-PROGRAM is bin/refused, which makes a call many times, each once more where it was refused, and looks at the object between
-the two. Each allocation of a run is refused in turn: the run ends as if nothing had been refused, but for one call that was
-made twice; or with status 6 or 1 and no output, where memory was refused to the object's making or to the printing.
+PROGRAM is bin/refused, built from test_out_of_memory, which is kept here as text. It makes a call many times, each once more
+where it was refused, and looks at the object between the two. Each allocation of a run is refused in turn: the run ends as
+if nothing had been refused, but for one call that was made twice; or with status 6 or 1 and no output, where memory was
+refused to the object's making or to the printing.
 """
 import os
 import pathlib
