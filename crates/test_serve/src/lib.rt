@@ -6,6 +6,8 @@ mod desks;
 #[cfg(test)]
 mod handovers;
 #[cfg(test)]
+mod many;
+#[cfg(test)]
 mod outsides;
 #[cfg(test)]
 mod parties;
