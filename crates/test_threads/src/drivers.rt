@@ -150,3 +150,66 @@ fn a_timed_park_of_a_driver_ends_near_its_time(rt: HostRuntime) {
     let gone = begin.elapsed(&rt).expect(&rt, "a clock");
     assert!(rt; gone >= Duration::from_millis(300) && gone < Duration::from_secs(30));
 }
+
+/// Returns a driver that parks its thread. Its clock always reads 0.
+fn parking<R: Abort>(rt: &R, alloc: Global) -> ThreadDriver<ListClock> {
+    ThreadDriver::new(alloc, clock_of(rt, alloc, &[0])).expect(rt, "memory")
+}
+
+/// Returns how long a park of at most this long takes that no call ends.
+fn gone_of<R: Host + Abort>(
+    rt: &R,
+    driver: &mut ThreadDriver<ListClock>,
+    longest: Duration,
+) -> Duration {
+    let begin = time::Instant::now(rt).expect(rt, "a clock");
+    assert!(rt; driver.park_timeout(rt, longest).is_ok());
+    begin.elapsed(rt).expect(rt, "a clock")
+}
+
+/// A park that is a millisecond too short takes no time at all here, and a true one takes its time on a busy machine, too.
+#[test]
+fn no_timed_park_is_a_millisecond_too_short(rt: HostRuntime) {
+    let mut driver = parking(&rt, rt.alloc());
+    for _ in 0..50 {
+        let gone = gone_of(&rt, &mut driver, Duration::from_millis(1));
+        assert!(rt; gone >= Duration::from_micros(900));
+    }
+}
+
+/// Waits until a park of a millisecond takes less than eight. A busy machine may need several; no park does if each is
+/// ten milliseconds too long.
+#[test]
+fn some_timed_park_is_not_ten_milliseconds_too_long(rt: HostRuntime) {
+    let mut driver = parking(&rt, rt.alloc());
+    for _ in rt.forever() {
+        let gone = gone_of(&rt, &mut driver, Duration::from_millis(1));
+        if gone < Duration::from_millis(8) {
+            return;
+        }
+    }
+}
+
+/// A park of no time takes the token, too, so the next park takes its time.
+#[test]
+fn a_park_of_no_time_takes_the_token(rt: HostRuntime) {
+    let mut driver = parking(&rt, rt.alloc());
+    let handle = driver.unpark().expect(&rt, "memory");
+    for _ in 0..5 {
+        handle.unpark(&rt);
+        assert!(rt; driver.park_timeout(&rt, Duration::ZERO).is_ok());
+        let gone = gone_of(&rt, &mut driver, Duration::from_millis(50));
+        assert!(rt; gone >= Duration::from_millis(45));
+    }
+}
+
+/// A long park lasts until another thread ends it, and not for a second or two.
+#[test]
+fn a_long_park_of_a_driver_does_not_end_by_itself(rt: HostRuntime) {
+    let mut driver = parking(&rt, rt.alloc());
+    let handle = driver.unpark().expect(&rt, "memory");
+    let (flag, other) = start_setting(rt, rt.alloc(), handle, Duration::from_millis(2500));
+    assert!(rt; driver.park_timeout(&rt, Duration::from_secs(3600)).is_ok());
+    assert!(rt; flag.load(Ordering::SeqCst) == 1);
+    other.join(&rt);
+}
