@@ -13,6 +13,7 @@ use mono_model::Host;
 use mono_rt::{Cx, RunError, Runtime, TaskWait, start};
 use mono_task::{Context, Poll, TaskFuture};
 use std::alloc::Global;
+use std::process::Abort;
 use std::sync::atomic::{AtomicU64, Ordering};
 use std::sync::{Arc, Mutex};
 
@@ -42,6 +43,10 @@ enum Part {
     Waits(u64, u64),
     /// A task hands its waker out.
     Gives,
+    /// It hands its waker out and ends in the same turn.
+    Leaves,
+    /// It waits for nothing.
+    Idles,
     /// It ends.
     Ends,
 }
@@ -123,6 +128,11 @@ impl Member {
                 keep_waker(rt, &self.shared, cx);
                 Err(Part::Ends)
             }
+            Part::Leaves => {
+                keep_waker(rt, &self.shared, cx);
+                Ok(0)
+            }
+            Part::Idles => Err(Part::Ends),
             Part::Ends => Ok(self.shared.ended.fetch_add(1, Ordering::SeqCst)),
         }
     }
@@ -196,23 +206,68 @@ const ONE: Limits = Limits {
     sleeps: 0,
 };
 
-#[test]
-fn a_task_whose_waker_was_handed_out_is_not_stuck(rt: HostRuntime) {
-    let alloc = rt.alloc();
+/// Returns a task with this next part, which shares its values with no other.
+fn lone<R: Abort>(rt: &R, alloc: Global, part: Part) -> Member {
     let shared = Shared {
         wakers: Mutex::new(Vec::new(alloc)),
         ended: AtomicU64::new(0),
     };
-    let main = Member {
-        part: Part::Gives,
-        shared: Arc::new(alloc, shared).expect(&rt, "memory"),
-    };
+    Member {
+        part,
+        shared: Arc::new(alloc, shared).expect(rt, "memory"),
+    }
+}
+
+/// Returns a runtime for one such task at a time.
+fn for_one<R: Abort>(rt: &R, alloc: Global) -> Runtime<Member, u64, StepDriver, NoPool<Gives>>
+    ensures { Rests result }
+{
     let pool = BlockingHandle::Empty(BlockingStrategy::Panic);
     let driver = StepDriver::new(Vec::new(alloc));
-    let mut runtime = a_runtime(&rt, alloc, driver, pool, ONE, true);
+    a_runtime(rt, alloc, driver, pool, ONE, true)
+}
+
+#[test]
+fn a_task_whose_waker_was_handed_out_is_not_stuck(rt: HostRuntime) {
+    let alloc = rt.alloc();
+    let main = lone(&rt, alloc, Part::Gives);
+    let mut runtime = for_one(&rt, alloc);
     let list = left_after_one_turn(&rt, alloc, &mut runtime, main);
     assert!(rt; runtime.into_pool().is_none());
     assert!(rt; is_handed_out(&list));
+}
+
+/// Runs a main task that hands its waker out and ends. Returns whether it did. The waker serves the next task.
+fn leaves<R: Host + Abort>(
+    rt: &R,
+    alloc: Global,
+    runtime: &mut Runtime<Member, u64, StepDriver, NoPool<Gives>>,
+) -> bool
+    requires { Rests runtime.old }
+    ensures { Rests runtime.new }
+{
+    let main = lone(rt, alloc, Part::Leaves);
+    matches!(runtime.block_on(rt, alloc, main, 9), Ok(0))
+}
+
+/// Returns whether there is one row, and its task handed out no waker and is stuck.
+fn is_stuck(list: &[TaskWait]) -> bool {
+    match list {
+        [row] => row.is_stuck() && !row.is_handed_out,
+        _ => false,
+    }
+}
+
+// The runtime uses the waker of a task that ended again. It keeps no mark of that task, whose waker was handed out.
+#[test]
+fn a_waker_that_is_used_again_was_not_handed_out(rt: HostRuntime) {
+    let alloc = rt.alloc();
+    let mut runtime = for_one(&rt, alloc);
+    assert!(rt; leaves(&rt, alloc, &mut runtime));
+    let main = lone(&rt, alloc, Part::Idles);
+    let list = left_after_one_turn(&rt, alloc, &mut runtime, main);
+    assert!(rt; runtime.into_pool().is_none());
+    assert!(rt; is_stuck(&list));
 }
 
 #[test]
