@@ -53,6 +53,7 @@ has-rustc:
 	@command -v rustc > /dev/null || { echo 'rustc is missing: it builds the plain Rust programs of tools/bench'; exit 1; }
 
 test: has-rt
+	@! command -v python3 > /dev/null || python3 tools/sections.py
 	rt ci
 
 examples: build
