@@ -17,7 +17,8 @@ use Rattle.mono_task.specs.Schedule as schedule
 use Rattle.mono_machine.specs.Machine.{Machine, with_tasks}
 use Rattle.mono_rt.specs.Numbering.{numbered}
 use Rattle.mono_rt.specs.Drains.{remotes, listed, drain_of, DrainsAll}
-use Rattle.mono_rt.specs.Rounds.{Drained, OneTurn, Turns, UpToOneTurn, Round, RoundBreaks, ParkedDrained, ParkBreaks, ParkFails, WaitEnds, broken_after, PausesBreak, PauseBreaks, PausesFail, PauseFails, PassBreaks, LaterBreaks, most_turns, most_turns_of, IsPark, IsClock, Parks, Pauses, Pause, Pass, PassEnds, Rounds, Breaks, Ends, PauseEnds, is_main_done, cost, IsSpawn, IsRefused, DropsFor, output_in, RunsMain, Blocked}
+use Rattle.mono_rt.specs.Rounds.{Drained, OneTurn, Turns, UpToOneTurn, TurnEnds, Round, RoundBreaks, ParkedDrained, ParkBreaks, ParkFails, WaitEnds, broken_after, PausesBreak, PauseBreaks, PausesFail, PauseFails, PassBreaks, LaterBreaks, most_turns, most_turns_of, IsPark, IsClock, Parks, Pauses, Pause, Pass, PassEnds, Rounds, Breaks, Ends, PauseEnds, is_main_done, cost, IsSpawn, IsRefused, DropsFor, output_in, RunsMain, Blocked}
+use Rattle.mono_rt.specs.Progress.{turn_answer}
 use Rattle.std.specs.Prelude.{⊤, Result, Ok, Err, OnOk, OnErr}
 use Rattle.std.specs.Option.{option_map}
 use Rattle.std.proofs.Common.{Option, Some, None}
@@ -177,6 +178,11 @@ module _ {O P : Type 0} (number : O → ℕ) where
         step = subst (λ x. Step x (event.Turn steps e) (report.Turn t replies ended) new) read.1.1 step.1;
       })
       p q
+
+  -- by whether memory ran out in it
+  pub turn_ends : (lacks : Bool) (c d : Parts O (Seen P)) (j k : Journal) → Does number OneTurn c d j k → Does number (TurnEnds (turn_answer lacks)) c d j k
+  turn_ends true c d j k p = does_more OneTurn UpToOneTurn c d j k (λ m new xs zs stm stn is. inr is) p
+  turn_ends false c d j k p = p
 
   -- one more turn
   pub turns_more : (n : ℕ) (a b c : Parts O (Seen P)) (i j k : Journal) → Does number (Turns n) a b i j → Does number OneTurn b c j k → Does number (Turns (n + 1)) a c i k

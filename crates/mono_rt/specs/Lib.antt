@@ -27,5 +27,6 @@ pub mod Faults
 pub mod TaskWaits
 pub mod Budgets
 pub mod Views
+pub mod Progress
 pub mod EndedTasks
 pub mod Remains

@@ -60,6 +60,11 @@ pub record Round (units left : ℕ) (old : Machine) (part : List Entry) (new : M
 abbrev pub UpToOneTurn : Machine → List Entry → Machine → List Entry → Type 0
 UpToOneTurn old part new rest = Stays old part new rest ⊎ OneTurn old part new rest
 
+-- a turn, by its answer
+abbrev pub TurnEnds : {A : Type 0} → Result A RunError → Machine → List Entry → Machine → List Entry → Type 0
+TurnEnds (Ok x) old part new rest = OneTurn old part new rest
+TurnEnds (Err e) old part new rest = UpToOneTurn old part new rest
+
 -- a round in which memory ran out: some of its turns, within the budget
 abbrev pub RoundBreaks : ℕ → Machine → List Entry → Machine → List Entry → Type 0
 RoundBreaks units old part new rest = (turns : ℕ) × (Turns turns old part new rest × (turns ≤ most_turns units old))

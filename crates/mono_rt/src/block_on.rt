@@ -1,21 +1,18 @@
 // Rounds of turns, waits on the driver, and the main task.
-ghost use Rattle.std.specs.Prelude.{◌≡◌, ◌<◌, ◌≤◌, ◌+◌, ◌++◌, ◌∷◌, ◌⊎◌, [], None, false, length, Some, IfOk, OnOk, IfErr, OnErr, if◌then◌else◌};
-ghost use Rattle.mono_model.specs.Table.{next_number};
-ghost use Rattle.mono_model.specs.Tasks.{spawned};
+ghost use Rattle.std.specs.Prelude.{◌≡◌, ◌<◌, ◌≤◌, ◌+◌, None, false, length, Some, IfOk, OnOk, IfErr, OnErr, if◌then◌else◌};
 ghost use Rattle.mono_task.specs.Work.{GivesOutput};
-ghost use Rattle.mono_rt.specs.Outputs.{AddsNone};
-ghost use Rattle.mono_rt.specs.Journals.{Goes, Does, Stays};
-ghost use Rattle.mono_rt.specs.Rounds.{WaitEnds, broken_after, PauseEnds, Round, RoundBreaks, PassEnds, Ends, IsSpawn, IsRefused, Blocked, cost};
-ghost use Rattle.mono_rt.specs.SpawnErrors.{OnCapacity, OnMemory, HasPlace, AnswersPlace, UnlessRefused, IfRefused};
+ghost use Rattle.mono_rt.specs.Journals.{Does};
+ghost use Rattle.mono_rt.specs.Rounds.{WaitEnds, broken_after, PauseEnds, Round, RoundBreaks, PassEnds, Ends, Blocked, cost};
+ghost use Rattle.mono_rt.specs.SpawnErrors.{HasPlace, AnswersPlace, UnlessRefused, IfRefused};
 ghost use Rattle.mono_model.specs.Table.{is_full};
 ghost use Rattle.mono_rt.specs.Faults.{FaultsBy, FaultsParked};
-ghost use Rattle.mono_rt.specs.FuturePolls.{Polling, OnMain};
-ghost use Rattle.mono_rt.specs.JournalRoom.{Fills, LacksRefusal};
-ghost use Rattle.mono_rt.specs.PossibleAnswers.{AnswersNoMore};
+ghost use Rattle.mono_rt.specs.FuturePolls.{OnMain};
+ghost use Rattle.mono_rt.specs.JournalRoom.{LacksRefusal};
 ghost use Rattle.mono_rt.specs.Pollable.{CanTurn};
 ghost use Rattle.mono_rt.specs.Remains.{KeepsContext, KeepsStrategy, HasRetired};
-ghost use Rattle.mono_rt.specs.DriverReadings.{telling, going, Telling, TellingSo, Still, EndsWaited};
-ghost use Rattle.mono_rt.specs.Views.{Blocks, Rests, HasOwnFutures, is_at_limit, HoldsSamePlaces, GivesNoMore, LeadsShared, TellsDriver, PollsMainTask, FillsJournalBy, CanRun};
+ghost use Rattle.mono_rt.specs.DriverReadings.{going, Telling, Still, EndsWaited};
+ghost use Rattle.mono_rt.specs.Progress.{ending, lasting, Idles, Proceeds, MakesMain, MakesNone};
+ghost use Rattle.mono_rt.specs.Views.{exposed, Blocks, Rests, HasOwnFutures, is_at_limit, HoldsSamePlaces, GivesNoMore, LeadsShared, TellsDriver, PollsMainTask, FillsJournalBy, CanRun};
 
 use crate::contexts::Cx;
 use crate::parts::RunError;
@@ -49,15 +46,9 @@ impl<F: Drop, O: Outcome + Drop, D: Driver, P: ThreadPool + Drop, W: SharedState
     /// the park failed; if it did, also if memory ran out after it.
     fn wait<R: Host>(&mut self, rt: &R, alloc: Global) -> Result<bool, RunError>
         ensures parks { Does O.output_number (WaitEnds self.old.cx.parts.has_timers result) self.old.cx.parts self.new.cx.parts self.old.journal self.new.journal }
-        ensures has_timers { self.new.cx.parts.has_timers ≡ self.old.cx.parts.has_timers }
-        ensures turn { self.new.cx.parts.tasks.turn ≡ self.old.cx.parts.tasks.turn }
-        ensures adds { AddsNone self.old.cx.parts.tasks.tasks self.new.cx.parts.tasks.tasks }
-        ensures futures { self.new.cx.futures ≡ self.old.cx.futures }
-        ensures shared { self.new.cx.shared ≡ self.old.cx.shared }
+        ensures idle { Idles self.old self.new }
         ensures faults { FaultsParked result (D.faults self.old.driver) (D.faults self.new.driver) }
-        ensures told { Telling (EndsWaited result) (telling (D.readings self.old.driver) (D.time self.old.driver) (D.parks self.old.driver) (D.submits self.old.driver) (D.faults self.old.driver) (D.can_fail self.old.driver)) going self.old.journal self.new.journal (telling (D.readings self.new.driver) (D.time self.new.driver) (D.parks self.new.driver) (D.submits self.new.driver) (D.faults self.new.driver) (D.can_fail self.new.driver)) }
-        ensures full { self.new.journal.is_full ≡ self.old.journal.is_full }
-        ensures held { self.new.journal.entries.held ≡ self.old.journal.entries.held }
+        ensures told { Telling (EndsWaited result) (exposed D.Clock self.old.driver) going self.old.journal self.new.journal (exposed D.Clock self.new.driver) }
     {
         let Ok(failed) = self.cx.parts.park(rt, &mut self.driver, &mut self.journal) else {
             return Err(RunError::Memory);
@@ -83,17 +74,11 @@ impl<F: Drop, O: Outcome + Drop, D: Driver, P: ThreadPool + Drop, W: SharedState
     fn pause<R: Host>(&mut self, rt: &R, alloc: Global) -> Result<bool, RunError>
         ensures pauses { Does O.output_number (PauseEnds self.old.cx.parts.has_timers result) self.old.cx.parts self.new.cx.parts self.old.journal self.new.journal }
         ensures spent { IfOk result (λ spent. (if spent then 1 else 0) ≡ cost self.old.cx.parts.tasks.tasks.queue self.new.cx.parts.tasks.tasks.queue) }
-        ensures has_timers { self.new.cx.parts.has_timers ≡ self.old.cx.parts.has_timers }
         ensures queued { IfOk result (λ spent. spent ≡ false → 0 < length self.new.cx.parts.tasks.tasks.queue) }
-        ensures turn { self.new.cx.parts.tasks.turn ≡ self.old.cx.parts.tasks.turn }
-        ensures adds { AddsNone self.old.cx.parts.tasks.tasks self.new.cx.parts.tasks.tasks }
-        ensures futures { self.new.cx.futures ≡ self.old.cx.futures }
-        ensures shared { self.new.cx.shared ≡ self.old.cx.shared }
-        ensures faults { FaultsBy result (D.faults self.old.driver) (D.faults self.new.driver) }
-        ensures told { TellingSo result (telling (D.readings self.old.driver) (D.time self.old.driver) (D.parks self.old.driver) (D.submits self.old.driver) (D.faults self.old.driver) (D.can_fail self.old.driver)) self.old.journal self.new.journal (telling (D.readings self.new.driver) (D.time self.new.driver) (D.parks self.new.driver) (D.submits self.new.driver) (D.faults self.new.driver) (D.can_fail self.new.driver)) }
-        ensures placed { HasPlace result false }
-        ensures full { self.new.journal.is_full ≡ self.old.journal.is_full }
-        ensures held { self.new.journal.entries.held ≡ self.old.journal.entries.held }
+        ensures idle { Idles self.old self.new }
+        ensures faults { FaultsBy (ending result) (D.faults self.old.driver) (D.faults self.new.driver) }
+        ensures told { TellsDriver (ending result) D.Clock self.old self.new }
+        ensures placed { HasPlace (ending result) false }
     {
         if self.cx.parts.tasks.queue_len() > 0 {
             let handed = self.driver.submit(rt);
@@ -115,27 +100,17 @@ impl<F: Drop, O: Outcome + Drop, D: Driver, P: ThreadPool + Drop, W: SharedState
 
     /// Makes the main task, and holds room for the entry of its handle's drop.
     fn start_main(&mut self, alloc: Global, future: F) -> Result<u64, RunError>
-        ensures goes { Goes O.output_number self.old.cx.parts self.new.cx.parts self.old.journal self.new.journal }
-        ensures spawned { IfOk result (λ t. Does O.output_number (IsSpawn t) self.old.cx.parts self.new.cx.parts self.old.journal self.new.journal) }
-        ensures refused { IfErr result (λ error. OnCapacity error (Does O.output_number IsRefused self.old.cx.parts self.new.cx.parts self.old.journal self.new.journal)) }
+        ensures made { IfOk result (λ t. MakesMain O.output_number future t self.old self.new) }
+        ensures none { IfErr result (λ error. MakesNone O.output_number error self.old self.new) }
         ensures place { AnswersPlace result (is_full self.old.cx.parts.tasks.tasks.table self.old.cx.parts.tasks.tasks.limit) }
         ensures untouched { IfRefused result (self.new.cx ≡ self.old.cx) }
-        ensures unkept { OnErr result ((self.new.cx.futures.reserved ≡ self.old.cx.futures.reserved) ⊎ (self.new.cx.futures.reserved ≡ None)) }
         ensures has_timers { self.new.cx.parts.has_timers ≡ self.old.cx.parts.has_timers }
         ensures turn { self.new.cx.parts.tasks.turn ≡ self.old.cx.parts.tasks.turn }
         ensures shared { self.new.cx.shared ≡ self.old.cx.shared }
-        ensures made { OnOk result (self.new.cx.futures.items ≡ self.old.cx.futures.items ++ Some future ∷ []) }
-        ensures number { IfOk result (λ t. t ≡ next_number self.old.cx.parts.tasks.tasks.table) }
-        ensures tasks { OnOk result (self.new.cx.parts.tasks.tasks ≡ spawned self.old.cx.parts.tasks.tasks) }
-        ensures same_tasks { OnErr result (self.new.cx.parts.tasks.tasks ≡ self.old.cx.parts.tasks.tasks) }
-        ensures same_futures { OnErr result (self.new.cx.futures.items ≡ self.old.cx.futures.items) }
         ensures faults { D.faults self.new.driver ≡ D.faults self.old.driver }
-        ensures told { Telling (Still going) (telling (D.readings self.old.driver) (D.time self.old.driver) (D.parks self.old.driver) (D.submits self.old.driver) (D.faults self.old.driver) (D.can_fail self.old.driver)) going self.old.journal self.new.journal (telling (D.readings self.new.driver) (D.time self.new.driver) (D.parks self.new.driver) (D.submits self.new.driver) (D.faults self.new.driver) (D.can_fail self.new.driver)) }
+        ensures told { Telling (Still going) (exposed D.Clock self.old.driver) going self.old.journal self.new.journal (exposed D.Clock self.new.driver) }
         ensures full { UnlessRefused result (self.new.journal.is_full ≡ self.old.journal.is_full) }
         ensures lacks { IfRefused result (LacksRefusal self.old.journal self.new.journal) }
-        ensures unmade { IfErr result (λ error. OnMemory error (Does O.output_number Stays self.old.cx.parts self.new.cx.parts self.old.journal self.new.journal)) }
-        ensures held { IfOk result (λ t. self.new.journal.entries.held ≡ self.old.journal.entries.held + 1) }
-        ensures unheld { OnErr result (self.new.journal.entries.held ≡ self.old.journal.entries.held) }
     {
         if self.cx.parts.tasks.has_no_place() {
             self.cx.parts.refuse_main(&mut self.journal);
@@ -170,21 +145,11 @@ where
     fn round<R: Host>(&mut self, rt: &R, alloc: Global, units: u64) -> Result<u64, RunError>
         requires callable { CanTurn F.TaskFuture self.old.cx }
         requires rests { self.old.cx.parts.tasks.turn ≡ None }
-        ensures goes { Goes O.output_number self.old.cx.parts self.new.cx.parts self.old.journal self.new.journal }
-        ensures has_timers { self.new.cx.parts.has_timers ≡ self.old.cx.parts.has_timers }
-        ensures answers { AnswersNoMore F.gives self.old.cx self.new.cx }
-        ensures callable { CanTurn F.TaskFuture self.new.cx }
-        ensures shared { W.leads self.old.cx.shared self.new.cx.shared }
-        ensures rests { self.new.cx.parts.tasks.turn ≡ None }
         ensures left { IfOk result (λ left. left ≤ units) }
         ensures round { IfOk result (λ left. Does O.output_number (Round units left) self.old.cx.parts self.new.cx.parts self.old.journal self.new.journal) }
         ensures broken { OnErr result (Does O.output_number (RoundBreaks units) self.old.cx.parts self.new.cx.parts self.old.journal self.new.journal) }
         ensures fewer { IfOk result (λ left. 0 < length self.old.cx.parts.tasks.tasks.queue → 0 < units → left < units) }
-        ensures polled { OnOk result (Does O.output_number (Polling O.output_number W.leads F.TaskFuture self.old.cx.parts.has_timers self.old.cx.futures.items self.new.cx.futures.items) self.old.cx.parts self.new.cx.parts self.old.journal self.new.journal) }
-        ensures faults { D.faults self.new.driver ≡ D.faults self.old.driver }
-        ensures told { Telling (Still going) (telling (D.readings self.old.driver) (D.time self.old.driver) (D.parks self.old.driver) (D.submits self.old.driver) (D.faults self.old.driver) (D.can_fail self.old.driver)) going self.old.journal self.new.journal (telling (D.readings self.new.driver) (D.time self.new.driver) (D.parks self.new.driver) (D.submits self.new.driver) (D.faults self.new.driver) (D.can_fail self.new.driver)) }
-        ensures full { Fills O.output_number W.leads F.TaskFuture self.old.cx self.old.journal self.new.journal }
-        ensures held { self.new.journal.entries.held ≡ self.old.journal.entries.held }
+        ensures went { Proceeds O.output_number W.leads D.Clock F.TaskFuture (lasting result) self.old self.new }
     {
         let queued = self.cx.parts.tasks.queue_len() as u64;
         let most = queued.saturating_mul(2).saturating_add(1).min(units);
@@ -203,18 +168,8 @@ where
         requires rests { self.old.cx.parts.tasks.turn ≡ None }
         requires some_left { 0 < units }
         ensures passes { Does O.output_number (PassEnds self.old.cx.parts.has_timers units result) self.old.cx.parts self.new.cx.parts self.old.journal self.new.journal }
-        ensures has_timers { self.new.cx.parts.has_timers ≡ self.old.cx.parts.has_timers }
-        ensures answers { AnswersNoMore F.gives self.old.cx self.new.cx }
-        ensures callable { CanTurn F.TaskFuture self.new.cx }
-        ensures shared { W.leads self.old.cx.shared self.new.cx.shared }
-        ensures rests { self.new.cx.parts.tasks.turn ≡ None }
         ensures fewer { IfOk result (λ left. left < units) }
-        ensures polled { OnMain result (Does O.output_number (Polling O.output_number W.leads F.TaskFuture self.old.cx.parts.has_timers self.old.cx.futures.items self.new.cx.futures.items) self.old.cx.parts self.new.cx.parts self.old.journal self.new.journal) }
-        ensures faults { FaultsBy result (D.faults self.old.driver) (D.faults self.new.driver) }
-        ensures told { TellingSo result (telling (D.readings self.old.driver) (D.time self.old.driver) (D.parks self.old.driver) (D.submits self.old.driver) (D.faults self.old.driver) (D.can_fail self.old.driver)) self.old.journal self.new.journal (telling (D.readings self.new.driver) (D.time self.new.driver) (D.parks self.new.driver) (D.submits self.new.driver) (D.faults self.new.driver) (D.can_fail self.new.driver)) }
-        ensures placed { HasPlace result false }
-        ensures full { Fills O.output_number W.leads F.TaskFuture self.old.cx self.old.journal self.new.journal }
-        ensures held { self.new.journal.entries.held ≡ self.old.journal.entries.held }
+        ensures went { Proceeds O.output_number W.leads D.Clock F.TaskFuture (ending result) self.old self.new }
     {
         match self.pause(rt, alloc) {
             Err(error) => Err(error),
@@ -241,17 +196,7 @@ where
         requires rests { self.old.cx.parts.tasks.turn ≡ None }
         ensures given { OnOk result (GivesOutput self.new.cx.parts.tasks.tasks main) }
         ensures ends { Does O.output_number (Ends self.old.cx.parts.has_timers main turns result) self.old.cx.parts self.new.cx.parts self.old.journal self.new.journal }
-        ensures has_timers { self.new.cx.parts.has_timers ≡ self.old.cx.parts.has_timers }
-        ensures answers { AnswersNoMore F.gives self.old.cx self.new.cx }
-        ensures callable { CanTurn F.TaskFuture self.new.cx }
-        ensures shared { W.leads self.old.cx.shared self.new.cx.shared }
-        ensures rests { self.new.cx.parts.tasks.turn ≡ None }
-        ensures polled { OnMain result (Does O.output_number (Polling O.output_number W.leads F.TaskFuture self.old.cx.parts.has_timers self.old.cx.futures.items self.new.cx.futures.items) self.old.cx.parts self.new.cx.parts self.old.journal self.new.journal) }
-        ensures faults { FaultsBy result (D.faults self.old.driver) (D.faults self.new.driver) }
-        ensures told { TellingSo result (telling (D.readings self.old.driver) (D.time self.old.driver) (D.parks self.old.driver) (D.submits self.old.driver) (D.faults self.old.driver) (D.can_fail self.old.driver)) self.old.journal self.new.journal (telling (D.readings self.new.driver) (D.time self.new.driver) (D.parks self.new.driver) (D.submits self.new.driver) (D.faults self.new.driver) (D.can_fail self.new.driver)) }
-        ensures placed { HasPlace result false }
-        ensures full { Fills O.output_number W.leads F.TaskFuture self.old.cx self.old.journal self.new.journal }
-        ensures held { self.new.journal.entries.held ≡ self.old.journal.entries.held }
+        ensures went { Proceeds O.output_number W.leads D.Clock F.TaskFuture result self.old self.new }
     {
         let mut units = match self.round(rt, alloc, turns) {
             Ok(left) => left,

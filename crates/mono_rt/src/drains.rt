@@ -1,9 +1,9 @@
 // The drain: takes from the inbox the tasks that other threads woke.
 ghost use Rattle.std.specs.Prelude.{◌≡◌, ◌≤◌, length, OnOk, OnErr};
-ghost use Rattle.mono_rt.specs.Outputs.{AddsNone};
-ghost use Rattle.mono_rt.specs.Journals.{Goes, Does, Stays};
+ghost use Rattle.mono_rt.specs.Journals.{Does, Stays};
 ghost use Rattle.mono_rt.specs.Rounds.{Drained};
 ghost use Rattle.mono_rt.specs.Drains.{WakesTaken};
+ghost use Rattle.mono_rt.specs.Progress.{Idles};
 ghost use Rattle.mono_rt.specs.DriverReadings.{Told, Course, Telling, Still, EndsDrained};
 
 use crate::parts::RunError;
@@ -25,22 +25,14 @@ impl<F: Drop, O: Outcome + Drop, D: Driver, P: ThreadPool + Drop, W: SharedState
     /// Takes all that waits in the inbox, and wakes the tasks that are unfinished. Does nothing if out of memory: what waits
     /// stays in the inbox.
     pub(crate) fn drain<R: Host>(&mut self, rt: &R, alloc: Global) -> Result<(), RunError>
-        ensures goes { Goes O.output_number self.old.cx.parts self.new.cx.parts self.old.journal self.new.journal }
         ensures refused { OnErr result (Does O.output_number Stays self.old.cx.parts self.new.cx.parts self.old.journal self.new.journal) }
         ensures drained { OnOk result (Does O.output_number Drained self.old.cx.parts self.new.cx.parts self.old.journal self.new.journal) }
         ensures woken { OnOk result (WakesTaken O.output_number self.old.cx.parts self.new.cx.parts self.old.journal self.new.journal self.old.cx.wakers.taken.entries self.new.cx.wakers.taken.entries) }
         ensures kept { OnErr result ((self.new.cx.wakers.taken.entries ≡ self.old.cx.wakers.taken.entries) × (self.new.cx.parts ≡ self.old.cx.parts)) }
-        ensures turn { self.new.cx.parts.tasks.turn ≡ self.old.cx.parts.tasks.turn }
         ensures longer { length self.old.cx.parts.tasks.tasks.queue ≤ length self.new.cx.parts.tasks.tasks.queue }
-        ensures adds { AddsNone self.old.cx.parts.tasks.tasks self.new.cx.parts.tasks.tasks }
-        ensures has_timers { self.new.cx.parts.has_timers ≡ self.old.cx.parts.has_timers }
-        ensures futures { self.new.cx.futures ≡ self.old.cx.futures }
-        ensures shared { self.new.cx.shared ≡ self.old.cx.shared }
-        ensures faults { D.faults self.new.driver ≡ D.faults self.old.driver }
+        ensures idle { Idles self.old self.new }
         ensures driver { self.new.driver ≡ self.old.driver }
         ensures told { (old new : Told) (before after : Course) → EndsDrained result before old after new → Telling (Still after) old before self.old.journal self.new.journal new }
-        ensures full { self.new.journal.is_full ≡ self.old.journal.is_full }
-        ensures held { self.new.journal.entries.held ≡ self.old.journal.entries.held }
     {
         match self.cx.wakers.drain(rt, alloc, &mut self.journal) {
             None => Err(RunError::Memory),

@@ -1,12 +1,9 @@
 // A runtime, and its turns.
-ghost use Rattle.std.specs.Prelude.{◌≡◌, ◌<◌, None, length, OnOk, OnErr};
-ghost use Rattle.mono_rt.specs.Journals.{Goes, Does};
-ghost use Rattle.mono_rt.specs.Rounds.{OneTurn, UpToOneTurn};
-ghost use Rattle.mono_rt.specs.FuturePolls.{Polling};
-ghost use Rattle.mono_rt.specs.JournalRoom.{Fills};
-ghost use Rattle.mono_rt.specs.PossibleAnswers.{AnswersNoMore};
+ghost use Rattle.std.specs.Prelude.{◌≡◌, ◌<◌, None, length};
+ghost use Rattle.mono_rt.specs.Journals.{Does};
+ghost use Rattle.mono_rt.specs.Rounds.{TurnEnds};
 ghost use Rattle.mono_rt.specs.Pollable.{CanTurn};
-ghost use Rattle.mono_rt.specs.DriverReadings.{telling, going, Telling, Still};
+ghost use Rattle.mono_rt.specs.Progress.{lasting, Proceeds};
 
 use crate::contexts::Cx;
 use crate::parts::{Journal, RunError};
@@ -41,19 +38,8 @@ where
         requires callable { CanTurn F.TaskFuture self.old.cx }
         requires rests { self.old.cx.parts.tasks.turn ≡ None }
         requires queued { 0 < length self.old.cx.parts.tasks.tasks.queue }
-        ensures goes { Goes O.output_number self.old.cx.parts self.new.cx.parts self.old.journal self.new.journal }
-        ensures turned { OnOk result (Does O.output_number OneTurn self.old.cx.parts self.new.cx.parts self.old.journal self.new.journal) }
-        ensures broken { OnErr result (Does O.output_number UpToOneTurn self.old.cx.parts self.new.cx.parts self.old.journal self.new.journal) }
-        ensures polled { OnOk result (Does O.output_number (Polling O.output_number W.leads F.TaskFuture self.old.cx.parts.has_timers self.old.cx.futures.items self.new.cx.futures.items) self.old.cx.parts self.new.cx.parts self.old.journal self.new.journal) }
-        ensures answers { AnswersNoMore F.gives self.old.cx self.new.cx }
-        ensures callable { CanTurn F.TaskFuture self.new.cx }
-        ensures shared { W.leads self.old.cx.shared self.new.cx.shared }
-        ensures has_timers { self.new.cx.parts.has_timers ≡ self.old.cx.parts.has_timers }
-        ensures rests { self.new.cx.parts.tasks.turn ≡ None }
-        ensures faults { D.faults self.new.driver ≡ D.faults self.old.driver }
-        ensures told { Telling (Still going) (telling (D.readings self.old.driver) (D.time self.old.driver) (D.parks self.old.driver) (D.submits self.old.driver) (D.faults self.old.driver) (D.can_fail self.old.driver)) going self.old.journal self.new.journal (telling (D.readings self.new.driver) (D.time self.new.driver) (D.parks self.new.driver) (D.submits self.new.driver) (D.faults self.new.driver) (D.can_fail self.new.driver)) }
-        ensures full { Fills O.output_number W.leads F.TaskFuture self.old.cx self.old.journal self.new.journal }
-        ensures held { self.new.journal.entries.held ≡ self.old.journal.entries.held }
+        ensures turned { Does O.output_number (TurnEnds result) self.old.cx.parts self.new.cx.parts self.old.journal self.new.journal }
+        ensures went { Proceeds O.output_number W.leads D.Clock F.TaskFuture (lasting result) self.old self.new }
     {
         let Some(now) = self
             .cx
@@ -66,9 +52,6 @@ where
         self.cx
             .parts
             .keep_turn(alloc, &mut self.journal, task, end, ended);
-        if self.cx.parts.is_out_of_memory {
-            return Err(RunError::Memory);
-        }
-        Ok(())
+        self.cx.parts.turn_answer()
     }
 }

@@ -6,7 +6,8 @@ ghost use Rattle.mono_time.specs.Sleeps.{armed_count};
 ghost use Rattle.mono_time.specs.Timers.{sleeps_of};
 ghost use Rattle.mono_rt.specs.Journals.{Goes, Does, Stays, HasPlaces};
 ghost use Rattle.mono_rt.specs.Rounds.{IsClock};
-ghost use Rattle.mono_rt.specs.DriverReadings.{telling, Course, Telling, IsRead, Still};
+ghost use Rattle.mono_rt.specs.DriverReadings.{Course, Telling, IsRead, Still};
+ghost use Rattle.mono_rt.specs.Views.{exposed};
 
 use crate::parts::errors::RunError;
 use crate::parts::journals::Journal;
@@ -33,7 +34,7 @@ fn open_clock<D: Driver>(
     ensures wakers { IfSome result (λ now. (lists.new.wakers.items ≡ []) × (armed_count (sleeps_of timers.now) + vec_len lists.new.wakers ≤ vec_capacity lists.new.wakers)) }
     ensures history { journal.new.history.entries ≡ journal.old.history.entries }
     ensures full { journal.new.is_full ≡ journal.old.is_full }
-    ensures read { IfSome result (λ now. IsRead (nanos_of now) (telling (D.readings driver.old) (D.time driver.old) (D.parks driver.old) (D.submits driver.old) (D.faults driver.old) (D.can_fail driver.old)) (telling (D.readings driver.new) (D.time driver.new) (D.parks driver.new) (D.submits driver.new) (D.faults driver.new) (D.can_fail driver.new))) }
+    ensures read { IfSome result (λ now. IsRead (nanos_of now) (exposed D.Clock driver.old) (exposed D.Clock driver.new)) }
     ensures unread { IfNone result (driver.new ≡ driver.old) }
     ensures faults { D.faults driver.new ≡ D.faults driver.old }
     ensures held { journal.new.entries.held ≡ journal.old.entries.held }
@@ -67,7 +68,7 @@ impl<O: Outcome + Drop, P: ThreadPool + Drop> Parts<O, Blockings<P>> {
         ensures turn { self.new.tasks.turn ≡ self.old.tasks.turn }
         ensures adds { AddsNone self.old.tasks.tasks self.new.tasks.tasks }
         ensures faults { D.faults driver.new ≡ D.faults driver.old }
-        ensures told { (course : Course) → Telling (Still course) (telling (D.readings driver.old) (D.time driver.old) (D.parks driver.old) (D.submits driver.old) (D.faults driver.old) (D.can_fail driver.old)) course journal.old journal.new (telling (D.readings driver.new) (D.time driver.new) (D.parks driver.new) (D.submits driver.new) (D.faults driver.new) (D.can_fail driver.new)) }
+        ensures told { (course : Course) → Telling (Still course) (exposed D.Clock driver.old) course journal.old journal.new (exposed D.Clock driver.new) }
         ensures full { journal.new.is_full ≡ journal.old.is_full }
         ensures held { journal.new.entries.held ≡ journal.old.entries.held }
     {

@@ -7,7 +7,8 @@ ghost use Rattle.mono_rt.specs.Refinement.{hosting_of, Matches};
 ghost use Rattle.mono_rt.specs.Journals.{Goes, Does, Stays, WaitsForNext};
 ghost use Rattle.mono_rt.specs.Faults.{RisesIf, FaultsParked};
 ghost use Rattle.mono_rt.specs.Rounds.{IsWait, IsPark};
-ghost use Rattle.mono_rt.specs.DriverReadings.{telling, going, Telling, IsParked, EndsParked};
+ghost use Rattle.mono_rt.specs.DriverReadings.{going, Telling, IsParked, EndsParked};
+ghost use Rattle.mono_rt.specs.Views.{exposed};
 
 use crate::parts::errors::RunError;
 use crate::parts::journals::{Entry, Journal};
@@ -21,7 +22,7 @@ use std::time::Duration;
 
 // Parks the driver for at most `wait` milliseconds. Returns whether it failed.
 fn park_driver<D: Driver, R: Host>(rt: &R, driver: &mut D, wait: Option<u64>) -> bool
-    ensures parked { IsParked wait result (telling (D.readings driver.old) (D.time driver.old) (D.parks driver.old) (D.submits driver.old) (D.faults driver.old) (D.can_fail driver.old)) (telling (D.readings driver.new) (D.time driver.new) (D.parks driver.new) (D.submits driver.new) (D.faults driver.new) (D.can_fail driver.new)) }
+    ensures parked { IsParked wait result (exposed D.Clock driver.old) (exposed D.Clock driver.new) }
     ensures faults { RisesIf result (D.faults driver.old) (D.faults driver.new) }
 {
     match wait {
@@ -58,7 +59,7 @@ impl<O: Outcome + Drop, P: ThreadPool + Drop> Parts<O, Blockings<P>> {
         ensures goes { Goes O.output_number self.entry.now self.entry.now journal.old journal.new }
         ensures refused { OnErr result (Does O.output_number Stays self.entry.now self.entry.now journal.old journal.new) }
         ensures parked { OnOk result (Does O.output_number (IsPark self.entry.now.has_timers) self.entry.now self.entry.now journal.old journal.new) }
-        ensures told { Telling (EndsParked result) (telling (D.readings driver.old) (D.time driver.old) (D.parks driver.old) (D.submits driver.old) (D.faults driver.old) (D.can_fail driver.old)) going journal.old journal.new (telling (D.readings driver.new) (D.time driver.new) (D.parks driver.new) (D.submits driver.new) (D.faults driver.new) (D.can_fail driver.new)) }
+        ensures told { Telling (EndsParked result) (exposed D.Clock driver.old) going journal.old journal.new (exposed D.Clock driver.new) }
         ensures faults { FaultsParked result (D.faults driver.old) (D.faults driver.new) }
         ensures full { journal.new.is_full ≡ journal.old.is_full }
         ensures held { journal.new.entries.held ≡ journal.old.entries.held }

@@ -6,9 +6,12 @@ ghost use Rattle.mono_machine.specs.declared.events.Report.TheVariants as report
 ghost use Rattle.mono_rt.specs.declared.parts.journals.Entry.TheVariants.{Ran};
 ghost use Rattle.mono_rt.specs.Record.{no_acts};
 ghost use Rattle.mono_rt.specs.Journals.{Goes, Does, Stays, IsReading, ReadsAt, HasPlaces};
-ghost use Rattle.mono_rt.specs.DriverReadings.{telling, going, Telling, Still};
+ghost use Rattle.mono_rt.specs.DriverReadings.{going, Telling, Still};
+ghost use Rattle.mono_rt.specs.Views.{exposed};
+ghost use Rattle.mono_rt.specs.Progress.{turn_answer};
 
 use crate::parts::acts::Acts;
+use crate::parts::errors::RunError;
 use crate::parts::journals::{Entry, Journal};
 use crate::parts::state::Parts;
 use mono_blocking::{Blockings, ThreadPool};
@@ -43,6 +46,17 @@ impl<O: Outcome + Drop, P: ThreadPool + Drop> Parts<O, Blockings<P>> {
         journal.push_turn(task, acts, end, ended);
     }
 
+    /// Returns an error if memory ran out in the turn that ended.
+    pub fn turn_answer(&self) -> Result<(), RunError>
+        ensures { result ≡ turn_answer self.entry.now.is_out_of_memory }
+    {
+        if self.is_out_of_memory {
+            Err(RunError::Memory)
+        } else {
+            Ok(())
+        }
+    }
+
     /// Reserves room for a turn, and records the reading of the clock.
     pub fn open_turn<D: Driver>(
         &mut self,
@@ -60,7 +74,7 @@ impl<O: Outcome + Drop, P: ThreadPool + Drop> Parts<O, Blockings<P>> {
         ensures tasks { self.new.tasks ≡ self.old.tasks }
         ensures has_timers { self.new.has_timers ≡ self.old.has_timers }
         ensures faults { D.faults driver.new ≡ D.faults driver.old }
-        ensures told { Telling (Still going) (telling (D.readings driver.old) (D.time driver.old) (D.parks driver.old) (D.submits driver.old) (D.faults driver.old) (D.can_fail driver.old)) going journal.old journal.new (telling (D.readings driver.new) (D.time driver.new) (D.parks driver.new) (D.submits driver.new) (D.faults driver.new) (D.can_fail driver.new)) }
+        ensures told { Telling (Still going) (exposed D.Clock driver.old) going journal.old journal.new (exposed D.Clock driver.new) }
         ensures full { journal.new.is_full ≡ journal.old.is_full }
         ensures held { journal.new.entries.held ≡ journal.old.entries.held }
     {

@@ -1,9 +1,10 @@
-use Rattle.std.proofs.Common.{inl, ◌≡◌, Option, Some, None, refl, ap, ◌∙◌, sym, Ok}
+use Rattle.std.proofs.Common.{arith, ◌≡◌, Option, Some, None, refl, ◌∙◌, sym}
 use Rattle.std.specs.Prelude.{⊤}
 use Rattle.std.specs.Option.{option_map}
+use Rattle.mono_rt.specs.Rounds.{IsSpawn}
+use Rattle.mono_rt.proofs.JournalLemmas.{goes_of}
 use Rattle.mono_rt.proofs.RoundLemmas.{blocks_by, blocks_done, blocks_refused}
-use Rattle.mono_rt.specs.DriverReadings.{going}
-use Rattle.mono_rt.proofs.DriverLemmas.{telling_on, telling_past, telling_more, capacity_ends, so_after, so_by, so_error, so_past, so_value}
+use Rattle.mono_rt.proofs.DriverLemmas.{telling_more, capacity_ends, so_after, so_by, so_error, so_past, so_value}
 use Rattle.std.proofs.Common.{Err, subst}
 use Rattle.mono_rt.specs.Journals.{Does}
 use Rattle.mono_rt.specs.FuturePolls.{Polling}
@@ -30,7 +31,7 @@ unreachable-requires g c =
 
 pub returns-in-Err-clause-blocked : goal.returns-in-Err-clause-blocked
 returns-in-Err-clause-blocked g c =
-    blocks_refused g.O.Outcome.output_number c.in-Err.error c.args.self.now.cx.parts.has_timers c.args.turns c.args.self.now.cx.parts c.start_main.new.self.cx.parts c.args.self.now.journal c.start_main.new.self.journal c.in-Err.ensures.unmade c.in-Err.ensures.refused
+    blocks_refused g.O.Outcome.output_number c.in-Err.error c.args.self.now.cx.parts.has_timers c.args.turns c.args.self.now.cx.parts c.start_main.new.self.cx.parts c.args.self.now.journal c.start_main.new.self.journal c.in-Err.ensures.none.stays c.in-Err.ensures.none.refused
 
 pub returns-in-Err-answer-clause-blocked : goal.returns-in-Err-answer-clause-blocked
 returns-in-Err-answer-clause-blocked g c =
@@ -41,7 +42,7 @@ returns-in-Err-answer-clause-blocked g c =
     let ended = c.end_main-output.new.self in
     let last = c.end_main-output.new.journal in
     blocks_by number c.in-Err-answer.error old.cx.parts.has_timers started.cx.parts.has_timers c.in-Ok.main c.args.turns (option_map number c.end_main-output.result) old.cx.parts started.cx.parts ran.cx.parts ended old.journal started.journal ran.journal last
-    c.start_main.ensures.has_timers c.in-Ok.ensures.spawned (rw c.in-Err-answer.is at c.run-answer.ensures.ends) c.end_main-output.ensures.dropped
+    c.start_main.ensures.has_timers c.in-Ok.ensures.made.spawn (rw c.in-Err-answer.is at c.run-answer.ensures.ends) c.end_main-output.ensures.dropped
 
 pub returns-in-Some-clause-blocked : goal.returns-in-Some-clause-blocked
 returns-in-Some-clause-blocked g c =
@@ -52,19 +53,19 @@ returns-in-Some-clause-blocked g c =
     let ended = c.end_main-output.new.self in
     let last = c.end_main-output.new.journal in
     blocks_done number (number c.in-Some.output) old.cx.parts.has_timers started.cx.parts.has_timers c.in-Ok.main c.args.turns old.cx.parts started.cx.parts ran.cx.parts ended old.journal started.journal ran.journal last
-    c.start_main.ensures.has_timers c.in-Ok.ensures.spawned (rw c.in-Ok-answer.is at c.run-answer.ensures.ends) (rw c.in-Some.is at c.end_main-output.ensures.dropped)
+    c.start_main.ensures.has_timers c.in-Ok.ensures.made.spawn (rw c.in-Ok-answer.is at c.run-answer.ensures.ends) (rw c.in-Some.is at c.end_main-output.ensures.dropped)
 
 pub returns-in-Err-clause-told : goal.returns-in-Err-clause-told
-returns-in-Err-clause-told g c = so_by (telling_more (λ x e. capacity_ends _ c.in-Err.error x _ c.in-Err.ensures.refused e) c.start_main.ensures.told)
+returns-in-Err-clause-told g c = so_by (telling_more (λ x e. capacity_ends _ c.in-Err.error x _ c.in-Err.ensures.none.refused e) c.start_main.ensures.told)
 
 pub returns-in-Err-answer-clause-told : goal.returns-in-Err-answer-clause-told
-returns-in-Err-answer-clause-told g c = so_error (so_past (so_after c.start_main.ensures.told (rw c.in-Err-answer.is at c.run-answer.ensures.told)) c.end_main-output.ensures.told)
+returns-in-Err-answer-clause-told g c = so_error (so_past (so_after c.start_main.ensures.told (rw c.in-Err-answer.is at c.run-answer.ensures.went.told)) c.end_main-output.ensures.told)
 
 pub returns-in-Some-clause-told : goal.returns-in-Some-clause-told
-returns-in-Some-clause-told g c = so_value (so_past (so_after c.start_main.ensures.told (rw c.in-Ok-answer.is at c.run-answer.ensures.told)) c.end_main-output.ensures.told)
+returns-in-Some-clause-told g c = so_value (so_past (so_after c.start_main.ensures.told (rw c.in-Ok-answer.is at c.run-answer.ensures.went.told)) c.end_main-output.ensures.told)
 
 pub returns-in-Err-clause-full : goal.returns-in-Err-clause-full
-returns-in-Err-clause-full g c = fills_unmade g.O.Outcome.output_number g.W.SharedState.leads g.F.TaskFuture ⊤ ⊤ c.in-Err.error c.args.self.now.cx c.args.self.now.journal c.start_main.new.self.journal _ c.in-Err.ensures.refused c.in-Err.ensures.full c.in-Err.ensures.lacks
+returns-in-Err-clause-full g c = fills_unmade g.O.Outcome.output_number g.W.SharedState.leads g.F.TaskFuture ⊤ ⊤ c.in-Err.error c.args.self.now.cx c.args.self.now.journal c.start_main.new.self.journal _ c.in-Err.ensures.none.refused c.in-Err.ensures.full c.in-Err.ensures.lacks
 
 pub returns-in-Err-answer-clause-full : goal.returns-in-Err-answer-clause-full
 returns-in-Err-answer-clause-full g c =
@@ -72,9 +73,9 @@ returns-in-Err-answer-clause-full g c =
     let old = c.args.self.now in
     let started = c.start_main.new.self in
     let ran = c.run-answer.new.self in
-    fills_made number g.W.SharedState.leads g.F.TaskFuture ⊤ ⊤ c.in-Err-answer.error old.cx old.journal c.end_main-output.new.journal c.in-Err-answer.ensures.placed
+    fills_made number g.W.SharedState.leads g.F.TaskFuture ⊤ ⊤ c.in-Err-answer.error old.cx old.journal c.end_main-output.new.journal (rw c.in-Err-answer.is at c.run-answer.ensures.went.placed)
     (fills_still number g.W.SharedState.leads g.F.TaskFuture old.cx old.journal ran.journal c.end_main-output.new.journal
-    (fills_on number g.W.SharedState.leads g.F.TaskFuture old.cx started.cx old.journal started.journal ran.journal c.start_main.ensures.goes (fills_not number g.W.SharedState.leads g.F.TaskFuture old.cx old.journal started.journal c.in-Ok.ensures.full) c.run-answer.ensures.full)
+    (fills_on number g.W.SharedState.leads g.F.TaskFuture old.cx started.cx old.journal started.journal ran.journal (goes_of number (IsSpawn c.in-Ok.main) old.cx.parts started.cx.parts old.journal started.journal c.in-Ok.ensures.made.spawn) (fills_not number g.W.SharedState.leads g.F.TaskFuture old.cx old.journal started.journal c.in-Ok.ensures.full) c.run-answer.ensures.went.full)
     c.end_main-output.ensures.full)
 
 pub returns-in-Some-clause-full : goal.returns-in-Some-clause-full
@@ -84,11 +85,11 @@ returns-in-Some-clause-full g c =
     let started = c.start_main.new.self in
     let ran = c.run-answer.new.self in
     fills_still number g.W.SharedState.leads g.F.TaskFuture old.cx old.journal ran.journal c.end_main-output.new.journal
-    (fills_on number g.W.SharedState.leads g.F.TaskFuture old.cx started.cx old.journal started.journal ran.journal c.start_main.ensures.goes (fills_not number g.W.SharedState.leads g.F.TaskFuture old.cx old.journal started.journal c.in-Ok.ensures.full) c.run-answer.ensures.full)
+    (fills_on number g.W.SharedState.leads g.F.TaskFuture old.cx started.cx old.journal started.journal ran.journal (goes_of number (IsSpawn c.in-Ok.main) old.cx.parts started.cx.parts old.journal started.journal c.in-Ok.ensures.made.spawn) (fills_not number g.W.SharedState.leads g.F.TaskFuture old.cx old.journal started.journal c.in-Ok.ensures.full) c.run-answer.ensures.went.full)
     c.end_main-output.ensures.full
 
 pub returns-in-Err-clause-polled : goal.returns-in-Err-clause-polled
-returns-in-Err-clause-polled g c = none_made ⊤ c.in-Err.error _ _ c.in-Err.ensures.refused
+returns-in-Err-clause-polled g c = none_made ⊤ c.in-Err.error _ _ c.in-Err.ensures.none.refused
 
 pub returns-in-Err-answer-clause-polled : goal.returns-in-Err-answer-clause-polled
 returns-in-Err-answer-clause-polled g c =
@@ -100,11 +101,11 @@ returns-in-Err-answer-clause-polled g c =
     let last = c.end_main-output.new.journal in
     let h = old.cx.parts.has_timers in
     same_error ⊤ ⊤ c.in-Err-answer.error _ (on_main {X = ⊤} (Err c.in-Err-answer.error) _ _
-    (λ x. polls_main number g.W.SharedState.leads g.F.TaskFuture h c.args.future c.in-Ok.main old.cx.futures.items started.cx.futures.items ran.cx.futures.items old.cx.parts started.cx.parts ended old.journal started.journal last c.in-Ok.ensures.made c.in-Ok.ensures.spawned
+    (λ x. polls_main number g.W.SharedState.leads g.F.TaskFuture h c.args.future c.in-Ok.main old.cx.futures.items started.cx.futures.items ran.cx.futures.items old.cx.parts started.cx.parts ended old.journal started.journal last c.in-Ok.ensures.made.futures c.in-Ok.ensures.made.spawn
     (polls_on number g.W.SharedState.leads g.F.TaskFuture h started.cx.futures.items ran.cx.futures.items ran.cx.futures.items started.cx.parts ran.cx.parts ended started.journal ran.journal last
     (subst (λ b. Does number (Polling number g.W.SharedState.leads g.F.TaskFuture b started.cx.futures.items ran.cx.futures.items) started.cx.parts ran.cx.parts started.journal ran.journal) c.start_main.ensures.has_timers x)
     (polls_drop number g.W.SharedState.leads g.F.TaskFuture h ran.cx.futures.items ran.cx.futures.items c.in-Ok.main (option_map number c.end_main-output.result) ran.cx.parts ended ran.journal last refl c.end_main-output.ensures.dropped)))
-    (rw c.in-Err-answer.is at c.run-answer.ensures.polled))
+    (rw c.in-Err-answer.is at c.run-answer.ensures.went.polled))
 
 pub returns-in-Some-clause-polled : goal.returns-in-Some-clause-polled
 returns-in-Some-clause-polled g c =
@@ -115,22 +116,22 @@ returns-in-Some-clause-polled g c =
     let ended = c.end_main-output.new.self in
     let last = c.end_main-output.new.journal in
     let h = old.cx.parts.has_timers in
-    polls_main number g.W.SharedState.leads g.F.TaskFuture h c.args.future c.in-Ok.main old.cx.futures.items started.cx.futures.items ran.cx.futures.items old.cx.parts started.cx.parts ended old.journal started.journal last c.in-Ok.ensures.made c.in-Ok.ensures.spawned
+    polls_main number g.W.SharedState.leads g.F.TaskFuture h c.args.future c.in-Ok.main old.cx.futures.items started.cx.futures.items ran.cx.futures.items old.cx.parts started.cx.parts ended old.journal started.journal last c.in-Ok.ensures.made.futures c.in-Ok.ensures.made.spawn
     (polls_on number g.W.SharedState.leads g.F.TaskFuture h started.cx.futures.items ran.cx.futures.items ran.cx.futures.items started.cx.parts ran.cx.parts ended started.journal ran.journal last
-    (subst (λ b. Does number (Polling number g.W.SharedState.leads g.F.TaskFuture b started.cx.futures.items ran.cx.futures.items) started.cx.parts ran.cx.parts started.journal ran.journal) c.start_main.ensures.has_timers (rw c.in-Ok-answer.is at c.run-answer.ensures.polled))
+    (subst (λ b. Does number (Polling number g.W.SharedState.leads g.F.TaskFuture b started.cx.futures.items ran.cx.futures.items) started.cx.parts ran.cx.parts started.journal ran.journal) c.start_main.ensures.has_timers (rw c.in-Ok-answer.is at c.run-answer.ensures.went.polled))
     (polls_drop number g.W.SharedState.leads g.F.TaskFuture h ran.cx.futures.items ran.cx.futures.items c.in-Ok.main (option_map number c.end_main-output.result) ran.cx.parts ended ran.journal last refl c.end_main-output.ensures.dropped))
 
 pub returns-in-Err-clause-faults : goal.returns-in-Err-clause-faults
-returns-in-Err-clause-faults g c = capacity_faults _ c.in-Err.error _ _ c.in-Err.ensures.refused c.start_main.ensures.faults
+returns-in-Err-clause-faults g c = capacity_faults _ c.in-Err.error _ _ c.in-Err.ensures.none.refused c.start_main.ensures.faults
 
 pub returns-in-Err-answer-clause-faults : goal.returns-in-Err-answer-clause-faults
-returns-in-Err-answer-clause-faults g c = faults_after c.in-Err-answer.error _ _ _ c.start_main.ensures.faults (rw c.in-Err-answer.is at c.run-answer.ensures.faults)
+returns-in-Err-answer-clause-faults g c = faults_after c.in-Err-answer.error _ _ _ c.start_main.ensures.faults (rw c.in-Err-answer.is at c.run-answer.ensures.went.faults)
 
 pub returns-in-Some-clause-faults : goal.returns-in-Some-clause-faults
-returns-in-Some-clause-faults g c = (rw c.in-Ok-answer.is at c.run-answer.ensures.faults) ∙ c.start_main.ensures.faults
+returns-in-Some-clause-faults g c = (rw c.in-Ok-answer.is at c.run-answer.ensures.went.faults) ∙ c.start_main.ensures.faults
 
 pub returns-in-Err-answer-clause-place : goal.returns-in-Err-answer-clause-place
-returns-in-Err-answer-clause-place g c = placed ⊤ ⊤ c.in-Err-answer.error _ c.in-Ok.ensures.place c.in-Err-answer.ensures.placed
+returns-in-Err-answer-clause-place g c = placed ⊤ ⊤ c.in-Err-answer.error _ c.in-Ok.ensures.place (rw c.in-Err-answer.is at c.run-answer.ensures.went.placed)
 
 pub returns-in-Err-clause-place : goal.returns-in-Err-clause-place
 returns-in-Err-clause-place g c = same_answer ⊤ ⊤ c.in-Err.error _ c.in-Err.ensures.place
@@ -139,7 +140,7 @@ pub returns-in-Err-clause-untouched : goal.returns-in-Err-clause-untouched
 returns-in-Err-clause-untouched g c = same_refusal ⊤ ⊤ c.in-Err.error _ c.in-Err.ensures.untouched
 
 pub returns-in-Err-answer-clause-untouched : goal.returns-in-Err-answer-clause-untouched
-returns-in-Err-answer-clause-untouched g c = not_refused ⊤ ⊤ c.in-Err-answer.error _ c.in-Err-answer.ensures.placed
+returns-in-Err-answer-clause-untouched g c = not_refused ⊤ ⊤ c.in-Err-answer.error _ (rw c.in-Err-answer.is at c.run-answer.ensures.went.placed)
 
 pub returns-in-Err-clause-strategy : goal.returns-in-Err-clause-strategy
 returns-in-Err-clause-strategy g c = same_strategy g.O.Outcome.output_number _ _ _ _ _ (returns-in-Err-clause-blocked g c)
@@ -163,13 +164,13 @@ returns-in-Some-clause-given g c = λ aligned.
     let there = rw c.in-Ok-answer.is at c.run-answer.ensures.given in
     let is = same_output c.end_main-output.result there.0 c.in-Some.output (c.end_main-output.ensures.output there.0 there.1) c.in-Some.is in
     subst (gives c.args.future) is
-    (given_later gives old.cx started.cx c.args.future c.in-Ok.ensures.tasks c.in-Ok.ensures.made c.in-Ok.main c.in-Ok.ensures.number aligned ran.cx there.0 c.run-answer.ensures.answers (output_dropped ran.cx.parts.tasks.tasks c.in-Ok.main there.0 there.1))
+    (given_later gives old.cx started.cx c.args.future c.in-Ok.ensures.made.tasks c.in-Ok.ensures.made.futures c.in-Ok.main c.in-Ok.ensures.made.is_next aligned ran.cx there.0 c.run-answer.ensures.went.answers (output_dropped ran.cx.parts.tasks.tasks c.in-Ok.main there.0 there.1))
 
 pub returns-in-Err-clause-answers : goal.returns-in-Err-clause-answers
 returns-in-Err-clause-answers g c =
     let old = c.args.self.now in
     let started = c.start_main.new.self in
-    no_more_by g.F.TaskFuture.gives old.cx started.cx (subst (AddsNone old.cx.parts.tasks.tasks) (sym c.in-Err.ensures.same_tasks) (adds_itself old.cx.parts.tasks.tasks)) c.in-Err.ensures.same_futures
+    no_more_by g.F.TaskFuture.gives old.cx started.cx (subst (AddsNone old.cx.parts.tasks.tasks) (sym c.in-Err.ensures.none.tasks) (adds_itself old.cx.parts.tasks.tasks)) c.in-Err.ensures.none.futures
 
 pub returns-in-Err-answer-clause-answers : goal.returns-in-Err-answer-clause-answers
 returns-in-Err-answer-clause-answers g c =
@@ -177,8 +178,8 @@ returns-in-Err-answer-clause-answers g c =
     let old = c.args.self.now in
     let started = c.start_main.new.self in
     let ran = c.run-answer.new.self in
-    no_more_on gives old.cx started.cx _ (no_more_spawned gives old.cx started.cx c.args.future c.in-Ok.ensures.tasks c.in-Ok.ensures.made)
-    (no_more_on gives started.cx ran.cx _ c.run-answer.ensures.answers
+    no_more_on gives old.cx started.cx _ (no_more_spawned gives old.cx started.cx c.args.future c.in-Ok.ensures.made.tasks c.in-Ok.ensures.made.futures)
+    (no_more_on gives started.cx ran.cx _ c.run-answer.ensures.went.answers
     (no_more_by gives ran.cx _ (subst (AddsNone ran.cx.parts.tasks.tasks) (sym c.end_main-output.ensures.left) (adds_dropped ran.cx.parts.tasks.tasks c.in-Ok.main)) refl))
 
 pub returns-in-Some-clause-answers : goal.returns-in-Some-clause-answers
@@ -187,12 +188,12 @@ returns-in-Some-clause-answers g c =
     let old = c.args.self.now in
     let started = c.start_main.new.self in
     let ran = c.run-answer.new.self in
-    no_more_on gives old.cx started.cx _ (no_more_spawned gives old.cx started.cx c.args.future c.in-Ok.ensures.tasks c.in-Ok.ensures.made)
-    (no_more_on gives started.cx ran.cx _ c.run-answer.ensures.answers
+    no_more_on gives old.cx started.cx _ (no_more_spawned gives old.cx started.cx c.args.future c.in-Ok.ensures.made.tasks c.in-Ok.ensures.made.futures)
+    (no_more_on gives started.cx ran.cx _ c.run-answer.ensures.went.answers
     (no_more_by gives ran.cx _ (subst (AddsNone ran.cx.parts.tasks.tasks) (sym c.end_main-output.ensures.left) (adds_dropped ran.cx.parts.tasks.tasks c.in-Ok.main)) refl))
 
 pub returns-in-Err-clause-retired : goal.returns-in-Err-clause-retired
-returns-in-Err-clause-retired g c = none_made ⊤ c.in-Err.error _ _ c.in-Err.ensures.refused
+returns-in-Err-clause-retired g c = none_made ⊤ c.in-Err.error _ _ c.in-Err.ensures.none.refused
 
 pub returns-in-Err-answer-clause-retired : goal.returns-in-Err-answer-clause-retired
 returns-in-Err-answer-clause-retired g c = if_main ⊤ c.in-Err-answer.error _ c.retire_ended.ensures.none
@@ -204,20 +205,47 @@ pub run-answer-requires-clause-callable : goal.run-answer-requires-clause-callab
 run-answer-requires-clause-callable g c =
     let old = c.args.self.now in
     let started = c.start_main.new.self in
-    turn_with g.F.TaskFuture old.cx started.cx c.args.future (aligned_spawned old.cx started.cx c.args.future c.in-Ok.ensures.tasks c.in-Ok.ensures.made) c.in-Ok.ensures.made c.requires.callable c.requires.others
+    turn_with g.F.TaskFuture old.cx started.cx c.args.future (aligned_spawned old.cx started.cx c.args.future c.in-Ok.ensures.made.tasks c.in-Ok.ensures.made.futures) c.in-Ok.ensures.made.futures c.requires.callable c.requires.others
 
 pub returns-in-Err-clause-callable : goal.returns-in-Err-clause-callable
 returns-in-Err-clause-callable g c =
-    turn_same g.F.TaskFuture g.F.TaskFuture.gives c.args.self.now.cx c.start_main.new.self.cx (returns-in-Err-clause-answers g c) c.in-Err.ensures.same_futures c.requires.others
+    turn_same g.F.TaskFuture g.F.TaskFuture.gives c.args.self.now.cx c.start_main.new.self.cx (returns-in-Err-clause-answers g c) c.in-Err.ensures.none.futures c.requires.others
 
 pub returns-in-Err-answer-clause-callable : goal.returns-in-Err-answer-clause-callable
 returns-in-Err-answer-clause-callable g c =
     let gives = g.F.TaskFuture.gives in
     let ran = c.run-answer.new.self in
-    turn_same g.F.TaskFuture gives ran.cx _ (no_more_by gives ran.cx _ (subst (AddsNone ran.cx.parts.tasks.tasks) (sym c.end_main-output.ensures.left) (adds_dropped ran.cx.parts.tasks.tasks c.in-Ok.main)) refl) refl c.run-answer.ensures.callable
+    turn_same g.F.TaskFuture gives ran.cx _ (no_more_by gives ran.cx _ (subst (AddsNone ran.cx.parts.tasks.tasks) (sym c.end_main-output.ensures.left) (adds_dropped ran.cx.parts.tasks.tasks c.in-Ok.main)) refl) refl (c.run-answer.ensures.went.callable (turn_with g.F.TaskFuture c.args.self.now.cx c.start_main.new.self.cx c.args.future (aligned_spawned c.args.self.now.cx c.start_main.new.self.cx c.args.future c.in-Ok.ensures.made.tasks c.in-Ok.ensures.made.futures) c.in-Ok.ensures.made.futures c.requires.callable c.requires.others))
 
 pub returns-in-Some-clause-callable : goal.returns-in-Some-clause-callable
 returns-in-Some-clause-callable g c =
     let gives = g.F.TaskFuture.gives in
     let ran = c.run-answer.new.self in
-    turn_same g.F.TaskFuture gives ran.cx _ (no_more_by gives ran.cx _ (subst (AddsNone ran.cx.parts.tasks.tasks) (sym c.end_main-output.ensures.left) (adds_dropped ran.cx.parts.tasks.tasks c.in-Ok.main)) refl) refl c.run-answer.ensures.callable
+    turn_same g.F.TaskFuture gives ran.cx _ (no_more_by gives ran.cx _ (subst (AddsNone ran.cx.parts.tasks.tasks) (sym c.end_main-output.ensures.left) (adds_dropped ran.cx.parts.tasks.tasks c.in-Ok.main)) refl) refl (c.run-answer.ensures.went.callable (turn_with g.F.TaskFuture c.args.self.now.cx c.start_main.new.self.cx c.args.future (aligned_spawned c.args.self.now.cx c.start_main.new.self.cx c.args.future c.in-Ok.ensures.made.tasks c.in-Ok.ensures.made.futures) c.in-Ok.ensures.made.futures c.requires.callable c.requires.others))
+
+pub returns-in-Err-answer-clause-rests : goal.returns-in-Err-answer-clause-rests
+returns-in-Err-answer-clause-rests g c = c.end_main-output.ensures.turn ∙ c.run-answer.ensures.went.rests (c.start_main.ensures.turn ∙ c.requires.rests)
+
+pub returns-in-Err-answer-clause-shared : goal.returns-in-Err-answer-clause-shared
+returns-in-Err-answer-clause-shared g c = subst (λ w. g.W.SharedState.leads w c.run-answer.new.self.cx.shared) c.start_main.ensures.shared c.run-answer.ensures.went.shared
+
+pub returns-in-Err-answer-clause-held : goal.returns-in-Err-answer-clause-held
+returns-in-Err-answer-clause-held g c = omega (arith, c.end_main-output.ensures.held, c.run-answer.ensures.went.held, c.in-Ok.ensures.made.held)
+
+pub returns-in-Some-clause-rests : goal.returns-in-Some-clause-rests
+returns-in-Some-clause-rests g c = c.end_main-output.ensures.turn ∙ c.run-answer.ensures.went.rests (c.start_main.ensures.turn ∙ c.requires.rests)
+
+pub returns-in-Some-clause-shared : goal.returns-in-Some-clause-shared
+returns-in-Some-clause-shared g c = subst (λ w. g.W.SharedState.leads w c.run-answer.new.self.cx.shared) c.start_main.ensures.shared c.run-answer.ensures.went.shared
+
+pub returns-in-Some-clause-held : goal.returns-in-Some-clause-held
+returns-in-Some-clause-held g c = omega (arith, c.end_main-output.ensures.held, c.run-answer.ensures.went.held, c.in-Ok.ensures.made.held)
+
+pub run-answer-requires-clause-rests : goal.run-answer-requires-clause-rests
+run-answer-requires-clause-rests g c = c.start_main.ensures.turn ∙ c.requires.rests
+
+pub end_main-output-requires : goal.end_main-output-requires
+end_main-output-requires g c = omega (arith, c.run-answer.ensures.went.held, c.in-Ok.ensures.made.held)
+
+pub returns-in-Err-clause-held : goal.returns-in-Err-clause-held
+returns-in-Err-clause-held g c = c.in-Err.ensures.none.held

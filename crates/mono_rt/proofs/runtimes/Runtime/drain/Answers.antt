@@ -1,4 +1,4 @@
-use Rattle.std.proofs.Common.{refl, sym}
+use Rattle.std.proofs.Common.{refl, sym, ◌∙◌}
 use Rattle.mono_rt.proofs.OutputLemmas.{adds_itself}
 use Rattle.mono_rt.specs.Drains.{DrainsAll}
 use Rattle.mono_rt.proofs.JournalLemmas.{does_stay}
@@ -36,5 +36,16 @@ returns-in-Some-clause-drained g c =
 pub returns-in-Some-clause-told : goal.returns-in-Some-clause-told
 returns-in-Some-clause-told g c = λ old new before after ends. telling_on {q = before} (tells_nothing refl refl c.drain.ensures.history) (c.wake_taken.ensures.told old new before after ends)
 
-pub returns-in-None-clause-adds : goal.returns-in-None-clause-adds
-returns-in-None-clause-adds g c = adds_itself c.args.self.now.cx.parts.tasks.tasks
+pub returns-in-None-clause-idle : goal.returns-in-None-clause-idle
+returns-in-None-clause-idle g c = record { has_timers = refl; turn = refl; adds = adds_itself c.args.self.now.cx.parts.tasks.tasks; futures = refl; shared = refl; full = c.drain.ensures.full; held = c.drain.ensures.held }
+
+pub returns-in-Some-clause-idle : goal.returns-in-Some-clause-idle
+returns-in-Some-clause-idle g c = record {
+  has_timers = c.wake_taken.ensures.has_timers;
+  turn = c.wake_taken.ensures.turn;
+  adds = c.wake_taken.ensures.adds;
+  futures = refl;
+  shared = refl;
+  full = c.wake_taken.ensures.full ∙ c.drain.ensures.full;
+  held = c.wake_taken.ensures.held ∙ c.drain.ensures.held;
+}

@@ -69,13 +69,13 @@ pub returns-in-Err-wait-clause-told : goal.returns-in-Err-wait-clause-told
 returns-in-Err-wait-clause-told g c = so_broken c.in-Err-wait.ensures.told
 
 pub returns-in-Ok-drained-clause-faults : goal.returns-in-Ok-drained-clause-faults
-returns-in-Ok-drained-clause-faults g c = c.drain-drained.ensures.faults ∙ (rw c.in-Ok.is at c.submit-handed.ensures.faults)
+returns-in-Ok-drained-clause-faults g c = (ap g.D.Clock.faults c.drain-drained.ensures.driver) ∙ (rw c.in-Ok.is at c.submit-handed.ensures.faults)
 
 pub returns-in-Err-drained-clause-faults : goal.returns-in-Err-drained-clause-faults
-returns-in-Err-drained-clause-faults g c = c.drain-drained.ensures.faults ∙ (rw c.in-Ok.is at c.submit-handed.ensures.faults)
+returns-in-Err-drained-clause-faults g c = (ap g.D.Clock.faults c.drain-drained.ensures.driver) ∙ (rw c.in-Ok.is at c.submit-handed.ensures.faults)
 
 pub returns-in-Err-clause-faults : goal.returns-in-Err-clause-faults
-returns-in-Err-clause-faults g c = risen_before _ _ _ (rw c.in-Err.is at c.submit-handed.ensures.faults).1 c.drain-drained.ensures.faults
+returns-in-Err-clause-faults g c = risen_before _ _ _ (rw c.in-Err.is at c.submit-handed.ensures.faults).1 (ap g.D.Clock.faults c.drain-drained.ensures.driver)
 
 pub returns-in-Err-wait-clause-faults : goal.returns-in-Err-wait-clause-faults
 returns-in-Err-wait-clause-faults g c = c.in-Err-wait.ensures.faults
@@ -85,3 +85,27 @@ returns-in-Ok-true-clause-faults g c = subst (λ b. RisesIf b (g.D.Clock.faults 
 
 pub returns-in-Ok-false-clause-faults : goal.returns-in-Ok-false-clause-faults
 returns-in-Ok-false-clause-faults g c = subst (λ b. RisesIf b (g.D.Clock.faults c.args.self.now.driver) (g.D.Clock.faults c.wait.new.self.driver)) c.in-Ok-false.field-0-test c.in-Ok-false.ensures.faults
+
+pub returns-in-Ok-drained-clause-idle : goal.returns-in-Ok-drained-clause-idle
+returns-in-Ok-drained-clause-idle g c =
+    let idle = c.drain-drained.ensures.idle in
+    record { has_timers = idle.has_timers; turn = idle.turn; adds = idle.adds; futures = idle.futures; shared = idle.shared; full = idle.full; held = idle.held }
+
+pub returns-in-Err-clause-idle : goal.returns-in-Err-clause-idle
+returns-in-Err-clause-idle g c =
+    let idle = c.drain-drained.ensures.idle in
+    record { has_timers = idle.has_timers; turn = idle.turn; adds = idle.adds; futures = idle.futures; shared = idle.shared; full = idle.full; held = idle.held }
+
+pub returns-in-Err-drained-clause-idle : goal.returns-in-Err-drained-clause-idle
+returns-in-Err-drained-clause-idle g c =
+    let idle = c.drain-drained.ensures.idle in
+    record { has_timers = idle.has_timers; turn = idle.turn; adds = idle.adds; futures = idle.futures; shared = idle.shared; full = idle.full; held = idle.held }
+
+pub returns-in-Err-wait-clause-idle : goal.returns-in-Err-wait-clause-idle
+returns-in-Err-wait-clause-idle g c = c.wait.ensures.idle
+
+pub returns-in-Ok-true-clause-idle : goal.returns-in-Ok-true-clause-idle
+returns-in-Ok-true-clause-idle g c = c.wait.ensures.idle
+
+pub returns-in-Ok-false-clause-idle : goal.returns-in-Ok-false-clause-idle
+returns-in-Ok-false-clause-idle g c = c.wait.ensures.idle

@@ -1,3 +1,7 @@
+use Rattle.std.proofs.Common.{refl}
+use Rattle.mono_rt.proofs.OutputLemmas.{adds_itself}
+use Rattle.mono_rt.proofs.PossibleAnswerLemmas.{no_more_on, no_more_by}
+use Rattle.mono_rt.proofs.PollableLemmas.{turn_same}
 use Rattle.mono_rt.proofs.StrategyLemmas.{same_strategy}
 use Rattle.mono_rt.proofs.runtimes.Runtime.run_until.Goals as goal
 
@@ -9,3 +13,36 @@ returns-clause-retired g c = c.retire_ended.ensures.none
 
 pub returns-clause-strategy : goal.returns-clause-strategy
 returns-clause-strategy g c = same_strategy g.O.Outcome.output_number _ _ _ _ _ c.run-answer.ensures.ends
+
+pub returns-clause-shared : goal.returns-clause-shared
+returns-clause-shared g c = c.run-answer.ensures.went.shared
+
+pub returns-clause-polled : goal.returns-clause-polled
+returns-clause-polled g c = c.run-answer.ensures.went.polled
+
+pub returns-clause-faults : goal.returns-clause-faults
+returns-clause-faults g c = c.run-answer.ensures.went.faults
+
+pub returns-clause-told : goal.returns-clause-told
+returns-clause-told g c = c.run-answer.ensures.went.told
+
+pub returns-clause-full : goal.returns-clause-full
+returns-clause-full g c = c.run-answer.ensures.went.full
+
+pub returns-clause-held : goal.returns-clause-held
+returns-clause-held g c = c.run-answer.ensures.went.held
+
+pub returns-clause-rests : goal.returns-clause-rests
+returns-clause-rests g c = c.run-answer.ensures.went.rests c.requires.rests
+
+pub returns-clause-answers : goal.returns-clause-answers
+returns-clause-answers g c =
+    let gives = g.F.TaskFuture.gives in
+    let ran = c.run-answer.new.self in
+    no_more_on gives c.args.self.now.cx ran.cx _ c.run-answer.ensures.went.answers (no_more_by gives ran.cx _ (adds_itself ran.cx.parts.tasks.tasks) refl)
+
+pub returns-clause-callable : goal.returns-clause-callable
+returns-clause-callable g c =
+    let gives = g.F.TaskFuture.gives in
+    let ran = c.run-answer.new.self in
+    turn_same g.F.TaskFuture gives ran.cx _ (no_more_by gives ran.cx _ (adds_itself ran.cx.parts.tasks.tasks) refl) refl (c.run-answer.ensures.went.callable c.requires.callable)

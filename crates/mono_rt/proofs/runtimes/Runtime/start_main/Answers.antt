@@ -1,72 +1,23 @@
 use Rattle.std.proofs.Common.{inl, inr, ap, refl, subst, sym, ◌∙◌, Err}
-use Rattle.mono_rt.proofs.JournalLemmas.{goes_of, goes_nowhere, does_stay}
+use Rattle.mono_rt.proofs.JournalLemmas.{does_stay}
 use Rattle.mono_rt.proofs.DriverLemmas.{tells_nothing}
 use Rattle.std.specs.Prelude.{⊤}
 use Rattle.mono_rt.specs.SpawnErrors.{HasPlace}
 use Rattle.mono_rt.specs.declared.parts.errors.RunError.TheVariants.{Memory}
 use Rattle.mono_rt.proofs.PlaceLemmas.{placed, not_refused, unless_refused}
-use Rattle.mono_rt.specs.Rounds.{IsRefused}
 use Rattle.mono_rt.proofs.runtimes.Runtime.start_main.Goals as goal
-
-pub returns-in-Err-clause-goes : goal.returns-in-Err-clause-goes
-returns-in-Err-clause-goes g c =
-    let old = c.args.self.now in
-    goes_nowhere g.O.Outcome.output_number old.cx.parts old.cx.parts old.journal old.journal refl refl refl refl refl
-
-pub returns-in-Err-clause-unmade : goal.returns-in-Err-clause-unmade
-returns-in-Err-clause-unmade g c =
-    let old = c.args.self.now in
-    does_stay g.O.Outcome.output_number old.cx.parts old.cx.parts old.journal old.journal refl refl refl refl refl
 
 pub returns-in-Err-clause-told : goal.returns-in-Err-clause-told
 returns-in-Err-clause-told g c = tells_nothing refl refl refl
 
-pub returns-in-Err-start_main-clause-goes : goal.returns-in-Err-start_main-clause-goes
-returns-in-Err-start_main-clause-goes g c = c.start_main.ensures.goes
-
-pub returns-in-Err-start_main-clause-refused : goal.returns-in-Err-start_main-clause-refused
-returns-in-Err-start_main-clause-refused g c = c.in-Err-start_main.ensures.refused
-
-pub returns-in-Err-start_main-clause-unmade : goal.returns-in-Err-start_main-clause-unmade
-returns-in-Err-start_main-clause-unmade g c = c.in-Err-start_main.ensures.unmade
-
 pub returns-in-Err-start_main-clause-told : goal.returns-in-Err-start_main-clause-told
 returns-in-Err-start_main-clause-told g c = c.start_main.ensures.told _
-
-pub returns-in-Ok-start_main-clause-spawned : goal.returns-in-Ok-start_main-clause-spawned
-returns-in-Ok-start_main-clause-spawned g c = c.in-Ok-start_main.ensures.spawned
-
-pub returns-in-Ok-start_main-clause-goes : goal.returns-in-Ok-start_main-clause-goes
-returns-in-Ok-start_main-clause-goes g c = c.start_main.ensures.goes
 
 pub returns-in-Ok-start_main-clause-told : goal.returns-in-Ok-start_main-clause-told
 returns-in-Ok-start_main-clause-told g c = c.start_main.ensures.told _
 
 pub returns-then-has_no_place-clause-told : goal.returns-then-has_no_place-clause-told
 returns-then-has_no_place-clause-told g c = c.refuse_main.ensures.told _
-
-pub returns-in-Err-clause-same_futures : goal.returns-in-Err-clause-same_futures
-returns-in-Err-clause-same_futures g c = c.reserve_value.ensures.same.items
-
-pub returns-in-Err-start_main-clause-same_tasks : goal.returns-in-Err-start_main-clause-same_tasks
-returns-in-Err-start_main-clause-same_tasks g c = c.in-Err-start_main.ensures.same
-
-pub returns-in-Err-start_main-clause-same_futures : goal.returns-in-Err-start_main-clause-same_futures
-returns-in-Err-start_main-clause-same_futures g c = c.abort.ensures.same.items ∙ c.reserve_value.ensures.same.items
-
-pub returns-in-Ok-start_main-clause-number : goal.returns-in-Ok-start_main-clause-number
-returns-in-Ok-start_main-clause-number g c = c.in-Ok-start_main.ensures.number
-
-pub returns-in-Ok-start_main-clause-tasks : goal.returns-in-Ok-start_main-clause-tasks
-returns-in-Ok-start_main-clause-tasks g c = c.in-Ok-start_main.ensures.made
-
-pub returns-then-has_no_place-clause-goes : goal.returns-then-has_no_place-clause-goes
-returns-then-has_no_place-clause-goes g c =
-    let old = c.args.self.now in
-    goes_of g.O.Outcome.output_number IsRefused old.cx.parts old.cx.parts old.journal c.refuse_main.new.journal c.refuse_main.ensures.refused
-
-pub returns-then-has_no_place-clause-refused : goal.returns-then-has_no_place-clause-refused
-returns-then-has_no_place-clause-refused g c = c.refuse_main.ensures.refused
 
 pub returns-then-has_no_place-clause-place : goal.returns-then-has_no_place-clause-place
 returns-then-has_no_place-clause-place g c = sym c.has_no_place.ensures ∙ c.if-has_no_place.true
@@ -98,11 +49,36 @@ returns-in-Err-start_main-clause-lacks g c =
     let free = sym c.has_no_place.ensures ∙ c.if-has_no_place.false in
     not_refused ⊤ ⊤ c.in-Err-start_main.error _ (subst (HasPlace {A = ⊤} (Err c.in-Err-start_main.error)) free c.in-Err-start_main.ensures.place)
 
-pub returns-then-has_no_place-clause-unkept : goal.returns-then-has_no_place-clause-unkept
-returns-then-has_no_place-clause-unkept g c = inl refl
+pub returns-then-has_no_place-clause-none : goal.returns-then-has_no_place-clause-none
+returns-then-has_no_place-clause-none g c = record { refused = c.refuse_main.ensures.refused; stays = tt; tasks = refl; futures = refl; unkept = inl refl; held = c.refuse_main.ensures.held }
 
-pub returns-in-Err-clause-unkept : goal.returns-in-Err-clause-unkept
-returns-in-Err-clause-unkept g c = inl (ap (λ s. s.reserved) c.in-Err.ensures.refused)
+pub returns-in-Err-clause-none : goal.returns-in-Err-clause-none
+returns-in-Err-clause-none g c =
+    let old = c.args.self.now in
+    record {
+      refused = tt;
+      stays = does_stay g.O.Outcome.output_number old.cx.parts old.cx.parts old.journal old.journal refl refl refl refl refl;
+      tasks = refl;
+      futures = c.reserve_value.ensures.same.items;
+      unkept = inl (ap (λ s. s.reserved) c.in-Err.ensures.refused);
+      held = refl;
+    }
 
-pub returns-in-Err-start_main-clause-unkept : goal.returns-in-Err-start_main-clause-unkept
-returns-in-Err-start_main-clause-unkept g c = inr c.abort.ensures.reserved
+pub returns-in-Err-start_main-clause-none : goal.returns-in-Err-start_main-clause-none
+returns-in-Err-start_main-clause-none g c = record {
+  refused = c.in-Err-start_main.ensures.refused;
+  stays = c.in-Err-start_main.ensures.unmade;
+  tasks = c.in-Err-start_main.ensures.same;
+  futures = c.abort.ensures.same.items ∙ c.reserve_value.ensures.same.items;
+  unkept = inr c.abort.ensures.reserved;
+  held = c.in-Err-start_main.ensures.unheld;
+}
+
+pub returns-in-Ok-start_main-clause-made : goal.returns-in-Ok-start_main-clause-made
+returns-in-Ok-start_main-clause-made g c = record {
+  spawn = c.in-Ok-start_main.ensures.spawned;
+  is_next = c.in-Ok-start_main.ensures.number;
+  tasks = c.in-Ok-start_main.ensures.made;
+  futures = rw (c.reserve_value.ensures.same.items, c.in-Ok.ensures.reserved) at c.commit.ensures.items;
+  held = c.in-Ok-start_main.ensures.held;
+}

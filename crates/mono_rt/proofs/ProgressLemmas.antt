@@ -1,0 +1,162 @@
+-- The parts of the loop, one after the other.
+use Rattle.std.proofs.Common.{◌≡◌, ℕ, Bool, true, false, Ok, Err, refl, ap, sym, subst, ◌∙◌}
+use Rattle.std.specs.Prelude.{⊤, Result, IsErr}
+use Rattle.mono_task.specs.Members.{FutureOf}
+use Rattle.mono_driver.specs.declared.clock.Clock
+use Rattle.mono_rt.specs.Rounds.{PauseEnds}
+use Rattle.mono_rt.specs.Faults.{FaultsBy}
+use Rattle.mono_rt.specs.FuturePolls.{Polling, OnMain}
+use Rattle.mono_rt.specs.SpawnErrors.{HasPlace}
+use Rattle.mono_rt.specs.DriverReadings.{going, Telling, Still}
+use Rattle.mono_rt.specs.Views.{exposed, is_timed, Rests, Grows, GivesNoMore, CanRun, LeadsShared, PollsItsFutures, FillsJournal, HoldsSamePlaces, TellsDriver}
+use Rattle.mono_rt.specs.Progress.{ending, lasting, turn_answer, Idles, Proceeds}
+use Rattle.mono_rt.specs.declared.contexts.Cx.{Cx}
+use Rattle.mono_rt.specs.declared.runtimes.Runtime.{Runtime}
+use Rattle.mono_rt.specs.declared.parts.errors.RunError.{RunError}
+use Rattle.mono_rt.specs.declared.parts.errors.RunError.TheVariants as error
+use Rattle.mono_rt.proofs.JournalLemmas.{goes_of}
+use Rattle.mono_rt.proofs.DriverLemmas.{telling_more, unfailed, so_after, so_done, so_spent, so_broken, still_of}
+use Rattle.mono_rt.proofs.FaultLemmas.{faults_after}
+use Rattle.mono_rt.proofs.FuturePollLemmas.{on_main, same_error, polls_on, polls_nothing, polls_pause}
+use Rattle.mono_rt.proofs.DriverLemmas.{tells_nothing}
+use Rattle.mono_rt.proofs.JournalRoomLemmas.{fills_on, fills_not}
+use Rattle.mono_rt.proofs.OutputLemmas.{adds_on}
+use Rattle.mono_rt.proofs.PossibleAnswerLemmas.{no_more_itself, no_more_on, no_more_by}
+use Rattle.mono_rt.proofs.PollableLemmas.{turn_same}
+
+-- the answer's value does not matter
+ending_main : {A : Type 0} (r : Result A RunError) (P : Type 0) → OnMain r P → OnMain (ending r) P
+ending_main {A} (Ok x) P is = is
+ending_main {A} (Err e) P is = same_error A ⊤ e P is
+
+false-true : false ≡ true → ⊥
+false-true e = cc
+
+-- a part that failed for want of memory
+pub lasting_err : {A : Type 0} (r : Result A RunError) (P : Result ⊤ RunError → Type 0) → IsErr r → P (Err error.Memory) → P (lasting r)
+lasting_err {A} (Ok x) P is p = absurd (false-true is)
+lasting_err {A} (Err e) P is p = p
+
+-- the counts of a driver whose count stayed before
+faults_on : (r : Result ⊤ RunError) (x y z : ℕ) → y ≡ x → FaultsBy r y z → FaultsBy r x z
+faults_on (Ok t) x y z same faults = faults ∙ same
+faults_on (Err e) x y z same faults = faults_after e x y z same faults
+
+module _ {F O D P W U J A V : Type 0} where
+  pub idles_on : (a b c : Runtime F O D P W U J A V) → Idles a b → Idles b c → Idles a c
+  idles_on a b c p q = record {
+    has_timers = q.has_timers ∙ p.has_timers;
+    turn = q.turn ∙ p.turn;
+    adds = adds_on a.cx.parts.tasks.tasks b.cx.parts.tasks.tasks c.cx.parts.tasks.tasks p.adds q.adds;
+    futures = q.futures ∙ p.futures;
+    shared = q.shared ∙ p.shared;
+    full = q.full ∙ p.full;
+    held = q.held ∙ p.held;
+  }
+
+  module _ (number : O → ℕ) (leads : W → W → Type 0) (clock : Clock.Ghosts D) (future : FutureOf F (Cx F O P U W J A V) O) where
+    -- nothing was done
+    pub went_nowhere : ((w : W) → leads w w) → (a : Runtime F O D P W U J A V) → Proceeds number leads clock future (Ok tt) a a
+    went_nowhere itself a = record {
+      has_timers = refl;
+      rests = λ x. x;
+      answers = no_more_itself future.gives a.cx;
+      callable = λ x. x;
+      shared = itself a.cx.shared;
+      polled = polls_nothing number leads future a.cx.parts.has_timers a.cx.futures.items a.cx.parts a.journal;
+      faults = refl;
+      told = so_done (tells_nothing refl refl refl);
+      full = fills_not number leads future a.cx a.journal a.journal refl;
+      held = refl;
+      placed = refl;
+    }
+
+    -- one after the other
+    pub went_on : ((u v w : W) → leads u v → leads v w → leads u w) → (r : Result ⊤ RunError) (a b c : Runtime F O D P W U J A V)
+        → Proceeds number leads clock future (Ok tt) a b → Proceeds number leads clock future r b c → Proceeds number leads clock future r a c
+    went_on on r a b c p q = record {
+      has_timers = q.has_timers ∙ p.has_timers;
+      rests = λ x. q.rests (p.rests x);
+      answers = no_more_on future.gives a.cx b.cx c.cx p.answers q.answers;
+      callable = λ x. q.callable (p.callable x);
+      shared = on a.cx.shared b.cx.shared c.cx.shared p.shared q.shared;
+      polled = on_main r (PollsItsFutures number leads future b c) (PollsItsFutures number leads future a c)
+          (λ x. polls_on number leads future a.cx.parts.has_timers a.cx.futures.items b.cx.futures.items c.cx.futures.items a.cx.parts b.cx.parts c.cx.parts a.journal b.journal c.journal p.polled
+          (subst (λ h. Grows number (Polling number leads future h b.cx.futures.items c.cx.futures.items) b c) p.has_timers x))
+          q.polled;
+      faults = faults_on r (clock.faults a.driver) (clock.faults b.driver) (clock.faults c.driver) p.faults q.faults;
+      told = so_after (still_of p.told) q.told;
+      full = fills_on number leads future a.cx b.cx a.journal b.journal c.journal
+          (goes_of number (Polling number leads future a.cx.parts.has_timers a.cx.futures.items b.cx.futures.items) a.cx.parts b.cx.parts a.journal b.journal p.polled) p.full q.full;
+      held = q.held ∙ p.held;
+      placed = q.placed;
+    }
+
+    -- the budget is spent
+    pub went_spent : (a b : Runtime F O D P W U J A V) → Proceeds number leads clock future (Ok tt) a b → Proceeds number leads clock future (Err error.Turns) a b
+    went_spent a b p = record {
+      has_timers = p.has_timers;
+      rests = p.rests;
+      answers = p.answers;
+      callable = p.callable;
+      shared = p.shared;
+      polled = p.polled;
+      faults = p.faults;
+      told = so_spent (still_of p.told);
+      full = p.full;
+      held = p.held;
+      placed = refl;
+    }
+
+    -- a turn, by whether memory ran out in it
+    pub went_turn : (lacks : Bool) (a b : Runtime F O D P W U J A V) → is_timed b ≡ is_timed a → (Rests a → Rests b) → GivesNoMore future.gives a b → (CanRun future a → CanRun future b) → LeadsShared leads a b
+        → (lacks ≡ false → PollsItsFutures number leads future a b) → clock.faults b.driver ≡ clock.faults a.driver
+        → Telling (Still going) (exposed clock a.driver) going a.journal b.journal (exposed clock b.driver) → FillsJournal number leads future a b → HoldsSamePlaces a b
+        → Proceeds number leads clock future (lasting (turn_answer lacks)) a b
+    went_turn true a b has_timers rests answers callable shared polled faults told full held = record {
+      has_timers = has_timers;
+      rests = rests;
+      answers = answers;
+      callable = callable;
+      shared = shared;
+      polled = tt;
+      faults = faults;
+      told = so_broken (telling_more unfailed told);
+      full = full;
+      held = held;
+      placed = tt;
+    }
+    went_turn false a b has_timers rests answers callable shared polled faults told full held = record {
+      has_timers = has_timers;
+      rests = rests;
+      answers = answers;
+      callable = callable;
+      shared = shared;
+      polled = polled refl;
+      faults = faults;
+      told = so_done told;
+      full = full;
+      held = held;
+      placed = refl;
+    }
+
+    -- the pause between two rounds, in which no turn ran
+    pub went_paused : ((w : W) → leads w w) → (r : Result Bool RunError) (a b : Runtime F O D P W U J A V) → Idles a b → Grows number (PauseEnds (is_timed a) r) a b
+        → FaultsBy (ending r) (clock.faults a.driver) (clock.faults b.driver) → TellsDriver (ending r) clock a b → HasPlace (ending r) false → Proceeds number leads clock future (ending r) a b
+    went_paused itself r a b idle pauses faults told placed =
+        let items = ap (λ v. v.items) idle.futures in
+        let answers = no_more_by future.gives a.cx b.cx idle.adds items in
+        record {
+          has_timers = idle.has_timers;
+          rests = λ x. idle.turn ∙ x;
+          answers = answers;
+          callable = turn_same future future.gives a.cx b.cx answers items;
+          shared = subst (leads a.cx.shared) (sym idle.shared) (itself a.cx.shared);
+          polled = ending_main r (PollsItsFutures number leads future a b)
+              (polls_pause number leads future a.cx.parts.has_timers a.cx.futures.items b.cx.futures.items a.cx.parts.has_timers r a.cx.parts b.cx.parts a.journal b.journal items pauses);
+          faults = faults;
+          told = told;
+          full = fills_not number leads future a.cx a.journal b.journal idle.full;
+          held = idle.held;
+          placed = placed;
+        }
