@@ -4,7 +4,7 @@
 usage: tools/soak/scripts.py PROGRAM [RUNS [SEED]]
 
 PROGRAM is bin/monoio. Each run ends by itself within a minute; it ends with status 0, where its last line is `main O`, or with
-8 or 10, where it is not; and `check` says of its journal that it is a run of the machine.
+8 or 10, where it is not; and `check` says of its journal that it is a run of the machine, `check --whole` that it is whole.
 """
 import random
 import subprocess
@@ -47,9 +47,12 @@ def is_right(program, limits, run):
     last = run.stdout.splitlines()[-1] if run.stdout else ""
     if run.returncode not in (0, 8, 10) or (run.returncode == 0) != last.startswith("main "):
         return False
-    words = [program, "check", "attached", *map(str, limits)]
-    check = subprocess.run(words, input=run.stdout, capture_output=True, text=True, timeout=60)
-    return (check.returncode, check.stdout) == (0, "yes\n")
+    for form in ([], ["--whole"]):
+        words = [program, "check", *form, "attached", *map(str, limits)]
+        check = subprocess.run(words, input=run.stdout, capture_output=True, text=True, timeout=60)
+        if (check.returncode, check.stdout) != (0, "yes\n"):
+            return False
+    return True
 
 
 def main():

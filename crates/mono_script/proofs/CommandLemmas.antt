@@ -9,8 +9,8 @@ use Rattle.mono_machine.specs.declared.events.Blocking.TheVariants as blocking
 use Rattle.mono_text.specs.Parser.{Read, number_at}
 use Rattle.mono_script.specs.declared.command.Command.{Command}
 use Rattle.mono_script.specs.declared.command.Command.TheVariants as command
-use Rattle.mono_script.specs.Words.{strategy_text, two_words, SayTwo, SayLimits, AreLimits}
-use Rattle.mono_script.specs.Command.{command_words, FitsCommand, IsCommand, IsNoReplay, IsNoRun, IsNoLoad, IsNoSessions, IsNoLimiter, IsNoActors, IsNoCheck, IsNoCommand}
+use Rattle.mono_script.specs.Words.{strategy_text, two_words, SayTwo, SayLimits, SayFlagged, AreLimits}
+use Rattle.mono_script.specs.Command.{command_words, FitsCommand, IsCommand, IsNoReplay, IsNoRun, IsNoLoad, IsNoSessions, IsNoLimiter, IsNoActors, IsNoCheck, IsNoWhole, IsNoCommand}
 use Rattle.mono_text.proofs.NumberLemmas.{reads_whole}
 
 -- ---- lists of words of one length
@@ -24,6 +24,17 @@ five (v ∷ w ∷ x ∷ []) a b c d e l m p q r s t = absurd (omega arith)
 five (v ∷ w ∷ x ∷ y ∷ []) a b c d e l m p q r s t = absurd (omega arith)
 five (v ∷ w ∷ x ∷ y ∷ z ∷ []) a b c d e l m p q r s t = rw (p, q, r, s, t) refl
 five (v ∷ w ∷ x ∷ y ∷ z ∷ u ∷ us) a b c d e l m p q r s t = absurd (omega arith)
+
+pub six : {S : Type 0} (ws : List S) (a b c d e f : S) → 6 ≤ length ws → length ws < 7
+    → a ≡ get_or ws 0 a → b ≡ get_or ws 1 b → c ≡ get_or ws 2 c → d ≡ get_or ws 3 d → e ≡ get_or ws 4 e → f ≡ get_or ws 5 f → ws ≡ a ∷ b ∷ c ∷ d ∷ e ∷ f ∷ []
+six [] a b c d e f l m p q r s t u = absurd (omega arith)
+six (v ∷ []) a b c d e f l m p q r s t u = absurd (omega arith)
+six (v ∷ w ∷ []) a b c d e f l m p q r s t u = absurd (omega arith)
+six (v ∷ w ∷ x ∷ []) a b c d e f l m p q r s t u = absurd (omega arith)
+six (v ∷ w ∷ x ∷ y ∷ []) a b c d e f l m p q r s t u = absurd (omega arith)
+six (v ∷ w ∷ x ∷ y ∷ z ∷ []) a b c d e f l m p q r s t u = absurd (omega arith)
+six (v ∷ w ∷ x ∷ y ∷ z ∷ k ∷ []) a b c d e f l m p q r s t u = rw (p, q, r, s, t, u) refl
+six (v ∷ w ∷ x ∷ y ∷ z ∷ k ∷ i ∷ is) a b c d e f l m p q r s t u = absurd (omega arith)
 
 pub three : {S : Type 0} (ws : List S) (a b c : S) → 3 ≤ length ws → length ws < 4 → a ≡ get_or ws 0 a → b ≡ get_or ws 1 b → c ≡ get_or ws 2 c → ws ≡ a ∷ b ∷ c ∷ []
 three [] a b c l m p q r = absurd (omega arith)
@@ -60,16 +71,27 @@ not_limits name a b c d e none l s say =
     none l s (ap (λ ws. get_or ws 1 a) say.text)
     (record { tasks_text = ap (λ ws. get_or ws 2 a) say.text; jobs_text = ap (λ ws. get_or ws 3 a) say.text; sleeps_text = ap (λ ws. get_or ws 4 a) say.text; fit = say.fit })
 
+pub say_flagged : (name flag a b c d e f : List ℕ) (limits : Limits) (strategy : Blocking) → a ≡ name → b ≡ flag → c ≡ strategy_text strategy → AreLimits d e f limits
+    → SayFlagged name flag (a ∷ b ∷ c ∷ d ∷ e ∷ f ∷ []) limits strategy
+say_flagged name flag a b c d e f limits strategy p q r s = record { text = rw (p, q, r, s.tasks_text, s.jobs_text, s.sleeps_text) refl; fit = s.fit }
+
+pub not_flagged : (name flag a b c d e f : List ℕ) → ((l : Limits) (s : Blocking) → c ≡ strategy_text s → AreLimits d e f l → ⊥)
+    → (l : Limits) (s : Blocking) → SayFlagged name flag (a ∷ b ∷ c ∷ d ∷ e ∷ f ∷ []) l s → ⊥
+not_flagged name flag a b c d e f none l s say =
+    none l s (ap (λ ws. get_or ws 2 a) say.text)
+    (record { tasks_text = ap (λ ws. get_or ws 3 a) say.text; jobs_text = ap (λ ws. get_or ws 4 a) say.text; sleeps_text = ap (λ ws. get_or ws 5 a) say.text; fit = say.fit })
+
 -- ---- every command
 
-pub no_command : (words : List (List ℕ)) → IsNoReplay words → IsNoRun words → IsNoLoad words → IsNoSessions words → IsNoLimiter words → IsNoActors words → IsNoCheck words → IsNoCommand words
-no_command words replay run load sessions limiter actors check (command.Replay limits g) is = replay limits g is
-no_command words replay run load sessions limiter actors check (command.Run a b) is = run a b is
-no_command words replay run load sessions limiter actors check (command.Load a b) is = load a b is
-no_command words replay run load sessions limiter actors check (command.Sessions a b) is = sessions a b is
-no_command words replay run load sessions limiter actors check (command.Limiter a b) is = limiter a b is
-no_command words replay run load sessions limiter actors check (command.Actors a b) is = actors a b is
-no_command words replay run load sessions limiter actors check (command.Check limits g) is = check limits g is
+pub no_command : (words : List (List ℕ)) → IsNoReplay words → IsNoRun words → IsNoLoad words → IsNoSessions words → IsNoLimiter words → IsNoActors words → IsNoCheck words → IsNoWhole words → IsNoCommand words
+no_command words replay run load sessions limiter actors check whole (command.Replay limits g) is = replay limits g is
+no_command words replay run load sessions limiter actors check whole (command.Run a b) is = run a b is
+no_command words replay run load sessions limiter actors check whole (command.Load a b) is = load a b is
+no_command words replay run load sessions limiter actors check whole (command.Sessions a b) is = sessions a b is
+no_command words replay run load sessions limiter actors check whole (command.Limiter a b) is = limiter a b is
+no_command words replay run load sessions limiter actors check whole (command.Actors a b) is = actors a b is
+no_command words replay run load sessions limiter actors check whole (command.Check limits g) is = check limits g is
+no_command words replay run load sessions limiter actors check whole (command.CheckWhole limits g) is = whole limits g is
 
 -- ---- the words of one command are those of no other: each command is read back from its words
 
@@ -114,8 +136,13 @@ abbrev check_from : Option Blocking → Option ℕ → Option ℕ → Option ℕ
 check_from (Some g) (Some t) (Some j) (Some s) = Some (command.Check (record { tasks = t; jobs = j; sleeps = s }) g)
 check_from a b c d = None
 
+abbrev whole_from : Option Blocking → Option ℕ → Option ℕ → Option ℕ → Option Command
+whole_from (Some g) (Some t) (Some j) (Some s) = Some (command.CheckWhole (record { tasks = t; jobs = j; sleeps = s }) g)
+whole_from a b c d = None
+
 abbrev check_of : List (List ℕ) → Option Command
 check_of (g ∷ t ∷ j ∷ s ∷ []) = check_from (strategy_of g) (number_of t) (number_of j) (number_of s)
+check_of (w ∷ g ∷ t ∷ j ∷ s ∷ []) = if same_text w (codes "--whole") then whole_from (strategy_of g) (number_of t) (number_of j) (number_of s) else None
 check_of other = None
 
 abbrev run_from : Option ℕ → Option ℕ → Option Command
@@ -179,6 +206,7 @@ read_back (command.Sessions sessions entries) fit = rw (of_text sessions fit.0, 
 read_back (command.Limiter buckets retries) fit = rw (of_text buckets fit.0, of_text retries fit.1) refl
 read_back (command.Actors actors messages) fit = rw (of_text actors fit.0, of_text messages fit.1) refl
 read_back (command.Check l g) fit = rw (strategy_back g, of_text l.tasks fit.tasks, of_text l.jobs fit.jobs, of_text l.sleeps fit.sleeps) refl
+read_back (command.CheckWhole l g) fit = rw (strategy_back g, of_text l.tasks fit.tasks, of_text l.jobs fit.jobs, of_text l.sleeps fit.sleeps) refl
 
 pub command_once : (words : List (List ℕ)) (c d : Command) → IsCommand words c → IsCommand words d → c ≡ d
 command_once words c d p q =

@@ -20,7 +20,7 @@ use Rattle.mono_limit_lines.specs.Lines as limiter_line
 use Rattle.mono_actor.specs.Actors.{no_actors}
 use Rattle.mono_actor_lines.specs.Lines.{line_text, FitsLine}
 use Rattle.mono_actor_lines.specs.Answers.{Answers}
-use Rattle.mono_script.proofs.CheckLemmas.{sound_checking}
+use Rattle.mono_script.proofs.CheckLemmas.{sound_checking, sound_checking_whole}
 
 -- ---- each command: the facts that it owes of its meaning
 
@@ -41,6 +41,7 @@ sound readings (command.Sessions sessions entries) = sound_serving session_line.
 sound readings (command.Limiter buckets retries) = sound_serving limiter_line.call_text limiter_line.FitsCall limiter_line.StepByLine (no_limits buckets retries)
 sound readings (command.Actors actors messages) = sound_serving line_text FitsLine Answers (no_actors actors messages)
 sound readings (command.Check l g) = sound_checking l g
+sound readings (command.CheckWhole l g) = sound_checking_whole l g
 
 -- ---- when a status is returned
 

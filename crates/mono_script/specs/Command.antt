@@ -5,7 +5,7 @@ use Rattle.mono_machine.specs.declared.events.Blocking.{Blocking}
 use Rattle.mono_text.specs.LineText.{FitLimits}
 use Rattle.mono_script.specs.declared.command.Command.{Command}
 use Rattle.mono_script.specs.declared.command.Command.TheVariants as command
-use Rattle.mono_script.specs.Words.{two_words, limit_words}
+use Rattle.mono_script.specs.Words.{two_words, limit_words, flagged_words}
 
 abbrev pub command_words : Command → List (List ℕ)
 command_words (command.Replay limits strategy) = limit_words (codes "replay") limits strategy
@@ -15,6 +15,7 @@ command_words (command.Sessions sessions entries) = two_words (codes "sessions")
 command_words (command.Limiter buckets retries) = two_words (codes "limiter") buckets retries
 command_words (command.Actors actors messages) = two_words (codes "actors") actors messages
 command_words (command.Check limits strategy) = limit_words (codes "check") limits strategy
+command_words (command.CheckWhole limits strategy) = flagged_words (codes "check") (codes "--whole") limits strategy
 
 -- the numbers are within their bounds
 abbrev pub FitsCommand : Command → Type 0
@@ -25,6 +26,7 @@ FitsCommand (command.Sessions sessions entries) = (sessions < 2 ^ 64) × (entrie
 FitsCommand (command.Limiter buckets retries) = (buckets < 2 ^ 64) × (retries < 2 ^ 64)
 FitsCommand (command.Actors actors messages) = (actors < 2 ^ 64) × (messages < 2 ^ 64)
 FitsCommand (command.Check limits strategy) = FitLimits limits
+FitsCommand (command.CheckWhole limits strategy) = FitLimits limits
 
 -- The words spell the command.
 pub record IsCommand (words : List (List ℕ)) (c : Command) : Type 0 where
@@ -57,3 +59,6 @@ IsNoActors words = (actors messages : ℕ) → IsCommand words (command.Actors a
 
 abbrev pub IsNoCheck : List (List ℕ) → Type 0
 IsNoCheck words = (limits : Limits) (strategy : Blocking) → IsCommand words (command.Check limits strategy) → ⊥
+
+abbrev pub IsNoWhole : List (List ℕ) → Type 0
+IsNoWhole words = (limits : Limits) (strategy : Blocking) → IsCommand words (command.CheckWhole limits strategy) → ⊥

@@ -48,3 +48,4 @@ FollowsAs (command.Actors actors messages) e rest left now before after =
 FollowsAs (command.Run workers turns) e rest left now before after = ⊥
 FollowsAs (command.Load seed count) e rest left now before after = ⊥
 FollowsAs (command.Check limits strategy) e rest left now before after = ⊥
+FollowsAs (command.CheckWhole limits strategy) e rest left now before after = ⊥

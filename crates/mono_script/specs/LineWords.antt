@@ -22,6 +22,7 @@ line_words (command.Sessions sessions entries) = codes "open beat close acquire 
 line_words (command.Limiter buckets retries) = codes "bucket take retry fail done clock"
 line_words (command.Actors actors messages) = codes "actor send timeout turn clock"
 line_words (command.Check limits strategy) = journal_words
+line_words (command.CheckWhole limits strategy) = journal_words
 
 -- the forms of a turn's steps and ends, a word for each word
 abbrev pub step_forms : List ℕ
@@ -36,6 +37,7 @@ part_forms (command.Sessions sessions entries) = codes ""
 part_forms (command.Limiter buckets retries) = codes ""
 part_forms (command.Actors actors messages) = codes "send 0 0; stay; stop"
 part_forms (command.Check limits strategy) = step_forms
+part_forms (command.CheckWhole limits strategy) = step_forms
 
 -- The words with which a line with a report begins, with blanks between them.
 abbrev pub pair_words : Command → List ℕ
@@ -46,6 +48,7 @@ pair_words (command.Sessions sessions entries) = codes ""
 pair_words (command.Limiter buckets retries) = codes ""
 pair_words (command.Actors actors messages) = codes ""
 pair_words (command.Check limits strategy) = event_words
+pair_words (command.CheckWhole limits strategy) = event_words
 
 abbrev pub line_fault_at : Command → List ℕ → ℕ → Option Wrong
 line_fault_at c input n = wrong_at (words (line_words c)) (words (part_forms c)) (words (pair_words c)) input n
@@ -59,3 +62,4 @@ fault_at (command.Sessions sessions entries) input n = line_fault_at (command.Se
 fault_at (command.Limiter buckets retries) input n = line_fault_at (command.Limiter buckets retries) input n
 fault_at (command.Actors actors messages) input n = line_fault_at (command.Actors actors messages) input n
 fault_at (command.Check limits strategy) input n = line_fault_at (command.Check limits strategy) input n
+fault_at (command.CheckWhole limits strategy) input n = line_fault_at (command.CheckWhole limits strategy) input n

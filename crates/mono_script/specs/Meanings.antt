@@ -26,7 +26,7 @@ use Rattle.mono_session_lines.specs.Lines as session_line
 use Rattle.mono_script.specs.Services.{serving}
 use Rattle.mono_limit.specs.Limiter.{no_limits}
 use Rattle.mono_limit_lines.specs.Lines as limiter_line
-use Rattle.mono_script.specs.Checks.{checking}
+use Rattle.mono_script.specs.Checks.{checking, checking_whole}
 
 -- a replay: event lines as input, and a line for each report of a run
 abbrev pub replaying : Limits → Blocking → Meaning
@@ -88,3 +88,4 @@ meaning readings (command.Sessions sessions entries) = keeping_sessions sessions
 meaning readings (command.Limiter buckets retries) = limiting buckets retries
 meaning readings (command.Actors actors messages) = acting actors messages
 meaning readings (command.Check limits strategy) = checking limits strategy
+meaning readings (command.CheckWhole limits strategy) = checking_whole limits strategy

@@ -18,6 +18,11 @@ two_words name first second = name ∷ decimal first ∷ decimal second ∷ []
 abbrev pub limit_words : List ℕ → Limits → Blocking → List (List ℕ)
 limit_words name limits strategy = name ∷ strategy_text strategy ∷ decimal limits.tasks ∷ decimal limits.jobs ∷ decimal limits.sleeps ∷ []
 
+-- a word and a second one, a strategy and limits
+abbrev pub flagged_words : List ℕ → List ℕ → Limits → Blocking → List (List ℕ)
+flagged_words name flag limits strategy =
+    name ∷ flag ∷ strategy_text strategy ∷ decimal limits.tasks ∷ decimal limits.jobs ∷ decimal limits.sleeps ∷ []
+
 -- The words are this one and two numbers, which are within their bounds.
 pub record SayTwo (name : List ℕ) (words : List (List ℕ)) (first second : ℕ) : Type 0 where
   pub text : words ≡ two_words name first second
@@ -27,6 +32,11 @@ pub record SayTwo (name : List ℕ) (words : List (List ℕ)) (first second : �
 -- The words are this one, a strategy and limits.
 pub record SayLimits (name : List ℕ) (words : List (List ℕ)) (limits : Limits) (strategy : Blocking) : Type 0 where
   pub text : words ≡ limit_words name limits strategy
+  pub fit : FitLimits limits
+
+-- The words are these two, a strategy and limits.
+pub record SayFlagged (name flag : List ℕ) (words : List (List ℕ)) (limits : Limits) (strategy : Blocking) : Type 0 where
+  pub text : words ≡ flagged_words name flag limits strategy
   pub fit : FitLimits limits
 
 -- ---- for the reader

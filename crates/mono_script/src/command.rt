@@ -3,7 +3,7 @@ ghost use Rattle.std.specs.Prelude.{IfSome, IfNone, map, string_bytes};
 ghost use Rattle.mono_script.specs.Command.{IsCommand, IsNoCommand};
 
 use crate::words::actors::read_actors;
-use crate::words::check::read_check;
+use crate::words::check::{read_check, read_whole};
 use crate::words::limiter::read_limiter;
 use crate::words::load::read_load;
 use crate::words::replay::read_replay;
@@ -27,8 +27,10 @@ pub enum Command {
     Limiter(u64, u64),
     /// Calls on actors: at most how many live, and at most how many messages wait.
     Actors(u64, u64),
-    /// A check of a journal, with these limits and this strategy.
+    /// A check of a journal, with these limits and this strategy: whether it is a run.
     Check(Limits, Blocking),
+    /// A check of a whole journal: whether calls of `block_on` leave it.
+    CheckWhole(Limits, Blocking),
 }
 
 // Returns the command that the words spell, if they spell one.
@@ -54,5 +56,8 @@ pub(crate) fn read_command(words: &Vec<String>) -> Option<Command>
     if let Some(command) = read_actors(words) {
         return Some(command);
     }
-    read_check(words)
+    if let Some(command) = read_check(words) {
+        return Some(command);
+    }
+    read_whole(words)
 }

@@ -80,6 +80,23 @@ fn help_complaint(alloc: Global, words: &Vec<String>) -> Result<Option<String>, 
     }
 }
 
+// Returns whether the words begin with `check --whole`.
+fn asks_for_whole(words: &Vec<String>) -> bool {
+    match words.as_slice() {
+        [first, second, ..] => first.as_str() == "check" && second.as_str() == "--whole",
+        _ => false,
+    }
+}
+
+// Returns the word at a place after the command's name, counted from 1, or after the word `--whole` behind it.
+fn word_at<'a>(words: &'a Vec<String>, is_whole: bool, at: usize) -> Option<&'a String> {
+    if is_whole {
+        words.get(at.saturating_add(1))
+    } else {
+        words.get(at)
+    }
+}
+
 /// Returns in one sentence why words are no command: the word that is wrong, and the form expected there. For words
 /// that are a command it says that nothing is wrong.
 pub fn complaint(alloc: Global, words: &Vec<String>) -> Result<String, AllocError> {
@@ -98,8 +115,10 @@ pub fn complaint(alloc: Global, words: &Vec<String>) -> Result<String, AllocErro
             "\"{command}\" is no command: {COMMANDS}; monoio --help says more"
         );
     }
+    let is_whole = asks_for_whole(words);
     for at in 1..6usize {
-        if let Some(text) = complaint_at(alloc, command, place_at(command, at), words.get(at))? {
+        let word = word_at(words, is_whole, at);
+        if let Some(text) = complaint_at(alloc, command, place_at(command, at), word)? {
             return Ok(text);
         }
     }

@@ -6,7 +6,7 @@ ghost use Rattle.mono_script.specs.Endings.{bad_line_text, status_code};
 ghost use Rattle.mono_script.specs.LineWords.{fault_at};
 ghost use Rattle.mono_script.specs.Checks.{FailsFor};
 
-use crate::check_line::failure_of;
+use crate::check_line::{failure_of, failure_of_whole};
 use crate::command::Command;
 use crate::line_words::fault;
 use mono_run::TaskWait;
@@ -35,7 +35,7 @@ pub enum Status {
     Turns,
     /// 10: there was no place for a run's main task, and its journal was written.
     Capacity,
-    /// 11: a journal is no run; `no n` was written.
+    /// 11: a journal is no run, or not whole; `no n` was written.
     NotARun,
 }
 
@@ -129,12 +129,16 @@ impl Ended {
         fault(self.command, &self.input, self.bad_line?)
     }
 
-    /// Returns where and why the journal that a check read is no run. None of other commands, and if it is a run.
+    /// Returns where and why the journal that a check read is no run, or not whole. None of other commands, and if the
+    /// answer was yes.
     pub fn failure(&self, alloc: Global) -> Result<Option<Failure>, AllocError>
         ensures { IfOk result (λ found. IfSome found (λ failure. FailsFor self.now.command self.now.input.items failure)) }
     {
         match self.command {
             Command::Check(limits, blocking) => failure_of(alloc, limits, blocking, &self.input),
+            Command::CheckWhole(limits, blocking) => {
+                failure_of_whole(alloc, limits, blocking, &self.input)
+            }
             Command::Replay(_, _) => Ok(None),
             Command::Run(_, _) => Ok(None),
             Command::Load(_, _) => Ok(None),

@@ -20,29 +20,35 @@ fn report_text(alloc: Global, report: &Report) -> Result<String, AllocError> {
 // Which line may stand behind a stage.
 fn next_text(alloc: Global, stage: Stage) -> Result<String, AllocError> {
     match stage {
-        Stage::Start => String::from_str(alloc, "spawn and its report, the first line of a run"),
-        Stage::Round(main, last) => format!(in alloc;
-            "now NANOS (at least {last}), remote TASK, drain or drop-join {main}"
+        Stage::Start(_) => String::from_str(alloc, "spawn and its report, which begins a call"),
+        Stage::Round(main, _) => format!(in alloc;
+            "now NANOS, remote TASK, drain or drop-join {main}"
         ),
-        Stage::Reading(_, _) => String::from_str(alloc, "a turn or a park behind the line now"),
-        Stage::Parked(_, _) => String::from_str(alloc, "remote TASK or drain behind the park"),
-        Stage::Waited(_, last) => format!(in alloc;
-            "clock NANOS (at least {last}) behind the drain that follows a park"
+        Stage::Reading(_, greatest, _) => format!(in alloc;
+            "a turn, or a park without a limit or to a tick above {greatest}, behind the line now"
         ),
-        Stage::Woken(_, _) => String::from_str(
+        Stage::Parked(main, _) => format!(in alloc;
+            "remote TASK, drain or drop-join {main} behind the park"
+        ),
+        Stage::Waited(main, _) => format!(in alloc;
+            "clock NANOS or drop-join {main} behind the drain that follows a park"
+        ),
+        Stage::Hearing(_, _) | Stage::Woken(_, _) => String::from_str(
             alloc,
             "remote TASK or drain behind the line remote",
         ),
-        Stage::Dropped(Some(output)) => format!(in alloc;
-            "main {output}, the output that the drop gave"
+        Stage::Dropped(Some(output), _) => format!(in alloc;
+            "main {output}, the output that the drop gave, or the next call"
         ),
-        Stage::Dropped(None) => String::from_str(alloc, "the end: the drop gave no output"),
-        Stage::Complete => String::from_str(alloc, "the end of the journal"),
+        Stage::Dropped(None, _) => String::from_str(
+            alloc,
+            "the next call or the end: the drop gave no output",
+        ),
     }
 }
 
 /// Returns why a journal is no run, in one sentence: what the machine could have answered in that line, or which line has to
-/// stand there in the journal of a whole run.
+/// stand there in a whole journal.
 pub fn failure_sentence(alloc: Global, failure: &Failure) -> Result<String, AllocError> {
     let line = failure.line;
     match &failure.cause {

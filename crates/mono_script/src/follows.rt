@@ -123,6 +123,7 @@ pub fn follow_command<S: Source, K: Sink>(
             Command::Actors(actors, messages),
             follow_actors(alloc, actors, messages, source, sink),
         )),
-        Command::Run(_, _) | Command::Load(_, _) | Command::Check(_, _) => None,
+        Command::Run(_, _) | Command::Load(_, _) => None,
+        Command::Check(_, _) | Command::CheckWhole(_, _) => None,
     }
 }

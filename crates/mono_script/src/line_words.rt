@@ -20,6 +20,7 @@ pub(crate) fn first_words(command: Command) -> &'static [u8]
     match command {
         Command::Replay(_, _) => EVENT_WORDS,
         Command::Check(_, _) => JOURNAL_WORDS,
+        Command::CheckWhole(_, _) => JOURNAL_WORDS,
         Command::Run(_, _) => {
             b"limits task spawn join detach await-sleep block await-job drop-job yield done".as_slice()
         }
@@ -40,6 +41,7 @@ fn forms_of_parts(command: Command) -> &'static [u8]
     match command {
         Command::Replay(_, _) => STEP_FORMS,
         Command::Check(_, _) => STEP_FORMS,
+        Command::CheckWhole(_, _) => STEP_FORMS,
         Command::Run(_, _) => b"".as_slice(),
         Command::Load(_, _) => b"".as_slice(),
         Command::Sessions(_, _) => b"".as_slice(),
@@ -54,6 +56,7 @@ fn first_words_of_pairs(command: Command) -> &'static [u8]
 {
     match command {
         Command::Check(_, _) => EVENT_WORDS,
+        Command::CheckWhole(_, _) => EVENT_WORDS,
         Command::Replay(_, _) => b"".as_slice(),
         Command::Run(_, _) => b"".as_slice(),
         Command::Load(_, _) => b"".as_slice(),
@@ -88,5 +91,6 @@ pub(crate) fn fault<'a>(command: Command, input: &'a [u8], n: usize) -> Option<F
         Command::Limiter(_, _) => line_fault(command, input, n),
         Command::Actors(_, _) => line_fault(command, input, n),
         Command::Check(_, _) => line_fault(command, input, n),
+        Command::CheckWhole(_, _) => line_fault(command, input, n),
     }
 }

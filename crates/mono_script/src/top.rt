@@ -9,7 +9,7 @@ ghost use Rattle.mono_script.specs.declared.ends.Status.TheVariants as status;
 ghost use Rattle.mono_text.specs.declared.source.InputError.TheVariants as input_error;
 
 use crate::actor_calls::output_of_actors;
-use crate::check_line::output_of_check;
+use crate::check_line::{output_of_check, output_of_whole};
 use crate::command::{Command, read_command};
 use crate::ends::{Ended, Output, Status};
 use crate::exits::exit_code;
@@ -51,6 +51,7 @@ fn made<R: Host + Send + 'static, C: Clock + Drop, P: Spawner>(
         Command::Limiter(buckets, retries) => output_of_limiter(alloc, buckets, retries, input),
         Command::Actors(actors, messages) => output_of_actors(alloc, actors, messages, input),
         Command::Check(limits, blocking) => output_of_check(alloc, limits, blocking, input),
+        Command::CheckWhole(limits, blocking) => output_of_whole(alloc, limits, blocking, input),
     }
 }
 
@@ -66,6 +67,7 @@ pub(crate) fn reads(command: Command) -> bool
         Command::Limiter(_, _) => true,
         Command::Actors(_, _) => true,
         Command::Check(_, _) => true,
+        Command::CheckWhole(_, _) => true,
     }
 }
 

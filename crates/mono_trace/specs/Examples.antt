@@ -1,6 +1,7 @@
 -- Examples of checks: two sleeps of one tick that were moved there fire in any order, and a sleep that is not armed
 -- does not fire. Journals whose lines are in order, and journals whose lines are not.
-use Rattle.std.specs.Prelude.{◌≡◌, ℕ, List, [], ◌∷◌, Some, None}
+use Rattle.std.specs.Prelude.{◌≡◌, ℕ, ◌+◌, List, [], ◌∷◌, Option, Some, None}
+use Rattle.mono_model.specs.Ticks.{max_nanos}
 use Rattle.mono_model.specs.declared.Ended.TheVariants as ended
 use Rattle.mono_machine.specs.Examples.{start, spawn, new_sleep, poll}
 use Rattle.mono_machine.specs.declared.events.Act.TheVariants as act
@@ -50,31 +51,51 @@ NotArmed = IsVerdict (start 16)
 
 -- ---- the order of a journal's lines
 
--- the journal of a run whose main task waits once, with this reading before the turn behind the wait, and what stands behind it
+-- the journal of a call whose main task waits once, with this reading before the turn behind the wait, and what stands behind it
 abbrev pub waiting : ℕ → List Mark → List Mark
 waiting reading rest =
-    mark.Spawn 0 ∷ mark.Now 0 ∷ mark.Turn ∷ mark.Now 0 ∷ mark.Park ∷ mark.Drain ∷ mark.Clock 5000000 ∷ mark.Now reading ∷ mark.Turn ∷ rest
+    mark.Spawn 0 ∷ mark.Now 0 ∷ mark.Turn ∷ mark.Now 0 ∷ mark.Park (Some 5) ∷ mark.Drain ∷ mark.Clock 5000000 ∷ mark.Now reading ∷ mark.Turn ∷ rest
 
 -- a whole one
 abbrev pub WholeRun : Type 0
 WholeRun = IsOrdered (waiting 5000000 (mark.Drop 0 (Some 5) ∷ mark.Main 5 ∷ []))
 
--- events and reports alone, in any order
-abbrev pub PairsAlone : Type 0
-PairsAlone = IsOrdered (mark.Drain ∷ mark.Clock 9 ∷ mark.Spawn 0 ∷ mark.Clock 3 ∷ [])
+-- the journal that a user keeps has no line of the output
+abbrev pub NoOutputLine : Type 0
+NoOutputLine = IsOrdered (waiting 5000000 (mark.Drop 0 (Some 5) ∷ []))
 
--- the clock falls in line 8
+-- a clock may fall
 abbrev pub FallingClock : Type 0
-FallingClock = misplaced (waiting 4999999 (mark.Drop 0 (Some 5) ∷ mark.Main 5 ∷ [])) ≡ Some (8, stage.Round 0 5000000)
+FallingClock = IsOrdered (mark.Spawn 0 ∷ mark.Now 7 ∷ mark.Turn ∷ mark.Now 3 ∷ mark.Turn ∷ mark.Drop 0 (Some 5) ∷ [])
+
+-- two calls, one after the other, and one that is refused
+abbrev pub TwoCalls : Type 0
+TwoCalls = IsOrdered (waiting 5000000 (mark.Drop 0 (Some 5) ∷ mark.Main 5 ∷ mark.Spawn 1 ∷ mark.Now 9 ∷ mark.Turn ∷ mark.Drop 1 None ∷ mark.NoPlace ∷ []))
+
+-- without timers no clock step follows a park, which has no limit
+abbrev pub without_timers : Option ℕ → List Mark
+without_timers limit =
+    mark.Spawn 0 ∷ mark.Now 0 ∷ mark.Turn ∷ mark.Now 0 ∷ mark.Park limit ∷ mark.Wake ∷ mark.Drain ∷ mark.Now 5000000 ∷ mark.Turn ∷ mark.Drop 0 None ∷ []
+
+abbrev pub NoTimers : Type 0
+NoTimers = IsOrdered (without_timers None)
+
+-- after a park with a limit it is missing in line 8
+abbrev pub NoClockStep : Type 0
+NoClockStep = misplaced (without_timers (Some 5)) ≡ Some (8, stage.Waited 0 0)
 
 -- line 10 is missing
 abbrev pub HalfRun : Type 0
-HalfRun = misplaced (waiting 5000000 []) ≡ Some (10, stage.Round 0 5000000)
+HalfRun = misplaced (waiting 5000000 []) ≡ Some (10, stage.Round 0 5)
 
 -- the drop gave another output than line 11 says
 abbrev pub OtherOutput : Type 0
-OtherOutput = misplaced (waiting 5000000 (mark.Drop 0 (Some 5) ∷ mark.Main 6 ∷ [])) ≡ Some (11, stage.Dropped (Some 5))
+OtherOutput = misplaced (waiting 5000000 (mark.Drop 0 (Some 5) ∷ mark.Main 6 ∷ [])) ≡ Some (11, stage.Dropped (Some 5) 5)
 
--- no clock step behind the park of line 5 and the drain of line 6
-abbrev pub NoClockStep : Type 0
-NoClockStep = misplaced (mark.Spawn 0 ∷ mark.Now 0 ∷ mark.Turn ∷ mark.Now 0 ∷ mark.Park ∷ mark.Drain ∷ mark.Now 5000000 ∷ mark.Turn ∷ mark.Drop 0 None ∷ []) ≡ Some (7, stage.Waited 0 0)
+-- no clock shows as much as line 8 says
+abbrev pub LateReading : Type 0
+LateReading = misplaced (waiting (max_nanos + 1) (mark.Drop 0 (Some 5) ∷ [])) ≡ Some (8, stage.Round 0 5)
+
+-- a park at tick 0 that ends at tick 5, which a clock step has reached, in line 9
+abbrev pub EarlyReading : Type 0
+EarlyReading = misplaced (mark.Spawn 0 ∷ mark.Now 0 ∷ mark.Turn ∷ mark.Now 0 ∷ mark.Park (Some 5) ∷ mark.Drain ∷ mark.Clock 5000000 ∷ mark.Now 0 ∷ mark.Park (Some 5) ∷ []) ≡ Some (9, stage.Reading 0 5 0)

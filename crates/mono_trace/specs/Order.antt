@@ -1,10 +1,13 @@
--- The order of the lines in the journal of one whole run.
+-- The order of the lines in the journal of one or more whole calls of block_on, one after the other.
 --
--- The main task is made. Then turns follow, each behind a reading of the clock. Between two rounds of turns the inbox is
--- drained, behind the wakes from other threads that it took; if no task is queued, the clock is read and the driver parked
--- before that, and a clock step follows. At the end the handle of the main task is dropped, and its output stands last, if the
--- drop gave one. No reading of the clock is below an earlier one.
-use Rattle.std.specs.Prelude.{◌≡◌, ℕ, ◌+◌, ◌==◌, ◌||◌, nat_le, Bool, true, false, if◌then◌else◌, List, [], ◌∷◌, Option, Some, None}
+-- In each call the main task is made, unless it is refused, which is the call's one line. Then turns follow, each behind a
+-- reading of the clock. Between two rounds of turns the inbox is drained, behind the wakes from other threads that it took;
+-- if no task is queued, the clock is read and the driver parked before that, and with timers a clock step follows. If memory
+-- runs out, the drain and the clock step behind a park may be missing. At the end the handle of the main task is dropped. The
+-- output that the drop gave may stand behind it, on a line of its own. A clock may show less than before, but no reading is
+-- above the greatest instant. A park has a limit only with timers, and a limit that ends after the clock steps so far.
+use Rattle.std.specs.Prelude.{◌≡◌, ℕ, ◌+◌, ◌==◌, ◌&&◌, nat_le, nat_lt, max, Bool, true, false, if◌then◌else◌, List, [], ◌∷◌, Option, Some, None}
+use Rattle.mono_model.specs.Ticks.{down, max_nanos}
 use Rattle.mono_machine.specs.declared.events.Act.TheVariants as act
 use Rattle.mono_machine.specs.declared.events.Event.{Event}
 use Rattle.mono_machine.specs.declared.events.Event.TheVariants as event
@@ -26,7 +29,7 @@ spawn_mark r = mark.Other
 
 abbrev pub drop_mark : ℕ → Report → Mark
 drop_mark t (report.Reply (reply.Dropped output)) = mark.Drop t output
-drop_mark t r = mark.Other
+drop_mark t r = mark.Drop t None
 
 abbrev pub turn_mark : Report → Mark
 turn_mark (report.Turn t replies ended) = mark.Turn
@@ -45,70 +48,87 @@ pair_mark (event.Clock n) r = clock_mark n r
 pair_mark (event.Remote t) r = mark.Wake
 pair_mark event.Drain r = mark.Drain
 
--- ---- what may follow, stage by stage
+-- ---- what may follow, stage by stage; g is the greatest tick of a clock step so far
 
-abbrev pub after_start : Mark → Option Stage
-after_start (mark.Spawn main) = Some (stage.Round main 0)
-after_start mark.NoPlace = Some stage.Complete
-after_start m = None
+abbrev pub after_start : ℕ → Mark → Option Stage
+after_start g (mark.Spawn main) = Some (stage.Round main g)
+after_start g mark.NoPlace = Some (stage.Start g)
+after_start g m = None
 
 abbrev pub reading_if : ℕ → ℕ → ℕ → Option Stage
-reading_if main last n = if nat_le last n then Some (stage.Reading main n) else None
+reading_if main g n = if nat_le n max_nanos then Some (stage.Reading main g (down n)) else None
 
-abbrev pub output_if : ℕ → ℕ → Option ℕ → Option Stage
-output_if main t output = if t == main then Some (stage.Dropped output) else None
+abbrev pub output_if : ℕ → ℕ → ℕ → Option ℕ → Option Stage
+output_if main g t output = if t == main then Some (stage.Dropped output g) else None
+
+-- a park for so many milliseconds from a tick ends after the greatest tick
+abbrev pub ends_after : ℕ → ℕ → ℕ → Bool
+ends_after g tick millis = nat_lt g (tick + millis)
+
+-- without timers no park has a limit
+abbrev pub parked_if : Bool → ℕ → ℕ → ℕ → Option ℕ → Option Stage
+parked_if timers main g tick None = Some (stage.Parked main g)
+parked_if timers main g tick (Some millis) = if timers && ends_after g tick millis then Some (stage.Parked main g) else None
+
+-- with timers a clock step follows the drain behind a park
+abbrev pub drained_to : Bool → ℕ → ℕ → Stage
+drained_to timers main g = if timers then stage.Waited main g else stage.Round main g
 
 abbrev pub after_round : ℕ → ℕ → Mark → Option Stage
-after_round main last (mark.Now n) = reading_if main last n
-after_round main last mark.Wake = Some (stage.Woken main last)
-after_round main last mark.Drain = Some (stage.Round main last)
-after_round main last (mark.Drop t output) = output_if main t output
-after_round main last m = None
+after_round main g (mark.Now n) = reading_if main g n
+after_round main g mark.Wake = Some (stage.Woken main g)
+after_round main g mark.Drain = Some (stage.Round main g)
+after_round main g (mark.Drop t output) = output_if main g t output
+after_round main g m = None
 
-abbrev pub after_now : ℕ → ℕ → Mark → Option Stage
-after_now main last mark.Turn = Some (stage.Round main last)
-after_now main last mark.Park = Some (stage.Parked main last)
-after_now main last m = None
+abbrev pub after_now : Bool → ℕ → ℕ → ℕ → Mark → Option Stage
+after_now timers main g tick mark.Turn = Some (stage.Round main g)
+after_now timers main g tick (mark.Park limit) = parked_if timers main g tick limit
+after_now timers main g tick m = None
 
-abbrev pub after_park : ℕ → ℕ → Mark → Option Stage
-after_park main last mark.Wake = Some (stage.Parked main last)
-after_park main last mark.Drain = Some (stage.Waited main last)
-after_park main last m = None
+abbrev pub after_park : Bool → ℕ → ℕ → Mark → Option Stage
+after_park timers main g mark.Wake = Some (stage.Hearing main g)
+after_park timers main g mark.Drain = Some (drained_to timers main g)
+after_park timers main g (mark.Drop t output) = output_if main g t output
+after_park timers main g m = None
 
-abbrev pub round_if : ℕ → ℕ → ℕ → Option Stage
-round_if main last n = if nat_le last n then Some (stage.Round main n) else None
+abbrev pub after_hearing : Bool → ℕ → ℕ → Mark → Option Stage
+after_hearing timers main g mark.Wake = Some (stage.Hearing main g)
+after_hearing timers main g mark.Drain = Some (drained_to timers main g)
+after_hearing timers main g m = None
 
 abbrev pub after_wait : ℕ → ℕ → Mark → Option Stage
-after_wait main last (mark.Clock n) = round_if main last n
-after_wait main last m = None
+after_wait main g (mark.Clock n) = Some (stage.Round main (max g (down n)))
+after_wait main g (mark.Drop t output) = output_if main g t output
+after_wait main g m = None
 
 abbrev pub after_wake : ℕ → ℕ → Mark → Option Stage
-after_wake main last mark.Wake = Some (stage.Woken main last)
-after_wake main last mark.Drain = Some (stage.Round main last)
-after_wake main last m = None
+after_wake main g mark.Wake = Some (stage.Woken main g)
+after_wake main g mark.Drain = Some (stage.Round main g)
+after_wake main g m = None
 
 -- the output behind the drop is the one that the drop gave
 abbrev pub is_output : Option ℕ → ℕ → Bool
 is_output None o = false
 is_output (Some output) o = output == o
 
-abbrev pub after_drop : Option ℕ → Mark → Option Stage
-after_drop output (mark.Main o) = if is_output output o then Some stage.Complete else None
-after_drop output m = None
+abbrev pub after_drop : Option ℕ → ℕ → Mark → Option Stage
+after_drop output g (mark.Main o) = if is_output output o then Some (stage.Start g) else None
+after_drop output g m = after_start g m
 
-abbrev pub next_stage : Stage → Mark → Option Stage
-next_stage stage.Start m = after_start m
-next_stage (stage.Round main last) m = after_round main last m
-next_stage (stage.Reading main last) m = after_now main last m
-next_stage (stage.Parked main last) m = after_park main last m
-next_stage (stage.Waited main last) m = after_wait main last m
-next_stage (stage.Woken main last) m = after_wake main last m
-next_stage (stage.Dropped output) m = after_drop output m
-next_stage stage.Complete m = None
+abbrev pub next_stage : Bool → Stage → Mark → Option Stage
+next_stage timers (stage.Start g) m = after_start g m
+next_stage timers (stage.Round main g) m = after_round main g m
+next_stage timers (stage.Reading main g tick) m = after_now timers main g tick m
+next_stage timers (stage.Parked main g) m = after_park timers main g m
+next_stage timers (stage.Hearing main g) m = after_hearing timers main g m
+next_stage timers (stage.Waited main g) m = after_wait main g m
+next_stage timers (stage.Woken main g) m = after_wake main g m
+next_stage timers (stage.Dropped output g) m = after_drop output g m
 
 abbrev pub is_last : Stage → Bool
-is_last (stage.Dropped None) = true
-is_last stage.Complete = true
+is_last (stage.Start g) = true
+is_last (stage.Dropped output g) = true
 is_last s = false
 
 -- ---- whole lists
@@ -119,24 +139,23 @@ abbrev pub stop_or : ℕ × Stage → Option Stage → (Stage → Option (ℕ ×
 stop_or here None later = Some here
 stop_or here (Some next) later = later next
 
-abbrev pub stop_at : ℕ → Stage → List Mark → Option (ℕ × Stage)
-stop_at n s [] = if is_last s then None else Some (n, s)
-stop_at n s (m ∷ marks) = stop_or (n, s) (next_stage s m) (λ next. stop_at (n + 1) next marks)
+abbrev pub stop_at : Bool → ℕ → Stage → List Mark → Option (ℕ × Stage)
+stop_at timers n s [] = if is_last s then None else Some (n, s)
+stop_at timers n s (m ∷ marks) = stop_or (n, s) (next_stage timers s m) (λ next. stop_at timers (n + 1) next marks)
 
--- Only a run has such a line.
-abbrev pub is_of_run : Mark → Bool
-is_of_run (mark.Now n) = true
-is_of_run mark.Park = true
-is_of_run (mark.Main o) = true
-is_of_run m = false
+-- The first line that is out of order on a runtime with timers, or on one without, and the stage before it.
+abbrev pub misplaced_on : Bool → List Mark → Option (ℕ × Stage)
+misplaced_on timers marks = stop_at timers 1 (stage.Start 0) marks
 
-abbrev pub are_of_run : List Mark → Bool
-are_of_run [] = false
-are_of_run (m ∷ marks) = is_of_run m || are_of_run marks
+-- The later one of two such lines; none, if there is none on one of the two runtimes.
+abbrev pub later_of : Option (ℕ × Stage) → Option (ℕ × Stage) → Option (ℕ × Stage)
+later_of None other = None
+later_of (Some x) None = None
+later_of (Some x) (Some y) = if nat_lt x.0 y.0 then Some y else Some x
 
--- The first line that is out of order, counted from 1, and the stage before it. Events and reports alone are in order.
+-- The first line that is out of order on each runtime, counted from 1, and the stage before it.
 abbrev pub misplaced : List Mark → Option (ℕ × Stage)
-misplaced marks = if are_of_run marks then stop_at 1 stage.Start marks else None
+misplaced marks = later_of (misplaced_on true marks) (misplaced_on false marks)
 
 abbrev pub IsOrdered : List Mark → Type 0
 IsOrdered marks = misplaced marks ≡ None

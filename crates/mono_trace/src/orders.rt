@@ -1,80 +1,67 @@
-// How far the lines of a journal are in the order of a run.
-ghost use Rattle.std.specs.Prelude.{◌≡◌, ◌||◌, ◌+◌, ◌++◌, ◌∷◌, [], List, length};
-ghost use Rattle.mono_trace.specs.Order.{is_of_run, misplaced};
+// How far the lines of a journal are in the order of calls of `block_on`.
+ghost use Rattle.std.specs.Prelude.{◌≡◌, ◌+◌, ◌++◌, ◌∷◌, [], Bool, List, length};
+ghost use Rattle.mono_trace.specs.Order.{later_of, misplaced, misplaced_on};
 ghost use Rattle.mono_trace.specs.OrderProgress.{Follows, Stops};
 ghost use Rattle.mono_trace.specs.declared.marks.Mark.{Mark};
 
 use crate::{Mark, Stage};
 
-/// How far the lines of a journal so far are in the order of a run: the stage after them, or the first line that is out of
-/// order and the stage before it; and whether one of them stands in the journal of a run alone.
+// The stage after the lines so far; or the first line that is out of order, and the stage before it.
 #[derive(Clone, Copy, Debug)]
-pub struct Order {
+pub(crate) struct Progress {
     pub(crate) stage: Stage,
     pub(crate) stopped: Option<usize>,
-    pub(crate) is_run: bool,
 }
 
-// Whether a line of this kind stands in the journal of a run alone.
-fn is_of_run(mark: Mark) -> bool
-    ensures { result ≡ is_of_run mark }
+/// How far the lines of a journal so far are in the order of calls of `block_on`, on a runtime with timers and on one
+/// without.
+#[derive(Clone, Copy, Debug)]
+pub struct Order {
+    pub(crate) timed: Progress,
+    pub(crate) untimed: Progress,
+}
+
+// Returns the later one of two lines that are out of order, or none if there is none of one kind.
+fn later_of(one: Option<(usize, Stage)>, other: Option<(usize, Stage)>) -> Option<(usize, Stage)>
+    ensures { result ≡ later_of one other }
 {
-    match mark {
-        Mark::Now(_) => true,
-        Mark::Park => true,
-        Mark::Main(_) => true,
-        _ => false,
+    let (line, stage) = one?;
+    let (other_line, other_stage) = other?;
+    if line < other_line {
+        Some((other_line, other_stage))
+    } else {
+        Some((line, stage))
     }
 }
 
-// Whether one of the lines so far or this one stands in the journal of a run alone.
-fn is_run_with(is_run: bool, mark: Mark) -> bool
-    ensures { result ≡ (is_run || is_of_run mark) }
-{
-    is_run || is_of_run(mark)
-}
-
-impl Order {
-    /// Returns the order of no lines.
-    pub fn new() -> Order
-        ensures { Follows [] result }
+impl Progress {
+    // Returns the progress of no lines.
+    fn new() -> Progress
+        ensures { (timers : Bool) → Stops timers [] result.stopped result.stage }
     {
-        Order {
-            stage: Stage::Start,
+        Progress {
+            stage: Stage::Start(0),
             stopped: None,
-            is_run: false,
         }
     }
 
     // The line with this number is a mark, unless an earlier one was out of order.
-    fn step(&mut self, mark: Mark, line: usize)
-        ensures run { self.new.is_run ≡ self.old.is_run }
-        ensures stops { (marks : List Mark) → line ≡ length marks + 1 → Stops marks self.old.stopped self.old.stage → Stops (marks ++ mark ∷ []) self.new.stopped self.new.stage }
+    fn step(&mut self, timers: bool, mark: Mark, line: usize)
+        ensures { (marks : List Mark) → line ≡ length marks + 1 → Stops timers marks self.old.stopped self.old.stage → Stops timers (marks ++ mark ∷ []) self.new.stopped self.new.stage }
     {
         if self.stopped.is_none() {
-            match self.stage.after(mark) {
+            match self.stage.after(timers, mark) {
                 Some(next) => self.stage = next,
                 None => self.stopped = Some(line),
             }
         }
     }
 
-    /// Takes the next line, which has this number, counted from 1.
-    pub fn take(&mut self, mark: Mark, line: usize)
-        ensures { (marks : List Mark) → line ≡ length marks + 1 → Follows marks self.old → Follows (marks ++ mark ∷ []) self.new }
+    // Returns the first line that is out of order and the stage before it, if there is one. The next line would have this
+    // number.
+    fn misplaced(&self, line: usize) -> Option<(usize, Stage)>
+        ensures { (timers : Bool) (marks : List Mark) → line ≡ length marks + 1 → Stops timers marks self.now.stopped self.now.stage → result ≡ misplaced_on timers marks }
     {
-        self.is_run = is_run_with(self.is_run, mark);
-        self.step(mark, line);
-    }
-
-    /// Returns the first line that is out of order and the stage before it, if there is one. The next line would have this
-    /// number, and is missing if the journal of a run may not end here.
-    pub fn misplaced(&self, line: usize) -> Option<(usize, Stage)>
-        ensures { (marks : List Mark) → line ≡ length marks + 1 → Follows marks self.now → result ≡ misplaced marks }
-    {
-        if !self.is_run {
-            return None;
-        }
         match self.stopped {
             Some(first) => Some((first, self.stage)),
             None => {
@@ -85,5 +72,33 @@ impl Order {
                 }
             }
         }
+    }
+}
+
+impl Order {
+    /// Returns the order of no lines.
+    pub fn new() -> Order
+        ensures { Follows [] result }
+    {
+        Order {
+            timed: Progress::new(),
+            untimed: Progress::new(),
+        }
+    }
+
+    /// Takes the next line, which has this number, counted from 1.
+    pub fn take(&mut self, mark: Mark, line: usize)
+        ensures { (marks : List Mark) → line ≡ length marks + 1 → Follows marks self.old → Follows (marks ++ mark ∷ []) self.new }
+    {
+        self.timed.step(true, mark, line);
+        self.untimed.step(false, mark, line);
+    }
+
+    /// Returns the first line that is out of order and the stage before it, if there is one. The next line would have this
+    /// number, and is missing if the last call has not ended.
+    pub fn misplaced(&self, line: usize) -> Option<(usize, Stage)>
+        ensures { (marks : List Mark) → line ≡ length marks + 1 → Follows marks self.now → result ≡ misplaced marks }
+    {
+        later_of(self.timed.misplaced(line), self.untimed.misplaced(line))
     }
 }

@@ -1,5 +1,5 @@
 -- The check so far, and the rest of the input.
-use Rattle.std.proofs.Common.{◌≡◌, ℕ, ◌+◌, ◌<◌, ◌≤◌, List, [], ◌∷◌, ◌++◌, length, map, Option, Some, None, IfSome, refl, sym, ap, subst, ◌∙◌, arith, append_assoc, length-append}
+use Rattle.std.proofs.Common.{◌≡◌, ℕ, ◌+◌, ◌<◌, ◌≤◌, Bool, true, List, [], ◌∷◌, ◌++◌, length, map, Option, Some, None, IfSome, refl, sym, ap, subst, ◌∙◌, arith, append_assoc, length-append}
 use Rattle.std.proofs.lemmas.List.{append-nil, map-append, length-map}
 use Rattle.mono_machine.specs.Machine.{Machine, start_machine}
 use Rattle.mono_machine.specs.Steps.{Step, Run}
@@ -12,10 +12,9 @@ use Rattle.mono_text.proofs.InputLineLemmas.{ended, lines_front, first_line}
 use Rattle.mono_trace.specs.Verdicts.{IsNoStep, FailsAt, MayAnswer, MayAnswerAt}
 use Rattle.mono_trace.specs.OrderProgress.{Follows}
 use Rattle.mono_trace.specs.declared.orders.Order.{Order}
-use Rattle.mono_trace_lines.specs.Journal.{journal_text, IsJournalLine, AreJournalLines, IsFirstBad, BeginsWith, BeginsWithNone, events_in, reports_in, line_of_pair, mark_of, IsAnswer, FailsInPair}
-use Rattle.mono_trace_lines.specs.CheckProgress.{StandsAt, LeadsOn, KeepsOrder, FailsIn, Answers}
-use Rattle.mono_trace_lines.specs.declared.checks.Answer.{Answer}
-use Rattle.mono_trace_lines.specs.declared.checks.Answer.TheVariants as answer
+use Rattle.mono_trace_lines.specs.Journal.{journal_text, IsJournalLine, AreJournalLines, IsFirstBad, BeginsWith, BeginsWithNone, events_in, reports_in, line_of_pair, mark_of, FailsInPair}
+use Rattle.mono_trace_lines.specs.CheckProgress.{StandsAt, LeadsOn, KeepsOrder, FailsIn, HasRead}
+use Rattle.mono_trace_lines.specs.declared.checks.Checked.{Checked}
 use Rattle.mono_trace_lines.specs.declared.checks.Failed.{Failed}
 use Rattle.mono_trace_lines.specs.declared.journal.JournalLine.{JournalLine}
 use Rattle.mono_trace_lines.specs.declared.journal.JournalLine.TheVariants.{Ran, Now, Park, Main}
@@ -131,25 +130,25 @@ each_more (y ∷ said) [] x l p q = absurd p
 each_more (y ∷ said) (z ∷ ls) x l p q = (p.0, each_more said ls x l p.1 q)
 
 -- The number of lines that were read, and the rest of the input.
-pub record Progress (limits : Limits) (strategy : Blocking) (input : List ℕ) (count : ℕ) (failed : Option Failed) (m : Machine) (order : Order) (rest : List ℕ) : Type 0 where
+pub record Progress (whole : Bool) (limits : Limits) (strategy : Blocking) (input : List ℕ) (count : ℕ) (failed : Option Failed) (m : Machine) (order : Order) (rest : List ℕ) : Type 0 where
   pub said : List JournalLine
   pub good : List Line
   pub split : lines input ≡ good ++ lines rest
   pub each : AreJournalLines said good
   pub stands : StandsAt (start_machine limits strategy) said failed m
-  pub follows : Follows (map mark_of said) order
+  pub follows : whole ≡ true → Follows (map mark_of said) order
   pub counted : count ≡ length good
   pub said_counted : count ≡ length said
   pub shorter : count + length rest ≤ length input
 
-pub started : (limits : Limits) (strategy : Blocking) (input : List ℕ) (m : Machine) (order : Order) → m ≡ start_machine limits strategy → Follows [] order → Progress limits strategy input 0 None m order input
-started limits strategy input m order is follows =
-    record { said = []; good = []; split = refl; each = tt; stands = is; follows = follows; counted = refl; said_counted = refl; shorter = omega arith }
+pub started : (whole : Bool) (limits : Limits) (strategy : Blocking) (input : List ℕ) (m : Machine) (order : Order) → m ≡ start_machine limits strategy → Follows [] order → Progress whole limits strategy input 0 None m order input
+started whole limits strategy input m order is follows =
+    record { said = []; good = []; split = refl; each = tt; stands = is; follows = λ w. follows; counted = refl; said_counted = refl; shorter = omega arith }
 
-pub one_more : (limits : Limits) (strategy : Blocking) (input : List ℕ) (count : ℕ) (failed after : Option Failed) (m new : Machine) (order later : Order) (rest behind : List ℕ) (x : JournalLine)
-    → Progress limits strategy input count failed m order rest → BeginsWith rest x behind → LeadsOn (count + 1) x failed m after new → KeepsOrder (count + 1) x order later
-    → Progress limits strategy input (count + 1) after new later behind
-one_more limits strategy input count failed after m new order later rest behind x p b leads keeps =
+pub one_more : (whole : Bool) (limits : Limits) (strategy : Blocking) (input : List ℕ) (count : ℕ) (failed after : Option Failed) (m new : Machine) (order later : Order) (rest behind : List ℕ) (x : JournalLine)
+    → Progress whole limits strategy input count failed m order rest → BeginsWith rest x behind → LeadsOn (count + 1) x failed m after new → KeepsOrder whole (count + 1) x order later
+    → Progress whole limits strategy input (count + 1) after new later behind
+one_more whole limits strategy input count failed after m new order later rest behind x p b leads keeps =
     let l : lines rest ≡ ended (journal_text x) ∷ lines behind = ap lines b.0 ∙ lines_front (journal_text x) behind (no_feed_journal x b.1) in
     let says : IsJournalLine x (ended (journal_text x)) = unfold ended in record { fits = b.1; text = refl; is_ended = refl } in
     record {
@@ -158,7 +157,7 @@ one_more limits strategy input count failed after m new order later rest behind 
       split = p.split ∙ ap (λ q. p.good ++ q) l ∙ sym (append_assoc p.good (ended (journal_text x) ∷ []) (lines behind));
       each = each_more p.said p.good x (ended (journal_text x)) p.each says;
       stands = leads (start_machine limits strategy) p.said (omega (arith, p.said_counted)) p.stands;
-      follows = subst (λ marks. Follows marks later) (sym (map-append mark_of p.said (x ∷ []))) (keeps (map mark_of p.said) (omega (arith, p.said_counted, length-map p.said mark_of)) p.follows);
+      follows = λ w. subst (λ marks. Follows marks later) (sym (map-append mark_of p.said (x ∷ []))) (keeps w (map mark_of p.said) (omega (arith, p.said_counted, length-map p.said mark_of)) (p.follows w));
       counted = omega (arith, p.counted, length-append p.good (ended (journal_text x) ∷ []));
       said_counted = omega (arith, p.said_counted, length-append p.said (x ∷ []));
       shorter = omega (arith, p.shorter, ap length b.0, length-append (journal_text x) (10 ∷ behind));
@@ -181,20 +180,14 @@ pair_failed limits strategy said n found f =
       answers = subst (λ l. IfSome found (λ other. MayAnswerAt place start (events_in l) (reports_in l) other)) (sym f.is) (found_at f.front start f.mid f.event f.report found f.rest f.run f.answers);
     }
 
-is_answer : (limits : Limits) (strategy : Blocking) (input : List ℕ) (said : List JournalLine) (a : Answer) → AreJournalLines said (lines input) → Answers limits strategy said a → IsAnswer limits strategy input a
-is_answer limits strategy input said (answer.BadLine n) are a = absurd a
-is_answer limits strategy input said answer.Yes are a = record { said = said; are_lines = are; verdict = a.0; ordered = a.1 }
-is_answer limits strategy input said (answer.No failure) are a = record { said = said; are_lines = are; fails = a }
+pub all_read : (whole : Bool) (limits : Limits) (strategy : Blocking) (input : List ℕ) (count : ℕ) (m : Machine) (rest : List ℕ) (checked : Checked)
+    → Progress whole limits strategy input count checked.failed m checked.order rest → length rest ≡ 0 → checked.next ≡ count + 1 → HasRead whole limits strategy input checked
+all_read whole limits strategy input count m rest checked p e next =
+    record { said = p.said; are_lines = all_lines input p.said p.good rest e p.split p.each; last = m; stands = p.stands; follows = p.follows; counted = omega (arith, next, p.said_counted) }
 
-pub all_answered : (limits : Limits) (strategy : Blocking) (input : List ℕ) (count : ℕ) (failed : Option Failed) (m : Machine) (order : Order) (rest : List ℕ) (a : Answer)
-    → ((limits : Limits) (strategy : Blocking) (said : List JournalLine) (m : Machine) → count + 1 ≡ length said + 1 → StandsAt (start_machine limits strategy) said failed m → Follows (map mark_of said) order → Answers limits strategy said a)
-    → Progress limits strategy input count failed m order rest → length rest ≡ 0 → IsAnswer limits strategy input a
-all_answered limits strategy input count failed m order rest a is p e =
-    is_answer limits strategy input p.said a (all_lines input p.said p.good rest e p.split p.each) (is limits strategy p.said m (omega (arith, p.said_counted)) p.stands p.follows)
-
-pub first_bad : (limits : Limits) (strategy : Blocking) (input : List ℕ) (count : ℕ) (failed : Option Failed) (m : Machine) (order : Order) (rest : List ℕ)
-    → Progress limits strategy input count failed m order rest → 0 < length rest → BeginsWithNone rest → IsFirstBad (lines input) (count + 1)
-first_bad limits strategy input count failed m order [] p some none = absurd (omega arith)
-first_bad limits strategy input count failed m order (b ∷ rest) p some none =
+pub first_bad : (whole : Bool) (limits : Limits) (strategy : Blocking) (input : List ℕ) (count : ℕ) (failed : Option Failed) (m : Machine) (order : Order) (rest : List ℕ)
+    → Progress whole limits strategy input count failed m order rest → 0 < length rest → BeginsWithNone rest → IsFirstBad (lines input) (count + 1)
+first_bad whole limits strategy input count failed m order [] p some none = absurd (omega arith)
+first_bad whole limits strategy input count failed m order (b ∷ rest) p some none =
     let f = first_line b rest in
     (p.said, p.good, f.0, f.1, p.split ∙ ap (λ q. p.good ++ q) f.2, p.each, omega (arith, p.counted), no_journal (b ∷ rest) f.0 f.1 f.2 none)

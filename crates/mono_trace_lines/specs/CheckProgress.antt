@@ -1,21 +1,21 @@
 -- The progress of a check: the pairs so far are a run, which ends here, or one was no step.
-use Rattle.std.specs.Prelude.{◌≡◌, ◌≤◌, ◌+◌, ◌*◌, ◌^◌, ℕ, List, [], ◌∷◌, ◌++◌, length, map, Option, Some, None, IfSome}
-use Rattle.mono_machine.specs.Machine.{Machine}
+use Rattle.std.specs.Prelude.{◌≡◌, ◌≤◌, ◌+◌, ◌*◌, ◌^◌, ℕ, Bool, true, List, [], ◌∷◌, ◌++◌, length, map, Option, Some, None, IfSome}
+use Rattle.mono_machine.specs.Machine.{Machine, start_machine}
 use Rattle.mono_machine.specs.Steps.{Run}
 use Rattle.mono_machine.specs.declared.events.Event.{Event}
 use Rattle.mono_machine.specs.declared.events.Report.{Report}
 use Rattle.mono_machine.specs.declared.events.Limits.{Limits}
 use Rattle.mono_machine.specs.declared.events.Blocking.{Blocking}
-use Rattle.mono_trace.specs.Order.{IsOrdered}
+use Rattle.mono_text.specs.Lines.{lines}
 use Rattle.mono_trace.specs.OrderProgress.{Follows}
-use Rattle.mono_trace.specs.Verdicts.{IsNoStep, MayAnswer, Checked}
+use Rattle.mono_trace.specs.Verdicts.{IsNoStep, MayAnswer}
 use Rattle.mono_trace.specs.declared.marks.Mark.{Mark}
 use Rattle.mono_trace.specs.declared.orders.Order.{Order}
-use Rattle.mono_trace.specs.declared.Verdict.TheVariants.{Yes}
-use Rattle.mono_trace_lines.specs.Journal.{events_in, reports_in, mark_of, Fails}
-use Rattle.mono_trace_lines.specs.declared.checks.Answer.{Answer}
-use Rattle.mono_trace_lines.specs.declared.checks.Answer.TheVariants as answer
+use Rattle.mono_trace_lines.specs.Journal.{events_in, reports_in, mark_of, AreJournalLines, IsFirstBad}
+use Rattle.mono_trace_lines.specs.declared.checks.Checked.{Checked}
 use Rattle.mono_trace_lines.specs.declared.checks.Failed.{Failed}
+use Rattle.mono_trace_lines.specs.declared.checks.Reading.{Reading}
+use Rattle.mono_trace_lines.specs.declared.checks.Reading.TheVariants as reading
 use Rattle.mono_trace_lines.specs.declared.journal.JournalLine.{JournalLine}
 use Rattle.mono_trace_lines.specs.declared.journal.JournalLine.TheVariants.{Ran}
 
@@ -41,16 +41,23 @@ StandsAt start said (Some f) m = FailsIn start said f.line f.answer
 abbrev pub LeadsOn : ℕ → JournalLine → Option Failed → Machine → Option Failed → Machine → Type 0
 LeadsOn n x failed m after new = (start : Machine) (said : List JournalLine) → n ≡ length said + 1 → StandsAt start said failed m → StandsAt start (said ++ x ∷ []) after new
 
--- One more line, which is line n, goes on in the order of the lines.
-abbrev pub KeepsOrder : ℕ → JournalLine → Order → Order → Type 0
-KeepsOrder n x old new = (marks : List Mark) → n ≡ length marks + 1 → Follows marks old → Follows (marks ++ mark_of x ∷ []) new
+-- In a check of a whole journal one more line, which is line n, goes on in the order of the lines.
+abbrev pub KeepsOrder : Bool → ℕ → JournalLine → Order → Order → Type 0
+KeepsOrder whole n x old new = whole ≡ true → (marks : List Mark) → n ≡ length marks + 1 → Follows marks old → Follows (marks ++ mark_of x ∷ []) new
 
 -- At most 2 ^ 63 arms for each of the lines so far.
 abbrev pub HasFewArms : ℕ → Machine → Type 0
 HasFewArms count m = m.sleeps.arm_count ≤ count * 2 ^ 63
 
--- The answer to lines that are all lines of a journal.
-abbrev pub Answers : Limits → Blocking → List JournalLine → Answer → Type 0
-Answers limits strategy said (answer.BadLine n) = ⊥
-Answers limits strategy said answer.Yes = Checked limits strategy (events_in said) (reports_in said) Yes × IsOrdered (map mark_of said)
-Answers limits strategy said (answer.No failure) = Fails limits strategy said failure.line failure.cause
+-- All lines were read, and each is one of a journal.
+pub record HasRead (whole : Bool) (limits : Limits) (strategy : Blocking) (input : List ℕ) (checked : Checked) : Type 0 where
+  pub said : List JournalLine
+  pub are_lines : AreJournalLines said (lines input)
+  pub last : Machine
+  pub stands : StandsAt (start_machine limits strategy) said checked.failed last
+  pub follows : whole ≡ true → Follows (map mark_of said) checked.order
+  pub counted : checked.next ≡ length said + 1
+
+abbrev pub IsReading : Bool → Limits → Blocking → List ℕ → Reading → Type 0
+IsReading whole limits strategy input (reading.BadLine n) = IsFirstBad (lines input) n
+IsReading whole limits strategy input (reading.All checked) = HasRead whole limits strategy input checked

@@ -97,17 +97,16 @@ line_of_pair (Main o ∷ said) place = line_of_pair said place + 1
 abbrev pub mark_of : JournalLine → Mark
 mark_of (Ran e r) = pair_mark e r
 mark_of (Now n) = mark.Now n
-mark_of (Park millis) = mark.Park
+mark_of (Park millis) = mark.Park millis
 mark_of (Main o) = mark.Main o
 
 -- ---- what a check answers
 
--- Each line is one of a journal, its reports are those of a run of its events, and its lines are in order.
+-- Each line is one of a journal, and its reports are those of a run of its events.
 pub record IsPassed (limits : Limits) (strategy : Blocking) (input : List ℕ) : Type 0 where
   pub said : List JournalLine
   pub are_lines : AreJournalLines said (lines input)
   pub verdict : Checked limits strategy (events_in said) (reports_in said) Yes
-  pub ordered : IsOrdered (map mark_of said)
 
 -- The pair in line n is the first that no step allows. A report that is found is one that the machine could give there.
 pub record FailsInPair (limits : Limits) (strategy : Blocking) (said : List JournalLine) (n : ℕ) (found : Option Report) : Type 0 where
@@ -116,14 +115,10 @@ pub record FailsInPair (limits : Limits) (strategy : Blocking) (said : List Jour
   pub line : n ≡ line_of_pair said place
   pub answers : IfSome found (λ r. MayAnswerAt place (start_machine limits strategy) (events_in said) (reports_in said) r)
 
--- The reports are those of a run, and line n is the first that is out of order, behind this stage.
-pub record FailsInOrder (limits : Limits) (strategy : Blocking) (said : List JournalLine) (n : ℕ) (stage : Stage) : Type 0 where
-  pub verdict : Checked limits strategy (events_in said) (reports_in said) Yes
-  pub first : misplaced (map mark_of said) ≡ Some (n, stage)
-
+-- Only a pair can fail.
 abbrev pub Fails : Limits → Blocking → List JournalLine → ℕ → Cause → Type 0
 Fails limits strategy said n (cause.Pair found) = FailsInPair limits strategy said n found
-Fails limits strategy said n (cause.Order stage) = FailsInOrder limits strategy said n stage
+Fails limits strategy said n (cause.Order stage) = ⊥
 
 -- Each line is one of a journal, and one of them fails so.
 pub record FailsAtLine (limits : Limits) (strategy : Blocking) (input : List ℕ) (failure : Failure) : Type 0 where
@@ -135,3 +130,32 @@ abbrev pub IsAnswer : Limits → Blocking → List ℕ → Answer → Type 0
 IsAnswer limits strategy input (answer.BadLine n) = IsFirstBad (lines input) n
 IsAnswer limits strategy input answer.Yes = IsPassed limits strategy input
 IsAnswer limits strategy input (answer.No failure) = FailsAtLine limits strategy input failure
+
+-- ---- what a check of a whole journal answers
+
+-- It is a run, and its lines are in the order of whole calls of block_on.
+pub record IsWhole (limits : Limits) (strategy : Blocking) (input : List ℕ) : Type 0 where
+  pub said : List JournalLine
+  pub are_lines : AreJournalLines said (lines input)
+  pub verdict : Checked limits strategy (events_in said) (reports_in said) Yes
+  pub ordered : IsOrdered (map mark_of said)
+
+-- The reports are those of a run, and line n is the first that is out of order, behind this stage.
+pub record FailsInOrder (limits : Limits) (strategy : Blocking) (said : List JournalLine) (n : ℕ) (stage : Stage) : Type 0 where
+  pub verdict : Checked limits strategy (events_in said) (reports_in said) Yes
+  pub first : misplaced (map mark_of said) ≡ Some (n, stage)
+
+abbrev pub FailsWhole : Limits → Blocking → List JournalLine → ℕ → Cause → Type 0
+FailsWhole limits strategy said n (cause.Pair found) = FailsInPair limits strategy said n found
+FailsWhole limits strategy said n (cause.Order stage) = FailsInOrder limits strategy said n stage
+
+-- Each line is one of a journal, and one of them fails so.
+pub record FailsWholeAtLine (limits : Limits) (strategy : Blocking) (input : List ℕ) (failure : Failure) : Type 0 where
+  pub said : List JournalLine
+  pub are_lines : AreJournalLines said (lines input)
+  pub fails : FailsWhole limits strategy said failure.line failure.cause
+
+abbrev pub IsWholeAnswer : Limits → Blocking → List ℕ → Answer → Type 0
+IsWholeAnswer limits strategy input (answer.BadLine n) = IsFirstBad (lines input) n
+IsWholeAnswer limits strategy input answer.Yes = IsWhole limits strategy input
+IsWholeAnswer limits strategy input (answer.No failure) = FailsWholeAtLine limits strategy input failure

@@ -6,7 +6,7 @@ mod journal;
 pub mod laws;
 mod reports;
 
-pub use checks::{Answer, Cause, Failure, check_lines};
+pub use checks::{Answer, Cause, Failure, check_lines, check_whole};
 pub use journal::{JournalLine, read_line};
 pub use mono_trace::Stage;
 pub use reports::read_report;

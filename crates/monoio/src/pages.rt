@@ -23,7 +23,9 @@ const HELP: &str = "usage:
       ACTORS, MESSAGES: limits, numbers below 2^64
   monoio check STRATEGY TASKS JOBS SLEEPS
       reads a journal, event lines with their report lines, and writes yes where it is a run of the machine,
-      or no and the number of the first line that no step allows, or that is out of order or missing
+      or no and the number of the first line that no step allows
+  monoio check --whole STRATEGY TASKS JOBS SLEEPS
+      also says no where a line is out of order or missing in whole calls of block_on
   monoio COMMAND --follow WORD ..
       answers each line as soon as it was read, up to the first bad one; of replay, sessions, limiter and actors
   monoio --help, -h or help
@@ -166,9 +168,12 @@ exit status: 0 done, 2 other words, 3 a bad line, 4 a read failed, 5 a write fai
 example: printf 'actor\\nactor\\nsend 0 1 7\\nturn; send 0 8; stay\\n' | monoio actors 16 16\n";
 
 const CHECK: &str = "usage: monoio check STRATEGY TASKS JOBS SLEEPS < JOURNAL
-  reads a journal and writes yes if it is a run of the machine with its lines in order, else no and a line
+       monoio check --whole STRATEGY TASKS JOBS SLEEPS < JOURNAL
+  reads a journal and writes yes if it is a run of the machine, else no and a line
 words:
-  STRATEGY          attached, local or panic: how the journal's runtime ran blocking jobs
+  --whole           the journal is that of one or more whole calls of block_on on a new runtime, in order
+  STRATEGY          attached, local or panic: how the journal's runtime ran blocking jobs; a journal of run
+                    takes attached, with workers and with 0
   TASKS JOBS SLEEPS its limits, numbers below 2^64
 lines:
   EVENT -> REPORT           an event line and its report line, as of replay
@@ -178,11 +183,11 @@ lines:
   main OUTPUT               the output of the main task
 it writes one line:
   yes                       the journal is a run
-  no LINE                   no step allows this line's report; or this line is out of order, or missing
-with now, park or main it is the journal of one whole run: up to the drop of the main task's handle, and main OUTPUT
+  no LINE                   no step allows this line's report; with --whole: or this line is out of order, or missing
+without --whole the lines now, park and main are passed over
 exit status: 0 it is a run, 2 other words, 3 a bad line, 4 a read failed, 5 a write failed, 6 out of memory,
   7 more than 16777216 bytes of input, 11 it is no run
-example: monoio run 0 100 < SCRIPT | monoio check attached 16 16 16
+example: monoio run 0 100 < SCRIPT | monoio check --whole attached 16 16 16
   of a journal that run wrote: STRATEGY is attached, and the limits are those of the script's first line\n";
 
 /// A command that has a page.

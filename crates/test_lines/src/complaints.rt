@@ -24,7 +24,7 @@ fn says(alloc: Global, words: &Vec<String>, sentence: &str) -> bool {
 }
 
 // Words, and the complaints about them.
-const CASES: [(&str, &str); 20] = [
+const CASES: [(&str, &str); 25] = [
     (
         "",
         "usage: monoio COMMAND WORD .. < INPUT; COMMAND is replay, run, load, sessions, limiter, actors or check; monoio --help says more",
@@ -96,6 +96,23 @@ const CASES: [(&str, &str); 20] = [
         "check: \"1.0\": SLEEPS is a number below 2^64",
     ),
     ("check attached 1 1 1", "nothing is wrong"),
+    (
+        "check --whole other 1 1 1",
+        "check: \"other\": STRATEGY is attached, local or panic",
+    ),
+    (
+        "check --whole attached 1 1",
+        "check: a word is missing: SLEEPS is a number below 2^64",
+    ),
+    (
+        "check --whole attached 1 1 1 1",
+        "check: \"1\" is a word too many: the input is standard input, as in < FILE",
+    ),
+    (
+        "check attached --whole 1 1 1",
+        "check: \"--whole\": TASKS is a number below 2^64",
+    ),
+    ("check --whole attached 1 1 1", "nothing is wrong"),
 ];
 
 #[test]

@@ -8,6 +8,8 @@ use std::alloc::{AllocError, Global};
 
 const CHECK: &str = "check attached 16 16 16";
 
+const WHOLE: &str = "check --whole attached 16 16 16";
+
 fn split(alloc: Global, text: &str) -> Result<Vec<String>, AllocError> {
     let mut words = Vec::new(alloc);
     for word in text.split(' ') {
@@ -23,14 +25,15 @@ fn still_clock(alloc: Global) -> Option<ListClock> {
     Some(ListClock::new(readings))
 }
 
-// Whether this sentence is said of the journal.
+// Whether this sentence is said of the journal by the command with these words.
 fn says<R: Host + Send + 'static>(
     rt: &R,
     alloc: Global,
+    words: &str,
     journal: &[u8],
     sentence: &[u8],
 ) -> Option<bool> {
-    let words = split(alloc, CHECK).ok()?;
+    let words = split(alloc, words).ok()?;
     let mut source = PlainSource::new(Vec::from_slice(alloc, journal).ok()?);
     let mut sink = PlainSink::new();
     let mut spawner = NoSpawner::new();
@@ -50,7 +53,7 @@ fn says<R: Host + Send + 'static>(
 }
 
 // A journal, and what is said of its first line that fails.
-const CASES: [(&[u8], &[u8]); 15] = [
+const CASES: [(&[u8], &[u8]); 7] = [
     (b"spawn -> task 1\n", b"line 1: the machine answers: task 0"),
     (
         b"spawn -> task 0\nturn; sleep 5; poll 0; pending -> turn 0; sleep 0; ready; idle\n",
@@ -76,44 +79,68 @@ const CASES: [(&[u8], &[u8]); 15] = [
         b"turn; pending -> turn 0; idle\n",
         b"line 1: the machine answers: refused idle",
     ),
+];
+
+// A journal that is not whole, and what is said of its first line that fails.
+const WHOLE_CASES: [(&[u8], &[u8]); 13] = [
+    (b"spawn -> task 1\n", b"line 1: the machine answers: task 0"),
     (
         b"main 3\n",
-        b"line 1: expected: spawn and its report, the first line of a run",
+        b"line 1: expected: spawn and its report, which begins a call",
     ),
     (
         b"spawn -> task 0\nnow 5\nnow 4\n",
-        b"line 3: expected: a turn or a park behind the line now",
+        b"line 3: expected: a turn, or a park without a limit or to a tick above 0, behind the line now",
     ),
     (
-        b"spawn -> task 0\nnow 5\nturn; pending -> turn 0; idle\nnow 4\n",
-        b"line 4: expected: now NANOS (at least 5), remote TASK, drain or drop-join 0",
+        b"spawn -> task 0\nnow 5\nturn; pending -> turn 0; idle\nnow 9223372036854775807000001\n",
+        b"line 4: expected: now NANOS, remote TASK, drain or drop-join 0",
+    ),
+    (
+        b"spawn -> task 0\nnow 5\nturn; pending -> turn 0; idle\n",
+        b"line 4: expected: now NANOS, remote TASK, drain or drop-join 0",
     ),
     (
         b"spawn -> task 0\nnow 5\npark\n",
-        b"line 4: expected: remote TASK or drain behind the park",
+        b"line 4: expected: remote TASK, drain or drop-join 0 behind the park",
     ),
     (
-        b"spawn -> task 0\nnow 5\npark\ndrain -> drained\nclock 4 -> fired\n",
-        b"line 5: expected: clock NANOS (at least 5) behind the drain that follows a park",
+        b"spawn -> task 0\nnow 5\npark\nremote 0 -> listed\n",
+        b"line 5: expected: remote TASK or drain behind the line remote",
+    ),
+    (
+        b"spawn -> task 0\nnow 5\npark 3\ndrain -> drained\nnow 4\n",
+        b"line 5: expected: clock NANOS or drop-join 0 behind the drain that follows a park",
     ),
     (
         b"spawn -> task 0\nremote 0 -> listed\nnow 5\n",
         b"line 3: expected: remote TASK or drain behind the line remote",
     ),
     (
-        b"spawn -> task 0\nnow 5\nturn; ready 7 -> turn 0; done\ndrop-join 0 -> dropped 7\n",
-        b"line 5: expected: main 7, the output that the drop gave",
+        b"spawn -> task 0\nspawn -> task 1\n",
+        b"line 2: expected: now NANOS, remote TASK, drain or drop-join 0",
+    ),
+    (
+        b"spawn -> task 0\nnow 5\nturn; ready 7 -> turn 0; done\ndrop-join 0 -> dropped 7\nmain 6\n",
+        b"line 5: expected: main 7, the output that the drop gave, or the next call",
     ),
     (
         b"spawn -> task 0\nnow 5\nturn; pending -> turn 0; idle\ndrop-join 0 -> dropped\nmain 7\n",
-        b"line 5: expected: the end: the drop gave no output",
+        b"line 5: expected: the next call or the end: the drop gave no output",
+    ),
+    (
+        b"spawn -> task 0\ndrop-join 0 -> dropped\nnow 5\n",
+        b"line 3: expected: the next call or the end: the drop gave no output",
     ),
 ];
 
 #[test]
 fn failures_are_explained(rt: HostRuntime) {
     for (journal, sentence) in CASES {
-        assert!(&rt; says(&rt, rt.alloc(), journal, sentence) == Some(true));
+        assert!(&rt; says(&rt, rt.alloc(), CHECK, journal, sentence) == Some(true));
+    }
+    for (journal, sentence) in WHOLE_CASES {
+        assert!(&rt; says(&rt, rt.alloc(), WHOLE, journal, sentence) == Some(true));
     }
 }
 
@@ -149,28 +176,32 @@ fn written<R: Host + Send + 'static>(
     Vec::from_slice(alloc, sink.bytes()).ok()
 }
 
-// Whether check passes the front of a journal of this length.
-fn passes<R: Host + Send + 'static>(
+// Whether the answer to the front of a journal is yes: that of a check always, that of a check of a whole journal if the front
+// ends with the drop of the main task's handle or with its output.
+fn answers<R: Host + Send + 'static>(
     rt: &R,
     alloc: Global,
     journal: &Vec<u8>,
     length: usize,
 ) -> Option<bool> {
     let front = journal.get(..length)?;
-    let whole = length == journal.len();
-    let status = if whole { 0 } else { 11 };
-    let output = written(rt, alloc, CHECK, front, status)?;
-    Some(whole == (output.as_slice() == b"yes\n".as_slice()))
+    let rest = journal.get(length..)?;
+    let is_whole = rest.is_empty() || rest.starts_with(b"main");
+    let status = if is_whole { 0 } else { 11 };
+    let run = written(rt, alloc, CHECK, front, 0)?;
+    let whole = written(rt, alloc, WHOLE, front, status)?;
+    let yes = b"yes\n".as_slice();
+    Some(run.as_slice() == yes && is_whole == (whole.as_slice() == yes))
 }
 
-// Whether check passes the journal of a run, and none of its fronts of more than one line.
-fn whole_alone<R: Host + Send + 'static>(rt: &R, alloc: Global, turns: &str) -> Option<usize> {
+// Returns the count of lines of a run's journal, if all its fronts have their answers.
+fn answered_lines<R: Host + Send + 'static>(rt: &R, alloc: Global, turns: &str) -> Option<usize> {
     let journal = written(rt, alloc, turns, SCRIPT, 0)?;
     let mut lines = 0usize;
     for (at, byte) in journal.iter().enumerate() {
         if *byte == b'\n' {
             lines = lines.saturating_add(1);
-            if lines > 1 && passes(rt, alloc, &journal, at.saturating_add(1)) != Some(true) {
+            if answers(rt, alloc, &journal, at.saturating_add(1)) != Some(true) {
                 return None;
             }
         }
@@ -179,7 +210,7 @@ fn whole_alone<R: Host + Send + 'static>(rt: &R, alloc: Global, turns: &str) -> 
 }
 
 #[test]
-fn a_run_passes_as_a_whole_alone(rt: HostRuntime) {
-    let lines = whole_alone(&rt, rt.alloc(), "run 0 100");
+fn each_front_of_a_run_is_a_run_and_not_whole(rt: HostRuntime) {
+    let lines = answered_lines(&rt, rt.alloc(), "run 0 100");
     assert!(&rt; matches!(lines, Some(n) if n > 20));
 }

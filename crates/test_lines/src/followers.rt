@@ -132,6 +132,7 @@ fn other_commands_do_not_follow(rt: HostRuntime) {
         "run 0 1",
         "load 1 1",
         "check attached 1 1 1",
+        "check --whole attached 1 1 1",
         "replay 1",
         "x",
     ] {

@@ -57,7 +57,7 @@ no_place (suc (suc place)) fails = fails.2
 
 no_cause : (n : ℕ) (c : Cause) → Fails limits blocking.Attached said n c → ⊥
 no_cause n (cause.Pair found) fails = no_place fails.place fails.verdict
-no_cause n (cause.Order stage) fails = cc fails.first
+no_cause n (cause.Order stage) fails = fails
 
 no_failure : (failure : Failure) → FailsAtLine limits blocking.Attached input failure → ⊥
 no_failure failure fails =

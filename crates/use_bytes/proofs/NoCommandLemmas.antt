@@ -15,6 +15,7 @@ none (command.Sessions sessions entries) is = absurd (omega (arith, ap length is
 none (command.Limiter buckets retries) is = absurd (omega (arith, ap length is.text))
 none (command.Actors actors messages) is = absurd (omega (arith, ap length is.text))
 none (command.Check limits strategy) is = absurd (omega (arith, ap length is.text))
+none (command.CheckWhole limits strategy) is = absurd (omega (arith, ap length is.text))
 
 -- Nothing is written.
 pub nothing_given : {E : Type 0} (before after : Option (List ℕ)) (faults later : ℕ) (spelled : List (List ℕ)) → spelled ≡ words

@@ -75,7 +75,7 @@ by_place n (suc (suc place)) fails is = absurd fails.2
 
 by_cause : (n : ℕ) (c : Cause) → Fails limits blocking.Attached said n c → n ≡ 1
 by_cause n (cause.Pair found) fails = by_place n fails.place fails.verdict fails.line
-by_cause n (cause.Order stage) fails = absurd (no_run fails.verdict)
+by_cause n (cause.Order stage) fails = absurd fails
 
 first_line : (failure : Failure) → FailsAtLine limits blocking.Attached input failure → failure.line ≡ 1
 first_line failure fails =

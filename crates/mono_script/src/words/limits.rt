@@ -1,6 +1,6 @@
 // A strategy for blocking jobs and limits after a word.
 ghost use Rattle.std.specs.Prelude.{◌≡◌, ◌∷◌, [], IfSome, IfNone, map, string_bytes};
-ghost use Rattle.mono_script.specs.Words.{AreLimits, SayLimits, strategy_text};
+ghost use Rattle.mono_script.specs.Words.{AreLimits, SayFlagged, SayLimits, strategy_text};
 
 use mono_machine::Limits;
 use mono_replay::Blocking;
@@ -81,5 +81,51 @@ pub(crate) fn strategy_and_limits(words: &Vec<String>, name: &[u8]) -> Option<(L
         jobs.as_bytes(),
         sleeps.as_bytes(),
         name,
+    )
+}
+
+fn read_six(
+    word: &[u8],
+    second: &[u8],
+    blocking: &[u8],
+    tasks: &[u8],
+    jobs: &[u8],
+    sleeps: &[u8],
+    name: &[u8],
+    flag: &[u8],
+) -> Option<(Limits, Blocking)>
+    ensures found { IfSome result (λ x. SayFlagged name.now flag.now (word.now ∷ second.now ∷ blocking.now ∷ tasks.now ∷ jobs.now ∷ sleeps.now ∷ []) x.0 x.1) }
+    ensures none { IfNone result ((l : Limits) (s : Blocking) → SayFlagged name.now flag.now (word.now ∷ second.now ∷ blocking.now ∷ tasks.now ∷ jobs.now ∷ sleeps.now ∷ []) l s → ⊥) }
+{
+    if word != name {
+        return None;
+    }
+    if second != flag {
+        return None;
+    }
+    read_four(blocking, tasks, jobs, sleeps)
+}
+
+// Returns the limits and the strategy after the name and this second word, if these are the words.
+pub(crate) fn behind_flag(
+    words: &Vec<String>,
+    name: &[u8],
+    flag: &[u8],
+) -> Option<(Limits, Blocking)>
+    ensures found { IfSome result (λ x. SayFlagged name.now flag.now (map string_bytes words.now.items) x.0 x.1) }
+    ensures none { IfNone result ((l : Limits) (s : Blocking) → SayFlagged name.now flag.now (map string_bytes words.now.items) l s → ⊥) }
+{
+    let [word, second, blocking, tasks, jobs, sleeps] = words.as_slice() else {
+        return None;
+    };
+    read_six(
+        word.as_bytes(),
+        second.as_bytes(),
+        blocking.as_bytes(),
+        tasks.as_bytes(),
+        jobs.as_bytes(),
+        sleeps.as_bytes(),
+        name,
+        flag,
     )
 }
