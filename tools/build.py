@@ -58,7 +58,7 @@ def keep(made, program, made_from):
 def build(crate, program, log):
     """Proves and keeps the program, unless it is built; returns the status of rt."""
     with tempfile.TemporaryDirectory(prefix="build-") as folder:
-        crates = layout.lay_closure(crate, folder)
+        crates = layout.lay_closure([crate], folder)
         made_from = sum_of(folder)
         if is_built(program, made_from):
             return 0
@@ -72,7 +72,7 @@ def build(crate, program, log):
 def try_stored_run(crate):
     """Compares the stored run of the program, unproved; returns 0 if it is the same."""
     with tempfile.TemporaryDirectory(prefix="build-") as folder:
-        layout.lay_closure(crate, folder)
+        layout.lay_closure([crate], folder)
         try:
             status = layout.run_unproved(os.path.join(folder, "crates", crate))
         except subprocess.TimeoutExpired:
@@ -96,7 +96,7 @@ def main():
         if os.path.lexists(words[0]):
             sys.exit(f"{words[0]} is there already")
         os.makedirs(words[0])
-        layout.lay_closure(crate, words[0])
+        layout.lay_closure([crate], words[0])
         return 0
     home = os.path.join(below.TOP, "bin")
     os.makedirs(home, exist_ok=True)

@@ -27,9 +27,9 @@ def lay_crate(crate, folder, leave=()):
                 os.rename(os.path.join(at, name), os.path.join(at, name.removesuffix(".txt")))
 
 
-def lay_closure(crate, folder):
-    """Lays a crate and those below it out in a folder, without their mutants, and returns their names, lowest first."""
-    needed = set(below.closure(crate))
+def lay_closure(crates, folder):
+    """Lays crates and those below them out in a folder, without their mutants, and returns their names, lowest first."""
+    needed = {name for crate in crates for name in below.closure(crate)}
     lines = {name: line for name, line in below.lines().items() if name in needed}
     for name in lines:
         lay_crate(name, folder, ("planted", "must-fail"))

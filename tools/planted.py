@@ -15,8 +15,8 @@ is tried by a check of these functions. One check takes several edits of differe
 calls one that is refused in the same check is tried again. Any other edit is tried by a check of its crate. First the
 functions are checked as they are.
 
-The libraries below a crate are taken from FOLDER/NAME.rlib, or as `rt` built them in this repository, or are proved
-in the copy. N checks run at a time (2), each when memory is free. With --no-tests, what the prover lets through is
+The libraries below a crate are taken from FOLDER/NAME.rlib, or as `rt ci` proves them or has kept them on this
+machine. N checks run at a time (2), each when memory is free. With --no-tests, what the prover lets through is
 not tested.
 
 The verdicts are kept in crates/NAME/planted/verdicts.txt, a line for each mutant: its name, the kind of verdict, and

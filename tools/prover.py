@@ -10,6 +10,8 @@ import tempfile
 import threading
 
 import below
+import layout
+import progress
 from edits import PARTS
 
 FUNCTION = re.compile(r"^fn (\S+): (.*)$", re.M)
@@ -49,6 +51,21 @@ def link_or_copy(one, other):
         shutil.copy2(one, other)
 
 
+def take(library, folder):
+    """Links a library that is built in a folder."""
+    os.makedirs(os.path.dirname(library.rlib), exist_ok=True)
+    os.symlink(os.path.abspath(os.path.join(folder, f"{library.name}.rlib")), library.rlib)
+
+
+def is_taken(library, built):
+    """Takes a library that is built in the folder `built`; says whether there is one."""
+    if not os.path.lexists(library.rlib):
+        if not built or not os.path.isdir(os.path.join(built, f"{library.name}.rlib")):
+            return False
+        take(library, built)
+    return True
+
+
 class Prover:
     """Checks one crate of a copy of the repository. What is checked once is kept for the next checks of a worker."""
 
@@ -57,26 +74,19 @@ class Prover:
         self.crate = rtlib.Crate(os.path.join(copy, "crates", name), copy, {})
         self.kept = tempfile.mkdtemp(prefix="kept-", dir=os.path.dirname(copy))
         self.memory = threading.Lock()
-        for library in self.crate.below():
-            self.build(library, built)
+        lacking = [library for library in self.crate.below() if not is_taken(library, built)]
+        if lacking:
+            self.prove(lacking)
 
-    def build(self, library, built):
-        """Takes a library that is built: from the folder `built`, from the repository itself, or by its proof."""
-        ready = os.path.join(built or "", f"{library.name}.rlib")
-        own = os.path.join(below.TOP, "crates", library.name, "out", "rlib")
-        if os.path.lexists(library.rlib):
-            return
-        if built and os.path.isdir(ready):
-            os.makedirs(os.path.dirname(library.rlib), exist_ok=True)
-            os.symlink(os.path.abspath(ready), library.rlib)
-            return
-        if self.rtlib.text_of(os.path.join(own, "stamp")) == library.stamp():
-            os.makedirs(os.path.join(library.folder, "out"), exist_ok=True)
-            os.symlink(own, os.path.join(library.folder, "out", "rlib"))
-            return
-        library.out = sys.stderr
-        if library.build_rlib(["--jobs", "1"], anew=False) != 0:
-            sys.exit(f"{library.name} is not proved, and {self.crate.name} stands on it")
+    def prove(self, libraries):
+        """Takes libraries that `rt ci` proves in a folder of their own, or that it has kept from an earlier proof."""
+        folder = tempfile.mkdtemp(prefix="libraries-", dir=os.path.dirname(self.kept))
+        log = os.path.join(below.TOP, "bin", "planted.log")
+        os.makedirs(os.path.dirname(log), exist_ok=True)
+        if progress.run_ci(folder, layout.lay_closure([it.name for it in libraries], folder), log) != 0:
+            sys.exit(f"a library below {self.crate.name} is not proved")
+        for library in libraries:
+            take(library, os.path.join(folder, "crates", library.name, "out", "rlib"))
 
     def check(self, worker, texts, only, holes=True):
         """Checks the crate, with its tests, with these texts in place of its own: all of it, or the named functions alone.
