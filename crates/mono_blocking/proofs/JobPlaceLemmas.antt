@@ -6,12 +6,13 @@ use Rattle.std.proofs.lemmas.Bool.{cases_lt, ltb-true}
 use Rattle.mono_model.specs.Table.{Table, value_at, is_issued}
 use Rattle.mono_model.specs.Jobs.{Jobs, Job}
 use Rattle.mono_model.specs.Jobs as job
-use Rattle.mono_machine.specs.JobCalls.{with_job, without_job, kept_job, kept_value, job_dropped, dropped_value, job_ended, ended_value, ended_as, job_polled, polled_value, polled_in}
+use Rattle.mono_machine.specs.JobCalls.{with_job, without_job, kept_job, kept_value, job_dropped, dropped_value, job_ended, ended_value, ended_as, job_polled, polled_value, polled_in, poll_value, poll_answer}
 use Rattle.mono_joinword.specs.declared.outcome.JoinError.{JoinError}
 use Rattle.mono_blocking.specs.JobTable.{ended_job, held_value, job_held}
 use Rattle.mono_blocking.specs.JobAnswers.{how_of}
 use Rattle.mono_machine.specs.declared.events.How.{How}
 use Rattle.mono_machine.specs.declared.events.How.TheVariants as how
+use Rattle.mono_machine.specs.declared.events.Refusal.{Refusal}
 use Rattle.mono_machine.specs.declared.events.Refusal.TheVariants as refusal
 
 none-true : {V : Type 0} (v : Option V) → v ≡ None → is_some v ≡ true → ⊥
@@ -109,3 +110,18 @@ ended_job_is (Err e) n = refl
 pub polled_ended_job : {A : Type 0} (r : Result A JoinError) (n by : ℕ) → polled_in (ended_job n r) by ≡ job.taken
 polled_ended_job (Ok output) n by = refl
 polled_ended_job (Err e) n by = refl
+
+ok_no : {A B : Type 0} (x : A) (y : B) → ◌≡◌ {A = Result A B} (Ok x) (Err y) → ⊥
+ok_no x y e = true-false (ap is_ok e)
+
+-- a poll that is refused changes nothing
+module _ (jobs : Jobs) (j by : ℕ) where
+  refused_by : (k : Result Job Refusal) → k ≡ kept_job jobs j → (r : Refusal) → poll_value k ≡ Err r → polled_value k jobs j by ≡ jobs
+  refused_by (Err e) is r told = refl
+  refused_by (Ok (job.running n w)) is r told = absurd (ok_no _ r told)
+  refused_by (Ok (job.ended_ok n)) is r told = absurd (ok_no _ r told)
+  refused_by (Ok job.ended_canceled) is r told = absurd (ok_no _ r told)
+  refused_by (Ok job.taken) is r told = same_is jobs j job.taken is
+
+  pub refused_stays : (r : Refusal) → poll_answer jobs j ≡ Err r → job_polled jobs j by ≡ jobs
+  refused_stays r told = refused_by (kept_job jobs j) refl r told

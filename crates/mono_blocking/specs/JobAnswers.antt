@@ -29,6 +29,11 @@ abbrev pub IsEnd : Option End → Jobs → ℕ → Type 0
 IsEnd None jobs j = ⊤
 IsEnd (Some e) jobs j = end_answer jobs j ≡ Ok (reply.Ended e.waiter)
 
+-- The refusal of a call, if it was refused.
+abbrev pub refusal_in : Result Reply Refusal → Option Refusal
+refusal_in (Ok reply) = None
+refusal_in (Err e) = Some e
+
 module _ {A : Type 0} where
   abbrev pub how_of : Result A JoinError → How
   how_of (Ok output) = how.Ran

@@ -1,12 +1,12 @@
 // The pool that runs the blocking jobs, with the table of those jobs.
-ghost use Rattle.std.specs.Prelude.{◌≡◌, ◌≤◌, false, IfSome, IfNone};
+ghost use Rattle.std.specs.Prelude.{◌≡◌, ◌≤◌, false, None, Err, IfSome, IfNone};
 ghost use Rattle.mono_model.specs.Jobs.{no_jobs};
 ghost use Rattle.mono_model.specs.Table.{is_full, value_at, next_number};
 ghost use Rattle.mono_machine.specs.Watches.{job_waiter};
 ghost use Rattle.mono_machine.specs.JobCalls.{poll_answer, job_polled, drop_answer, job_dropped};
 ghost use Rattle.mono_machine.specs.declared.events.Blocking.TheVariants as strategy;
 ghost use Rattle.mono_blocking.specs.declared.strategy.BlockingHandle.TheVariants.{Attached};
-ghost use Rattle.mono_blocking.specs.JobAnswers.{IsEnd, after_end, polled_reply, dropped_reply, used, left, PollShown, DropShown, FinishShown};
+ghost use Rattle.mono_blocking.specs.JobAnswers.{IsEnd, after_end, refusal_in, polled_reply, dropped_reply, used, left, PollShown, DropShown, FinishShown};
 ghost use Rattle.mono_blocking.specs.JobSpawns.{Spawned, strategy_of, refusals_of, IsApart};
 
 use crate::jobs::ends::{Answered, PolledJob};
@@ -124,6 +124,14 @@ impl<P: ThreadPool + Drop> Blockings<P> {
             }
             BlockingHandle::Attached(pool) => hand_over(rt, alloc, &mut self.jobs, pool, job),
         }
+    }
+
+    /// Returns why a poll of a job's handle is refused, as `JobTable::poll_refusal` does. The pool is not asked.
+    pub fn poll_refusal(&self, j: u64) -> Option<Refusal>
+        ensures refused { IfSome result (λ refusal. poll_answer self.now.table.jobs j ≡ Err refusal) }
+        ensures asked { IfNone result (refusal_in (poll_answer self.now.table.jobs j) ≡ None) }
+    {
+        self.jobs.poll_refusal(j)
     }
 
     /// Polls a job's handle as `JobTable::poll` does. The pool is not asked.

@@ -1,5 +1,5 @@
 // Jobs whose handles are kept, with the joiners of those that run and the outputs of those that have ended.
-ghost use Rattle.std.specs.Prelude.{◌≡◌, IfOk, OnOk, is_some, true, None, Ok, Err, Some};
+ghost use Rattle.std.specs.Prelude.{◌≡◌, IfOk, OnOk, IfSome, IfNone, is_some, true, None, Ok, Err, Some};
 ghost use Rattle.mono_model.specs.Table.{value_at, next_number, is_full};
 ghost use Rattle.mono_model.specs.Jobs.{no_jobs, running, ended_ok, taken};
 ghost use Rattle.mono_machine.specs.Watches.{job_waiter};
@@ -7,7 +7,7 @@ ghost use Rattle.mono_joinword.specs.Ends.{joiner_view};
 ghost use Rattle.mono_joinword.specs.Views.{fresh};
 ghost use Rattle.mono_machine.specs.JobCalls.{with_next_job, with_job, kept_job, poll_answer, job_polled, drop_answer, job_dropped};
 ghost use Rattle.mono_blocking.specs.JobTable.{HasPlace, job_of, joiner_of, found_of, job_held, IsSound};
-ghost use Rattle.mono_blocking.specs.JobAnswers.{IsEnd, after_end, polled_reply, dropped_reply, joiner_at, used, left, PollShown, DropShown, FinishShown};
+ghost use Rattle.mono_blocking.specs.JobAnswers.{IsEnd, after_end, refusal_in, polled_reply, dropped_reply, joiner_at, used, left, PollShown, DropShown, FinishShown};
 
 use crate::jobs::ends::{Answered, End, PolledJob, how_of};
 use crate::{Job, JobJoiner, JobWaker, JoinError};
@@ -170,6 +170,24 @@ impl<J: Job> JobTable<J> {
         ensures joiner { joiner_at self.new j ≡ joiner_of place }
     {
         drop(self.places.replace(j, place));
+    }
+
+    /// Returns why a poll of a job's handle is refused: as `NoTask`, then as `NoHandle`, and then as `Taken`. Returns None if
+    /// it is not refused. A caller without a waker asks this.
+    pub fn poll_refusal(&self, j: u64) -> Option<Refusal>
+        ensures refused { IfSome result (λ refusal. poll_answer self.now.jobs j ≡ Err refusal) }
+        ensures asked { IfNone result (refusal_in (poll_answer self.now.jobs j) ≡ None) }
+    {
+        if j >= self.places.len() {
+            return Some(Refusal::NoTask);
+        }
+        match self.places.get(j) {
+            None => Some(Refusal::NoHandle),
+            Some(Place::Taken) => Some(Refusal::Taken),
+            Some(Place::Running(_, _, _)) => None,
+            Some(Place::Ended(_, Ok(_))) => None,
+            Some(Place::Ended(_, Err(_))) => None,
+        }
     }
 
     /// Polls a job's handle with a waker; its task waits for the job from then on if it runs. `end` is the job's end if
