@@ -6,8 +6,9 @@
 #   make build       proves and builds the program, and leaves it as bin/monoio; what it proves, the gate does not prove
 #                    again on this machine
 #   make test        the gate: every proof, mutant, test and program; it ends in `rt ci`
-#   make examples    builds the program, and compares each example's reports with those stored beside it, and the
-#                    manual page with --help; it fails if a crate use_* never gives up something that it holds
+#   make examples    builds the program, and compares each example's reports, causes and exit status with those stored
+#                    beside it, and the manual page with --help; it fails if a crate use_* never gives up something that
+#                    it holds
 #   make pages       compiles the first Rust example of each page, and the programs that are kept as text in tools/, unproved;
 #                    the programs have to print the stored lines
 #   make soak        random inputs for a minute (SECONDS=n), each report checked by an independent machine; their journals
@@ -57,11 +58,15 @@ test: has-rt
 	rt ci
 
 examples: build
-	@for input in examples/*.events; do \
-	    words=$$(cat $${input%.events}.words 2> /dev/null || echo '$(WORDS)'); \
-	    bin/monoio $$words < $$input 2> /dev/null | cmp -s - $${input%.events}.reports \
-	        || { echo "$$input: not the stored reports"; exit 1; }; \
-	done; echo 'each example has its stored reports'
+	@made=$$(mktemp -d); trap 'rm -r $$made' EXIT; for input in examples/*.events; do \
+	    name=$${input%.events}; \
+	    words=$$(cat $$name.words 2> /dev/null || echo '$(WORDS)'); \
+	    cat $$name.causes 2> /dev/null > $$made/causes; \
+	    status=0; bin/monoio $$words < $$input > $$made/reports 2> $$made/said || status=$$?; \
+	    cmp -s $$made/reports $$name.reports || { echo "$$input: not the stored reports"; exit 1; }; \
+	    cmp -s $$made/said $$made/causes || { echo "$$input: not the stored causes"; exit 1; }; \
+	    [ $$status = $$(cat $$name.status 2> /dev/null || echo 0) ] || { echo "$$input: exit status $$status"; exit 1; }; \
+	done; echo 'each example has its stored reports, causes and exit status'
 	@python3 tools/man_page.py bin/monoio
 	@python3 tools/give_up.py
 

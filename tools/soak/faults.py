@@ -43,7 +43,10 @@ def inputs():
     yield from ROWS
     for path in sorted((TOP / "examples").glob("*.events")):
         words = path.with_suffix(".words")
-        yield words.read_text().strip() if words.exists() else WORDS, path.read_text()
+        call = words.read_text().strip() if words.exists() else WORDS
+        # A command that follows has written answers before the call that fails.
+        if "--follow" not in call:
+            yield call, path.read_text()
 
 
 class Ended:
