@@ -35,7 +35,7 @@ pub use follow_words::{CallWords, call_words};
 pub use follows::{FollowedCommand, follow_command};
 pub use inputs::reads_input;
 pub use mono_blocking::{NoSpawner, Spawner, ThreadSpawner};
-pub use mono_driver::{Clock, Instant, ListClock, SystemClock};
+pub use mono_driver::{Clock, Instant, ListClock, SystemClock, SystemClock as StdClock};
 pub use mono_text::{
     Fault, InputError, MAX_INPUT, MemSink, MemSource, PlainSink, PlainSource, Reader, Reason, Sink,
     SinkFault, Source, SourceFault, StdinSource, StdoutSink, read_all, report_line, write_all,
