@@ -14,12 +14,13 @@ class Edit:
     """One edit of a crate: the texts that it makes, the functions whose bodies alone it changes, or why it is bad.
 
     `texts` has the new text of each file by its path in the crate. `functions` has for each changed body the path of
-    its function below the crate, with its file and its lines; it is None if more than bodies is changed.
+    its function below the crate, with its file and its lines; it is None if more than bodies is changed. `served` has
+    the row of tools/server that refuses it, if a line `served:` names one.
     """
 
     def __init__(self, folder, path):
         self.name = os.path.basename(path)
-        self.texts, self.functions, self.bad = {}, {}, None
+        self.texts, self.functions, self.bad, self.served = {}, {}, None, None
         self.pairs = []
         with open(path, encoding="utf-8") as lines:
             self.read(folder, lines)
@@ -32,6 +33,8 @@ class Edit:
             word, _, rest = line.rstrip("\n").partition(":")
             if word == "file":
                 file = rest.strip()
+            elif word == "served":
+                self.served = rest.strip()
             elif word == "old":
                 old = rest.removeprefix(" ")
             elif word == "new" and not self.bad:

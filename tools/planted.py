@@ -7,7 +7,8 @@ Each planted/*.edit has the form of a must-fail edit. The mutants of crates that
 each a row is printed: the crate, the mutant, and what refuses it. That is "clause" with the prover's words, or
 "proof's text" if a proof only misses a name that the edit took away. It is "limit" if the prover gave up at a limit of
 its own. It is "test" if the prover lets the edit through and a test of the crate or of one above it fails, or the
-stored run of a program above it, with that crate. It is "no verdict" if a check or the tests of a crate do not end
+stored run of a program above it, with that crate. It is "served" if none of these refuses it and its line `served:`
+names a row of `make server`, which is not run here. It is "no verdict" if a check or the tests of a crate do not end
 well, "bad edit" if it does not apply or compile, or "GOT THROUGH". Then the kinds are counted for each crate.
 
 A proof rests on the contracts of the functions that it calls, and never on their bodies. So an edit of bodies alone
@@ -46,7 +47,7 @@ LIMIT = 600
 MOST = 8
 # A statement of specs/ that is proved there, and that the prover rejects, with those that rest on it.
 REJECTED = re.compile(r"depend on `([^`]+)`, which was (?:rejected|not admitted)")
-KINDS = ("clause", "proof's text", "limit", "test", "let through", "GOT THROUGH", "no verdict", "bad edit")
+KINDS = ("clause", "proof's text", "limit", "test", "served", "let through", "GOT THROUGH", "no verdict", "bad edit")
 
 
 def crates(names):
@@ -282,6 +283,8 @@ def failing_tests(copy, crate, edit, jobs):
     with ThreadPoolExecutor(jobs) as pool:
         list(pool.map(tries, above(crate)))
     write(folder, before)
+    if not found and edit.served:
+        return "served", f"make server, row {edit.served}"
     return found[0] if found else ("GOT THROUGH", "the prover and all tests")
 
 

@@ -13,6 +13,7 @@ With words it does these rows alone:
 - quiet: an input that stands still while the clock closes a session whose lock another waits for
 - crowd: 60,000 waits that end at once, in one text
 - reader: a reader of the replies that pauses until all channels are full, and then is slow to the end
+- end: a reader that pauses until the input has ended, and a wait whose end finds no place for its text
 - core: a core that gets no turn until its channel is full and the router waits
 - failed: a read or a write that fails; it ends with status 4 or 5
 - refused: each allocation is refused in turn. The server ends with status 0, and one request may be refused memory; or it
@@ -27,6 +28,7 @@ import random
 import subprocess
 import sys
 import tempfile
+import threading
 import time
 
 import check as checker
@@ -34,7 +36,7 @@ from load import Load, core_of
 from run import LATE, LIMIT, SIZES, Server, check, serve
 
 TOP = pathlib.Path(__file__).resolve().parent.parent.parent
-NAMES = ["cut", "silent", "hot", "small", "hostile", "quiet", "crowd", "reader", "core", "failed", "refused"]
+NAMES = ["cut", "silent", "hot", "small", "hostile", "quiet", "crowd", "reader", "end", "core", "failed", "refused"]
 BLOCK = 65536
 
 
@@ -110,17 +112,13 @@ def crowd(server):
 
 
 def long_load(path):
-    """Writes a load that fills all channels, and leaves a wait on each core. Each channel has 16 places, and there are three
-    between the reader of the input and that of the replies."""
+    """Writes a load that fills all channels, and leaves a wait on each core. Returns its size."""
     load = Load(10, 2, 100)
     with open(path, "w", encoding="ascii") as out:
-        for _ in range(20):
+        for _ in range(9):
             out.write("".join(load.line() + "\n" for _ in range(20000)))
         out.writelines(line + "\n" for line in load.waits())
-    size = path.stat().st_size
-    if size < 60 * BLOCK:
-        sys.exit(f"{size} bytes do not fill the channels")
-    return size
+    return path.stat().st_size
 
 
 def position(program):
@@ -128,14 +126,31 @@ def position(program):
     return int(pathlib.Path(f"/proc/{program.pid}/fdinfo/0").read_text("ascii").split()[1])
 
 
+def is_asleep(program):
+    """Whether the main thread, the router, waits: a router that can go on is ready to run, also on a busy machine."""
+    return pathlib.Path(f"/proc/{program.pid}/stat").read_text("ascii").rpartition(")")[2].split()[0] == "S"
+
+
 def waits_early(program, size, seconds):
-    """Waits until a program has read nothing for a time. Returns whether some of its input, a file of this size, is left."""
+    """Waits until the router has slept for a time. Returns whether some of its input, a file of this size, is left."""
     last, since = -1, time.monotonic()
     while time.monotonic() < since + seconds:
-        if (at := position(program)) != last:
+        at = position(program)
+        if at >= size:
+            return False
+        if at != last or not is_asleep(program):
             last, since = at, time.monotonic()
-        time.sleep(0.01)
-    return last < size
+        time.sleep(0.002)
+    return True
+
+
+def start(server, **files):
+    """A server that is ended if it does not end by itself."""
+    program = subprocess.Popen([server, "2", *SIZES], **files)
+    limit = threading.Timer(LIMIT, program.kill)
+    limit.daemon = True
+    limit.start()
+    return program
 
 
 def judge(name, program, folder, is_full):
@@ -153,13 +168,41 @@ def reader(server):
         folder = pathlib.Path(name)
         size = long_load(folder / "lines")
         with open(folder / "lines", "rb") as source, open(folder / "replies", "wb") as out:
-            program = subprocess.Popen([server, "2", *SIZES], stdin=source, stdout=subprocess.PIPE)
-            is_full = waits_early(program, size, 1)
+            program = start(server, stdin=source, stdout=subprocess.PIPE)
+            is_full = waits_early(program, size, 0.5)
             while block := os.read(program.stdout.fileno(), BLOCK):
                 out.write(block)
                 time.sleep(0.005)
             program.stdout.close()
         judge("a reader that pauses and is slow", program, folder, is_full)
+
+
+def are_asleep(program):
+    """Whether all threads of a program wait."""
+    threads = pathlib.Path(f"/proc/{program.pid}/task").glob("*/stat")
+    return all(thread.read_text("ascii").rpartition(")")[2].split()[0] == "S" for thread in threads)
+
+
+def end(server):
+    """Reads no reply until the input has ended and all threads wait. Then the channel of the texts is full, and the core
+    with a wait has its end as a text. The other core's lines fill the channel of the texts, and not that of the requests."""
+    keys = [next(key for key in range(100) if core_of(key, 2) == core) for core in (0, 1)]
+    first = [f"open {keys[1]} 3600000\n"] * 2 + [f"acquire {keys[1]} {session}\n" for session in (0, 1)]
+    more = f"send {keys[0]} {2 ** 64 - 1} {2 ** 64 - 1} {2 ** 64 - 1}\n"
+    with tempfile.TemporaryDirectory() as name:
+        folder = pathlib.Path(name)
+        (folder / "lines").write_text("".join(first) + more * (28 * BLOCK // len(more)), "ascii")
+        size = (folder / "lines").stat().st_size
+        with open(folder / "lines", "rb") as source, open(folder / "replies", "wb") as out:
+            program = start(server, stdin=source, stdout=subprocess.PIPE)
+            since = time.monotonic()
+            while time.monotonic() < since + 0.5 and program.poll() is None:
+                if position(program) < size or not are_asleep(program):
+                    since = time.monotonic()
+                time.sleep(0.002)
+            out.write(program.stdout.read())
+            program.stdout.close()
+        judge("an end while the reader pauses", program, folder, True)
 
 
 def make_slow(program):
@@ -183,7 +226,7 @@ def core(server):
         folder = pathlib.Path(name)
         size = long_load(folder / "lines")
         with open(folder / "lines", "rb") as source, open(folder / "replies", "wb") as out:
-            program = subprocess.Popen([server, "2", *SIZES], stdin=source, stdout=out)
+            program = start(server, stdin=source, stdout=out)
             thread, other = make_slow(program)
             try:
                 is_full = waits_early(program, size, 0.1)
