@@ -20,7 +20,7 @@ The libraries below a crate are taken from FOLDER/NAME.rlib, or as `rt ci` prove
 machine. N checks run at a time (2), each when memory is free. With --no-tests, what the prover lets through is
 not tested.
 
-The verdicts are kept in crates/NAME/planted/verdicts.txt, a line for each mutant: its name, the kind of verdict, and
+The verdicts are kept in verdicts.txt beside the mutants, a line for each mutant: its name, the kind of verdict, and
 what fails. With --list the kept verdicts are counted, and a mutant without one, or one that got through, is named.
 """
 import argparse
@@ -335,7 +335,8 @@ def try_crate(rtlib, copy, crate, options):
 
 
 def record_of(crate):
-    return os.path.join(TOP, "crates", crate, "planted", "verdicts.txt")
+    folder = below.texts().get(crate, os.path.join(TOP, "crates", crate))
+    return os.path.join(folder, "planted", "verdicts.txt")
 
 
 def kept_verdicts(crate):
