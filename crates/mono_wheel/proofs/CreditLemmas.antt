@@ -237,15 +237,15 @@ due-credit elapsed entries links key front x h is out =
     ap (credit_of elapsed) (map-set timed_of entries key x) ∙ omega (arith, r, zero_here, zero_then)
 
 -- an entry was written
-pub credit-entry : (elapsed : ℕ) (entries : List Entry) (nodes nodes2 : List Bool) (lines lines2 : List (List ℕ)) (v : Wheel) (key : ℕ) (x : Entry) →
-    (let w : Wheel = record { elapsed = elapsed; entries = map timed_of entries; reserved = nodes; lines = lines } in w ≡ v) → key < length entries →
-    CreditFollows v (record { elapsed = elapsed; entries = map timed_of (set entries key x); reserved = nodes2; lines = lines2 }) key
-credit-entry elapsed entries nodes nodes2 lines lines2 v key x seen low =
+pub credit-entry : {moves : ℕ} (elapsed : ℕ) (entries : List Entry) (nodes nodes2 : List Bool) (lines lines2 : List (List ℕ)) (v : Wheel) (key : ℕ) (x : Entry) →
+    (let w : Wheel = record { elapsed = elapsed; entries = map timed_of entries; reserved = nodes; lines = lines; moves = moves } in w ≡ v) → key < length entries →
+    CreditFollows v (record { elapsed = elapsed; entries = map timed_of (set entries key x); reserved = nodes2; lines = lines2; moves = 0 }) key
+credit-entry {moves} elapsed entries nodes nodes2 lines lines2 v key x seen low =
     let below : key < length (map timed_of entries) = let n = length-map entries timed_of in omega (arith, low, n) in
     let r = credit-set elapsed key (map timed_of entries) (timed_of x) below in
     let here = ap (takes elapsed) (timed-here entries key x low) in
     let wrote = ap (credit_of elapsed) (map-set timed_of entries key x) in
-    subst (λ u. CreditFollows u (record { elapsed = elapsed; entries = map timed_of (set entries key x); reserved = nodes2; lines = lines2 }) key) seen (omega (arith, r, here, wrote))
+    subst (λ u. CreditFollows u (record { elapsed = elapsed; entries = map timed_of (set entries key x); reserved = nodes2; lines = lines2; moves = 0 }) key) seen (omega (arith, r, here, wrote))
 
 -- ---- the raise of the credit by each call
 credit-none : (e : ℕ) (os : List (Option Timed)) → ((k : ℕ) → get_or os k None ≡ None) → credit_of e os ≡ 0

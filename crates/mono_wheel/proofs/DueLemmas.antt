@@ -43,12 +43,12 @@ module _ (elapsed : ℕ) (entries : List Entry) (links : Lists) (key : ℕ) (fro
       let j : IsIn key front = elim (behind-last front key other key b2) [ inl t ↦ behind-upper front other key t | inr t ↦ t.1 ] in
       gone (subst (λ zs. IsIn key zs) (sym (ap (λ w. list_at w pending_list) e ∙ list-same links pending_list (front ++ []) low)) (is_in-front key front [] j))
 
-  pub due-taken : (new : Lists) (v : Wheel) (x : Entry) → (let w : Wheel = record { elapsed = elapsed; entries = map timed_of entries; reserved = links.nodes; lines = links.lists } in w ≡ v) →
+  pub due-taken : {moves moves2 : ℕ} (new : Lists) (v : Wheel) (x : Entry) → (let w : Wheel = record { elapsed = elapsed; entries = map timed_of entries; reserved = links.nodes; lines = links.lists; moves = moves } in w ≡ v) →
       new ≡ with_list links pending_list (without key (list_at links pending_list)) → new ≡ with_list links pending_list (front ++ []) → (IsIn key (list_at new pending_list) → ⊥) → x.tick ≡ 0 →
-      DueTaken v (record { elapsed = elapsed; entries = map timed_of (set entries key x); reserved = new.nodes; lines = new.lists }) (Some key)
-  due-taken new v x seen e parts gone out =
+      DueTaken v (record { elapsed = elapsed; entries = map timed_of (set entries key x); reserved = new.nodes; lines = new.lists; moves = moves2 }) (Some key)
+  due-taken {moves} {moves2} new v x seen e parts gone out =
       let none : timed_of x ≡ None = none_of x out in
-      subst (λ u. DueTaken u (record { elapsed = elapsed; entries = map timed_of (set entries key x); reserved = new.nodes; lines = new.lists }) (Some key)) seen (
+      subst (λ u. DueTaken u (record { elapsed = elapsed; entries = map timed_of (set entries key x); reserved = new.nodes; lines = new.lists; moves = moves2 }) (Some key)) seen (
         stands-pending elapsed (timed_in entries key) due-stands (h.fits key),
         (λ other p. due-first new p.line other parts gone p.behind),
         timed-here entries key x due-below ∙ none,

@@ -36,8 +36,8 @@ abbrev tick_or : Option Timed → ℕ
 tick_or None = 0
 tick_or (Some timed) = timed.tick
 
-pub first-in : (elapsed : ℕ) (entries : List Entry) (links : Lists) (now key : ℕ) (x : Entry) → x ≡ get_or entries key no_entry
-    → IsFirstFar (record { elapsed = elapsed; entries = map timed_of entries; reserved = links.nodes; lines = links.lists }) now key → FirstAt elapsed entries now key x.tick
+pub first-in : {moves : ℕ} (elapsed : ℕ) (entries : List Entry) (links : Lists) (now key : ℕ) (x : Entry) → x ≡ get_or entries key no_entry
+    → IsFirstFar (record { elapsed = elapsed; entries = map timed_of entries; reserved = links.nodes; lines = links.lists; moves = moves }) now key → FirstAt elapsed entries now key x.tick
 first-in elapsed entries links now key x read f =
     let some : timed_in entries key ≡ None → ⊥ = λ e. (let z : at_tick f.tick ≡ None = sym f.is ∙ e in cc) in
     let below = entry-below entries key some in
@@ -90,7 +90,7 @@ module _ (elapsed key tick list : ℕ) (entries : List Entry) (links : Lists) (o
 
     after : (k : ℕ) → k ≢ key → timed_in (set entries key out) k ≡ timed_after elapsed tick (timed_in entries k)
     after k ne =
-        (leap-advanced elapsed tick (set entries key out) new held-out later left-far (record { elapsed = elapsed; entries = map timed_of (set entries key out); reserved = new.nodes; lines = new.lists }) refl).ticks k
+        (leap-advanced elapsed tick (set entries key out) new held-out later left-far (record { elapsed = elapsed; entries = map timed_of (set entries key out); reserved = new.nodes; lines = new.lists; moves = 0 }) refl).ticks k
         ∙ ap (timed_after elapsed tick) (timed-other entries key k out ne)
 
     first : (line other : ℕ) → StandsBehind (list_at links line) other key → timed_in entries other ≡ timed_in entries key → ⊥
@@ -112,9 +112,9 @@ module _ (elapsed key tick list : ℕ) (entries : List Entry) (links : Lists) (o
       | inr e ↦ let f = subst (IsFar tick) there (others other e.1) in let l = ahead-of tick ticks.tick f.1 in omega (arith, l, same)
     ]
 
-    pub far-came : (v : Wheel) (now : ℕ) → (let w : Wheel = record { elapsed = elapsed; entries = map timed_of entries; reserved = links.nodes; lines = links.lists } in w ≡ v) → tick ≤ now →
-        CameOut v (record { elapsed = tick; entries = map timed_of (set entries key out); reserved = new.nodes; lines = new.lists }) now key
-    far-came v now seen by = subst (λ u. CameOut u (record { elapsed = tick; entries = map timed_of (set entries key out); reserved = new.nodes; lines = new.lists }) now key) seen (record {
+    pub far-came : {moves moves2 : ℕ} (v : Wheel) (now : ℕ) → (let w : Wheel = record { elapsed = elapsed; entries = map timed_of entries; reserved = links.nodes; lines = links.lists; moves = moves } in w ≡ v) → tick ≤ now →
+        CameOut v (record { elapsed = tick; entries = map timed_of (set entries key out); reserved = new.nodes; lines = new.lists; moves = moves2 }) now key
+    far-came {moves} {moves2} v now seen by = subst (λ u. CameOut u (record { elapsed = tick; entries = map timed_of (set entries key out); reserved = new.nodes; lines = new.lists; moves = moves2 }) now key) seen (record {
       due = (record { tick = tick; registered = tick }, was, refl, by);
       least = λ other t due. least other t due.0 due.1 due.2;
       first = λ other p. first p.line other p.behind p.same;
@@ -131,6 +131,6 @@ module _ (elapsed key tick list : ℕ) (entries : List Entry) (links : Lists) (o
     pub far-credit : credit_of tick (map timed_of (set entries key out)) ≤ credit_of elapsed (map timed_of entries)
     far-credit =
         let falls = credit-falls elapsed tick (set entries key out) later left-far in
-        let follows = credit-entry elapsed entries links.nodes links.nodes links.lists links.lists _ key out refl far-below in
+        let follows = credit-entry {moves = 0} elapsed entries links.nodes links.nodes links.lists links.lists _ key out refl far-below in
         let then_ : takes elapsed (timed_in (set entries key out) key) ≡ 0 = ap (takes elapsed) (timed-here entries key out far-below ∙ none_of out empty) in
         omega (arith, falls, follows, then_)

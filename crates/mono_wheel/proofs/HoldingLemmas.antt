@@ -113,14 +113,14 @@ held-new links e none = record {
 }
 
 -- The view once one entry was written.
-pub changed-entry : (elapsed : ℕ) (entries : List Entry) (nodes nodes2 : List Bool) (lines lines2 : List (List ℕ)) (v : Wheel) (key : ℕ) (x : Entry) →
-    (let w : Wheel = record { elapsed = elapsed; entries = map timed_of entries; reserved = nodes; lines = lines } in w ≡ v) → key < length entries → nodes2 ≡ nodes →
+pub changed-entry : {moves moves2 : ℕ} (elapsed : ℕ) (entries : List Entry) (nodes nodes2 : List Bool) (lines lines2 : List (List ℕ)) (v : Wheel) (key : ℕ) (x : Entry) →
+    (let w : Wheel = record { elapsed = elapsed; entries = map timed_of entries; reserved = nodes; lines = lines; moves = moves } in w ≡ v) → key < length entries → nodes2 ≡ nodes →
     ((a b l : ℕ) → (a ≡ key → timed_of x ≡ timed_in entries key) → (b ≡ key → timed_of x ≡ timed_in entries key) → StandsBehind (at lines l) a b → StandsBehind (at lines2 l) a b) →
-    Changed v (record { elapsed = elapsed; entries = map timed_of (set entries key x); reserved = nodes2; lines = lines2 }) key (timed_of x)
-changed-entry elapsed entries nodes nodes2 lines lines2 v key x e below same keeps =
+    Changed v (record { elapsed = elapsed; entries = map timed_of (set entries key x); reserved = nodes2; lines = lines2; moves = moves2 }) key (timed_of x)
+changed-entry {moves} {moves2} elapsed entries nodes nodes2 lines lines2 v key x e below same keeps =
     let here : (a : ℕ) → a ≡ key → timed_in (set entries key x) a ≡ timed_in entries a → timed_of x ≡ timed_in entries key =
     λ a f s. sym (timed-here entries key x below) ∙ subst (λ z. timed_in (set entries key x) z ≡ timed_in entries z) f s in
-    subst (λ w. Changed w (record { elapsed = elapsed; entries = map timed_of (set entries key x); reserved = nodes2; lines = lines2 }) key (timed_of x)) e
+    subst (λ w. Changed w (record { elapsed = elapsed; entries = map timed_of (set entries key x); reserved = nodes2; lines = lines2; moves = moves2 }) key (timed_of x)) e
     (record {
       here = timed-here entries key x below;
       others = λ k ne. timed-other entries key k x ne;
@@ -138,13 +138,13 @@ pub keeps-removed : (lines lines2 : List (List ℕ)) (list key : ℕ) → list <
 keeps-removed lines lines2 list key low is a b l na nb h = subst (λ ls. StandsBehind (at ls l) a b) (sym is) (behind-removed lines list key a b l low na nb h)
 
 -- A key that is registered at the tick of an inserted key comes out before it.
-pub inserted-last : (elapsed : ℕ) (entries : List Entry) (links new : Lists) (v : Wheel) (key list tick : ℕ) → Held elapsed entries links →
-    (let w : Wheel = record { elapsed = elapsed; entries = map timed_of entries; reserved = links.nodes; lines = links.lists } in w ≡ v) →
+pub inserted-last : {moves moves2 : ℕ} (elapsed : ℕ) (entries : List Entry) (links new : Lists) (v : Wheel) (key list tick : ℕ) → Held elapsed entries links →
+    (let w : Wheel = record { elapsed = elapsed; entries = map timed_of entries; reserved = links.nodes; lines = links.lists; moves = moves } in w ≡ v) →
     timed_in entries key ≡ None → key < length entries → elapsed < tick → list ≡ place_of elapsed tick → new ≡ with_list links list (key ∷ list_at links list) →
     (let x : Entry = record { tick = tick; registered = tick } in
-    let w : Wheel = record { elapsed = elapsed; entries = map timed_of (set entries key x); reserved = new.nodes; lines = new.lists } in
+    let w : Wheel = record { elapsed = elapsed; entries = map timed_of (set entries key x); reserved = new.nodes; lines = new.lists; moves = moves2 } in
     (other : ℕ) → timed_at v other ≡ Some record { tick = tick; registered = tick } → Precedes w other key)
-inserted-last elapsed entries links new v key list tick h seen out below ahead place is other there =
+inserted-last {moves} {moves2} elapsed entries links new v key list tick h seen out below ahead place is other there =
     let timed : timed_in entries other ≡ Some record { tick = tick; registered = tick } = subst (λ w. timed_at w other ≡ Some record { tick = tick; registered = tick }) (sym seen) there in
     let apart : other ≢ key = λ e. absurd (let f : Some record { tick = tick; registered = tick } ≡ None = sym timed ∙ ap (timed_in entries) e ∙ out in cc) in
     let stands : StandsIn elapsed list (timed_in entries other) = subst (StandsIn elapsed list) (sym timed) (place ∙ sym (place-ahead elapsed tick (λ e. omega (arith, ahead, e)))) in
@@ -190,12 +190,12 @@ held-extended elapsed entries links key tick x h some e apart later =
     (λ l s. h.found key l (subst (StandsIn elapsed l) (sym timed) (subst (StandsIn elapsed l) new s)))
     (subst (Fits elapsed) (sym new) (inr (ahead.0, let b = ahead.1 in omega (arith, b, later))))
 
-pub seen-extended : (elapsed : ℕ) (entries : List Entry) (nodes : List Bool) (lines : List (List ℕ)) (v : Wheel) (key tick : ℕ) (x : Entry) →
-    (let w : Wheel = record { elapsed = elapsed; entries = map timed_of entries; reserved = nodes; lines = lines } in w ≡ v) →
+pub seen-extended : {moves moves2 : ℕ} (elapsed : ℕ) (entries : List Entry) (nodes : List Bool) (lines : List (List ℕ)) (v : Wheel) (key tick : ℕ) (x : Entry) →
+    (let w : Wheel = record { elapsed = elapsed; entries = map timed_of entries; reserved = nodes; lines = lines; moves = moves } in w ≡ v) →
     (timed_in entries key ≡ None → ⊥) → x ≡ get_or entries key x → x.tick ≢ elapsed → x.tick ≤ tick →
     (let new : Entry = record { tick = tick; registered = x.registered } in
-    let w : Wheel = record { elapsed = elapsed; entries = map timed_of (set entries key new); reserved = nodes; lines = lines } in Extended v w key tick true)
-seen-extended elapsed entries nodes lines v key tick x seen some e apart later =
+    let w : Wheel = record { elapsed = elapsed; entries = map timed_of (set entries key new); reserved = nodes; lines = lines; moves = moves2 } in Extended v w key tick true)
+seen-extended {moves} {moves2} elapsed entries nodes lines v key tick x seen some e apart later =
     let below = entry-below entries key some in
     let timed = entry-in entries key x below e some in
     let inside : x.tick ≢ 0 = entry-inside entries key x below e some in
@@ -204,7 +204,7 @@ seen-extended elapsed entries nodes lines v key tick x seen some e apart later =
       subst (λ w. timed_at w key ≡ Some record { tick = x.tick; registered = x.registered }) seen timed,
       subst (λ w. x.tick ≢ w.elapsed) seen apart,
       later,
-      subst (λ z. Changed v (record { elapsed = elapsed; entries = map timed_of (set entries key record { tick = tick; registered = x.registered }); reserved = nodes; lines = lines }) key z) new
+      subst (λ z. Changed v (record { elapsed = elapsed; entries = map timed_of (set entries key record { tick = tick; registered = x.registered }); reserved = nodes; lines = lines; moves = moves2 }) key z) new
           (changed-entry elapsed entries nodes nodes lines lines v key _ seen below refl (λ a b l f g h. h)),
     )
 

@@ -296,9 +296,9 @@ module _ (elapsed to : ℕ) (entries : List Entry) (links : Lists) (h : Held ela
       same-ticks : (timed : Timed) → timed.registered ≡ timed.tick → timed ≡ record { tick = timed.tick; registered = timed.tick }
       same-ticks timed e = ap (λ r. let t : Timed = record { tick = timed.tick; registered = r } in t) e
 
-  pub leap-advanced : (v : Wheel) → (let w : Wheel = record { elapsed = elapsed; entries = map timed_of entries; reserved = links.nodes; lines = links.lists } in w ≡ v) →
-      Advanced v (record { elapsed = to; entries = map timed_of entries; reserved = links.nodes; lines = links.lists })
-  leap-advanced v seen = subst (λ u. Advanced u (record { elapsed = to; entries = map timed_of entries; reserved = links.nodes; lines = links.lists })) seen (record {
+  pub leap-advanced : {moves : ℕ} (v : Wheel) → (let w : Wheel = record { elapsed = elapsed; entries = map timed_of entries; reserved = links.nodes; lines = links.lists; moves = moves } in w ≡ v) →
+      Advanced v (record { elapsed = to; entries = map timed_of entries; reserved = links.nodes; lines = links.lists; moves = moves })
+  leap-advanced {moves} v seen = subst (λ u. Advanced u (record { elapsed = to; entries = map timed_of entries; reserved = links.nodes; lines = links.lists; moves = moves })) seen (record {
     fits = h.fits;
     later = le;
     ticks = λ k. ticks-to k (timed_in entries k) refl;
@@ -306,7 +306,7 @@ module _ (elapsed to : ℕ) (entries : List Entry) (links : Lists) (h : Held ela
     reserved = refl;
   })
 
-  pub leap-none-due : (let w : Wheel = record { elapsed = to; entries = map timed_of entries; reserved = links.nodes; lines = links.lists } in (key : ℕ) → IsPending w key → ⊥)
+  pub leap-none-due : (let w : Wheel = record { elapsed = to; entries = map timed_of entries; reserved = links.nodes; lines = links.lists; moves = 0 } in (key : ℕ) → IsPending w key → ⊥)
   leap-none-due key p =
       let f = far-of key p.0 p.1 in
       let a = ahead-of to p.0.tick f.1 in

@@ -2,6 +2,7 @@
 use Rattle.std.proofs.Common.{◌≡◌, zero, suc, ℕ, List, [], ◌∷◌, map, Option, Some, None, get_or, set, ap, refl, sym, ◌∙◌, subst}
 use Rattle.std.proofs.lemmas.List.{map-set}
 use Rattle.mono_wheel.specs.Lists.{Lists, IsIn, IsListed, list_at, entry_at, no_entry, with_entry}
+use Rattle.mono_wheel.specs.Counts.{Counted}
 use Rattle.mono_wheel.specs.Model.{Timed, Wheel, KeepsOrder, StandsBehind}
 use Rattle.mono_wheel.specs.Rings.{at}
 use Rattle.mono_wheel.specs.Holdings.{wheel_of, timed_of, timed_in, place_in, StandsIn, Held}
@@ -41,7 +42,7 @@ pub timed-freed : (entries : List Entry) (key : ℕ) → timed_in entries key �
 timed-freed entries key e = map-set timed_of entries key no_entry ∙ blank (map timed_of entries) key e
 
 -- keys whose ticks and lines are the same keep their order
-pub order-kept : (elapsed : ℕ) (links new : Lists) (v : Wheel) → wheel_of elapsed links ≡ v → new.lists ≡ links.lists → ((k : ℕ) → timed_in new.entries k ≡ timed_in links.entries k) → KeepsOrder v (wheel_of elapsed new)
+pub order-kept : (elapsed : ℕ) (links new : Counted) (v : Wheel) → wheel_of elapsed links ≡ v → new.table.lists ≡ links.table.lists → ((k : ℕ) → timed_in new.table.entries k ≡ timed_in links.table.entries k) → KeepsOrder v (wheel_of elapsed new)
 order-kept elapsed links new v seen lists same =
     subst (λ w. KeepsOrder w (wheel_of elapsed new)) seen
     (λ a b p s t. record { line = p.line; behind = subst (λ ls. StandsBehind (at ls p.line) a b) (sym lists) p.behind; same = same a ∙ p.same ∙ sym (same b) })

@@ -1,5 +1,6 @@
--- Lists of calls on a wheel: the condition and the effect of each, and the most by which it may raise the credit.
-use Rattle.std.specs.Prelude.{◌≡◌, ◌≢◌, ℕ, ◌+◌, ◌-◌, ◌^◌, ◌<◌, ◌≤◌, ◌⊎◌, Bool, true, List, [], ◌∷◌, ◌++◌, Option, Some, None}
+-- Lists of calls on a wheel: the condition and the effect of each, the most by which it may raise the credit, and the
+-- bounds on steps and moves.
+use Rattle.std.specs.Prelude.{◌≡◌, ◌≢◌, ℕ, ◌+◌, ◌-◌, ◌*◌, ◌^◌, ◌<◌, ◌≤◌, ◌⊎◌, Bool, true, List, [], ◌∷◌, ◌++◌, length, Option, Some, None}
 use Rattle.mono_wheel.specs.Model.{Wheel, timed_at, is_reserved, Changed, Extended, Precedes, KeepsOrder, Polled}
 use Rattle.mono_wheel.specs.Credit.{credit, most_takes, reset_raise}
 use Rattle.mono_wheel.specs.declared.laws.WheelCall.{WheelCall}
@@ -45,9 +46,14 @@ Made old (call ∷ rest) raises new =
 abbrev pub FewSteps : Wheel → Wheel → ℕ → ℕ → ℕ → Type 0
 FewSteps old new before after raises = after + credit new ≤ before + credit old + raises
 
+-- Keys moved at most twice for each step between, and once for each of so many calls.
+abbrev pub FewMoves : Wheel → Wheel → ℕ → ℕ → ℕ → Type 0
+FewMoves old new before after calls = new.moves + 2 * before ≤ old.moves + 2 * after + calls
+
 -- All calls were made.
 abbrev pub AllMade : Wheel → Wheel → List WheelCall → ℕ → ℕ → Type 0
-AllMade old new calls before after = (raises : ℕ) × Made old calls raises new × FewSteps old new before after raises
+AllMade old new calls before after =
+    (raises : ℕ) × Made old calls raises new × FewSteps old new before after raises × FewMoves old new before after (length calls)
 
 -- One call could not be made when its turn came: the calls before it were made, and no other.
 pub record Stopped (old new : Wheel) (calls : List WheelCall) (before after : ℕ) : Type 0 where

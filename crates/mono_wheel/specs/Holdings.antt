@@ -2,6 +2,7 @@
 use Rattle.std.specs.Prelude.{◌≡◌, ◌≢◌, ℕ, ◌+◌, ◌*◌, ◌/◌, ◌%◌, ◌<◌, ◌≤◌, ◌⊎◌, true, ◌==◌, if◌then◌else◌, List, [], ◌∷◌, length, map, Option, Some, None, slice_index_or, slice_set}
 use Rattle.mono_wheel.specs.Start.{far_digit, slot_of, start, top_level, slot_count, pending_list, taken_list, list_count}
 use Rattle.mono_wheel.specs.Lists.{Lists, IsIn, list_at, is_node, with_list, with_entry}
+use Rattle.mono_wheel.specs.Counts.{Counted}
 use Rattle.mono_wheel.specs.Model.{Timed, Fits, StandsBehind, timed_after, IsPending, Precedes, Wheel, AllFit, timed_at}
 use Rattle.mono_wheel.specs.declared.entry.Entry.{Entry}
 
@@ -31,8 +32,8 @@ abbrev pub timed_in : List Entry → ℕ → Option Timed
 timed_in entries key = slice_index_or (map timed_of entries) key None
 
 -- The wheel that these lists, with the ticks of their nodes, represent.
-abbrev pub wheel_of : ℕ → Lists → Wheel
-wheel_of elapsed links = record { elapsed = elapsed; entries = map timed_of links.entries; reserved = links.nodes; lines = links.lists }
+abbrev pub wheel_of : ℕ → Counted → Wheel
+wheel_of elapsed links = record { elapsed = elapsed; entries = map timed_of links.table.entries; reserved = links.table.nodes; lines = links.table.lists; moves = links.moves }
 
 -- The key with these ticks is in this list.
 abbrev pub StandsIn : ℕ → ℕ → Option Timed → Type 0

@@ -59,7 +59,7 @@ pub fn limit_for(links: &SlotLinks) -> u64 {
 ///
 /// It returns 0 if some key is registered before its tick.
 pub fn survey(limit: u64, near: &mut [usize; NEAR], links: &SlotLinks) -> u64
-    ensures { Known result near.new links.now.entries }
+    ensures { Known result near.new links.now.table.entries }
 {
     let mut limit = limit;
     let mut count = 0;
@@ -82,8 +82,8 @@ pub fn survey(limit: u64, near: &mut [usize; NEAR], links: &SlotLinks) -> u64
 
 /// Returns the least tick of these keys, or the limit if that is less.
 pub fn least_near(limit: u64, near: &[usize; NEAR], links: &SlotLinks) -> u64
-    requires known { Known limit near.now links.now.entries }
-    ensures least { 0 < limit → (key : ℕ) → IsDueFrom result (timed_in links.now.entries key) }
+    requires known { Known limit near.now links.now.table.entries }
+    ensures least { 0 < limit → (key : ℕ) → IsDueFrom result (timed_in links.now.table.entries key) }
 {
     let mut least = limit;
     for place in 0..NEAR {
@@ -111,8 +111,8 @@ pub fn first_near(near: &[usize; NEAR], links: &SlotLinks) -> usize {
 
 /// Returns the least tick of these keys but one, or the limit if that is less.
 pub fn least_but(key: usize, limit: u64, near: &[usize; NEAR], links: &SlotLinks) -> u64
-    requires known { Known limit near.now links.now.entries }
-    ensures least { 0 < limit → (other : ℕ) → other ≢ key → IsDueFrom result (timed_in links.now.entries other) }
+    requires known { Known limit near.now links.now.table.entries }
+    ensures least { 0 < limit → (other : ℕ) → other ≢ key → IsDueFrom result (timed_in links.now.table.entries other) }
 {
     let mut least = limit;
     for place in 0..NEAR {

@@ -13,8 +13,8 @@ pub struct NextSlot {
 
 /// Returns the occupied slot that starts first.
 pub fn next_slot(elapsed: u64, links: &SlotLinks) -> Option<NextSlot>
-    requires { Held elapsed links.now.entries links.now }
-    ensures { MatchOption result (NoSlots elapsed links.now.entries) (λ slot. IsNextSlot elapsed links.now.entries slot.list slot.start) }
+    requires { Held elapsed links.now.table.entries links.now.table }
+    ensures { MatchOption result (NoSlots elapsed links.now.table.entries) (λ slot. IsNextSlot elapsed links.now.table.entries slot.list slot.start) }
 {
     match links.first_occupied(elapsed) {
         None => None,
@@ -28,8 +28,8 @@ pub fn next_slot(elapsed: u64, links: &SlotLinks) -> Option<NextSlot>
 
 /// Returns the occupied slot that starts first, if it starts at `now` or before.
 pub fn slot_by(elapsed: u64, now: u64, links: &SlotLinks) -> Option<NextSlot>
-    requires { Held elapsed links.now.entries links.now }
-    ensures { MatchOption result (NoSlotBy elapsed now links.now.entries) (λ slot. IsNextSlot elapsed links.now.entries slot.list slot.start × (slot.start ≤ now)) }
+    requires { Held elapsed links.now.table.entries links.now.table }
+    ensures { MatchOption result (NoSlotBy elapsed now links.now.table.entries) (λ slot. IsNextSlot elapsed links.now.table.entries slot.list slot.start × (slot.start ≤ now)) }
 {
     match next_slot(elapsed, links) {
         None => None,

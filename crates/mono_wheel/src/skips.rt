@@ -57,10 +57,11 @@ fn within(start: u64, size: u64, tick: u64, now: u64) -> u64
 /// If the slot has several keys, this is the start. If it has only one, this is the key's true tick, but at most `now`
 /// and not past the slot's end: no other slot starts before that. It counts the steps that it skips.
 pub fn skip_to<L: Ledger>(slot: NextSlot, now: u64, links: &SlotLinks, steps: &mut Steps<L>) -> u64
-    requires cascading { Cascading slot.start links.now.entries links.now }
+    requires cascading { Cascading slot.start links.now.table.entries links.now.table }
     requires by { slot.start ≤ now }
     requires list { slot.list < slot_count }
-    ensures { ComesTo slot.start now (slot.list / 64) links.now.entries links.now steps.old steps.new result }
+    ensures comes { ComesTo slot.start now (slot.list / 64) links.now.table.entries links.now.table steps.old steps.new result }
+    ensures more { steps.old ≤ steps.new }
 {
     match links.only_taken() {
         None => slot.start,

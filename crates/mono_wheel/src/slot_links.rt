@@ -10,6 +10,7 @@ use crate::level::LEVELS;
 use crate::numbers::{PENDING, SLOTS, slot_at};
 use crate::occupancy::Occupied;
 use crate::{Links, Steps};
+use mono_model::History;
 use std::alloc::{AllocError, Global};
 use std::marker::Model;
 use std::sync::ledger::Ledger;
@@ -21,20 +22,24 @@ pub const TAKEN: usize = PENDING + 1;
 const LISTS: usize = TAKEN + 1;
 
 /// The lists of a wheel: one for each slot, the pending list, the taken list. A bit for each slot says whether its list
-/// has a node, so that the search looks once at each level. A contract sees the lists alone.
+/// has a node, so that the search looks once at each level. A contract sees the lists, and how often a node entered or
+/// left one of them (`moves`).
 #[derive(Drop)]
 pub struct SlotLinks {
     links: Links,
     occupied: Occupied,
+    // In proofs alone: each node that entered or left a list.
+    moves: History<usize>,
 }
 
 impl Model for SlotLinks {
-    ghost use Rattle.mono_wheel.specs.Lists.{Lists};
+    ghost use Rattle.std.specs.Prelude.{length};
+    ghost use Rattle.mono_wheel.specs.Counts.{Counted};
     ghost use Rattle.mono_wheel.specs.Bits.{Marks};
 
-    ghost Value = { Lists };
+    ghost Value = { Counted };
 
-    ghost view = { λ a. a.links };
+    ghost view = { λ a. record { table = a.links; moves = length a.moves.entries } };
 
     ghost invariant = { λ a. Marks a.occupied a.links };
 }
@@ -42,21 +47,23 @@ impl Model for SlotLinks {
 impl SlotLinks {
     /// Makes empty lists, and no node.
     pub fn new(alloc: Global) -> Result<SlotLinks, AllocError>
-        ensures lists { IfOk result (λ links. links.lists ≡ replicate list_count []) }
-        ensures nodes { IfOk result (λ links. (node : ℕ) → is_node links node ≡ false) }
-        ensures entries { IfOk result (λ links. (node : ℕ) → entry_at links node ≡ no_entry) }
+        ensures lists { IfOk result (λ links. links.table.lists ≡ replicate list_count []) }
+        ensures nodes { IfOk result (λ links. (node : ℕ) → is_node links.table node ≡ false) }
+        ensures entries { IfOk result (λ links. (node : ℕ) → entry_at links.table node ≡ no_entry) }
+        ensures moves { IfOk result (λ links. links.moves ≡ 0) }
     {
         let links = Links::new(alloc, LISTS)?;
         Ok(SlotLinks {
             links,
             occupied: Occupied::new(),
+            moves: History::new(),
         })
     }
 
     /// Returns the last node of the list, or `None` if and only if the list is empty.
     pub fn last(&self, list: usize) -> Option<usize>
         requires { list < list_count }
-        ensures { IsLast (list_at self.now list) result }
+        ensures { IsLast (list_at self.now.table list) result }
     {
         self.links.last(list)
     }
@@ -64,7 +71,7 @@ impl SlotLinks {
     /// Returns the list of the first occupied slot: in each level from the slot after the current one on, the current
     /// slot at the end.
     pub fn first_occupied(&self, elapsed: u64) -> Option<usize>
-        ensures { IsFirstOccupied elapsed self.now result }
+        ensures { IsFirstOccupied elapsed self.now.table result }
     {
         for level in 0..LEVELS {
             if let Some(slot) = self.occupied.first_after(level, slot_at(level, elapsed)) {
@@ -76,29 +83,29 @@ impl SlotLinks {
 
     /// Returns whether this is a known node.
     pub fn is_node(&self, node: usize) -> bool
-        ensures { result ≡ is_node self.now node }
+        ensures { result ≡ is_node self.now.table node }
     {
         self.links.is_node(node)
     }
 
     /// Returns the ticks of a node, 0 and 0 if it was given none or is not known.
     pub fn entry(&self, node: usize) -> Entry
-        ensures { result ≡ entry_at self.now node }
+        ensures { result ≡ entry_at self.now.table node }
     {
         self.links.entry(node)
     }
 
     /// Returns a number above that of each known node.
     pub fn end(&self) -> usize
-        ensures { length self.now.entries ≤ result }
+        ensures { length self.now.table.entries ≤ result }
     {
         self.links.end()
     }
 
     /// Returns whether a node carries ticks. A node that is in a list is known (clause `known`).
     pub fn is_in(&self, node: usize) -> bool
-        ensures value { result ≡ is_some (timed_in self.now.entries node) }
-        ensures known { IsListed self.now node → is_node self.now node ≡ true }
+        ensures value { result ≡ is_some (timed_in self.now.table.entries node) }
+        ensures known { IsListed self.now.table node → is_node self.now.table node ≡ true }
     {
         self.links.entry(node).tick != 0
     }
@@ -106,9 +113,9 @@ impl SlotLinks {
     /// Returns the ticks of a node that is in a list, and so is known (clause `known`); nothing changes. It looks the
     /// node up as for a write, so that a write directly afterwards looks up nothing.
     pub fn listed_entry(&mut self, node: usize) -> Entry
-        requires { IsListed self.old node }
-        ensures value { result ≡ entry_at self.old node }
-        ensures known { is_node self.old node ≡ true }
+        requires { IsListed self.old.table node }
+        ensures value { result ≡ entry_at self.old.table node }
+        ensures known { is_node self.old.table node ≡ true }
         ensures same { self.new ≡ self.old }
     {
         self.links.listed_entry(node)
@@ -116,8 +123,9 @@ impl SlotLinks {
 
     /// Gives a node these ticks.
     pub fn set_entry(&mut self, node: usize, entry: Entry)
-        requires { is_node self.old node ≡ true }
-        ensures { self.new ≡ with_entry self.old node entry }
+        requires { is_node self.old.table node ≡ true }
+        ensures written { self.new.table ≡ with_entry self.old.table node entry }
+        ensures moves { self.new.moves ≡ self.old.moves }
     {
         self.links.set_entry(node, entry);
     }
@@ -125,33 +133,37 @@ impl SlotLinks {
     /// Inserts a node that is in no list before the first, and gives it these ticks.
     pub fn put_front(&mut self, list: usize, node: usize, entry: Entry)
         requires list { list < list_count }
-        requires loose { IsLoose self.old node }
-        ensures { self.new ≡ with_entry (with_list self.old list (node ∷ list_at self.old list)) node entry }
+        requires loose { IsLoose self.old.table node }
+        ensures put { self.new.table ≡ with_entry (with_list self.old.table list (node ∷ list_at self.old.table list)) node entry }
+        ensures moves { self.new.moves ≡ self.old.moves + 1 }
     {
         self.links.put_front(list, node, entry);
         if list < SLOTS {
             self.occupied.mark(list);
         }
+        self.moves = self.moves.and(&node);
     }
 
     /// Removes a node from its list; the order of the others stays.
     pub fn remove(&mut self, list: usize, node: usize)
         requires list { list < list_count }
-        requires within { IsIn node (list_at self.old list) }
-        ensures without { self.new ≡ with_list self.old list (without node (list_at self.old list)) }
-        ensures gone { IsIn node (list_at self.new list) → ⊥ }
-        ensures loose { IsLoose self.new node }
-        ensures parts { (front back : List ℕ) → list_at self.old list ≡ front ++ node ∷ back → self.new ≡ with_list self.old list (front ++ back) }
+        requires within { IsIn node (list_at self.old.table list) }
+        ensures without { self.new.table ≡ with_list self.old.table list (without node (list_at self.old.table list)) }
+        ensures gone { IsIn node (list_at self.new.table list) → ⊥ }
+        ensures loose { IsLoose self.new.table node }
+        ensures parts { (front back : List ℕ) → list_at self.old.table list ≡ front ++ node ∷ back → self.new.table ≡ with_list self.old.table list (front ++ back) }
+        ensures moves { self.new.moves ≡ self.old.moves + 1 }
     {
         self.links.remove(list, node);
         if list < SLOTS && self.links.is_empty(list) {
             self.occupied.clear(list);
         }
+        self.moves = self.moves.and(&node);
     }
 
     /// Returns the node of the taken list if it has only one, or `None` if it has none or several.
     pub fn only_taken(&self) -> Option<usize>
-        ensures { IfSome result (λ node. list_at self.now taken_list ≡ node ∷ []) }
+        ensures { IfSome result (λ node. list_at self.now.table taken_list ≡ node ∷ []) }
     {
         self.links.only(TAKEN)
     }
@@ -159,7 +171,7 @@ impl SlotLinks {
     /// Returns the node of a list with only one, or `None` if the list has none or several.
     pub fn only_in(&self, list: usize) -> Option<usize>
         requires { list < list_count }
-        ensures { IfSome result (λ node. list_at self.now list ≡ node ∷ []) }
+        ensures { IfSome result (λ node. list_at self.now.table list ≡ node ∷ []) }
     {
         self.links.only(list)
     }
@@ -167,20 +179,24 @@ impl SlotLinks {
     /// Removes and returns the last node of the taken list, as one step, or returns `None` if and only if that list is
     /// empty, as no step.
     pub fn pop_taken<L: Ledger>(&mut self, steps: &mut Steps<L>) -> Option<usize>
-        ensures popped { PoppedBack self.old self.new taken_list result }
-        ensures loose { IfSome result (λ node. IsLoose self.new node) }
+        ensures popped { PoppedBack self.old.table self.new.table taken_list result }
+        ensures loose { IfSome result (λ node. IsLoose self.new.table node) }
         ensures steps { steps.new ≡ steps.old + (if is_some result then 1 else 0) }
+        ensures moves { self.new.moves ≡ self.old.moves + (if is_some result then 1 else 0) }
     {
-        self.links.pop_back(TAKEN, steps)
+        let node = self.links.pop_back(TAKEN, steps)?;
+        self.moves = self.moves.and(&node);
+        Some(node)
     }
 
     /// Moves the whole list of a slot to the taken list, which is empty, in constant time. No node is twice in it (clause
     /// `once`).
     pub fn take(&mut self, slot: usize)
         requires slot { slot < slot_count }
-        requires empty { list_at self.old taken_list ≡ [] }
-        ensures moved { self.new ≡ with_list (with_list self.old slot []) taken_list (list_at self.old slot) }
-        ensures once { Distinct (list_at self.old slot) }
+        requires empty { list_at self.old.table taken_list ≡ [] }
+        ensures moved { self.new.table ≡ with_list (with_list self.old.table slot []) taken_list (list_at self.old.table slot) }
+        ensures once { Distinct (list_at self.old.table slot) }
+        ensures moves { self.new.moves ≡ self.old.moves }
     {
         self.links.take(slot, TAKEN);
         self.occupied.clear(slot);
@@ -188,25 +204,28 @@ impl SlotLinks {
 
     /// Adds a node, in no list. It takes no memory: there is room for it.
     pub fn add_node(&mut self) -> usize
-        requires { 0 < self.old.room }
-        ensures { Added self.old self.new result }
+        requires { 0 < self.old.table.room }
+        ensures added { Added self.old.table self.new.table result }
+        ensures moves { self.new.moves ≡ self.old.moves }
     {
         self.links.add_node()
     }
 
     /// Frees a node that is in no list; its room can be used again.
     pub fn free_node(&mut self, node: usize)
-        requires { IsLoose self.old node }
-        ensures { Freed self.old self.new node }
+        requires { IsLoose self.old.table node }
+        ensures freed { Freed self.old.table self.new.table node }
+        ensures moves { self.new.moves ≡ self.old.moves }
     {
         self.links.free_node(node);
     }
 
     /// Reserves memory for `more` nodes, as `Links` does.
     pub fn reserve(&mut self, alloc: Global, more: usize) -> Result<(), AllocError>
-        ensures room { OnOk result (more ≤ self.new.room) }
-        ensures kept { self.new ≡ record self.old { room = self.new.room } }
-        ensures grown { self.old.room ≤ self.new.room }
+        ensures room { OnOk result (more ≤ self.new.table.room) }
+        ensures kept { self.new.table ≡ record self.old.table { room = self.new.table.room } }
+        ensures grown { self.old.table.room ≤ self.new.table.room }
+        ensures moves { self.new.moves ≡ self.old.moves }
         ensures refused { OnErr result (self.new ≡ self.old) }
     {
         self.links.reserve(alloc, more)

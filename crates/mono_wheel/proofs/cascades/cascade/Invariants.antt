@@ -1,4 +1,4 @@
-use Rattle.std.proofs.Common.{◌≡◌, ◌+◌, length}
+use Rattle.std.proofs.Common.{◌≡◌, ◌+◌, ◌*◌, length}
 use Rattle.mono_wheel.specs.Lists.{list_at}
 use Rattle.mono_wheel.specs.Holdings.{Cascading, Cascaded}
 use Rattle.mono_wheel.proofs.cascades.cascade.Given as goal
@@ -6,10 +6,11 @@ use Rattle.mono_wheel.specs.Start.{taken_list}
 
 abbrev pub invariant-loop-key : goal.invariant-loop-key
 invariant-loop-key g l = record {
-  cascading : Cascading l.elapsed l.links.entries l.links;
-  cascaded : Cascaded l.fn.links.entries l.links.entries l.fn.links l.links;
-  counted : l.steps + length (list_at l.links taken_list) ≡ l.fn.steps + length (list_at l.fn.links taken_list);
+  cascading : Cascading l.elapsed l.links.table.entries l.links.table;
+  cascaded : Cascaded l.fn.links.table.entries l.links.table.entries l.fn.links.table l.links.table;
+  moved : l.links.moves + 2 * length (list_at l.links.table taken_list) ≡ l.fn.links.moves + 2 * length (list_at l.fn.links.table taken_list);
+  counted : l.steps + length (list_at l.links.table taken_list) ≡ l.fn.steps + length (list_at l.fn.links.table taken_list);
 }
 
 abbrev pub decreases-loop-key : goal.decreases-loop-key
-decreases-loop-key g l = length (list_at l.links taken_list)
+decreases-loop-key g l = length (list_at l.links.table taken_list)

@@ -4,10 +4,10 @@ use Rattle.mono_wheel.specs.Holdings.{entry_anew}
 use Rattle.mono_wheel.proofs.KeyLemmas.{read-in}
 use Rattle.mono_wheel.proofs.cascades.register.Goals as goal
 
-pub returns : goal.returns
-returns c = record {
+pub returns-clause-registered : goal.returns-clause-registered
+returns-clause-registered c = record {
   entry = c.entry-tick.result;
-  was = read-in c.args.links.now.entries c.args.key c.entry-tick.result no_entry c.requires.room c.entry-tick.ensures;
-  entries_are = ap (λ w. w.entries) c.put_front.ensures;
-  links_are = c.put_front.ensures ∙ ap (λ l. with_entry (with_list c.args.links.now l (c.args.key ∷ list_at c.args.links.now l)) c.args.key (entry_anew c.entry-tick.result)) c.standing-list.ensures;
+  was = read-in c.args.links.now.table.entries c.args.key c.entry-tick.result no_entry c.requires.room c.entry-tick.ensures;
+  entries_are = ap (λ w. w.entries) c.put_front.ensures.put;
+  links_are = c.put_front.ensures.put ∙ ap (λ l. with_entry (with_list c.args.links.now.table l (c.args.key ∷ list_at c.args.links.now.table l)) c.args.key (entry_anew c.entry-tick.result)) c.standing-list.ensures;
 }

@@ -19,4 +19,4 @@ loop-place-preserved c =
     ] in
     let before = c.loop-place.invariant in
     let within = before.0 in
-    (omega (arith, low, within), below-more c.args.links.now.entries c.args.near.now c.args.key c.loop-place.least c.if-near-place.least c.loop-place.place c.entry-tick.result c.entry-tick.ensures low here before.1)
+    (omega (arith, low, within), below-more c.args.links.now.table.entries c.args.near.now c.args.key c.loop-place.least c.if-near-place.least c.loop-place.place c.entry-tick.result c.entry-tick.ensures low here before.1)

@@ -4,4 +4,4 @@ use Rattle.mono_wheel.proofs.LeapLemmas.{IsBelow}
 use Rattle.mono_wheel.proofs.leap.least_but.Given as goal
 
 abbrev pub invariant-loop-place : goal.invariant-loop-place
-invariant-loop-place l = (l.least ≤ l.limit) × ((before : ℕ) → before < l.place → get_or l.near before 0 ≢ l.key → IsBelow l.least (timed_in l.links.entries (get_or l.near before 0)))
+invariant-loop-place l = (l.least ≤ l.limit) × ((before : ℕ) → before < l.place → get_or l.near before 0 ≢ l.key → IsBelow l.least (timed_in l.links.table.entries (get_or l.near before 0)))

@@ -6,12 +6,12 @@ use Rattle.mono_wheel.proofs.skips.skip_to.Goals as goal
 
 pub within-goal-requires-clause-tick : goal.within-goal-requires-clause-tick
 within-goal-requires-clause-tick g c =
-    let w = waiting-timed c.args.slot.start c.args.links.now.entries c.args.links.now c.in-Some.key c.requires.cascading c.in-Some.ensures in
-    (w.1 c.entry-tick.result (read-in c.args.links.now.entries c.in-Some.key c.entry-tick.result no_entry (entry-below c.args.links.now.entries c.in-Some.key w.0) c.entry-tick.ensures)).1
+    let w = waiting-timed c.args.slot.start c.args.links.now.table.entries c.args.links.now.table c.in-Some.key c.requires.cascading c.in-Some.ensures in
+    (w.1 c.entry-tick.result (read-in c.args.links.now.table.entries c.in-Some.key c.entry-tick.result no_entry (entry-below c.args.links.now.table.entries c.in-Some.key w.0) c.entry-tick.ensures)).1
 
-pub returns-in-Some : goal.returns-in-Some
-returns-in-Some g c =
-    let w = waiting-timed c.args.slot.start c.args.links.now.entries c.args.links.now c.in-Some.key c.requires.cascading c.in-Some.ensures in
+pub returns-in-Some-clause-comes : goal.returns-in-Some-clause-comes
+returns-in-Some-clause-comes g c =
+    let w = waiting-timed c.args.slot.start c.args.links.now.table.entries c.args.links.now.table c.in-Some.key c.requires.cascading c.in-Some.ensures in
     let counted = c.takes_between.ensures in
     let added = c.add.ensures in
     let width = c.slot_size.ensures.value in
@@ -20,7 +20,7 @@ returns-in-Some g c =
       key = c.in-Some.key;
       timed = record { tick = c.entry-tick.result.tick; registered = c.entry-tick.result.registered };
       alone = c.in-Some.ensures;
-      is = (w.1 c.entry-tick.result (read-in c.args.links.now.entries c.in-Some.key c.entry-tick.result no_entry (entry-below c.args.links.now.entries c.in-Some.key w.0) c.entry-tick.ensures)).0;
+      is = (w.1 c.entry-tick.result (read-in c.args.links.now.table.entries c.in-Some.key c.entry-tick.result no_entry (entry-below c.args.links.now.table.entries c.in-Some.key w.0) c.entry-tick.ensures)).0;
       later = c.within-goal.ensures.later;
       by = c.within-goal.ensures.by;
       within = omega (arith, end, width);

@@ -12,7 +12,7 @@ pub take-requires-clause-to : goal.take-requires-clause-to
 take-requires-clause-to c = let count = c.self.invariant.lists in omega (arith, count)
 
 pub take-requires-clause-empty : goal.take-requires-clause-empty
-take-requires-clause-empty c = subst (λ v. list_at v taken_list ≡ []) (sym c.self.view_is) c.requires.empty
+take-requires-clause-empty c = subst (λ v. list_at v.table taken_list ≡ []) (sym c.self.view_is) c.requires.empty
 
 pub invariant_of-self : goal.invariant_of-self
 invariant_of-self c =
@@ -23,7 +23,7 @@ invariant_of-self c =
     c.take.ensures.moved (omega arith) (omega arith)
 
 pub returns-clause-moved : goal.returns-clause-moved
-returns-clause-moved c = subst (λ v. c.take.new.self ≡ with_list (with_list v c.args.slot []) taken_list (list_at v c.args.slot)) c.self.view_is c.take.ensures.moved
+returns-clause-moved c = subst (λ v. c.take.new.self ≡ with_list (with_list v.table c.args.slot []) taken_list (list_at v.table c.args.slot)) c.self.view_is c.take.ensures.moved
 
 pub returns-clause-once : goal.returns-clause-once
-returns-clause-once c = subst (λ v. Distinct (list_at v c.args.slot)) c.self.view_is c.take.ensures.once
+returns-clause-once c = subst (λ v. Distinct (list_at v.table c.args.slot)) c.self.view_is c.take.ensures.once

@@ -12,14 +12,14 @@ use Rattle.mono_wheel.proofs.wheel.Wheel.free_entry.Goals as goal
 pub invariant_of-self : goal.invariant_of-self
 invariant_of-self c = (
   let out = subst (λ w. timed_at w c.args.key ≡ None) (sym c.self.view_is) c.requires.out in
-      let same : map timed_of c.free_node.new.self.entries ≡ map timed_of c.self.inside.links.entries = ap (map timed_of) c.free_node.ensures.entries ∙ timed-freed c.self.inside.links.entries c.args.key out in
-      held-grown c.self.inside.elapsed c.self.inside.links.entries c.free_node.new.self.entries c.self.inside.links c.free_node.new.self c.self.invariant.0
-      (λ k. ap (λ ts. get_or ts k None) same) c.free_node.ensures.lists
+      let same : map timed_of c.free_node.new.self.table.entries ≡ map timed_of c.self.inside.links.table.entries = ap (map timed_of) c.free_node.ensures.freed.entries ∙ timed-freed c.self.inside.links.table.entries c.args.key out in
+      held-grown c.self.inside.elapsed c.self.inside.links.table.entries c.free_node.new.self.table.entries c.self.inside.links.table c.free_node.new.self.table c.self.invariant.0
+      (λ k. ap (λ ts. get_or ts k None) same) c.free_node.ensures.freed.lists
       (λ k n. elim (eqb_tells k c.args.key) [
-        | inl t ↦ absurd (false-true (sym c.free_node.ensures.unknown ∙ ap (is_node c.free_node.new.self) (sym t.1) ∙ n))
+        | inl t ↦ absurd (false-true (sym c.free_node.ensures.freed.unknown ∙ ap (is_node c.free_node.new.self.table) (sym t.1) ∙ n))
         | inr t ↦
-            let old : k < length c.self.inside.links.entries = c.self.invariant.0.room k (sym (c.free_node.ensures.others k t.1) ∙ n) in
-            let size : length c.free_node.new.self.entries ≡ length c.self.inside.links.entries = ap length c.free_node.ensures.entries ∙ length-set c.self.inside.links.entries c.args.key no_entry in
+            let old : k < length c.self.inside.links.table.entries = c.self.invariant.0.room k (sym (c.free_node.ensures.freed.others k t.1) ∙ n) in
+            let size : length c.free_node.new.self.table.entries ≡ length c.self.inside.links.table.entries = ap length c.free_node.ensures.freed.entries ∙ length-set c.self.inside.links.table.entries c.args.key no_entry in
             omega (arith, old, size)
       ]),
   (λ some. absurd (omega (arith, some))),
@@ -28,16 +28,16 @@ invariant_of-self c = (
 pub returns-clause-entries : goal.returns-clause-entries
 returns-clause-entries c =
     let out = subst (λ w. timed_at w c.args.key ≡ None) (sym c.self.view_is) c.requires.out in
-    ap (map timed_of) c.free_node.ensures.entries ∙ timed-freed c.self.inside.links.entries c.args.key out ∙ ap (λ w. w.entries) c.self.view_is
+    ap (map timed_of) c.free_node.ensures.freed.entries ∙ timed-freed c.self.inside.links.table.entries c.args.key out ∙ ap (λ w. w.entries) c.self.view_is
 
 pub returns-clause-order : goal.returns-clause-order
 returns-clause-order c =
     let out = subst (λ w. timed_at w c.args.key ≡ None) (sym c.self.view_is) c.requires.out in
-    let same : map timed_of c.free_node.new.self.entries ≡ map timed_of c.self.inside.links.entries = ap (map timed_of) c.free_node.ensures.entries ∙ timed-freed c.self.inside.links.entries c.args.key out in
-    order-kept c.self.inside.elapsed c.self.inside.links c.free_node.new.self c.args.self.now c.self.view_is c.free_node.ensures.lists (λ k. ap (λ ts. get_or ts k None) same)
+    let same : map timed_of c.free_node.new.self.table.entries ≡ map timed_of c.self.inside.links.table.entries = ap (map timed_of) c.free_node.ensures.freed.entries ∙ timed-freed c.self.inside.links.table.entries c.args.key out in
+    order-kept c.self.inside.elapsed c.self.inside.links c.free_node.new.self c.args.self.now c.self.view_is c.free_node.ensures.freed.lists (λ k. ap (λ ts. get_or ts k None) same)
 
 pub returns-clause-credit : goal.returns-clause-credit
 returns-clause-credit c =
     let out = subst (λ w. timed_at w c.args.key ≡ None) (sym c.self.view_is) c.requires.out in
-    let same : map timed_of c.free_node.new.self.entries ≡ map timed_of c.self.inside.links.entries = ap (map timed_of) c.free_node.ensures.entries ∙ timed-freed c.self.inside.links.entries c.args.key out in
+    let same : map timed_of c.free_node.new.self.table.entries ≡ map timed_of c.self.inside.links.table.entries = ap (map timed_of) c.free_node.ensures.freed.entries ∙ timed-freed c.self.inside.links.table.entries c.args.key out in
     ap (credit_of c.self.inside.elapsed) same ∙ ap credit c.self.view_is

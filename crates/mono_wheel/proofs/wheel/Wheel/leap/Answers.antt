@@ -13,30 +13,36 @@ returns-then-least-eq0-clause-none g c = subst (λ w. (key : ℕ) → IsPending 
 pub invariant_of-self : goal.invariant_of-self
 invariant_of-self g c =
     let some = c.if-least-eq0.false in
-    let far : (key : ℕ) → IsFar c.last_before-goal.result (timed_in c.self-2.inside.links.entries key) =
-    λ key. far-from c.least_due-least.result c.last_before-goal.result (timed_in c.self-2.inside.links.entries key) c.last_before-goal.ensures.before
+    let far : (key : ℕ) → IsFar c.last_before-goal.result (timed_in c.self-2.inside.links.table.entries key) =
+    λ key. far-from c.least_due-least.result c.last_before-goal.result (timed_in c.self-2.inside.links.table.entries key) c.last_before-goal.ensures.before
     (subst (λ w. IsDueFrom c.least_due-least.result (timed_at w key)) (sym (c.self-2.view_is ∙ c.least_due-least.ensures.same)) (c.least_due-least.ensures.least (omega (arith, some)) key)) in (
-      leap-held c.self-2.inside.elapsed c.last_before-goal.result c.self-2.inside.links.entries c.self-2.inside.links c.self-2.invariant.0 c.last_before-goal.ensures.later far,
+      leap-held c.self-2.inside.elapsed c.last_before-goal.result c.self-2.inside.links.table.entries c.self-2.inside.links.table c.self-2.invariant.0 c.last_before-goal.ensures.later far,
       c.self-2.invariant.1,
     )
 
 pub returns-clause-advanced : goal.returns-clause-advanced
 returns-clause-advanced g c =
     let some = c.if-least-eq0.false in
-    let far : (key : ℕ) → IsFar c.last_before-goal.result (timed_in c.self-2.inside.links.entries key) =
-    λ key. far-from c.least_due-least.result c.last_before-goal.result (timed_in c.self-2.inside.links.entries key) c.last_before-goal.ensures.before
+    let far : (key : ℕ) → IsFar c.last_before-goal.result (timed_in c.self-2.inside.links.table.entries key) =
+    λ key. far-from c.least_due-least.result c.last_before-goal.result (timed_in c.self-2.inside.links.table.entries key) c.last_before-goal.ensures.before
     (subst (λ w. IsDueFrom c.least_due-least.result (timed_at w key)) (sym (c.self-2.view_is ∙ c.least_due-least.ensures.same)) (c.least_due-least.ensures.least (omega (arith, some)) key)) in
-    leap-advanced c.self-2.inside.elapsed c.last_before-goal.result c.self-2.inside.links.entries c.self-2.inside.links c.self-2.invariant.0 c.last_before-goal.ensures.later far c.args.self.now (c.self-2.view_is ∙ c.least_due-least.ensures.same)
+    leap-advanced c.self-2.inside.elapsed c.last_before-goal.result c.self-2.inside.links.table.entries c.self-2.inside.links.table c.self-2.invariant.0 c.last_before-goal.ensures.later far c.args.self.now (c.self-2.view_is ∙ c.least_due-least.ensures.same)
 
 pub returns-clause-steps : goal.returns-clause-steps
 returns-clause-steps g c =
     let some = c.if-least-eq0.false in
-    let far : (key : ℕ) → IsFar c.last_before-goal.result (timed_in c.self-2.inside.links.entries key) =
-    λ key. far-from c.least_due-least.result c.last_before-goal.result (timed_in c.self-2.inside.links.entries key) c.last_before-goal.ensures.before
+    let far : (key : ℕ) → IsFar c.last_before-goal.result (timed_in c.self-2.inside.links.table.entries key) =
+    λ key. far-from c.least_due-least.result c.last_before-goal.result (timed_in c.self-2.inside.links.table.entries key) c.last_before-goal.ensures.before
     (subst (λ w. IsDueFrom c.least_due-least.result (timed_at w key)) (sym (c.self-2.view_is ∙ c.least_due-least.ensures.same)) (c.least_due-least.ensures.least (omega (arith, some)) key)) in
-    let falls = credit-falls c.self-2.inside.elapsed c.last_before-goal.result c.self-2.inside.links.entries c.last_before-goal.ensures.later far in
+    let falls = credit-falls c.self-2.inside.elapsed c.last_before-goal.result c.self-2.inside.links.table.entries c.last_before-goal.ensures.later far in
     let told = fall-told _ _ _ _ _ c.new-none.ensures c.note_credit-before.ensures c.note_credit-both.ensures in
     let seen = ap credit (c.self-2.view_is ∙ c.least_due-least.ensures.same) in
     let same = ap credit c.least_due-least.ensures.same in
     let spared = c.spare.ensures in
     omega (arith, falls, told, seen, same, spared)
+
+pub returns-clause-counted : goal.returns-clause-counted
+returns-clause-counted g c =
+    let spared = c.spare.ensures in
+    let was = ap (λ w. w.moves) (c.self-2.view_is ∙ c.least_due-least.ensures.same) in
+    omega (arith, spared, was)

@@ -29,6 +29,12 @@ pub loop-key-preserved : goal.loop-key-preserved
 loop-key-preserved g c = record {
   since = inr (since-twice c.args.self.now c.take_soon.new.self c.go_on.new.self (subst (Since c.args.self.now) (sym (c.in-None-take_soon.ensures.taken ∙ c.in-None.ensures.due.0)) c.loop-key.invariant.since) c.if-not-go_on.ensures.advanced);
   ahead = (c.if-not-go_on.ensures.reached refl).1;
+  moved =
+      let due = c.in-None.ensures.moves in
+      let alone = c.in-None-take_soon.ensures.counted in
+      let step = c.if-not-go_on.ensures.counted in
+      let before = c.loop-key.invariant.moved in
+      omega (arith, due, alone, step, before);
   counted =
       let due = c.in-None.ensures.credit in
       let alone = c.in-None-take_soon.ensures.steps in
@@ -57,3 +63,42 @@ returns-then-not-go_on-clause-steps g c =
     let step = c.if-not-go_on.ensures.steps in
     let before = c.loop-key.invariant.counted in
     omega (arith, due, alone, step, before)
+
+pub returns-in-Some-clause-counted : goal.returns-in-Some-clause-counted
+returns-in-Some-clause-counted g c =
+    let due = c.in-Some.ensures.moves in
+    let before = c.loop-key.invariant.moved in
+    omega (arith, due, before)
+
+pub returns-in-Some-take_soon-clause-counted : goal.returns-in-Some-take_soon-clause-counted
+returns-in-Some-take_soon-clause-counted g c =
+    let due = c.in-None.ensures.moves in
+    let alone = c.in-Some-take_soon.ensures.counted in
+    let before = c.loop-key.invariant.moved in
+    omega (arith, due, alone, before)
+
+pub returns-then-not-go_on-clause-counted : goal.returns-then-not-go_on-clause-counted
+returns-then-not-go_on-clause-counted g c =
+    let due = c.in-None.ensures.moves in
+    let alone = c.in-None-take_soon.ensures.counted in
+    let step = c.if-not-go_on.ensures.counted in
+    let before = c.loop-key.invariant.moved in
+    omega (arith, due, alone, step, before)
+
+pub returns-in-Some-clause-moves : goal.returns-in-Some-clause-moves
+returns-in-Some-clause-moves g c =
+    let steps = returns-in-Some-clause-steps g c in
+    let counted = returns-in-Some-clause-counted g c in
+    omega (arith, steps, counted)
+
+pub returns-in-Some-take_soon-clause-moves : goal.returns-in-Some-take_soon-clause-moves
+returns-in-Some-take_soon-clause-moves g c =
+    let steps = returns-in-Some-take_soon-clause-steps g c in
+    let counted = returns-in-Some-take_soon-clause-counted g c in
+    omega (arith, steps, counted)
+
+pub returns-then-not-go_on-clause-moves : goal.returns-then-not-go_on-clause-moves
+returns-then-not-go_on-clause-moves g c =
+    let steps = returns-then-not-go_on-clause-steps g c in
+    let counted = returns-then-not-go_on-clause-counted g c in
+    omega (arith, steps, counted)

@@ -1,4 +1,4 @@
-use Rattle.std.proofs.Common.{◌≡◌, ◌+◌, ◌≤◌, ◌-◌}
+use Rattle.std.proofs.Common.{◌≡◌, ◌+◌, ◌*◌, ◌≤◌, ◌-◌}
 use Rattle.mono_wheel.specs.Credit.{credit_of}
 use Rattle.mono_wheel.proofs.PollLemmas.{Since}
 use Rattle.mono_wheel.proofs.wheel.Wheel.poll.Given as goal
@@ -7,6 +7,7 @@ abbrev pub invariant-loop-key : goal.invariant-loop-key
 invariant-loop-key g l = record {
   since : Since l.fn.self l.self;
   ahead : l.self.elapsed ≤ l.now;
+  moved : l.self.moves + 2 * l.fn.steps ≤ l.fn.self.moves + 2 * l.steps;
   counted : l.steps + credit_of l.self.elapsed l.self.entries ≡ l.fn.steps + credit_of l.fn.self.elapsed l.fn.self.entries;
 }
 

@@ -1,4 +1,4 @@
-use Rattle.std.proofs.Common.{◌≡◌, map, set, subst, sym, ap, refl, [], Some}
+use Rattle.std.proofs.Common.{arith, ◌≡◌, map, set, subst, sym, ap, refl, [], Some}
 use Rattle.mono_wheel.specs.Credit.{credit, credit_of}
 use Rattle.mono_wheel.specs.Holdings.{timed_of, wheel_of, DueTaken}
 use Rattle.mono_wheel.proofs.CreditLemmas.{due-credit}
@@ -12,27 +12,34 @@ use Rattle.mono_wheel.proofs.wheel.Wheel.take_due.Goals as goal
 use Rattle.mono_wheel.specs.Start.{pending_list}
 
 pub remove-requires-clause-within : goal.remove-requires-clause-within
-remove-requires-clause-within c = last-in (list_at c.self.inside.links pending_list) c.in_ok-key.key c.in_ok-key.ensures
+remove-requires-clause-within c = last-in (list_at c.self.inside.links.table pending_list) c.in_ok-key.key c.in_ok-key.ensures
 
 pub invariant_of-self : goal.invariant_of-self
 invariant_of-self c = (
-  held-written c.self.inside.elapsed c.self.inside.links.entries c.remove.new.self c.set_entry.new.self c.in_ok-key.key record { tick = 0; registered = 0 } (ap (λ w. w.entries) c.remove.ensures.without) c.set_entry.ensures
-      (due-held c.self.inside.elapsed c.self.inside.links.entries c.self.inside.links c.in_ok-key.key c.in_ok-key.ensures.0 c.self.invariant.0 c.in_ok-key.ensures.1 c.remove.new.self record { tick = 0; registered = 0 } c.remove.ensures.without c.remove.ensures.gone refl),
-  subst (λ es. Known c.self.inside.limit c.self.inside.near es) (sym (ap (λ w. w.entries) (written c.remove.new.self c.set_entry.new.self c.self.inside.links.entries c.in_ok-key.key record { tick = 0; registered = 0 } (ap (λ w. w.entries) c.remove.ensures.without) c.set_entry.ensures)))
-      (known-out c.self.inside.limit c.self.inside.near c.self.inside.links.entries c.in_ok-key.key record { tick = 0; registered = 0 } (due-below c.self.inside.elapsed c.self.inside.links.entries c.self.inside.links c.in_ok-key.key c.in_ok-key.ensures.0 c.self.invariant.0 c.in_ok-key.ensures.1) refl c.self.invariant.1),
+  held-written c.self.inside.elapsed c.self.inside.links.table.entries c.remove.new.self.table c.set_entry.new.self.table c.in_ok-key.key record { tick = 0; registered = 0 } (ap (λ w. w.entries) c.remove.ensures.without) c.set_entry.ensures.written
+      (due-held c.self.inside.elapsed c.self.inside.links.table.entries c.self.inside.links.table c.in_ok-key.key c.in_ok-key.ensures.0 c.self.invariant.0 c.in_ok-key.ensures.1 c.remove.new.self.table record { tick = 0; registered = 0 } c.remove.ensures.without c.remove.ensures.gone refl),
+  subst (λ es. Known c.self.inside.limit c.self.inside.near es) (sym (ap (λ w. w.entries) (written c.remove.new.self.table c.set_entry.new.self.table c.self.inside.links.table.entries c.in_ok-key.key record { tick = 0; registered = 0 } (ap (λ w. w.entries) c.remove.ensures.without) c.set_entry.ensures.written)))
+      (known-out c.self.inside.limit c.self.inside.near c.self.inside.links.table.entries c.in_ok-key.key record { tick = 0; registered = 0 } (due-below c.self.inside.elapsed c.self.inside.links.table.entries c.self.inside.links.table c.in_ok-key.key c.in_ok-key.ensures.0 c.self.invariant.0 c.in_ok-key.ensures.1) refl c.self.invariant.1),
 )
 
 pub returns-clause-due : goal.returns-clause-due
 returns-clause-due c =
-    subst (λ w. DueTaken c.args.self.now (wheel_of c.self.inside.elapsed w) (Some c.in_ok-key.key)) (sym (written c.remove.new.self c.set_entry.new.self c.self.inside.links.entries c.in_ok-key.key record { tick = 0; registered = 0 } (ap (λ w. w.entries) c.remove.ensures.without) c.set_entry.ensures))
-    (due-taken c.self.inside.elapsed c.self.inside.links.entries c.self.inside.links c.in_ok-key.key c.in_ok-key.ensures.0 c.self.invariant.0 c.in_ok-key.ensures.1 c.remove.new.self c.args.self.now record { tick = 0; registered = 0 } c.self.view_is c.remove.ensures.without
+    subst (λ w. DueTaken c.args.self.now (wheel_of c.self.inside.elapsed record { table = w; moves = c.set_entry.new.self.moves }) (Some c.in_ok-key.key)) (sym (written c.remove.new.self.table c.set_entry.new.self.table c.self.inside.links.table.entries c.in_ok-key.key record { tick = 0; registered = 0 } (ap (λ w. w.entries) c.remove.ensures.without) c.set_entry.ensures.written))
+    (due-taken c.self.inside.elapsed c.self.inside.links.table.entries c.self.inside.links.table c.in_ok-key.key c.in_ok-key.ensures.0 c.self.invariant.0 c.in_ok-key.ensures.1 c.remove.new.self.table c.args.self.now record { tick = 0; registered = 0 } c.self.view_is c.remove.ensures.without
     (c.remove.ensures.parts c.in_ok-key.ensures.0 [] c.in_ok-key.ensures.1) c.remove.ensures.gone refl)
 
 pub returns-clause-credit : goal.returns-clause-credit
 returns-clause-credit c =
-    subst (λ w. credit (wheel_of c.self.inside.elapsed w) ≡ credit c.args.self.now) (sym (written c.remove.new.self c.set_entry.new.self c.self.inside.links.entries c.in_ok-key.key record { tick = 0; registered = 0 } (ap (λ w. w.entries) c.remove.ensures.without) c.set_entry.ensures))
-    (subst (λ w. credit_of c.self.inside.elapsed (map timed_of (set c.self.inside.links.entries c.in_ok-key.key record { tick = 0; registered = 0 })) ≡ credit_of w.elapsed w.entries) c.self.view_is
-    (due-credit c.self.inside.elapsed c.self.inside.links.entries c.self.inside.links c.in_ok-key.key c.in_ok-key.ensures.0 record { tick = 0; registered = 0 } c.self.invariant.0 c.in_ok-key.ensures.1 refl))
+    subst (λ w. credit (wheel_of c.self.inside.elapsed record { table = w; moves = c.set_entry.new.self.moves }) ≡ credit c.args.self.now) (sym (written c.remove.new.self.table c.set_entry.new.self.table c.self.inside.links.table.entries c.in_ok-key.key record { tick = 0; registered = 0 } (ap (λ w. w.entries) c.remove.ensures.without) c.set_entry.ensures.written))
+    (subst (λ w. credit_of c.self.inside.elapsed (map timed_of (set c.self.inside.links.table.entries c.in_ok-key.key record { tick = 0; registered = 0 })) ≡ credit_of w.elapsed w.entries) c.self.view_is
+    (due-credit c.self.inside.elapsed c.self.inside.links.table.entries c.self.inside.links.table c.in_ok-key.key c.in_ok-key.ensures.0 record { tick = 0; registered = 0 } c.self.invariant.0 c.in_ok-key.ensures.1 refl))
 
 pub set_entry-requires : goal.set_entry-requires
 set_entry-requires c = c.remove.ensures.loose.known
+
+pub returns-clause-moves : goal.returns-clause-moves
+returns-clause-moves c =
+    let out = c.remove.ensures.moves in
+    let wrote = c.set_entry.ensures.moves in
+    let was = ap (λ w. w.moves) c.self.view_is in
+    omega (arith, out, wrote, was)
