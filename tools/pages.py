@@ -4,7 +4,8 @@
 usage: tools/pages.py
 
 A page is README.md, a file of docs, or a crate's README. All examples become modules of one program in a folder of its
-own, which names each crate that an example names. The status is that of rt.
+own, which names each crate that an example names. An example that begins with `// crates/` and a file is a part of that
+file, and is compared with it instead. The status is that of rt.
 """
 import glob
 import os
@@ -18,6 +19,13 @@ sys.dont_write_bytecode = True
 import below
 
 
+def need_part(page, file, text):
+    """Ends the program if the text is no part of the file."""
+    with open(file, encoding="utf-8") as source:
+        if text not in source.read():
+            sys.exit(f"{page}: its first example is not in {file}")
+
+
 def examples():
     """Returns the name of a module and the text of the first example, for each page that has one."""
     pages = [*glob.glob("README.md"), *sorted(glob.glob("docs/*.md")), *sorted(glob.glob("crates/*/README.md"))]
@@ -25,7 +33,10 @@ def examples():
     for page in pages:
         with open(page, encoding="utf-8") as text:
             block = re.search(r"^```rust\n(.*?)^```", text.read(), re.S | re.M)
-        if block:
+        excerpt = block and re.match(r"// (crates/\S+)\n", block.group(1))
+        if excerpt:
+            need_part(page, excerpt.group(1), block.group(1)[excerpt.end():])
+        elif block:
             name = page.removesuffix(".md").removesuffix("/README").removeprefix("crates/").replace("/", "_")
             found["page_" + name.lower()] = block.group(1)
     return found
