@@ -215,18 +215,39 @@ function partnersOf(lane) {
 
 function words(text, x, y, colour, room = Infinity, align = "left") {
   const most = Math.floor(room / 6.3);
-  if (most < 2) return;
+  if (most < Math.min(text.length, 5)) return;
   pen.fillStyle = colour;
   pen.textAlign = align;
   pen.fillText(text.length > most ? `${text.slice(0, most - 1)}…` : text, x, y);
 }
 
+// Whole pixels are drawn faster.
 function box(x, y, width, height, colour, edge) {
+  const left = Math.round(x), top = Math.round(y), across = Math.max(Math.round(x + width) - left, 1);
   pen.fillStyle = colour;
-  pen.fillRect(x, y, width, height);
-  if (edge && width > 4) {
+  pen.fillRect(left, top, across, height);
+  if (edge && across > 4) {
     pen.strokeStyle = edge;
-    pen.strokeRect(x + 0.5, y + 0.5, width - 1, height - 1);
+    pen.strokeRect(left + 0.5, top + 0.5, across - 1, height - 1);
+  }
+}
+
+// Draws boxes of one row from left to right; boxes of one colour that touch are one.
+class Row {
+  constructor(y, height) {
+    Object.assign(this, { y, height, left: 0, right: -9, colour: null });
+  }
+
+  put(left, right, colour) {
+    if (colour !== this.colour || left > this.right + 1) {
+      this.end();
+      Object.assign(this, { left, right, colour });
+    }
+    this.right = Math.max(this.right, right);
+  }
+
+  end() {
+    if (this.colour) box(this.left, this.y, this.right - this.left, this.height, this.colour);
   }
 }
 
@@ -237,8 +258,8 @@ function eachInView(list, begin, end, put) {
   while (i < list.length && begin(list[i]) <= high) {
     const x = xOf(begin(list[i])), until = Math.max(xOf(end(list[i])), x + 1);
     put(list[i], Math.max(x, NAMES - 60), Math.min(until, view.width + 60), i);
-    // What ends within this pixel is drawn by it.
-    i = until - x > 2 ? i + 1 : lower(list, placeAt(until + 0.5) + 1, end, i + 1);
+    // Of those that end within this pixel, the last is drawn, too.
+    i = until - x > 2 ? i + 1 : Math.max(i + 1, lower(list, placeAt(until + 0.5) + 1, end, i + 1) - 1);
   }
 }
 
@@ -257,26 +278,32 @@ function drawRuler() {
 function drawClock() {
   const y = RULER;
   box(0, y, view.width, CLOCK_ROW + INBOX_ROW, view.palette.band);
+  const parks = new Row(y + 4, 14), steps = new Row(y + 3, 17), inbox = new Row(y + CLOCK_ROW + 9, 3);
   eachInView(data.parks, first, (park) => park[0] + 1, (park, x, until) => {
     const width = Math.max(until - x - 2, 1);
-    box(x, y + 4, width, 14, view.palette.park);
+    parks.put(x, x + width, view.palette.park);
+    if (width < 20) return;
+    parks.end();
     words(park[1], x + 3, y + 15, view.palette.text, width - 4);
   });
+  parks.end();
   let free = 0;
-  eachInView(data.steps, first, first, (step, x) => {
-    box(middleOf(step[0]), y + 3, 1.5, 17, view.palette.text);
+  eachInView(data.steps, first, first, (step) => {
+    steps.put(middleOf(step[0]), middleOf(step[0]) + 1.5, view.palette.text);
     const left = middleOf(step[0]) - 3.2 * step[1].length;
     if (left > free) {
       words(step[1], left, y + 31, view.palette.dim);
       free = left + 7 * step[1].length + 8;
     }
   });
+  steps.end();
   eachInView(data.inbox, first, first, (entry) => {
     const x = middleOf(entry[0]), isRemote = entry[1].startsWith("remote");
-    if (entry[1] === "drained") return box(x - 1, y + CLOCK_ROW + 9, 3, 3, view.palette.dim);
+    if (entry[1] === "drained") return inbox.put(x - 1, x + 2, view.palette.dim);
     box(x - 2, y + CLOCK_ROW + 4, 5, 13, isRemote ? view.palette.spawn : view.palette.wake);
     words(entry[1], x + 6, y + CLOCK_ROW + 15, view.palette.dim, view.scale * 1.2);
   });
+  inbox.end();
   box(0, TOP - 1, view.width, 1, view.palette.line);
 }
 
@@ -284,12 +311,16 @@ function drawLane(lane, y, height) {
   const { turns, ends, waits, bars } = data.lanes[lane], palette = view.palette;
   if (lane === view.lane) box(NAMES, y, chartWidth(), height - 1, palette.band);
   box(NAMES, y + height - 1, chartWidth(), 1, palette.line);
+  const thick = new Row(y + 20, 5), thin = new Row(y + 21, 2);
   eachInView(waits, first, second, (wait, x, until) => {
     if (!view.kinds.has(wait[2])) return;
-    box(x, y + 20, until - x, wait[2] === 0 ? 2 : 5, palette.kinds[wait[2]]);
+    (wait[2] === 0 ? thin : thick).put(x, until, palette.kinds[wait[2]]);
+    if (until - x < 24) return;
     const begin = Math.max(x + (x > NAMES ? widthOf(wait[0]) : 0), NAMES) + 4;
     words(waitName(wait), begin, y + 13, palette.kinds[wait[2]], until - begin - 2);
   });
+  thin.end();
+  thick.end();
   eachInView(turns, (place) => place, (place) => place, (place, x, _, i) => {
     const width = widthOf(place), isEnd = ends[i] === "done" || ends[i] === "gone";
     box(x, y + 13, width, 18, isEnd ? palette.end : palette.turn, palette.edge);
@@ -371,23 +402,25 @@ function drawNames(from, until) {
   box(NAMES - 1, RULER, 1, view.height, view.palette.line);
 }
 
-// The strip shows how many turns each part of the journal has, and which part is in view.
-function drawStrip() {
-  const y = view.height - STRIP, width = chartWidth(), palette = view.palette;
-  const whole = view.at[PLACES + 1] - view.at[0] || 1;
-  if (!view.strip || view.strip.length !== Math.floor(width)) {
-    view.strip = new Uint32Array(Math.floor(width));
-    laneOfPlace.forEach((lane, place) => {
-      if (lane >= 0) view.strip[Math.min(Math.floor((view.at[place] / whole) * width), view.strip.length - 1)]++;
-    });
-  }
-  const most = view.strip.reduce((a, b) => Math.max(a, b), 1);
-  box(0, y, view.width, STRIP, palette.band);
-  pen.fillStyle = palette.dim;
-  view.strip.forEach((count, x) => {
-    const height = (count / most) * (STRIP - 8);
-    if (count) pen.fillRect(NAMES + x, y + STRIP - height - 2, 1, height);
+// Returns a picture of how many turns each part of the journal has.
+function stripOf(width, whole) {
+  const counts = new Uint32Array(width), strip = document.createElement("canvas");
+  laneOfPlace.forEach((lane, place) => {
+    if (lane >= 0) counts[Math.min(Math.floor((view.at[place] / whole) * width), width - 1)]++;
   });
+  const most = counts.reduce((a, b) => Math.max(a, b), 1), brush = Object.assign(strip, { width, height: STRIP }).getContext("2d");
+  brush.fillStyle = view.palette.dim;
+  counts.forEach((count, x) => brush.fillRect(x, STRIP - 2 - (count / most) * (STRIP - 8), 1, (count / most) * (STRIP - 8)));
+  return strip;
+}
+
+// The strip shows the whole journal, and which part is in view.
+function drawStrip() {
+  const y = view.height - STRIP, width = Math.floor(chartWidth()), palette = view.palette;
+  const whole = view.at[PLACES + 1] - view.at[0] || 1;
+  if (!view.strip || view.strip.width !== width) view.strip = stripOf(width, whole);
+  box(0, y, view.width, STRIP, palette.band);
+  pen.drawImage(view.strip, NAMES, y);
   words("whole", 8, y + 21, palette.dim);
   const x = NAMES + (view.left / whole) * width, room = Math.max((chartWidth() / view.scale / whole) * width, 3);
   pen.strokeStyle = palette.cursor;
@@ -433,7 +466,7 @@ const escaped = (text) => String(text).replace(/[&<>"]/g, (sign) => ({ "&": "&am
 const lineLink = (place, lane = -1) => `<a data-place="${place}" data-lane="${lane}">line ${lineOf(place)}</a>`;
 const laneLink = (lane, place) => (lane < 0 ? "no task" : `<a data-place="${place}" data-lane="${lane}">${escaped(data.lanes[lane].name)}</a>`);
 const byWhom = ([place, from, , , text]) =>
-  `${escaped(text)}${from >= 0 ? ` (${laneLink(from, place)})` : ""}, ${lineLink(place, from)}`;
+  `${/(fires|ends)$/.test(text) ? "as" : "by"} ${text === "wake" ? "a wake" : escaped(text)}${from >= 0 ? ` (${laneLink(from, place)})` : ""}, ${lineLink(place, from)}`;
 
 function deadlineAt(source, place) {
   const tells = source.tells.filter((tell) => tell[0] <= place && (tell[1] === MADE || tell[1] === RESET));
@@ -463,7 +496,7 @@ function aboutLoss([place, what, by], name) {
 // Says what happens to the task after a place.
 function aboutNext(lane, wait, place) {
   const later = wakesTo[lane][lower(wakesTo[lane], place + 1, first)];
-  if (later && later[0] <= wait[1]) return `In this journal it is woken by ${byWhom(later)}.`;
+  if (later && later[0] <= wait[1]) return `In this journal it is woken ${byWhom(later)}.`;
   return wait[1] < PLACES ? `Its next turn is ${lineLink(wait[1], lane)}.` : "No later line of this journal wakes it.";
 }
 
@@ -492,7 +525,7 @@ function why(lane, place) {
   }
   const woken = wait[2] === 0 ? null : wakeBetween(lane, wait[0], place);
   if (wait[2] === 0 || woken) {
-    const cause = woken ? `woken by ${byWhom(woken)}` : turn === undefined ? `made in ${lineLink(wait[0], lane)}` : `woken in its own turn, ${lineLink(wait[0], lane)}`;
+    const cause = woken ? `woken ${byWhom(woken)}` : turn === undefined ? `made in ${lineLink(wait[0], lane)}` : `woken in its own turn, ${lineLink(wait[0], lane)}`;
     parts.push(`${name} is <b>queued</b>: ${cause}.`, wait[1] < PLACES ? `Its next turn is ${lineLink(wait[1], lane)}.` : "The journal ends before its next turn.");
   } else {
     parts.push(`${name} <b>waits</b> since ${lineLink(wait[0], lane)}.`, ...aboutIdle(lane, wait, place), aboutNext(lane, wait, place));
@@ -621,6 +654,7 @@ function partners() {
 function setTheme(name) {
   document.documentElement.dataset.theme = name;
   view.palette = PALETTES[name];
+  view.strip = null;
   fillLegend();
   fillKinds();
   dirty();
@@ -774,10 +808,12 @@ function fillHead() {
     + (stuckLanes.length ? `, ${stuckLanes.length} stuck` : "");
 }
 
-// An address may end in #line=N&task=T&zoom=PIXELS.
+// An address may end in #line=N&task=T&zoom=PIXELS&theme=dark&by=clock, or in a part of that.
 function readAddress() {
   const wanted = new URLSearchParams(location.hash.slice(1));
   const lane = wanted.has("task") ? laneOfTask.get(Number(wanted.get("task"))) ?? -1 : -1;
+  if (wanted.get("theme") in PALETTES) setTheme(wanted.get("theme"));
+  if (wanted.get("by") === "clock") switchAxis();
   if (wanted.has("zoom")) view.scale = Number(wanted.get("zoom"));
   keepInside();
   if (wanted.has("line")) {
