@@ -17,7 +17,8 @@ Note = collections.namedtuple("Note", "task text place")
 Mark = collections.namedtuple("Mark", "kind text place begin end")
 # What a line says of a sleep, a task's output or a job's: made, reset, pending, ready, wakes, ended or dropped.
 Tell = collections.namedtuple("Tell", "place what task value")
-# A reply of the lease server: the request's line, its core, the core's ticks at its coming and answer, and the answer.
+# A reply of the lease server: the request's line, its core, the core's ticks at its coming and answer, and the answer. A bad
+# line has no core.
 Reply = collections.namedtuple("Reply", "number core arrived tick text place")
 
 POLLS = {"poll": "sleep", "join": "task", "job": "job"}
@@ -71,8 +72,8 @@ class Journal:
             self.rows[int(row[2])] = row[1]
         elif reply:
             self.step_on()
-            ticks = [int(word or 0) for word in reply.groups()[1:4]]
-            self.replies.append(Reply(int(reply[1]), *ticks, reply[5] or "bad", self.place))
+            core, arrived, tick = (int(word or 0) for word in reply.groups()[1:4])
+            self.replies.append(Reply(int(reply[1]), core if reply[2] else None, arrived, tick, reply[5] or "bad", self.place))
         elif not line.startswith("monoio: "):
             raise ValueError(line)
 
@@ -95,12 +96,12 @@ class Journal:
 
     def act(self, event, report):
         word, *rest = event.split(" ")
-        if word == "clock":
+        if word == "clock" and report.startswith("fired"):
             self.see(int(rest[0]))
             self.nanos_of[-1] = self.nanos
             self.close_park()
             self.marks.append(self.mark("clock", f"{self.nanos / 1e6:g} ms"))
-            for sleep in report.split(" ")[1:] if report.startswith("fired") else []:
+            for sleep in report.split(" ")[1:]:
                 self.wake_waiter(("sleep", int(sleep)), None, f"sleep {sleep} fires")
         elif word == "drain":
             self.inbox.append(self.mark("drain", report))

@@ -40,11 +40,11 @@ class Page:
     def __init__(self, of, title):
         self.of, self.title = of, title
         names = of.tasks()
-        cores = sorted({reply.core for reply in of.replies})
+        cores = sorted({reply.core for reply in of.replies}, key=lambda core: -1 if core is None else core)
         self.lane_of = {task: lane for lane, task in enumerate(names)}
         self.core_of = {core: len(names) + lane for lane, core in enumerate(cores)}
         self.lanes = [self.lane(f"task {task}", task, of.rows.get(task)) for task in names]
-        self.lanes += [self.lane(f"core {core}", -1, None) for core in cores]
+        self.lanes += [self.lane("bad lines" if core is None else f"core {core}", -1, None) for core in cores]
         self.sources = {source: number for number, source in enumerate(of.tells)}
 
     @staticmethod
@@ -83,8 +83,9 @@ class Page:
             known, at = ticks.setdefault(reply.core, []), places.setdefault(reply.core, [])
             known.append(max(reply.tick, known[-1] if known else 0))
             at.append(reply.place)
-            is_late = reply.arrived < reply.tick
-            found.append((at[bisect.bisect_left(known, reply.arrived)] if is_late else reply.place, reply.place))
+            # A request that waited came before its reply's place.
+            came = min(at[bisect.bisect_left(known, reply.arrived)], reply.place - 1)
+            found.append((came if reply.arrived < reply.tick else reply.place, reply.place))
         return found
 
     def put_replies(self):
