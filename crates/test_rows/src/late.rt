@@ -117,21 +117,31 @@ impl Spawner for LateSpawner {
     }
 }
 
-/// A script whose main task waits for a job, and the park in its journal.
+/// A script whose main task waits for a job, the words of its run, and the park in its journal.
 #[derive(Clone, Copy)]
 struct Case {
+    words: &'static str,
     script: &'static [u8],
     park: &'static str,
 }
 
-const CASES: [Case; 2] = [
+const CASES: [Case; 3] = [
+    // another task sleeps for 63 milliseconds, and the clock stands still, so each park ends soon: a runtime that does not
+    // drain its inbox spends its budget, and does not hang
+    Case {
+        words: "run 1 400",
+        script: b"limits 8 8 8\ntask\nspawn 1\nblock 4\nawait-job 0\ndone 1\ntask\nawait-sleep 63000000\ndone 2\n",
+        park: "\npark 63\n",
+    },
     // another task sleeps for an hour, until the start of a slot of the wheel, so the park has an end
     Case {
+        words: "run 1 100",
         script: b"limits 8 8 8\ntask\nspawn 1\nblock 4\nawait-job 0\ndone 1\ntask\nawait-sleep 3407872000000\ndone 2\n",
         park: "\npark 3407872\n",
     },
     // no task sleeps, so the park has no end
     Case {
+        words: "run 1 100",
         script: b"limits 8 8 8\ntask\nblock 4\nawait-job 0\ndone 1\n",
         park: "\npark\n",
     },
@@ -144,7 +154,7 @@ fn is_woken<R: Host + Send + 'static>(
     spawner: &mut LateSpawner,
     case: &Case,
 ) -> Option<bool> {
-    let words = split(alloc, "run 1 100").ok()?;
+    let words = split(alloc, case.words).ok()?;
     let mut source = MemSource::new(Vec::from_slice(alloc, case.script).ok()?, Vec::new(alloc));
     let mut sink = MemSink::new(alloc, ROOM, Vec::new(alloc)).ok()?;
     let clock = CountingClock {
@@ -157,8 +167,8 @@ fn is_woken<R: Host + Send + 'static>(
     Some(status == 0 && output.contains(case.park) && is_listed && output.ends_with("\nmain 1\n"))
 }
 
-// The worker begins once the main task waits for its job. No park ends by itself within the time of a test, so only the
-// worker's wake can end one.
+// The worker begins once the main task waits for its job. No park of the last two cases ends by itself within the time of a
+// test, so only the worker's wake can end one.
 #[test]
 fn a_worker_that_begins_late_wakes_the_main_task(rt: HostRuntime) -> Result<(), AllocError> {
     let alloc = rt.alloc();
