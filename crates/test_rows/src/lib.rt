@@ -8,6 +8,8 @@ mod caller;
 #[cfg(test)]
 mod cases;
 #[cfg(test)]
+mod clocks;
+#[cfg(test)]
 mod late;
 #[cfg(test)]
 mod live_tasks;
