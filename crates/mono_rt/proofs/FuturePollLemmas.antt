@@ -14,11 +14,11 @@ use Rattle.mono_blocking.specs.JobSpawns.{Seen}
 use Rattle.mono_rt.specs.Record.{no_acts}
 use Rattle.mono_rt.specs.Refinement.{hosting_of, Matches}
 use Rattle.mono_rt.specs.Journals.{Did, Does, IsStep, Stays}
-use Rattle.mono_rt.specs.Rounds.{Remotes, Drained, IsPark, ClockIf, Parks, Pauses, Pause, PausesFail, PauseFails, PauseEnds, IsSpawn, DropsFor}
+use Rattle.mono_rt.specs.Rounds.{Remotes, Drained, IsPark, ClockIf, Parks, Pauses, Pause, PausesBreak, PauseBreaks, PausesFail, PauseFails, PauseEnds, IsSpawn, DropsFor}
 use Rattle.mono_rt.specs.Turns.{Turn}
-use Rattle.mono_rt.specs.SpawnErrors.{OnCapacity}
+use Rattle.mono_rt.specs.SpawnErrors.{OnCapacity, OnMemory}
 use Rattle.mono_rt.specs.Journals.{ReadsAt}
-use Rattle.mono_rt.specs.FuturePolls.{Polled, Polling, PollsMain, OnMain}
+use Rattle.mono_rt.specs.FuturePolls.{HasLasted, PolledBy, PollingBy, PollsMain, PollsMainBy, StillPollsMain, OnMain, Lasts, OnLack}
 use Rattle.mono_rt.specs.declared.contexts.Cx.{Cx}
 use Rattle.mono_rt.specs.declared.parts.state.Parts.{Parts}
 use Rattle.mono_rt.specs.declared.parts.errors.RunError.{RunError}
@@ -43,6 +43,28 @@ same_error X Y error.Driver p is = is
 same_error X Y error.AtCapacity p is = tt
 same_error X Y error.Memory p is = tt
 
+pub on_lack : {X : Type 0} (r : Result X RunError) (p q : Type 0) → (p → q) → OnLack r p → OnLack r q
+on_lack (Ok x) p q law is = tt
+on_lack (Err error.Turns) p q law is = tt
+on_lack (Err error.Driver) p q law is = tt
+on_lack (Err error.AtCapacity) p q law is = tt
+on_lack (Err error.Memory) p q law is = law is
+
+-- a fact that holds if memory lasted, and one that holds if it did not
+pub lasted_main : {X : Type 0} (r : Result X RunError) (p : Type 0) → (Lasts r → p) → OnMain r p
+lasted_main (Ok x) p law = law tt
+lasted_main (Err error.Turns) p law = law tt
+lasted_main (Err error.Driver) p law = law tt
+lasted_main (Err error.AtCapacity) p law = tt
+lasted_main (Err error.Memory) p law = tt
+
+pub lacked_main : {X : Type 0} (r : Result X RunError) (p : Type 0) → p → OnLack r p
+lacked_main (Ok x) p is = tt
+lacked_main (Err error.Turns) p is = tt
+lacked_main (Err error.Driver) p is = tt
+lacked_main (Err error.AtCapacity) p is = tt
+lacked_main (Err error.Memory) p is = is
+
 -- no main task was made
 pub none_made : (X : Type 0) (e : RunError) (p q : Type 0) → OnCapacity e p → OnMain {A = X} (Err e) q
 none_made X error.Memory p q is = tt
@@ -50,28 +72,35 @@ none_made X error.AtCapacity p q is = tt
 none_made X error.Driver p q is = absurd is
 none_made X error.Turns p q is = absurd is
 
-module _ {F O P U W J A V : Type 0} (number : O → ℕ) (leads : W → W → Type 0) (future : FutureOf F (Cx F O P U W J A V) O) (h : Bool) where
+-- if memory ran out before a main task was made
+pub none_lacked : (X : Type 0) (e : RunError) (p q : Type 0) → (p → q) → OnMemory e p → OnLack {A = X} (Err e) q
+none_lacked X error.Memory p q law is = law is
+none_lacked X error.AtCapacity p q law is = tt
+none_lacked X error.Driver p q law is = tt
+none_lacked X error.Turns p q law is = tt
+
+module _ {F O P U W J A V : Type 0} (number : O → ℕ) (leads : W → W → Type 0) (future : FutureOf F (Cx F O P U W J A V) O) (h lasts : Bool) where
   -- the entries between two rounds leave the futures
   module _ (fs : List (Option F)) where
     abbrev Is : Machine → List Entry → Type 0
-    Is m part = (reading : ℕ) → Polled number leads future h m fs reading part
+    Is m part = (reading : ℕ) → PolledBy number leads future h lasts m fs reading part
 
     remotes_polled : (ts : List ℕ) (old new : Machine) (part rest : List Entry) → Remotes ts old part new rest → Is new rest → Is old part
-    remotes_polled [] old new part rest (same, is) polled reading = subst (λ xs. Polled number leads future h old fs reading xs) (sym same) (subst (λ m. Polled number leads future h m fs reading rest) is (polled reading))
+    remotes_polled [] old new part rest (same, is) polled reading = subst (λ xs. PolledBy number leads future h lasts old fs reading xs) (sym same) (subst (λ m. PolledBy number leads future h lasts m fs reading rest) is (polled reading))
     remotes_polled (t ∷ ts) old new part rest (told, (mid, (left, (is, step, more)))) polled reading =
-        subst (λ xs. Polled number leads future h old fs reading xs) (sym is) (mid, (step, remotes_polled ts mid new left rest more polled reading))
+        subst (λ xs. PolledBy number leads future h lasts old fs reading xs) (sym is) (mid, (step, remotes_polled ts mid new left rest more polled reading))
 
     drained_polled : (old new : Machine) (part rest : List Entry) → Drained old part new rest → Is new rest → Is old part
     drained_polled old new part rest d polled reading =
-        remotes_polled d.taken old d.mid part d.left d.remotes (λ n. subst (λ xs. Polled number leads future h d.mid fs n xs) (sym d.entry) (new, (d.step, polled n))) reading
+        remotes_polled d.taken old d.mid part d.left d.remotes (λ n. subst (λ xs. PolledBy number leads future h lasts d.mid fs n xs) (sym d.entry) (new, (d.step, polled n))) reading
 
     park_polled : (g : Bool) (old new : Machine) (part rest : List Entry) → IsPark g old part new rest → Is new rest → Is old part
     park_polled g old new part rest (now, (wait, (waits, (is, same)))) polled reading =
-        subst (λ xs. Polled number leads future h old fs reading xs) (sym is) (subst (λ m. Polled number leads future h m fs now rest) same (polled now))
+        subst (λ xs. PolledBy number leads future h lasts old fs reading xs) (sym is) (subst (λ m. PolledBy number leads future h lasts m fs now rest) same (polled now))
 
     clock_polled : (g : Bool) (old new : Machine) (part rest : List Entry) → ClockIf g old part new rest → Is new rest → Is old part
-    clock_polled false old new part rest (same, is) polled reading = subst (λ xs. Polled number leads future h old fs reading xs) (sym same) (subst (λ m. Polled number leads future h m fs reading rest) is (polled reading))
-    clock_polled true old new part rest (n, (fired, (is, step))) polled reading = subst (λ xs. Polled number leads future h old fs reading xs) (sym is) (new, (step, polled reading))
+    clock_polled false old new part rest (same, is) polled reading = subst (λ xs. PolledBy number leads future h lasts old fs reading xs) (sym same) (subst (λ m. PolledBy number leads future h lasts m fs reading rest) is (polled reading))
+    clock_polled true old new part rest (n, (fired, (is, step))) polled reading = subst (λ xs. PolledBy number leads future h lasts old fs reading xs) (sym is) (new, (step, polled reading))
 
     parks_polled : (g : Bool) (old new : Machine) (part rest : List Entry) → Parks g old part new rest → Is new rest → Is old part
     parks_polled g old new part rest p polled =
@@ -82,7 +111,7 @@ module _ {F O P U W J A V : Type 0} (number : O → ℕ) (leads : W → W → Ty
     pauses_polled g (front ∷ queue) old new part rest p polled = drained_polled old new part rest p polled
 
     stays_polled : (old new : Machine) (part rest : List Entry) → Stays old part new rest → Is new rest → Is old part
-    stays_polled old new part rest (same, is) polled reading = subst (λ xs. Polled number leads future h old fs reading xs) (sym same) (subst (λ m. Polled number leads future h m fs reading rest) is (polled reading))
+    stays_polled old new part rest (same, is) polled reading = subst (λ xs. PolledBy number leads future h lasts old fs reading xs) (sym same) (subst (λ m. PolledBy number leads future h lasts m fs reading rest) is (polled reading))
 
     fails_polled : (g : Bool) (queue : List ℕ) (old new : Machine) (part rest : List Entry) → PausesFail g queue old part new rest → Is new rest → Is old part
     fails_polled g [] old new part rest (inl whole) polled = parks_polled g old new part rest whole polled
@@ -91,47 +120,56 @@ module _ {F O P U W J A V : Type 0} (number : O → ℕ) (leads : W → W → Ty
     fails_polled g (front ∷ queue) old new part rest (inl drained) polled = drained_polled old new part rest drained polled
     fails_polled g (front ∷ queue) old new part rest (inr stays) polled = stays_polled old new part rest stays polled
 
+    breaks_polled : (g : Bool) (queue : List ℕ) (old new : Machine) (part rest : List Entry) → PausesBreak g queue old part new rest → Is new rest → Is old part
+    breaks_polled g [] old new part rest (inl stays) polled = stays_polled old new part rest stays polled
+    breaks_polled g [] old new part rest (inr (inl park)) polled = park_polled g old new part rest park polled
+    breaks_polled g [] old new part rest (inr (inr p)) polled = park_polled g old p.parked part p.left p.parks (drained_polled p.parked new p.left rest p.drains polled)
+    breaks_polled g (front ∷ queue) old new part rest stays polled = stays_polled old new part rest stays polled
+
     drop_polled : (main : ℕ) (w : Option ℕ) (old new : Machine) (part rest : List Entry) → DropsFor main w old part new rest → Is new rest → Is old part
-    drop_polled main (Some n) old new part rest (is, step) polled reading = subst (λ xs. Polled number leads future h old fs reading xs) (sym is) (new, (tt, step, polled reading))
-    drop_polled main None old new part rest (answer, (is, step)) polled reading = subst (λ xs. Polled number leads future h old fs reading xs) (sym is) (new, (tt, step, polled reading))
+    drop_polled main (Some n) old new part rest (is, step) polled reading = subst (λ xs. PolledBy number leads future h lasts old fs reading xs) (sym is) (new, (tt, step, polled reading))
+    drop_polled main None old new part rest (answer, (is, step)) polled reading = subst (λ xs. PolledBy number leads future h lasts old fs reading xs) (sym is) (new, (tt, step, polled reading))
 
   -- one after the other
-  pub polls_on : (fs gs hs : List (Option F)) (a b c : Parts O (Seen P)) (i j k : Journal) → Does number (Polling number leads future h fs gs) a b i j → Does number (Polling number leads future h gs hs) b c j k → Does number (Polling number leads future h fs hs) a c i k
-  polls_on fs gs hs a b c i j k p q = does_on number (Polling number leads future h fs gs) (Polling number leads future h gs hs) (Polling number leads future h fs hs) a b c i j k (λ m mid new xs ys zs stm std stn first second. λ polled. first (second polled)) p q
+  pub polls_on : (fs gs hs : List (Option F)) (a b c : Parts O (Seen P)) (i j k : Journal) → Does number (PollingBy number leads future h lasts fs gs) a b i j → Does number (PollingBy number leads future h lasts gs hs) b c j k → Does number (PollingBy number leads future h lasts fs hs) a c i k
+  polls_on fs gs hs a b c i j k p q = does_on number (PollingBy number leads future h lasts fs gs) (PollingBy number leads future h lasts gs hs) (PollingBy number leads future h lasts fs hs) a b c i j k (λ m mid new xs ys zs stm std stn first second. λ polled. first (second polled)) p q
 
-  pub polls_nothing : (fs : List (Option F)) (c : Parts O (Seen P)) (j : Journal) → Does number (Polling number leads future h fs fs) c c j j
-  polls_nothing fs c j = does_more number Stays (Polling number leads future h fs fs) c c j j
-      (λ m new xs zs stm stn stays. λ polled reading. subst (λ ys. Polled number leads future h m fs reading ys) (sym stays.0) (subst (λ x. Polled number leads future h x fs reading zs) stays.1 (polled reading)))
+  pub polls_nothing : (fs : List (Option F)) (c : Parts O (Seen P)) (j : Journal) → Does number (PollingBy number leads future h lasts fs fs) c c j j
+  polls_nothing fs c j = does_more number Stays (PollingBy number leads future h lasts fs fs) c c j j
+      (λ m new xs zs stm stn stays. λ polled reading. subst (λ ys. PolledBy number leads future h lasts m fs reading ys) (sym stays.0) (subst (λ x. PolledBy number leads future h lasts x fs reading zs) stays.1 (polled reading)))
       (does_stay number c c j j refl refl refl refl refl)
 
-  -- between two rounds, unless memory was refused
-  pub polls_pause : (fs gs : List (Option F)) (g : Bool) (r : Result Bool RunError) (c d : Parts O (Seen P)) (j k : Journal) → gs ≡ fs → Does number (PauseEnds g r) c d j k → OnMain r (Does number (Polling number leads future h fs gs) c d j k)
-  polls_pause fs gs g (Ok spent) c d j k same p = subst (λ xs. Does number (Polling number leads future h fs xs) c d j k) (sym same) (does_more number (Pause g) (Polling number leads future h fs fs) c d j k (λ m new xs zs stm stn is. pauses_polled fs g m.tasks.queue m new xs zs is) p)
-  polls_pause fs gs g (Err error.Driver) c d j k same p = subst (λ xs. Does number (Polling number leads future h fs xs) c d j k) (sym same) (does_more number (PauseFails g) (Polling number leads future h fs fs) c d j k (λ m new xs zs stm stn is. fails_polled fs g m.tasks.queue m new xs zs is) p)
-  polls_pause fs gs g (Err error.Turns) c d j k same p = does_more number (PauseEnds g (Err error.Turns)) (Polling number leads future h fs gs) c d j k (λ m new xs zs stm stn is. absurd is) p
-  polls_pause fs gs g (Err error.AtCapacity) c d j k same p = tt
-  polls_pause fs gs g (Err error.Memory) c d j k same p = tt
+  pub polls_stays : (fs gs : List (Option F)) (c d : Parts O (Seen P)) (j k : Journal) → gs ≡ fs → Does number Stays c d j k → Does number (PollingBy number leads future h lasts fs gs) c d j k
+  polls_stays fs gs c d j k same p = subst (λ xs. Does number (PollingBy number leads future h lasts fs xs) c d j k) (sym same) (does_more number Stays (PollingBy number leads future h lasts fs fs) c d j k (λ m new xs zs stm stn is. stays_polled fs m new xs zs is) p)
+
+  -- between two rounds
+  pub polls_pause : (fs gs : List (Option F)) (g : Bool) (r : Result Bool RunError) (c d : Parts O (Seen P)) (j k : Journal) → gs ≡ fs → Does number (PauseEnds g r) c d j k → Does number (PollingBy number leads future h lasts fs gs) c d j k
+  polls_pause fs gs g (Ok spent) c d j k same p = subst (λ xs. Does number (PollingBy number leads future h lasts fs xs) c d j k) (sym same) (does_more number (Pause g) (PollingBy number leads future h lasts fs fs) c d j k (λ m new xs zs stm stn is. pauses_polled fs g m.tasks.queue m new xs zs is) p)
+  polls_pause fs gs g (Err error.Driver) c d j k same p = subst (λ xs. Does number (PollingBy number leads future h lasts fs xs) c d j k) (sym same) (does_more number (PauseFails g) (PollingBy number leads future h lasts fs fs) c d j k (λ m new xs zs stm stn is. fails_polled fs g m.tasks.queue m new xs zs is) p)
+  polls_pause fs gs g (Err error.Memory) c d j k same p = subst (λ xs. Does number (PollingBy number leads future h lasts fs xs) c d j k) (sym same) (does_more number (PauseBreaks g) (PollingBy number leads future h lasts fs fs) c d j k (λ m new xs zs stm stn is. breaks_polled fs g m.tasks.queue m new xs zs is) p)
+  polls_pause fs gs g (Err error.Turns) c d j k same p = does_more number (PauseEnds g (Err error.Turns)) (PollingBy number leads future h lasts fs gs) c d j k (λ m new xs zs stm stn is. absurd is) p
+  polls_pause fs gs g (Err error.AtCapacity) c d j k same p = does_more number (PauseEnds g (Err error.AtCapacity)) (PollingBy number leads future h lasts fs gs) c d j k (λ m new xs zs stm stn is. absurd is) p
 
   -- the handle of the main task is dropped
-  pub polls_drop : (fs gs : List (Option F)) (main : ℕ) (w : Option ℕ) (c d : Parts O (Seen P)) (j k : Journal) → gs ≡ fs → Does number (DropsFor main w) c d j k → Does number (Polling number leads future h fs gs) c d j k
-  polls_drop fs gs main w c d j k same p = subst (λ xs. Does number (Polling number leads future h fs xs) c d j k) (sym same) (does_more number (DropsFor main w) (Polling number leads future h fs fs) c d j k (λ m new xs zs stm stn is. drop_polled fs main w m new xs zs is) p)
+  pub polls_drop : (fs gs : List (Option F)) (main : ℕ) (w : Option ℕ) (c d : Parts O (Seen P)) (j k : Journal) → gs ≡ fs → Does number (DropsFor main w) c d j k → Does number (PollingBy number leads future h lasts fs gs) c d j k
+  polls_drop fs gs main w c d j k same p = subst (λ xs. Does number (PollingBy number leads future h lasts fs xs) c d j k) (sym same) (does_more number (DropsFor main w) (PollingBy number leads future h lasts fs fs) c d j k (λ m new xs zs stm stn is. drop_polled fs main w m new xs zs is) p)
 
   -- from a reading on, to these futures at any
   abbrev From : List (Option F) → List (Option F) → ℕ → Machine → List Entry → Machine → List Entry → Type 0
-  From fs gs n m part new rest = ((reading : ℕ) → Polled number leads future h new gs reading rest) → Polled number leads future h m fs n part
+  From fs gs n m part new rest = ((reading : ℕ) → PolledBy number leads future h lasts new gs reading rest) → PolledBy number leads future h lasts m fs n part
 
   -- the clock is read and a task has its turn
   pub polls_turn : (old opened done left : Cx F O P U W J A V) (i j k : Journal) (t : ℕ) (now : Instant) (is_unread : Bool) (e : End) (ended : Ended) → opened.parts.has_timers ≡ old.parts.has_timers → opened.futures.items ≡ old.futures.items
       → Does number (ReadsAt (nanos_of now)) old.parts opened.parts i j
       → Turn number leads future t now (no_acts is_unread) e ended opened done
       → Does number (IsStep (event.Turn done.parts.acts.steps e) (report.Turn t done.parts.acts.replies ended)) opened.parts left.parts j k
-      → old.parts.has_timers ≡ h → done.parts.is_out_of_memory ≡ false → left.futures.items ≡ done.futures.items
-      → Does number (Polling number leads future h old.futures.items left.futures.items) old.parts left.parts i k
+      → old.parts.has_timers ≡ h → HasLasted lasts done.parts.is_out_of_memory → left.futures.items ≡ done.futures.items
+      → Does number (PollingBy number leads future h lasts old.futures.items left.futures.items) old.parts left.parts i k
   polls_turn old opened done left i j k t now is_unread e ended same_timers same_futures read turn step timers memory kept =
-      does_on number (ReadsAt (nanos_of now)) (From old.futures.items left.futures.items (nanos_of now)) (Polling number leads future h old.futures.items left.futures.items) old.parts opened.parts left.parts i j k
+      does_on number (ReadsAt (nanos_of now)) (From old.futures.items left.futures.items (nanos_of now)) (PollingBy number leads future h lasts old.futures.items left.futures.items) old.parts opened.parts left.parts i j k
       (λ m mid new xs ys zs stm std stn reads tells. λ polled reading.
-      subst (λ ws. Polled number leads future h m old.futures.items reading ws) (sym reads.0)
-      (subst (λ x. Polled number leads future h x old.futures.items (nanos_of now) ys) reads.1 (tells polled)))
+      subst (λ ws. PolledBy number leads future h lasts m old.futures.items reading ws) (sym reads.0)
+      (subst (λ x. PolledBy number leads future h lasts x old.futures.items (nanos_of now) ys) reads.1 (tells polled)))
       read (record { did = told })
     where
       told : (m : Machine) → Matches number hosting_of opened.parts m → Did number (From old.futures.items left.futures.items (nanos_of now)) opened.parts left.parts j k m
@@ -141,7 +179,7 @@ module _ {F O P U W J A V : Type 0} (number : O → ℕ) (leads : W → W → Ty
             went = did.went;
             is = λ rest polled.
                 let one = did.is rest in
-                subst (λ ws. Polled number leads future h m old.futures.items (nanos_of now) ws) (sym one.0) (
+                subst (λ ws. PolledBy number leads future h lasts m old.futures.items (nanos_of now) ws) (sym one.0) (
                   did.went.new,
                   (
                     left.futures.items,
@@ -171,25 +209,36 @@ module _ {F O P U W J A V : Type 0} (number : O → ℕ) (leads : W → W → Ty
           }
 
   -- the main task is made, and then it goes on
-  pub polls_main : (main : F) (t : ℕ) (fs gs hs : List (Option F)) (a b c : Parts O (Seen P)) (i j k : Journal) → gs ≡ fs ++ Some main ∷ [] → Does number (IsSpawn t) a b i j → Does number (Polling number leads future h gs hs) b c j k → Does number (PollsMain number leads future h main fs hs) a c i k
-  polls_main main t fs gs hs a b c i j k made p q = does_on number (IsSpawn t) (Polling number leads future h gs hs) (PollsMain number leads future h main fs hs) a b c i j k
-      (λ m mid new xs ys zs stm std stn spawn polls. (t, (mid, (ys, (spawn, subst (λ xs. Polling number leads future h xs hs mid ys new zs) made polls))))) p q
+  pub polls_main : (main : F) (t : ℕ) (fs gs hs : List (Option F)) (a b c : Parts O (Seen P)) (i j k : Journal) → gs ≡ fs ++ Some main ∷ [] → Does number (IsSpawn t) a b i j → Does number (PollingBy number leads future h lasts gs hs) b c j k → Does number (PollsMainBy number leads future h lasts main fs hs) a c i k
+  polls_main main t fs gs hs a b c i j k made p q = does_on number (IsSpawn t) (PollingBy number leads future h lasts gs hs) (PollsMainBy number leads future h lasts main fs hs) a b c i j k
+      (λ m mid new xs ys zs stm std stn spawn polls. (t, (mid, (ys, (spawn, subst (λ xs. PollingBy number leads future h lasts xs hs mid ys new zs) made polls))))) p q
 
 module _ {F O P U W J A V : Type 0} (number : O → ℕ) (leads : W → W → Type 0) (future : FutureOf F (Cx F O P U W J A V) O) (main : F) where
   -- the whole history has such turns, if it was empty before the call
+  whole_of : (R : Bool → List (Option F) → Machine → List Entry → Machine → List Entry → Type 0) (g h : Bool) (fs : List (Option F)) (c d : Parts O (Seen P)) (j k l : Journal) (m n : Machine) → g ≡ h → fs ≡ [] → m ≡ n → Matches number hosting_of c m → j.history.entries ≡ [] → l ≡ k
+      → Does number (R g fs) c d j k → (new : Machine) × R h [] n l.history.entries new []
+  whole_of R g h fs c d j k l m n timers none machine st empty same did =
+      let whole = relation_of number (R g fs) c d j k l m st empty same did in (
+        whole.0,
+        subst (λ x. R h [] x l.history.entries whole.0 []) machine (subst (λ b. R b [] m l.history.entries whole.0 []) timers (subst (λ xs. R g xs m l.history.entries whole.0 []) none whole.1)),
+      )
+
+  pub still_whole : (g h : Bool) (fs gs : List (Option F)) (c d : Parts O (Seen P)) (j k l : Journal) (m n : Machine) (answer : Result O RunError) → g ≡ h → fs ≡ [] → m ≡ n → Matches number hosting_of c m → j.history.entries ≡ [] → l ≡ k
+      → OnLack answer (Does number (StillPollsMain number leads future g main fs gs) c d j k)
+      → OnLack answer ((new : Machine) × ((left : List (Option F)) × StillPollsMain number leads future h main [] left n l.history.entries new []))
+  still_whole g h fs gs c d j k l m n answer timers none machine st empty same polled =
+      on_lack {X = O} answer (Does number (StillPollsMain number leads future g main fs gs) c d j k) _
+      (λ did.
+      let whole = whole_of (λ b xs. StillPollsMain number leads future b main xs gs) g h fs c d j k l m n timers none machine st empty same did in
+      (whole.0, (gs, whole.1)))
+      polled
+
   pub polls_whole : (g h : Bool) (fs gs : List (Option F)) (c d : Parts O (Seen P)) (j k l : Journal) (m n : Machine) (answer : Result O RunError) → g ≡ h → fs ≡ [] → m ≡ n → Matches number hosting_of c m → j.history.entries ≡ [] → l ≡ k
       → OnMain answer (Does number (PollsMain number leads future g main fs gs) c d j k)
       → OnMain answer ((new : Machine) × ((left : List (Option F)) × PollsMain number leads future h main [] left n l.history.entries new []))
   polls_whole g h fs gs c d j k l m n answer timers none machine st empty same polled =
       on_main {X = O} answer (Does number (PollsMain number leads future g main fs gs) c d j k) _
       (λ did.
-      let whole = relation_of number (PollsMain number leads future g main fs gs) c d j k l m st empty same did in (
-        whole.0,
-        (
-          gs,
-          subst (λ x. PollsMain number leads future h main [] gs x l.history.entries whole.0 []) machine
-              (subst (λ b. PollsMain number leads future b main [] gs m l.history.entries whole.0 []) timers
-              (subst (λ xs. PollsMain number leads future g main xs gs m l.history.entries whole.0 []) none whole.1)),
-        ),
-      ))
+      let whole = whole_of (λ b xs. PollsMain number leads future b main xs gs) g h fs c d j k l m n timers none machine st empty same did in
+      (whole.0, (gs, whole.1)))
       polled

@@ -5,10 +5,10 @@ use Rattle.mono_task.specs.Members.{FutureOf}
 use Rattle.mono_driver.specs.declared.clock.Clock
 use Rattle.mono_rt.specs.Rounds.{PauseEnds}
 use Rattle.mono_rt.specs.Faults.{FaultsBy}
-use Rattle.mono_rt.specs.FuturePolls.{Polling, OnMain}
+use Rattle.mono_rt.specs.FuturePolls.{HasLasted, PollingBy, Lasts}
 use Rattle.mono_rt.specs.SpawnErrors.{HasPlace}
 use Rattle.mono_rt.specs.DriverReadings.{going, Telling, Still}
-use Rattle.mono_rt.specs.Views.{exposed, is_timed, Rests, Grows, GivesNoMore, CanRun, LeadsShared, PollsItsFutures, FillsJournal, HoldsSamePlaces, TellsDriver}
+use Rattle.mono_rt.specs.Views.{exposed, is_timed, Rests, Grows, GivesNoMore, CanRun, LeadsShared, PollsItsFuturesBy, FillsJournal, HoldsSamePlaces, TellsDriver}
 use Rattle.mono_rt.specs.Progress.{ending, lasting, turn_answer, Idles, Proceeds}
 use Rattle.mono_rt.specs.declared.contexts.Cx.{Cx}
 use Rattle.mono_rt.specs.declared.runtimes.Runtime.{Runtime}
@@ -17,17 +17,19 @@ use Rattle.mono_rt.specs.declared.parts.errors.RunError.TheVariants as error
 use Rattle.mono_rt.proofs.JournalLemmas.{goes_of}
 use Rattle.mono_rt.proofs.DriverLemmas.{telling_more, unfailed, so_after, so_done, so_spent, so_broken, still_of}
 use Rattle.mono_rt.proofs.FaultLemmas.{faults_after}
-use Rattle.mono_rt.proofs.FuturePollLemmas.{on_main, same_error, polls_on, polls_nothing, polls_pause}
+use Rattle.mono_rt.proofs.FuturePollLemmas.{polls_on, polls_nothing, polls_pause}
 use Rattle.mono_rt.proofs.DriverLemmas.{tells_nothing}
 use Rattle.mono_rt.proofs.JournalRoomLemmas.{fills_on, fills_not}
 use Rattle.mono_rt.proofs.OutputLemmas.{adds_on}
 use Rattle.mono_rt.proofs.PossibleAnswerLemmas.{no_more_itself, no_more_on, no_more_by}
 use Rattle.mono_rt.proofs.PollableLemmas.{turn_same}
 
--- the answer's value does not matter
-ending_main : {A : Type 0} (r : Result A RunError) (P : Type 0) → OnMain r P → OnMain (ending r) P
-ending_main {A} (Ok x) P is = is
-ending_main {A} (Err e) P is = same_error A ⊤ e P is
+-- a turn lasted in memory, if its answer says so
+has_lasted : (lacks lasts : Bool) → (lasts ≡ true → Lasts (lasting (turn_answer lacks))) → HasLasted lasts lacks
+has_lasted true true may = absurd (may refl)
+has_lasted true false may = tt
+has_lasted false true may = refl
+has_lasted false false may = tt
 
 false-true : false ≡ true → ⊥
 false-true e = cc
@@ -63,7 +65,7 @@ module _ {F O D P W U J A V : Type 0} where
       answers = no_more_itself future.gives a.cx;
       callable = λ x. x;
       shared = itself a.cx.shared;
-      polled = polls_nothing number leads future a.cx.parts.has_timers a.cx.futures.items a.cx.parts a.journal;
+      polled = λ lasts may. polls_nothing number leads future a.cx.parts.has_timers lasts a.cx.futures.items a.cx.parts a.journal;
       faults = refl;
       told = so_done (tells_nothing refl refl refl);
       full = fills_not number leads future a.cx a.journal a.journal refl;
@@ -80,14 +82,12 @@ module _ {F O D P W U J A V : Type 0} where
       answers = no_more_on future.gives a.cx b.cx c.cx p.answers q.answers;
       callable = λ x. q.callable (p.callable x);
       shared = on a.cx.shared b.cx.shared c.cx.shared p.shared q.shared;
-      polled = on_main r (PollsItsFutures number leads future b c) (PollsItsFutures number leads future a c)
-          (λ x. polls_on number leads future a.cx.parts.has_timers a.cx.futures.items b.cx.futures.items c.cx.futures.items a.cx.parts b.cx.parts c.cx.parts a.journal b.journal c.journal p.polled
-          (subst (λ h. Grows number (Polling number leads future h b.cx.futures.items c.cx.futures.items) b c) p.has_timers x))
-          q.polled;
+      polled = λ lasts may. polls_on number leads future a.cx.parts.has_timers lasts a.cx.futures.items b.cx.futures.items c.cx.futures.items a.cx.parts b.cx.parts c.cx.parts a.journal b.journal c.journal (p.polled lasts (λ is. tt))
+          (subst (λ h. Grows number (PollingBy number leads future h lasts b.cx.futures.items c.cx.futures.items) b c) p.has_timers (q.polled lasts may));
       faults = faults_on r (clock.faults a.driver) (clock.faults b.driver) (clock.faults c.driver) p.faults q.faults;
       told = so_after (still_of p.told) q.told;
       full = fills_on number leads future a.cx b.cx a.journal b.journal c.journal
-          (goes_of number (Polling number leads future a.cx.parts.has_timers a.cx.futures.items b.cx.futures.items) a.cx.parts b.cx.parts a.journal b.journal p.polled) p.full q.full;
+          (goes_of number (PollingBy number leads future a.cx.parts.has_timers false a.cx.futures.items b.cx.futures.items) a.cx.parts b.cx.parts a.journal b.journal (p.polled false (λ is. tt))) p.full q.full;
       held = q.held ∙ p.held;
       placed = q.placed;
     }
@@ -100,7 +100,7 @@ module _ {F O D P W U J A V : Type 0} where
       answers = p.answers;
       callable = p.callable;
       shared = p.shared;
-      polled = p.polled;
+      polled = λ lasts may. p.polled lasts (λ is. tt);
       faults = p.faults;
       told = so_spent (still_of p.told);
       full = p.full;
@@ -110,7 +110,7 @@ module _ {F O D P W U J A V : Type 0} where
 
     -- a turn, by whether memory ran out in it
     pub went_turn : (lacks : Bool) (a b : Runtime F O D P W U J A V) → is_timed b ≡ is_timed a → (Rests a → Rests b) → GivesNoMore future.gives a b → (CanRun future a → CanRun future b) → LeadsShared leads a b
-        → (lacks ≡ false → PollsItsFutures number leads future a b) → clock.faults b.driver ≡ clock.faults a.driver
+        → ((lasts : Bool) → HasLasted lasts lacks → PollsItsFuturesBy number leads future lasts a b) → clock.faults b.driver ≡ clock.faults a.driver
         → Telling (Still going) (exposed clock a.driver) going a.journal b.journal (exposed clock b.driver) → FillsJournal number leads future a b → HoldsSamePlaces a b
         → Proceeds number leads clock future (lasting (turn_answer lacks)) a b
     went_turn true a b has_timers rests answers callable shared polled faults told full held = record {
@@ -119,7 +119,7 @@ module _ {F O D P W U J A V : Type 0} where
       answers = answers;
       callable = callable;
       shared = shared;
-      polled = tt;
+      polled = λ lasts may. polled lasts (has_lasted true lasts may);
       faults = faults;
       told = so_broken (telling_more unfailed told);
       full = full;
@@ -132,7 +132,7 @@ module _ {F O D P W U J A V : Type 0} where
       answers = answers;
       callable = callable;
       shared = shared;
-      polled = polled refl;
+      polled = λ lasts may. polled lasts (has_lasted false lasts may);
       faults = faults;
       told = so_done told;
       full = full;
@@ -152,8 +152,8 @@ module _ {F O D P W U J A V : Type 0} where
           answers = answers;
           callable = turn_same future future.gives a.cx b.cx answers items;
           shared = subst (leads a.cx.shared) (sym idle.shared) (itself a.cx.shared);
-          polled = ending_main r (PollsItsFutures number leads future a b)
-              (polls_pause number leads future a.cx.parts.has_timers a.cx.futures.items b.cx.futures.items a.cx.parts.has_timers r a.cx.parts b.cx.parts a.journal b.journal items pauses);
+          polled = λ lasts may.
+              polls_pause number leads future a.cx.parts.has_timers lasts a.cx.futures.items b.cx.futures.items a.cx.parts.has_timers r a.cx.parts b.cx.parts a.journal b.journal items pauses;
           faults = faults;
           told = told;
           full = fills_not number leads future a.cx a.journal b.journal idle.full;

@@ -10,7 +10,7 @@ use Rattle.mono_machine.specs.declared.events.Limits.{Limits}
 use Rattle.mono_rt.specs.Journals.{Does, Registers}
 use Rattle.mono_rt.specs.Numbering.{answer_numbered}
 use Rattle.mono_rt.specs.Rounds.{Blocked}
-use Rattle.mono_rt.specs.FuturePolls.{OnMain, PollsMain}
+use Rattle.mono_rt.specs.FuturePolls.{OnMain, PollsMain, OnLack, StillPollsMain}
 use Rattle.mono_rt.specs.Refinement.{hosting_of, Matches}
 use Rattle.mono_rt.specs.DriverReadings.{Told, going, TellingSo, IsTold}
 use Rattle.mono_rt.specs.declared.contexts.Cx.{Cx}
@@ -21,7 +21,7 @@ use Rattle.mono_rt.specs.declared.parts.journals.Journal.{Journal}
 use Rattle.mono_rt.specs.declared.parts.state.Parts.{Parts}
 use Rattle.mono_rt.proofs.RoundLemmas.{Relation}
 use Rattle.mono_rt.proofs.RegistrationLemmas.{same_ticks}
-use Rattle.mono_rt.proofs.FuturePollLemmas.{polls_whole}
+use Rattle.mono_rt.proofs.FuturePollLemmas.{polls_whole, still_whole}
 use Rattle.mono_rt.proofs.DriverLemmas.{told_in, unfailed}
 use Rattle.mono_rt.specs.Starts.{RunsFrom}
 
@@ -54,12 +54,13 @@ module _ {F O P U W J A V : Type 0} (number : O → ℕ) (leads : W → W → Ty
     parks = (refl, λ s. refl);
     told = record { last = t; after = going; new = t; ends = inl (unfailed going refl, refl); tells = (refl, refl) };
     polled = tt;
+    still_polled = (m, ([], inl (refl, refl)));
   }
 
   pub runs_from : (g h : Bool) (turns : ℕ) (main : F) (fs gs : List (Option F)) (answer : Result O RunError) (m n : Machine) (s t u : Told) (c d : Parts O (Seen P)) (j k : Journal) → g ≡ h → m ≡ n → s ≡ t → fs ≡ []
       → Matches number hosting_of c m → j.history.entries ≡ [] → ((x : ℕ) → registered_of c.timers x ≡ None)
-      → Does number (Blocked g turns (answer_numbered number answer)) c d j k → TellingSo answer s j k u → OnMain answer (Does number (PollsMain number leads future g main fs gs) c d j k) → RunsFrom number leads future h turns main answer n t
-  runs_from g h turns main fs gs answer m n s t u c d j k timers machine told none st empty unregistered does tells polls =
+      → Does number (Blocked g turns (answer_numbered number answer)) c d j k → TellingSo answer s j k u → OnMain answer (Does number (PollsMain number leads future g main fs gs) c d j k) → OnLack answer (Does number (StillPollsMain number leads future g main fs gs) c d j k) → RunsFrom number leads future h turns main answer n t
+  runs_from g h turns main fs gs answer m n s t u c d j k timers machine told none st empty unregistered does tells polls still =
       let b = parks_of number (Blocked g turns (answer_numbered number answer)) c d j k m st empty unregistered does in
       let blocked = subst (λ x. Blocked x turns (answer_numbered number answer) m k.history.entries b.0 []) timers b.1.0 in
       record {
@@ -70,4 +71,5 @@ module _ {F O P U W J A V : Type 0} (number : O → ℕ) (leads : W → W → Ty
         parks = subst (λ x. Registers None x (λ y. None) k.history.entries b.0 (registered_of d.timers)) machine b.1.1;
         told = subst (λ x. IsTold answer x k.history.entries) told (told_in k empty refl tells);
         polled = polls_whole number leads future main g h fs gs c d j k k m n answer timers none machine st empty refl polls;
+        still_polled = still_whole number leads future main g h fs gs c d j k k m n answer timers none machine st empty refl still;
       }

@@ -6,12 +6,12 @@ use Rattle.mono_model.specs.Tasks.{spawned}
 use Rattle.mono_task.specs.Members.{FutureOf}
 use Rattle.mono_driver.specs.declared.clock.Clock
 use Rattle.mono_rt.specs.Faults.{FaultsBy}
-use Rattle.mono_rt.specs.FuturePolls.{OnMain}
+use Rattle.mono_rt.specs.FuturePolls.{Lasts}
 use Rattle.mono_rt.specs.Outputs.{AddsNone}
 use Rattle.mono_rt.specs.SpawnErrors.{HasPlace, OnCapacity, OnMemory}
 use Rattle.mono_rt.specs.Journals.{Stays}
 use Rattle.mono_rt.specs.Rounds.{IsSpawn, IsRefused}
-use Rattle.mono_rt.specs.Views.{tasks_of, futures_of, turn_of, is_timed, shared_of, Rests, Grows, GivesNoMore, CanRun, LeadsShared, PollsItsFutures, FillsJournal, HoldsSamePlaces, TellsDriver}
+use Rattle.mono_rt.specs.Views.{tasks_of, futures_of, turn_of, is_timed, shared_of, Rests, Grows, GivesNoMore, CanRun, LeadsShared, PollsItsFuturesBy, FillsJournal, HoldsSamePlaces, TellsDriver}
 use Rattle.mono_rt.specs.declared.contexts.Cx.{Cx}
 use Rattle.mono_rt.specs.declared.runtimes.Runtime.{Runtime}
 use Rattle.mono_rt.specs.declared.parts.errors.RunError.{RunError}
@@ -68,7 +68,7 @@ module _ {F O D P W U J A V : Type 0} where
       pub answers : GivesNoMore future.gives old new
       pub callable : CanRun future old → CanRun future new
       pub shared : LeadsShared leads old new
-      pub polled : OnMain answer (PollsItsFutures number leads future old new)
+      pub polled : (lasts : Bool) → (lasts ≡ true → Lasts answer) → PollsItsFuturesBy number leads future lasts old new
       pub faults : FaultsBy answer (clock.faults old.driver) (clock.faults new.driver)
       pub told : TellsDriver answer clock old new
       pub full : FillsJournal number leads future old new

@@ -29,7 +29,7 @@ use Rattle.mono_rt.specs.declared.task_waits.TaskWait.{TaskWait}
 use Rattle.mono_rt.specs.Refinement.{hosting_of, Matches}
 use Rattle.mono_rt.specs.Journals.{Does, Registers, events_in, reports_in}
 use Rattle.mono_rt.specs.JournalRoom.{Fills, FillsSo}
-use Rattle.mono_rt.specs.FuturePolls.{Polling, PollsMain, OnMain}
+use Rattle.mono_rt.specs.FuturePolls.{Polling, PollingBy, PollsMain, StillPollsMain, OnMain, OnLack}
 use Rattle.mono_rt.specs.PossibleAnswers.{AnswersNoMore}
 use Rattle.mono_rt.specs.Pollable.{CanTurn}
 use Rattle.mono_rt.specs.DriverReadings.{Told, telling, TellingSo}
@@ -63,10 +63,15 @@ abbrev pub ParksFrom : Machine → Journal → Type 0
 ParksFrom old journal = (new : Machine) × ((left : ℕ → Option ℕ) × Registers None old (λ s. None) journal.history.entries new left)
 
 -- Each turn of the whole history of a run from this machine, with this answer, is one poll of its task's own future, after
--- the main task was made with its future last. If memory ran out, nothing is said of polls.
+-- the main task was made with its future last. If memory ran out, nothing is said here.
 abbrev pub PollsFrom : {F O P U W J A V : Type 0} → (O → ℕ) → (W → W → Type 0) → FutureOf F (Cx F O P U W J A V) O → F → Machine → Result O RunError × Journal → Type 0
 PollsFrom {F} number leads future main old done =
     OnMain done.0 ((new : Machine) × ((left : List (Option F)) × PollsMain number leads future true main [] left old done.1.history.entries new []))
+
+-- The same of a run that ended since memory ran out, also of the turn in which it did.
+abbrev pub StillPollsFrom : {F O P U W J A V : Type 0} → (O → ℕ) → (W → W → Type 0) → FutureOf F (Cx F O P U W J A V) O → F → Machine → Result O RunError × Journal → Type 0
+StillPollsFrom {F} number leads future main old done =
+    OnLack done.0 ((new : Machine) × ((left : List (Option F)) × StillPollsMain number leads future true main [] left old done.1.history.entries new []))
 
 module _ {F O D P W U J A V : Type 0} where
   -- The tasks of a runtime, with their queue.
@@ -184,9 +189,17 @@ module _ {F O D P W U J A V : Type 0} where
     abbrev pub PollsItsFutures : Runtime F O D P W U J A V → Runtime F O D P W U J A V → Type 0
     PollsItsFutures old new = Grows number (Polling number leads future (is_timed old) (futures_of old) (futures_of new)) old new
 
+    -- The same, and whether no call of a turn ran out of memory.
+    abbrev pub PollsItsFuturesBy : Bool → Runtime F O D P W U J A V → Runtime F O D P W U J A V → Type 0
+    PollsItsFuturesBy lasts old new = Grows number (PollingBy number leads future (is_timed old) lasts (futures_of old) (futures_of new)) old new
+
     -- The same, after the main task was made with its future last.
     abbrev pub PollsMainTask : F → Runtime F O D P W U J A V → Runtime F O D P W U J A V → Type 0
     PollsMainTask main old new = Grows number (PollsMain number leads future (is_timed old) main (futures_of old) (futures_of new)) old new
+
+    -- The same of a call that ended since memory ran out, also of the turn in which it did.
+    abbrev pub StillPollsMainTask : F → Runtime F O D P W U J A V → Runtime F O D P W U J A V → Type 0
+    StillPollsMainTask main old new = Grows number (StillPollsMain number leads future (is_timed old) main (futures_of old) (futures_of new)) old new
 
     -- The journal is full only if it was before, or a turn made more acts than its record has room for.
     abbrev pub FillsJournal : Runtime F O D P W U J A V → Runtime F O D P W U J A V → Type 0

@@ -7,7 +7,7 @@ ghost use Rattle.mono_rt.specs.Rounds.{Blocked};
 ghost use Rattle.mono_rt.specs.SpawnErrors.{UnlessRefused, IfRefused};
 ghost use Rattle.mono_rt.specs.DriverReadings.{IsTold};
 ghost use Rattle.mono_rt.specs.Pollable.{SpawnsPollable};
-ghost use Rattle.mono_rt.specs.Views.{exposed, BlocksFrom, IsRunFrom, ParksFrom, PollsFrom};
+ghost use Rattle.mono_rt.specs.Views.{exposed, BlocksFrom, IsRunFrom, ParksFrom, PollsFrom, StillPollsFrom};
 
 use crate::contexts::Cx;
 use crate::parts::{Journal, RunError};
@@ -31,8 +31,8 @@ use std::alloc::{AllocError, Global};
 /// entry of a refused main task. Then it is empty (`lacks`). Until it is full its entries are the history
 /// (`Journal::kept`). An answer is one that the future gives (`given`).
 ///
-/// Each turn of the history is one poll of its task's own future, from the futures that the turns before it left,
-/// unless the answer is Memory (`polled`).
+/// Each turn of the history is one poll of its task's own future, from the futures that the turns before it left
+/// (`polled`). If the answer is Memory, this holds of the turn in which memory ran out, too (`still_polled`).
 ///
 /// The future can be polled, and so can each that a turn spawns (`callable`, `others`).
 pub fn run_alone<F, O, D, P, R: Host>(
@@ -58,6 +58,7 @@ where
     ensures run { IfOk result (λ r. IsRunFrom (start_machine limits (strategy_of pool)) r.1) }
     ensures parks { IfOk result (λ r. ParksFrom (start_machine limits (strategy_of pool)) r.1) }
     ensures polled { IfOk result (λ r. PollsFrom O.output_number (λ a b. ⊤) F.TaskFuture future (start_machine limits (strategy_of pool)) r) }
+    ensures still_polled { IfOk result (λ r. StillPollsFrom O.output_number (λ a b. ⊤) F.TaskFuture future (start_machine limits (strategy_of pool)) r) }
     ensures full { IfOk result (λ r. UnlessRefused r.0 (r.1.is_full ≡ true → IsOneLong O.output_number (λ a b. ⊤) F.TaskFuture)) }
     ensures lacks { IfOk result (λ r. IfRefused r.0 (r.1.is_full ≡ true → r.1.entries.items ≡ [])) }
 {

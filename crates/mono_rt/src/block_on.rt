@@ -6,13 +6,13 @@ ghost use Rattle.mono_rt.specs.Rounds.{WaitEnds, broken_after, PauseEnds, Round,
 ghost use Rattle.mono_rt.specs.SpawnErrors.{HasPlace, AnswersPlace, UnlessRefused, IfRefused};
 ghost use Rattle.mono_model.specs.Table.{is_full};
 ghost use Rattle.mono_rt.specs.Faults.{FaultsBy, FaultsParked};
-ghost use Rattle.mono_rt.specs.FuturePolls.{OnMain};
+ghost use Rattle.mono_rt.specs.FuturePolls.{OnMain, OnLack};
 ghost use Rattle.mono_rt.specs.JournalRoom.{LacksRefusal};
 ghost use Rattle.mono_rt.specs.Pollable.{CanTurn};
 ghost use Rattle.mono_rt.specs.Remains.{KeepsContext, KeepsStrategy, HasRetired};
 ghost use Rattle.mono_rt.specs.DriverReadings.{going, Telling, Still, EndsWaited};
 ghost use Rattle.mono_rt.specs.Progress.{ending, lasting, Idles, Proceeds, MakesMain, MakesNone};
-ghost use Rattle.mono_rt.specs.Views.{exposed, Blocks, Rests, HasOwnFutures, is_at_limit, HoldsSamePlaces, GivesNoMore, LeadsShared, TellsDriver, PollsMainTask, FillsJournalBy, CanRun};
+ghost use Rattle.mono_rt.specs.Views.{exposed, Blocks, Rests, HasOwnFutures, is_at_limit, HoldsSamePlaces, GivesNoMore, LeadsShared, TellsDriver, PollsMainTask, StillPollsMainTask, FillsJournalBy, CanRun};
 
 use crate::contexts::Cx;
 use crate::parts::RunError;
@@ -231,8 +231,8 @@ where
     /// memory. It is parked and read as the history says, and after a call of it that failed it gets no further one but a
     /// reading (`told`).
     ///
-    /// Each turn of the history is one poll of its task's own future, from the futures that the turns before it left,
-    /// unless the answer is Memory (`polled`). The answer is Driver if and only if the driver's count of faults rose in
+    /// Each turn of the history is one poll of its task's own future, from the futures that the turns before it left
+    /// (`polled`). If the answer is Memory, this holds of the turn in which memory ran out, too (`still_polled`). The answer is Driver if and only if the driver's count of faults rose in
     /// this call, also if memory ran out after that (`faults`).
     ///
     /// An Ok value is one that the main future gives, if each future has its task's number (`given`). No task may
@@ -269,6 +269,7 @@ where
         ensures retired { OnMain result (HasRetired self.new) }
         ensures rests { Rests self.new }
         ensures polled { OnMain result (PollsMainTask O.output_number W.leads F.TaskFuture future self.old self.new) }
+        ensures still_polled { OnLack result (StillPollsMainTask O.output_number W.leads F.TaskFuture future self.old self.new) }
         ensures faults { FaultsBy result (D.faults self.old.driver) (D.faults self.new.driver) }
         ensures told { TellsDriver result D.Clock self.old self.new }
         ensures full { FillsJournalBy O.output_number W.leads F.TaskFuture result self.old self.new }

@@ -25,7 +25,7 @@ returns-in-Ok-clause-history g c =
     c.in-Ok.ensures.timers
     (same_start built.limits _ built.pool _ c.new-builder.ensures.limits c.new-builder.ensures.pool)
     (same_told g.D.Clock.readings g.D.Clock.time g.D.Clock.parks g.D.Clock.submits g.D.Clock.faults g.D.Clock.can_fail (c.in-Ok.ensures.driver ∙ c.new-builder.ensures.driver))
-    c.in-Ok.ensures.futures c.in-Ok.ensures.stands c.in-Ok.ensures.history c.in-Ok.ensures.registered c.block_on.ensures.blocked c.block_on.ensures.told c.block_on.ensures.polled
+    c.in-Ok.ensures.futures c.in-Ok.ensures.stands c.in-Ok.ensures.history c.in-Ok.ensures.registered c.block_on.ensures.blocked c.block_on.ensures.told c.block_on.ensures.polled c.block_on.ensures.still_polled
 
 pub returns-in-Ok-clause-given : goal.returns-in-Ok-clause-given
 returns-in-Ok-clause-given g c = ok_given (IsAligned c.in-Ok.runtime.cx) (g.F.TaskFuture.gives c.args.future) c.block_on.result c.in-Ok.ensures.aligned c.block_on.ensures.given

@@ -1,14 +1,14 @@
-use Rattle.std.proofs.Common.{arith, ◌≡◌, Option, Some, None, refl, ◌∙◌, sym}
+use Rattle.std.proofs.Common.{arith, inl, inr, false, true, ◌≡◌, Option, Some, None, refl, ◌∙◌, sym}
 use Rattle.std.specs.Prelude.{⊤}
 use Rattle.std.specs.Option.{option_map}
 use Rattle.mono_rt.specs.Rounds.{IsSpawn}
 use Rattle.mono_rt.proofs.JournalLemmas.{goes_of}
-use Rattle.mono_rt.proofs.RoundLemmas.{blocks_by, blocks_done, blocks_refused}
+use Rattle.mono_rt.proofs.RoundLemmas.{does_more, blocks_by, blocks_done, blocks_refused}
 use Rattle.mono_rt.proofs.DriverLemmas.{telling_more, capacity_ends, so_after, so_by, so_error, so_past, so_value}
 use Rattle.std.proofs.Common.{Err, subst}
-use Rattle.mono_rt.specs.Journals.{Does}
-use Rattle.mono_rt.specs.FuturePolls.{Polling}
-use Rattle.mono_rt.proofs.FuturePollLemmas.{polls_on, polls_drop, polls_main, same_error, on_main, none_made}
+use Rattle.mono_rt.specs.Journals.{Does, Stays}
+use Rattle.mono_rt.specs.FuturePolls.{PollingBy, PollsMainBy, StillPollsMain}
+use Rattle.mono_rt.proofs.FuturePollLemmas.{polls_on, polls_drop, polls_main, lasted_main, lacked_main, none_lacked, none_made}
 use Rattle.mono_rt.proofs.JournalRoomLemmas.{fills_on, fills_not, fills_still, fills_unmade, fills_made}
 use Rattle.mono_rt.proofs.FaultLemmas.{capacity_faults, faults_after}
 use Rattle.mono_rt.specs.Outputs.{AddsNone}
@@ -19,6 +19,9 @@ use Rattle.mono_rt.proofs.OutputLemmas.{adds_itself, adds_dropped, output_droppe
 use Rattle.mono_rt.proofs.PossibleAnswerLemmas.{aligned_spawned, no_more_on, no_more_by, no_more_spawned, given_later}
 use Rattle.mono_rt.proofs.PollableLemmas.{turn_same, turn_with}
 use Rattle.mono_rt.proofs.runtimes.Runtime.block_on.Goals as goal
+
+false-true : false ≡ true → ⊥
+false-true e = cc
 
 -- if the main task has its output, the drop of its handle gives it
 none_given : {A : Type 0} (v : Option A) (x : A) → v ≡ None → v ≡ Some x → ⊥
@@ -100,12 +103,11 @@ returns-in-Err-answer-clause-polled g c =
     let ended = c.end_main-output.new.self in
     let last = c.end_main-output.new.journal in
     let h = old.cx.parts.has_timers in
-    same_error ⊤ ⊤ c.in-Err-answer.error _ (on_main {X = ⊤} (Err c.in-Err-answer.error) _ _
-    (λ x. polls_main number g.W.SharedState.leads g.F.TaskFuture h c.args.future c.in-Ok.main old.cx.futures.items started.cx.futures.items ran.cx.futures.items old.cx.parts started.cx.parts ended old.journal started.journal last c.in-Ok.ensures.made.futures c.in-Ok.ensures.made.spawn
-    (polls_on number g.W.SharedState.leads g.F.TaskFuture h started.cx.futures.items ran.cx.futures.items ran.cx.futures.items started.cx.parts ran.cx.parts ended started.journal ran.journal last
-    (subst (λ b. Does number (Polling number g.W.SharedState.leads g.F.TaskFuture b started.cx.futures.items ran.cx.futures.items) started.cx.parts ran.cx.parts started.journal ran.journal) c.start_main.ensures.has_timers x)
-    (polls_drop number g.W.SharedState.leads g.F.TaskFuture h ran.cx.futures.items ran.cx.futures.items c.in-Ok.main (option_map number c.end_main-output.result) ran.cx.parts ended ran.journal last refl c.end_main-output.ensures.dropped)))
-    (rw c.in-Err-answer.is at c.run-answer.ensures.went.polled))
+    lasted_main {X = ⊤} (Err c.in-Err-answer.error) _ (λ lasts.
+    (polls_main number g.W.SharedState.leads g.F.TaskFuture h true c.args.future c.in-Ok.main old.cx.futures.items started.cx.futures.items ran.cx.futures.items old.cx.parts started.cx.parts ended old.journal started.journal last c.in-Ok.ensures.made.futures c.in-Ok.ensures.made.spawn
+    (polls_on number g.W.SharedState.leads g.F.TaskFuture h true started.cx.futures.items ran.cx.futures.items ran.cx.futures.items started.cx.parts ran.cx.parts ended started.journal ran.journal last
+    (subst (λ b. Does number (PollingBy number g.W.SharedState.leads g.F.TaskFuture b true started.cx.futures.items ran.cx.futures.items) started.cx.parts ran.cx.parts started.journal ran.journal) c.start_main.ensures.has_timers ((rw c.in-Err-answer.is at c.run-answer.ensures.went.polled) true (λ is. lasts)))
+    (polls_drop number g.W.SharedState.leads g.F.TaskFuture h true ran.cx.futures.items ran.cx.futures.items c.in-Ok.main (option_map number c.end_main-output.result) ran.cx.parts ended ran.journal last refl c.end_main-output.ensures.dropped))))
 
 pub returns-in-Some-clause-polled : goal.returns-in-Some-clause-polled
 returns-in-Some-clause-polled g c =
@@ -116,10 +118,35 @@ returns-in-Some-clause-polled g c =
     let ended = c.end_main-output.new.self in
     let last = c.end_main-output.new.journal in
     let h = old.cx.parts.has_timers in
-    polls_main number g.W.SharedState.leads g.F.TaskFuture h c.args.future c.in-Ok.main old.cx.futures.items started.cx.futures.items ran.cx.futures.items old.cx.parts started.cx.parts ended old.journal started.journal last c.in-Ok.ensures.made.futures c.in-Ok.ensures.made.spawn
-    (polls_on number g.W.SharedState.leads g.F.TaskFuture h started.cx.futures.items ran.cx.futures.items ran.cx.futures.items started.cx.parts ran.cx.parts ended started.journal ran.journal last
-    (subst (λ b. Does number (Polling number g.W.SharedState.leads g.F.TaskFuture b started.cx.futures.items ran.cx.futures.items) started.cx.parts ran.cx.parts started.journal ran.journal) c.start_main.ensures.has_timers (rw c.in-Ok-answer.is at c.run-answer.ensures.went.polled))
-    (polls_drop number g.W.SharedState.leads g.F.TaskFuture h ran.cx.futures.items ran.cx.futures.items c.in-Ok.main (option_map number c.end_main-output.result) ran.cx.parts ended ran.journal last refl c.end_main-output.ensures.dropped))
+    polls_main number g.W.SharedState.leads g.F.TaskFuture h true c.args.future c.in-Ok.main old.cx.futures.items started.cx.futures.items ran.cx.futures.items old.cx.parts started.cx.parts ended old.journal started.journal last c.in-Ok.ensures.made.futures c.in-Ok.ensures.made.spawn
+    (polls_on number g.W.SharedState.leads g.F.TaskFuture h true started.cx.futures.items ran.cx.futures.items ran.cx.futures.items started.cx.parts ran.cx.parts ended started.journal ran.journal last
+    (subst (λ b. Does number (PollingBy number g.W.SharedState.leads g.F.TaskFuture b true started.cx.futures.items ran.cx.futures.items) started.cx.parts ran.cx.parts started.journal ran.journal) c.start_main.ensures.has_timers ((rw c.in-Ok-answer.is at c.run-answer.ensures.went.polled) true (λ is. tt)))
+    (polls_drop number g.W.SharedState.leads g.F.TaskFuture h true ran.cx.futures.items ran.cx.futures.items c.in-Ok.main (option_map number c.end_main-output.result) ran.cx.parts ended ran.journal last refl c.end_main-output.ensures.dropped))
+
+pub returns-in-Err-clause-still_polled : goal.returns-in-Err-clause-still_polled
+returns-in-Err-clause-still_polled g c =
+    let number = g.O.Outcome.output_number in
+    let old = c.args.self.now in
+    let started = c.start_main.new.self in
+    none_lacked ⊤ c.in-Err.error _ _
+    (does_more number Stays (StillPollsMain number g.W.SharedState.leads g.F.TaskFuture old.cx.parts.has_timers c.args.future old.cx.futures.items started.cx.futures.items) old.cx.parts started.cx.parts old.journal started.journal (λ m new xs zs stm stn is. inl is))
+    c.in-Err.ensures.none.stays
+
+pub returns-in-Err-answer-clause-still_polled : goal.returns-in-Err-answer-clause-still_polled
+returns-in-Err-answer-clause-still_polled g c =
+    let number = g.O.Outcome.output_number in
+    let old = c.args.self.now in
+    let started = c.start_main.new.self in
+    let ran = c.run-answer.new.self in
+    let ended = c.end_main-output.new.self in
+    let last = c.end_main-output.new.journal in
+    let h = old.cx.parts.has_timers in
+    lacked_main {X = ⊤} (Err c.in-Err-answer.error) _
+    (does_more number (PollsMainBy number g.W.SharedState.leads g.F.TaskFuture h false c.args.future old.cx.futures.items ran.cx.futures.items) (StillPollsMain number g.W.SharedState.leads g.F.TaskFuture h c.args.future old.cx.futures.items ran.cx.futures.items) old.cx.parts ended old.journal last (λ m new xs zs stm stn is. inr is)
+    (polls_main number g.W.SharedState.leads g.F.TaskFuture h false c.args.future c.in-Ok.main old.cx.futures.items started.cx.futures.items ran.cx.futures.items old.cx.parts started.cx.parts ended old.journal started.journal last c.in-Ok.ensures.made.futures c.in-Ok.ensures.made.spawn
+    (polls_on number g.W.SharedState.leads g.F.TaskFuture h false started.cx.futures.items ran.cx.futures.items ran.cx.futures.items started.cx.parts ran.cx.parts ended started.journal ran.journal last
+    (subst (λ b. Does number (PollingBy number g.W.SharedState.leads g.F.TaskFuture b false started.cx.futures.items ran.cx.futures.items) started.cx.parts ran.cx.parts started.journal ran.journal) c.start_main.ensures.has_timers (c.run-answer.ensures.went.polled false (λ is. absurd (false-true is))))
+    (polls_drop number g.W.SharedState.leads g.F.TaskFuture h false ran.cx.futures.items ran.cx.futures.items c.in-Ok.main (option_map number c.end_main-output.result) ran.cx.parts ended ran.journal last refl c.end_main-output.ensures.dropped))))
 
 pub returns-in-Err-clause-faults : goal.returns-in-Err-clause-faults
 returns-in-Err-clause-faults g c = capacity_faults _ c.in-Err.error _ _ c.in-Err.ensures.none.refused c.start_main.ensures.faults

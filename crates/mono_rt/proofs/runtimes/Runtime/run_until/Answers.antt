@@ -1,7 +1,8 @@
-use Rattle.std.proofs.Common.{refl}
+use Rattle.std.proofs.Common.{◌≡◌, false, true, refl}
 use Rattle.mono_rt.proofs.OutputLemmas.{adds_itself}
 use Rattle.mono_rt.proofs.PossibleAnswerLemmas.{no_more_on, no_more_by}
 use Rattle.mono_rt.proofs.PollableLemmas.{turn_same}
+use Rattle.mono_rt.proofs.FuturePollLemmas.{lasted_main}
 use Rattle.mono_rt.proofs.StrategyLemmas.{same_strategy}
 use Rattle.mono_rt.proofs.runtimes.Runtime.run_until.Goals as goal
 
@@ -18,7 +19,7 @@ pub returns-clause-shared : goal.returns-clause-shared
 returns-clause-shared g c = c.run-answer.ensures.went.shared
 
 pub returns-clause-polled : goal.returns-clause-polled
-returns-clause-polled g c = c.run-answer.ensures.went.polled
+returns-clause-polled g c = lasted_main c.run-answer.result _ (λ lasts. c.run-answer.ensures.went.polled true (λ is. lasts))
 
 pub returns-clause-faults : goal.returns-clause-faults
 returns-clause-faults g c = c.run-answer.ensures.went.faults
@@ -46,3 +47,9 @@ returns-clause-callable g c =
     let gives = g.F.TaskFuture.gives in
     let ran = c.run-answer.new.self in
     turn_same g.F.TaskFuture gives ran.cx _ (no_more_by gives ran.cx _ (adds_itself ran.cx.parts.tasks.tasks) refl) refl (c.run-answer.ensures.went.callable c.requires.callable)
+
+false-true : false ≡ true → ⊥
+false-true e = cc
+
+pub returns-clause-still_polled : goal.returns-clause-still_polled
+returns-clause-still_polled g c = c.run-answer.ensures.went.polled false (λ is. absurd (false-true is))

@@ -3,13 +3,14 @@ use Rattle.mono_rt.specs.Journals.{Does, Stays}
 use Rattle.mono_rt.specs.Record.{no_acts}
 use Rattle.mono_rt.specs.Refinement.{hosting_of}
 use Rattle.mono_rt.specs.Rounds.{UpToOneTurn, TurnEnds}
+use Rattle.mono_rt.specs.FuturePolls.{HasLasted}
 use Rattle.mono_rt.specs.Turns.{Turn}
 use Rattle.mono_rt.specs.Progress.{lasting, Proceeds}
 use Rattle.mono_rt.proofs.CallLemmas.{same_machine}
 use Rattle.mono_rt.proofs.JournalLemmas.{does_turn}
 use Rattle.mono_rt.proofs.RoundLemmas.{does_one, does_more, turn_ends}
 use Rattle.mono_rt.proofs.DriverLemmas.{telling_on, telling_more, tells_kept, unfailed, so_broken}
-use Rattle.mono_rt.proofs.FuturePollLemmas.{polls_turn}
+use Rattle.mono_rt.proofs.FuturePollLemmas.{polls_stays, polls_turn}
 use Rattle.mono_rt.proofs.JournalRoomLemmas.{fills_not, fills_turn}
 use Rattle.mono_rt.proofs.PossibleAnswerLemmas.{no_more_same, no_more_around}
 use Rattle.mono_rt.proofs.PollableLemmas.{turn_same}
@@ -47,7 +48,7 @@ returns-in_default-clause-went g c =
       answers = answers;
       callable = turn_same future future.gives old.cx opened answers refl;
       shared = g.W.SharedState.leads_itself _;
-      polled = tt;
+      polled = λ lasts may. polls_stays g.O.Outcome.output_number g.W.SharedState.leads future old.cx.parts.has_timers lasts old.cx.futures.items old.cx.futures.items old.cx.parts opened.parts old.journal c.open_turn.new.journal refl c.in_default.ensures.unread;
       faults = c.open_turn.ensures.faults;
       told = so_broken (telling_more unfailed c.open_turn.ensures.told);
       full = fills_not g.O.Outcome.output_number g.W.SharedState.leads future old.cx old.journal c.open_turn.new.journal c.open_turn.ensures.full;
@@ -75,11 +76,11 @@ returns-clause-went g c =
     (no_more_around future.gives old.cx opened done closed c.open_turn.ensures.tasks refl c.turn-task.ensures.answers c.keep_turn.ensures.tasks refl)
     (λ x. turn_same future future.gives done closed (no_more_same future.gives done closed c.keep_turn.ensures.tasks refl) refl c.turn-task.ensures.callable)
     c.turn-task.ensures.shared
-    (λ lasted. polls_turn number leads future old.cx.parts.has_timers old.cx opened done closed old.journal first last c.turn-task.result.0 c.in-Some.now old.journal.is_full c.turn-task.result.1 c.turn-task.result.2 c.open_turn.ensures.has_timers refl c.in-Some.ensures.at
+    (λ lasts lasted. polls_turn number leads future old.cx.parts.has_timers lasts old.cx opened done closed old.journal first last c.turn-task.result.0 c.in-Some.now old.journal.is_full c.turn-task.result.1 c.turn-task.result.2 c.open_turn.ensures.has_timers refl c.in-Some.ensures.at
     (subst (λ acts. Turn number leads future c.turn-task.result.0 c.in-Some.now acts c.turn-task.result.1 c.turn-task.result.2 opened done) c.in-Some.ensures.acts c.turn-task.ensures.turn)
     (does_turn number opened.parts done.parts closed.parts first last _ _ _ is c.keep_turn.ensures.history
     (λ m st. same_machine number hosting_of done.parts closed.parts m c.keep_turn.ensures.tasks c.keep_turn.ensures.timers c.keep_turn.ensures.has_timers c.keep_turn.ensures.blocking st) c.keep_turn.ensures.timers)
-    refl (sym c.keep_turn.ensures.memory ∙ lasted) refl)
+    refl (subst (λ x. HasLasted lasts x) c.keep_turn.ensures.memory lasted) refl)
     c.open_turn.ensures.faults
     (telling_on c.open_turn.ensures.told (tells_kept _ _ _ refl c.keep_turn.ensures.history))
     (fills_turn number leads future old.cx opened done old.journal first last _ _ _ _ c.open_turn.ensures.goes c.open_turn.ensures.full (λ unfull. c.in-Some.ensures.acts ∙ ap no_acts (sym c.open_turn.ensures.full ∙ unfull)) c.turn-task.ensures.turn is c.keep_turn.ensures.full)

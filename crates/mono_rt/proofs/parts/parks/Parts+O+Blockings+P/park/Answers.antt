@@ -1,4 +1,4 @@
-use Rattle.std.proofs.Common.{ℕ, Some, None, Option, refl, [], ◌∷◌, ◌∙◌, sym, subst}
+use Rattle.std.proofs.Common.{ℕ, Some, None, Option, refl, [], ◌∷◌, sym, subst}
 use Rattle.std.specs.Prelude.{IfSome}
 use Rattle.mono_time.specs.Instants.{nanos_of}
 use Rattle.mono_time.specs.Timers.{registered_of}
