@@ -1,5 +1,5 @@
 -- What an order says of the lines so far.
-use Rattle.std.specs.Prelude.{◌≡◌, ℕ, ◌+◌, Bool, true, false, List, [], ◌∷◌, ◌++◌, length, Option, Some, None}
+use Rattle.std.specs.Prelude.{◌≡◌, ℕ, ◌+◌, Bool, true, false, List, ◌++◌, length, Option, Some, None}
 use Rattle.mono_trace.specs.Order.{stop_at}
 use Rattle.mono_trace.specs.declared.marks.Mark.{Mark}
 use Rattle.mono_trace.specs.declared.marks.Stage.{Stage}

@@ -1,10 +1,9 @@
-// A run whose worker begins late: the runtime parks on its driver, and the worker's wake ends the park, or it comes between
-// two short parks.
+// A run whose worker begins late: the runtime parks on its driver, and the worker's wake ends the park.
 ghost use Rattle.std.specs.Prelude.{◌≡◌, ◌<◌, IfNone, IfSome};
 ghost use Rattle.std.specs.Vec.{vec_len, vec_capacity};
 ghost use Rattle.mono_blocking.specs.Counts.{counted_by};
 
-use crate::runs::{ROOM, clock_at, split};
+use crate::runs::{ROOM, split};
 use mono_blocking::{Entry, Spawner, ThreadSpawner};
 use mono_model::Host;
 use mono_script::{Clock, Instant, MemSink, MemSource, program};
@@ -30,36 +29,14 @@ impl Clock for CountingClock {
     }
 }
 
-/// How late a worker begins: once the word is so great, or after so many reads of the word.
-#[derive(Clone, Copy)]
-struct Delay {
-    least: u64,
-    reads: u64,
-}
-
-/// The worker begins once the runtime is about to park.
-const UNTIL_THE_PARK: Delay = Delay {
-    least: BEFORE_THE_PARK,
-    reads: u64::MAX,
-};
-
-/// The worker begins after 200,000,000 reads of a word.
-const MANY_READS: Delay = Delay {
-    least: u64::MAX,
-    reads: 200_000_000,
-};
-
-/// A job that reads the word before its worker begins.
+/// A job that waits until the runtime is about to park.
 #[derive(Drop)]
-struct ReadsFirst {
-    word: Arc<AtomicU64, Global>,
-    delay: Delay,
-}
+struct WaitsFirst(Arc<AtomicU64, Global>);
 
-impl Entry for ReadsFirst {
+impl Entry for WaitsFirst {
     fn enter(self) {
-        for _ in 0..self.delay.reads {
-            if self.word.load(Ordering::SeqCst) >= self.delay.least {
+        for _ in 0..u64::MAX {
+            if self.0.load(Ordering::SeqCst) >= BEFORE_THE_PARK {
                 return;
             }
         }
@@ -71,11 +48,10 @@ impl Entry for ReadsFirst {
 struct LateSpawner {
     inner: ThreadSpawner,
     readings: Arc<AtomicU64, Global>,
-    delay: Delay,
 }
 
 impl Spawner for LateSpawner {
-    type Entry = ReadsFirst;
+    type Entry = WaitsFirst;
 
     ghost starts = { λ spawner. spawner.inner.asked.starts };
 
@@ -83,17 +59,14 @@ impl Spawner for LateSpawner {
 
     ghost can_keep = { λ spawner. vec_len spawner.inner.threads < vec_capacity spawner.inner.threads };
 
-    fn admit(&mut self) -> Option<ReadsFirst>
+    fn admit(&mut self) -> Option<WaitsFirst>
         ensures starts { self.new.inner.asked.starts ≡ counted_by 1 self.old.inner.asked.starts }
         ensures admitted { IfSome result (λ _. (vec_len self.new.inner.threads < vec_capacity self.new.inner.threads) × (self.new.inner.asked.refusals ≡ self.old.inner.asked.refusals)) }
         ensures refused { IfNone result (self.new.inner.asked.refusals ≡ counted_by 1 self.old.inner.asked.refusals) }
     {
         self.inner.admit()?;
         match Arc::try_clone(&self.readings) {
-            Ok(word) => Some(ReadsFirst {
-                word,
-                delay: self.delay,
-            }),
+            Ok(readings) => Some(WaitsFirst(readings)),
             Err(_) => {
                 self.inner.refuse();
                 None
@@ -176,60 +149,12 @@ fn a_worker_that_begins_late_wakes_the_main_task(rt: HostRuntime) -> Result<(), 
         let mut spawner = LateSpawner {
             inner: ThreadSpawner::new(alloc),
             readings: Arc::new(alloc, AtomicU64::new(0))?,
-            delay: UNTIL_THE_PARK,
         };
         let woken = is_woken(&rt, alloc, &mut spawner, &case);
-        let LateSpawner {
-            inner,
-            readings,
-            delay: _,
-        } = spawner;
+        let LateSpawner { inner, readings } = spawner;
         readings.store(BEFORE_THE_PARK, Ordering::SeqCst);
         inner.join(&rt);
         assert!(&rt; matches!(woken, Some(true)));
     }
-    Ok(())
-}
-
-// A script whose main task waits for a job, while another task sleeps for 63 milliseconds.
-const SHORT_PARKS: &[u8] =
-    b"limits 8 8 8\ntask\nspawn 1\nblock 4\nawait-job 0\ndone 1\ntask\nawait-sleep 63000000\ndone 2\n";
-
-// Returns whether the run of this script ends with its main task's output, after a wake from its worker. Its clock always
-// reads 0, so each park lasts at most 63 milliseconds.
-fn is_drained<R: Host + Send + 'static>(
-    rt: &R,
-    alloc: Global,
-    spawner: &mut LateSpawner,
-) -> Option<bool> {
-    let words = split(alloc, "run 1 400").ok()?;
-    let mut source = MemSource::new(Vec::from_slice(alloc, SHORT_PARKS).ok()?, Vec::new(alloc));
-    let mut sink = MemSink::new(alloc, ROOM, Vec::new(alloc)).ok()?;
-    let clock = clock_at(alloc, 0)?;
-    let status = program(rt, alloc, &words, &mut source, &mut sink, clock, spawner);
-    let output = str::from_utf8(sink.bytes()).ok()?;
-    let is_listed = output.contains("\nremote 0 -> listed\n");
-    Some(status == 0 && is_listed && output.ends_with("\nmain 1\n"))
-}
-
-// A job on the caller, parks that return at once, and a runtime that does not drain its inbox each miss the wake, and end
-// with their budget.
-#[test]
-fn a_slow_worker_is_heard_between_short_parks(rt: HostRuntime) -> Result<(), AllocError> {
-    let alloc = rt.alloc();
-    let mut spawner = LateSpawner {
-        inner: ThreadSpawner::new(alloc),
-        readings: Arc::new(alloc, AtomicU64::new(0))?,
-        delay: MANY_READS,
-    };
-    let drained = is_drained(&rt, alloc, &mut spawner);
-    let LateSpawner {
-        inner,
-        readings,
-        delay: _,
-    } = spawner;
-    inner.join(&rt);
-    drop(readings);
-    assert!(&rt; matches!(drained, Some(true)));
     Ok(())
 }
