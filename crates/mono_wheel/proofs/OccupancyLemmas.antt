@@ -57,8 +57,28 @@ module _ (levels : List ℕ) (level slot word : ℕ) (is : word ≡ get_or level
   bit-turned : (offset : ℕ) → offset < 64 → occupied_bit levels (level * 64 + (slot + 1 + offset) % 64) ≡ bit_at (rotate_right w64 word (slot + 1)) offset
   bit-turned offset b = bit-level levels level ((slot + 1 + offset) % 64) (mod-lt (slot + 1 + offset) (omega arith)) ∙ ap (λ z. bit_at z ((slot + 1 + offset) % 64)) (sym is) ∙ sym (turned word (slot + 1) offset fits b)
 
-  pub none-after : rotate_right w64 word (slot + 1) ≡ 0 → IsFirstAfter levels level slot None
-  none-after e offset b = bit-turned offset b ∙ ap (λ z. bit_at z offset) e ∙ bit_at-zero offset
+  pub none-after : word ≡ 0 → IsFirstAfter levels level slot None
+  none-after e offset b =
+      bit-level levels level ((slot + 1 + offset) % 64) (mod-lt (slot + 1 + offset) (omega arith))
+      ∙ ap (λ z. bit_at z ((slot + 1 + offset) % 64)) (sym is ∙ e)
+      ∙ bit_at-zero ((slot + 1 + offset) % 64)
+
+  -- a bit of the word is one of the turned word
+  pub some-after : slot < 64 → 0 < word → 0 < rotate_right w64 word (slot + 1)
+  some-after low some = elim (cases_lt 0 (rotate_right w64 word (slot + 1))) [
+    | inl more ↦ more
+    | inr none ↦
+        let first = bit_at-trailing_zeros w64 word some fits in
+        let at : ℕ = trailing_zeros w64 word in
+        let small : at < 64 = first.0 in
+        let offset : ℕ = (at + 63 - slot) % 64 in
+        let under : offset < 64 = mod-lt (at + 63 - slot) (omega arith) in
+        let here : (slot + 1 + offset) % 64 ≡ at = omega (arith, low, small) in
+        let zero : rotate_right w64 word (slot + 1) ≡ 0 = omega (arith, none) in
+        let one : bit_at word ((slot + 1 + offset) % 64) ≡ 1 = ap (bit_at word) here ∙ first.1 in
+        let gone : bit_at word ((slot + 1 + offset) % 64) ≡ 0 = sym (turned word (slot + 1) offset fits under) ∙ ap (λ z. bit_at z offset) zero ∙ bit_at-zero offset in
+        absurd (omega (arith, one, gone))
+  ]
 
   pub first-after : 0 < rotate_right w64 word (slot + 1) → rotate_right w64 word (slot + 1) < 2 ^ 64 → IsFirstAfter levels level slot (Some ((slot + 1 + trailing_zeros w64 (rotate_right w64 word (slot + 1))) % 64))
   first-after some small =

@@ -57,11 +57,11 @@ impl Occupied {
         requires slot { slot < 64 }
         ensures { IsFirstAfter self.now level slot result }
     {
-        let bits = self.levels[level].rotate_right(slot as u32 + 1);
+        let bits = self.levels[level];
         if bits == 0 {
-            None
-        } else {
-            Some((slot + 1 + bits.trailing_zeros() as usize) % 64)
+            return None;
         }
+        let turned = bits.rotate_right(slot as u32 + 1);
+        Some((slot + 1 + turned.trailing_zeros() as usize) % 64)
     }
 }
