@@ -176,6 +176,18 @@ impl SlotLinks {
         self.links.only(list)
     }
 
+    /// Removes the only node of a slot's list, and gives it these ticks.
+    pub fn take_only(&mut self, slot: usize, node: usize, entry: Entry)
+        requires slot { slot < slot_count }
+        requires alone { list_at self.old.table slot ≡ node ∷ [] }
+        ensures taken { self.new.table ≡ with_entry (with_list self.old.table slot []) node entry }
+        ensures moves { self.new.moves ≡ self.old.moves + 1 }
+    {
+        self.links.take_only(slot, node, entry);
+        self.occupied.clear(slot);
+        self.moves = self.moves.and(&node);
+    }
+
     /// Removes and returns the last node of the taken list, as one step, or returns `None` if and only if that list is
     /// empty, as no step.
     pub fn pop_taken<L: Ledger>(&mut self, steps: &mut Steps<L>) -> Option<usize>

@@ -1,10 +1,12 @@
-use Rattle.std.proofs.Common.{◌∷◌, ◌++◌, [], ap, sym, ◌∙◌}
-use Rattle.mono_wheel.specs.Lists.{list_at}
-use Rattle.mono_wheel.proofs.SkipLemmas.{one-alone}
+use Rattle.std.proofs.Common.{◌≡◌, ◌<◌, length, ap, ◌∙◌}
+use Rattle.mono_wheel.specs.Rings.{head_at, next_in, prev_in}
+use Rattle.mono_wheel.proofs.CallLemmas.{seen-below, head-read}
+use Rattle.mono_wheel.proofs.OnlyNodeLemmas.{only-node}
 use Rattle.mono_wheel.proofs.links.Links.only.Goals as goal
 
-pub returns-then-first-last : goal.returns-then-first-last
-returns-then-first-last c =
-    let first = c.in_ok-first.ensures.first in
-    let last = c.in_ok-last.ensures in
-    one-alone c.in_ok-first.first (list_at c.args.self.now c.args.list) first.0 last.0 c.in_ok-first.ensures.distinct first.1 (last.1 ∙ ap (λ z. last.0 ++ z ∷ []) (sym c.if-first-last.true))
+pub returns : goal.returns
+returns c =
+    let below : c.args.list < length c.self.inside.heads.items = seen-below c.self.inside.nodes.slots c.self.inside.heads.items _ c.args.self.now c.args.list c.self.view_is c.requires in
+    let head : c.index-head.result.now ≡ head_at c.self.inside.heads.items c.args.list = head-read _ _ _ below c.index-head.ensures in
+    only-node c.self.inside.nodes.slots c.self.inside.heads.items c.args.self.now _ c.args.list c.index-head.result.now c.self.view_is c.self.invariant.stand c.requires head c.next-first.result c.prev-last.result
+    (c.next-first.ensures ∙ ap (next_in c.self.inside.nodes.slots) head) (c.prev-last.ensures ∙ ap (prev_in c.self.inside.nodes.slots) head) c.if-first-last.false c.if-first-head.false
