@@ -120,24 +120,6 @@ fn sleeps_counts_and_sleeps(rt: HostRuntime) {
 }
 
 #[test]
-fn either_is_one_of_two_tasks(rt: HostRuntime) {
-    let alloc = rt.alloc();
-    for picks in [true, false] {
-        let task = if picks {
-            ready(7u64).left_future()
-        } else {
-            yield_now().map(|_: ()| 8u64).right_future()
-        };
-        let told = if picks {
-            (Ok(7), (1, 0, 0))
-        } else {
-            (Ok(8), (2, 0, 0))
-        };
-        assert_eq!(rt; run(&rt, alloc, task), told);
-    }
-}
-
-#[test]
 fn tasks_of_two_kinds_stand_in_one_table(rt: HostRuntime) {
     let beside = sleep_for(Duration::from_millis(1))
         .map(|_: Result<(), SleepError>| 7u64)
@@ -200,25 +182,6 @@ fn a_loop_that_never_waits_gives_way(rt: HostRuntime) {
         })
     });
     assert_eq!(rt; run(&rt, rt.alloc(), task), (Ok(300), (3, 0, 0)));
-}
-
-#[test]
-fn one_turn_takes_both_where_the_first_is_there(rt: HostRuntime) {
-    let task = ready(1u64)
-        .then(|x: u64| ready(x.saturating_add(1)))
-        .then(|x: u64| ready(x.saturating_add(1)));
-    assert_eq!(rt; run(&rt, rt.alloc(), task), (Ok(3), (1, 0, 0)));
-}
-
-#[test]
-fn an_error_ends_a_chain(rt: HostRuntime) {
-    let milli = Duration::from_millis(1);
-    let failed: Result<(), SleepError> = Err(SleepError::Memory);
-    let task = ready(failed).and_then(move |_: ()| sleep_for(milli)).map(|answer: Result<
-        (),
-        SleepError,
-    >| if answer.is_err() { 5u64 } else { 6 });
-    assert_eq!(rt; run(&rt, rt.alloc(), task), (Ok(5), (1, 0, 0)));
 }
 
 #[test]

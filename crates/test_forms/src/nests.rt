@@ -1,8 +1,8 @@
-// Joins and races of four and five parts, in the written order. Each part is once the first to answer, in the second
-// poll; the others wait for the third. In a race of unlike parts the answer stands on its part's side.
+// Joins and races of five parts, in the written order; they are made of those of four parts. Each part is once the first
+// to answer, in the second poll; the others wait for the third. In a race of unlike parts the answer has its part's side.
 use crate::logs::{Part, drive, make_part};
-use mono_combine::{join4, join5};
-use mono_forms::{Either, race_either4, race_either5, race4, race5};
+use mono_combine::join5;
+use mono_forms::{Either, race_either5, race5};
 
 type Four = Either<Either<Either<u64, bool>, char>, u32>;
 
@@ -34,27 +34,6 @@ fn place_of_five(answer: Five) -> u64 {
 }
 
 #[test]
-fn the_first_of_four_ends_a_race(rt: HostRuntime) {
-    for (first, polls, answer, lines) in [
-        (0u64, 1, None, "abcd.ABCD"),
-        (0, 2, Some(1u64), "abcd.aABCD."),
-        (1, 2, Some(2), "abcd.abABCD."),
-        (2, 2, Some(3), "abcd.abcABCD."),
-        (3, 2, Some(4), "abcd.abcdABCD."),
-    ] {
-        let form = race4(
-            part('a', 0, first, 1u64),
-            part('b', 1, first, 2u64),
-            part('c', 2, first, 3u64),
-            part('d', 3, first, 4u64),
-        );
-        let (got, log) = drive(&rt, rt.alloc(), form, polls);
-        assert_eq!(rt; got, answer);
-        assert_eq!(rt; log.as_str(), lines);
-    }
-}
-
-#[test]
 fn the_first_of_five_ends_a_race(rt: HostRuntime) {
     for (first, polls, answer, lines) in [
         (0u64, 1, None, "abcde.ABCDE"),
@@ -78,27 +57,6 @@ fn the_first_of_five_ends_a_race(rt: HostRuntime) {
 }
 
 #[test]
-fn the_first_of_four_unlike_parts_answers_on_its_side(rt: HostRuntime) {
-    for (first, polls, place, lines) in [
-        (0u64, 1, None, "abcd.ABCD"),
-        (0, 2, Some(0u64), "abcd.aABCD."),
-        (1, 2, Some(1), "abcd.abABCD."),
-        (2, 2, Some(2), "abcd.abcABCD."),
-        (3, 2, Some(3), "abcd.abcdABCD."),
-    ] {
-        let form = race_either4(
-            part('a', 0, first, 1u64),
-            part('b', 1, first, true),
-            part('c', 2, first, 'x'),
-            part('d', 3, first, 4u32),
-        );
-        let (got, log) = drive(&rt, rt.alloc(), form, polls);
-        assert_eq!(rt; got.map(place_of_four), place);
-        assert_eq!(rt; log.as_str(), lines);
-    }
-}
-
-#[test]
 fn the_first_of_five_unlike_parts_answers_on_its_side(rt: HostRuntime) {
     for (first, polls, place, lines) in [
         (0u64, 1, None, "abcde.ABCDE"),
@@ -117,29 +75,6 @@ fn the_first_of_five_unlike_parts_answers_on_its_side(rt: HostRuntime) {
         );
         let (got, log) = drive(&rt, rt.alloc(), form, polls);
         assert_eq!(rt; got.map(place_of_five), place);
-        assert_eq!(rt; log.as_str(), lines);
-    }
-}
-
-#[test]
-fn four_join_whichever_is_first(rt: HostRuntime) {
-    let all = (((1u64, true), 'x'), 4u32);
-    for (first, polls, answer, lines) in [
-        (2u64, 1, None, "abcd.ABCD"),
-        (2, 2, None, "abcd.abcCd.ABD"),
-        (0, 3, Some(all), "abcd.aAbcd.bBcCdD."),
-        (1, 3, Some(all), "abcd.abBcd.aAcCdD."),
-        (2, 3, Some(all), "abcd.abcCd.aAbBdD."),
-        (3, 3, Some(all), "abcd.abcdD.aAbBcC."),
-    ] {
-        let form = join4(
-            part('a', 0, first, 1u64),
-            part('b', 1, first, true),
-            part('c', 2, first, 'x'),
-            part('d', 3, first, 4u32),
-        );
-        let (got, log) = drive(&rt, rt.alloc(), form, polls);
-        assert_eq!(rt; got, answer);
         assert_eq!(rt; log.as_str(), lines);
     }
 }
