@@ -7,6 +7,8 @@ use mono_forms::FutureExt;
 use mono_model::{Host, Poll};
 use mono_task::{Context, TaskError, TaskFuture, Woke};
 use std::alloc::Global;
+use std::fmt::Debug;
+use std::process::Abort;
 
 /// A context whose log has a letter for each call of its futures. A small letter is a poll, and the same large means
 /// that the future is given up. `!` is a wake, and `.` the end of a poll from outside.
@@ -137,4 +139,24 @@ pub(crate) fn drive<A: TaskFuture<Log>, R: Host>(
     }
     future.cancel(&mut cx);
     (None, cx.lines)
+}
+
+/// Polls a future at most `polls` times, until it answers, and gives it up. Compares its answer and the log.
+pub(crate) fn goes<A, R>(
+    rt: &R,
+    alloc: Global,
+    future: A,
+    polls: u64,
+    answer: Option<A::Output>,
+    lines: &str,
+)
+where
+    A: TaskFuture<Log, Output: Debug + Drop + PartialEq>,
+    R: Host + Abort,
+    requires unspent { A.is_spent future ≡ false }
+    requires callable { A.can_poll future }
+{
+    let (got, log) = drive(rt, alloc, future, polls);
+    assert_eq!(rt; got, answer);
+    assert_eq!(rt; log.as_str(), lines);
 }

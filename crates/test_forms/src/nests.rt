@@ -1,6 +1,6 @@
 // Joins and races of five parts, in the written order; they are made of those of four parts. Each part is once the first
 // to answer, in the second poll; the others wait for the third. In a race of unlike parts the answer has its part's side.
-use crate::logs::{Part, drive, make_part};
+use crate::logs::{Part, drive, goes, make_part};
 use mono_combine::join5;
 use mono_forms::{Either, race_either5, race5};
 
@@ -50,9 +50,7 @@ fn the_first_of_five_ends_a_race(rt: HostRuntime) {
             part('d', 3, first, 4u64),
             part('e', 4, first, 5u64),
         );
-        let (got, log) = drive(&rt, rt.alloc(), form, polls);
-        assert_eq!(rt; got, answer);
-        assert_eq!(rt; log.as_str(), lines);
+        goes(&rt, rt.alloc(), form, polls, answer, lines);
     }
 }
 
@@ -98,8 +96,6 @@ fn five_join_whichever_is_first(rt: HostRuntime) {
             part('d', 3, first, 4u32),
             part('e', 4, first, 5u8),
         );
-        let (got, log) = drive(&rt, rt.alloc(), form, polls);
-        assert_eq!(rt; got, answer);
-        assert_eq!(rt; log.as_str(), lines);
+        goes(&rt, rt.alloc(), form, polls, answer, lines);
     }
 }

@@ -1,7 +1,7 @@
 // Each form on each of its ways, and the futures that it gives up after each number of polls. The expected logs follow
 // the rules of the crate `futures`. A form polls in the written order. The next part has its first poll as soon as the
 // one before has answered. A part that has answered is dropped.
-use crate::logs::{Part, drive, make_part};
+use crate::logs::{Part, goes, make_part};
 use mono_combine::{TryJoin2, join3};
 use mono_forms::{
     Either, FutureExt, Loop, lazy, pending, race, race_either, race_either3, race_list, race3,
@@ -23,9 +23,7 @@ fn then_polls_its_second_part_with_the_answer_of_its_first(rt: HostRuntime) {
         (3, Some(8), "a.aAb.bB."),
     ] {
         let task = make_part('a', 1, 7u64).then(|x: u64| make_part('b', 1, x.wrapping_add(1)));
-        let (got, log) = drive(&rt, alloc, task, polls);
-        assert_eq!(rt; got, answer);
-        assert_eq!(rt; log.as_str(), lines);
+        goes(&rt, alloc, task, polls, answer, lines);
     }
 }
 
@@ -45,9 +43,7 @@ fn and_then_ends_at_an_error(rt: HostRuntime) {
             1,
             tried(x.wrapping_add(1)),
         ));
-        let (got, log) = drive(&rt, alloc, task, polls);
-        assert_eq!(rt; got, answer);
-        assert_eq!(rt; log.as_str(), lines);
+        goes(&rt, alloc, task, polls, answer, lines);
     }
 }
 
@@ -65,9 +61,7 @@ fn or_else_ends_at_a_value(rt: HostRuntime) {
             1,
             tried(e.wrapping_add(1)),
         ));
-        let (got, log) = drive(&rt, alloc, task, polls);
-        assert_eq!(rt; got, answer);
-        assert_eq!(rt; log.as_str(), lines);
+        goes(&rt, alloc, task, polls, answer, lines);
     }
 }
 
@@ -80,26 +74,31 @@ fn maps_change_the_answer_once_its_future_is_given_up(rt: HostRuntime) {
         (7, 2, Some(Ok(14)), Some(Ok(7)), "a.aA."),
         (100, 2, Some(Err(100)), Some(Err(101)), "a.aA."),
     ] {
-        let (got, log) = drive(
+        goes(
             &rt,
             alloc,
             make_part('a', 1, tried(value)).map_ok(|x: u64| x.wrapping_mul(2)),
             polls,
+            doubled,
+            lines,
         );
-        assert_eq!(rt; got, doubled);
-        assert_eq!(rt; log.as_str(), lines);
-        let (got, log) = drive(
+        goes(
             &rt,
             alloc,
             make_part('a', 1, tried(value)).map_err(|e: u64| e.wrapping_add(1)),
             polls,
+            kept,
+            lines,
         );
-        assert_eq!(rt; got, kept);
-        assert_eq!(rt; log.as_str(), lines);
     }
-    let (got, log) = drive(&rt, alloc, make_part('a', 1, 7u64).map(|x: u64| x == 7), 2);
-    assert_eq!(rt; got, Some(true));
-    assert_eq!(rt; log.as_str(), "a.aA.");
+    goes(
+        &rt,
+        alloc,
+        make_part('a', 1, 7u64).map(|x: u64| x == 7),
+        2,
+        Some(true),
+        "a.aA.",
+    );
 }
 
 #[test]
@@ -116,9 +115,7 @@ fn either_polls_the_one_that_is_there(rt: HostRuntime) {
         } else {
             make_part('b', 1, 8u64).right_future()
         };
-        let (got, log) = drive(&rt, alloc, task, polls);
-        assert_eq!(rt; got, answer);
-        assert_eq!(rt; log.as_str(), lines);
+        goes(&rt, alloc, task, polls, answer, lines);
     }
 }
 
@@ -139,9 +136,7 @@ fn a_loop_has_its_next_turn_in_the_same_poll(rt: HostRuntime) {
                 Loop::Continue(n + 1)
             })
         });
-        let (got, log) = drive(&rt, alloc, task, polls);
-        assert_eq!(rt; got, answer);
-        assert_eq!(rt; log.as_str(), lines);
+        goes(&rt, alloc, task, polls, answer, lines);
     }
 }
 
@@ -154,15 +149,15 @@ fn a_race_gives_both_up_in_the_written_order(rt: HostRuntime) {
         (1, 1, 2, Some(7u64), "ab.aAB."),
         (2, 1, 2, Some(8), "ab.abAB."),
     ] {
-        let (got, log) = drive(
+        goes(
             &rt,
             alloc,
             race(make_part('a', first, 7u64), make_part('b', second, 8u64)),
             polls,
+            answer,
+            lines,
         );
-        assert_eq!(rt; got, answer);
-        assert_eq!(rt; log.as_str(), lines);
-        let (got, log) = drive(
+        goes(
             &rt,
             alloc,
             race_either(make_part('a', first, 7u64), make_part('b', second, 8u64)).map(
@@ -172,9 +167,9 @@ fn a_race_gives_both_up_in_the_written_order(rt: HostRuntime) {
                 },
             ),
             polls,
+            answer,
+            lines,
         );
-        assert_eq!(rt; got, answer);
-        assert_eq!(rt; log.as_str(), lines);
     }
 }
 
@@ -191,18 +186,14 @@ fn three_race_and_join_in_the_written_order(rt: HostRuntime) {
         (1, None, "abc.ABC"),
         (2, Some(3), "abc.abcABC."),
     ] {
-        let (got, log) = drive(&rt, alloc, race3(a, b, c), polls);
-        assert_eq!(rt; got, answer);
-        assert_eq!(rt; log.as_str(), lines);
+        goes(&rt, alloc, race3(a, b, c), polls, answer, lines);
     }
     for (polls, answer, lines) in [
         (0, None, "ABC"),
         (2, None, "abc.abcC.AB"),
         (3, Some(((1, 2), 3)), "abc.abcC.aAbB."),
     ] {
-        let (got, log) = drive(&rt, alloc, join3(a, b, c), polls);
-        assert_eq!(rt; got, answer);
-        assert_eq!(rt; log.as_str(), lines);
+        goes(&rt, alloc, join3(a, b, c), polls, answer, lines);
     }
 }
 
@@ -222,9 +213,7 @@ fn the_first_error_of_three_gives_the_others_up(rt: HostRuntime) {
             ),
             make_part('c', 1, tried(values.2)),
         );
-        let (got, log) = drive(&rt, alloc, form, 9);
-        assert_eq!(rt; got, Some(answer));
-        assert_eq!(rt; log.as_str(), lines);
+        goes(&rt, alloc, form, 9, Some(answer), lines);
     }
 }
 
@@ -244,37 +233,33 @@ fn the_first_of_a_list_that_answers_ends_the_race(rt: HostRuntime) {
             make_part('c', waits[2], 3u64),
         ]
         .expect(&rt, "memory");
-        let (got, log) = drive(&rt, alloc, race_list(futures), polls);
-        assert_eq!(rt; got, answer);
-        assert_eq!(rt; log.as_str(), lines);
+        goes(&rt, alloc, race_list(futures), polls, answer, lines);
     }
     let none: Vec<Part<u64>> = Vec::new(alloc);
-    let (got, log) = drive(&rt, alloc, race_list(none), 2);
-    assert_eq!(rt; got, None);
-    assert_eq!(rt; log.as_str(), "..");
+    goes(&rt, alloc, race_list(none), 2, None, "..");
 }
 
 #[test]
 fn a_fused_future_waits_after_its_answer(rt: HostRuntime) {
     let alloc = rt.alloc();
-    let (got, log) = drive(
+    goes(
         &rt,
         alloc,
         race(make_part('a', 0, 7u64).fuse(), pending::<u64>()),
         1,
+        Some(7),
+        "aA.",
     );
-    assert_eq!(rt; got, Some(7));
-    assert_eq!(rt; log.as_str(), "aA.");
-    let (got, log) = drive(
+    goes(
         &rt,
         alloc,
         make_part('a', 0, 7u64)
             .fuse()
             .then(|_: u64| pending::<u64>()),
         3,
+        None,
+        "aA...",
     );
-    assert_eq!(rt; got, None);
-    assert_eq!(rt; log.as_str(), "aA...");
 }
 
 #[test]
@@ -283,9 +268,7 @@ fn a_boxed_future_polls_and_cancels_as_without_its_box(rt: HostRuntime) {
     for (polls, answer, lines) in [(0, None, "A"), (1, None, "a.A"), (2, Some(7u64), "a.a.A")] {
         match make_part('a', 1, 7u64).boxed(alloc) {
             Ok(task) => {
-                let (got, log) = drive(&rt, alloc, task, polls);
-                assert_eq!(rt; got, answer);
-                assert_eq!(rt; log.as_str(), lines);
+                goes(&rt, alloc, task, polls, answer, lines);
             }
             Err(_) => assert!(rt; false),
         }
@@ -295,26 +278,25 @@ fn a_boxed_future_polls_and_cancels_as_without_its_box(rt: HostRuntime) {
 #[test]
 fn small_forms_answer_at_once_or_in_the_next_poll(rt: HostRuntime) {
     let alloc = rt.alloc();
-    let (got, log) = drive(&rt, alloc, ready(7u64), 1);
-    assert_eq!(rt; got, Some(7));
-    assert_eq!(rt; log.as_str(), ".");
-    let (got, log) = drive(&rt, alloc, lazy(|| 7u64), 1);
-    assert_eq!(rt; got, Some(7));
-    assert_eq!(rt; log.as_str(), ".");
-    let (got, log) = drive(&rt, alloc, yield_now(), 2);
-    assert_eq!(rt; got, Some(()));
-    assert_eq!(rt; log.as_str(), "!..");
-    let (got, log) = drive(
+    goes(&rt, alloc, ready(7u64), 1, Some(7), ".");
+    goes(&rt, alloc, lazy(|| 7u64), 1, Some(7), ".");
+    goes(&rt, alloc, yield_now(), 2, Some(()), "!..");
+    goes(
         &rt,
         alloc,
         make_part('a', 1, 7u64).inspect(|x: &u64| {
             prove!(*x < 8);
         }),
         2,
+        Some(7),
+        "a.aA.",
     );
-    assert_eq!(rt; got, Some(7));
-    assert_eq!(rt; log.as_str(), "a.aA.");
-    let (got, log) = drive(&rt, alloc, lazy(|| make_part('a', 1, 7u64)).flatten(), 2);
-    assert_eq!(rt; got, Some(7));
-    assert_eq!(rt; log.as_str(), "a.aA.");
+    goes(
+        &rt,
+        alloc,
+        lazy(|| make_part('a', 1, 7u64)).flatten(),
+        2,
+        Some(7),
+        "a.aA.",
+    );
 }
