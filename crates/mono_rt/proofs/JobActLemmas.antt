@@ -6,10 +6,11 @@ use Rattle.mono_model.specs.Jobs.{Jobs}
 use Rattle.mono_model.specs.Jobs as job
 use Rattle.mono_machine.specs.Machine.{Machine, with_jobs}
 use Rattle.mono_machine.specs.Acts.{step_outcome, act_outcome, answered, refused, block, reply_of}
-use Rattle.mono_machine.specs.JobCalls.{with_next_job, end_answer, job_ended}
+use Rattle.mono_machine.specs.JobCalls.{with_next_job, end_answer, job_ended, poll_answer}
 use Rattle.mono_machine.specs.declared.events.TurnStep.{TurnStep}
 use Rattle.mono_machine.specs.declared.events.TurnStep.TheVariants as step
 use Rattle.mono_machine.specs.declared.events.Act.TheVariants as act
+use Rattle.mono_machine.specs.declared.events.Query.TheVariants as query
 use Rattle.mono_machine.specs.declared.events.Reply.{Reply}
 use Rattle.mono_machine.specs.declared.events.Reply.TheVariants as reply
 use Rattle.mono_machine.specs.declared.events.Refusal.{Refusal}
@@ -18,6 +19,8 @@ use Rattle.mono_machine.specs.declared.events.Blocking.{Blocking}
 use Rattle.mono_machine.specs.declared.events.Blocking.TheVariants as blocking
 use Rattle.mono_blocking.specs.JobAnswers.{IsEnd, after_end}
 use Rattle.mono_blocking.specs.JobSpawns.{Seen, Made, Spawned, strategy_of}
+use Rattle.mono_blocking.specs.Calls.{polled_by}
+use Rattle.mono_blocking.proofs.JobPlaceLemmas.{refused_stays}
 use Rattle.mono_blocking.specs.declared.jobs.ends.End.{End}
 use Rattle.mono_blocking.specs.declared.jobs.handles.JobHandle.{JobHandle}
 use Rattle.mono_blocking.specs.declared.jobs.refusals.SpawnError.{SpawnError}
@@ -26,7 +29,7 @@ use Rattle.mono_time.proofs.RegistrationLemmas.{sleeps-stay}
 use Rattle.mono_rt.specs.Record.{Record, noted}
 use Rattle.mono_rt.specs.Refinement.{hosting_of, Matches}
 use Rattle.mono_rt.specs.Leads.{Leads, leads_on, by_act, by_nothing}
-use Rattle.mono_rt.specs.JobActs.{noted_end, with_blocking, SpawnsJob, AsksJob}
+use Rattle.mono_rt.specs.JobActs.{noted_end, with_blocking, SpawnsJob, AsksJob, AsksOutput}
 use Rattle.mono_rt.specs.declared.parts.state.Parts.{Parts}
 
 -- the machine with the jobs that it has
@@ -111,6 +114,25 @@ module _ {O P : Type 0} (number : O → ℕ) where
       ∙ ap (λ a. answered (reply_of a) (with_jobs m (after jobs j))) (sym is.is_answer) ∙ ap (λ x. answered (reply_of answer) (with_jobs m x)) (sym is.jobs) in
       let last = by_jobs mid d.blocking acts asked (reply_of answer) refl told (ap strategy_of is.pool) in
       subst (Leads number hosting_of c) (sym is.parts) (leads_on number hosting_of c mid (with_blocking mid d.blocking acts mid.is_out_of_memory) (end_leads c j is.end is.is_end) last)
+
+  -- a poll that is refused without a waker
+  module _ {A : Type 0} (out : A → ℕ) (j : ℕ) (r : Refusal) (c : Parts O (Seen P)) (acts : Record) (told : poll_answer c.blocking.table.jobs j ≡ Err r) (is : acts ≡ noted c.acts (step.Query (query.Job j)) (reply.Refused r)) where
+    pub refused_asks : AsksOutput out j (Err r) c (with_blocking c c.blocking acts c.is_out_of_memory)
+    refused_asks = record {
+      asks = record {
+        end = None;
+        is_end = tt;
+        is_answer = sym told;
+        jobs = sym (refused_stays c.blocking.table.jobs j c.me r told);
+        pool = refl;
+        parts = ap (λ a. with_blocking c c.blocking a c.is_out_of_memory) is;
+      };
+      last = None;
+      shown = tt;
+    }
+
+    pub refused_leads : Leads number hosting_of c (with_blocking c c.blocking acts c.is_out_of_memory)
+    refused_leads = asks_leads poll_answer (polled_by c.me) (step.Query (query.Job j)) j (Err r) c _ (λ m. refl) refused_asks.asks
 
   -- the machine's answer to the spawn of a job
   block_at : (c : Parts O (Seen P)) (m : Machine) (n : ℕ) (b : Bool) → Matches number hosting_of c m → is_full c.blocking.table.jobs.table c.blocking.table.jobs.limit ≡ b

@@ -1,8 +1,11 @@
 // The calls of a running task on blocking jobs.
-ghost use Rattle.std.specs.Prelude.{◌≡◌, true, refl, IfOk};
+ghost use Rattle.std.specs.Prelude.{◌≡◌, true, refl, None, Err, IfOk};
 ghost use Rattle.mono_rt.specs.JobActs.{SpawnsJob, PollsJob, DropsJob, AsksWhetherEnded};
 ghost use Rattle.mono_rt.specs.Reaches.{ReachesSharing};
+ghost use Rattle.mono_machine.specs.JobCalls.{poll_answer};
 ghost use Rattle.mono_blocking.specs.JobSpawns.{strategy_of, refusals_of};
+ghost use Rattle.mono_blocking.specs.JobAnswers.{refusal_in};
+ghost use Rattle.mono_blocking.specs.declared.jobs.refusals.PollJob.TheVariants.{Memory};
 ghost use Rattle.mono_rt.specs.Views.{OnParts, ChangesParts};
 
 use crate::contexts::Cx;
@@ -95,19 +98,23 @@ where
     /// Polls the handle of a job. If pending, the running task waits for the job in the place of any other, and the
     /// job's end wakes it through the inbox. An output, or that the job was cancelled, is returned once.
     ///
-    /// Refused as `NoTask`, then as `NoHandle`, and then as `Taken`. `Memory`: there was no waker to hand out, and the
-    /// job was not polled. Otherwise the poll is an act of the turn. If this call is the first to see the job's end,
-    /// the end is an act right before it (`polled`).
+    /// Refused as `NoTask`, then as `NoHandle`, and then as `Taken`. `Memory` comes after these (`last`): there was no
+    /// waker to hand out, and the job was not polled. Otherwise the poll is an act of the turn. If this call is the first
+    /// to see the job's end, the end is an act right before it (`polled`).
     pub fn poll_job(&mut self, job: u64) -> Result<Poll<Result<OutputOf<P>, JoinError>>, PollJob>
         ensures polled { OnParts (PollsJob P.Job.Output.output_number job result) self.old self.new }
+        ensures last { result ≡ Err Memory → refusal_in (poll_answer self.old.parts.blocking.table.jobs job) ≡ None }
         ensures same { ChangesParts self.old self.new }
         ensures reached { ReachesSharing O.output_number W.leads self.old self.new }
     {
         match self.own_waker() {
-            Err(_) => {
-                self.parts.is_out_of_memory = true;
-                Err(PollJob::Memory)
-            }
+            Err(_) => match self.parts.refuse_job_poll(job) {
+                Some(refusal) => Err(PollJob::Refused(refusal)),
+                None => {
+                    self.parts.is_out_of_memory = true;
+                    Err(PollJob::Memory)
+                }
+            },
             Ok(waker) => match self.parts.poll_job(job, JobWaker::new(waker)) {
                 Ok(answer) => Ok(answer),
                 Err(refusal) => Err(PollJob::Refused(refusal)),

@@ -1,11 +1,12 @@
 // The calls of a running task on blocking jobs, on the parts of a runtime. Each is an act of the machine, and is
 // recorded. If a call is the first to see the end of a job, the end is recorded as an act right before it.
-ghost use Rattle.std.specs.Prelude.{◌≡◌};
+ghost use Rattle.std.specs.Prelude.{◌≡◌, None, Err, IfSome, IfNone};
 ghost use Rattle.mono_rt.specs.JobActs.{noted_end, SpawnsJob, AsksOutput, DropsJob, AsksWhetherEnded};
 ghost use Rattle.mono_rt.specs.Leads.{Leads};
 ghost use Rattle.mono_rt.specs.Refinement.{hosting_of};
 ghost use Rattle.mono_machine.specs.Acts.{reply_of};
-ghost use Rattle.mono_blocking.specs.JobAnswers.{polled_reply, dropped_reply};
+ghost use Rattle.mono_machine.specs.JobCalls.{poll_answer};
+ghost use Rattle.mono_blocking.specs.JobAnswers.{polled_reply, dropped_reply, refusal_in};
 
 use crate::parts::acts::Acts;
 use crate::parts::state::Parts;
@@ -93,6 +94,24 @@ impl<O: Outcome + Drop, P: ThreadPool + Drop> Parts<O, Blockings<P>> {
         let reply = polled_reply(&polled.answer);
         self.acts.note(TurnStep::Query(Query::Job(job)), reply);
         polled.answer
+    }
+
+    /// Refuses a poll of a job's handle by a task without a waker, and records that, if the poll is refused with a waker,
+    /// too. Returns None and changes nothing if it is not.
+    pub fn refuse_job_poll(&mut self, job: u64) -> Option<Refusal>
+        ensures refused { IfSome result (λ refusal. AsksOutput P.Job.Output.output_number job (Err refusal) self.old self.new) }
+        ensures asked { IfNone result (refusal_in (poll_answer self.old.blocking.table.jobs job) ≡ None) }
+        ensures same { IfNone result (self.new ≡ self.old) }
+        ensures leads { Leads O.output_number hosting_of self.old self.new }
+    {
+        match self.blocking.poll_refusal(job) {
+            None => None,
+            Some(refusal) => {
+                self.acts
+                    .note(TurnStep::Query(Query::Job(job)), Reply::Refused(refusal));
+                Some(refusal)
+            }
+        }
     }
 
     /// Drops the handle of a job.
