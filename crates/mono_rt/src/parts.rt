@@ -21,4 +21,4 @@ mod turns;
 pub use errors::RunError;
 pub use journals::{Entry, Journal, new_journal};
 pub use state::Parts;
-pub(crate) use takes::{Taken, TakenTasks, take_waiting};
+pub(crate) use takes::{Taken, take_waiting};

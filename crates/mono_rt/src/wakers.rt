@@ -1,9 +1,9 @@
 // The remote wakers of a runtime's tasks, and when the inbox learns of them.
-ghost use Rattle.std.specs.Prelude.{◌≡◌, ◌++◌, ◌∷◌, ◌<◌, ◌⊎◌, [], IfSome, IfNone, vec_len, vec_capacity};
+ghost use Rattle.std.specs.Prelude.{◌≡◌, ◌+◌, ◌++◌, ◌∷◌, ◌<◌, ◌⊎◌, [], IfSome, IfNone, MatchOption, length, vec_len, vec_capacity};
 ghost use Rattle.mono_rt.specs.Drains.{IsReady};
 ghost use Rattle.mono_rt.specs.EndedTasks.{all_in, closed_in};
 
-use crate::parts::{Journal, Taken, TakenTasks, take_waiting};
+use crate::parts::{Journal, Taken, take_waiting};
 use mono_inbox::{Inbox, RemoteWaker, Unpark};
 use mono_machine::List;
 use mono_model::{History, Host, Tells};
@@ -31,6 +31,8 @@ pub struct Wakers<U: Unpark> {
     pub(crate) taken: History<List<u64>>,
     // in proofs alone: the lists of tasks that were made unknown, in order
     pub(crate) retired: History<List<u64>>,
+    // in proofs alone: an entry for each park that a refused drain ended
+    pub(crate) unparks: History<()>,
 }
 
 /// Tasks that are made unknown together, as an entry of a history.
@@ -60,6 +62,7 @@ impl<U: Unpark> Wakers<U> {
             spare: None,
             taken: History::new(),
             retired: History::new(),
+            unparks: History::new(),
         })
     }
 
@@ -140,6 +143,7 @@ impl<U: Unpark> Wakers<U> {
         ensures none { self.new.ended.items ≡ [] }
         ensures retired { all_in self.new.retired.entries ≡ closed_in self.old.retired.entries self.old.ended.items }
         ensures taken { self.new.taken ≡ self.old.taken }
+        ensures unparks { self.new.unparks ≡ self.old.unparks }
     {
         if !self.ended.is_empty() {
             self.inbox.retire_all(rt, &self.ended);
@@ -159,17 +163,28 @@ impl<U: Unpark> Wakers<U> {
         ensures ready { IfSome result (λ taken. IsReady taken journal.new) }
         ensures taken { IfSome result (λ taken. self.new.taken.entries ≡ self.old.taken.entries ++ taken.tasks.items ∷ []) }
         ensures refused { IfNone result (self.new.taken.entries ≡ self.old.taken.entries) }
+        ensures unparks { MatchOption result (length self.new.unparks.entries ≡ length self.old.unparks.entries + 1) (λ taken. self.new.unparks ≡ self.old.unparks) }
         ensures history { journal.new.history.entries ≡ journal.old.history.entries }
         ensures full { journal.new.is_full ≡ journal.old.is_full }
         ensures held { journal.new.entries.held ≡ journal.old.entries.held }
         ensures closed { closed_in self.new.retired.entries self.new.ended.items ≡ closed_in self.old.retired.entries self.old.ended.items }
     {
         self.retire_ended(rt);
-        let answer = take_waiting(alloc, &mut self.inbox.lock(rt), journal);
-        match &answer {
-            Some(taken) => self.taken = self.taken.told::<Taken, TakenTasks>(taken),
-            None => self.inbox.unpark(rt),
+        let answer = take_waiting(alloc, &mut self.inbox.lock(rt), journal, &mut self.taken);
+        if answer.is_none() {
+            self.end_next_park(rt);
         }
         answer
+    }
+
+    /// Ends the next park at once, since what waits was not taken, and counts that.
+    fn end_next_park<R: Host>(&mut self, rt: &R)
+        ensures unparks { length self.new.unparks.entries ≡ length self.old.unparks.entries + 1 }
+        ensures taken { self.new.taken ≡ self.old.taken }
+        ensures retired { self.new.retired ≡ self.old.retired }
+        ensures ended { self.new.ended ≡ self.old.ended }
+    {
+        self.inbox.unpark(rt);
+        self.unparks = self.unparks.and(&());
     }
 }

@@ -1,5 +1,5 @@
 // What waits in the inbox is taken, once there is room for all that its wakes need.
-ghost use Rattle.std.specs.Prelude.{◌≡◌, ◌≤◌, ◌+◌, [], IfSome, IfNone, vec_capacity};
+ghost use Rattle.std.specs.Prelude.{◌≡◌, ◌≤◌, ◌+◌, ◌++◌, ◌∷◌, [], IfSome, IfNone, vec_capacity};
 ghost use Rattle.mono_inbox.specs.State.{with_list};
 ghost use Rattle.mono_rt.specs.Drains.{IsReady};
 ghost use Rattle.mono_rt.specs.Journals.{HasPlaces};
@@ -7,7 +7,7 @@ ghost use Rattle.mono_rt.specs.Journals.{HasPlaces};
 use crate::parts::journals::Journal;
 use mono_inbox::InboxState;
 use mono_machine::List;
-use mono_model::Tells;
+use mono_model::{History, Tells};
 use std::alloc::Global;
 
 /// The tasks that a drain took from the inbox, and the list for those of them that it wakes.
@@ -18,20 +18,24 @@ pub(crate) struct Taken {
 }
 
 /// The tasks that a drain took, as an entry of a history.
-pub(crate) struct TakenTasks;
+struct TakenTasks;
 
 impl Tells<Taken, List<u64>> for TakenTasks {
     ghost entry = { λ taken. taken.tasks.items };
 }
 
-/// Takes all tasks that wait. Takes none if out of memory: the room for the wakes and for their entries is made first.
+/// Takes all tasks that wait, and adds their list to the lists that were taken (`told`): exactly what was listed under the
+/// lock. Takes none if out of memory: the room for the wakes and for their entries is made first.
 pub(crate) fn take_waiting(
     alloc: Global,
     state: &mut InboxState,
     journal: &mut Journal,
+    lists: &mut History<List<u64>>,
 ) -> Option<Taken>
     ensures ready { IfSome result (λ taken. IsReady taken journal.new) }
     ensures taken { IfSome result (λ taken. taken.tasks.items ≡ state.old.waiting) }
+    ensures told { IfSome result (λ taken. lists.new.entries ≡ lists.old.entries ++ state.old.waiting ∷ []) }
+    ensures untold { IfNone result (lists.new.entries ≡ lists.old.entries) }
     ensures emptied { IfSome result (λ taken. state.new ≡ with_list state.old []) }
     ensures refused { IfNone result (state.new ≡ state.old) }
     ensures history { journal.new.history.entries ≡ journal.old.history.entries }
@@ -42,6 +46,7 @@ pub(crate) fn take_waiting(
         None => None,
         Some(mut taken) => {
             state.drain(&mut taken.tasks);
+            *lists = lists.told::<Taken, TakenTasks>(&taken);
             Some(taken)
         }
     }
