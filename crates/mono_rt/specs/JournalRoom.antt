@@ -1,5 +1,5 @@
 -- When a journal becomes full.
-use Rattle.std.specs.Prelude.{◌≡◌, ◌<◌, ◌⊎◌, ℕ, true, false, length, Result, Ok, Err}
+use Rattle.std.specs.Prelude.{◌≡◌, ◌<◌, ◌⊎◌, ℕ, true, false, length}
 use Rattle.mono_model.specs.declared.Ended.{Ended}
 use Rattle.mono_task.specs.Members.{FutureOf}
 use Rattle.mono_time.specs.declared.instant.Instant.{Instant}
@@ -11,14 +11,7 @@ use Rattle.mono_rt.specs.Turns.{Turn}
 use Rattle.mono_rt.specs.PartTurns.{IsTurnOf}
 use Rattle.mono_rt.specs.Journals.{Goes}
 use Rattle.mono_rt.specs.declared.contexts.Cx.{Cx}
-use Rattle.mono_rt.specs.declared.parts.errors.RunError.{RunError}
-use Rattle.mono_rt.specs.declared.parts.errors.RunError.TheVariants as error
 use Rattle.mono_rt.specs.declared.parts.journals.Journal.{Journal}
-
--- The journal is full after a refused main task only if it was before, or it has each entry but that of the refusal, for
--- which there was no memory.
-abbrev pub LacksRefusal : Journal → Journal → Type 0
-LacksRefusal j k = k.is_full ≡ true → (j.is_full ≡ true) ⊎ (k.entries.items ≡ j.history.entries)
 
 module _ {F O P U W J A V : Type 0} (number : O → ℕ) (leads : W → W → Type 0) (future : FutureOf F (Cx F O P U W J A V) O) where
   -- A turn in which one poll of the task's own future made more calls than the record of a turn has room for. It began
@@ -45,14 +38,8 @@ module _ {F O P U W J A V : Type 0} (number : O → ℕ) (leads : W → W → Ty
     pub unfull : so_far.is_full ≡ false
     pub long : LongTurn before after
 
-  -- The journal is full afterwards only if it was full before, or a turn made more acts than its record has room for.
-  abbrev pub Fills : Cx F O P U W J A V → Journal → Journal → Type 0
-  Fills c j k = k.is_full ≡ true → (j.is_full ≡ true) ⊎ FilledBy c j
-
-  -- The same of a call that makes a main task, by its answer.
-  abbrev pub FillsSo : {X : Type 0} → Result X RunError → Cx F O P U W J A V → Journal → Journal → Type 0
-  FillsSo (Ok x) c j k = Fills c j k
-  FillsSo (Err error.Memory) c j k = Fills c j k
-  FillsSo (Err error.Driver) c j k = Fills c j k
-  FillsSo (Err error.Turns) c j k = Fills c j k
-  FillsSo (Err error.AtCapacity) c j k = LacksRefusal j k
+  -- The journal is full afterwards only if it was full before, or a turn made more acts than its record has room for. A
+  -- full journal stays full.
+  pub record Fills (c : Cx F O P U W J A V) (j k : Journal) : Type 0 where
+    pub filled : k.is_full ≡ true → (j.is_full ≡ true) ⊎ FilledBy c j
+    pub stays : j.is_full ≡ true → k.is_full ≡ true

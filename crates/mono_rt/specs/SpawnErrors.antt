@@ -25,21 +25,14 @@ HasPlace (Err Memory) is_full = ⊤
 HasPlace (Err Driver) is_full = is_full ≡ false
 HasPlace (Err Turns) is_full = is_full ≡ false
 
--- The answer is AtCapacity if and only if there is no place for a task.
-abbrev pub AnswersPlace : {A : Type 0} → Result A RunError → Bool → Type 0
-AnswersPlace (Ok x) is_full = is_full ≡ false
-AnswersPlace (Err AtCapacity) is_full = is_full ≡ true
-AnswersPlace (Err Memory) is_full = is_full ≡ false
-AnswersPlace (Err Driver) is_full = is_full ≡ false
-AnswersPlace (Err Turns) is_full = is_full ≡ false
-
--- the fact holds unless the answer is AtCapacity
-abbrev pub UnlessRefused : {A : Type 0} → Result A RunError → Type 0 → Type 0
-UnlessRefused (Ok x) P = P
-UnlessRefused (Err AtCapacity) P = ⊤
-UnlessRefused (Err Memory) P = P
-UnlessRefused (Err Driver) P = P
-UnlessRefused (Err Turns) P = P
+-- The answer is AtCapacity if and only if there is no place for a task. Only a journal that is not full keeps the entry of
+-- that refusal, and then the answer is Memory if there is no memory for the entry.
+abbrev pub AnswersPlace : {A : Type 0} → Result A RunError → Bool → Bool → Type 0
+AnswersPlace (Ok x) is_full keeps_nothing = is_full ≡ false
+AnswersPlace (Err AtCapacity) is_full keeps_nothing = is_full ≡ true
+AnswersPlace (Err Memory) is_full keeps_nothing = keeps_nothing ≡ true → is_full ≡ false
+AnswersPlace (Err Driver) is_full keeps_nothing = is_full ≡ false
+AnswersPlace (Err Turns) is_full keeps_nothing = is_full ≡ false
 
 -- the fact holds if the answer is AtCapacity
 abbrev pub IfRefused : {A : Type 0} → Result A RunError → Type 0 → Type 0

@@ -28,7 +28,7 @@ use Rattle.mono_rt.specs.Numbering.{answer_numbered}
 use Rattle.mono_rt.specs.declared.task_waits.TaskWait.{TaskWait}
 use Rattle.mono_rt.specs.Refinement.{hosting_of, Matches}
 use Rattle.mono_rt.specs.Journals.{Does, Registers, events_in, reports_in}
-use Rattle.mono_rt.specs.JournalRoom.{Fills, FillsSo}
+use Rattle.mono_rt.specs.JournalRoom.{Fills}
 use Rattle.mono_rt.specs.FuturePolls.{Polling, PollingBy, PollsMain, StillPollsMain, OnMain, OnLack}
 use Rattle.mono_rt.specs.PossibleAnswers.{AnswersNoMore}
 use Rattle.mono_rt.specs.Pollable.{CanTurn}
@@ -201,14 +201,10 @@ module _ {F O D P W U J A V : Type 0} where
     abbrev pub StillPollsMainTask : F → Runtime F O D P W U J A V → Runtime F O D P W U J A V → Type 0
     StillPollsMainTask main old new = Grows number (StillPollsMain number leads future (is_timed old) main (futures_of old) (futures_of new)) old new
 
-    -- The journal is full only if it was before, or a turn made more acts than its record has room for.
+    -- The journal is full only if it was before, or a turn made more acts than its record has room for. A full one stays
+    -- full.
     abbrev pub FillsJournal : Runtime F O D P W U J A V → Runtime F O D P W U J A V → Type 0
     FillsJournal old new = Fills number leads future old.cx old.journal new.journal
-
-    -- The same, by the answer: if the main task was refused, the journal is full only if it was before, or it lacks the
-    -- entry of the refusal alone.
-    abbrev pub FillsJournalBy : {X : Type 0} → Result X RunError → Runtime F O D P W U J A V → Runtime F O D P W U J A V → Type 0
-    FillsJournalBy answer old new = FillsSo number leads future answer old.cx old.journal new.journal
 
 module _ {F O P U W J A V : Type 0} where
   -- The tasks of a context, with their queue.

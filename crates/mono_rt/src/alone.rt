@@ -1,10 +1,9 @@
 // A whole run of a runtime of its own.
-ghost use Rattle.std.specs.Prelude.{⊤, ◌≡◌, IfOk, true, []};
+ghost use Rattle.std.specs.Prelude.{⊤, ◌≡◌, IfOk, true};
 ghost use Rattle.mono_machine.specs.Machine.{start_machine};
 ghost use Rattle.mono_blocking.specs.JobSpawns.{strategy_of};
 ghost use Rattle.mono_rt.specs.JournalRoom.{IsOneLong};
 ghost use Rattle.mono_rt.specs.Rounds.{Blocked};
-ghost use Rattle.mono_rt.specs.SpawnErrors.{UnlessRefused, IfRefused};
 ghost use Rattle.mono_rt.specs.DriverReadings.{IsTold};
 ghost use Rattle.mono_rt.specs.Pollable.{SpawnsPollable};
 ghost use Rattle.mono_rt.specs.Views.{exposed, BlocksFrom, IsRunFrom, ParksFrom, PollsFrom, StillPollsFrom};
@@ -27,8 +26,8 @@ use std::alloc::{AllocError, Global};
 /// it is a run of the reference machine from its start (`run`). Each park ends at the next expiration over the
 /// registered ticks, of which there are none at the start (`parks`). The readings are the driver's (`told`). If the
 /// driver exposes its time, a reading is that time and the length of the parks since; if it exposes its readings, the
-/// next of them. The journal is full only if a turn made more than 512 acts (`full`), or there was no memory for the
-/// entry of a refused main task. Then it is empty (`lacks`). Until it is full its entries are the history
+/// next of them. The journal is full only if a turn made more than 512 acts (`full`). Until it is full its entries are the
+/// history
 /// (`Journal::kept`). An answer is one that the future gives (`given`).
 ///
 /// Each turn of the history is one poll of its task's own future, from the futures that the turns before it left
@@ -59,8 +58,7 @@ where
     ensures parks { IfOk result (λ r. ParksFrom (start_machine limits (strategy_of pool)) r.1) }
     ensures polled { IfOk result (λ r. PollsFrom O.output_number (λ a b. ⊤) F.TaskFuture future (start_machine limits (strategy_of pool)) r) }
     ensures still_polled { IfOk result (λ r. StillPollsFrom O.output_number (λ a b. ⊤) F.TaskFuture future (start_machine limits (strategy_of pool)) r) }
-    ensures full { IfOk result (λ r. UnlessRefused r.0 (r.1.is_full ≡ true → IsOneLong O.output_number (λ a b. ⊤) F.TaskFuture)) }
-    ensures lacks { IfOk result (λ r. IfRefused r.0 (r.1.is_full ≡ true → r.1.entries.items ≡ [])) }
+    ensures full { IfOk result (λ r. r.1.is_full ≡ true → IsOneLong O.output_number (λ a b. ⊤) F.TaskFuture) }
 {
     let mut runtime = Runtime::new(alloc, driver, pool, limits, true, start, ())?;
     let answer = runtime.block_on(rt, alloc, future, turns);

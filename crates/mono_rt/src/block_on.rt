@@ -3,16 +3,15 @@ ghost use Rattle.std.specs.Prelude.{◌≡◌, ◌<◌, ◌≤◌, ◌+◌, None
 ghost use Rattle.mono_task.specs.Work.{GivesOutput};
 ghost use Rattle.mono_rt.specs.Journals.{Does};
 ghost use Rattle.mono_rt.specs.Rounds.{WaitEnds, broken_after, PauseEnds, Round, RoundBreaks, PassEnds, Ends, Blocked, cost};
-ghost use Rattle.mono_rt.specs.SpawnErrors.{HasPlace, AnswersPlace, UnlessRefused, IfRefused};
+ghost use Rattle.mono_rt.specs.SpawnErrors.{HasPlace, AnswersPlace, IfRefused};
 ghost use Rattle.mono_model.specs.Table.{is_full};
 ghost use Rattle.mono_rt.specs.Faults.{FaultsBy, FaultsParked};
 ghost use Rattle.mono_rt.specs.FuturePolls.{OnMain, OnLack};
-ghost use Rattle.mono_rt.specs.JournalRoom.{LacksRefusal};
 ghost use Rattle.mono_rt.specs.Pollable.{CanTurn};
 ghost use Rattle.mono_rt.specs.Remains.{KeepsContext, KeepsStrategy, HasRetired};
 ghost use Rattle.mono_rt.specs.DriverReadings.{going, Telling, Still, EndsWaited};
 ghost use Rattle.mono_rt.specs.Progress.{ending, lasting, Idles, Proceeds, MakesMain, MakesNone};
-ghost use Rattle.mono_rt.specs.Views.{exposed, Blocks, Rests, HasOwnFutures, is_at_limit, HoldsSamePlaces, GivesNoMore, LeadsShared, TellsDriver, PollsMainTask, StillPollsMainTask, FillsJournalBy, CanRun};
+ghost use Rattle.mono_rt.specs.Views.{exposed, Blocks, Rests, HasOwnFutures, is_at_limit, HoldsSamePlaces, GivesNoMore, LeadsShared, TellsDriver, PollsMainTask, StillPollsMainTask, FillsJournal, CanRun};
 
 use crate::contexts::Cx;
 use crate::parts::RunError;
@@ -102,19 +101,17 @@ impl<F: Drop, O: Outcome + Drop, D: Driver, P: ThreadPool + Drop, W: SharedState
     fn start_main(&mut self, alloc: Global, future: F) -> Result<u64, RunError>
         ensures made { IfOk result (λ t. MakesMain O.output_number future t self.old self.new) }
         ensures none { IfErr result (λ error. MakesNone O.output_number error self.old self.new) }
-        ensures place { AnswersPlace result (is_full self.old.cx.parts.tasks.tasks.table self.old.cx.parts.tasks.tasks.limit) }
+        ensures place { AnswersPlace result (is_full self.old.cx.parts.tasks.tasks.table self.old.cx.parts.tasks.tasks.limit) self.old.journal.is_full }
         ensures untouched { IfRefused result (self.new.cx ≡ self.old.cx) }
         ensures has_timers { self.new.cx.parts.has_timers ≡ self.old.cx.parts.has_timers }
         ensures turn { self.new.cx.parts.tasks.turn ≡ self.old.cx.parts.tasks.turn }
         ensures shared { self.new.cx.shared ≡ self.old.cx.shared }
         ensures faults { D.faults self.new.driver ≡ D.faults self.old.driver }
         ensures told { Telling (Still going) (exposed D.Clock self.old.driver) going self.old.journal self.new.journal (exposed D.Clock self.new.driver) }
-        ensures full { UnlessRefused result (self.new.journal.is_full ≡ self.old.journal.is_full) }
-        ensures lacks { IfRefused result (LacksRefusal self.old.journal self.new.journal) }
+        ensures full { self.new.journal.is_full ≡ self.old.journal.is_full }
     {
         if self.cx.parts.tasks.has_no_place() {
-            self.cx.parts.refuse_main(&mut self.journal);
-            return Err(RunError::AtCapacity);
+            return Err(self.cx.parts.refuse_main(&mut self.journal));
         }
         match self.cx.futures.reserve_value(alloc, future) {
             Err(_future) => Err(RunError::Memory),
@@ -224,8 +221,11 @@ where
     /// task was made. Then rounds and pauses within the budget follow, up to the call that ran out of memory, and the
     /// drop of the main task's handle. That drop takes no memory, since its room is reserved before the main task.
     ///
-    /// The answer is AtCapacity if and only if the number of live tasks is at the limit or the next number is 2^64 - 1
-    /// (`place`). If a kept journal then gets no room for the entry of the refusal, it is full from then on (`full`).
+    /// The answer is AtCapacity if and only if the number of live tasks is at the limit or the next number is 2^64 - 1.
+    /// If a kept journal then gets no room for the entry of the refusal, the answer is Memory (`place`).
+    ///
+    /// The journal is full afterwards only if it was before, or a turn made more than 512 acts. A full one stays full
+    /// (`full`).
     ///
     /// The driver gets one `submit` before each drain that follows no park, and no other; the drain may run out of
     /// memory. It is parked and read as the history says, and after a call of it that failed it gets no further one but a
@@ -259,7 +259,7 @@ where
         requires others { CanRun F.TaskFuture self.old }
         requires rests { Rests self.old }
         ensures blocked { Blocks O.output_number turns result self.old self.new }
-        ensures place { AnswersPlace result (is_at_limit self.old) }
+        ensures place { AnswersPlace result (is_at_limit self.old) self.old.journal.is_full }
         ensures untouched { IfRefused result (KeepsContext self.old self.new) }
         ensures strategy { KeepsStrategy O.output_number self.old self.new }
         ensures given { IfOk result (λ output. HasOwnFutures self.old → F.gives future output) }
@@ -272,7 +272,7 @@ where
         ensures still_polled { OnLack result (StillPollsMainTask O.output_number W.leads F.TaskFuture future self.old self.new) }
         ensures faults { FaultsBy result (D.faults self.old.driver) (D.faults self.new.driver) }
         ensures told { TellsDriver result D.Clock self.old self.new }
-        ensures full { FillsJournalBy O.output_number W.leads F.TaskFuture result self.old self.new }
+        ensures full { FillsJournal O.output_number W.leads F.TaskFuture self.old self.new }
         ensures held { HoldsSamePlaces self.old self.new }
     {
         match self.start_main(alloc, future) {

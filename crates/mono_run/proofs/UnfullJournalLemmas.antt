@@ -1,7 +1,6 @@
--- The journal of a script's run is not full unless the main task was refused, since each turn has fewer acts than make it
--- full.
+-- The journal of a script's run is not full, since each turn has fewer acts than make it full.
 use Rattle.std.proofs.Common.{◌≡◌, ℕ, Bool, true, false, length, Option, Some, None, inl, inr, refl, ap, sym, ◌∙◌, subst, arith}
-use Rattle.std.specs.Prelude.{⊤, Result, Ok, Err}
+use Rattle.std.specs.Prelude.{⊤}
 use Rattle.mono_model.specs.declared.Ended.{Ended}
 use Rattle.mono_model.specs.declared.poll.Poll.{Poll}
 use Rattle.mono_model.specs.declared.poll.Poll.TheVariants.{Ready, Pending}
@@ -11,10 +10,7 @@ use Rattle.mono_machine.specs.Machine.{Machine}
 use Rattle.mono_machine.specs.declared.events.End.{End}
 use Rattle.mono_rt.specs.Refinement.{hosting_of, Matches}
 use Rattle.mono_rt.specs.Turns.{AfterPoll, Polls, UnlessSpent, Runs}
-use Rattle.mono_rt.specs.JournalRoom.{LongTurn, Fills, FillsSo}
-use Rattle.mono_rt.specs.SpawnErrors.{UnlessRefused}
-use Rattle.mono_rt.specs.declared.parts.errors.RunError.{RunError}
-use Rattle.mono_rt.specs.declared.parts.errors.RunError.TheVariants as error
+use Rattle.mono_rt.specs.JournalRoom.{LongTurn, Fills}
 use Rattle.mono_rt.specs.declared.contexts.Cx.{Cx}
 use Rattle.mono_rt.specs.declared.parts.journals.Journal.{Journal}
 use Rattle.mono_run.specs.TaskPolls.{PollsTask, GrewAtMost, most_acts}
@@ -55,22 +51,14 @@ module _ {P U J A V : Type 0} (future : FutureOf ScriptTask (Cx ScriptTask ℕ P
         ap (λ r. length r.steps) long.turn.begins.parts.acts_are,
       )
 
-  never_full : (c : Cx ScriptTask ℕ P U ⊤ J A V) (j k : Journal) (m : Machine) → Matches (λ n. n) hosting_of c.parts m → j.is_full ≡ false → Fills (λ n. n) (λ a b. ⊤) future c j k → k.is_full ≡ false
+  pub never_full : (c : Cx ScriptTask ℕ P U ⊤ J A V) (j k : Journal) (m : Machine) → Matches (λ n. n) hosting_of c.parts m → j.is_full ≡ false → Fills (λ n. n) (λ a b. ⊤) future c j k → k.is_full ≡ false
   never_full c j k m st unfull fills = by k.is_full refl
     where
       by : (b : Bool) → k.is_full ≡ b → k.is_full ≡ false
       by false is = is
-      by true is = absurd (elim (fills is) [
+      by true is = absurd (elim (fills.filled is) [
         | inl full ↦ true-false (sym full ∙ unfull)
         | inr filled ↦
             let went = filled.went.went m st in
             no_long_turn filled.before filled.after went.new went.matches filled.long
       ])
-
-  -- the same, by the answer of the call
-  pub unfull_unless : (r : Result ℕ RunError) (c : Cx ScriptTask ℕ P U ⊤ J A V) (j k : Journal) (m : Machine) → Matches (λ n. n) hosting_of c.parts m → j.is_full ≡ false → FillsSo (λ n. n) (λ a b. ⊤) future r c j k → UnlessRefused r (k.is_full ≡ false)
-  unfull_unless (Ok x) c j k m st unfull fills = never_full c j k m st unfull fills
-  unfull_unless (Err error.Memory) c j k m st unfull fills = never_full c j k m st unfull fills
-  unfull_unless (Err error.Driver) c j k m st unfull fills = never_full c j k m st unfull fills
-  unfull_unless (Err error.Turns) c j k m st unfull fills = never_full c j k m st unfull fills
-  unfull_unless (Err error.AtCapacity) c j k m st unfull fills = tt

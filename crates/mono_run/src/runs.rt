@@ -4,7 +4,6 @@ ghost use Rattle.mono_blocking.specs.Counts.{counted_by};
 ghost use Rattle.mono_run.specs.Journal.{journal_text};
 ghost use Rattle.mono_run.specs.Script.{IsSound};
 ghost use Rattle.mono_rt.specs.Rounds.{output_in};
-ghost use Rattle.mono_rt.specs.SpawnErrors.{UnlessRefused};
 ghost use Rattle.mono_rt.specs.declared.parts.errors.RunError.TheVariants as error;
 ghost use Rattle.mono_rt.specs.DriverReadings.{telling};
 ghost use Rattle.mono_run.specs.ScriptDrivers.{readings_of, time_of, parks_of, submits_of, faults_of, can_fail_of};
@@ -89,8 +88,7 @@ fn output_of(end: RunEnd) -> Option<u64>
     }
 }
 
-// Returns the lines of the journal. A turn of a script has fewer acts than make a journal full. So only a refused main task
-// may fill it, if there was no memory for the entry of the refusal.
+// Returns the lines of the journal, which has all entries: a turn of a script has fewer acts than make a journal full.
 fn told_of(
     alloc: Global,
     journal: &Journal,
@@ -98,7 +96,7 @@ fn told_of(
     waits: Vec<TaskWait>,
 ) -> Result<ScriptRun, AllocError>
     requires end { answer.now ≢ Err error.Driver }
-    requires unfull { UnlessRefused answer.now (journal.now.is_full ≡ false) }
+    requires unfull { journal.now.is_full ≡ false }
     ensures answer { IfOk result (λ run. answer.now ≡ answer_of run.end) }
     ensures kept { OnOk result (journal.now.is_full ≡ false) }
     ensures text { IfOk result (λ run. run.text.items ≡ journal_text (map told journal.now.entries.items) (output_in (answer_of run.end))) }
@@ -106,9 +104,6 @@ fn told_of(
     let Some(end) = end_of(answer) else {
         return Err(AllocError);
     };
-    if journal.is_full() {
-        return Err(AllocError);
-    }
     let text = journal_lines(alloc, journal, output_of(end))?;
     Ok(ScriptRun { end, text, waits })
 }
@@ -156,8 +151,7 @@ fn zero() -> Instant {
 /// the sum of the parks before it. With workers, if the clock exposes its readings, they are these, in order (`reads`).
 /// If the script is sound, the turns in the journal are those that its lines give (`driven`). Once a call ran out of
 /// memory, nothing is returned. This hides no driver's error, since the driver cannot fail. It hides no full journal,
-/// since a turn has at most 510 acts, unless there was no memory for the entry of a refused main task. The workers end
-/// when they have run the queued jobs, for each answer. They go on waiting only if there was no memory for the runtime
+/// since a turn has at most 510 acts. The workers end when they have run the queued jobs, for each answer. They go on waiting only if there was no memory for the runtime
 /// itself. The thread that started them joins them.
 pub fn run_script<R: Host + Send + 'static, C: Clock + Drop, P: Spawner>(
     rt: &R,

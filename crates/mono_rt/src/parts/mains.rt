@@ -1,5 +1,5 @@
 // How a main task is made, and how its handle is dropped.
-ghost use Rattle.std.specs.Prelude.{◌≡◌, ◌<◌, ◌+◌, true, Some, Ok, IfOk, OnOk, IfErr, OnErr};
+ghost use Rattle.std.specs.Prelude.{◌≡◌, ◌<◌, ◌+◌, true, false, Some, Ok, IfOk, OnOk, IfErr, OnErr};
 ghost use Rattle.std.specs.Option.{option_map};
 ghost use Rattle.mono_model.specs.Table.{next_number, is_full};
 ghost use Rattle.mono_model.specs.Tasks.{spawned};
@@ -7,7 +7,6 @@ ghost use Rattle.mono_model.specs.Joins.{drop_answer, join_dropped};
 ghost use Rattle.mono_rt.specs.Journals.{Goes, Does, Stays};
 ghost use Rattle.mono_rt.specs.Rounds.{IsSpawn, IsRefused, DropsFor};
 ghost use Rattle.mono_rt.specs.SpawnErrors.{OnCapacity, OnMemory, HasPlace};
-ghost use Rattle.mono_rt.specs.JournalRoom.{LacksRefusal};
 ghost use Rattle.mono_rt.specs.DriverReadings.{Told, Course, going, Telling, Still};
 
 use crate::parts::calls::drop_reply_of;
@@ -60,19 +59,25 @@ impl<O: Outcome + Drop, P: ThreadPool + Drop> Parts<O, Blockings<P>> {
         }
     }
 
-    /// Records that the main task gets no place. If a kept journal gets no room for the entry, it is full from then on
-    /// (`lacks`).
-    pub fn refuse_main(&self, journal: &mut Journal)
+    /// Records that the main task gets no place, and returns AtCapacity. Returns Memory, and records nothing, if a kept
+    /// journal gets no room for the entry (`kept`).
+    pub fn refuse_main(&self, journal: &mut Journal) -> RunError
         requires { is_full self.now.tasks.tasks.table self.now.tasks.tasks.limit ≡ true }
-        ensures refused { Does O.output_number IsRefused self.entry.now self.entry.now journal.old journal.new }
+        ensures refused { OnCapacity result (Does O.output_number IsRefused self.entry.now self.entry.now journal.old journal.new) }
+        ensures unmade { OnMemory result (Does O.output_number Stays self.entry.now self.entry.now journal.old journal.new) }
+        ensures kept { OnMemory result (journal.old.is_full ≡ false) }
         ensures told { (told : Told) → Telling (Still going) told going journal.old journal.new told }
-        ensures lacks { LacksRefusal journal.old journal.new }
+        ensures full { journal.new.is_full ≡ journal.old.is_full }
         ensures held { journal.new.entries.held ≡ journal.old.entries.held }
     {
-        journal.add(Entry::Ran(
+        let added = journal.add(Entry::Ran(
             Event::Act(Act::Spawn),
             Report::Reply(Reply::Refused(Refusal::AtCapacity)),
         ));
+        match added {
+            Err(_) => RunError::Memory,
+            Ok(()) => RunError::AtCapacity,
+        }
     }
 
     /// Drops the handle of the main task, and returns its output, whose number is in the journal. The entry takes the

@@ -1,5 +1,5 @@
 // How a journal records entries. Its history has every entry, and memory may keep fewer.
-ghost use Rattle.std.specs.Prelude.{◌≡◌, ◌≤◌, ◌<◌, ◌||◌, ◌++◌, ◌∷◌, [], false, OnOk, IfSome, IfNone, length, slice_get, ℕ, ◌+◌, Some};
+ghost use Rattle.std.specs.Prelude.{◌≡◌, ◌≤◌, ◌<◌, ◌||◌, ◌++◌, ◌∷◌, [], false, OnOk, OnErr, IfSome, IfNone, length, slice_get, ℕ, ◌+◌, Some};
 ghost use Rattle.mono_machine.specs.declared.events.Event.TheVariants as event;
 ghost use Rattle.mono_machine.specs.declared.events.Report.TheVariants as report;
 ghost use Rattle.mono_rt.specs.declared.parts.journals.Entry.TheVariants.{Ran};
@@ -76,24 +76,6 @@ fn keep(entries: &mut RoomList<Entry>, is_full: bool, entry: Entry)
 {
     if !is_full {
         entries.push(entry);
-    }
-}
-
-// Keeps one more entry, for which it reserves room, unless the journal is full or there is no memory. Returns whether the
-// journal is full now.
-fn keep_with_room(entries: &mut RoomList<Entry>, is_full: bool, entry: Entry) -> bool
-    ensures kept { IsKept is_full entries.old.items result entries.new.items entry }
-    ensures held { entries.new.held ≡ entries.old.held }
-{
-    if is_full {
-        return true;
-    }
-    match entries.reserve(1) {
-        Err(_) => true,
-        Ok(()) => {
-            entries.push(entry);
-            false
-        }
     }
 }
 
@@ -214,15 +196,22 @@ impl Journal {
         self.history = history;
     }
 
-    /// Adds one entry. If a kept journal gets no room for it, the journal is full from then on.
-    pub(crate) fn add(&mut self, entry: Entry)
-        ensures history { self.new.history.entries ≡ self.old.history.entries ++ entry ∷ [] }
-        ensures kept { IsKept self.old.is_full self.old.entries.items self.new.is_full self.new.entries.items entry }
+    /// Adds one entry, for which it reserves room first, unless the journal is full. Returns an error and adds nothing if
+    /// there is no memory for that room.
+    pub(crate) fn add(&mut self, entry: Entry) -> Result<(), AllocError>
+        ensures history { OnOk result (self.new.history.entries ≡ self.old.history.entries ++ entry ∷ []) }
+        ensures same { OnErr result (self.new.history.entries ≡ self.old.history.entries) }
+        ensures kept { OnErr result (self.old.is_full ≡ false) }
+        ensures full { self.new.is_full ≡ self.old.is_full }
         ensures held { self.new.entries.held ≡ self.old.entries.held }
     {
-        let history = self.history.and(&entry);
-        self.is_full = keep_with_room(&mut self.entries, self.is_full, entry);
-        self.history = history;
+        if self.is_full {
+            self.history = self.history.and(&entry);
+            return Ok(());
+        }
+        self.reserve(1)?;
+        self.push(entry);
+        Ok(())
     }
 
     /// Adds one entry, for which there is room, and holds room for another one.

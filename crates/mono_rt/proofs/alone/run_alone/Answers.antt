@@ -9,7 +9,7 @@ use Rattle.mono_rt.proofs.RoundLemmas.{relation_of}
 use Rattle.mono_rt.specs.DriverReadings.{IsTold, telling}
 use Rattle.mono_rt.proofs.DriverLemmas.{told_in}
 use Rattle.mono_rt.proofs.FuturePollLemmas.{polls_whole, still_whole}
-use Rattle.mono_rt.proofs.JournalRoomLemmas.{one_long, none_kept}
+use Rattle.mono_rt.proofs.JournalRoomLemmas.{one_long}
 use Rattle.mono_rt.specs.Reaches.{IsAligned}
 use Rattle.mono_rt.proofs.PossibleAnswerLemmas.{aligned_new, ok_given}
 use Rattle.mono_rt.proofs.PollableLemmas.{turn_new}
@@ -36,8 +36,7 @@ returns g c =
           c.in_ok-runtime.ensures.timers c.in_ok-runtime.ensures.futures refl c.in_ok-runtime.ensures.stands c.in_ok-runtime.ensures.history c.into_journal.ensures c.block_on-answer.ensures.polled;
       still_polled = still_whole number (λ a b. ⊤) g.F.TaskFuture c.args.future made.cx.parts.has_timers true made.cx.futures.items left.cx.futures.items made.cx.parts left.cx.parts made.journal left.journal c.into_journal.result m m c.block_on-answer.result
           c.in_ok-runtime.ensures.timers c.in_ok-runtime.ensures.futures refl c.in_ok-runtime.ensures.stands c.in_ok-runtime.ensures.history c.into_journal.ensures c.block_on-answer.ensures.still_polled;
-      full = one_long number (λ a b. ⊤) g.F.TaskFuture c.block_on-answer.result made.cx made.journal left.journal c.into_journal.result c.in_ok-runtime.ensures.unfull c.into_journal.ensures c.block_on-answer.ensures.full;
-      lacks = none_kept number (λ a b. ⊤) g.F.TaskFuture c.block_on-answer.result made.cx made.journal left.journal c.into_journal.result c.in_ok-runtime.ensures.unfull c.in_ok-runtime.ensures.history c.into_journal.ensures c.block_on-answer.ensures.full;
+      full = one_long number (λ a b. ⊤) g.F.TaskFuture made.cx made.journal left.journal c.into_journal.result c.in_ok-runtime.ensures.unfull c.into_journal.ensures c.block_on-answer.ensures.full;
     }
 
 pub block_on-answer-requires-clause-others : goal.block_on-answer-requires-clause-others

@@ -3,7 +3,6 @@ use Rattle.mono_machine.specs.Machine.{Machine, start_machine}
 use Rattle.mono_machine.specs.declared.events.Blocking.TheVariants as strategy
 use Rattle.mono_rt.specs.Numbering.{answer_numbered}
 use Rattle.mono_rt.specs.Rounds.{Blocked}
-use Rattle.mono_rt.specs.SpawnErrors.{UnlessRefused}
 use Rattle.mono_rt.specs.DriverReadings.{telling, IsTold}
 use Rattle.mono_rt.proofs.DriverLemmas.{told_in}
 use Rattle.mono_run.specs.ScriptDrivers.{readings_of, time_of, parks_of, submits_of, faults_of, can_fail_of}
@@ -13,7 +12,7 @@ use Rattle.mono_run.specs.Script.{Script, IsSound}
 use Rattle.mono_run.specs.TaskPolls.{no_own}
 use Rattle.mono_run.specs.RunRecord.{Ran, RunsScript, RanBy, ParksSo, told_first}
 use Rattle.mono_run.proofs.ParkLemmas.{parked_of}
-use Rattle.mono_run.proofs.UnfullJournalLemmas.{unfull_unless}
+use Rattle.mono_run.proofs.UnfullJournalLemmas.{never_full}
 use Rattle.mono_run.proofs.BlockOnLemmas.{DoneBy, told_ran, told_reads, told_driven, driven_does, no_fault}
 use Rattle.mono_run.proofs.runs.run_script.Goals as goal
 
@@ -85,5 +84,5 @@ told_of-told-requires-clause-end g c =
 
 pub told_of-told-requires-clause-unfull : goal.told_of-told-requires-clause-unfull
 told_of-told-requires-clause-unfull g c =
-    subst (λ j. UnlessRefused c.block_on-answer.result (j.is_full ≡ false)) (sym c.journal.ensures)
-    (unfull_unless _ (λ f. refl) (λ f x a l d p. p) (λ f x d p. p) c.block_on-answer.result c.in_ok-runtime.runtime.cx c.in_ok-runtime.runtime.journal c.block_on-answer.new.self.journal (start_machine c.script.inside.limits strategy.Attached) c.in_ok-runtime.ensures.stands c.in_ok-runtime.ensures.unfull c.block_on-answer.ensures.full)
+    subst (λ j. j.is_full ≡ false) (sym c.journal.ensures)
+    (never_full _ (λ f. refl) (λ f x a l d p. p) (λ f x d p. p) c.in_ok-runtime.runtime.cx c.in_ok-runtime.runtime.journal c.block_on-answer.new.self.journal (start_machine c.script.inside.limits strategy.Attached) c.in_ok-runtime.ensures.stands c.in_ok-runtime.ensures.unfull c.block_on-answer.ensures.full)

@@ -9,7 +9,7 @@ use Rattle.std.proofs.Common.{Err, subst}
 use Rattle.mono_rt.specs.Journals.{Does, Stays}
 use Rattle.mono_rt.specs.FuturePolls.{PollingBy, PollsMainBy, StillPollsMain}
 use Rattle.mono_rt.proofs.FuturePollLemmas.{polls_on, polls_drop, polls_main, lasted_main, lacked_main, none_lacked, none_made}
-use Rattle.mono_rt.proofs.JournalRoomLemmas.{fills_on, fills_not, fills_still, fills_unmade, fills_made}
+use Rattle.mono_rt.proofs.JournalRoomLemmas.{fills_on, fills_not, fills_still}
 use Rattle.mono_rt.proofs.FaultLemmas.{capacity_faults, faults_after}
 use Rattle.mono_rt.specs.Outputs.{AddsNone}
 use Rattle.mono_rt.proofs.EndedTaskLemmas.{if_main}
@@ -68,7 +68,7 @@ pub returns-in-Some-clause-told : goal.returns-in-Some-clause-told
 returns-in-Some-clause-told g c = so_value (so_past (so_after c.start_main.ensures.told (rw c.in-Ok-answer.is at c.run-answer.ensures.went.told)) c.end_main-output.ensures.told)
 
 pub returns-in-Err-clause-full : goal.returns-in-Err-clause-full
-returns-in-Err-clause-full g c = fills_unmade g.O.Outcome.output_number g.W.SharedState.leads g.F.TaskFuture ⊤ ⊤ c.in-Err.error c.args.self.now.cx c.args.self.now.journal c.start_main.new.self.journal _ c.in-Err.ensures.none.refused c.in-Err.ensures.full c.in-Err.ensures.lacks
+returns-in-Err-clause-full g c = fills_not g.O.Outcome.output_number g.W.SharedState.leads g.F.TaskFuture c.args.self.now.cx c.args.self.now.journal c.start_main.new.self.journal c.start_main.ensures.full
 
 pub returns-in-Err-answer-clause-full : goal.returns-in-Err-answer-clause-full
 returns-in-Err-answer-clause-full g c =
@@ -76,9 +76,8 @@ returns-in-Err-answer-clause-full g c =
     let old = c.args.self.now in
     let started = c.start_main.new.self in
     let ran = c.run-answer.new.self in
-    fills_made number g.W.SharedState.leads g.F.TaskFuture ⊤ ⊤ c.in-Err-answer.error old.cx old.journal c.end_main-output.new.journal (rw c.in-Err-answer.is at c.run-answer.ensures.went.placed)
     (fills_still number g.W.SharedState.leads g.F.TaskFuture old.cx old.journal ran.journal c.end_main-output.new.journal
-    (fills_on number g.W.SharedState.leads g.F.TaskFuture old.cx started.cx old.journal started.journal ran.journal (goes_of number (IsSpawn c.in-Ok.main) old.cx.parts started.cx.parts old.journal started.journal c.in-Ok.ensures.made.spawn) (fills_not number g.W.SharedState.leads g.F.TaskFuture old.cx old.journal started.journal c.in-Ok.ensures.full) c.run-answer.ensures.went.full)
+    (fills_on number g.W.SharedState.leads g.F.TaskFuture old.cx started.cx old.journal started.journal ran.journal (goes_of number (IsSpawn c.in-Ok.main) old.cx.parts started.cx.parts old.journal started.journal c.in-Ok.ensures.made.spawn) (fills_not number g.W.SharedState.leads g.F.TaskFuture old.cx old.journal started.journal c.start_main.ensures.full) c.run-answer.ensures.went.full)
     c.end_main-output.ensures.full)
 
 pub returns-in-Some-clause-full : goal.returns-in-Some-clause-full
@@ -88,7 +87,7 @@ returns-in-Some-clause-full g c =
     let started = c.start_main.new.self in
     let ran = c.run-answer.new.self in
     fills_still number g.W.SharedState.leads g.F.TaskFuture old.cx old.journal ran.journal c.end_main-output.new.journal
-    (fills_on number g.W.SharedState.leads g.F.TaskFuture old.cx started.cx old.journal started.journal ran.journal (goes_of number (IsSpawn c.in-Ok.main) old.cx.parts started.cx.parts old.journal started.journal c.in-Ok.ensures.made.spawn) (fills_not number g.W.SharedState.leads g.F.TaskFuture old.cx old.journal started.journal c.in-Ok.ensures.full) c.run-answer.ensures.went.full)
+    (fills_on number g.W.SharedState.leads g.F.TaskFuture old.cx started.cx old.journal started.journal ran.journal (goes_of number (IsSpawn c.in-Ok.main) old.cx.parts started.cx.parts old.journal started.journal c.in-Ok.ensures.made.spawn) (fills_not number g.W.SharedState.leads g.F.TaskFuture old.cx old.journal started.journal c.start_main.ensures.full) c.run-answer.ensures.went.full)
     c.end_main-output.ensures.full
 
 pub returns-in-Err-clause-polled : goal.returns-in-Err-clause-polled
@@ -158,10 +157,10 @@ pub returns-in-Some-clause-faults : goal.returns-in-Some-clause-faults
 returns-in-Some-clause-faults g c = (rw c.in-Ok-answer.is at c.run-answer.ensures.went.faults) ∙ c.start_main.ensures.faults
 
 pub returns-in-Err-answer-clause-place : goal.returns-in-Err-answer-clause-place
-returns-in-Err-answer-clause-place g c = placed ⊤ ⊤ c.in-Err-answer.error _ c.in-Ok.ensures.place (rw c.in-Err-answer.is at c.run-answer.ensures.went.placed)
+returns-in-Err-answer-clause-place g c = placed ⊤ ⊤ c.in-Err-answer.error _ _ c.in-Ok.ensures.place (rw c.in-Err-answer.is at c.run-answer.ensures.went.placed)
 
 pub returns-in-Err-clause-place : goal.returns-in-Err-clause-place
-returns-in-Err-clause-place g c = same_answer ⊤ ⊤ c.in-Err.error _ c.in-Err.ensures.place
+returns-in-Err-clause-place g c = same_answer ⊤ ⊤ c.in-Err.error _ _ c.in-Err.ensures.place
 
 pub returns-in-Err-clause-untouched : goal.returns-in-Err-clause-untouched
 returns-in-Err-clause-untouched g c = same_refusal ⊤ ⊤ c.in-Err.error _ c.in-Err.ensures.untouched

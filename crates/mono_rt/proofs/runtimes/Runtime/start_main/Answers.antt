@@ -4,7 +4,7 @@ use Rattle.mono_rt.proofs.DriverLemmas.{tells_nothing}
 use Rattle.std.specs.Prelude.{⊤}
 use Rattle.mono_rt.specs.SpawnErrors.{HasPlace}
 use Rattle.mono_rt.specs.declared.parts.errors.RunError.TheVariants.{Memory}
-use Rattle.mono_rt.proofs.PlaceLemmas.{placed, not_refused, unless_refused}
+use Rattle.mono_rt.proofs.PlaceLemmas.{placed, no_place, not_refused, if_refused}
 use Rattle.mono_rt.proofs.runtimes.Runtime.start_main.Goals as goal
 
 pub returns-in-Err-clause-told : goal.returns-in-Err-clause-told
@@ -20,21 +20,18 @@ pub returns-then-has_no_place-clause-told : goal.returns-then-has_no_place-claus
 returns-then-has_no_place-clause-told g c = c.refuse_main.ensures.told _
 
 pub returns-then-has_no_place-clause-place : goal.returns-then-has_no_place-clause-place
-returns-then-has_no_place-clause-place g c = sym c.has_no_place.ensures ∙ c.if-has_no_place.true
-
-pub returns-then-has_no_place-clause-lacks : goal.returns-then-has_no_place-clause-lacks
-returns-then-has_no_place-clause-lacks g c = c.refuse_main.ensures.lacks
+returns-then-has_no_place-clause-place g c = no_place ⊤ c.refuse_main.result _ _ _ (sym c.has_no_place.ensures ∙ c.if-has_no_place.true) c.refuse_main.ensures.refused c.refuse_main.ensures.kept
 
 pub returns-in-Err-clause-place : goal.returns-in-Err-clause-place
-returns-in-Err-clause-place g c = placed ⊤ ⊤ Memory _ (sym c.has_no_place.ensures ∙ c.if-has_no_place.false) tt
+returns-in-Err-clause-place g c = placed ⊤ ⊤ Memory _ _ (sym c.has_no_place.ensures ∙ c.if-has_no_place.false) tt
 
 pub returns-in-Err-start_main-clause-place : goal.returns-in-Err-start_main-clause-place
 returns-in-Err-start_main-clause-place g c =
     let free = sym c.has_no_place.ensures ∙ c.if-has_no_place.false in
-    placed ⊤ ⊤ c.in-Err-start_main.error _ free (subst (HasPlace {A = ⊤} (Err c.in-Err-start_main.error)) free c.in-Err-start_main.ensures.place)
+    placed ⊤ ⊤ c.in-Err-start_main.error _ _ free (subst (HasPlace {A = ⊤} (Err c.in-Err-start_main.error)) free c.in-Err-start_main.ensures.place)
 
 pub returns-then-has_no_place-clause-untouched : goal.returns-then-has_no_place-clause-untouched
-returns-then-has_no_place-clause-untouched g c = refl
+returns-then-has_no_place-clause-untouched g c = if_refused ⊤ c.refuse_main.result _ refl
 
 pub returns-in-Err-start_main-clause-untouched : goal.returns-in-Err-start_main-clause-untouched
 returns-in-Err-start_main-clause-untouched g c =
@@ -42,15 +39,10 @@ returns-in-Err-start_main-clause-untouched g c =
     not_refused ⊤ ⊤ c.in-Err-start_main.error _ (subst (HasPlace {A = ⊤} (Err c.in-Err-start_main.error)) free c.in-Err-start_main.ensures.place)
 
 pub returns-in-Err-start_main-clause-full : goal.returns-in-Err-start_main-clause-full
-returns-in-Err-start_main-clause-full g c = unless_refused ⊤ c.in-Err-start_main.error _ c.start_main.ensures.full
-
-pub returns-in-Err-start_main-clause-lacks : goal.returns-in-Err-start_main-clause-lacks
-returns-in-Err-start_main-clause-lacks g c =
-    let free = sym c.has_no_place.ensures ∙ c.if-has_no_place.false in
-    not_refused ⊤ ⊤ c.in-Err-start_main.error _ (subst (HasPlace {A = ⊤} (Err c.in-Err-start_main.error)) free c.in-Err-start_main.ensures.place)
+returns-in-Err-start_main-clause-full g c = c.start_main.ensures.full
 
 pub returns-then-has_no_place-clause-none : goal.returns-then-has_no_place-clause-none
-returns-then-has_no_place-clause-none g c = record { refused = c.refuse_main.ensures.refused; stays = tt; tasks = refl; futures = refl; unkept = inl refl; held = c.refuse_main.ensures.held }
+returns-then-has_no_place-clause-none g c = record { refused = c.refuse_main.ensures.refused; stays = c.refuse_main.ensures.unmade; tasks = refl; futures = refl; unkept = inl refl; held = c.refuse_main.ensures.held }
 
 pub returns-in-Err-clause-none : goal.returns-in-Err-clause-none
 returns-in-Err-clause-none g c =
