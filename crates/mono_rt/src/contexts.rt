@@ -60,7 +60,7 @@ impl<F: Drop, O: Outcome + Drop, P: ThreadPool + Drop, U: Unpark, W: SharedState
     /// The spawn, made or refused, is an act of the turn; an allocation that fails is none (`kept`).
     ///
     /// ```rust
-    /// // mono_bench/src/turns/work.rt
+    /// // tools/bench/mono_bench/src/turns/work.rt.txt
     /// match cx.spawn(alloc, work) {
     ///     Ok(handle) => {
     ///         let number = handle.task();
