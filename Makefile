@@ -10,7 +10,7 @@
 #                    beside it, and the manual page with --help; it fails if a crate use_* never gives up something that
 #                    it holds
 #   make pages       compiles the first Rust example of each page, and the programs that are kept as text in tools/, unproved;
-#                    the programs have to print the stored lines
+#                    the programs have to print the stored lines, and the examples what their pages say
 #   make soak        random inputs for a minute (SECONDS=n), each report checked by an independent machine; their journals
 #                    too; then each allocation, read and write fails in turn, scripts run with workers, and each library
 #                    call that leaves its object as it was is refused memory

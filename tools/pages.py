@@ -1,11 +1,14 @@
 #!/usr/bin/env python3
-"""Compiles the first Rust example of each page as it stands, by `rt try`, before any proof.
+"""Compiles the first Rust example of each page as it stands, by `rt try`, before any proof, and runs it as the page says.
 
 usage: tools/pages.py
 
 A page is README.md, a file of docs, or a crate's README. All examples become modules of one program in a folder of its
-own, which names each crate that an example names. An example that begins with `// crates/` and a file is a part of that
-file, and is compared with it instead. The status is that of rt.
+own, which names each crate that an example names. If the text behind an example begins with "`CALL` returns `PATTERN`",
+the program makes that call, with the host `rt` and its allocator `alloc`, and matches what it returns. An example with a
+`main` has to print the line of "prints `LINE`". An example that begins with `// crates/` and a file is a part of that
+file and is compared with it instead; the crate's stored run has to have the line. The status is that of rt, or 1 if a
+page says something else.
 """
 import glob
 import os
@@ -18,27 +21,59 @@ import tempfile
 sys.dont_write_bytecode = True
 import below
 
+# The function that makes a page's call, and the line of the program that prints the page if the call returns what it says.
+CHECK = """
+pub fn is_as_said<R: mono_model::Host + Send + 'static>(
+    rt: &R,
+    alloc: std::alloc::Global,
+) -> Result<bool, std::alloc::AllocError> {{
+    Ok(matches!({call}, {pattern}))
+}}
+"""
+TELL = """    match {name}::is_as_said(&rt, rt.alloc()) {{
+        Ok(true) => println!(rt; "{name}")?,
+        _ => println!(rt; "{name} returns something else")?,
+    }}
+"""
+MAIN = "fn main(rt: HostRuntime) -> io::Result<()> {\n"
 
-def need_part(page, file, text):
-    """Ends the program if the text is no part of the file."""
+
+def need_part(page, file, text, line):
+    """Ends the program if the text is no part of the file, or the line that it prints is not stored."""
     with open(file, encoding="utf-8") as source:
         if text not in source.read():
             sys.exit(f"{page}: its first example is not in {file}")
+    if line is None:
+        return
+    with open(os.path.join(*file.split("/")[:2], "stdout"), encoding="utf-8") as stored:
+        if line not in stored.read().splitlines():
+            sys.exit(f"{page}: no stored run prints `{line}`")
+
+
+def said(pattern, behind):
+    """Returns what the pattern finds in the first paragraph behind an example."""
+    found = re.search(pattern, behind.lstrip("\n").split("\n\n")[0])
+    return found and found.groups()
 
 
 def examples():
-    """Returns the name of a module and the text of the first example, for each page that has one."""
+    """Returns the first example of each page that has one: its module's name, its text, its call with the pattern, its line."""
     pages = [*glob.glob("README.md"), *sorted(glob.glob("docs/*.md")), *sorted(glob.glob("crates/*/README.md"))]
-    found = {}
+    found = []
     for page in pages:
-        with open(page, encoding="utf-8") as text:
-            block = re.search(r"^```rust\n(.*?)^```", text.read(), re.S | re.M)
-        excerpt = block and re.match(r"// (crates/\S+)\n", block.group(1))
+        with open(page, encoding="utf-8") as file:
+            text = file.read()
+        block = re.search(r"^```rust\n(.*?)^```", text, re.S | re.M)
+        if not block:
+            continue
+        behind = text[block.end():]
+        (line,) = said(r"prints `([^`]+)`", behind) or (None,)
+        excerpt = re.match(r"// (crates/\S+)\n", block.group(1))
         if excerpt:
-            need_part(page, excerpt.group(1), block.group(1)[excerpt.end():])
-        elif block:
+            need_part(page, excerpt.group(1), block.group(1)[excerpt.end():], line)
+        else:
             name = page.removesuffix(".md").removesuffix("/README").removeprefix("crates/").replace("/", "_")
-            found["page_" + name.lower()] = block.group(1)
+            found.append(("page_" + name.lower(), block.group(1), said(r"^`([^`]+)` returns `([^`]+)`", behind), line))
     return found
 
 
@@ -48,28 +83,57 @@ def lines_of_crates(names):
         return text.read().rstrip("\n") + f"\npages may_wait=100: {' '.join(names)}\n"
 
 
-def main():
-    below.need_rt()
-    os.chdir(below.TOP)
-    texts = examples()
+def is_program(text):
+    """Returns whether an example is a program."""
+    return "\n" + MAIN in text
+
+
+def root_of(text, found):
+    """Returns the root of the program: the example that is one, and in its main first the calls of the other examples."""
+    begin, end = text.split("\n" + MAIN)
+    calls = "".join(TELL.format(name=name) for name, _, call, _ in found if call)
+    modules = "".join(f"\nmod {name};" for name, other, _, _ in found if other != text)
+    return f"{begin}\n{MAIN}{calls}{end}{modules}\n"
+
+
+def write(path, text):
+    with open(path, "w", encoding="utf-8") as file:
+        file.write(text)
+
+
+def run(found):
+    """Compiles and runs the program of all examples in a folder of its own, and returns how it ended."""
     named = lambda name, text: re.search(rf"(use |Rattle\.|\b){name}(::|\.)", text)
-    crates = [name for name in sorted(os.listdir("crates")) if any(named(name, text) for text in texts.values())]
+    crates = [name for name in sorted(os.listdir("crates")) if any(named(name, text) for _, text, _, _ in found)]
     with tempfile.TemporaryDirectory(prefix="pages-") as folder:
         shutil.copytree("crates", f"{folder}/crates", ignore=shutil.ignore_patterns("out", "planted", "must-fail"))
         os.makedirs(f"{folder}/crates/pages/src")
-        with open(f"{folder}/crates.txt", "w", encoding="utf-8") as text:
-            text.write(lines_of_crates(crates))
-        with open("HANDLES", encoding="utf-8") as source, open(f"{folder}/HANDLES", "w", encoding="utf-8") as text:
-            text.write(source.read())
-        # The example that is a program is the root, and each other example is a module of it.
-        roots = [name for name, example in texts.items() if re.search(r"^fn main\(", example, re.M)]
-        for name, example in texts.items():
-            with open(f"{folder}/crates/pages/src/{'main' if name in roots else name}.rt", "w", encoding="utf-8") as text:
-                text.write(example + "".join(f"\nmod {name};" for name in texts if name not in roots) * (name in roots))
-        done = subprocess.run(["rt", "try"], cwd=f"{folder}/crates/pages")
-    if done.returncode == 0:
-        print(f"{len(texts)} pages: the first example of each compiles as it stands")
-    return done.returncode
+        write(f"{folder}/crates.txt", lines_of_crates(crates))
+        shutil.copy("HANDLES", folder)
+        for name, text, call, _ in found:
+            if is_program(text):
+                write(f"{folder}/crates/pages/src/main.rt", root_of(text, found))
+            else:
+                check = CHECK.format(call=call[0], pattern=call[1]) if call else ""
+                write(f"{folder}/crates/pages/src/{name}.rt", text + check)
+        return subprocess.run(["rt", "try"], cwd=f"{folder}/crates/pages", stdout=subprocess.PIPE, text=True)
+
+
+def main():
+    below.need_rt()
+    os.chdir(below.TOP)
+    found = examples()
+    owed = [name for name, _, call, _ in found if call] + [line for _, text, _, line in found if is_program(text)]
+    done = run(found)
+    if done.returncode != 0:
+        print(done.stdout, end="")
+        return done.returncode
+    printed = done.stdout.splitlines()
+    if printed != owed:
+        print("\n".join(f"not as its page says: {line}" for line in printed if line not in owed) or "lines are missing")
+        return 1
+    print(f"{len(found)} pages: the first example of each compiles as it stands, and {len(owed)} do what their pages say")
+    return 0
 
 
 if __name__ == "__main__":
