@@ -1,4 +1,5 @@
 use Rattle.std.proofs.Common.{subst, refl}
+use Rattle.mono_rt.specs.Reaches.{reaches_itself}
 use Rattle.mono_run.specs.ScriptTurns.{sleep_steps}
 use Rattle.mono_run.specs.Segments.{Goes, if_over}
 use Rattle.mono_run.proofs.SegmentLemmas.{handled, unhandled}
@@ -31,3 +32,6 @@ returns-else-await_sleep-clause-few c = c.await_sleep.ensures.few
 
 pub returns-in-None-clause-few : goal.returns-in-None-clause-few
 returns-in-None-clause-few c = no_act 2 c.args.cx.now.parts.acts c.args.cx.now.parts.acts refl
+
+pub returns-in-None-clause-reached : goal.returns-in-None-clause-reached
+returns-in-None-clause-reached c = reaches_itself (λ n. n) c.args.cx.now
