@@ -21,8 +21,8 @@
 #   make bench       measures the programs next to plain Rust programs, which rustc builds, and prints the tables of
 #                    docs/PERFORMANCE.md
 #   make planted     tries the mutants of each folder planted/ on a copy (CRATE=name: of one crate)
-#   make server      proves and builds the lease server, runs it on two cores with a generated load for ten seconds, checks
-#                    each reply, and then does so under faults
+#   make server      proves and builds the lease server, compares its manual page with --help, runs it on two cores with a
+#                    generated load for ten seconds, checks each reply, and then does so under faults
 #   make server-bench measures the lease server beside the same server on tokio; needs cargo and librust-tokio-dev
 #   make view-test   opens journals in headless Chromium by tools/view.py, as a user does: the stuck task of a lost wake is
 #                    found, and 100,000 lines open and move as they should; needs chromium
@@ -112,6 +112,7 @@ build-server: has-rt
 	@python3 tools/build.py lease_server
 
 server: build-server
+	@python3 tools/server/page.py bin/lease_server
 	python3 tools/server/run.py bin/lease_server 10
 	python3 tools/server/faults.py bin/lease_server
 

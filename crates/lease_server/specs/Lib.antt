@@ -2,3 +2,4 @@ pub mod Desks
 pub mod CoreRuns
 pub mod Pasts
 pub mod Served
+pub mod Pages

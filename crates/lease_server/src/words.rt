@@ -2,7 +2,6 @@
 use lease_core::Sizes;
 use mono_text::whole_number;
 use std::alloc::{AllocError, Global};
-use std::{env, io};
 
 /// The most cores of a server.
 const MOST_CORES: u64 = 64;
@@ -51,9 +50,8 @@ fn settings_from(numbers: &[u64], is_still: bool) -> Option<Settings> {
 }
 
 /// Returns the settings that the words after the program's name say: from 1 to 64 cores, the sizes of each core, and
-/// then `still` if their clocks stay at 0. Returns None if they say none, and fails if they cannot be read.
-pub fn settings_of(rt: &HostRuntime) -> io::Result<Option<Settings>> {
-    let words: Vec<String> = env::args(rt)?.collect(rt.alloc())?;
+/// then `still` if their clocks stay at 0. Returns None if they say none.
+pub fn settings_of(alloc: Global, words: &[String]) -> Result<Option<Settings>, AllocError> {
     let is_still = words.last().is_some_and(|word| word.as_str() == "still");
     let end = if is_still {
         words.len().saturating_sub(1)
@@ -63,7 +61,7 @@ pub fn settings_of(rt: &HostRuntime) -> io::Result<Option<Settings>> {
     if end < 1 {
         return Ok(None);
     }
-    match numbers(rt.alloc(), &words.as_slice()[1..end])? {
+    match numbers(alloc, &words[1..end])? {
         Some(numbers) => Ok(settings_from(numbers.as_slice(), is_still)),
         None => Ok(None),
     }
