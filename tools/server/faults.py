@@ -135,6 +135,8 @@ def waits_early(program, size, seconds):
     """Waits until the router has slept for a time. Returns whether some of its input, a file of this size, is left."""
     last, since = -1, time.monotonic()
     while time.monotonic() < since + seconds:
+        if program.poll() is not None:
+            return False
         at = position(program)
         if at >= size:
             return False
@@ -282,11 +284,11 @@ class Refusals:
         return status, count
 
     def run_open(self, n):
-        """Refuses allocation n while lines keep coming for two seconds. Returns the status, and whether it ended before."""
+        """Refuses allocation n while lines keep coming for ten seconds. Returns the status, and whether it ended before."""
         served = Server([self.server, "2", *SIZES], self.folder, env=self.settings(n))
         served.send((self.folder / "lines").read_bytes())
         begin, keys = time.monotonic(), itertools.cycle(range(20))
-        while time.monotonic() < begin + 2 and served.program.poll() is None:
+        while time.monotonic() < begin + 10 and served.program.poll() is None:
             served.send(f"receive {next(keys)}\n".encode())
             time.sleep(0.005)
         has_ended = served.program.poll() is not None
