@@ -1,7 +1,11 @@
--- Texts that were written one after another.
-use Rattle.std.proofs.Common.{◌≡◌, ℕ, suc, ◌+◌, List, [], ◌∷◌, ◌++◌, length, take, Option, Some, None, sym, ap, subst, ◌∙◌, arith, append_assoc, length-append}
+-- Texts that were written one after another, and what is said of an end.
+use Rattle.std.proofs.Common.{◌≡◌, ℕ, suc, ◌+◌, ◌≤◌, List, [], ◌∷◌, ◌++◌, length, take, Option, Some, None, refl, sym, ap, subst, ◌∙◌, arith, append_assoc, length-append}
 use Rattle.std.proofs.lemmas.List.{take-append-le}
 use Rattle.mono_text.specs.Environment.{HasWritten, HasWrittenPrefix}
+use Rattle.mono_script.specs.declared.ends.Ended.{Ended}
+use Rattle.mono_script.specs.Endings.{status_code}
+use Rattle.mono_script.specs.TopCall.{code_of}
+use Rattle.mono_main.specs.Causes.{end_status}
 
 pub written_both : (before mid after : Option (List ℕ)) (one two : List ℕ) → HasWritten before mid one → HasWritten mid after two → HasWritten before after (one ++ two)
 written_both None mid after one two p q = rw p at q
@@ -25,3 +29,7 @@ prefix_behind before mid after one two p q =
 pub prefix_before : (before after : Option (List ℕ)) (one two : List ℕ) → HasWrittenPrefix before after one → HasWrittenPrefix before after (one ++ two)
 prefix_before before after one two q =
     (q.0, omega (arith, q.1, length-append one two), subst (λ x. HasWritten before after x) (sym (take-append-le q.0 one two q.1)) q.2)
+
+pub code_of_end : (ended : Option Ended) → code_of ended ≡ status_code (end_status ended)
+code_of_end (Some e) = refl
+code_of_end None = refl

@@ -22,7 +22,7 @@ pub record ShowsPage (words : List (List ℕ)) (a b : View) (code : ℕ) : Type 
   pub unfailed : b.read_faults ≡ a.read_faults
   pub unstarted : b.starts ≡ a.starts
 
--- The words are a command whose lines were answered one by one; nothing was started.
+-- The words are a command whose lines were answered one by one.
 pub record FollowsLines (words : List (List ℕ)) (a b : View) (code : ℕ) : Type 0 where
   pub command : Command
   pub end : FollowEnd
@@ -30,14 +30,12 @@ pub record FollowsLines (words : List (List ℕ)) (a b : View) (code : ℕ) : Ty
   pub is_command : IsCommand words command
   pub followed : FollowsAs command end rest a.left b.left a.written b.written
   pub is_code : code ≡ status_code (status_of_end end)
-  pub unstarted : b.starts ≡ a.starts
 
--- The words are no command whose lines are answered one by one; nothing was read, written or started.
+-- The words are no command whose lines are answered one by one; nothing was read or written.
 pub record FollowsNone (a b : View) (code : ℕ) : Type 0 where
   pub is_code : code ≡ 2
   pub unread : b.left ≡ a.left
   pub unwritten : b.written ≡ a.written
-  pub unstarted : b.starts ≡ a.starts
 
 -- The program was called with these words after its name, over a clock that exposes these readings. It led from view a
 -- to view b and exited with this number. `others` are the words but the second.

@@ -30,7 +30,7 @@ pub(crate) const WAITING: &str =
     "reading lines from standard input; end with ^D at the beginning of a line";
 
 // Writes a line with the cause.
-#[tactic(auto, using(crate::proofs::CauseLemmas::written_both))]
+#[tactic(auto, using(crate::proofs::CauseLemmas::written_both, crate::proofs::CauseLemmas::prefix_behind, crate::proofs::CauseLemmas::prefix_before))]
 fn write_cause<E: Sink>(causes: &mut E, cause: &str) -> Result<(), SinkFault>
     ensures ok { OnOk result (HasWritten (E.written causes.old) (E.written causes.new) (cause_line cause.now)) }
     ensures some { OnErr result (HasWrittenPrefix (E.written causes.old) (E.written causes.new) (cause_line cause.now)) }
