@@ -156,12 +156,21 @@ fn sent<R: Host + Abort + Copy + Drop>(
     let mut send = sender.send(12);
     match polled(&rt, alloc, &mut cx, &mut send) {
         Poll::Pending => None,
-        Poll::Ready((_sender, Ok(()))) => Some(true),
-        Poll::Ready((_sender, Err(SendError::Closed(back)))) => {
+        Poll::Ready((_sender, answer)) => match answer {
+            Ok(()) => Some(true),
+            Err(refused) => closed(rt, refused),
+        },
+    }
+}
+
+// Returns false if the channel was closed and the message 12 came back, and None if an allocation failed.
+fn closed<R: Host + Abort + Copy + Drop>(rt: R, refused: SendError<u64>) -> Option<bool> {
+    match refused {
+        SendError::Closed(back) => {
             assert!(rt; back == 12);
             Some(false)
         }
-        Poll::Ready((_sender, Err(SendError::Memory(_)))) => None,
+        SendError::Memory(_message) => None,
     }
 }
 
