@@ -1,4 +1,6 @@
 // Sources over readers and sinks over writers whose calls fail in turn.
+ghost use Rattle.std.specs.Prelude.{◌≤◌, IfOk};
+
 use mono_text::{ReadSource, Sink, SinkFault, Source, SourceFault, WriteSink};
 use std::io::{self, ErrorKind, Read, Write};
 
@@ -23,7 +25,9 @@ impl Scripted {
     }
 
     // Returns the answer to this call, which has room for `room` bytes.
-    fn answer(&mut self, room: usize) -> io::Result<usize> {
+    fn answer(&mut self, room: usize) -> io::Result<usize>
+        ensures { IfOk result (λ n. n ≤ room) }
+    {
         let answer = self.answers.get(self.calls);
         self.calls = self.calls.saturating_add(1);
         match answer {
