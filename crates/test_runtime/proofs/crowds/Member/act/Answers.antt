@@ -12,3 +12,6 @@ returns-in-Gives g c = c.keep_waker.ensures
 
 pub returns-in-Ends : goal.returns-in-Ends
 returns-in-Ends g c = reaches_itself (λ n. n) c.args.cx.now
+
+pub returns-in-Idles : goal.returns-in-Idles
+returns-in-Idles g c = reaches_itself (λ n. n) c.args.cx.now
