@@ -11,3 +11,4 @@ pub mod HandleLemmas
 pub mod SpawnLemmas
 pub mod PlaceTableLemmas
 pub mod ScheduleLemmas
+pub mod OwedLemmas

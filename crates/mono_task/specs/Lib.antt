@@ -8,3 +8,4 @@ pub mod TaskEnds
 pub mod Spawns
 pub mod TaskPhases
 pub mod Joins
+pub mod Owed
