@@ -6,7 +6,7 @@ use Rattle.mono_model.specs.Joins.{join_answer, drop_answer}
 use Rattle.mono_model.specs.declared.poll.Poll.TheVariants.{Ready}
 use Rattle.mono_model.specs.declared.Ended.{Ended}
 use Rattle.mono_model.specs.declared.poll.Poll.{Poll}
-use Rattle.mono_task.specs.Members.{FutureOf}
+use Rattle.mono_task.specs.Members.{FutureOf, SharedOf}
 use Rattle.mono_time.specs.declared.instant.Instant.{Instant}
 use Rattle.mono_rt.specs.PossibleAnswers.{AnswersNoMore}
 use Rattle.mono_rt.specs.Reaches.{ReachesSharing, IsAligned}
@@ -17,12 +17,12 @@ use Rattle.mono_rt.specs.declared.contexts.Cx.{Cx}
 use Rattle.mono_answers.specs.declared.passages.Passage.{Passage}
 use Rattle.mono_answers.specs.declared.passages.Passage.TheVariants as passage
 
-module _ {F O P U W J A V : Type 0} (number : O → ℕ) (leads : W → W → Type 0) (future : FutureOf F (Cx F O P U W J A V) O) (t : ℕ) where
+module _ {F O P U W J A V : Type 0} (number : O → ℕ) (sharing : SharedOf W) (future : FutureOf F (Cx F O P U W J A V) O) (t : ℕ) where
   -- The later context comes from the earlier one in this way. A turn that ends is one of another task than t.
   abbrev pub Comes : Cx F O P U W J A V → Passage → Cx F O P U W J A V → Type 0
-  Comes c passage.Calls d = ReachesSharing number leads c d
+  Comes c passage.Calls d = ReachesSharing number sharing c d
   Comes c (passage.Begin r) d = (now : Instant) × (acts : Record) × Begins r now acts c d
-  Comes c (passage.End r) d = (t ≡ r → ⊥) × (c.parts.tasks.turn ≡ Some r) × ((answer : Poll O) × (left : F) × (ended : Ended) × AfterPoll number leads future answer r left ended c d)
+  Comes c (passage.End r) d = (t ≡ r → ⊥) × (c.parts.tasks.turn ≡ Some r) × ((answer : Poll O) × (left : F) × (ended : Ended) × AfterPoll number sharing future answer r left ended c d)
   Comes c passage.Turns d = AnswersNoMore future.gives c d
 
   -- one passage after another
@@ -37,15 +37,15 @@ pub record Spawns {F O P U W J A V : Type 0} (t : ℕ) (spawn : F) (c d : Cx F O
   pub tasks : tasks_in d ≡ spawned (tasks_in c)
   pub futures : futures_in d ≡ futures_in c ++ Some spawn ∷ []
 
-module _ {F O P U W J A V : Type 0} (number : O → ℕ) (leads : W → W → Type 0) (future : FutureOf F (Cx F O P U W J A V) O) where
+module _ {F O P U W J A V : Type 0} (number : O → ℕ) (sharing : SharedOf W) (future : FutureOf F (Cx F O P U W J A V) O) where
   -- A poll of the handle in any later context answers only what the spawned future gives.
   abbrev pub PollsGive : Type 0
   PollsGive =
       (c d e : Cx F O P U W J A V) (t : ℕ) (spawn : F) (passages : List Passage) (x : O)
-      → Spawns t spawn c d → Passes number leads future t d passages e → join_answer (tasks_in e) t ≡ Ok (Ready x) → future.gives spawn x
+      → Spawns t spawn c d → Passes number sharing future t d passages e → join_answer (tasks_in e) t ≡ Ok (Ready x) → future.gives spawn x
 
   -- Nor does a drop of the handle return another output.
   abbrev pub DropsGive : Type 0
   DropsGive =
       (c d e : Cx F O P U W J A V) (t : ℕ) (spawn : F) (passages : List Passage) (x : O)
-      → Spawns t spawn c d → Passes number leads future t d passages e → drop_answer (tasks_in e) t ≡ Ok (Some x) → future.gives spawn x
+      → Spawns t spawn c d → Passes number sharing future t d passages e → drop_answer (tasks_in e) t ≡ Ok (Some x) → future.gives spawn x

@@ -20,6 +20,6 @@ where
     P: ThreadPool + Drop,
     U: Unpark,
     W: SharedState + Drop,
-    ensures polled { PollsGive O.output_number W.leads F.TaskFuture }
-    ensures dropped { DropsGive O.output_number W.leads F.TaskFuture }
+    ensures polled { PollsGive O.output_number W.SharedState F.TaskFuture }
+    ensures dropped { DropsGive O.output_number W.SharedState F.TaskFuture }
 {}

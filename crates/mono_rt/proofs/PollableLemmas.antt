@@ -6,7 +6,7 @@ use Rattle.std.proofs.lemmas.List.{get_or-set_same, get_or-set_other, get_or_pas
 use Rattle.mono_model.specs.Table.{value_at}
 use Rattle.mono_model.specs.declared.poll.Poll.{Poll}
 use Rattle.mono_model.specs.declared.poll.Poll.TheVariants.{Ready}
-use Rattle.mono_task.specs.Members.{FutureOf}
+use Rattle.mono_task.specs.Members.{FutureOf, SharedOf}
 use Rattle.mono_rt.specs.Reaches.{ReachesSharing, IsAligned}
 use Rattle.mono_rt.specs.PossibleAnswers.{AnswersNoMore}
 use Rattle.mono_rt.specs.Pollable.{EachCanPoll, AddsPollable, SpawnsPollable, CanTurn}
@@ -84,14 +84,14 @@ module _ {F O P U W J A V : Type 0} (future : FutureOf F (Cx F O P U W J A V) O)
   turn_new c items spawns aligned = record { table = subst (EachCanPoll future.can_poll) (sym items) (λ t f at. absurd (none_some None f refl at)); spawns = spawns_on ⊤ (IsAligned c) (λ i. aligned) spawns }
 
   -- a poll of a future that can be polled
-  pub polled_can : (number : O → ℕ) (leads : W → W → Type 0) (c d : Cx F O P U W J A V) (f g : F) (answer : Poll O) → CanTurn future c → future.is_spent f ≡ false → future.can_poll f → future.polls f c answer g d → ReachesSharing number leads c d → EachCanPoll future.can_poll d.futures.items
-  polled_can number leads c d f g answer can unspent able polled reached =
+  pub polled_can : (number : O → ℕ) (sharing : SharedOf W) (c d : Cx F O P U W J A V) (f g : F) (answer : Poll O) → CanTurn future c → future.is_spent f ≡ false → future.can_poll f → future.polls f c answer g d → ReachesSharing number sharing c d → EachCanPoll future.can_poll d.futures.items
+  polled_can number sharing c d f g answer can unspent able polled reached =
       each_added future.can_poll c.futures.items d.futures.items reached.keeps can.table (can.spawns.polls f g answer c d (λ h. h) reached.aligned unspent able polled)
 
   -- and the cancel of what it left
-  pub cancelled_can : (number : O → ℕ) (leads : W → W → Type 0) (c d e : Cx F O P U W J A V) (f g : F) (output : O) → CanTurn future c → future.can_poll f → future.polls f c (Ready output) g d → ReachesSharing number leads c d → EachCanPoll future.can_poll d.futures.items
-      → future.cancels g d e → ReachesSharing number leads d e → EachCanPoll future.can_poll e.futures.items
-  cancelled_can number leads c d e f g output can able polled reached each cancelled on =
+  pub cancelled_can : (number : O → ℕ) (sharing : SharedOf W) (c d e : Cx F O P U W J A V) (f g : F) (output : O) → CanTurn future c → future.can_poll f → future.polls f c (Ready output) g d → ReachesSharing number sharing c d → EachCanPoll future.can_poll d.futures.items
+      → future.cancels g d e → ReachesSharing number sharing d e → EachCanPoll future.can_poll e.futures.items
+  cancelled_can number sharing c d e f g output can able polled reached each cancelled on =
       each_added future.can_poll d.futures.items e.futures.items on.keeps each (can.spawns.cancels f g output c d e reached.aligned (λ h. on.aligned (reached.aligned h)) able polled cancelled)
 
   -- if every value of the type can be polled

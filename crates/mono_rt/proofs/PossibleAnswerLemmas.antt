@@ -9,7 +9,7 @@ use Rattle.mono_model.specs.declared.Ended.{Ended}
 use Rattle.mono_model.specs.declared.poll.Poll.{Poll}
 use Rattle.mono_model.specs.declared.poll.Poll.TheVariants.{Ready, Pending}
 use Rattle.mono_model.specs.Poll.{IfReady, OnPending}
-use Rattle.mono_task.specs.Members.{FutureOf}
+use Rattle.mono_task.specs.Members.{FutureOf, SharedOf}
 use Rattle.mono_rt.specs.Outputs.{output_in, output_at, KeepsOutputs, AddsNone}
 use Rattle.mono_task.specs.Schedule as schedule
 use Rattle.mono_rt.proofs.OutputLemmas.{adds_itself, keeps_spawned, output_next, adds_begun, adds_paused, output_completed, next_completed}
@@ -22,6 +22,7 @@ use Rattle.mono_rt.specs.Refinement.{hosting_of, Matches}
 use Rattle.mono_rt.proofs.NumberLemmas.{next_numbered}
 use Rattle.mono_rt.specs.Reaches.{ReachesSharing, IsAligned}
 use Rattle.mono_rt.specs.PartTurns.{BeginsParts, EndsParts}
+use Rattle.mono_rt.specs.Payments.{PaysOwed}
 use Rattle.mono_rt.specs.Turns.{Pauses, Completes, AfterPoll, Polls, UnlessSpent, Runs, Turn}
 use Rattle.mono_rt.specs.PossibleAnswers.{MayAnswer, AnswersNoMore}
 use Rattle.mono_rt.specs.declared.contexts.Cx.{Cx}
@@ -125,7 +126,7 @@ module _ {F O P U W J A V : Type 0} (gives : F → O → Type 0) where
       pub given_later : (e : Cx F O P U W J A V) (x : O) → AnswersNoMore gives d e → output_at e.parts.tasks.tasks t ≡ Some x → gives future x
       given_later e x later out = gives_spawned x (later.answers t x inside_spawned (inl out))
 
-module _ {F O P U W J A V : Type 0} (number : O → ℕ) (leads : W → W → Type 0) where
+module _ {F O P U W J A V : Type 0} (number : O → ℕ) (sharing : SharedOf W) where
   -- The turn of t has begun, and calls have led on.
   pub record IsUnderWay (t : ℕ) (c e : Cx F O P U W J A V) : Type 0 where
     pub grows : length c.futures.items ≤ length e.futures.items
@@ -154,7 +155,7 @@ module _ {F O P U W J A V : Type 0} (number : O → ℕ) (leads : W → W → Ty
         own = λ below. ap (λ v. value_at v t) taken ∙ get_or-set_same c.futures.items t None None below;
       }
 
-  pub goes_on : (c b e : Cx F O P U W J A V) (t : ℕ) → IsUnderWay t c b → ReachesSharing number leads b e → IsUnderWay t c e
+  pub goes_on : (c b e : Cx F O P U W J A V) (t : ℕ) → IsUnderWay t c b → ReachesSharing number sharing b e → IsUnderWay t c e
   goes_on c b e t way reached = record {
     grows = omega (arith, way.grows, reached.grows);
     aligned = λ h. reached.aligned (way.aligned h);
@@ -163,6 +164,20 @@ module _ {F O P U W J A V : Type 0} (number : O → ℕ) (leads : W → W → Ty
     others = λ q below apart. reached.keeps q (omega (arith, below, way.grows)) ∙ way.others q below apart;
     own = λ below. reached.keeps t (omega (arith, below, way.grows)) ∙ way.own below;
   }
+
+  -- what is owed is paid
+  pub goes_paid : (c b e : Cx F O P U W J A V) (t : ℕ) → IsUnderWay t c b → PaysOwed number sharing b e → IsUnderWay t c e
+  goes_paid c b e t way pays =
+      let by = pays.paying in
+      let items : e.futures.items ≡ b.futures.items = ap (λ f. f.items) by.same_futures in
+      record {
+        grows = omega (arith, way.grows, ap length items);
+        aligned = λ h. ap length items ∙ way.aligned h ∙ sym by.same_next;
+        turn = by.parts.same_turn ∙ way.turn;
+        outputs = λ q x is. way.outputs q x (by.parts.outputs q x is);
+        others = λ q below apart. ap (λ v. value_at v q) items ∙ way.others q below apart;
+        own = λ below. ap (λ v. value_at v t) items ∙ way.own below;
+      }
 
   module _ (gives : F → O → Type 0) where
     -- The future that is put back gives no more than the task might answer.
@@ -207,22 +222,22 @@ module _ {F O P U W J A V : Type 0} (number : O → ℕ) (leads : W → W → Ty
 
   module _ (future : FutureOf F (Cx F O P U W J A V) O) where
     ends_on : (c x d : Cx F O P U W J A V) (t : ℕ) (f g : F) (answer : Poll O) (ended : Ended) → value_at c.futures.items t ≡ Some f → IsUnderWay t c x → IfReady answer (future.gives f) → OnPending answer ((y : O) → future.gives g y → future.gives f y)
-        → AfterPoll number leads future answer t g ended x d → AnswersNoMore future.gives c d
-    ends_on c x d t f g Pending ended had way given same rest =
-        pauses_on future.gives c x d t (Some g) ended way (λ h put y h_gives. inr (f, had, same y (subst (λ k. future.gives k y) (sym (the_same (Some g) g h refl put)) h_gives))) rest
-    ends_on c x d t f g (Ready output) ended had way given same (e, cancels, on, completes) =
-        completes_on future.gives c e d t output ended (goes_on c x e t way on) (inr (f, had, given)) completes
+        → AfterPoll number sharing future answer t g ended x d → AnswersNoMore future.gives c d
+    ends_on c x d t f g Pending ended had way given same (paid, (pays, pauses)) =
+        pauses_on future.gives c paid d t (Some g) ended (goes_paid c x paid t way pays) (λ h put y h_gives. inr (f, had, same y (subst (λ k. future.gives k y) (sym (the_same (Some g) g h refl put)) h_gives))) pauses
+    ends_on c x d t f g (Ready output) ended had way given same (e, cancels, on, (paid, (pays, completes))) =
+        completes_on future.gives c paid d t output ended (goes_paid c e paid t (goes_on c x e t way on) pays) (inr (f, had, given)) completes
 
-    spent_on : (s : Bool) (c b d : Cx F O P U W J A V) (t : ℕ) (f : F) (e : End) (ended : Ended) → value_at c.futures.items t ≡ Some f → IsUnderWay t c b → UnlessSpent number leads future s t f e ended b d → AnswersNoMore future.gives c d
-    spent_on true c b d t f e ended had way runs =
-        pauses_on future.gives c b d t (Some f) ended way (λ h put y h_gives. inr (f, had, subst (λ k. future.gives k y) (sym (the_same (Some f) f h refl put)) h_gives)) runs.1
+    spent_on : (s : Bool) (c b d : Cx F O P U W J A V) (t : ℕ) (f : F) (e : End) (ended : Ended) → value_at c.futures.items t ≡ Some f → IsUnderWay t c b → UnlessSpent number sharing future s t f e ended b d → AnswersNoMore future.gives c d
+    spent_on true c b d t f e ended had way (is, (paid, (pays, pauses))) =
+        pauses_on future.gives c paid d t (Some f) ended (goes_paid c b paid t way pays) (λ h put y h_gives. inr (f, had, subst (λ k. future.gives k y) (sym (the_same (Some f) f h refl put)) h_gives)) pauses
     spent_on false c b d t f e ended had way runs = ends_on c runs.middle d t f runs.left runs.answer ended had (goes_on c b runs.middle t way runs.reached) runs.given runs.same runs.rest
 
-    runs_on : (taken : Option F) (c b d : Cx F O P U W J A V) (t : ℕ) (e : End) (ended : Ended) → value_at c.futures.items t ≡ taken → IsUnderWay t c b → Runs number leads future taken t e ended b d → AnswersNoMore future.gives c d
-    runs_on None c b d t e ended had way runs = pauses_on future.gives c b d t None ended way (λ h put. absurd (some_none None h refl put)) runs.1
+    runs_on : (taken : Option F) (c b d : Cx F O P U W J A V) (t : ℕ) (e : End) (ended : Ended) → value_at c.futures.items t ≡ taken → IsUnderWay t c b → Runs number sharing future taken t e ended b d → AnswersNoMore future.gives c d
+    runs_on None c b d t e ended had way (is, (paid, (pays, pauses))) = pauses_on future.gives c paid d t None ended (goes_paid c b paid t way pays) (λ h put. absurd (some_none None h refl put)) pauses
     runs_on (Some f) c b d t e ended had way runs = spent_on (future.is_spent f) c b d t f e ended had way runs
 
     -- in a turn of any task
-    pub no_more_in_turn : (c d : Cx F O P U W J A V) (t : ℕ) (now : Instant) (acts : Record) (e : End) (ended : Ended) → Turn number leads future t now acts e ended c d → AnswersNoMore future.gives c d
+    pub no_more_in_turn : (c d : Cx F O P U W J A V) (t : ℕ) (now : Instant) (acts : Record) (e : End) (ended : Ended) → Turn number sharing future t now acts e ended c d → AnswersNoMore future.gives c d
     no_more_in_turn c d t now acts e ended turn =
         runs_on (value_at c.futures.items t) c turn.begun d t e ended refl (starts c turn.begun t now acts turn.begins.parts turn.begins.futures) turn.runs

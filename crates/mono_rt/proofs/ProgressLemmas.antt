@@ -1,10 +1,11 @@
 -- The parts of the loop, one after the other.
 use Rattle.std.proofs.Common.{◌≡◌, ℕ, Bool, true, false, Ok, Err, refl, ap, sym, subst, ◌∙◌}
 use Rattle.std.specs.Prelude.{⊤, Result, IsErr}
-use Rattle.mono_task.specs.Members.{FutureOf}
+use Rattle.mono_task.specs.Members.{FutureOf, SharedOf}
 use Rattle.mono_driver.specs.declared.clock.Clock
 use Rattle.mono_rt.specs.Rounds.{PauseEnds}
 use Rattle.mono_rt.specs.Faults.{FaultsBy}
+use Rattle.mono_rt.specs.Stores.{store_of}
 use Rattle.mono_rt.specs.FuturePolls.{HasLasted, PollingBy, Lasts}
 use Rattle.mono_rt.specs.SpawnErrors.{HasPlace}
 use Rattle.mono_rt.specs.DriverReadings.{going, Telling, Still}
@@ -17,7 +18,7 @@ use Rattle.mono_rt.specs.declared.parts.errors.RunError.TheVariants as error
 use Rattle.mono_rt.proofs.JournalLemmas.{goes_of}
 use Rattle.mono_rt.proofs.DriverLemmas.{telling_more, unfailed, so_after, so_done, so_spent, so_broken, still_of}
 use Rattle.mono_rt.proofs.FaultLemmas.{faults_after}
-use Rattle.mono_rt.proofs.FuturePollLemmas.{polls_on, polls_nothing, polls_pause}
+use Rattle.mono_rt.proofs.FuturePollLemmas.{same_store, polls_on, polls_nothing, polls_pause}
 use Rattle.mono_rt.proofs.DriverLemmas.{tells_nothing}
 use Rattle.mono_rt.proofs.JournalRoomLemmas.{fills_on, fills_not}
 use Rattle.mono_rt.proofs.OutputLemmas.{adds_on}
@@ -56,44 +57,44 @@ module _ {F O D P W U J A V : Type 0} where
     held = q.held ∙ p.held;
   }
 
-  module _ (number : O → ℕ) (leads : W → W → Type 0) (clock : Clock.Ghosts D) (future : FutureOf F (Cx F O P U W J A V) O) where
+  module _ (number : O → ℕ) (sharing : SharedOf W) (clock : Clock.Ghosts D) (future : FutureOf F (Cx F O P U W J A V) O) where
     -- nothing was done
-    pub went_nowhere : ((w : W) → leads w w) → (a : Runtime F O D P W U J A V) → Proceeds number leads clock future (Ok tt) a a
+    pub went_nowhere : ((w : W) → sharing.leads w w) → (a : Runtime F O D P W U J A V) → Proceeds number sharing clock future (Ok tt) a a
     went_nowhere itself a = record {
       has_timers = refl;
       rests = λ x. x;
       answers = no_more_itself future.gives a.cx;
       callable = λ x. x;
       shared = itself a.cx.shared;
-      polled = λ lasts may. polls_nothing number leads future a.cx.parts.has_timers lasts a.cx.futures.items a.cx.parts a.journal;
+      polled = λ lasts may. polls_nothing number sharing future a.cx.parts.has_timers lasts (store_of a.cx) a.cx.parts a.journal;
       faults = refl;
       told = so_done (tells_nothing refl refl refl);
-      full = fills_not number leads future a.cx a.journal a.journal refl;
+      full = fills_not number sharing future a.cx a.journal a.journal refl;
       held = refl;
       placed = refl;
     }
 
     -- one after the other
-    pub went_on : ((u v w : W) → leads u v → leads v w → leads u w) → (r : Result ⊤ RunError) (a b c : Runtime F O D P W U J A V)
-        → Proceeds number leads clock future (Ok tt) a b → Proceeds number leads clock future r b c → Proceeds number leads clock future r a c
+    pub went_on : ((u v w : W) → sharing.leads u v → sharing.leads v w → sharing.leads u w) → (r : Result ⊤ RunError) (a b c : Runtime F O D P W U J A V)
+        → Proceeds number sharing clock future (Ok tt) a b → Proceeds number sharing clock future r b c → Proceeds number sharing clock future r a c
     went_on on r a b c p q = record {
       has_timers = q.has_timers ∙ p.has_timers;
       rests = λ x. q.rests (p.rests x);
       answers = no_more_on future.gives a.cx b.cx c.cx p.answers q.answers;
       callable = λ x. q.callable (p.callable x);
       shared = on a.cx.shared b.cx.shared c.cx.shared p.shared q.shared;
-      polled = λ lasts may. polls_on number leads future a.cx.parts.has_timers lasts a.cx.futures.items b.cx.futures.items c.cx.futures.items a.cx.parts b.cx.parts c.cx.parts a.journal b.journal c.journal (p.polled lasts (λ is. tt))
-          (subst (λ h. Grows number (PollingBy number leads future h lasts b.cx.futures.items c.cx.futures.items) b c) p.has_timers (q.polled lasts may));
+      polled = λ lasts may. polls_on number sharing future a.cx.parts.has_timers lasts (store_of a.cx) (store_of b.cx) (store_of c.cx) a.cx.parts b.cx.parts c.cx.parts a.journal b.journal c.journal (p.polled lasts (λ is. tt))
+          (subst (λ h. Grows number (PollingBy number sharing future h lasts (store_of b.cx) (store_of c.cx)) b c) p.has_timers (q.polled lasts may));
       faults = faults_on r (clock.faults a.driver) (clock.faults b.driver) (clock.faults c.driver) p.faults q.faults;
       told = so_after (still_of p.told) q.told;
-      full = fills_on number leads future a.cx b.cx a.journal b.journal c.journal
-          (goes_of number (PollingBy number leads future a.cx.parts.has_timers false a.cx.futures.items b.cx.futures.items) a.cx.parts b.cx.parts a.journal b.journal (p.polled false (λ is. tt))) p.full q.full;
+      full = fills_on number sharing future a.cx b.cx a.journal b.journal c.journal
+          (goes_of number (PollingBy number sharing future a.cx.parts.has_timers false (store_of a.cx) (store_of b.cx)) a.cx.parts b.cx.parts a.journal b.journal (p.polled false (λ is. tt))) p.full q.full;
       held = q.held ∙ p.held;
       placed = q.placed;
     }
 
     -- the budget is spent
-    pub went_spent : (a b : Runtime F O D P W U J A V) → Proceeds number leads clock future (Ok tt) a b → Proceeds number leads clock future (Err error.Turns) a b
+    pub went_spent : (a b : Runtime F O D P W U J A V) → Proceeds number sharing clock future (Ok tt) a b → Proceeds number sharing clock future (Err error.Turns) a b
     went_spent a b p = record {
       has_timers = p.has_timers;
       rests = p.rests;
@@ -109,10 +110,10 @@ module _ {F O D P W U J A V : Type 0} where
     }
 
     -- a turn, by whether memory ran out in it
-    pub went_turn : (lacks : Bool) (a b : Runtime F O D P W U J A V) → is_timed b ≡ is_timed a → (Rests a → Rests b) → GivesNoMore future.gives a b → (CanRun future a → CanRun future b) → LeadsShared leads a b
-        → ((lasts : Bool) → HasLasted lasts lacks → PollsItsFuturesBy number leads future lasts a b) → clock.faults b.driver ≡ clock.faults a.driver
-        → Telling (Still going) (exposed clock a.driver) going a.journal b.journal (exposed clock b.driver) → FillsJournal number leads future a b → HoldsSamePlaces a b
-        → Proceeds number leads clock future (lasting (turn_answer lacks)) a b
+    pub went_turn : (lacks : Bool) (a b : Runtime F O D P W U J A V) → is_timed b ≡ is_timed a → (Rests a → Rests b) → GivesNoMore future.gives a b → (CanRun future a → CanRun future b) → LeadsShared sharing.leads a b
+        → ((lasts : Bool) → HasLasted lasts lacks → PollsItsFuturesBy number sharing future lasts a b) → clock.faults b.driver ≡ clock.faults a.driver
+        → Telling (Still going) (exposed clock a.driver) going a.journal b.journal (exposed clock b.driver) → FillsJournal number sharing future a b → HoldsSamePlaces a b
+        → Proceeds number sharing clock future (lasting (turn_answer lacks)) a b
     went_turn true a b has_timers rests answers callable shared polled faults told full held = record {
       has_timers = has_timers;
       rests = rests;
@@ -141,8 +142,8 @@ module _ {F O D P W U J A V : Type 0} where
     }
 
     -- the pause between two rounds, in which no turn ran
-    pub went_paused : ((w : W) → leads w w) → (r : Result Bool RunError) (a b : Runtime F O D P W U J A V) → Idles a b → Grows number (PauseEnds (is_timed a) r) a b
-        → FaultsBy (ending r) (clock.faults a.driver) (clock.faults b.driver) → TellsDriver (ending r) clock a b → HasPlace (ending r) false → Proceeds number leads clock future (ending r) a b
+    pub went_paused : ((w : W) → sharing.leads w w) → (r : Result Bool RunError) (a b : Runtime F O D P W U J A V) → Idles a b → Grows number (PauseEnds (is_timed a) r) a b
+        → FaultsBy (ending r) (clock.faults a.driver) (clock.faults b.driver) → TellsDriver (ending r) clock a b → HasPlace (ending r) false → Proceeds number sharing clock future (ending r) a b
     went_paused itself r a b idle pauses faults told placed =
         let items = ap (λ v. v.items) idle.futures in
         let answers = no_more_by future.gives a.cx b.cx idle.adds items in
@@ -151,12 +152,12 @@ module _ {F O D P W U J A V : Type 0} where
           rests = λ x. idle.turn ∙ x;
           answers = answers;
           callable = turn_same future future.gives a.cx b.cx answers items;
-          shared = subst (leads a.cx.shared) (sym idle.shared) (itself a.cx.shared);
+          shared = subst (sharing.leads a.cx.shared) (sym idle.shared) (itself a.cx.shared);
           polled = λ lasts may.
-              polls_pause number leads future a.cx.parts.has_timers lasts a.cx.futures.items b.cx.futures.items a.cx.parts.has_timers r a.cx.parts b.cx.parts a.journal b.journal items pauses;
+              polls_pause number sharing future a.cx.parts.has_timers lasts (store_of a.cx) (store_of b.cx) a.cx.parts.has_timers r a.cx.parts b.cx.parts a.journal b.journal (same_store a.cx b.cx items idle.shared) pauses;
           faults = faults;
           told = told;
-          full = fills_not number leads future a.cx a.journal b.journal idle.full;
+          full = fills_not number sharing future a.cx a.journal b.journal idle.full;
           held = idle.held;
           placed = placed;
         }

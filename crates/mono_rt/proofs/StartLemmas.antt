@@ -1,7 +1,7 @@
 -- The history of one call on a new runtime, from the clauses of the runtime's call.
 use Rattle.std.proofs.Common.{◌≡◌, ◌∙◌, ◌++◌, ℕ, Bool, List, [], Option, None, refl, ap, sym, subst, inl, append-nil, Err}
 use Rattle.std.specs.Prelude.{Result}
-use Rattle.mono_task.specs.Members.{FutureOf}
+use Rattle.mono_task.specs.Members.{FutureOf, SharedOf}
 use Rattle.mono_time.specs.Timers.{registered_of}
 use Rattle.mono_blocking.specs.declared.strategy.BlockingHandle.{BlockingHandle}
 use Rattle.mono_blocking.specs.JobSpawns.{Seen, strategy_of}
@@ -10,6 +10,7 @@ use Rattle.mono_machine.specs.declared.events.Limits.{Limits}
 use Rattle.mono_rt.specs.Journals.{Does, Registers}
 use Rattle.mono_rt.specs.Numbering.{answer_numbered}
 use Rattle.mono_rt.specs.Rounds.{Blocked}
+use Rattle.mono_rt.specs.Stores.{Store, first_store}
 use Rattle.mono_rt.specs.FuturePolls.{OnMain, PollsMain, OnLack, StillPollsMain}
 use Rattle.mono_rt.specs.Refinement.{hosting_of, Matches}
 use Rattle.mono_rt.specs.DriverReadings.{Told, going, TellingSo, IsTold}
@@ -43,10 +44,10 @@ parks_of number R c d j k m st empty none does =
       ),
     )
 
-module _ {F O P U W J A V : Type 0} (number : O → ℕ) (leads : W → W → Type 0) (future : FutureOf F (Cx F O P U W J A V) O) where
+module _ {F O P U W J A V : Type 0} (number : O → ℕ) (sharing : SharedOf W) (future : FutureOf F (Cx F O P U W J A V) O) where
   -- no runtime could be made
-  pub none_made : (h : Bool) (turns : ℕ) (main : F) (m : Machine) (t : Told) → RunsFrom number leads future h turns main (Err error.Memory) m t
-  none_made h turns main m t = record {
+  pub none_made : (h : Bool) (turns : ℕ) (main : F) (m : Machine) (w : W) (t : Told) → RunsFrom number sharing future h turns main (Err error.Memory) m w t
+  none_made h turns main m w t = record {
     part = [];
     new = m;
     blocked = inl (refl, refl);
@@ -54,13 +55,13 @@ module _ {F O P U W J A V : Type 0} (number : O → ℕ) (leads : W → W → Ty
     parks = (refl, λ s. refl);
     told = record { last = t; after = going; new = t; ends = inl (unfailed going refl, refl); tells = (refl, refl) };
     polled = tt;
-    still_polled = (m, ([], inl (refl, refl)));
+    still_polled = (m, (first_store w, inl (refl, refl)));
   }
 
-  pub runs_from : (g h : Bool) (turns : ℕ) (main : F) (fs gs : List (Option F)) (answer : Result O RunError) (m n : Machine) (s t u : Told) (c d : Parts O (Seen P)) (j k : Journal) → g ≡ h → m ≡ n → s ≡ t → fs ≡ []
+  pub runs_from : (g h : Bool) (turns : ℕ) (main : F) (w : W) (fs gs : Store F W) (answer : Result O RunError) (m n : Machine) (s t u : Told) (c d : Parts O (Seen P)) (j k : Journal) → g ≡ h → m ≡ n → s ≡ t → fs ≡ first_store w
       → Matches number hosting_of c m → j.history.entries ≡ [] → ((x : ℕ) → registered_of c.timers x ≡ None)
-      → Does number (Blocked g turns (answer_numbered number answer)) c d j k → TellingSo answer s j k u → OnMain answer (Does number (PollsMain number leads future g main fs gs) c d j k) → OnLack answer (Does number (StillPollsMain number leads future g main fs gs) c d j k) → RunsFrom number leads future h turns main answer n t
-  runs_from g h turns main fs gs answer m n s t u c d j k timers machine told none st empty unregistered does tells polls still =
+      → Does number (Blocked g turns (answer_numbered number answer)) c d j k → TellingSo answer s j k u → OnMain answer (Does number (PollsMain number sharing future g main fs gs) c d j k) → OnLack answer (Does number (StillPollsMain number sharing future g main fs gs) c d j k) → RunsFrom number sharing future h turns main answer n w t
+  runs_from g h turns main w fs gs answer m n s t u c d j k timers machine told none st empty unregistered does tells polls still =
       let b = parks_of number (Blocked g turns (answer_numbered number answer)) c d j k m st empty unregistered does in
       let blocked = subst (λ x. Blocked x turns (answer_numbered number answer) m k.history.entries b.0 []) timers b.1.0 in
       record {
@@ -70,6 +71,6 @@ module _ {F O P U W J A V : Type 0} (number : O → ℕ) (leads : W → W → Ty
         left = registered_of d.timers;
         parks = subst (λ x. Registers None x (λ y. None) k.history.entries b.0 (registered_of d.timers)) machine b.1.1;
         told = subst (λ x. IsTold answer x k.history.entries) told (told_in k empty refl tells);
-        polled = polls_whole number leads future main g h fs gs c d j k k m n answer timers none machine st empty refl polls;
-        still_polled = still_whole number leads future main g h fs gs c d j k k m n answer timers none machine st empty refl still;
+        polled = polls_whole number sharing future main w g h fs gs c d j k k m n answer timers none machine st empty refl polls;
+        still_polled = still_whole number sharing future main w g h fs gs c d j k k m n answer timers none machine st empty refl still;
       }

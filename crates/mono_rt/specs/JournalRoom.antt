@@ -1,7 +1,7 @@
 -- When a journal becomes full.
 use Rattle.std.specs.Prelude.{◌≡◌, ◌<◌, ◌⊎◌, ℕ, true, false, length}
 use Rattle.mono_model.specs.declared.Ended.{Ended}
-use Rattle.mono_task.specs.Members.{FutureOf}
+use Rattle.mono_task.specs.Members.{FutureOf, SharedOf}
 use Rattle.mono_time.specs.declared.instant.Instant.{Instant}
 use Rattle.mono_machine.specs.Machine.{Machine}
 use Rattle.mono_machine.specs.declared.events.End.{End}
@@ -13,7 +13,7 @@ use Rattle.mono_rt.specs.Journals.{Goes}
 use Rattle.mono_rt.specs.declared.contexts.Cx.{Cx}
 use Rattle.mono_rt.specs.declared.parts.journals.Journal.{Journal}
 
-module _ {F O P U W J A V : Type 0} (number : O → ℕ) (leads : W → W → Type 0) (future : FutureOf F (Cx F O P U W J A V) O) where
+module _ {F O P U W J A V : Type 0} (number : O → ℕ) (sharing : SharedOf W) (future : FutureOf F (Cx F O P U W J A V) O) where
   -- A turn in which one poll of the task's own future made more calls than the record of a turn has room for. It began
   -- with an empty record and ended with a full one, and for each machine it is a turn of more than 512 acts.
   pub record LongTurn (c d : Cx F O P U W J A V) : Type 0 where
@@ -21,7 +21,7 @@ module _ {F O P U W J A V : Type 0} (number : O → ℕ) (leads : W → W → Ty
     pub now : Instant
     pub ending : End
     pub ended : Ended
-    pub turn : Turn number leads future task now (no_acts false) ending ended c d
+    pub turn : Turn number sharing future task now (no_acts false) ending ended c d
     pub is_full : d.parts.acts.is_full ≡ true
     pub acts : (m : Machine) → Matches number hosting_of c.parts m → (is : IsTurnOf number task ending ended c.parts d.parts m) × (room < length is.steps)
 

@@ -126,6 +126,15 @@ module _ {O B : Type 0} (number : O → ℕ) (hosting : B → Hosting) where
     outputs = λ t x is. p.outputs t x (q.outputs t x is);
   }
 
+  -- the acts of both
+  pub no_steps : (c : Parts O B) → (leads_itself c).steps ≡ []
+  unfolding leads_itself
+  no_steps c = refl
+
+  pub both_steps : (a b c : Parts O B) (p : Leads number hosting a b) (q : Leads number hosting b c) → (leads_on a b c p q).steps ≡ p.steps ++ q.steps
+  unfolding leads_on
+  both_steps a b c p q = refl
+
   -- one act
   pub by_act : (c d : Parts O B) (step : TurnStep) (reply : Reply) → d.acts ≡ noted c.acts step reply
       → ((m : Machine) → Matches number hosting c m → reply ≡ (step_outcome c.me step m).reply)

@@ -2,8 +2,12 @@ pub mod Reaches
 pub mod Outputs
 pub mod PossibleAnswers
 pub mod Pollable
+pub mod Payments
 pub mod Turns
+pub mod Stores
 pub mod FuturePolls
+pub mod ListedTasks
+pub mod ListedExamples
 pub mod JournalRoom
 pub mod Spawns
 pub mod Starts

@@ -3,7 +3,7 @@
 use Rattle.std.specs.Prelude.{⊤, ◌≡◌, ◌⊎◌, ◌+◌, ◌++◌, ◌∷◌, [], ℕ, Bool, true, false, Some, None, Result, Ok, Err}
 use Rattle.mono_model.specs.Table.{next_number}
 use Rattle.mono_model.specs.Tasks.{spawned}
-use Rattle.mono_task.specs.Members.{FutureOf}
+use Rattle.mono_task.specs.Members.{FutureOf, SharedOf}
 use Rattle.mono_driver.specs.declared.clock.Clock
 use Rattle.mono_rt.specs.Faults.{FaultsBy}
 use Rattle.mono_rt.specs.FuturePolls.{Lasts}
@@ -60,17 +60,17 @@ module _ {F O D P W U J A V : Type 0} where
     pub unkept : (new.cx.futures.reserved ≡ old.cx.futures.reserved) ⊎ (new.cx.futures.reserved ≡ None)
     pub held : HoldsSamePlaces old new
 
-  module _ (number : O → ℕ) (leads : W → W → Type 0) (clock : Clock.Ghosts D) (future : FutureOf F (Cx F O P U W J A V) O) where
+  module _ (number : O → ℕ) (sharing : SharedOf W) (clock : Clock.Ghosts D) (future : FutureOf F (Cx F O P U W J A V) O) where
     -- A part of the loop with this answer.
     pub record Proceeds (answer : Result ⊤ RunError) (old new : Runtime F O D P W U J A V) : Type 0 where
       pub has_timers : is_timed new ≡ is_timed old
       pub rests : Rests old → Rests new
       pub answers : GivesNoMore future.gives old new
       pub callable : CanRun future old → CanRun future new
-      pub shared : LeadsShared leads old new
-      pub polled : (lasts : Bool) → (lasts ≡ true → Lasts answer) → PollsItsFuturesBy number leads future lasts old new
+      pub shared : LeadsShared sharing.leads old new
+      pub polled : (lasts : Bool) → (lasts ≡ true → Lasts answer) → PollsItsFuturesBy number sharing future lasts old new
       pub faults : FaultsBy answer (clock.faults old.driver) (clock.faults new.driver)
       pub told : TellsDriver answer clock old new
-      pub full : FillsJournal number leads future old new
+      pub full : FillsJournal number sharing future old new
       pub held : HoldsSamePlaces old new
       pub placed : HasPlace answer false

@@ -1,8 +1,10 @@
 -- A context that calls of the running task reached from another.
-use Rattle.std.specs.Prelude.{⊤, ◌≡◌, ℕ, Bool, true, false, List, [], ◌∷◌, ◌++◌, length, Option, ◌≤◌, ◌<◌, slice_index_or, zero, suc, refl}
-use Rattle.std.proofs.Common.{sym, ◌∙◌, ap, arith}
+use Rattle.std.specs.Prelude.{⊤, ◌≡◌, ◌⊎◌, ℕ, Bool, true, false, List, [], ◌∷◌, ◌++◌, length, Option, ◌≤◌, ◌<◌, slice_index_or, zero, suc, refl}
+use Rattle.std.proofs.Common.{inl, inr, sym, ◌∙◌, ap, arith}
 use Rattle.std.proofs.Math.Nat.{le_refl}
 use Rattle.mono_model.specs.Table.{value_at, next_number}
+use Rattle.mono_task.specs.Members.{SharedOf}
+use Rattle.mono_task.specs.Owed.{Keeps}
 use Rattle.mono_rt.specs.Leads.{Leads, leads_itself, leads_on}
 use Rattle.mono_rt.specs.Refinement.{hosting_of}
 use Rattle.mono_rt.specs.declared.contexts.Cx.{Cx}
@@ -29,7 +31,7 @@ module _ {F O P U W J A V : Type 0} where
   abbrev pub IsAligned : Cx F O P U W J A V → Type 0
   IsAligned c = length c.futures.items ≡ next_number c.parts.tasks.tasks.table
 
-module _ {F O P U W J A V : Type 0} (number : O → ℕ) (leads : W → W → Type 0) where
+module _ {F O P U W J A V : Type 0} (number : O → ℕ) (sharing : SharedOf W) where
   -- calls of the running task lead from the one context to the other
   pub record ReachesSharing (c d : Cx F O P U W J A V) : Type 0 where
     pub parts : Leads number hosting_of c.parts d.parts
@@ -42,12 +44,14 @@ module _ {F O P U W J A V : Type 0} (number : O → ℕ) (leads : W → W → Ty
     -- a waker that was handed out still is
     pub handed : c.has_handed_out ≡ true → d.has_handed_out ≡ true
     -- the shared value was led
-    pub shared : leads c.shared d.shared
+    pub shared : sharing.leads c.shared d.shared
+    -- and lists each task where it did, except the running one
+    pub kept : Keeps sharing.lists c.parts.me c.shared d.shared
 
-  pub sharing_itself : ((w : W) → leads w w) → (c : Cx F O P U W J A V) → ReachesSharing c c
-  sharing_itself itself c = record { parts = leads_itself number hosting_of c.parts; keeps = λ t h. refl; grows = le_refl _; aligned = λ h. h; lent = λ t h. h; same_waker = refl; handed = λ h. h; shared = itself c.shared }
+  pub sharing_itself : ((w : W) → sharing.leads w w) → (c : Cx F O P U W J A V) → ReachesSharing c c
+  sharing_itself itself c = record { parts = leads_itself number hosting_of c.parts; keeps = λ t h. refl; grows = le_refl _; aligned = λ h. h; lent = λ t h. h; same_waker = refl; handed = λ h. h; shared = itself c.shared; kept = λ p t is. inl is }
 
-  pub sharing_on : ((u v w : W) → leads u v → leads v w → leads u w) → (a b c : Cx F O P U W J A V) → ReachesSharing a b → ReachesSharing b c → ReachesSharing a c
+  pub sharing_on : ((u v w : W) → sharing.leads u v → sharing.leads v w → sharing.leads u w) → (a b c : Cx F O P U W J A V) → ReachesSharing a b → ReachesSharing b c → ReachesSharing a c
   sharing_on on a b c p q = record {
     parts = leads_on number hosting_of a.parts b.parts c.parts p.parts q.parts;
     keeps = λ t h. q.keeps t (omega (arith, h, p.grows)) ∙ p.keeps t h;
@@ -57,12 +61,13 @@ module _ {F O P U W J A V : Type 0} (number : O → ℕ) (leads : W → W → Ty
     same_waker = q.same_waker ∙ p.same_waker;
     handed = λ h. q.handed (p.handed h);
     shared = on a.shared b.shared c.shared p.shared q.shared;
+    kept = λ place t is. elim (p.kept place t is) [ inl stays ↦ elim (q.kept place t stays) [ inl still ↦ inl still | inr mine ↦ inr (mine ∙ p.parts.same_me) ] | inr mine ↦ inr mine ];
   }
 
   -- a call on the parts alone
   pub by_parts : (c d : Cx F O P U W J A V) → Leads number hosting_of c.parts d.parts → next_number d.parts.tasks.tasks.table ≡ next_number c.parts.tasks.tasks.table → d.futures.items ≡ c.futures.items → d.futures.lent ≡ c.futures.lent → d.waker ≡ c.waker
-      → (c.has_handed_out ≡ true → d.has_handed_out ≡ true) → leads c.shared d.shared → ReachesSharing c d
-  by_parts c d parts next same lent waker handed shared = record {
+      → (c.has_handed_out ≡ true → d.has_handed_out ≡ true) → sharing.leads c.shared d.shared → d.shared ≡ c.shared → ReachesSharing c d
+  by_parts c d parts next same lent waker handed shared same_shared = record {
     parts = parts;
     keeps = λ t h. ap (λ v. value_at v t) same;
     grows = rw same (le_refl _);
@@ -71,11 +76,12 @@ module _ {F O P U W J A V : Type 0} (number : O → ℕ) (leads : W → W → Ty
     same_waker = waker;
     handed = handed;
     shared = shared;
+    kept = λ place t is. inl (ap (λ w. sharing.lists w place t) same_shared ∙ is);
   }
 
   -- the shared value was changed, and nothing else
-  pub by_shared : (c : Cx F O P U W J A V) (w : W) → leads c.shared w → ReachesSharing c (record c { shared = w })
-  by_shared c w shared = record {
+  pub by_shared : (c : Cx F O P U W J A V) (w : W) → sharing.leads c.shared w → Keeps sharing.lists c.parts.me c.shared w → ReachesSharing c (record c { shared = w })
+  by_shared c w shared kept = record {
     parts = leads_itself number hosting_of c.parts;
     keeps = λ t h. refl;
     grows = le_refl _;
@@ -84,15 +90,20 @@ module _ {F O P U W J A V : Type 0} (number : O → ℕ) (leads : W → W → Ty
     same_waker = refl;
     handed = λ h. h;
     shared = shared;
+    kept = kept;
   }
+
+-- the members of the state of who shares nothing
+abbrev pub sharing_nothing : SharedOf ⊤
+sharing_nothing = record { leads = λ a b. ⊤; names = λ a t. false; lists = λ a p t. false; waiting = λ a. []; owes = λ a. [] }
 
 -- the same if nothing is shared
 module _ {F O P U J A V : Type 0} (number : O → ℕ) where
   abbrev pub Reaches : Cx F O P U ⊤ J A V → Cx F O P U ⊤ J A V → Type 0
-  Reaches = ReachesSharing number (λ a b. ⊤)
+  Reaches = ReachesSharing number sharing_nothing
 
   pub reaches_itself : (c : Cx F O P U ⊤ J A V) → Reaches c c
-  reaches_itself c = sharing_itself number (λ a b. ⊤) (λ a. tt) c
+  reaches_itself c = sharing_itself number sharing_nothing (λ a. tt) c
 
   pub reaches_on : (a b c : Cx F O P U ⊤ J A V) → Reaches a b → Reaches b c → Reaches a c
-  reaches_on a b c p q = sharing_on number (λ x y. ⊤) (λ x y z r s. tt) a b c p q
+  reaches_on a b c p q = sharing_on number sharing_nothing (λ x y z r s. tt) a b c p q

@@ -7,7 +7,7 @@ use Rattle.mono_model.specs.declared.task_error.TaskError.{TaskError}
 use Rattle.mono_model.specs.declared.poll.Poll.{Poll}
 use Rattle.mono_model.specs.declared.error.Error.{Error}
 use Rattle.mono_model.specs.declared.error.SleepError.{SleepError}
-use Rattle.mono_task.specs.Members.{FutureOf}
+use Rattle.mono_task.specs.Members.{FutureOf, SharedOf}
 use Rattle.mono_task.specs.Work.{without_outputs}
 use Rattle.mono_time.specs.Sleeps.{SleepTable}
 use Rattle.mono_time.specs.Timers.{sleeps_of, registered_of}
@@ -29,7 +29,9 @@ use Rattle.mono_rt.specs.declared.task_waits.TaskWait.{TaskWait}
 use Rattle.mono_rt.specs.Refinement.{hosting_of, Matches}
 use Rattle.mono_rt.specs.Journals.{Does, Registers, events_in, reports_in}
 use Rattle.mono_rt.specs.JournalRoom.{Fills}
+use Rattle.mono_rt.specs.Stores.{Store, first_store, store_of}
 use Rattle.mono_rt.specs.FuturePolls.{Polling, PollingBy, PollsMain, StillPollsMain, OnMain, OnLack}
+use Rattle.mono_rt.specs.ListedTasks.{ParksListed, ParksListedMain}
 use Rattle.mono_rt.specs.PossibleAnswers.{AnswersNoMore}
 use Rattle.mono_rt.specs.Pollable.{CanTurn}
 use Rattle.mono_rt.specs.DriverReadings.{Told, telling, TellingSo}
@@ -62,16 +64,16 @@ IsRunFrom old journal = (new : Machine) × Run old (events_in journal.history.en
 abbrev pub ParksFrom : Machine → Journal → Type 0
 ParksFrom old journal = (new : Machine) × ((left : ℕ → Option ℕ) × Registers None old (λ s. None) journal.history.entries new left)
 
--- Each turn of the whole history of a run from this machine, with this answer, is one poll of its task's own future, after
--- the main task was made with its future last. If memory ran out, nothing is said here.
-abbrev pub PollsFrom : {F O P U W J A V : Type 0} → (O → ℕ) → (W → W → Type 0) → FutureOf F (Cx F O P U W J A V) O → F → Machine → Result O RunError × Journal → Type 0
-PollsFrom {F} number leads future main old done =
-    OnMain done.0 ((new : Machine) × ((left : List (Option F)) × PollsMain number leads future true main [] left old done.1.history.entries new []))
+-- Each turn of the whole history of a run from this machine and this shared value, with this answer, is one poll of its
+-- task's own future, after the main task was made with its future last. If memory ran out, nothing is said here.
+abbrev pub PollsFrom : {F O P U W J A V : Type 0} → (O → ℕ) → SharedOf W → FutureOf F (Cx F O P U W J A V) O → F → Machine → W → Result O RunError × Journal → Type 0
+PollsFrom {F} {W = W} number sharing future main old shared done =
+    OnMain done.0 ((new : Machine) × ((left : Store F W) × PollsMain number sharing future true main (first_store shared) left old done.1.history.entries new []))
 
 -- The same of a run that ended since memory ran out, also of the turn in which it did.
-abbrev pub StillPollsFrom : {F O P U W J A V : Type 0} → (O → ℕ) → (W → W → Type 0) → FutureOf F (Cx F O P U W J A V) O → F → Machine → Result O RunError × Journal → Type 0
-StillPollsFrom {F} number leads future main old done =
-    OnLack done.0 ((new : Machine) × ((left : List (Option F)) × StillPollsMain number leads future true main [] left old done.1.history.entries new []))
+abbrev pub StillPollsFrom : {F O P U W J A V : Type 0} → (O → ℕ) → SharedOf W → FutureOf F (Cx F O P U W J A V) O → F → Machine → W → Result O RunError × Journal → Type 0
+StillPollsFrom {F} {W = W} number sharing future main old shared done =
+    OnLack done.0 ((new : Machine) × ((left : Store F W) × StillPollsMain number sharing future true main (first_store shared) left old done.1.history.entries new []))
 
 module _ {F O D P W U J A V : Type 0} where
   -- The tasks of a runtime, with their queue.
@@ -184,27 +186,36 @@ module _ {F O D P W U J A V : Type 0} where
   abbrev pub TellsDriver : {X : Type 0} → Result X RunError → Clock.Ghosts D → Runtime F O D P W U J A V → Runtime F O D P W U J A V → Type 0
   TellsDriver answer clock old new = TellingSo answer (exposed clock old.driver) old.journal new.journal (exposed clock new.driver)
 
-  module _ (number : O → ℕ) (leads : W → W → Type 0) (future : FutureOf F (Cx F O P U W J A V) O) where
+  module _ (number : O → ℕ) (sharing : SharedOf W) (future : FutureOf F (Cx F O P U W J A V) O) where
     -- Each turn by which the history grew is one poll of its task's own future.
     abbrev pub PollsItsFutures : Runtime F O D P W U J A V → Runtime F O D P W U J A V → Type 0
-    PollsItsFutures old new = Grows number (Polling number leads future (is_timed old) (futures_of old) (futures_of new)) old new
+    PollsItsFutures old new = Grows number (Polling number sharing future (is_timed old) (store_of old.cx) (store_of new.cx)) old new
 
     -- The same, and whether no call of a turn ran out of memory.
     abbrev pub PollsItsFuturesBy : Bool → Runtime F O D P W U J A V → Runtime F O D P W U J A V → Type 0
-    PollsItsFuturesBy lasts old new = Grows number (PollingBy number leads future (is_timed old) lasts (futures_of old) (futures_of new)) old new
+    PollsItsFuturesBy lasts old new = Grows number (PollingBy number sharing future (is_timed old) lasts (store_of old.cx) (store_of new.cx)) old new
 
     -- The same, after the main task was made with its future last.
     abbrev pub PollsMainTask : F → Runtime F O D P W U J A V → Runtime F O D P W U J A V → Type 0
-    PollsMainTask main old new = Grows number (PollsMain number leads future (is_timed old) main (futures_of old) (futures_of new)) old new
+    PollsMainTask main old new = Grows number (PollsMain number sharing future (is_timed old) main (store_of old.cx) (store_of new.cx)) old new
 
     -- The same of a call that ended since memory ran out, also of the turn in which it did.
     abbrev pub StillPollsMainTask : F → Runtime F O D P W U J A V → Runtime F O D P W U J A V → Type 0
-    StillPollsMainTask main old new = Grows number (StillPollsMain number leads future (is_timed old) main (futures_of old) (futures_of new)) old new
+    StillPollsMainTask main old new = Grows number (StillPollsMain number sharing future (is_timed old) main (store_of old.cx) (store_of new.cx)) old new
+
+    -- At each park of the call, the shared value lists each unfinished task where the task's last turn of the call left
+    -- it listed, and owes nothing if there was a turn. If `lasts` is true, no call of a turn ran out of memory.
+    abbrev pub FindsTasksListed : Bool → Runtime F O D P W U J A V → Runtime F O D P W U J A V → Type 0
+    FindsTasksListed lasts old new = Grows number (ParksListed number sharing future (is_timed old) lasts (store_of old.cx) (store_of new.cx)) old new
+
+    -- The same, after the main task was made with its future last.
+    abbrev pub FindsTasksListedMain : F → Runtime F O D P W U J A V → Runtime F O D P W U J A V → Type 0
+    FindsTasksListedMain main old new = Grows number (ParksListedMain number sharing future (is_timed old) true main (store_of old.cx) (store_of new.cx)) old new
 
     -- The journal is full only if it was before, or a turn made more acts than its record has room for. A full one stays
     -- full.
     abbrev pub FillsJournal : Runtime F O D P W U J A V → Runtime F O D P W U J A V → Type 0
-    FillsJournal old new = Fills number leads future old.cx old.journal new.journal
+    FillsJournal old new = Fills number sharing future old.cx old.journal new.journal
 
 module _ {F O P U W J A V : Type 0} where
   -- The tasks of a context, with their queue.

@@ -3,6 +3,7 @@ ghost use Rattle.std.specs.Prelude.{⊤, ◌≡◌, IfOk, true};
 ghost use Rattle.mono_machine.specs.Machine.{start_machine};
 ghost use Rattle.mono_blocking.specs.JobSpawns.{strategy_of};
 ghost use Rattle.mono_rt.specs.JournalRoom.{IsOneLong};
+ghost use Rattle.mono_rt.specs.Reaches.{sharing_nothing};
 ghost use Rattle.mono_rt.specs.Rounds.{Blocked};
 ghost use Rattle.mono_rt.specs.DriverReadings.{IsTold};
 ghost use Rattle.mono_rt.specs.Pollable.{SpawnsPollable};
@@ -56,9 +57,9 @@ where
     ensures told { IfOk result (λ r. IsTold r.0 (exposed D.Clock driver) r.1.history.entries) }
     ensures run { IfOk result (λ r. IsRunFrom (start_machine limits (strategy_of pool)) r.1) }
     ensures parks { IfOk result (λ r. ParksFrom (start_machine limits (strategy_of pool)) r.1) }
-    ensures polled { IfOk result (λ r. PollsFrom O.output_number (λ a b. ⊤) F.TaskFuture future (start_machine limits (strategy_of pool)) r) }
-    ensures still_polled { IfOk result (λ r. StillPollsFrom O.output_number (λ a b. ⊤) F.TaskFuture future (start_machine limits (strategy_of pool)) r) }
-    ensures full { IfOk result (λ r. r.1.is_full ≡ true → IsOneLong O.output_number (λ a b. ⊤) F.TaskFuture) }
+    ensures polled { IfOk result (λ r. PollsFrom O.output_number sharing_nothing F.TaskFuture future (start_machine limits (strategy_of pool)) tt r) }
+    ensures still_polled { IfOk result (λ r. StillPollsFrom O.output_number sharing_nothing F.TaskFuture future (start_machine limits (strategy_of pool)) tt r) }
+    ensures full { IfOk result (λ r. r.1.is_full ≡ true → IsOneLong O.output_number sharing_nothing F.TaskFuture) }
 {
     let mut runtime = Runtime::new(alloc, driver, pool, limits, true, start, ())?;
     let answer = runtime.block_on(rt, alloc, future, turns);

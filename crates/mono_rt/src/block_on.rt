@@ -11,7 +11,7 @@ ghost use Rattle.mono_rt.specs.Pollable.{CanTurn};
 ghost use Rattle.mono_rt.specs.Remains.{KeepsContext, KeepsStrategy, HasRetired};
 ghost use Rattle.mono_rt.specs.DriverReadings.{going, Telling, Still, EndsWaited};
 ghost use Rattle.mono_rt.specs.Progress.{ending, lasting, Idles, Proceeds, MakesMain, MakesNone};
-ghost use Rattle.mono_rt.specs.Views.{exposed, Blocks, Rests, HasOwnFutures, is_at_limit, HoldsSamePlaces, GivesNoMore, LeadsShared, TellsDriver, PollsMainTask, StillPollsMainTask, FillsJournal, CanRun};
+ghost use Rattle.mono_rt.specs.Views.{exposed, Blocks, Rests, HasOwnFutures, is_at_limit, HoldsSamePlaces, GivesNoMore, LeadsShared, TellsDriver, PollsMainTask, StillPollsMainTask, FindsTasksListedMain, FillsJournal, CanRun};
 
 use crate::contexts::Cx;
 use crate::parts::RunError;
@@ -146,7 +146,7 @@ where
         ensures round { IfOk result (λ left. Does O.output_number (Round units left) self.old.cx.parts self.new.cx.parts self.old.journal self.new.journal) }
         ensures broken { OnErr result (Does O.output_number (RoundBreaks units) self.old.cx.parts self.new.cx.parts self.old.journal self.new.journal) }
         ensures fewer { IfOk result (λ left. 0 < length self.old.cx.parts.tasks.tasks.queue → 0 < units → left < units) }
-        ensures went { Proceeds O.output_number W.leads D.Clock F.TaskFuture (lasting result) self.old self.new }
+        ensures went { Proceeds O.output_number W.SharedState D.Clock F.TaskFuture (lasting result) self.old self.new }
     {
         let queued = self.cx.parts.tasks.queue_len() as u64;
         let most = queued.saturating_mul(2).saturating_add(1).min(units);
@@ -166,7 +166,7 @@ where
         requires some_left { 0 < units }
         ensures passes { Does O.output_number (PassEnds self.old.cx.parts.has_timers units result) self.old.cx.parts self.new.cx.parts self.old.journal self.new.journal }
         ensures fewer { IfOk result (λ left. left < units) }
-        ensures went { Proceeds O.output_number W.leads D.Clock F.TaskFuture (ending result) self.old self.new }
+        ensures went { Proceeds O.output_number W.SharedState D.Clock F.TaskFuture (ending result) self.old self.new }
     {
         match self.pause(rt, alloc) {
             Err(error) => Err(error),
@@ -193,7 +193,7 @@ where
         requires rests { self.old.cx.parts.tasks.turn ≡ None }
         ensures given { OnOk result (GivesOutput self.new.cx.parts.tasks.tasks main) }
         ensures ends { Does O.output_number (Ends self.old.cx.parts.has_timers main turns result) self.old.cx.parts self.new.cx.parts self.old.journal self.new.journal }
-        ensures went { Proceeds O.output_number W.leads D.Clock F.TaskFuture result self.old self.new }
+        ensures went { Proceeds O.output_number W.SharedState D.Clock F.TaskFuture result self.old self.new }
     {
         let mut units = match self.round(rt, alloc, turns) {
             Ok(left) => left,
@@ -235,6 +235,10 @@ where
     /// (`polled`). If the answer is Memory, this holds of the turn in which memory ran out, too (`still_polled`). The answer is Driver if and only if the driver's count of faults rose in
     /// this call, also if memory ran out after that (`faults`).
     ///
+    /// Whom the shared value owes a wake after a poll, the runtime wakes before the turn ends. So at each park the value
+    /// owes nothing, and each unfinished task whose last turn left it listed in the value is listed there still
+    /// (`listed`).
+    ///
     /// An Ok value is one that the main future gives, if each future has its task's number (`given`). No task may
     /// answer more afterwards than it might before (`answers`).
     ///
@@ -268,11 +272,12 @@ where
         ensures shared { LeadsShared W.leads self.old self.new }
         ensures retired { OnMain result (HasRetired self.new) }
         ensures rests { Rests self.new }
-        ensures polled { OnMain result (PollsMainTask O.output_number W.leads F.TaskFuture future self.old self.new) }
-        ensures still_polled { OnLack result (StillPollsMainTask O.output_number W.leads F.TaskFuture future self.old self.new) }
+        ensures polled { OnMain result (PollsMainTask O.output_number W.SharedState F.TaskFuture future self.old self.new) }
+        ensures still_polled { OnLack result (StillPollsMainTask O.output_number W.SharedState F.TaskFuture future self.old self.new) }
+        ensures listed { OnMain result (FindsTasksListedMain O.output_number W.SharedState F.TaskFuture future self.old self.new) }
         ensures faults { FaultsBy result (D.faults self.old.driver) (D.faults self.new.driver) }
         ensures told { TellsDriver result D.Clock self.old self.new }
-        ensures full { FillsJournal O.output_number W.leads F.TaskFuture self.old self.new }
+        ensures full { FillsJournal O.output_number W.SharedState F.TaskFuture self.old self.new }
         ensures held { HoldsSamePlaces self.old self.new }
     {
         match self.start_main(alloc, future) {

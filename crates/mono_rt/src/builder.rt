@@ -5,6 +5,7 @@ ghost use Rattle.mono_time.specs.Instants.{nanos_of};
 ghost use Rattle.mono_time.specs.Timers.{registered_of};
 ghost use Rattle.mono_blocking.specs.JobSpawns.{strategy_of, IsApart};
 ghost use Rattle.mono_rt.specs.Refinement.{hosting_of, Matches};
+ghost use Rattle.mono_rt.specs.Reaches.{sharing_nothing};
 ghost use Rattle.mono_rt.specs.Starts.{RunsFrom};
 ghost use Rattle.mono_rt.specs.Pollable.{SpawnsPollable};
 ghost use Rattle.mono_machine.specs.declared.events.Blocking.TheVariants as none;
@@ -385,7 +386,7 @@ where
     requires callable { F.can_poll future }
     requires others { SpawnsPollable F.TaskFuture ⊤ }
     ensures given { IfOk result (F.gives future) }
-    ensures history { RunsFrom O.output_number (λ a b. ⊤) F.TaskFuture D.marks_timers turns future result default_start (exposed D.Clock driver) }
+    ensures history { RunsFrom O.output_number sharing_nothing F.TaskFuture D.marks_timers turns future result default_start tt (exposed D.Clock driver) }
 {
     let builder: RuntimeBuilder<D, P> = RuntimeBuilder::new(driver);
     match builder.build(alloc) {

@@ -80,7 +80,7 @@ impl<F: Drop, O: Outcome + Drop, P: ThreadPool + Drop, U: Unpark, W: SharedState
         ensures full { IsRefusedIfFull (tasks_in self.old) result }
         ensures same { ChangesPartsAndFutures self.old self.new }
         ensures kept { NotesSpawn result self.old self.new }
-        ensures reached { ReachesSharing O.output_number W.leads self.old self.new }
+        ensures reached { ReachesSharing O.output_number W.SharedState self.old self.new }
     {
         if self.parts.tasks.has_no_place() {
             self.parts.refuse_spawn();
@@ -108,7 +108,7 @@ impl<F: Drop, O: Outcome + Drop, P: ThreadPool + Drop, U: Unpark, W: SharedState
         ensures waker { IfOk result (λ waker. self.old.waker ≡ Some waker) }
         ensures same { OnOk result (HandsOut self.old self.new) }
         ensures noted { OnErr result (NotesMemory self.old self.new) }
-        ensures reached { ReachesSharing O.output_number W.leads self.old self.new }
+        ensures reached { ReachesSharing O.output_number W.SharedState self.old self.new }
     {
         match hand_out(&mut self.waker, self.parts.me) {
             Ok(waker) => {
@@ -126,7 +126,7 @@ impl<F: Drop, O: Outcome + Drop, P: ThreadPool + Drop, U: Unpark, W: SharedState
     /// answers Memory after the turn.
     pub fn note_out_of_memory(&mut self)
         ensures noted { NotesMemory self.old self.new }
-        ensures reached { ReachesSharing O.output_number W.leads self.old self.new }
+        ensures reached { ReachesSharing O.output_number W.SharedState self.old self.new }
     {
         self.parts.is_out_of_memory = true;
     }
@@ -157,7 +157,7 @@ impl<F: Drop, O: Outcome + Drop, P: ThreadPool + Drop, U: Unpark, W: SharedState
 
     ghost work = { λ c. without_outputs c.parts.tasks.tasks };
 
-    ghost reaches = { ReachesSharing O.output_number W.leads };
+    ghost reaches = { ReachesSharing O.output_number W.SharedState };
 
     ghost wakes = { λ c t r d. (d.parts.tasks.tasks ≡ woken c.parts.tasks.tasks t) × (d.parts.timers ≡ c.parts.timers) × (d.shared ≡ c.shared) };
 
@@ -174,14 +174,14 @@ impl<F: Drop, O: Outcome + Drop, P: ThreadPool + Drop, U: Unpark, W: SharedState
         ensures work { work_in self.new ≡ woken (work_in self.old) task }
         ensures woke { WakesAlone task self.old self.new }
         ensures kept { NotesWake task result self.old self.new }
-        ensures reached { ReachesSharing O.output_number W.leads self.old self.new }
+        ensures reached { ReachesSharing O.output_number W.SharedState self.old self.new }
     {
         self.parts.wake(task)
     }
 
-    ghost reaches_itself = { sharing_itself O.output_number W.leads W.leads_itself };
+    ghost reaches_itself = { sharing_itself O.output_number _ W.leads_itself };
 
-    ghost reaches_on = { sharing_on O.output_number W.leads W.leads_on };
+    ghost reaches_on = { sharing_on O.output_number _ W.leads_on };
 
     ghost same_number = { λ a b r. r.parts.same_me };
 
@@ -203,7 +203,7 @@ impl<
         ensures answer { result ≡ join_answer (tasks_in self.old) task }
         ensures tasks { tasks_in self.new ≡ joined (tasks_in self.old) task (running_in self.old) }
         ensures kept { NotesJoin O.output_number task result self.old self.new }
-        ensures reached { ReachesSharing O.output_number W.leads self.old self.new }
+        ensures reached { ReachesSharing O.output_number W.SharedState self.old self.new }
     {
         self.parts.poll_join(task)
     }
@@ -212,7 +212,7 @@ impl<
         ensures answer { result ≡ drop_answer (tasks_in self.old) task }
         ensures tasks { tasks_in self.new ≡ join_dropped (tasks_in self.old) task }
         ensures kept { NotesDrop O.output_number task result self.old self.new }
-        ensures reached { ReachesSharing O.output_number W.leads self.old self.new }
+        ensures reached { ReachesSharing O.output_number W.SharedState self.old self.new }
     {
         self.parts.drop_join(task)
     }
@@ -235,7 +235,7 @@ impl<F: Drop, O: Outcome + Drop, P: ThreadPool + Drop, U: Unpark, W: SharedState
         ensures memory { result ≡ Err Memory → LacksMemory self.new }
         ensures work { work_in self.new ≡ work_in self.old }
         ensures kept { NotesSleep (nanos_of deadline) result self.old self.new }
-        ensures reached { ReachesSharing O.output_number W.leads self.old self.new }
+        ensures reached { ReachesSharing O.output_number W.SharedState self.old self.new }
     {
         self.parts.add_sleep(alloc, deadline)
     }
@@ -245,7 +245,7 @@ impl<F: Drop, O: Outcome + Drop, P: ThreadPool + Drop, U: Unpark, W: SharedState
         ensures sleeps { sleeps_in self.new ≡ with_polled_sleep (sleeps_in self.old) sleep (running_in self.old) }
         ensures work { work_in self.new ≡ work_in self.old }
         ensures kept { NotesPoll sleep result self.old self.new }
-        ensures reached { ReachesSharing O.output_number W.leads self.old self.new }
+        ensures reached { ReachesSharing O.output_number W.SharedState self.old self.new }
     {
         self.parts.poll_sleep(sleep)
     }
@@ -255,7 +255,7 @@ impl<F: Drop, O: Outcome + Drop, P: ThreadPool + Drop, U: Unpark, W: SharedState
         ensures sleeps { sleeps_in self.new ≡ with_reset_sleep (sleeps_in self.old) sleep (nanos_of deadline) }
         ensures work { work_in self.new ≡ woken_if_any (work_in self.old) (waker_in (sleep_reset_answer (sleeps_in self.old) sleep (nanos_of deadline))) }
         ensures kept { NotesReset sleep (nanos_of deadline) result self.old self.new }
-        ensures reached { ReachesSharing O.output_number W.leads self.old self.new }
+        ensures reached { ReachesSharing O.output_number W.SharedState self.old self.new }
     {
         self.parts.reset_sleep(sleep, deadline)
     }
@@ -265,7 +265,7 @@ impl<F: Drop, O: Outcome + Drop, P: ThreadPool + Drop, U: Unpark, W: SharedState
         ensures sleeps { sleeps_in self.new ≡ with_removed_sleep (sleeps_in self.old) sleep }
         ensures work { work_in self.new ≡ work_in self.old }
         ensures kept { NotesGone sleep result self.old self.new }
-        ensures reached { ReachesSharing O.output_number W.leads self.old self.new }
+        ensures reached { ReachesSharing O.output_number W.SharedState self.old self.new }
     {
         self.parts.drop_sleep(sleep)
     }
@@ -298,9 +298,11 @@ impl<
 
     ghost shared_with = { λ c w. refl };
 
-    ghost reaches_with = { by_shared O.output_number W.leads };
+    ghost reaches_with = { by_shared O.output_number _ };
 
     ghost led = { λ a b r. r.shared };
+
+    ghost kept = { λ a b r. r.kept };
 
     ghost wakes_nothing_shared = { λ c d t r w. w.2 };
 

@@ -2,7 +2,7 @@
 ghost use Rattle.std.specs.Prelude.{◌≡◌, IfNone, IfSome};
 ghost use Rattle.mono_blocking.specs.JobSpawns.{IsApart};
 ghost use Rattle.mono_blocking.specs.declared.strategy.BlockingHandle.TheVariants.{Attached};
-ghost use Rattle.mono_rt.specs.Views.{jobs_of};
+ghost use Rattle.mono_rt.specs.Views.{jobs_of, shared_of};
 
 use crate::contexts::Cx;
 use crate::parts::{Journal, Parts};
@@ -43,5 +43,26 @@ impl<F: Drop, O: Outcome + Drop, D: Driver, P: ThreadPool + Drop, W: SharedState
         } = cx;
         let Parts { blocking, .. } = parts;
         (driver, blocking.into_pool(), journal)
+    }
+
+    /// Consumes the runtime, and returns the value that its tasks shared.
+    pub fn into_shared(self) -> W
+        ensures { result ≡ shared_of self }
+    {
+        let Runtime {
+            cx,
+            driver: _,
+            journal: _,
+            due: _,
+        } = self;
+        let Cx {
+            parts: _,
+            futures: _,
+            wakers: _,
+            waker: _,
+            has_handed_out: _,
+            shared,
+        } = cx;
+        shared
     }
 }

@@ -7,7 +7,7 @@ ghost use Rattle.mono_rt.specs.Handles.{TakesOutput};
 ghost use Rattle.mono_rt.specs.Rounds.{Ends};
 ghost use Rattle.mono_rt.specs.Faults.{FaultsBy};
 ghost use Rattle.mono_rt.specs.FuturePolls.{OnMain};
-ghost use Rattle.mono_rt.specs.Views.{PollsHandleOf, DropsHandleOf, tasks_of, is_timed, Rests, Grows, ChangesTasks, HoldsSamePlaces, LeadsShared, TellsDriver, PollsItsFutures, PollsItsFuturesBy, FillsJournal, CanRun, GivesNoMore};
+ghost use Rattle.mono_rt.specs.Views.{PollsHandleOf, DropsHandleOf, tasks_of, is_timed, Rests, Grows, ChangesTasks, HoldsSamePlaces, LeadsShared, TellsDriver, PollsItsFutures, PollsItsFuturesBy, FindsTasksListed, FillsJournal, CanRun, GivesNoMore};
 
 use crate::contexts::Cx;
 use crate::parts::RunError;
@@ -76,7 +76,7 @@ where
     /// with the handle: `poll_join` and `drop_join` return it (`given`).
     ///
     /// All else is as in [`Runtime::block_on`], but that no task is made and no handle dropped: the history grows by
-    /// the entries that `Ends` specifies (`ends`). Each turn is a poll, whatever the answer (`still_polled`). The answer is Turns if the budget is spent, also for a task that
+    /// the entries that `Ends` specifies (`ends`). Each turn is a poll, and each park finds its tasks listed, whatever the answer (`still_polled`, `listed`). The answer is Turns if the budget is spent, also for a task that
     /// never has an output. No task may answer more afterwards than before (`answers`), so the output is one that the
     /// spawned future gives (`mono_answers`).
     ///
@@ -99,11 +99,12 @@ where
         ensures ends { Grows O.output_number (Ends (is_timed self.old) handle.now turns result) self.old self.new }
         ensures shared { LeadsShared W.leads self.old self.new }
         ensures rests { Rests self.new }
-        ensures polled { OnMain result (PollsItsFutures O.output_number W.leads F.TaskFuture self.old self.new) }
-        ensures still_polled { PollsItsFuturesBy O.output_number W.leads F.TaskFuture false self.old self.new }
+        ensures polled { OnMain result (PollsItsFutures O.output_number W.SharedState F.TaskFuture self.old self.new) }
+        ensures still_polled { PollsItsFuturesBy O.output_number W.SharedState F.TaskFuture false self.old self.new }
+        ensures listed { FindsTasksListed O.output_number W.SharedState F.TaskFuture false self.old self.new }
         ensures faults { FaultsBy result (D.faults self.old.driver) (D.faults self.new.driver) }
         ensures told { TellsDriver result D.Clock self.old self.new }
-        ensures full { FillsJournal O.output_number W.leads F.TaskFuture self.old self.new }
+        ensures full { FillsJournal O.output_number W.SharedState F.TaskFuture self.old self.new }
         ensures held { HoldsSamePlaces self.old self.new }
         ensures retired { HasRetired self.new }
         ensures strategy { KeepsStrategy O.output_number self.old self.new }

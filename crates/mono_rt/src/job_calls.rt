@@ -48,7 +48,7 @@ impl<F: Drop, O: Outcome + Drop, P: ThreadPool + Drop, U: Unpark, W: SharedState
     ) -> Result<JobHandle, SpawnError<P::Job>>
         ensures spawned { OnParts (SpawnsJob P.Job.output_number P.refusals job result) self.old self.new }
         ensures same { ChangesParts self.old self.new }
-        ensures reached { ReachesSharing O.output_number W.leads self.old self.new }
+        ensures reached { ReachesSharing O.output_number W.SharedState self.old self.new }
     {
         self.parts.spawn_blocking(rt, alloc, job)
     }
@@ -59,7 +59,7 @@ impl<F: Drop, O: Outcome + Drop, P: ThreadPool + Drop, U: Unpark, W: SharedState
     pub fn drop_job(&mut self, job: u64) -> Result<Option<Result<OutputOf<P>, JoinError>>, Refusal>
         ensures dropped { OnParts (DropsJob P.Job.Output.output_number job result) self.old self.new }
         ensures same { ChangesParts self.old self.new }
-        ensures reached { ReachesSharing O.output_number W.leads self.old self.new }
+        ensures reached { ReachesSharing O.output_number W.SharedState self.old self.new }
     {
         self.parts.drop_job(job)
     }
@@ -69,7 +69,7 @@ impl<F: Drop, O: Outcome + Drop, P: ThreadPool + Drop, U: Unpark, W: SharedState
     pub fn job_finished(&mut self, job: u64) -> Result<bool, Refusal>
         ensures asked { OnParts (AsksWhetherEnded job result) self.old self.new }
         ensures same { ChangesParts self.old self.new }
-        ensures reached { ReachesSharing O.output_number W.leads self.old self.new }
+        ensures reached { ReachesSharing O.output_number W.SharedState self.old self.new }
     {
         self.parts.has_job_ended(job)
     }
@@ -105,7 +105,7 @@ where
         ensures polled { OnParts (PollsJob P.Job.Output.output_number job result) self.old self.new }
         ensures last { result ≡ Err Memory → refusal_in (poll_answer self.old.parts.blocking.table.jobs job) ≡ None }
         ensures same { ChangesParts self.old self.new }
-        ensures reached { ReachesSharing O.output_number W.leads self.old self.new }
+        ensures reached { ReachesSharing O.output_number W.SharedState self.old self.new }
     {
         match self.own_waker() {
             Err(_) => match self.parts.refuse_job_poll(job) {

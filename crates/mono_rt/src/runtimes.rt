@@ -39,7 +39,7 @@ where
         requires rests { self.old.cx.parts.tasks.turn ≡ None }
         requires queued { 0 < length self.old.cx.parts.tasks.tasks.queue }
         ensures turned { Does O.output_number (TurnEnds result) self.old.cx.parts self.new.cx.parts self.old.journal self.new.journal }
-        ensures went { Proceeds O.output_number W.leads D.Clock F.TaskFuture (lasting result) self.old self.new }
+        ensures went { Proceeds O.output_number W.SharedState D.Clock F.TaskFuture (lasting result) self.old self.new }
     {
         let Some(now) = self
             .cx

@@ -6,7 +6,8 @@ ghost use Rattle.mono_rt.specs.Record.{no_acts};
 ghost use Rattle.mono_rt.specs.Refinement.{hosting_of, Matches};
 ghost use Rattle.mono_table.specs.Slots.{lent_at};
 ghost use Rattle.mono_rt.specs.EndedTasks.{closed_in};
-ghost use Rattle.mono_rt.specs.Turns.{Begins, Pauses, Completes, Runs, Turn};
+ghost use Rattle.mono_rt.specs.Payments.{PaysOwed};
+ghost use Rattle.mono_rt.specs.Turns.{Begins, PaysAndPauses, PaysAndCompletes, Runs, Turn};
 ghost use Rattle.mono_rt.specs.PartTurns.{IsTurnOf};
 ghost use Rattle.mono_rt.specs.PossibleAnswers.{AnswersNoMore};
 ghost use Rattle.mono_rt.specs.Pollable.{EachCanPoll, CanTurn};
@@ -67,27 +68,41 @@ impl<F: Drop, O: Outcome + Drop, P: ThreadPool + Drop, U: Unpark, W: SharedState
         (task, future)
     }
 
-    /// Ends the running turn pending, and puts the future back into the table.
+    /// Wakes each task that the shared value owes a wake, in order. Each wake is an act of the running turn.
+    #[inline(always)]
+    fn pay_owed(&mut self)
+        ensures { PaysOwed O.output_number W.SharedState self.old self.new }
+    {
+        while let Some(task) = self.shared.next_owed() {
+            let _ = self.parts.wake(task);
+        }
+    }
+
+    /// Pays what the shared value owes, ends the running turn pending, and puts the future back into the table.
     #[inline(always)]
     fn pause_turn(&mut self, task: u64, future: Option<F>) -> Ended
         requires runs { is_some self.old.parts.tasks.turn ≡ true }
         requires lent { IfSome future (λ f. lent_at self.old.futures task ≡ true) }
-        ensures { Pauses task future result self.old self.new }
+        ensures pauses { PaysAndPauses O.output_number W.SharedState task future result self.old self.new }
+        ensures futures { self.new.futures.items ≡ slice_set self.old.futures.items task future }
     {
+        self.pay_owed();
         let ended = self.parts.tasks.end_turn(Poll::Pending);
         self.put_back(task, future);
         ended
     }
 
-    /// Ends the running turn ready, and removes the task's place (`gone`). The inbox knows the task until the next
-    /// tasks end, or until it is drained.
+    /// Pays what the shared value owes, ends the running turn ready, and removes the task's place (`gone`). The inbox
+    /// knows the task until the next tasks end, or until it is drained.
     fn complete_turn<R: Host>(&mut self, rt: &R, task: u64, output: O) -> Ended
         requires runs { is_some self.old.parts.tasks.turn ≡ true }
         requires lent { lent_at self.old.futures task ≡ true }
-        ensures completes { Completes output result self.old self.new }
+        ensures completes { PaysAndCompletes O.output_number W.SharedState output result self.old self.new }
+        ensures futures { self.new.futures.items ≡ self.old.futures.items }
         ensures closed { closed_in self.new.wakers.retired.entries self.new.wakers.ended.items ≡ closed_in self.old.wakers.retired.entries self.old.wakers.ended.items ++ task ∷ [] }
         ensures gone { self.new.futures.lent ≡ slice_set self.old.futures.lent task false }
     {
+        self.pay_owed(); // what the poll and the cancel left
         let waker = mem::replace(&mut self.waker, None);
         self.wakers.close(rt, task, waker);
         self.futures.remove(task);
@@ -116,7 +131,7 @@ where
         requires runs { self.old.parts.tasks.turn ≡ Some task }
         requires lent { IfSome taken (λ f. lent_at self.old.futures task ≡ true) }
         ensures callable { EachCanPoll F.can_poll self.new.futures.items }
-        ensures runs { Runs O.output_number W.leads F.TaskFuture taken task result.0 result.1 self.old self.new }
+        ensures runs { Runs O.output_number W.SharedState F.TaskFuture taken task result.0 result.1 self.old self.new }
     {
         let Some(mut future) = taken else {
             return (End::Pending, self.pause_turn(task, None));
@@ -139,7 +154,7 @@ where
         requires callable { CanTurn F.TaskFuture self.old }
         requires rests { self.old.parts.tasks.turn ≡ None }
         requires queued { 0 < length self.old.parts.tasks.tasks.queue }
-        ensures turn { Turn O.output_number W.leads F.TaskFuture result.0 now self.old.parts.acts result.1 result.2 self.old self.new }
+        ensures turn { Turn O.output_number W.SharedState F.TaskFuture result.0 now self.old.parts.acts result.1 result.2 self.old self.new }
         ensures is { (is_unread : Bool) → self.old.parts.acts ≡ no_acts is_unread → (m : Machine) → Matches O.output_number hosting_of self.old.parts m → IsTurnOf O.output_number result.0 result.1 result.2 self.old.parts self.new.parts m }
         ensures answers { AnswersNoMore F.gives self.old self.new }
         ensures callable { CanTurn F.TaskFuture self.new }

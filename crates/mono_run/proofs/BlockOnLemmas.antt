@@ -16,6 +16,8 @@ use Rattle.mono_rt.proofs.ReadingLemmas.{in_order, sums_from, sure_answer}
 use Rattle.mono_model.specs.declared.poll.Poll.{Poll}
 use Rattle.mono_task.specs.Members.{FutureOf}
 use Rattle.mono_rt.specs.FuturePolls.{PollsMain, OnMain}
+use Rattle.mono_rt.specs.Reaches.{sharing_nothing}
+use Rattle.mono_rt.specs.Stores.{Store, first_store}
 use Rattle.mono_rt.specs.Journals.{Does}
 use Rattle.mono_rt.specs.Refinement.{hosting_of, Matches}
 use Rattle.mono_rt.specs.declared.parts.state.Parts.{Parts}
@@ -105,36 +107,36 @@ told_reads workers readings (Err e) limits turns j answer blocked tells is kept 
 pub driven_by : {P U J A V : Type 0} (future : FutureOf ScriptTask (Cx ScriptTask ℕ P U ⊤ J A V) ℕ) (unspent : (f : ScriptTask) → future.is_spent f ≡ false)
     (polls : (f : ScriptTask) (c : Cx ScriptTask ℕ P U ⊤ J A V) (answer : Poll ℕ) (left : ScriptTask) (d : Cx ScriptTask ℕ P U ⊤ J A V) → future.polls f c answer left d → PollsTask f c answer left d)
     (cancels : (f : ScriptTask) (c d : Cx ScriptTask ℕ P U ⊤ J A V) → future.cancels f c d → d ≡ c)
-    (e : RunEnd) (s : Script) (turns : ℕ) (main : ScriptTask) (left : List (Option ScriptTask)) (answer : Result ℕ RunError) (part : List Entry) → answer ≡ answer_of e → main ≡ new_task main 0 → main.kinds.now ≡ s.kinds → IsSound (length s.kinds) s
-    → OnMain answer ((new : Machine) × PollsMain (λ n. n) (λ a b. ⊤) future true main [] left (start_machine s.limits strategy.Attached) part new [])
+    (e : RunEnd) (s : Script) (turns : ℕ) (main : ScriptTask) (left : Store ScriptTask ⊤) (answer : Result ℕ RunError) (part : List Entry) → answer ≡ answer_of e → main ≡ new_task main 0 → main.kinds.now ≡ s.kinds → IsSound (length s.kinds) s
+    → OnMain answer ((new : Machine) × PollsMain (λ n. n) sharing_nothing future true main (first_store tt) left (start_machine s.limits strategy.Attached) part new [])
     → ((new : Machine) × Blocked true turns (answer_numbered (λ n. n) answer) (start_machine s.limits strategy.Attached) part new []) → Driven s (map told part)
 driven_by future unspent polls cancels (ran.Output o) s turns main left answer part is first same sound polled blocked =
-    let p = subst (λ a. OnMain a ((new : Machine) × PollsMain (λ n. n) (λ a b. ⊤) future true main [] left (start_machine s.limits strategy.Attached) part new [])) is polled in
+    let p = subst (λ a. OnMain a ((new : Machine) × PollsMain (λ n. n) sharing_nothing future true main (first_store tt) left (start_machine s.limits strategy.Attached) part new [])) is polled in
     driven_main future unspent polls cancels s strategy.Attached main left part p.0 first same sound p.1
 driven_by future unspent polls cancels ran.Turns s turns main left answer part is first same sound polled blocked =
-    let p = subst (λ a. OnMain a ((new : Machine) × PollsMain (λ n. n) (λ a b. ⊤) future true main [] left (start_machine s.limits strategy.Attached) part new [])) is polled in
+    let p = subst (λ a. OnMain a ((new : Machine) × PollsMain (λ n. n) sharing_nothing future true main (first_store tt) left (start_machine s.limits strategy.Attached) part new [])) is polled in
     driven_main future unspent polls cancels s strategy.Attached main left part p.0 first same sound p.1
 driven_by future unspent polls cancels ran.Capacity s turns main left answer part is first same sound polled blocked =
     let b = subst (λ a. (new : Machine) × Blocked true turns (answer_numbered (λ n. n) a) (start_machine s.limits strategy.Attached) part new []) is blocked in
     subst (λ xs. Driven s (map told xs)) (sym b.1.0) tt
 
 -- The same from the clauses of the runtime's call about its futures, in a journal that was empty before it.
-pub driven_does : {P U J A V Q : Type 0} (future : FutureOf ScriptTask (Cx ScriptTask ℕ P U ⊤ J A V) ℕ) (h : Bool) (main : ScriptTask) (had left : List (Option ScriptTask)) (c d : Parts ℕ (Seen Q)) (j k : Journal)
+pub driven_does : {P U J A V Q : Type 0} (future : FutureOf ScriptTask (Cx ScriptTask ℕ P U ⊤ J A V) ℕ) (h : Bool) (main : ScriptTask) (had left : Store ScriptTask ⊤) (c d : Parts ℕ (Seen Q)) (j k : Journal)
     → (unspent : (f : ScriptTask) → future.is_spent f ≡ false)
     → (polls : (f : ScriptTask) (x : Cx ScriptTask ℕ P U ⊤ J A V) (a : Poll ℕ) (g : ScriptTask) (y : Cx ScriptTask ℕ P U ⊤ J A V) → future.polls f x a g y → PollsTask f x a g y)
     → (cancels : (f : ScriptTask) (x y : Cx ScriptTask ℕ P U ⊤ J A V) → future.cancels f x y → y ≡ x)
     → (e : RunEnd) (s : Script) (turns : ℕ) (answer : Result ℕ RunError) (l : Journal)
-    → OnMain answer (Does (λ n. n) (PollsMain (λ n. n) (λ a b. ⊤) future h main had left) c d j k)
-    → h ≡ true → had ≡ [] → Matches (λ n. n) hosting_of c (start_machine s.limits strategy.Attached) → j.history.entries ≡ [] → l ≡ k
+    → OnMain answer (Does (λ n. n) (PollsMain (λ n. n) sharing_nothing future h main had left) c d j k)
+    → h ≡ true → had ≡ first_store tt → Matches (λ n. n) hosting_of c (start_machine s.limits strategy.Attached) → j.history.entries ≡ [] → l ≡ k
     → answer ≡ answer_of e → main ≡ new_task main 0 → main.kinds.now ≡ s.kinds → IsSound (length s.kinds) s
     → ((new : Machine) × Blocked true turns (answer_numbered (λ n. n) answer) (start_machine s.limits strategy.Attached) l.history.entries new []) → Driven s (map told l.history.entries)
 driven_does future h main had left c d j k unspent polls cancels e s turns answer l does timers none stands empty same is first kinds sound blocked =
     let m : Machine = start_machine s.limits strategy.Attached in
-    let Whole : Type 0 = (new : Machine) × PollsMain (λ n. n) (λ a b. ⊤) future true main [] left m l.history.entries new [] in
-    let polled : OnMain answer Whole = on_main {X = ℕ} answer (Does (λ n. n) (PollsMain (λ n. n) (λ a b. ⊤) future h main had left) c d j k) Whole
-    (λ did. subst (λ b. (new : Machine) × PollsMain (λ n. n) (λ a b. ⊤) future b main [] left m l.history.entries new []) timers
-    (subst (λ xs. (new : Machine) × PollsMain (λ n. n) (λ a b. ⊤) future h main xs left m l.history.entries new []) none
-    (relation_of (λ n. n) (PollsMain (λ n. n) (λ a b. ⊤) future h main had left) c d j k l m stands empty same did))) does in
+    let Whole : Type 0 = (new : Machine) × PollsMain (λ n. n) sharing_nothing future true main (first_store tt) left m l.history.entries new [] in
+    let polled : OnMain answer Whole = on_main {X = ℕ} answer (Does (λ n. n) (PollsMain (λ n. n) sharing_nothing future h main had left) c d j k) Whole
+    (λ did. subst (λ b. (new : Machine) × PollsMain (λ n. n) sharing_nothing future b main (first_store tt) left m l.history.entries new []) timers
+    (subst (λ xs. (new : Machine) × PollsMain (λ n. n) sharing_nothing future h main xs left m l.history.entries new []) none
+    (relation_of (λ n. n) (PollsMain (λ n. n) sharing_nothing future h main had left) c d j k l m stands empty same did))) does in
     driven_by future unspent polls cancels e s turns main left answer l.history.entries is first kinds sound polled blocked
 
 pub told_driven : {E : Type 0} (workers : ℕ) (readings : Option (List ℕ)) (r : Result ScriptRun E) (s : Script) (turns : ℕ) (j : Journal) (answer : Result ℕ RunError)

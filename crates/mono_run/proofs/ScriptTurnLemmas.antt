@@ -41,7 +41,8 @@ use Rattle.mono_blocking.specs.JobSpawns.{Seen}
 use Rattle.mono_rt.specs.Journals.{events_in, reports_in}
 use Rattle.mono_rt.specs.Numbering.{end_of}
 use Rattle.mono_rt.specs.FuturePolls.{MakesNoTask, TellsTurn, Polled, PollsMain}
-use Rattle.mono_rt.specs.Reaches.{Reaches}
+use Rattle.mono_rt.specs.Reaches.{Reaches, sharing_nothing}
+use Rattle.mono_rt.specs.Stores.{Store, first_store, with_future}
 use Rattle.mono_rt.specs.Record.{no_acts}
 use Rattle.mono_rt.specs.Refinement.{hosting_of, Matches}
 use Rattle.mono_rt.specs.Turns.{Begins, AfterPoll, Polls, UnlessSpent, Runs}
@@ -64,6 +65,10 @@ use Rattle.mono_run.proofs.SpawnCountLemmas.{is_spawn, is_task, made_by, made_in
 
 abbrev pub Futures : Type 0
 Futures = List (Option ScriptTask)
+
+-- the futures of the tasks, which share nothing
+abbrev pub Stored : Type 0
+Stored = Store ScriptTask ⊤
 
 -- the places of the tasks
 abbrev pub place_in : Option ScriptTask → Option Place
@@ -290,18 +295,20 @@ module _ {P U J A V : Type 0} (future : FutureOf ScriptTask (Cx ScriptTask ℕ P
       → IsOurs kinds f → t < length fs → c.futures.items ≡ slice_set fs t None → d.futures.items ≡ gs
       → c.parts.acts ≡ no_acts is_unread → c.parts.me ≡ t → nanos_of c.parts.now ≡ reading → c.parts.has_timers ≡ true → (m : Machine) × Matches (λ n. n) hosting_of c.parts m
       → d.parts.is_out_of_memory ≡ false → d.parts.acts.steps ≡ steps → d.parts.acts.replies ≡ replies → e ≡ end_of (λ n. n) answer
-      → future.polls f c answer left x → Reaches (λ n. n) c x → AfterPoll (λ n. n) (λ a b. ⊤) future answer t left ended x d
+      → future.polls f c answer left x → Reaches (λ n. n) c x → AfterPoll (λ n. n) sharing_nothing future answer t left ended x d
       → Gave kinds t reading steps replies e fs gs f
-  by_rest kinds t reading steps replies e ended fs gs f c x d Pending left is_unread ours below taken is none me now timers stands memory steps_are replies_are is_end polled reached rest =
+  by_rest kinds t reading steps replies e ended fs gs f c x d Pending left is_unread ours below taken is none me now timers stands memory steps_are replies_are is_end polled reached (paid, (pays, pauses)) =
+      let same : paid ≡ x = pays.paying.idle refl in
+      let acts : d.parts.acts ≡ x.parts.acts = pauses.parts.acts ∙ ap (λ z. z.parts.acts) same in
       let lines : RunsLines f c Pending left x = (polls f c Pending left x polled).lines ours.fits stands (record {
-        memory = sym rest.parts.memory ∙ memory;
+        memory = sym (pauses.parts.memory ∙ ap (λ z. z.parts.is_out_of_memory) same) ∙ memory;
         timers = reached.parts.same_timers ∙ timers;
       }) in
-      gave kinds t reading steps replies e fs gs f c x Pending left (Some left) is_unread lines none me now (sym (ap (λ a. a.steps) rest.parts.acts) ∙ steps_are) (sym (ap (λ a. a.replies) rest.parts.acts) ∙ replies_are) is_end
-      (λ turned made. left_pending fs gs (new_futures f turned.made) t (Some left) c.futures.items x.futures.items below taken made (sym is ∙ rest.futures))
+      gave kinds t reading steps replies e fs gs f c x Pending left (Some left) is_unread lines none me now (sym (ap (λ a. a.steps) acts) ∙ steps_are) (sym (ap (λ a. a.replies) acts) ∙ replies_are) is_end
+      (λ turned made. left_pending fs gs (new_futures f turned.made) t (Some left) c.futures.items x.futures.items below taken made (sym is ∙ pauses.futures ∙ ap (λ z. slice_set z.futures.items t (Some left)) same))
       refl (record { kinds_are = ap (λ k. k.now) lines.kinds ∙ ours.kinds_are; fits = lines.fits }) (λ e. absurd (none-some left (sym e)))
-  by_rest kinds t reading steps replies e ended fs gs f c x d (Ready output) left is_unread ours below taken is none me now timers stands memory steps_are replies_are is_end polled reached (y, gives_up, on, done) =
-      let same : y ≡ x = cancels left x y gives_up in
+  by_rest kinds t reading steps replies e ended fs gs f c x d (Ready output) left is_unread ours below taken is none me now timers stands memory steps_are replies_are is_end polled reached (y, gives_up, on, (paid, (pays, done))) =
+      let same : paid ≡ x = pays.paying.idle refl ∙ cancels left x y gives_up in
       let acts : d.parts.acts ≡ x.parts.acts = done.parts.acts ∙ ap (λ z. z.parts.acts) same in
       let lines : RunsLines f c (Ready output) left x = (polls f c (Ready output) left x polled).lines ours.fits stands (record {
         memory = sym (done.parts.memory ∙ ap (λ z. z.parts.is_out_of_memory) same) ∙ memory;
@@ -315,7 +322,7 @@ module _ {P U J A V : Type 0} (future : FutureOf ScriptTask (Cx ScriptTask ℕ P
       → s ≡ false → IsOurs kinds f → t < length fs → c.futures.items ≡ slice_set fs t None → d.futures.items ≡ gs
       → c.parts.acts ≡ no_acts is_unread → c.parts.me ≡ t → nanos_of c.parts.now ≡ reading → c.parts.has_timers ≡ true → (m : Machine) × Matches (λ n. n) hosting_of c.parts m
       → d.parts.is_out_of_memory ≡ false → d.parts.acts.steps ≡ steps → d.parts.acts.replies ≡ replies
-      → UnlessSpent (λ n. n) (λ a b. ⊤) future s t f e ended c d → Gave kinds t reading steps replies e fs gs f
+      → UnlessSpent (λ n. n) sharing_nothing future s t f e ended c d → Gave kinds t reading steps replies e fs gs f
   by_future kinds t reading steps replies e ended fs gs f true c d is_unread spent ours below taken is none me now timers stands memory steps_are replies_are runs = absurd (true-false spent)
   by_future kinds t reading steps replies e ended fs gs f false c d is_unread spent ours below taken is none me now timers stands memory steps_are replies_are runs =
       by_rest kinds t reading steps replies e ended fs gs f c runs.middle d runs.answer runs.left is_unread ours below taken is none me now timers stands memory steps_are replies_are runs.is_end runs.polled runs.reached runs.rest
@@ -349,15 +356,17 @@ module _ {P U J A V : Type 0} (future : FutureOf ScriptTask (Cx ScriptTask ℕ P
   has_future None never = absurd (never refl)
   has_future (Some f) never = (f, refl)
 
-  turns_on : (kinds : List Kind) (m mid : Machine) (fs gs : Futures) (reading : ℕ) (steps : List TurnStep) (e : End) (answer : Report) (answers : List Report) → IsValid m → AreOurs kinds fs → length fs ≡ next_number m.tasks.table → HaveEnded fs (answer ∷ answers)
-      → Step m (event.Turn steps e) answer mid → TellsTurn (λ n. n) (λ a b. ⊤) future true m fs reading steps e answer gs → TurnsOn kinds m mid fs gs reading steps e answer
-  turns_on kinds m mid fs gs reading steps e answer answers valid ours tied ended is tells =
+  turns_on : (kinds : List Kind) (m mid : Machine) (store after : Stored) (reading : ℕ) (steps : List TurnStep) (e : End) (answer : Report) (answers : List Report) → IsValid m → AreOurs kinds store.futures → length store.futures ≡ next_number m.tasks.table → HaveEnded store.futures (answer ∷ answers)
+      → Step m (event.Turn steps e) answer mid → TellsTurn (λ n. n) sharing_nothing future true m store reading steps e answer after → TurnsOn kinds m mid store.futures after.futures reading steps e answer
+  turns_on kinds m mid store after reading steps e answer answers valid ours tied ended is tells =
       let t : ℕ = tells.task in
+      let fs : Futures = store.futures in
+      let gs : Futures = after.futures in
       let replies : List Reply = tells.after.parts.acts.replies in
       let first : IsFront t replies steps m m.tasks.queue = front t replies tells.ended steps e m m.tasks.queue (sym tells.told ∙ is.0) in
       let given : t < next_number m.tasks.table = queued_given m.tasks.table t (front_is_queued m.tasks t first.behind first.queue_is valid.tasks) in
       let below : t < length fs = subst (λ n. t < n) (sym tied) given in
-      let left : mid ≡ after_end e t (after_steps t steps (after_begin t first.behind m)) = is.1 ∙ ap (λ q. after_turn_for q steps e m) first.queue_is in
+      let went : mid ≡ after_end e t (after_steps t steps (after_begin t first.behind m)) = is.1 ∙ ap (λ q. after_turn_for q steps e m) first.queue_is in
       let begins = tells.turn.begins in
       let found = has_future (value_at fs t) (λ none. true-false (sym (same_task t) ∙ ap (is_turn_of t) (sym tells.told) ∙ or_first (is_turn_of t answer) (has_turn_of t answers) (ended t below none))) in
       let f : ScriptTask = found.0 in
@@ -376,21 +385,21 @@ module _ {P U J A V : Type 0} (future : FutureOf ScriptTask (Cx ScriptTask ℕ P
         gave = by_future kinds t reading steps replies e tells.ended fs gs f (future.is_spent f) tells.turn.begun tells.after tells.is_unread (unspent f) one below (begins.futures ∙ ap (λ xs. slice_set xs t None) tells.had) tells.has
             begins.parts.acts_are begins.parts.me (ap nanos_of begins.parts.now_is ∙ tells.reads) (begins.parts.has_timers ∙ tells.timers)
             (after_begin t first.behind m, begun_matches (λ n. n) tells.before.parts tells.turn.begun.parts t tells.now (no_acts tells.is_unread) m first.behind begins.parts first.queue_is tells.stands)
-            tells.memory tells.acts refl (subst (λ v. Runs (λ n. n) (λ a b. ⊤) future v t e tells.ended tells.turn.begun tells.after) (ap (λ xs. value_at xs t) tells.had ∙ found.1) tells.turn.runs);
-        count = ap (λ x. next_number x.tasks.table) left ∙ counts;
-        over = λ o done. subst (λ x. IsOver t x.tasks) (sym left) (finished_at t o steps e m first.behind given done);
+            tells.memory tells.acts refl (subst (λ v. Runs (λ n. n) sharing_nothing future v t e tells.ended tells.turn.begun tells.after) (ap (λ xs. value_at xs t) tells.had ∙ found.1) tells.turn.runs);
+        count = ap (λ x. next_number x.tasks.table) went ∙ counts;
+        over = λ o done. subst (λ x. IsOver t x.tasks) (sym went) (finished_at t o steps e m first.behind given done);
       }
 
   -- a run of the machine
-  pub polled_run : (part : List Entry) (m : Machine) (fs : Futures) (reading : ℕ) → Polled (λ n. n) (λ a b. ⊤) future true m fs reading part → (new : Machine) × Run m (events_in part) (reports_in part) new
-  polled_run [] m fs reading p = (m, refl)
-  polled_run (Now n ∷ part) m fs reading p = polled_run part m fs n p
-  polled_run (Park wait ∷ part) m fs reading p = polled_run part m fs reading p
-  polled_run (Ran (event.Turn steps e) answer ∷ part) m fs reading (mid, (left, (step, tells, rest))) = let more = polled_run part mid left reading rest in (more.0, (mid, step, more.1))
-  polled_run (Ran (event.Act a) answer ∷ part) m fs reading (mid, (none, step, rest)) = let more = polled_run part mid fs reading rest in (more.0, (mid, step, more.1))
-  polled_run (Ran (event.Clock n) answer ∷ part) m fs reading (mid, (step, rest)) = let more = polled_run part mid fs reading rest in (more.0, (mid, step, more.1))
-  polled_run (Ran (event.Remote t) answer ∷ part) m fs reading (mid, (step, rest)) = let more = polled_run part mid fs reading rest in (more.0, (mid, step, more.1))
-  polled_run (Ran event.Drain answer ∷ part) m fs reading (mid, (step, rest)) = let more = polled_run part mid fs reading rest in (more.0, (mid, step, more.1))
+  pub polled_run : (part : List Entry) (m : Machine) (store : Stored) (reading : ℕ) → Polled (λ n. n) sharing_nothing future true m store reading part → (new : Machine) × Run m (events_in part) (reports_in part) new
+  polled_run [] m store reading p = (m, refl)
+  polled_run (Now n ∷ part) m store reading p = polled_run part m store n p
+  polled_run (Park wait ∷ part) m store reading (at_rest, p) = polled_run part m store reading p
+  polled_run (Ran (event.Turn steps e) answer ∷ part) m store reading (mid, (left, (step, tells, rest))) = let more = polled_run part mid left reading rest in (more.0, (mid, step, more.1))
+  polled_run (Ran (event.Act a) answer ∷ part) m store reading (mid, (none, step, rest)) = let more = polled_run part mid store reading rest in (more.0, (mid, step, more.1))
+  polled_run (Ran (event.Clock n) answer ∷ part) m store reading (mid, (step, rest)) = let more = polled_run part mid store reading rest in (more.0, (mid, step, more.1))
+  polled_run (Ran (event.Remote t) answer ∷ part) m store reading (mid, (step, rest)) = let more = polled_run part mid store reading rest in (more.0, (mid, step, more.1))
+  polled_run (Ran event.Drain answer ∷ part) m store reading (mid, (step, rest)) = let more = polled_run part mid store reading rest in (more.0, (mid, step, more.1))
 
   -- the futures after a turn, and the places that they are
   places_after : (kinds : List Kind) (fs gs : Futures) (t : ℕ) (f : ScriptTask) (after : Option ScriptTask) (turned : Turned) → IsOurs kinds f → gs ≡ slice_set fs t after ++ new_futures f turned.made → turned.after ≡ place_in after → AllBelow (length kinds) turned.made
@@ -443,22 +452,24 @@ module _ {P U J A V : Type 0} (future : FutureOf ScriptTask (Cx ScriptTask ℕ P
           (sym (get_or-append_right set new (length fs) t None lengths beyond) ∙ none_in))
 
   -- all the entries, one after the other
-  pub driven_from : (kinds : List Kind) (part : List Entry) (m : Machine) (fs : Futures) (reading : ℕ) → KindsBelow (length kinds) kinds → IsValid m → AreOurs kinds fs → length fs ≡ next_number m.tasks.table → HaveEnded fs (reports_in part)
-      → Polled (λ n. n) (λ a b. ⊤) future true m fs reading part → DrivenFrom kinds (places fs) reading (map told part)
-  driven_from kinds [] m fs reading sound valid ours tied ended p = tt
-  driven_from kinds (Now n ∷ part) m fs reading sound valid ours tied ended p = driven_from kinds part m fs n sound valid ours tied ended p
-  driven_from kinds (Park wait ∷ part) m fs reading sound valid ours tied ended p = driven_from kinds part m fs reading sound valid ours tied ended p
-  driven_from kinds (Ran (event.Act a) answer ∷ part) m fs reading sound valid ours tied ended (mid, (none, step, rest)) =
-      driven_from kinds part mid fs reading sound (step_is_valid m (event.Act a) answer mid valid step) ours (tied ∙ sym (other_act m mid a none (ap (λ x. next_number x.tasks.table) step.1))) (λ t below is. or_second (is_turn_of t answer) (has_turn_of t (reports_in part)) (ended t below is)) rest
-  driven_from kinds (Ran (event.Clock n) answer ∷ part) m fs reading sound valid ours tied ended (mid, (step, rest)) =
-      driven_from kinds part mid fs reading sound (step_is_valid m (event.Clock n) answer mid valid step) ours (tied ∙ sym (other_clock m mid n answer step)) (λ t below is. or_second (is_turn_of t answer) (has_turn_of t (reports_in part)) (ended t below is)) rest
-  driven_from kinds (Ran (event.Remote t) answer ∷ part) m fs reading sound valid ours tied ended (mid, (step, rest)) =
-      driven_from kinds part mid fs reading sound (step_is_valid m (event.Remote t) answer mid valid step) ours (tied ∙ sym (ap (λ x. next_number x.tasks.table) step.1 ∙ other_remote m t)) (λ t below is. or_second (is_turn_of t answer) (has_turn_of t (reports_in part)) (ended t below is)) rest
-  driven_from kinds (Ran event.Drain answer ∷ part) m fs reading sound valid ours tied ended (mid, (step, rest)) =
-      driven_from kinds part mid fs reading sound (step_is_valid m event.Drain answer mid valid step) ours (tied ∙ sym (ap (λ x. next_number x.tasks.table) step.1 ∙ next_number-all_woken m.tasks m.inbox)) (λ t below is. or_second (is_turn_of t answer) (has_turn_of t (reports_in part)) (ended t below is)) rest
-  driven_from kinds (Ran (event.Turn steps e) answer ∷ part) m fs reading sound valid ours tied ended (mid, (left, (step, tells, rest))) =
+  pub driven_from : (kinds : List Kind) (part : List Entry) (m : Machine) (store : Stored) (reading : ℕ) → KindsBelow (length kinds) kinds → IsValid m → AreOurs kinds store.futures → length store.futures ≡ next_number m.tasks.table → HaveEnded store.futures (reports_in part)
+      → Polled (λ n. n) sharing_nothing future true m store reading part → DrivenFrom kinds (places store.futures) reading (map told part)
+  driven_from kinds [] m store reading sound valid ours tied ended p = tt
+  driven_from kinds (Now n ∷ part) m store reading sound valid ours tied ended p = driven_from kinds part m store n sound valid ours tied ended p
+  driven_from kinds (Park wait ∷ part) m store reading sound valid ours tied ended (at_rest, p) = driven_from kinds part m store reading sound valid ours tied ended p
+  driven_from kinds (Ran (event.Act a) answer ∷ part) m store reading sound valid ours tied ended (mid, (none, step, rest)) =
+      driven_from kinds part mid store reading sound (step_is_valid m (event.Act a) answer mid valid step) ours (tied ∙ sym (other_act m mid a none (ap (λ x. next_number x.tasks.table) step.1))) (λ t below is. or_second (is_turn_of t answer) (has_turn_of t (reports_in part)) (ended t below is)) rest
+  driven_from kinds (Ran (event.Clock n) answer ∷ part) m store reading sound valid ours tied ended (mid, (step, rest)) =
+      driven_from kinds part mid store reading sound (step_is_valid m (event.Clock n) answer mid valid step) ours (tied ∙ sym (other_clock m mid n answer step)) (λ t below is. or_second (is_turn_of t answer) (has_turn_of t (reports_in part)) (ended t below is)) rest
+  driven_from kinds (Ran (event.Remote t) answer ∷ part) m store reading sound valid ours tied ended (mid, (step, rest)) =
+      driven_from kinds part mid store reading sound (step_is_valid m (event.Remote t) answer mid valid step) ours (tied ∙ sym (ap (λ x. next_number x.tasks.table) step.1 ∙ other_remote m t)) (λ t below is. or_second (is_turn_of t answer) (has_turn_of t (reports_in part)) (ended t below is)) rest
+  driven_from kinds (Ran event.Drain answer ∷ part) m store reading sound valid ours tied ended (mid, (step, rest)) =
+      driven_from kinds part mid store reading sound (step_is_valid m event.Drain answer mid valid step) ours (tied ∙ sym (ap (λ x. next_number x.tasks.table) step.1 ∙ next_number-all_woken m.tasks m.inbox)) (λ t below is. or_second (is_turn_of t answer) (has_turn_of t (reports_in part)) (ended t below is)) rest
+  driven_from kinds (Ran (event.Turn steps e) answer ∷ part) m store reading sound valid ours tied ended (mid, (after, (step, tells, rest))) =
+      let fs : Futures = store.futures in
+      let left : Futures = after.futures in
       let answers : List Report = reports_in part in
-      let one : TurnsOn kinds m mid fs left reading steps e answer = turns_on kinds m mid fs left reading steps e answer answers valid ours tied ended step tells in
+      let one : TurnsOn kinds m mid fs left reading steps e answer = turns_on kinds m mid store after reading steps e answer answers valid ours tied ended step tells in
       let gave = one.gave in
       let after_valid : IsValid mid = step_is_valid m (event.Turn steps e) answer mid valid step in
       let makes : Makes (length kinds) (own_replies steps one.replies) gave.turned = subst (MakesIf (length kinds) (own_replies steps one.replies)) gave.gives
@@ -466,8 +477,8 @@ module _ {P U J A V : Type 0} (future : FutureOf ScriptTask (Cx ScriptTask ℕ P
       let made : length gave.turned.made ≡ made_in steps one.replies = makes.count ∙ ap (λ xs. made_in xs (own_replies steps one.replies)) (sym gave.own) ∙ own_made steps one.replies in
       let ours_left : AreOurs kinds left = subst (AreOurs kinds) (sym gave.left) (ours_both kinds _ _ (ours_set kinds fs one.task gave.after ours gave.ours) (ours_new kinds one.f gave.turned.made one.ours)) in
       let tied_left : length left ≡ next_number mid.tasks.table = omega (arith, ap length gave.left, length-append (slice_set fs one.task gave.after) (new_futures one.f gave.turned.made), length-set fs one.task gave.after, length_new one.f gave.turned.made, made, one.count, tied) in
-      let run = polled_run part mid left reading rest in
-      let more : DrivenFrom kinds (places left) reading (map told part) = driven_from kinds part mid left reading sound after_valid ours_left tied_left
+      let run = polled_run part mid after reading rest in
+      let more : DrivenFrom kinds (places left) reading (map told part) = driven_from kinds part mid after reading sound after_valid ours_left tied_left
       (ended_after kinds m mid fs left reading steps e answer answers one ended (λ over. over_runs one.task (events_in part) answers mid run.0 after_valid over run.1)) rest in
       subst (λ r. DrivenFrom kinds (places fs) reading (script.ran (event.Turn steps e) r ∷ map told part)) (sym one.told_is)
       (gives_turn (turn_at (slice_index_or (places fs) one.task None) one.task reading (own_replies steps one.replies)) gave.turned (own_steps steps) e _
@@ -480,8 +491,8 @@ module _ {P U J A V : Type 0} (future : FutureOf ScriptTask (Cx ScriptTask ℕ P
   only_main f answers (suc t) below none = absurd (omega (arith, below))
 
   -- a whole call from the machine's start
-  pub driven_main : (s : Script) (strategy : Blocking) (main : ScriptTask) (left : Futures) (part : List Entry) (new : Machine) → main ≡ new_task main 0 → main.kinds.now ≡ s.kinds → IsSound (length s.kinds) s
-      → PollsMain (λ n. n) (λ a b. ⊤) future true main [] left (start_machine s.limits strategy) part new [] → Driven s (map told part)
+  pub driven_main : (s : Script) (strategy : Blocking) (main : ScriptTask) (left : Stored) (part : List Entry) (new : Machine) → main ≡ new_task main 0 → main.kinds.now ≡ s.kinds → IsSound (length s.kinds) s
+      → PollsMain (λ n. n) sharing_nothing future true main (first_store tt) left (start_machine s.limits strategy) part new [] → Driven s (map told part)
   driven_main s strategy main left part new first same sound (t, (mid, (more, (spawn, polls_more)))) =
       let kinds : List Kind = s.kinds in
       let m : Machine = start_machine s.limits strategy in
@@ -498,7 +509,7 @@ module _ {P U J A V : Type 0} (future : FutureOf ScriptTask (Cx ScriptTask ℕ P
           jobs = subst (λ f. length f.own.jobs ≤ f.at) (sym first) (omega arith);
         };
       } in
-      let rest : DrivenFrom kinds (places (Some main ∷ [])) 0 (map told more) = driven_from kinds more mid (Some main ∷ []) 0 below (step_is_valid m (event.Act act.Spawn) _ mid (start_is_valid s.limits strategy) spawn.1) (ours, tt) (sym one)
+      let rest : DrivenFrom kinds (places (Some main ∷ [])) 0 (map told more) = driven_from kinds more mid (with_future (first_store tt) main) 0 below (step_is_valid m (event.Act act.Spawn) _ mid (start_is_valid s.limits strategy) spawn.1) (ours, tt) (sym one)
       (only_main main (reports_in more)) (polls_more (λ reading. tt) 0) in
       let start : places (Some main ∷ []) ≡ starts_of kinds (0 ∷ []) = ap (λ f. places (Some f ∷ [])) first ∙ places_new kinds main (0 ∷ []) same (sound.some, tt) in
       subst (λ xs. Driven s (map told xs)) (sym spawn.0) (subst (λ ps. DrivenFrom kinds ps 0 (map told more)) start rest)

@@ -12,6 +12,13 @@ ghost use Rattle.mono_machine.specs.Machine.{Machine};
 ghost use Rattle.mono_rt.specs.Rounds.{Rounds};
 ghost use Rattle.mono_rt.specs.Budgets.{Spends};
 ghost use Rattle.mono_rt.specs.Readings.{readings_in, hand_ins_in, AreFirst, AreSums};
+ghost use Rattle.mono_rt.specs.ListedExamples.{ParkFinds};
+
+use crate::contexts::Cx;
+use mono_blocking::ThreadPool;
+use mono_inbox::Unpark;
+use mono_joinword::Outcome;
+use mono_task::TaskFuture;
 
 /// Shows that, if the driver exposes its readings to come, those in the journal are the first of these, in order, the
 /// last one repeated.
@@ -64,4 +71,17 @@ pub fn a_park_moves_the_readings()
 pub fn the_last_reading_is_repeated()
     ensures held { AreFirst (7 ∷ 9 ∷ 9 ∷ []) (7 ∷ 9 ∷ []) }
     ensures apart { AreFirst (7 ∷ 7 ∷ []) (7 ∷ 9 ∷ []) → ⊥ }
+{}
+
+/// Shows an example: after a turn, a park finds the task that the shared value lists (`held`). It does not find another
+/// task (`apart`), and a value that owes a wake is not found at a park (`owing`).
+pub fn a_park_finds_whom_the_value_lists<F, O, P, U>()
+where
+    F: TaskFuture<Cx<F, O, P, U>, Output = O> + Drop,
+    O: Outcome + Drop,
+    P: ThreadPool + Drop,
+    U: Unpark,
+    ensures held { ParkFinds O.output_number F.TaskFuture [] 0 }
+    ensures apart { ParkFinds O.output_number F.TaskFuture [] 1 → ⊥ }
+    ensures owing { ParkFinds O.output_number F.TaskFuture (0 ∷ []) 0 → ⊥ }
 {}

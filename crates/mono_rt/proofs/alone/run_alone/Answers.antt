@@ -1,5 +1,4 @@
 use Rattle.std.proofs.Common.{true, [], refl, subst}
-use Rattle.std.specs.Prelude.{⊤}
 use Rattle.mono_machine.specs.Machine.{Machine, start_machine}
 use Rattle.mono_blocking.specs.JobSpawns.{strategy_of}
 use Rattle.mono_rt.specs.Numbering.{answer_numbered}
@@ -8,9 +7,10 @@ use Rattle.mono_rt.proofs.JournalLemmas.{goes_of, run_of, registers_of}
 use Rattle.mono_rt.proofs.RoundLemmas.{relation_of}
 use Rattle.mono_rt.specs.DriverReadings.{IsTold, telling}
 use Rattle.mono_rt.proofs.DriverLemmas.{told_in}
-use Rattle.mono_rt.proofs.FuturePollLemmas.{polls_whole, still_whole}
+use Rattle.mono_rt.specs.Stores.{store_of}
+use Rattle.mono_rt.proofs.FuturePollLemmas.{new_store, polls_whole, still_whole}
 use Rattle.mono_rt.proofs.JournalRoomLemmas.{one_long}
-use Rattle.mono_rt.specs.Reaches.{IsAligned}
+use Rattle.mono_rt.specs.Reaches.{IsAligned, sharing_nothing}
 use Rattle.mono_rt.proofs.PossibleAnswerLemmas.{aligned_new, ok_given}
 use Rattle.mono_rt.proofs.PollableLemmas.{turn_new}
 use Rattle.mono_rt.proofs.alone.run_alone.Goals as goal
@@ -32,11 +32,11 @@ returns g c =
           (told_in c.into_journal.result c.in_ok-runtime.ensures.history c.into_journal.ensures c.block_on-answer.ensures.told);
       parks = registers_of number made.cx.parts left.cx.parts made.journal left.journal c.into_journal.result m c.in_ok-runtime.ensures.stands c.in_ok-runtime.ensures.history c.into_journal.ensures c.in_ok-runtime.ensures.registered (goes_of number told made.cx.parts left.cx.parts made.journal left.journal c.block_on-answer.ensures.blocked);
       run = run_of number made.cx.parts left.cx.parts made.journal left.journal c.into_journal.result m c.in_ok-runtime.ensures.stands c.in_ok-runtime.ensures.history c.into_journal.ensures (goes_of number told made.cx.parts left.cx.parts made.journal left.journal c.block_on-answer.ensures.blocked);
-      polled = polls_whole number (λ a b. ⊤) g.F.TaskFuture c.args.future made.cx.parts.has_timers true made.cx.futures.items left.cx.futures.items made.cx.parts left.cx.parts made.journal left.journal c.into_journal.result m m c.block_on-answer.result
-          c.in_ok-runtime.ensures.timers c.in_ok-runtime.ensures.futures refl c.in_ok-runtime.ensures.stands c.in_ok-runtime.ensures.history c.into_journal.ensures c.block_on-answer.ensures.polled;
-      still_polled = still_whole number (λ a b. ⊤) g.F.TaskFuture c.args.future made.cx.parts.has_timers true made.cx.futures.items left.cx.futures.items made.cx.parts left.cx.parts made.journal left.journal c.into_journal.result m m c.block_on-answer.result
-          c.in_ok-runtime.ensures.timers c.in_ok-runtime.ensures.futures refl c.in_ok-runtime.ensures.stands c.in_ok-runtime.ensures.history c.into_journal.ensures c.block_on-answer.ensures.still_polled;
-      full = one_long number (λ a b. ⊤) g.F.TaskFuture made.cx made.journal left.journal c.into_journal.result c.in_ok-runtime.ensures.unfull c.into_journal.ensures c.block_on-answer.ensures.full;
+      polled = polls_whole number sharing_nothing g.F.TaskFuture c.args.future tt made.cx.parts.has_timers true (store_of made.cx) (store_of left.cx) made.cx.parts left.cx.parts made.journal left.journal c.into_journal.result m m c.block_on-answer.result
+          c.in_ok-runtime.ensures.timers (new_store made.cx tt c.in_ok-runtime.ensures.futures refl) refl c.in_ok-runtime.ensures.stands c.in_ok-runtime.ensures.history c.into_journal.ensures c.block_on-answer.ensures.polled;
+      still_polled = still_whole number sharing_nothing g.F.TaskFuture c.args.future tt made.cx.parts.has_timers true (store_of made.cx) (store_of left.cx) made.cx.parts left.cx.parts made.journal left.journal c.into_journal.result m m c.block_on-answer.result
+          c.in_ok-runtime.ensures.timers (new_store made.cx tt c.in_ok-runtime.ensures.futures refl) refl c.in_ok-runtime.ensures.stands c.in_ok-runtime.ensures.history c.into_journal.ensures c.block_on-answer.ensures.still_polled;
+      full = one_long number sharing_nothing g.F.TaskFuture made.cx made.journal left.journal c.into_journal.result c.in_ok-runtime.ensures.unfull c.into_journal.ensures c.block_on-answer.ensures.full;
     }
 
 pub block_on-answer-requires-clause-others : goal.block_on-answer-requires-clause-others

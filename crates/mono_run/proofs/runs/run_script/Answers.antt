@@ -7,6 +7,7 @@ use Rattle.mono_rt.specs.DriverReadings.{telling, IsTold}
 use Rattle.mono_rt.proofs.DriverLemmas.{told_in}
 use Rattle.mono_run.specs.ScriptDrivers.{readings_of, time_of, parks_of, submits_of, faults_of, can_fail_of}
 use Rattle.mono_rt.specs.FuturePolls.{PollsMain, OnMain}
+use Rattle.mono_rt.specs.Stores.{store_of}
 use Rattle.mono_rt.proofs.FuturePollLemmas.{on_main}
 use Rattle.mono_run.specs.Script.{Script, IsSound}
 use Rattle.mono_run.specs.TaskPolls.{no_own}
@@ -67,8 +68,8 @@ returns-clause-driven g c =
     (parked_of (λ n. n) (Blocked made.cx.parts.has_timers c.args.turns answer) made.cx.parts left.cx.parts made.journal left.journal j m c.in_ok-runtime.ensures.stands c.in_ok-runtime.ensures.history c.journal.ensures c.in_ok-runtime.ensures.registered c.block_on-answer.ensures.blocked) in
     subst (λ x. IfOk c.told_of-told.result (λ run. IsSound (length x.kinds) x → RunsScript c.args.workers readings x c.args.turns run.end run.text.items)) c.script.view_is
     (told_driven c.args.workers readings c.told_of-told.result s c.args.turns j c.block_on-answer.result blocked tells
-    (λ e is sound. driven_does _ made.cx.parts.has_timers c.in_ok-main.main made.cx.futures.items left.cx.futures.items made.cx.parts left.cx.parts made.journal left.journal (λ f. refl) (λ f x a l d p. p) (λ f x d p. p) e s c.args.turns c.block_on-answer.result j c.block_on-answer.ensures.polled
-    c.in_ok-runtime.ensures.timers c.in_ok-runtime.ensures.futures (c.in_ok-runtime.ensures.stands) c.in_ok-runtime.ensures.history c.journal.ensures is
+    (λ e is sound. driven_does _ made.cx.parts.has_timers c.in_ok-main.main (store_of made.cx) (store_of left.cx) made.cx.parts left.cx.parts made.journal left.journal (λ f. refl) (λ f x a l d p. p) (λ f x d p. p) e s c.args.turns c.block_on-answer.result j c.block_on-answer.ensures.polled
+    c.in_ok-runtime.ensures.timers (ap (λ fs. record { futures = fs; shared = tt }) c.in_ok-runtime.ensures.futures) (c.in_ok-runtime.ensures.stands) c.in_ok-runtime.ensures.history c.journal.ensures is
     (c.in_ok-main.ensures ∙ ap (λ k. record { kinds = k; kind = 0; at = 0; own = no_own }) (sym (ap (λ f. f.kinds) c.in_ok-main.ensures))) (ap (λ f. f.kinds.now) c.in_ok-main.ensures ∙ c.deref.ensures.value) sound (blocked.0, blocked.1.0))
     c.told_of-told.ensures.answer c.told_of-told.ensures.kept c.told_of-told.ensures.text)
 

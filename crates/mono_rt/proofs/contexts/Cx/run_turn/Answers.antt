@@ -10,4 +10,4 @@ returns-in-Ready-clause-runs g c =
 pub returns-in-Pending-clause-runs : goal.returns-in-Pending-clause-runs
 returns-in-Pending-clause-runs g c =
     rw (c.in-Some.is, sym c.spent.ensures ∙ c.if-spent.false)
-    (record { answer = _; left = _; middle = _; polled = c.poll.ensures.polled; given = c.poll.ensures.given; same = c.poll.ensures.same; reached = c.poll.ensures.reached; rest = rw c.in-Pending.is c.pause_turn-in-Pending.ensures; is_end = rw c.in-Pending.is refl })
+    (record { answer = _; left = _; middle = _; polled = c.poll.ensures.polled; given = c.poll.ensures.given; same = c.poll.ensures.same; reached = c.poll.ensures.reached; rest = rw c.in-Pending.is c.pause_turn-in-Pending.ensures.pauses; is_end = rw c.in-Pending.is refl })

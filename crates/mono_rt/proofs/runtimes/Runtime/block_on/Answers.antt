@@ -7,9 +7,11 @@ use Rattle.mono_rt.proofs.RoundLemmas.{does_more, blocks_by, blocks_done, blocks
 use Rattle.mono_rt.proofs.DriverLemmas.{telling_more, capacity_ends, so_after, so_by, so_error, so_past, so_value}
 use Rattle.std.proofs.Common.{Err, subst}
 use Rattle.mono_rt.specs.Journals.{Does, Stays}
+use Rattle.mono_rt.specs.Stores.{store_of}
 use Rattle.mono_rt.specs.FuturePolls.{PollingBy, PollsMainBy, StillPollsMain}
-use Rattle.mono_rt.proofs.FuturePollLemmas.{polls_on, polls_drop, polls_main, lasted_main, lacked_main, none_lacked, none_made}
+use Rattle.mono_rt.proofs.FuturePollLemmas.{made_store, on_main, polls_on, polls_drop, polls_main, lasted_main, lacked_main, none_lacked, none_made}
 use Rattle.mono_rt.proofs.JournalRoomLemmas.{fills_on, fills_not, fills_still}
+use Rattle.mono_rt.proofs.ListedTaskLemmas.{does_listed_main}
 use Rattle.mono_rt.proofs.FaultLemmas.{capacity_faults, faults_after}
 use Rattle.mono_rt.specs.Outputs.{AddsNone}
 use Rattle.mono_rt.proofs.EndedTaskLemmas.{if_main}
@@ -68,7 +70,7 @@ pub returns-in-Some-clause-told : goal.returns-in-Some-clause-told
 returns-in-Some-clause-told g c = so_value (so_past (so_after c.start_main.ensures.told (rw c.in-Ok-answer.is at c.run-answer.ensures.went.told)) c.end_main-output.ensures.told)
 
 pub returns-in-Err-clause-full : goal.returns-in-Err-clause-full
-returns-in-Err-clause-full g c = fills_not g.O.Outcome.output_number g.W.SharedState.leads g.F.TaskFuture c.args.self.now.cx c.args.self.now.journal c.start_main.new.self.journal c.start_main.ensures.full
+returns-in-Err-clause-full g c = fills_not g.O.Outcome.output_number g.W.SharedState g.F.TaskFuture c.args.self.now.cx c.args.self.now.journal c.start_main.new.self.journal c.start_main.ensures.full
 
 pub returns-in-Err-answer-clause-full : goal.returns-in-Err-answer-clause-full
 returns-in-Err-answer-clause-full g c =
@@ -76,8 +78,8 @@ returns-in-Err-answer-clause-full g c =
     let old = c.args.self.now in
     let started = c.start_main.new.self in
     let ran = c.run-answer.new.self in
-    (fills_still number g.W.SharedState.leads g.F.TaskFuture old.cx old.journal ran.journal c.end_main-output.new.journal
-    (fills_on number g.W.SharedState.leads g.F.TaskFuture old.cx started.cx old.journal started.journal ran.journal (goes_of number (IsSpawn c.in-Ok.main) old.cx.parts started.cx.parts old.journal started.journal c.in-Ok.ensures.made.spawn) (fills_not number g.W.SharedState.leads g.F.TaskFuture old.cx old.journal started.journal c.start_main.ensures.full) c.run-answer.ensures.went.full)
+    (fills_still number g.W.SharedState g.F.TaskFuture old.cx old.journal ran.journal c.end_main-output.new.journal
+    (fills_on number g.W.SharedState g.F.TaskFuture old.cx started.cx old.journal started.journal ran.journal (goes_of number (IsSpawn c.in-Ok.main) old.cx.parts started.cx.parts old.journal started.journal c.in-Ok.ensures.made.spawn) (fills_not number g.W.SharedState g.F.TaskFuture old.cx old.journal started.journal c.start_main.ensures.full) c.run-answer.ensures.went.full)
     c.end_main-output.ensures.full)
 
 pub returns-in-Some-clause-full : goal.returns-in-Some-clause-full
@@ -86,8 +88,8 @@ returns-in-Some-clause-full g c =
     let old = c.args.self.now in
     let started = c.start_main.new.self in
     let ran = c.run-answer.new.self in
-    fills_still number g.W.SharedState.leads g.F.TaskFuture old.cx old.journal ran.journal c.end_main-output.new.journal
-    (fills_on number g.W.SharedState.leads g.F.TaskFuture old.cx started.cx old.journal started.journal ran.journal (goes_of number (IsSpawn c.in-Ok.main) old.cx.parts started.cx.parts old.journal started.journal c.in-Ok.ensures.made.spawn) (fills_not number g.W.SharedState.leads g.F.TaskFuture old.cx old.journal started.journal c.start_main.ensures.full) c.run-answer.ensures.went.full)
+    fills_still number g.W.SharedState g.F.TaskFuture old.cx old.journal ran.journal c.end_main-output.new.journal
+    (fills_on number g.W.SharedState g.F.TaskFuture old.cx started.cx old.journal started.journal ran.journal (goes_of number (IsSpawn c.in-Ok.main) old.cx.parts started.cx.parts old.journal started.journal c.in-Ok.ensures.made.spawn) (fills_not number g.W.SharedState g.F.TaskFuture old.cx old.journal started.journal c.start_main.ensures.full) c.run-answer.ensures.went.full)
     c.end_main-output.ensures.full
 
 pub returns-in-Err-clause-polled : goal.returns-in-Err-clause-polled
@@ -103,10 +105,10 @@ returns-in-Err-answer-clause-polled g c =
     let last = c.end_main-output.new.journal in
     let h = old.cx.parts.has_timers in
     lasted_main {X = ⊤} (Err c.in-Err-answer.error) _ (λ lasts.
-    (polls_main number g.W.SharedState.leads g.F.TaskFuture h true c.args.future c.in-Ok.main old.cx.futures.items started.cx.futures.items ran.cx.futures.items old.cx.parts started.cx.parts ended old.journal started.journal last c.in-Ok.ensures.made.futures c.in-Ok.ensures.made.spawn
-    (polls_on number g.W.SharedState.leads g.F.TaskFuture h true started.cx.futures.items ran.cx.futures.items ran.cx.futures.items started.cx.parts ran.cx.parts ended started.journal ran.journal last
-    (subst (λ b. Does number (PollingBy number g.W.SharedState.leads g.F.TaskFuture b true started.cx.futures.items ran.cx.futures.items) started.cx.parts ran.cx.parts started.journal ran.journal) c.start_main.ensures.has_timers ((rw c.in-Err-answer.is at c.run-answer.ensures.went.polled) true (λ is. lasts)))
-    (polls_drop number g.W.SharedState.leads g.F.TaskFuture h true ran.cx.futures.items ran.cx.futures.items c.in-Ok.main (option_map number c.end_main-output.result) ran.cx.parts ended ran.journal last refl c.end_main-output.ensures.dropped))))
+    (polls_main number g.W.SharedState g.F.TaskFuture h true c.args.future c.in-Ok.main (store_of old.cx) (store_of started.cx) (store_of ran.cx) old.cx.parts started.cx.parts ended old.journal started.journal last (made_store old.cx started.cx c.args.future c.in-Ok.ensures.made.futures c.start_main.ensures.shared) c.in-Ok.ensures.made.spawn
+    (polls_on number g.W.SharedState g.F.TaskFuture h true (store_of started.cx) (store_of ran.cx) (store_of ran.cx) started.cx.parts ran.cx.parts ended started.journal ran.journal last
+    (subst (λ b. Does number (PollingBy number g.W.SharedState g.F.TaskFuture b true (store_of started.cx) (store_of ran.cx)) started.cx.parts ran.cx.parts started.journal ran.journal) c.start_main.ensures.has_timers ((rw c.in-Err-answer.is at c.run-answer.ensures.went.polled) true (λ is. lasts)))
+    (polls_drop number g.W.SharedState g.F.TaskFuture h true (store_of ran.cx) (store_of ran.cx) c.in-Ok.main (option_map number c.end_main-output.result) ran.cx.parts ended ran.journal last refl c.end_main-output.ensures.dropped))))
 
 pub returns-in-Some-clause-polled : goal.returns-in-Some-clause-polled
 returns-in-Some-clause-polled g c =
@@ -117,10 +119,28 @@ returns-in-Some-clause-polled g c =
     let ended = c.end_main-output.new.self in
     let last = c.end_main-output.new.journal in
     let h = old.cx.parts.has_timers in
-    polls_main number g.W.SharedState.leads g.F.TaskFuture h true c.args.future c.in-Ok.main old.cx.futures.items started.cx.futures.items ran.cx.futures.items old.cx.parts started.cx.parts ended old.journal started.journal last c.in-Ok.ensures.made.futures c.in-Ok.ensures.made.spawn
-    (polls_on number g.W.SharedState.leads g.F.TaskFuture h true started.cx.futures.items ran.cx.futures.items ran.cx.futures.items started.cx.parts ran.cx.parts ended started.journal ran.journal last
-    (subst (λ b. Does number (PollingBy number g.W.SharedState.leads g.F.TaskFuture b true started.cx.futures.items ran.cx.futures.items) started.cx.parts ran.cx.parts started.journal ran.journal) c.start_main.ensures.has_timers ((rw c.in-Ok-answer.is at c.run-answer.ensures.went.polled) true (λ is. tt)))
-    (polls_drop number g.W.SharedState.leads g.F.TaskFuture h true ran.cx.futures.items ran.cx.futures.items c.in-Ok.main (option_map number c.end_main-output.result) ran.cx.parts ended ran.journal last refl c.end_main-output.ensures.dropped))
+    polls_main number g.W.SharedState g.F.TaskFuture h true c.args.future c.in-Ok.main (store_of old.cx) (store_of started.cx) (store_of ran.cx) old.cx.parts started.cx.parts ended old.journal started.journal last (made_store old.cx started.cx c.args.future c.in-Ok.ensures.made.futures c.start_main.ensures.shared) c.in-Ok.ensures.made.spawn
+    (polls_on number g.W.SharedState g.F.TaskFuture h true (store_of started.cx) (store_of ran.cx) (store_of ran.cx) started.cx.parts ran.cx.parts ended started.journal ran.journal last
+    (subst (λ b. Does number (PollingBy number g.W.SharedState g.F.TaskFuture b true (store_of started.cx) (store_of ran.cx)) started.cx.parts ran.cx.parts started.journal ran.journal) c.start_main.ensures.has_timers ((rw c.in-Ok-answer.is at c.run-answer.ensures.went.polled) true (λ is. tt)))
+    (polls_drop number g.W.SharedState g.F.TaskFuture h true (store_of ran.cx) (store_of ran.cx) c.in-Ok.main (option_map number c.end_main-output.result) ran.cx.parts ended ran.journal last refl c.end_main-output.ensures.dropped))
+
+pub returns-in-Err-clause-listed : goal.returns-in-Err-clause-listed
+returns-in-Err-clause-listed g c = none_made ⊤ c.in-Err.error _ _ c.in-Err.ensures.none.refused
+
+pub returns-in-Err-answer-clause-listed : goal.returns-in-Err-answer-clause-listed
+returns-in-Err-answer-clause-listed g c =
+    let old = c.args.self.now in
+    let ran = c.run-answer.new.self in
+    on_main {X = ⊤} (Err c.in-Err-answer.error) _ _
+    (does_listed_main g.O.Outcome.output_number g.W.SharedState g.F.TaskFuture old.cx.parts.has_timers true c.args.future (store_of old.cx) (store_of ran.cx) old.cx.parts c.end_main-output.new.self old.journal c.end_main-output.new.journal)
+    (returns-in-Err-answer-clause-polled g c)
+
+pub returns-in-Some-clause-listed : goal.returns-in-Some-clause-listed
+returns-in-Some-clause-listed g c =
+    let old = c.args.self.now in
+    let ran = c.run-answer.new.self in
+    does_listed_main g.O.Outcome.output_number g.W.SharedState g.F.TaskFuture old.cx.parts.has_timers true c.args.future (store_of old.cx) (store_of ran.cx) old.cx.parts c.end_main-output.new.self old.journal c.end_main-output.new.journal
+    (returns-in-Some-clause-polled g c)
 
 pub returns-in-Err-clause-still_polled : goal.returns-in-Err-clause-still_polled
 returns-in-Err-clause-still_polled g c =
@@ -128,7 +148,7 @@ returns-in-Err-clause-still_polled g c =
     let old = c.args.self.now in
     let started = c.start_main.new.self in
     none_lacked ⊤ c.in-Err.error _ _
-    (does_more number Stays (StillPollsMain number g.W.SharedState.leads g.F.TaskFuture old.cx.parts.has_timers c.args.future old.cx.futures.items started.cx.futures.items) old.cx.parts started.cx.parts old.journal started.journal (λ m new xs zs stm stn is. inl is))
+    (does_more number Stays (StillPollsMain number g.W.SharedState g.F.TaskFuture old.cx.parts.has_timers c.args.future (store_of old.cx) (store_of started.cx)) old.cx.parts started.cx.parts old.journal started.journal (λ m new xs zs stm stn is. inl is))
     c.in-Err.ensures.none.stays
 
 pub returns-in-Err-answer-clause-still_polled : goal.returns-in-Err-answer-clause-still_polled
@@ -141,11 +161,11 @@ returns-in-Err-answer-clause-still_polled g c =
     let last = c.end_main-output.new.journal in
     let h = old.cx.parts.has_timers in
     lacked_main {X = ⊤} (Err c.in-Err-answer.error) _
-    (does_more number (PollsMainBy number g.W.SharedState.leads g.F.TaskFuture h false c.args.future old.cx.futures.items ran.cx.futures.items) (StillPollsMain number g.W.SharedState.leads g.F.TaskFuture h c.args.future old.cx.futures.items ran.cx.futures.items) old.cx.parts ended old.journal last (λ m new xs zs stm stn is. inr is)
-    (polls_main number g.W.SharedState.leads g.F.TaskFuture h false c.args.future c.in-Ok.main old.cx.futures.items started.cx.futures.items ran.cx.futures.items old.cx.parts started.cx.parts ended old.journal started.journal last c.in-Ok.ensures.made.futures c.in-Ok.ensures.made.spawn
-    (polls_on number g.W.SharedState.leads g.F.TaskFuture h false started.cx.futures.items ran.cx.futures.items ran.cx.futures.items started.cx.parts ran.cx.parts ended started.journal ran.journal last
-    (subst (λ b. Does number (PollingBy number g.W.SharedState.leads g.F.TaskFuture b false started.cx.futures.items ran.cx.futures.items) started.cx.parts ran.cx.parts started.journal ran.journal) c.start_main.ensures.has_timers (c.run-answer.ensures.went.polled false (λ is. absurd (false-true is))))
-    (polls_drop number g.W.SharedState.leads g.F.TaskFuture h false ran.cx.futures.items ran.cx.futures.items c.in-Ok.main (option_map number c.end_main-output.result) ran.cx.parts ended ran.journal last refl c.end_main-output.ensures.dropped))))
+    (does_more number (PollsMainBy number g.W.SharedState g.F.TaskFuture h false c.args.future (store_of old.cx) (store_of ran.cx)) (StillPollsMain number g.W.SharedState g.F.TaskFuture h c.args.future (store_of old.cx) (store_of ran.cx)) old.cx.parts ended old.journal last (λ m new xs zs stm stn is. inr is)
+    (polls_main number g.W.SharedState g.F.TaskFuture h false c.args.future c.in-Ok.main (store_of old.cx) (store_of started.cx) (store_of ran.cx) old.cx.parts started.cx.parts ended old.journal started.journal last (made_store old.cx started.cx c.args.future c.in-Ok.ensures.made.futures c.start_main.ensures.shared) c.in-Ok.ensures.made.spawn
+    (polls_on number g.W.SharedState g.F.TaskFuture h false (store_of started.cx) (store_of ran.cx) (store_of ran.cx) started.cx.parts ran.cx.parts ended started.journal ran.journal last
+    (subst (λ b. Does number (PollingBy number g.W.SharedState g.F.TaskFuture b false (store_of started.cx) (store_of ran.cx)) started.cx.parts ran.cx.parts started.journal ran.journal) c.start_main.ensures.has_timers (c.run-answer.ensures.went.polled false (λ is. absurd (false-true is))))
+    (polls_drop number g.W.SharedState g.F.TaskFuture h false (store_of ran.cx) (store_of ran.cx) c.in-Ok.main (option_map number c.end_main-output.result) ran.cx.parts ended ran.journal last refl c.end_main-output.ensures.dropped))))
 
 pub returns-in-Err-clause-faults : goal.returns-in-Err-clause-faults
 returns-in-Err-clause-faults g c = capacity_faults _ c.in-Err.error _ _ c.in-Err.ensures.none.refused c.start_main.ensures.faults

@@ -38,45 +38,45 @@ returns-in-Err-round-2-clause-passes g c =
 
 pub returns-in-Err-clause-went : goal.returns-in-Err-clause-went
 returns-in-Err-clause-went g c =
-    let paused = went_paused g.O.Outcome.output_number g.W.SharedState.leads g.D.Clock g.F.TaskFuture g.W.SharedState.leads_itself c.pause.result c.args.self.now c.pause.new.self c.pause.ensures.idle c.pause.ensures.pauses c.pause.ensures.faults c.pause.ensures.told c.pause.ensures.placed in
+    let paused = went_paused g.O.Outcome.output_number g.W.SharedState g.D.Clock g.F.TaskFuture g.met.W.SharedState.leads_itself c.pause.result c.args.self.now c.pause.new.self c.pause.ensures.idle c.pause.ensures.pauses c.pause.ensures.faults c.pause.ensures.told c.pause.ensures.placed in
     rw c.in-Err.is at paused
 
 pub returns-in-Ok-clause-went : goal.returns-in-Ok-clause-went
 returns-in-Ok-clause-went g c =
-    let paused = went_paused g.O.Outcome.output_number g.W.SharedState.leads g.D.Clock g.F.TaskFuture g.W.SharedState.leads_itself c.pause.result c.args.self.now c.pause.new.self c.pause.ensures.idle c.pause.ensures.pauses c.pause.ensures.faults c.pause.ensures.told c.pause.ensures.placed in
-    went_on g.O.Outcome.output_number g.W.SharedState.leads g.D.Clock g.F.TaskFuture g.W.SharedState.leads_on (Ok tt) c.args.self.now c.pause.new.self c.round.new.self (rw c.in-Ok-true.is at paused) (rw c.in-Ok.is at c.round.ensures.went)
+    let paused = went_paused g.O.Outcome.output_number g.W.SharedState g.D.Clock g.F.TaskFuture g.met.W.SharedState.leads_itself c.pause.result c.args.self.now c.pause.new.self c.pause.ensures.idle c.pause.ensures.pauses c.pause.ensures.faults c.pause.ensures.told c.pause.ensures.placed in
+    went_on g.O.Outcome.output_number g.W.SharedState g.D.Clock g.F.TaskFuture g.met.W.SharedState.leads_on (Ok tt) c.args.self.now c.pause.new.self c.round.new.self (rw c.in-Ok-true.is at paused) (rw c.in-Ok.is at c.round.ensures.went)
 
 pub returns-in-Ok-round-clause-went : goal.returns-in-Ok-round-clause-went
 returns-in-Ok-round-clause-went g c =
-    let paused = went_paused g.O.Outcome.output_number g.W.SharedState.leads g.D.Clock g.F.TaskFuture g.W.SharedState.leads_itself c.pause.result c.args.self.now c.pause.new.self c.pause.ensures.idle c.pause.ensures.pauses c.pause.ensures.faults c.pause.ensures.told c.pause.ensures.placed in
-    went_on g.O.Outcome.output_number g.W.SharedState.leads g.D.Clock g.F.TaskFuture g.W.SharedState.leads_on (Ok tt) c.args.self.now c.pause.new.self c.round-in-Ok-false.new.self (rw c.in-Ok-false.is at paused) (rw c.in-Ok-round.is at c.round-in-Ok-false.ensures.went)
+    let paused = went_paused g.O.Outcome.output_number g.W.SharedState g.D.Clock g.F.TaskFuture g.met.W.SharedState.leads_itself c.pause.result c.args.self.now c.pause.new.self c.pause.ensures.idle c.pause.ensures.pauses c.pause.ensures.faults c.pause.ensures.told c.pause.ensures.placed in
+    went_on g.O.Outcome.output_number g.W.SharedState g.D.Clock g.F.TaskFuture g.met.W.SharedState.leads_on (Ok tt) c.args.self.now c.pause.new.self c.round-in-Ok-false.new.self (rw c.in-Ok-false.is at paused) (rw c.in-Ok-round.is at c.round-in-Ok-false.ensures.went)
 
 pub returns-in-Err-round-clause-went : goal.returns-in-Err-round-clause-went
 returns-in-Err-round-clause-went g c =
-    let paused = went_paused g.O.Outcome.output_number g.W.SharedState.leads g.D.Clock g.F.TaskFuture g.W.SharedState.leads_itself c.pause.result c.args.self.now c.pause.new.self c.pause.ensures.idle c.pause.ensures.pauses c.pause.ensures.faults c.pause.ensures.told c.pause.ensures.placed in
-    went_on g.O.Outcome.output_number g.W.SharedState.leads g.D.Clock g.F.TaskFuture g.W.SharedState.leads_on (Err Memory) c.args.self.now c.pause.new.self c.round.new.self (rw c.in-Ok-true.is at paused) (rw c.in-Err-round.is at c.round.ensures.went)
+    let paused = went_paused g.O.Outcome.output_number g.W.SharedState g.D.Clock g.F.TaskFuture g.met.W.SharedState.leads_itself c.pause.result c.args.self.now c.pause.new.self c.pause.ensures.idle c.pause.ensures.pauses c.pause.ensures.faults c.pause.ensures.told c.pause.ensures.placed in
+    went_on g.O.Outcome.output_number g.W.SharedState g.D.Clock g.F.TaskFuture g.met.W.SharedState.leads_on (Err Memory) c.args.self.now c.pause.new.self c.round.new.self (rw c.in-Ok-true.is at paused) (rw c.in-Err-round.is at c.round.ensures.went)
 
 pub returns-in-Err-round-2-clause-went : goal.returns-in-Err-round-2-clause-went
 returns-in-Err-round-2-clause-went g c =
-    let paused = went_paused g.O.Outcome.output_number g.W.SharedState.leads g.D.Clock g.F.TaskFuture g.W.SharedState.leads_itself c.pause.result c.args.self.now c.pause.new.self c.pause.ensures.idle c.pause.ensures.pauses c.pause.ensures.faults c.pause.ensures.told c.pause.ensures.placed in
-    went_on g.O.Outcome.output_number g.W.SharedState.leads g.D.Clock g.F.TaskFuture g.W.SharedState.leads_on (Err Memory) c.args.self.now c.pause.new.self c.round-in-Ok-false.new.self (rw c.in-Ok-false.is at paused) (rw c.in-Err-round-2.is at c.round-in-Ok-false.ensures.went)
+    let paused = went_paused g.O.Outcome.output_number g.W.SharedState g.D.Clock g.F.TaskFuture g.met.W.SharedState.leads_itself c.pause.result c.args.self.now c.pause.new.self c.pause.ensures.idle c.pause.ensures.pauses c.pause.ensures.faults c.pause.ensures.told c.pause.ensures.placed in
+    went_on g.O.Outcome.output_number g.W.SharedState g.D.Clock g.F.TaskFuture g.met.W.SharedState.leads_on (Err Memory) c.args.self.now c.pause.new.self c.round-in-Ok-false.new.self (rw c.in-Ok-false.is at paused) (rw c.in-Err-round-2.is at c.round-in-Ok-false.ensures.went)
 
 pub round-requires-clause-callable : goal.round-requires-clause-callable
 round-requires-clause-callable g c =
-    let paused = went_paused g.O.Outcome.output_number g.W.SharedState.leads g.D.Clock g.F.TaskFuture g.W.SharedState.leads_itself c.pause.result c.args.self.now c.pause.new.self c.pause.ensures.idle c.pause.ensures.pauses c.pause.ensures.faults c.pause.ensures.told c.pause.ensures.placed in
+    let paused = went_paused g.O.Outcome.output_number g.W.SharedState g.D.Clock g.F.TaskFuture g.met.W.SharedState.leads_itself c.pause.result c.args.self.now c.pause.new.self c.pause.ensures.idle c.pause.ensures.pauses c.pause.ensures.faults c.pause.ensures.told c.pause.ensures.placed in
     paused.callable c.requires.callable
 
 pub round-requires-clause-rests : goal.round-requires-clause-rests
 round-requires-clause-rests g c =
-    let paused = went_paused g.O.Outcome.output_number g.W.SharedState.leads g.D.Clock g.F.TaskFuture g.W.SharedState.leads_itself c.pause.result c.args.self.now c.pause.new.self c.pause.ensures.idle c.pause.ensures.pauses c.pause.ensures.faults c.pause.ensures.told c.pause.ensures.placed in
+    let paused = went_paused g.O.Outcome.output_number g.W.SharedState g.D.Clock g.F.TaskFuture g.met.W.SharedState.leads_itself c.pause.result c.args.self.now c.pause.new.self c.pause.ensures.idle c.pause.ensures.pauses c.pause.ensures.faults c.pause.ensures.told c.pause.ensures.placed in
     paused.rests c.requires.rests
 
 pub round-requires-in-Ok-false-clause-callable : goal.round-requires-in-Ok-false-clause-callable
 round-requires-in-Ok-false-clause-callable g c =
-    let paused = went_paused g.O.Outcome.output_number g.W.SharedState.leads g.D.Clock g.F.TaskFuture g.W.SharedState.leads_itself c.pause.result c.args.self.now c.pause.new.self c.pause.ensures.idle c.pause.ensures.pauses c.pause.ensures.faults c.pause.ensures.told c.pause.ensures.placed in
+    let paused = went_paused g.O.Outcome.output_number g.W.SharedState g.D.Clock g.F.TaskFuture g.met.W.SharedState.leads_itself c.pause.result c.args.self.now c.pause.new.self c.pause.ensures.idle c.pause.ensures.pauses c.pause.ensures.faults c.pause.ensures.told c.pause.ensures.placed in
     paused.callable c.requires.callable
 
 pub round-requires-in-Ok-false-clause-rests : goal.round-requires-in-Ok-false-clause-rests
 round-requires-in-Ok-false-clause-rests g c =
-    let paused = went_paused g.O.Outcome.output_number g.W.SharedState.leads g.D.Clock g.F.TaskFuture g.W.SharedState.leads_itself c.pause.result c.args.self.now c.pause.new.self c.pause.ensures.idle c.pause.ensures.pauses c.pause.ensures.faults c.pause.ensures.told c.pause.ensures.placed in
+    let paused = went_paused g.O.Outcome.output_number g.W.SharedState g.D.Clock g.F.TaskFuture g.met.W.SharedState.leads_itself c.pause.result c.args.self.now c.pause.new.self c.pause.ensures.idle c.pause.ensures.pauses c.pause.ensures.faults c.pause.ensures.told c.pause.ensures.placed in
     paused.rests c.requires.rests

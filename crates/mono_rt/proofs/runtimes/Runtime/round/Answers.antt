@@ -35,23 +35,23 @@ returns-clause-round g c =
 pub loop-done-init : goal.loop-done-init
 loop-done-init g c = (
   no_turns g.O.Outcome.output_number c.args.self.now.cx.parts c.args.self.now.journal,
-  went_nowhere g.O.Outcome.output_number g.W.SharedState.leads g.D.Clock g.F.TaskFuture g.W.SharedState.leads_itself c.args.self.now,
+  went_nowhere g.O.Outcome.output_number g.W.SharedState g.D.Clock g.F.TaskFuture g.met.W.SharedState.leads_itself c.args.self.now,
   λ e. refl,
 )
 
 pub loop-done-preserved : goal.loop-done-preserved
 loop-done-preserved g c = (
   turns_more g.O.Outcome.output_number c.loop-done.done c.args.self.now.cx.parts c.loop-done.self.cx.parts c.turn.new.self.cx.parts c.args.self.now.journal c.loop-done.self.journal c.turn.new.self.journal c.loop-done.invariant.0 c.in_ok-turn.ensures.turned,
-  went_on g.O.Outcome.output_number g.W.SharedState.leads g.D.Clock g.F.TaskFuture g.W.SharedState.leads_on (Ok tt) c.args.self.now c.loop-done.self c.turn.new.self c.loop-done.invariant.1 c.in_ok-turn.ensures.went,
+  went_on g.O.Outcome.output_number g.W.SharedState g.D.Clock g.F.TaskFuture g.met.W.SharedState.leads_on (Ok tt) c.args.self.now c.loop-done.self c.turn.new.self c.loop-done.invariant.1 c.in_ok-turn.ensures.went,
   λ e. absurd (never c.loop-done.done e),
 )
 
 pub returns-in_err-turn-clause-went : goal.returns-in_err-turn-clause-went
 returns-in_err-turn-clause-went g c =
     let number = g.O.Outcome.output_number in
-    let leads = g.W.SharedState.leads in
-    lasting_err c.from_residual.result (λ r. Proceeds number leads g.D.Clock g.F.TaskFuture r c.args.self.now c.turn.new.self) c.from_residual.ensures.0
-    (went_on number leads g.D.Clock g.F.TaskFuture g.W.SharedState.leads_on (Err Memory) c.args.self.now c.loop-done.self c.turn.new.self c.loop-done.invariant.1 c.in_err-turn.ensures.went)
+    let sharing = g.W.SharedState in
+    lasting_err c.from_residual.result (λ r. Proceeds number sharing g.D.Clock g.F.TaskFuture r c.args.self.now c.turn.new.self) c.from_residual.ensures.0
+    (went_on number sharing g.D.Clock g.F.TaskFuture g.met.W.SharedState.leads_on (Err Memory) c.args.self.now c.loop-done.self c.turn.new.self c.loop-done.invariant.1 c.in_err-turn.ensures.went)
 
 pub returns-then-queue_len-eq0-clause-went : goal.returns-then-queue_len-eq0-clause-went
 returns-then-queue_len-eq0-clause-went g c = c.loop-done.invariant.1

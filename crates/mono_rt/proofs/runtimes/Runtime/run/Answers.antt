@@ -46,18 +46,18 @@ pub loop-units-preserved : goal.loop-units-preserved
 loop-units-preserved g c = (
   passes_more g.O.Outcome.output_number c.args.self.now.cx.parts.has_timers c.loop-units.self.cx.parts.has_timers c.args.main c.args.turns c.loop-units.units c.in-Ok-pass.left c.args.self.now.cx.parts c.loop-units.self.cx.parts c.pass.new.self.cx.parts c.args.self.now.journal c.loop-units.self.journal c.pass.new.self.journal
       c.loop-units.invariant.1.has_timers (sym c.if-not-has_output.ensures.answer) (omega (arith, c.loop-units-test.true)) c.loop-units.invariant.0 (rw c.in-Ok-pass.is at c.pass.ensures.passes),
-  went_on g.O.Outcome.output_number g.W.SharedState.leads g.D.Clock g.F.TaskFuture g.W.SharedState.leads_on (Ok tt) c.args.self.now c.loop-units.self c.pass.new.self c.loop-units.invariant.1 (rw c.in-Ok-pass.is at c.pass.ensures.went),
+  went_on g.O.Outcome.output_number g.W.SharedState g.D.Clock g.F.TaskFuture g.met.W.SharedState.leads_on (Ok tt) c.args.self.now c.loop-units.self c.pass.new.self c.loop-units.invariant.1 (rw c.in-Ok-pass.is at c.pass.ensures.went),
 )
 
 pub returns-in-Err-pass-clause-went : goal.returns-in-Err-pass-clause-went
 returns-in-Err-pass-clause-went g c =
-    went_on g.O.Outcome.output_number g.W.SharedState.leads g.D.Clock g.F.TaskFuture g.W.SharedState.leads_on (Err c.in-Err-pass.error) c.args.self.now c.loop-units.self c.pass.new.self c.loop-units.invariant.1 (rw c.in-Err-pass.is at c.pass.ensures.went)
+    went_on g.O.Outcome.output_number g.W.SharedState g.D.Clock g.F.TaskFuture g.met.W.SharedState.leads_on (Err c.in-Err-pass.error) c.args.self.now c.loop-units.self c.pass.new.self c.loop-units.invariant.1 (rw c.in-Err-pass.is at c.pass.ensures.went)
 
 pub returns-then-has_output-clause-went : goal.returns-then-has_output-clause-went
 returns-then-has_output-clause-went g c = c.loop-units.invariant.1
 
 pub returns-else-has_output-clause-went : goal.returns-else-has_output-clause-went
-returns-else-has_output-clause-went g c = went_spent g.O.Outcome.output_number g.W.SharedState.leads g.D.Clock g.F.TaskFuture c.args.self.now c.loop-units.self c.loop-units.invariant.1
+returns-else-has_output-clause-went g c = went_spent g.O.Outcome.output_number g.W.SharedState g.D.Clock g.F.TaskFuture c.args.self.now c.loop-units.self c.loop-units.invariant.1
 
 pub returns-in-Err-clause-went : goal.returns-in-Err-clause-went
 returns-in-Err-clause-went g c = rw c.in-Err.is at c.round.ensures.went

@@ -3,6 +3,7 @@ use Rattle.mono_rt.proofs.OutputLemmas.{adds_itself}
 use Rattle.mono_rt.proofs.PossibleAnswerLemmas.{no_more_on, no_more_by}
 use Rattle.mono_rt.proofs.PollableLemmas.{turn_same}
 use Rattle.mono_rt.proofs.FuturePollLemmas.{lasted_main}
+use Rattle.mono_rt.proofs.ListedTaskLemmas.{does_listed}
 use Rattle.mono_rt.proofs.StrategyLemmas.{same_strategy}
 use Rattle.mono_rt.proofs.runtimes.Runtime.run_until.Goals as goal
 
@@ -53,3 +54,6 @@ false-true e = cc
 
 pub returns-clause-still_polled : goal.returns-clause-still_polled
 returns-clause-still_polled g c = c.run-answer.ensures.went.polled false (λ is. absurd (false-true is))
+
+pub returns-clause-listed : goal.returns-clause-listed
+returns-clause-listed g c = does_listed g.O.Outcome.output_number g.W.SharedState g.F.TaskFuture _ false _ _ _ _ _ _ (returns-clause-still_polled g c)

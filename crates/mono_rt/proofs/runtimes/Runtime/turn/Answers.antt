@@ -3,6 +3,7 @@ use Rattle.mono_rt.specs.Journals.{Does, Stays}
 use Rattle.mono_rt.specs.Record.{no_acts}
 use Rattle.mono_rt.specs.Refinement.{hosting_of}
 use Rattle.mono_rt.specs.Rounds.{UpToOneTurn, TurnEnds}
+use Rattle.mono_rt.specs.Stores.{store_of}
 use Rattle.mono_rt.specs.FuturePolls.{HasLasted}
 use Rattle.mono_rt.specs.Turns.{Turn}
 use Rattle.mono_rt.specs.Progress.{lasting, Proceeds}
@@ -47,11 +48,11 @@ returns-in_default-clause-went g c =
       rests = λ x. ap (λ t. t.turn) c.open_turn.ensures.tasks ∙ x;
       answers = answers;
       callable = turn_same future future.gives old.cx opened answers refl;
-      shared = g.W.SharedState.leads_itself _;
-      polled = λ lasts may. polls_stays g.O.Outcome.output_number g.W.SharedState.leads future old.cx.parts.has_timers lasts old.cx.futures.items old.cx.futures.items old.cx.parts opened.parts old.journal c.open_turn.new.journal refl c.in_default.ensures.unread;
+      shared = g.met.W.SharedState.leads_itself _;
+      polled = λ lasts may. polls_stays g.O.Outcome.output_number g.W.SharedState future old.cx.parts.has_timers lasts (store_of old.cx) (store_of old.cx) old.cx.parts opened.parts old.journal c.open_turn.new.journal refl c.in_default.ensures.unread;
       faults = c.open_turn.ensures.faults;
       told = so_broken (telling_more unfailed c.open_turn.ensures.told);
-      full = fills_not g.O.Outcome.output_number g.W.SharedState.leads future old.cx old.journal c.open_turn.new.journal c.open_turn.ensures.full;
+      full = fills_not g.O.Outcome.output_number g.W.SharedState future old.cx old.journal c.open_turn.new.journal c.open_turn.ensures.full;
       held = c.open_turn.ensures.held;
       placed = tt;
     }
@@ -59,7 +60,7 @@ returns-in_default-clause-went g c =
 pub returns-clause-went : goal.returns-clause-went
 returns-clause-went g c =
     let number = g.O.Outcome.output_number in
-    let leads = g.W.SharedState.leads in
+    let sharing = g.W.SharedState in
     let future = g.F.TaskFuture in
     let old = c.args.self.now in
     let opened = record old.cx { parts = c.open_turn.new.self } in
@@ -69,21 +70,21 @@ returns-clause-went g c =
     let last = c.keep_turn.new.journal in
     let new = record old { cx = closed; driver = c.open_turn.new.driver; journal = last } in
     let is = c.turn-task.ensures.is old.journal.is_full c.in-Some.ensures.acts in
-    subst (λ r. Proceeds number leads g.D.Clock future (lasting r) old new) (sym c.turn_answer.ensures)
-    (went_turn number leads g.D.Clock future closed.parts.is_out_of_memory old new
+    subst (λ r. Proceeds number sharing g.D.Clock future (lasting r) old new) (sym c.turn_answer.ensures)
+    (went_turn number sharing g.D.Clock future closed.parts.is_out_of_memory old new
     (c.keep_turn.ensures.has_timers ∙ c.turn-task.ensures.has_timers ∙ c.open_turn.ensures.has_timers)
     (λ x. ap (λ t. t.turn) c.keep_turn.ensures.tasks ∙ c.turn-task.ensures.rests)
     (no_more_around future.gives old.cx opened done closed c.open_turn.ensures.tasks refl c.turn-task.ensures.answers c.keep_turn.ensures.tasks refl)
     (λ x. turn_same future future.gives done closed (no_more_same future.gives done closed c.keep_turn.ensures.tasks refl) refl c.turn-task.ensures.callable)
     c.turn-task.ensures.shared
-    (λ lasts lasted. polls_turn number leads future old.cx.parts.has_timers lasts old.cx opened done closed old.journal first last c.turn-task.result.0 c.in-Some.now old.journal.is_full c.turn-task.result.1 c.turn-task.result.2 c.open_turn.ensures.has_timers refl c.in-Some.ensures.at
-    (subst (λ acts. Turn number leads future c.turn-task.result.0 c.in-Some.now acts c.turn-task.result.1 c.turn-task.result.2 opened done) c.in-Some.ensures.acts c.turn-task.ensures.turn)
+    (λ lasts lasted. polls_turn number sharing future old.cx.parts.has_timers lasts old.cx opened done closed old.journal first last c.turn-task.result.0 c.in-Some.now old.journal.is_full c.turn-task.result.1 c.turn-task.result.2 c.open_turn.ensures.has_timers refl refl c.in-Some.ensures.at
+    (subst (λ acts. Turn number sharing future c.turn-task.result.0 c.in-Some.now acts c.turn-task.result.1 c.turn-task.result.2 opened done) c.in-Some.ensures.acts c.turn-task.ensures.turn)
     (does_turn number opened.parts done.parts closed.parts first last _ _ _ is c.keep_turn.ensures.history
     (λ m st. same_machine number hosting_of done.parts closed.parts m c.keep_turn.ensures.tasks c.keep_turn.ensures.timers c.keep_turn.ensures.has_timers c.keep_turn.ensures.blocking st) c.keep_turn.ensures.timers)
-    refl (subst (λ x. HasLasted lasts x) c.keep_turn.ensures.memory lasted) refl)
+    refl (subst (λ x. HasLasted lasts x) c.keep_turn.ensures.memory lasted) refl refl)
     c.open_turn.ensures.faults
     (telling_on c.open_turn.ensures.told (tells_kept _ _ _ refl c.keep_turn.ensures.history))
-    (fills_turn number leads future old.cx opened done old.journal first last _ _ _ _ c.open_turn.ensures.goes c.open_turn.ensures.full (λ unfull. c.in-Some.ensures.acts ∙ ap no_acts (sym c.open_turn.ensures.full ∙ unfull)) c.turn-task.ensures.turn is c.keep_turn.ensures.full)
+    (fills_turn number sharing future old.cx opened done old.journal first last _ _ _ _ c.open_turn.ensures.goes c.open_turn.ensures.full (λ unfull. c.in-Some.ensures.acts ∙ ap no_acts (sym c.open_turn.ensures.full ∙ unfull)) c.turn-task.ensures.turn is c.keep_turn.ensures.full)
     (c.keep_turn.ensures.held ∙ c.open_turn.ensures.held))
 
 pub turn-task-requires-clause-callable : goal.turn-task-requires-clause-callable
